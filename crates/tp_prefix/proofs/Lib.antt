@@ -1,0 +1,4 @@
+pub mod SpellingLemmas
+pub mod CanonicalLemmas
+pub mod Reach
+pub mod ReadingLemmas
