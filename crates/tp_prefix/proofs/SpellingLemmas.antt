@@ -42,7 +42,7 @@ not_last o b c rest is = by_test (is_pfix b) refl (is_nfix b) refl is
     by_test false e true e' is = cc
     by_test false e false e' is = rw (e, e')
 
-no_last : (o b : ℕ) → is_prefix b ≡ true → spelled o (b ∷ []) ≡ None
+pub no_last : (o b : ℕ) → is_prefix b ≡ true → spelled o (b ∷ []) ≡ None
 unfolding spelled
 no_last o b is = rw is
 

@@ -1,0 +1,6 @@
+pub mod CutLemmas
+pub mod TableLemmas
+pub mod CuttingLemmas
+pub mod Verdicts
+pub mod DecodingLemmas
+pub mod LineLemmas

@@ -1,0 +1,78 @@
+//! Decoding.
+
+ghost use Rattle.std.specs.Prelude.{◌≡◌, ◌≢◌, ◌≤◌, ◌<◌, drop, length, List, IfOk, IfErr, MatchResult};
+ghost use Rattle.tp_decode.specs.declared.fault.DecodeFault.{DecodeFault};
+ghost use Rattle.tp_decode.specs.Cutting.{Cut, IsCutting, IsRefused, cutting};
+ghost use Rattle.tp_decode.specs.Front.{BeginsWith, Stops};
+ghost use Rattle.tp_decode.specs.Listings.{cut_of, Gives};
+
+use crate::fault::DecodeFault;
+use crate::instr::Instr;
+use crate::listing::Listing;
+use crate::piece::Piece;
+use arrayvec::ArrayVec;
+use std::alloc::Global;
+use tp_prefix::{PrefixFault, read_one};
+
+/// The most bytes of a code that is decoded.
+pub const MAX_CODE: usize = 65_535;
+
+/// The instructions that a code is cut into, or why it has no cutting: the refusal at the lowest address, or Memory.
+pub fn decode(alloc: Global, code: &[u8]) -> Result<Listing, DecodeFault>
+    requires { length code.now ≤ MAX_CODE }
+    ensures cutting { IfOk result (λ listing. IsCutting code.now listing) }
+    ensures only { (cuts : List Cut) → IsCutting code.now cuts →
+        MatchResult result (λ listing. listing ≡ cuts) (λ e. e ≡ DecodeFault.Memory) }
+    ensures refused { IfErr result (λ e. e ≢ DecodeFault.Memory → IsRefused code.now e) }
+    ensures first { (e : DecodeFault) → IsRefused code.now e → MatchResult result (λ listing. ⊥) (λ f. f ≢ DecodeFault.Memory → f ≡ e) }
+    ensures exact { Gives result (cutting code.now) }
+{
+    cut(alloc, code)
+}
+
+/// The same, as the function that the cutting is.
+fn cut(alloc: Global, code: &[u8]) -> Result<Listing, DecodeFault>
+    requires { length code.now ≤ MAX_CODE }
+    ensures { Gives result (cutting code.now) }
+{
+    let mut starts = Vec::new(alloc);
+    let mut pieces = Vec::new(alloc);
+    let mut at = 0;
+    while at < code.len() {
+        let piece = piece_at(code, at)?;
+        let next = at + piece.spelling.len();
+        starts.push(at as u32)?;
+        pieces.push(piece)?;
+        at = next;
+    }
+    Ok(Listing::new(starts, pieces))
+}
+
+/// The instruction that is spelled in a code at an address.
+fn piece_at(code: &[u8], at: usize) -> Result<Piece, DecodeFault>
+    requires { at < length code.now }
+    ensures { MatchResult result (λ piece. BeginsWith (drop at code.now) (cut_of piece)) (λ e. Stops (drop at code.now) at e) }
+{
+    let spelled = match read_one(code, at) {
+        Ok(spelled) => spelled,
+        Err(PrefixFault::D1(place)) => return Err(DecodeFault::D1(place)),
+        Err(PrefixFault::D2(place)) => return Err(DecodeFault::D2(place)),
+    };
+    let Some(instr) = Instr::of(spelled.function, spelled.operand) else {
+        return Err(DecodeFault::D3(at));
+    };
+    Ok(Piece {
+        spelling: copied(&code[at..spelled.next]),
+        instr,
+    })
+}
+
+/// A spelling by itself.
+fn copied(spelling: &[u8]) -> ArrayVec<u8, 8>
+    requires { length spelling.now ≤ 8 }
+    ensures { result.items ≡ spelling.now }
+{
+    let mut bytes = ArrayVec::new();
+    let _ = bytes.try_extend_from_slice(spelling);
+    bytes
+}

@@ -1,0 +1,16 @@
+//! Instructions and listings.
+//!
+//! A code is a list of spellings of instructions, one after another. It has one cutting into these, or none.
+#![tactic(auto)]
+
+mod decoding;
+mod fault;
+mod instr;
+mod lines;
+mod listing;
+mod piece;
+
+pub use decoding::{MAX_CODE, decode};
+pub use fault::DecodeFault;
+pub use instr::Instr;
+pub use listing::Listing;
