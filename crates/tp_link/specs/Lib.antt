@@ -1,0 +1,5 @@
+pub mod Device
+pub mod FaultyWire
+pub mod Medium
+pub mod OwnedWire
+pub mod Wire

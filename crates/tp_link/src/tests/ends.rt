@@ -1,0 +1,196 @@
+//! What is left of a device when it ends, in a box and out of it.
+ghost use Rattle.std.specs.Prelude.{◌≡◌};
+ghost use Rattle.tp_link.specs.Device.{held_after_send, plain_send};
+ghost use Rattle.tp_link.specs.Medium.{with_bytes, wired, unwired, faultless_device};
+
+use crate::{DeviceFault, EndedMedium, FaultyWire, LinkDevice, Links, Medium, OwnedWire, Wire};
+use std::alloc::{AllocError, Global};
+use std::process::Abort;
+use std::test::Fail;
+
+/// Sends over a wire that has ended at the return. That the medium then has its end mark and its
+/// bytes is proved from the wire's contracts alone.
+fn send_and_end(medium: &mut Medium, bytes: &[u8]) -> Result<(), DeviceFault>
+    ensures medium { medium.new
+        ≡ unwired (with_bytes medium.old (held_after_send result medium.old.bytes bytes.now)) }
+    ensures answer { result ≡ plain_send (faultless_device (wired medium.old)) bytes.now }
+{
+    let mut wire = Wire::new(medium);
+    wire.send(bytes)
+}
+
+#[test]
+fn a_wire_that_has_ended_leaves_its_bytes(rt: HostRuntime) -> Result<(), Fail> {
+    let mut medium = Medium::new(rt.alloc(), 4)?;
+    assert_eq!(rt; send_and_end(&mut medium, &[1, 2, 3]), Ok(()));
+    assert!(rt; medium.ended());
+    assert_eq!(rt; medium.bytes(), [1, 2, 3].as_slice());
+    Ok(())
+}
+
+#[test]
+fn a_dropped_box_ends_its_wire(rt: HostRuntime) -> Result<(), Fail> {
+    let mut medium = Medium::new(rt.alloc(), 4)?;
+    let mut wire = Box::new(rt.alloc(), Wire::new(&mut medium))?;
+    assert_eq!(rt; wire.send(&[1, 2, 3]), Ok(()));
+    drop(wire);
+    assert!(rt; medium.ended());
+    assert_eq!(rt; medium.bytes(), [1, 2, 3].as_slice());
+    Ok(())
+}
+
+/// The six orders in which three boxes can be dropped.
+const ORDERS: [[usize; 3]; 6] = [
+    [0, 1, 2],
+    [0, 2, 1],
+    [1, 0, 2],
+    [1, 2, 0],
+    [2, 0, 1],
+    [2, 1, 0],
+];
+
+fn drop_in_order<D: LinkDevice>(links: Links<D>, order: [usize; 3]) {
+    let Links {
+        source,
+        sink,
+        trace,
+    } = links;
+    let mut devices = (Some(source), Some(sink), Some(trace));
+    for place in order {
+        match place {
+            0 => devices.0 = None,
+            1 => devices.1 = None,
+            _ => devices.2 = None,
+        }
+    }
+}
+
+/// Sends other bytes to each device, shuts them or not, and drops them in an order.
+fn use_and_drop<D: LinkDevice>(
+    rt: &impl Abort,
+    mut links: Links<D>,
+    shut: bool,
+    order: [usize; 3],
+) {
+    assert_eq!(rt; links.source.send(&[1]), Ok(()));
+    assert_eq!(rt; links.sink.send(&[2, 3]), Ok(()));
+    assert_eq!(rt; links.trace.send(&[4, 5, 6]), Ok(()));
+    if shut {
+        links.shut();
+        assert!(rt; !links.source.is_open() && !links.sink.is_open() && !links.trace.is_open());
+    }
+    drop_in_order(links, order);
+}
+
+fn assert_ended(rt: &impl Abort, medium: &Medium, bytes: &[u8]) {
+    assert!(rt; medium.ended());
+    assert_eq!(rt; medium.bytes(), bytes);
+}
+
+fn wires<'a>(
+    alloc: Global,
+    source: &'a mut Medium,
+    sink: &'a mut Medium,
+    trace: &'a mut Medium,
+) -> Result<Links<Box<Wire<'a>>>, AllocError> {
+    Ok(Links {
+        source: Box::new(alloc, Wire::new(source))?,
+        sink: Box::new(alloc, Wire::new(sink))?,
+        trace: Box::new(alloc, Wire::new(trace))?,
+    })
+}
+
+fn faulty_wires<'a>(
+    alloc: Global,
+    source: &'a mut Medium,
+    sink: &'a mut Medium,
+    trace: &'a mut Medium,
+) -> Result<Links<Box<FaultyWire<'a>>>, AllocError> {
+    Ok(Links {
+        source: Box::new(alloc, FaultyWire::new(source, 2))?,
+        sink: Box::new(alloc, FaultyWire::new(sink, 0))?,
+        trace: Box::new(alloc, FaultyWire::new(trace, 3))?,
+    })
+}
+
+fn borrowed_media_end(
+    rt: &impl Abort,
+    alloc: Global,
+    faulty: bool,
+    shut: bool,
+    order: [usize; 3],
+) -> Result<(), AllocError> {
+    let mut source = Medium::new(alloc, 4)?;
+    let mut sink = Medium::new(alloc, 4)?;
+    let mut trace = Medium::new(alloc, 4)?;
+    if faulty {
+        let links = faulty_wires(alloc, &mut source, &mut sink, &mut trace)?;
+        use_and_drop(rt, links, shut, order);
+    } else {
+        let links = wires(alloc, &mut source, &mut sink, &mut trace)?;
+        use_and_drop(rt, links, shut, order);
+    }
+    assert_ended(rt, &source, &[1]);
+    assert_ended(rt, &sink, &[2, 3]);
+    assert_ended(rt, &trace, &[4, 5, 6]);
+    Ok(())
+}
+
+#[test]
+fn wires_end_in_each_order(rt: HostRuntime) -> Result<(), Fail> {
+    for order in ORDERS {
+        borrowed_media_end(&rt, rt.alloc(), false, false, order)?;
+        borrowed_media_end(&rt, rt.alloc(), false, true, order)?;
+    }
+    Ok(())
+}
+
+#[test]
+fn faulty_wires_end_in_each_order(rt: HostRuntime) -> Result<(), Fail> {
+    for order in ORDERS {
+        borrowed_media_end(&rt, rt.alloc(), true, false, order)?;
+        borrowed_media_end(&rt, rt.alloc(), true, true, order)?;
+    }
+    Ok(())
+}
+
+fn assert_landed(rt: &impl Abort, place: &EndedMedium, bytes: &[u8]) {
+    match place.get() {
+        Some(medium) => assert_ended(rt, medium, bytes),
+        None => assert!(rt; false, "the wire has not ended"),
+    }
+}
+
+fn owned_media_end(
+    rt: &impl Abort,
+    alloc: Global,
+    shut: bool,
+    order: [usize; 3],
+) -> Result<(), AllocError> {
+    let (first, source_end) = OwnedWire::new(alloc, Medium::new(alloc, 4)?)?;
+    let (second, sink_end) = OwnedWire::new(alloc, Medium::new(alloc, 4)?)?;
+    let (third, trace_end) = OwnedWire::new(alloc, Medium::new(alloc, 4)?)?;
+    let source: Box<dyn LinkDevice + Send> = Box::new(alloc, first)?;
+    let sink: Box<dyn LinkDevice + Send> = Box::new(alloc, second)?;
+    let trace: Box<dyn LinkDevice + Send> = Box::new(alloc, third)?;
+    let links = Links {
+        source,
+        sink,
+        trace,
+    };
+    assert!(rt; source_end.get().is_none());
+    use_and_drop(rt, links, shut, order);
+    assert_landed(rt, &source_end, &[1]);
+    assert_landed(rt, &sink_end, &[2, 3]);
+    assert_landed(rt, &trace_end, &[4, 5, 6]);
+    Ok(())
+}
+
+#[test]
+fn trait_objects_end_in_each_order(rt: HostRuntime) -> Result<(), Fail> {
+    for order in ORDERS {
+        owned_media_end(&rt, rt.alloc(), false, order)?;
+        owned_media_end(&rt, rt.alloc(), true, order)?;
+    }
+    Ok(())
+}
