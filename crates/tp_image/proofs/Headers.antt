@@ -1,0 +1,133 @@
+-- What the bytes of a header say of the whole.
+use Rattle.std.proofs.Common.{◌≡◌, ℕ, ◌<◌, ◌≤◌, Bool, true, false, cond, ltb, leb, List, [], ◌∷◌, ◌++◌, length, get_or, drop, Option, None, Some, refl, sym, ap, ◌∙◌, inl, inr, arith}
+use Rattle.std.proofs.lemmas.Bool.{le-ltb, lt-leb, ltb-false, leb-false, cond-true, cond-false, cases_Bool, or_parts, or_from}
+use Rattle.std.proofs.lemmas.Bool.Decides.{Decides-eqb}
+use Rattle.std.proofs.lemmas.Slice.Eq.{starts_is}
+use Rattle.std.specs.Prelude.{nat_eq}
+use Rattle.std.specs.List.{starts_with, AllByRecursion}
+use Rattle.tp_image.specs.declared.fault.ImageFault.TheVariants.{Refused}
+use Rattle.tp_image.specs.declared.header.Header.{Header}
+use Rattle.tp_image.specs.declared.image.Version.{Version}
+use Rattle.tp_image.specs.declared.image.Version.TheVariants.{One, Two}
+use Rattle.tp_image.specs.declared.limits.TheConstants.{LEAST_WORKSPACE, LEAST_START, MESSAGE_WORDS, LOOP_ROWS}
+use Rattle.tp_image.specs.Image.{most_code, most_workspace, most_initial, IsWithin}
+use Rattle.tp_image.specs.Text.{magic}
+use Rattle.tp_image.specs.Faults.{version_of, header_bytes, header_at, image_bytes, is_outside, Test, header_tests, first_refusal, header_fault, fault_of, first_fault}
+
+-- past the first two tests the header decides
+pub first_fault-whole : (bytes : List ℕ) (v : Version) → version_of bytes ≡ Some v → header_bytes v ≤ length bytes → first_fault bytes ≡ header_fault (header_at v bytes) (length bytes)
+unfolding first_fault
+first_fault-whole bytes v is long =
+    ap (λ (o : Option Version). fault_of o bytes) is
+    ∙ cond-false _ _ _ (le-ltb (length bytes) (header_bytes v) long)
+
+-- ---- the tests
+
+-- the header's fields are in range, and its image has so many bytes
+pub record Passes (h : Header) (bytes : ℕ) : Type 0 where
+  pub code : IsWithin 1 (most_code h.version) h.code
+  pub workspace : IsWithin LEAST_WORKSPACE (most_workspace h.version) h.workspace
+  pub start_least : LEAST_START ≤ h.start
+  pub start_most : h.start < h.workspace
+  pub packet : IsWithin 1 MESSAGE_WORDS h.packet
+  pub result : IsWithin 1 MESSAGE_WORDS h.result
+  pub loops : h.loops ≤ LOOP_ROWS
+  pub initial : h.initial ≤ most_initial h.version h.workspace
+  pub size : bytes ≡ image_bytes h
+
+-- no refusal comes where no test fails
+none_fails : (ts : List Test) → first_refusal ts ≡ None → AllByRecursion (λ t. t.fails ≡ false) ts
+none_fails [] e = tt
+none_fails (t ∷ ts) e =
+    elim (cases_Bool t.fails) [
+      | inl fails ↦ absurd (let refused : first_refusal (t ∷ ts) ≡ Some (Refused t.code t.place) = cond-true _ _ _ fails in cc)
+      | inr passes ↦ (passes, none_fails ts (sym (cond-false _ _ _ passes) ∙ e))
+    ]
+
+no_refusal : (ts : List Test) → AllByRecursion (λ t. t.fails ≡ false) ts → first_refusal ts ≡ None
+no_refusal [] passes = refl
+no_refusal (t ∷ ts) passes = cond-false _ _ _ passes.0 ∙ no_refusal ts passes.1
+
+is_within : (least most n : ℕ) → is_outside least most n ≡ false → IsWithin least most n
+is_within least most n e =
+    let p = or_parts (ltb n least) (ltb most n) e in
+    (ltb-false n least p.0, ltb-false most n p.1)
+
+not_outside : (least most n : ℕ) → IsWithin least most n → is_outside least most n ≡ false
+not_outside least most n p = or_from (ltb n least) (ltb most n) (le-ltb n least p.0) (le-ltb most n p.1)
+
+pub passes_tests : (h : Header) (bytes : ℕ) → header_fault h bytes ≡ None → Passes h bytes
+passes_tests h bytes e =
+    let p = none_fails (header_tests h bytes) e in
+    let start = or_parts (ltb h.start LEAST_START) (leb h.workspace h.start) p.1.1.0 in
+    let enough = ltb-false bytes (image_bytes h) p.1.1.1.1.1.1.1.0 in
+    let no_more = ltb-false (image_bytes h) bytes p.1.1.1.1.1.1.1.1.0 in
+    record {
+      code = is_within _ _ _ p.0;
+      workspace = is_within _ _ _ p.1.0;
+      start_least = ltb-false _ _ start.0;
+      start_most = leb-false _ _ start.1;
+      packet = is_within _ _ _ p.1.1.1.0;
+      result = is_within _ _ _ p.1.1.1.1.0;
+      loops = ltb-false LOOP_ROWS h.loops p.1.1.1.1.1.0;
+      initial = ltb-false (most_initial h.version h.workspace) h.initial p.1.1.1.1.1.1.0;
+      size = omega (arith, enough, no_more);
+    }
+
+pub no_header_fault : (h : Header) (bytes : ℕ) → Passes h bytes → header_fault h bytes ≡ None
+no_header_fault h bytes p =
+    no_refusal (header_tests h bytes) (
+      not_outside _ _ _ p.code,
+      (
+        not_outside _ _ _ p.workspace,
+        (
+          or_from _ _ (le-ltb _ _ p.start_least) (lt-leb _ _ p.start_most),
+          (
+            not_outside _ _ _ p.packet,
+            (
+              not_outside _ _ _ p.result,
+              (
+                le-ltb _ _ p.loops,
+                (
+                  le-ltb _ _ p.initial,
+                  (
+                    le-ltb bytes (image_bytes h) (omega (arith, p.size)),
+                    (
+                      le-ltb (image_bytes h) bytes (omega (arith, p.size)),
+                      tt,
+                    ),
+                  ),
+                ),
+              ),
+            ),
+          ),
+        ),
+      ),
+    )
+
+-- ---- the magic
+
+abbrev pub AreBytes : List ℕ → Type 0
+AreBytes bytes = (i : ℕ) → get_or bytes i 0 < 256
+
+begins : (bytes : List ℕ) (v : Version) → starts_with nat_eq bytes (magic v) ≡ true → bytes ≡ magic v ++ drop (length (magic v)) bytes
+begins bytes v e = (starts_is Decides-eqb bytes (magic v) true (sym e)).0 refl
+
+one_test : (b c : Bool) → cond b (Some One) (cond c (Some Two) None) ≡ Some One → b ≡ true
+one_test true c e = refl
+one_test false true e = absurd cc
+one_test false false e = absurd cc
+
+two_test : (b c : Bool) → cond b (Some One) (cond c (Some Two) None) ≡ Some Two → c ≡ true
+two_test true c e = absurd cc
+two_test false true e = refl
+two_test false false e = absurd cc
+
+-- a version is spelled at the front
+pub version_front : (bytes : List ℕ) (v : Version) → version_of bytes ≡ Some v → bytes ≡ magic v ++ drop 4 bytes
+version_front bytes One e = begins bytes One (one_test _ _ e)
+version_front bytes Two e = begins bytes Two (two_test (starts_with nat_eq bytes (magic One)) _ e)
+
+pub version_of-magic : (v : Version) (rest : List ℕ) → version_of (magic v ++ rest) ≡ Some v
+version_of-magic One rest = refl
+version_of-magic Two rest = refl

@@ -1,0 +1,10 @@
+pub mod Bodies
+pub mod Cells
+pub mod Cuts
+pub mod Faulty
+pub mod Headers
+pub mod Pushes
+pub mod Readable
+pub mod Rows
+pub mod Spelled
+pub mod Unique

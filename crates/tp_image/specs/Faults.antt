@@ -1,0 +1,104 @@
+-- The first test that bytes fail.
+use Rattle.std.specs.Prelude.{◌≡◌, ◌≤◌, ℕ, ◌+◌, ◌*◌, Bool, List, [], ◌∷◌, length, slice_index, Option, Some, None, nat_eq, nat_lt, nat_le, ◌||◌, if◌then◌else◌}
+use Rattle.std.specs.List.{starts_with}
+use Rattle.tp_image.specs.declared.fault.ImageCode.{ImageCode}
+use Rattle.tp_image.specs.declared.fault.ImageCode.TheVariants.{F1, F2, F3, F4, F5, F6, F7, F8, F9, F10}
+use Rattle.tp_image.specs.declared.fault.ImageFault.{ImageFault}
+use Rattle.tp_image.specs.declared.fault.ImageFault.TheVariants.{Refused}
+use Rattle.tp_image.specs.declared.image.Version.{Version}
+use Rattle.tp_image.specs.declared.image.Version.TheVariants.{One, Two}
+use Rattle.tp_image.specs.declared.header.Header.{Header}
+use Rattle.tp_image.specs.declared.layout.TheConstants.{CODE_AT, WORKSPACE_AT, START_AT, PACKET_AT, RESULT_AT, LOOPS_AT, INITIAL_AT, HEADER_BYTES_1, HEADER_BYTES_2, ROW_BYTES, WORD_BYTES}
+use Rattle.tp_image.specs.declared.limits.TheConstants.{LEAST_WORKSPACE, LEAST_START, MESSAGE_WORDS, LOOP_ROWS}
+use Rattle.tp_image.specs.Image.{most_code, most_workspace, most_initial}
+use Rattle.tp_image.specs.Text.{magic}
+
+-- the version that the first four bytes spell
+abbrev pub version_of : List ℕ → Option Version
+version_of bytes =
+    if starts_with nat_eq bytes (magic One) then Some One
+    else if starts_with nat_eq bytes (magic Two) then Some Two
+    else None
+
+-- the field of 16 bits at a place
+abbrev pub half_word_at : List ℕ → ℕ → ℕ
+half_word_at bytes place = slice_index bytes place + 256 * slice_index bytes (place + 1)
+
+abbrev pub header_bytes : Version → ℕ
+header_bytes One = HEADER_BYTES_1
+header_bytes Two = HEADER_BYTES_2
+
+-- version 1 has no initial words
+abbrev pub initial_at : Version → List ℕ → ℕ
+initial_at One bytes = 0
+initial_at Two bytes = half_word_at bytes INITIAL_AT
+
+-- what the bytes say where a header stands
+abbrev pub header_at : Version → List ℕ → Header
+header_at version bytes = record {
+  version = version;
+  code = half_word_at bytes CODE_AT;
+  workspace = half_word_at bytes WORKSPACE_AT;
+  start = half_word_at bytes START_AT;
+  packet = half_word_at bytes PACKET_AT;
+  result = half_word_at bytes RESULT_AT;
+  loops = half_word_at bytes LOOPS_AT;
+  initial = initial_at version bytes;
+}
+
+-- how many bytes an image with this header has
+abbrev pub image_bytes : Header → ℕ
+image_bytes h = header_bytes h.version + ROW_BYTES * h.loops + WORD_BYTES * h.initial + h.code
+
+-- A test: where it is true, the bytes are refused.
+pub record Test : Type 0 where
+  pub fails : Bool
+  pub code : ImageCode
+  pub place : ℕ
+
+abbrev pub test : Bool → ImageCode → ℕ → Test
+test fails code place = record { fails = fails; code = code; place = place }
+
+abbrev pub is_outside : ℕ → ℕ → ℕ → Bool
+is_outside least most n = nat_lt n least || nat_lt most n
+
+-- The tests on a header of an image of so many bytes, in their order.
+abbrev pub header_tests : Header → ℕ → List Test
+header_tests h bytes =
+    test (is_outside 1 (most_code h.version) h.code) F3 CODE_AT
+    ∷ test (is_outside LEAST_WORKSPACE (most_workspace h.version) h.workspace) F4 WORKSPACE_AT
+    ∷ test (nat_lt h.start LEAST_START || nat_le h.workspace h.start) F5 START_AT
+    ∷ test (is_outside 1 MESSAGE_WORDS h.packet) F6 PACKET_AT
+    ∷ test (is_outside 1 MESSAGE_WORDS h.result) F7 RESULT_AT
+    ∷ test (nat_lt LOOP_ROWS h.loops) F8 LOOPS_AT
+    ∷ test (nat_lt (most_initial h.version h.workspace) h.initial) F10 INITIAL_AT
+    ∷ test (nat_lt bytes (image_bytes h)) F2 bytes
+    ∷ test (nat_lt (image_bytes h) bytes) F9 (image_bytes h)
+    ∷ []
+
+-- the refusal of the first test that fails
+abbrev pub first_refusal : List Test → Option ImageFault
+first_refusal [] = None
+first_refusal (t ∷ ts) = if t.fails then Some (Refused t.code t.place) else first_refusal ts
+
+-- the refusal of a header of an image of so many bytes
+abbrev pub header_fault : Header → ℕ → Option ImageFault
+header_fault h bytes = first_refusal (header_tests h bytes)
+
+-- The magic is tested first, then that the header is whole, then what it says.
+abbrev pub fault_of : Option Version → List ℕ → Option ImageFault
+fault_of None bytes = Some (Refused F1 0)
+fault_of (Some version) bytes =
+    if nat_lt (length bytes) (header_bytes version) then Some (Refused F2 (length bytes))
+    else header_fault (header_at version bytes) (length bytes)
+
+-- the refusal of the first test that the bytes fail
+unfoldable pub first_fault : List ℕ → Option ImageFault
+first_fault bytes = fault_of (version_of bytes) bytes
+
+-- The header stands at the front of the bytes, and no test fails.
+pub record IsWholeHeader (h : Header) (bytes : List ℕ) : Type 0 where
+  pub version : version_of bytes ≡ Some h.version
+  pub long : header_bytes h.version ≤ length bytes
+  pub fields : h ≡ header_at h.version bytes
+  pub passes : header_fault h (length bytes) ≡ None

@@ -1,0 +1,6 @@
+pub mod Codes
+pub mod Faults
+pub mod Image
+pub mod Text
+pub mod Upgrade
+pub mod View

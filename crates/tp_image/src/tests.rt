@@ -1,0 +1,259 @@
+//! Images and refusals worked out by hand, and each call once with ample memory.
+
+mod samples;
+
+use super::*;
+use samples::*;
+use std::alloc::{AllocError, Global};
+use std::process::Abort;
+use std::test::Fail;
+
+/// The bytes with others from a place on.
+fn changed(
+    alloc: Global,
+    bytes: &[u8],
+    place: usize,
+    others: &[u8],
+) -> Result<Vec<u8>, AllocError> {
+    let mut changed = Vec::from_slice(alloc, bytes)?;
+    for (i, other) in others.iter().enumerate() {
+        if let Some(byte) = changed.get_mut(place.saturating_add(i)) {
+            *byte = *other;
+        }
+    }
+    Ok(changed)
+}
+
+/// That bytes are refused so.
+fn assert_refused(rt: &(impl Abort + AllocGlobal), bytes: &[u8], code: ImageCode, place: usize) {
+    match read_image(rt.alloc(), bytes) {
+        Ok(_) => panic!(rt; "an image was read, and {code} wanted"),
+        Err(fault) => assert_eq!(rt; fault, ImageFault::Refused { code, place }),
+    }
+}
+
+/// What a sample says: its version, its workspace words, loop rows, initial words and code bytes.
+const SAMPLES: [(&[u8], u8, u32, usize, usize, usize); 24] = [
+    (INCREMENT, 1, 12, 0, 0, 16),
+    (SUM_TO_TEN, 1, 16, 1, 0, 27),
+    (ONE_TURN, 1, 16, 1, 0, 27),
+    (SUM_TO_TEN_THOUSAND, 1, 16, 1, 0, 30),
+    (TOO_MANY_TURNS, 1, 16, 1, 0, 30),
+    (NESTED_TOO_LONG, 1, 16, 2, 0, 35),
+    (NESTED, 1, 16, 2, 0, 35),
+    (ADDS_AFTER_JUMP, 1, 12, 0, 0, 17),
+    (JUMPS_INTO_SPELLING, 1, 12, 0, 0, 18),
+    (RECEIVES_TWO_WORDS, 1, 12, 0, 0, 16),
+    (SENDS_TWICE, 1, 12, 0, 0, 18),
+    (UNCHECKED_INDEX, 1, 20, 0, 0, 18),
+    (MASKED_INDEX, 1, 20, 0, 0, 21),
+    (READS_BELOW_WPTR, 1, 12, 0, 0, 16),
+    (STORES_INTO_COUNT, 1, 16, 1, 0, 27),
+    (FIVE_UNLESS_ZERO, 1, 12, 0, 0, 17),
+    (TRACES_PACKET, 1, 12, 0, 0, 19),
+    (TRACES_TOO_OFTEN, 1, 16, 1, 0, 28),
+    (SHIFTS_BY_PACKET, 1, 12, 0, 0, 18),
+    (STORES_BY_TWO_WAYS, 1, 12, 0, 0, 22),
+    (COPIES_IN_VERSION_1, 1, 16, 0, 0, 19),
+    (COPIES_INITIAL_WORD, 2, 16, 0, 1, 19),
+    (INCREMENT_2, 2, 12, 0, 0, 16),
+    (OVERLAPPING_COPY, 2, 16, 0, 0, 18),
+];
+
+#[test]
+fn reads_and_writes_samples(rt: HostRuntime) -> Result<(), Fail> {
+    for (bytes, version, workspace, loops, initial, code) in SAMPLES {
+        let image = read_image(rt.alloc(), bytes)?;
+        let sizes = (image.loops.len(), image.initial.len(), image.code.len());
+        assert_eq!(rt; (image.version(), image.workspace), (version, workspace));
+        assert_eq!(rt; (image.start, image.packet, image.result), (8, 1, 1));
+        assert_eq!(rt; sizes, (loops, initial, code));
+        assert_eq!(rt; write_image(rt.alloc(), &image)?.as_slice(), bytes);
+    }
+    Ok(())
+}
+
+#[test]
+fn reads_rows_and_words(rt: HostRuntime) -> Result<(), Fail> {
+    let nested = read_image(rt.alloc(), NESTED)?;
+    let outer = LoopRow {
+        head: 13,
+        lend: 26,
+        control: 10,
+        count: 10,
+        start: 0,
+    };
+    let inner = LoopRow {
+        head: 20,
+        lend: 22,
+        control: 12,
+        count: 10_000,
+        start: 0,
+    };
+    assert_eq!(rt; nested.loops.as_slice(), [outer, inner].as_slice());
+    assert_eq!(rt; nested.code.as_slice(), &NESTED[40..]);
+    let copies = read_image(rt.alloc(), COPIES_INITIAL_WORD)?;
+    assert_eq!(rt; copies.initial.as_slice(), [42].as_slice());
+    Ok(())
+}
+
+#[test]
+fn reads_a_negative_start(rt: HostRuntime) -> Result<(), Fail> {
+    let bytes = changed(rt.alloc(), SUM_TO_TEN, 24, b"\xFE\xFF\xFF\xFF")?;
+    let image = read_image(rt.alloc(), &bytes)?;
+    for row in &image.loops {
+        assert_eq!(rt; row.start, -2);
+    }
+    assert_eq!(rt;
+        write_image(rt.alloc(), &image)?.as_slice(),
+        bytes.as_slice()
+    );
+    Ok(())
+}
+
+#[test]
+fn refuses_beginnings(rt: HostRuntime) -> Result<(), Fail> {
+    assert_eq!(rt; NESTED_TOO_LONG.len(), 75);
+    for n in 0..75 {
+        if n < 4 {
+            assert_refused(&rt, &NESTED_TOO_LONG[..n], ImageCode::F1, 0);
+        } else {
+            assert_refused(&rt, &NESTED_TOO_LONG[..n], ImageCode::F2, n);
+        }
+    }
+    read_image(rt.alloc(), NESTED_TOO_LONG)?;
+    assert_refused(&rt, &INCREMENT[..16], ImageCode::F2, 16);
+    Ok(())
+}
+
+#[test]
+fn refuses_bytes_left_over(rt: HostRuntime) -> Result<(), Fail> {
+    let mut bytes = Vec::from_slice(rt.alloc(), INCREMENT)?;
+    bytes.push(0)?;
+    assert_refused(&rt, &bytes, ImageCode::F9, 32);
+    Ok(())
+}
+
+#[test]
+fn refuses_fields_out_of_range(rt: HostRuntime) -> Result<(), Fail> {
+    let refusals: [(&[u8], usize, &[u8], ImageCode, usize); 19] = [
+        (INCREMENT, 3, b"3", ImageCode::F1, 0),
+        (INCREMENT, 4, b"\x00\x00", ImageCode::F3, 4),
+        (INCREMENT, 4, b"\x01\x08", ImageCode::F3, 4),
+        (INCREMENT, 4, b"\x4D\x1F", ImageCode::F3, 4),
+        (INCREMENT_2, 4, b"\x01\x20", ImageCode::F3, 4),
+        (INCREMENT, 6, b"\x07\x00", ImageCode::F4, 6),
+        (INCREMENT, 6, b"\x00\x02", ImageCode::F4, 6),
+        (INCREMENT_2, 6, b"\x01\x02", ImageCode::F4, 6),
+        (INCREMENT, 8, b"\x04\x00", ImageCode::F5, 8),
+        (INCREMENT, 8, b"\x0C\x00", ImageCode::F5, 8),
+        (INCREMENT, 10, b"\x00\x00", ImageCode::F6, 10),
+        (INCREMENT, 10, b"\x41\x00", ImageCode::F6, 10),
+        (INCREMENT, 12, b"\x00\x00", ImageCode::F7, 12),
+        (INCREMENT, 12, b"\x41\x00", ImageCode::F7, 12),
+        (INCREMENT, 14, b"\x11\x00", ImageCode::F8, 14),
+        (COPIES_INITIAL_WORD, 16, b"\x11\x00", ImageCode::F10, 16),
+        (COPIES_INITIAL_WORD, 16, b"\x10\x00", ImageCode::F2, 41),
+        (INCREMENT, 4, b"\x00\x00\x00\x00", ImageCode::F3, 4),
+        (INCREMENT, 6, b"\x00\x00\x00\x00", ImageCode::F4, 6),
+    ];
+    for (bytes, place, others, code, at) in refusals {
+        let bytes = changed(rt.alloc(), bytes, place, others)?;
+        assert_refused(&rt, &bytes, code, at);
+    }
+    Ok(())
+}
+
+#[test]
+fn reads_the_largest_fields(rt: HostRuntime) -> Result<(), Fail> {
+    let widest = changed(rt.alloc(), INCREMENT_2, 6, b"\x00\x02")?;
+    assert_eq!(rt; read_image(rt.alloc(), &widest)?.workspace, 512);
+    let messages = changed(rt.alloc(), INCREMENT, 10, b"\x40\x00\x40\x00")?;
+    assert_eq!(rt; read_image(rt.alloc(), &messages)?.result, 64);
+    Ok(())
+}
+
+/// The bytes before, as a header of so many code bytes and the code's first, then `ldc 0; cj 0` so
+/// many times, then the bytes after.
+fn with_long_code(
+    alloc: Global,
+    before: &[u8],
+    code_bytes: &[u8],
+    times: u32,
+    after: &[u8],
+) -> Result<Vec<u8>, AllocError> {
+    let mut bytes = changed(alloc, before, 4, code_bytes)?;
+    for _ in 0..times {
+        bytes.extend_from_slice(b"\x40\xA0")?;
+    }
+    bytes.extend_from_slice(after)?;
+    Ok(bytes)
+}
+
+#[test]
+fn reads_long_codes(rt: HostRuntime) -> Result<(), Fail> {
+    let alloc = rt.alloc();
+    let first = with_long_code(alloc, &INCREMENT[..22], b"\x15\x07", 900, &INCREMENT[25..])?;
+    assert_eq!(rt; read_image(alloc, &first)?.code.len(), 1813);
+    let second = with_long_code(
+        alloc,
+        &INCREMENT_2[..24],
+        b"\x4D\x1F",
+        4000,
+        &INCREMENT_2[27..],
+    )?;
+    assert_eq!(rt; read_image(alloc, &second)?.code.len(), 8013);
+    Ok(())
+}
+
+#[test]
+fn upgrades(rt: HostRuntime) -> Result<(), Fail> {
+    let image = upgrade(rt.alloc(), &read_image(rt.alloc(), INCREMENT)?)?;
+    assert_eq!(rt; image.version(), 2);
+    assert_eq!(rt; write_image(rt.alloc(), &image)?.as_slice(), INCREMENT_2);
+    let copies = read_image(rt.alloc(), COPIES_INITIAL_WORD)?;
+    let same = upgrade(rt.alloc(), &copies)?;
+    assert_eq!(rt;
+        write_image(rt.alloc(), &same)?.as_slice(),
+        COPIES_INITIAL_WORD
+    );
+    Ok(())
+}
+
+#[test]
+fn prints_faults(rt: HostRuntime) -> Result<(), Fail> {
+    let refused = ImageFault::Refused {
+        code: ImageCode::F10,
+        place: 16,
+    };
+    assert_eq!(rt;
+        format!(in rt.alloc(); "{refused}")?.as_str(),
+        "F10 at byte 16"
+    );
+    let memory = ImageFault::Memory;
+    assert_eq!(rt;
+        format!(in rt.alloc(); "{memory}")?.as_str(),
+        "out of memory"
+    );
+    Ok(())
+}
+
+/// Where an allocation fails, each call answers `Memory` or what it answers with ample memory.
+#[test]
+fn answers_memory_or_the_same(rt: HostRuntime) {
+    match read_image(rt.alloc(), COPIES_INITIAL_WORD) {
+        Err(fault) => assert_eq!(rt; fault, ImageFault::Memory),
+        Ok(image) => {
+            assert_eq!(rt; image.initial.as_slice(), [42].as_slice());
+            match write_image(rt.alloc(), &image) {
+                Err(fault) => assert_eq!(rt; fault, ImageFault::Memory),
+                Ok(bytes) => assert_eq!(rt; bytes.as_slice(), COPIES_INITIAL_WORD),
+            }
+            match upgrade(rt.alloc(), &image) {
+                Err(fault) => assert_eq!(rt; fault, ImageFault::Memory),
+                Ok(same) => assert_eq!(rt; same.initial.as_slice(), [42].as_slice()),
+            }
+        }
+    }
+    assert_refused(&rt, &INCREMENT[..16], ImageCode::F2, 16);
+}
