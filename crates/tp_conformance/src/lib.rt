@@ -1,0 +1,9 @@
+//! Worked examples, and tests that cross crates. There is no code here but tests.
+#![tactic(auto)]
+
+#[cfg(test)]
+mod lines;
+#[cfg(test)]
+mod spellings;
+#[cfg(test)]
+mod streams;

@@ -1,0 +1,71 @@
+//! Operands and their canonical spellings, as the Compiler Writer's Guide's rule gives them.
+
+use std::test::Fail;
+use tp_decode::{DecodeFault, Instr, decode};
+use tp_prefix::{PrefixFault, Spelled, encode, read_one};
+
+fn spells(rt: &impl std::process::Abort, operand: i32, bytes: &[u8]) {
+    assert!(rt; encode(4, operand).as_slice() == bytes, "{operand}");
+}
+
+#[test]
+fn load_constants(rt: HostRuntime) {
+    spells(&rt, 15, &[0x4F]);
+    spells(&rt, 16, &[0x21, 0x40]);
+    spells(&rt, 256, &[0x21, 0x20, 0x40]);
+    spells(
+        &rt,
+        2_147_483_647,
+        &[0x27, 0x2F, 0x2F, 0x2F, 0x2F, 0x2F, 0x2F, 0x4F],
+    );
+    spells(&rt, -1, &[0x60, 0x4F]);
+    spells(&rt, -17, &[0x61, 0x4F]);
+    spells(&rt, -256, &[0x6F, 0x40]);
+    spells(&rt, -257, &[0x21, 0x60, 0x4F]);
+}
+
+#[test]
+fn one_at_a_place(rt: HostRuntime) {
+    let code = [0x41, 0x21, 0x60, 0x4F, 0x20, 0x20];
+    let third = Spelled {
+        function: 4,
+        operand: -257,
+        next: 4,
+    };
+    assert_eq!(rt; read_one(&code, 1), Ok(third));
+    assert_eq!(rt; read_one(&code, 4), Err(PrefixFault::D1(4)));
+    assert_eq!(rt; read_one(&[0x20; 8], 0), Err(PrefixFault::D2(0)));
+}
+
+#[test]
+fn a_listing_finds_its_instructions(rt: HostRuntime) -> Result<(), Fail> {
+    let listing = decode(rt.alloc(), &[0x20, 0x41, 0x24, 0xF2, 0xD0])
+        .ok()
+        .ok_or("refused")?;
+    assert!(rt; listing.starts() == [0, 2, 4].as_slice());
+    assert_eq!(rt; listing.at(0), Some(Instr::Ldc(1)));
+    assert_eq!(rt; listing.at(1), None);
+    assert_eq!(rt; listing.at(2), Some(Instr::Mint));
+    assert_eq!(rt; listing.at(4), Some(Instr::Stl(0)));
+    assert_eq!(rt; listing.at(5), None);
+    assert_eq!(rt; listing.next(2), Some(4));
+    assert_eq!(rt; listing.next(3), None);
+    assert_eq!(rt; Instr::of(15, 0x4A), Some(Instr::MoveBytes));
+    assert_eq!(rt; Instr::of(9, 0), None);
+    Ok(())
+}
+
+#[test]
+fn the_lowest_refusal(rt: HostRuntime) {
+    let call = decode(rt.alloc(), &[0x41, 0x90, 0x22]);
+    assert!(rt; matches!(call, Err(DecodeFault::D3(1))));
+    let cut = decode(rt.alloc(), &[0x41, 0x22]);
+    assert!(rt; matches!(cut, Err(DecodeFault::D1(1))));
+    let long = decode(
+        rt.alloc(),
+        &[0x41, 0x20, 0x20, 0x20, 0x20, 0x20, 0x20, 0x20, 0x20],
+    );
+    assert!(rt; matches!(long, Err(DecodeFault::D2(1))));
+    let empty = decode(rt.alloc(), &[]);
+    assert!(rt; matches!(empty, Ok(_)));
+}

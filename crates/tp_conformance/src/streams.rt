@@ -1,0 +1,136 @@
+//! Readers and writers that give and take little at a time, or fail.
+
+use crate::lines::answers;
+use std::io;
+use std::io::{ErrorKind, Read, Write};
+use std::test::Fail;
+use tp_session::{ServeFault, serve};
+
+/// Gives one byte a call, and fails in call number `failing`, counted from 1; never where that is 0.
+#[derive(Drop)]
+struct Trickle<'a> {
+    rest: &'a [u8],
+    calls: usize,
+    failing: usize,
+}
+
+impl Read for Trickle<'_> {
+    fn read(&mut self, buf: &mut [u8]) -> io::Result<usize> {
+        self.calls = self.calls.saturating_add(1);
+        if self.calls == self.failing {
+            return Err(io::Error::from(ErrorKind::BrokenPipe));
+        }
+        match (self.rest, buf) {
+            ([first, rest @ ..], [into, ..]) => {
+                *into = *first;
+                self.rest = rest;
+                Ok(1)
+            }
+            _ => Ok(0),
+        }
+    }
+}
+
+/// Takes one byte a call, and in call number `failing` of write or flush fails.
+#[derive(Drop)]
+struct Narrow {
+    taken: Vec<u8>,
+    calls: usize,
+    failing: usize,
+}
+
+impl Narrow {
+    fn fails(&mut self) -> bool {
+        self.calls = self.calls.saturating_add(1);
+        self.calls == self.failing
+    }
+}
+
+impl Write for Narrow {
+    fn write(&mut self, buf: &[u8]) -> io::Result<usize> {
+        if self.fails() {
+            return Err(io::Error::from(ErrorKind::BrokenPipe));
+        }
+        match buf {
+            [] => Ok(0),
+            [first, ..] => {
+                self.taken.push(*first)?;
+                Ok(1)
+            }
+        }
+    }
+
+    fn flush(&mut self) -> io::Result<()> {
+        if self.fails() {
+            Err(io::Error::from(ErrorKind::BrokenPipe))
+        } else {
+            Ok(())
+        }
+    }
+}
+
+const INPUT: &[u8] = b"LIST 604F\nHELLO\nLIST 24F2\r\nLIST 41F3";
+
+const OUTPUT: &[u8] = b"0 604f ldc -1\nDONE 1\nNO E1 2\n0 24f2 mint\nDONE 1\nNO D3 1\n";
+
+#[test]
+fn a_byte_at_a_time(rt: HostRuntime) -> Result<(), Fail> {
+    let mut reader = Trickle {
+        rest: INPUT,
+        calls: 0,
+        failing: 0,
+    };
+    let mut writer = Narrow {
+        taken: Vec::new(rt.alloc()),
+        calls: 0,
+        failing: 0,
+    };
+    serve(&rt, rt.alloc(), &mut reader, &mut writer)?;
+    assert!(rt; writer.taken.as_slice() == OUTPUT);
+    assert!(rt; answers(&rt, rt.alloc(), INPUT)?.as_slice() == OUTPUT);
+    Ok(())
+}
+
+/// How much of the output is written once so much of the input was read.
+fn written_after(read: usize) -> usize {
+    if read < 10 {
+        0
+    } else if read < 16 {
+        21
+    } else if read < 27 {
+        29
+    } else {
+        48
+    }
+}
+
+#[test]
+fn each_read_fails(rt: HostRuntime) {
+    for failing in 1..38 {
+        let mut reader = Trickle {
+            rest: INPUT,
+            calls: 0,
+            failing,
+        };
+        let mut writer = Vec::new(rt.alloc());
+        let result = serve(&rt, rt.alloc(), &mut reader, &mut writer);
+        assert_eq!(rt; result, Err(ServeFault::Read));
+        let wanted = OUTPUT.get(..written_after(failing - 1)).unwrap_or(OUTPUT);
+        assert!(rt; writer.as_slice() == wanted, "{failing}");
+    }
+}
+
+#[test]
+fn each_write_fails(rt: HostRuntime) {
+    for failing in 1..61 {
+        let mut reader = INPUT;
+        let mut writer = Narrow {
+            taken: Vec::new(rt.alloc()),
+            calls: 0,
+            failing,
+        };
+        let result = serve(&rt, rt.alloc(), &mut reader, &mut writer);
+        assert_eq!(rt; result, Err(ServeFault::Write));
+        assert!(rt; OUTPUT.starts_with(writer.taken.as_slice()), "{failing}");
+    }
+}

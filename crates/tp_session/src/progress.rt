@@ -1,0 +1,13 @@
+ghost use Rattle.std.specs.Prelude.{◌≤◌, vec_len};
+
+/// How far the reading of lines has come.
+#[derive(Drop)]
+pub(crate) struct Progress {
+    /// The number of the line that is being read, from 1.
+    pub(crate) number: u64,
+    /// What has come of it, at most [`MAX_LINE`](crate::MAX_LINE) bytes.
+    pub(crate) line: Vec<u8>,
+    /// Whether more than that has come.
+    pub(crate) long: bool,
+    ghost within: { vec_len line ≤ 32768 },
+}
