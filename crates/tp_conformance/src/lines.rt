@@ -14,7 +14,7 @@ pub(crate) fn answers(rt: &impl Wait, alloc: Global, input: &[u8]) -> Result<Vec
 }
 
 /// Pairs of an input and what is written for it.
-const LISTINGS: [(&str, &str); 17] = [
+const LISTINGS: [(&str, &str); 18] = [
     ("LIST 604F\n", "0 604f ldc -1\nDONE 1\n"),
     ("LIST 2222\n", "NO D1 0\n"),
     ("LIST 202020202020202041\n", "NO D2 0\n"),
@@ -26,6 +26,7 @@ const LISTINGS: [(&str, &str); 17] = [
         "LIST 272F2F2F2F2F6F40\n",
         "0 272f2f2f2f2f6f40 ldc -2147483648\nDONE 1\n",
     ),
+    ("LIST 616F40\n", "0 616f40 ldc 256 least 212040\nDONE 1\n"),
     ("LIST 41F3\n", "NO D3 1\n"),
     ("LIST 24FA\n", "0 24fa move\nDONE 1\n"),
     ("HELLO\n", "NO E1 1\n"),
