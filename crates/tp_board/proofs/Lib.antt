@@ -1,0 +1,11 @@
+mod Counting
+mod Runs
+mod Totals
+mod Steps
+mod Moves
+mod Allowed
+mod Hands
+mod Closing
+mod Events
+mod Same
+mod Schedule

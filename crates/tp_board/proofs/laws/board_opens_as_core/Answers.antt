@@ -1,0 +1,5 @@
+use Rattle.tp_board.proofs.Events.{opening_law}
+use Rattle.tp_board.proofs.laws.board_opens_as_core.Goals as goal
+
+pub returns : goal.returns
+returns c = opening_law

@@ -1,0 +1,12 @@
+pub use Rattle.atomic_table.specs.Seated
+pub mod Counting
+pub mod Farm
+pub mod Runs
+pub mod Views
+pub mod Rule
+pub mod Plays
+pub mod Boards
+pub mod Ledgers
+pub mod Laws
+pub mod Schedules
+pub mod Sources

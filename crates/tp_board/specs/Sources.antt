@@ -1,0 +1,68 @@
+-- What a source of work says of a hand before, the answer, and the hand after.
+use Rattle.std.specs.Prelude.{◌≡◌, ℕ, ◌⊎◌, nat_lt, Bool, true, false, List, [], ◌∷◌, ◌++◌, Option, Some, None, slice_get}
+use Rattle.tp_board.specs.declared.view.View.{View}
+use Rattle.tp_board.specs.declared.answer.Claim.{Claim}
+use Rattle.tp_board.specs.declared.answer.Claim.TheVariants as claim
+use Rattle.tp_board.specs.declared.source.Work.{Work}
+use Rattle.tp_board.specs.declared.source.Work.TheVariants as work
+use Rattle.tp_board.specs.Boards.{BoardView}
+use Rattle.tp_board.specs.Laws.{first_of}
+
+-- what a hand has done at its source: the numbers that it was given, where each of them went, what
+-- it has in hand, whether it has learnt the end, whether it was shown the stop mark, and whether it
+-- called stop
+pub record Progress : Type 0 where
+  pub taken : List ℕ
+  pub finished : List ℕ
+  pub abandoned : List ℕ
+  pub in_hand : Option ℕ
+  pub ended : Bool
+  pub told : Bool
+  pub stopped : Bool
+
+-- what `next` answers to a hand with nothing in it. A packet comes with the bytes of that number
+abbrev pub NextSays : List (List ℕ) → Progress → Work → Progress → Type 0
+NextSays packets p (work.Packet n bytes) q =
+    (p.ended ≡ false)
+    × (p.told ≡ false)
+    × (p.stopped ≡ false)
+    × (slice_get packets n ≡ Some bytes.items)
+    × (q ≡ record p { taken = p.taken ++ n ∷ []; in_hand = Some n })
+NextSays packets p work.NoMore q =
+    ((p.ended ≡ true) ⊎ ((p.told ≡ false) × (p.stopped ≡ false))) × (q ≡ record p { ended = true })
+NextSays packets p work.Stopped q = (p.ended ≡ false) × (q ≡ record p { told = true })
+
+-- the number n, in hand, is finished
+abbrev pub HandFinished : Progress → ℕ → Progress → Type 0
+HandFinished p n q = (p.in_hand ≡ Some n) × (q ≡ record p { finished = p.finished ++ n ∷ []; in_hand = None })
+
+-- the number n, in hand, is abandoned
+abbrev pub HandAbandoned : Progress → ℕ → Progress → Type 0
+HandAbandoned p n q = (p.in_hand ≡ Some n) × (q ≡ record p { abandoned = p.abandoned ++ n ∷ []; in_hand = None })
+
+-- the claim that an answer of a board's source rests on
+abbrev pub claim_of : Work → Claim
+claim_of (work.Packet n bytes) = claim.Packet n
+claim_of work.NoMore = claim.NoMore
+claim_of work.Stopped = claim.Stopped
+
+-- ---- the board as a source
+-- a board with the bytes of its packets
+pub record SourceView : Type 0 where
+  pub board : BoardView
+  pub packets : List (List ℕ)
+
+abbrev pub source_of : BoardView → List (List ℕ) → SourceView
+source_of board packets = record { board = board; packets = packets }
+
+-- what a seat's view says of its progress
+abbrev pub progress_of : View → Progress
+progress_of v = record {
+  taken = v.drawn;
+  finished = v.finished;
+  abandoned = v.abandoned;
+  in_hand = first_of v.hand;
+  ended = nat_lt 0 v.ended;
+  told = nat_lt 0 v.seen.stop;
+  stopped = nat_lt 0 v.stops;
+}
