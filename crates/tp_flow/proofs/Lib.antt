@@ -1,0 +1,6 @@
+pub mod Computing
+pub mod StepLemmas
+pub mod SpellingLemmas
+pub mod SentLemmas
+pub mod MemoryLemmas
+pub mod StartLemmas
