@@ -4,3 +4,10 @@ pub mod SpellingLemmas
 pub mod SentLemmas
 pub mod MemoryLemmas
 pub mod StartLemmas
+pub mod FlowSearch
+pub mod FlowFirst
+pub mod FlowCuts
+pub mod FlowPassed
+pub mod FlowNest
+pub mod FlowKept
+pub mod FlowAround

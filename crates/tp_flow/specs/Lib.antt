@@ -7,6 +7,14 @@ pub mod Steps
 pub mod Runs
 pub mod Samples
 pub mod Trials
+pub mod NestRanges
+pub mod Edges
+pub mod RowRules
+pub mod JumpRules
+pub mod FlowFaults
+pub mod NestKept
+pub mod FlowCodes
+pub mod NestAround
 pub use Rattle.tp_decode.specs.Words
 pub use Rattle.tp_decode.specs.Spelling
 pub use Rattle.tp_decode.specs.Table

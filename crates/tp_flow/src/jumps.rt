@@ -1,0 +1,86 @@
+//! The rules on instructions.
+
+ghost use Rattle.std.specs.Prelude.{◌≡◌, Some};
+ghost use Rattle.tp_flow.specs.NestRanges.{ranges};
+ghost use Rattle.tp_flow.specs.JumpRules.{broken_at, names_no_loop, breaks_the_nest, runs_off, jump_rules, first_broken};
+
+use crate::edge::{Edge, has_edge, jump_operand, jump_target};
+use crate::fault::FlowCode;
+use crate::nest::Nest;
+use tp_decode::{Instr, Listing};
+use tp_image::Image;
+
+/// The first rule that the instruction at an address breaks.
+pub(crate) fn broken_at(
+    image: &Image,
+    listing: &Listing,
+    nest: &Nest,
+    at: usize,
+) -> Option<FlowCode>
+    requires { nest.now ≡ ranges image.now.loops }
+    ensures { result ≡ broken_at image.now listing.now at }
+{
+    let instr = listing.at(at)?;
+    let next = listing.next(at)?;
+    if names_no_loop(nest, at, instr) {
+        return Some(FlowCode::J7);
+    }
+    if let Some(operand) = jump_operand(instr)
+        && let Some(code) = broken_by_jump(image, listing, nest, at, next, operand)
+    {
+        return Some(code);
+    }
+    if runs_off(image, next, instr) {
+        return Some(FlowCode::J5);
+    }
+    None
+}
+
+/// Whether a lend stands there that no row names.
+fn names_no_loop(nest: &Nest, at: usize, instr: Instr) -> bool
+    ensures { result ≡ names_no_loop nest.now at instr }
+{
+    instr == Instr::Lend && nest.ended_at(at).is_none()
+}
+
+/// Whether control goes on behind an instruction at the end of the code.
+fn runs_off(image: &Image, next: usize, instr: Instr) -> bool
+    ensures { result ≡ runs_off image.now.code next instr }
+{
+    (has_edge(instr, Edge::Next) || has_edge(instr, Edge::Out)) && next == image.code.len()
+}
+
+/// The first rule that a jump by an operand breaks.
+fn broken_by_jump(
+    image: &Image,
+    listing: &Listing,
+    nest: &Nest,
+    at: usize,
+    next: usize,
+    operand: i32,
+) -> Option<FlowCode>
+    requires { nest.now ≡ ranges image.now.loops }
+    ensures { result ≡ first_broken (jump_rules image.now listing.now at next operand) }
+{
+    let Some(to) = jump_target(next, operand) else {
+        return Some(FlowCode::J2);
+    };
+    if image.code.len() <= to {
+        Some(FlowCode::J2)
+    } else if operand < 0 {
+        Some(FlowCode::J3)
+    } else if listing.at(to).is_none() {
+        Some(FlowCode::J1)
+    } else if breaks_the_nest(nest, at, to) {
+        Some(FlowCode::J4)
+    } else {
+        None
+    }
+}
+
+/// Whether a way between two addresses leaves a loop, or enters one at another place than its head.
+fn breaks_the_nest(nest: &Nest, at: usize, to: usize) -> bool
+    ensures { result ≡ breaks_the_nest nest.now at (Some to) }
+{
+    nest.loops().iter().any(|range| range.is_left(at, to) || range.is_entered_inside(at, to))
+}

@@ -1,0 +1,95 @@
+//! The loop nest.
+
+ghost use Rattle.std.specs.Prelude.{◌≡◌, ◌≤◌, length, slice_get, false};
+ghost use Rattle.std.specs.Option.{option_map_or};
+ghost use Rattle.tp_image.specs.declared.limits.TheConstants.{LOOP_ROWS};
+ghost use Rattle.tp_flow.specs.NestRanges.{ranges, contains, ended_at, number_ended_at};
+ghost use Rattle.tp_flow.specs.Edges.{target};
+
+use crate::edge::{Edge, has_edge, jump_operand, jump_target};
+use crate::range::LoopRange;
+use arrayvec::ArrayVec;
+use std::marker::Model;
+use tp_decode::Instr;
+use tp_image::LoopRow;
+use tp_image::limits::LOOP_ROWS;
+
+/// The most loops of a code.
+const LOOPS: usize = LOOP_ROWS as usize;
+
+/// The loops of a code: a contract sees their ranges, in the order of the loop rows.
+#[derive(Debug, Drop)]
+pub struct Nest {
+    loops: ArrayVec<LoopRange, LOOPS>,
+}
+
+impl Model for Nest {
+    ghost use Rattle.std.specs.Prelude.{List};
+    ghost use Rattle.tp_flow.specs.declared.range.LoopRange.{LoopRange};
+
+    ghost Value = { List LoopRange };
+
+    ghost view = { λ nest. nest.loops.items };
+}
+
+impl Nest {
+    /// The ranges of loop rows.
+    pub(crate) fn of(rows: &[LoopRow]) -> Nest
+        requires { length rows.now ≤ LOOP_ROWS }
+        ensures { result ≡ ranges rows.now }
+    {
+        let mut loops = ArrayVec::new();
+        for row in rows {
+            loops.push(LoopRange::of(row));
+        }
+        Nest { loops }
+    }
+
+    /// The ranges, in the order of the rows.
+    pub(crate) fn loops(&self) -> &[LoopRange]
+        ensures { result.now ≡ self.now }
+    {
+        self.loops.as_slice()
+    }
+
+    /// The loop whose lend stands at an address.
+    pub(crate) fn ended_at(&self, at: usize) -> Option<LoopRange>
+        ensures { result ≡ ended_at self.now at }
+    {
+        self.loops().iter().copied().find(|range| range.lend == at)
+    }
+
+    /// Where an edge goes from an instruction that stands at an address, where the next one stands
+    /// behind it; all are byte addresses. None where the instruction has no such edge, or where its
+    /// target is no address: a Taken edge to below 0, a Back edge of a lend that no row names.
+    pub fn target(&self, at: usize, next: usize, instr: Instr, edge: Edge) -> Option<usize>
+        ensures { result ≡ target self.now at next instr edge }
+    {
+        if !has_edge(instr, edge) {
+            return None;
+        }
+        match edge {
+            Edge::Next | Edge::Out => Some(next),
+            Edge::Taken => jump_target(next, jump_operand(instr)?),
+            Edge::Back => self.ended_at(at).map(|range| range.head),
+        }
+    }
+
+    /// Whether an address lies in the loop of a row, which is counted from 0; false where there is no
+    /// such row.
+    pub fn contains(&self, row: usize, at: usize) -> bool
+        ensures { result ≡ option_map_or (λ range. contains range at) (slice_get self.now row) false }
+    {
+        match self.loops().get(row) {
+            Some(range) => range.contains(at),
+            None => false,
+        }
+    }
+
+    /// The number of the row whose lend stands at an address.
+    pub fn lend_row(&self, at: usize) -> Option<usize>
+        ensures { result ≡ number_ended_at self.now at }
+    {
+        self.loops().iter().position(|range| range.lend == at)
+    }
+}
