@@ -3,7 +3,7 @@ ghost use Rattle.tp_board.specs.Boards.{IsSeatOf};
 
 use crate::{
     Board, BoardFault, BoardSource, Claim, CloseFault, Core, Event, Ledger, Packet, Reply, Seat,
-    Shown, Work, WorkSource, laws,
+    Shown, Work, WorkSource,
 };
 use arrayvec::ArrayVec;
 use std::snapshot::Snapshot;
@@ -314,17 +314,4 @@ fn source_of_two_packets(rt: HostRuntime) -> Result<(), Fail> {
     };
     assert_eq!(rt; source.into_board().close(seats).ok(), Some(wanted));
     Ok(())
-}
-
-#[test]
-fn laws_called() {
-    laws::runs_keep_accounts();
-    laws::claim_is_one_event();
-    laws::finish_is_one_event();
-    laws::abandon_is_one_event();
-    laws::stop_is_one_event();
-    laws::look_is_one_event();
-    laws::every_schedule_is_a_run();
-    laws::board_opens_as_core();
-    laws::rule_keeps_accounts();
 }
