@@ -1,9 +1,3 @@
-pub mod Computing
-pub mod StepLemmas
-pub mod SpellingLemmas
-pub mod SentLemmas
-pub mod MemoryLemmas
-pub mod StartLemmas
 pub mod FlowSearch
 pub mod FlowFirst
 pub mod FlowCuts

@@ -1,12 +1,3 @@
-pub mod Maybe
-pub mod Numbers
-pub mod Memory
-pub mod State
-pub mod Effects
-pub mod Steps
-pub mod Runs
-pub mod Samples
-pub mod Trials
 pub mod NestRanges
 pub mod Edges
 pub mod RowRules
@@ -15,8 +6,5 @@ pub mod FlowFaults
 pub mod NestKept
 pub mod FlowCodes
 pub mod NestAround
-pub use Rattle.tp_decode.specs.Words
-pub use Rattle.tp_decode.specs.Spelling
-pub use Rattle.tp_decode.specs.Table
 pub use Rattle.tp_decode.specs.Cutting
 pub use Rattle.tp_image.specs.Image

@@ -1,14 +1,10 @@
-//! The flow of a code, and what code does when it runs.
-//!
-//! The first half judges a code's flow: `check_flow` gives the nest of its loops, with the edges between its
-//! instructions, or the first fault. The second half is the transputer's step relation: the definitions stand in
-//! `specs/`, and the laws about them are the contracts of the functions of `laws`.
+//! The flow of a code: `check_flow` gives the nest of its loops, with the edges between its instructions, or the first
+//! fault.
 #![tactic(auto)]
 
 mod edge;
 mod fault;
 mod flow;
-pub mod flow_laws;
 mod jumps;
 pub mod laws;
 pub mod limits;

@@ -1,0 +1,11 @@
+pub mod Maybe
+pub mod Numbers
+pub mod Memory
+pub mod State
+pub mod Effects
+pub mod Steps
+pub mod Runs
+pub use Rattle.tp_decode.specs.Words
+pub use Rattle.tp_decode.specs.Spelling
+pub use Rattle.tp_decode.specs.Table
+pub use Rattle.tp_image.specs.Image

@@ -1,0 +1,75 @@
+//! Laws of steps and runs, of all images and states: each function's contract is the law.
+
+pub mod memory;
+
+ghost use Rattle.std.specs.Prelude.{◌≡◌, ℕ, ◌+◌, ◌-◌, ◌*◌, ◌≤◌, ℤ, pos, List, length, [], ◌∷◌, true, false, Some, None, option_and_then};
+ghost use Rattle.tp_decode.specs.Spelling.{StandsAt};
+ghost use Rattle.tp_decode.specs.Table.{entry};
+ghost use Rattle.tp_decode.specs.declared.instr.Instr.{Instr};
+ghost use Rattle.tp_image.specs.Image.{ImageValue};
+ghost use Rattle.tp_step.specs.State.{State};
+ghost use Rattle.tp_step.specs.Effects.{effect};
+ghost use Rattle.tp_step.specs.Steps.{performed, step, steps, IsStuck, Reaches};
+ghost use Rattle.tp_step.specs.Runs.{start, Run, RunsAlone};
+
+/// A state has at most one next state.
+pub fn one_next_state()
+    ensures { (image : ImageValue) (s t u : State) → step image s ≡ Some t → step image s ≡ Some u → t ≡ u }
+{}
+
+/// A stopped state makes no step, and is not stuck.
+#[tactic(auto, using(crate::proofs::StepLemmas::stopped_rests, crate::proofs::StepLemmas::stopped_not_stuck))]
+pub fn stopped_rests()
+    ensures no_step { (image : ImageValue) (s : State) → s.stopped ≡ true → step image s ≡ None }
+    ensures not_stuck { (image : ImageValue) (s : State) → s.stopped ≡ true → ¬ IsStuck image s }
+{}
+
+/// n + m steps are n steps and then m.
+#[tactic(auto, using(crate::proofs::StepLemmas::steps_add))]
+pub fn steps_in_a_row()
+    ensures { (image : ImageValue) (n m : ℕ) (s : State) →
+        steps image (n + m) s ≡ option_and_then (steps image m) (steps image n s) }
+{}
+
+/// The bytes of a spelling, prefixes and all, lead to the effect of the function and the operand that they spell. Where
+/// the table has no such instruction, or the instruction has no effect here, they lead nowhere.
+#[tactic(auto, using(crate::proofs::SpellingLemmas::spelling_runs))]
+pub fn spelling_runs_through()
+    ensures { (image : ImageValue) (s : State) (at next function : ℕ) (operand : ℤ) →
+        s.stopped ≡ false → s.oreg ≡ 0 → s.iptr ≡ pos at →
+        StandsAt image.code at record { function = function; operand = operand; next = next } →
+        steps image (next - at) s ≡ performed image function operand (record s { iptr = pos next }) }
+{}
+
+/// So the bytes of an instruction lead to its effect.
+#[tactic(auto, using(crate::proofs::SpellingLemmas::instruction_runs))]
+pub fn instruction_runs_through()
+    ensures { (image : ImageValue) (s : State) (at next : ℕ) (instr : Instr) →
+        s.stopped ≡ false → s.oreg ≡ 0 → s.iptr ≡ pos at →
+        StandsAt image.code at
+        record { function = (entry instr).function; operand = (entry instr).operand; next = next } →
+        steps image (next - at) s ≡ effect image instr (record s { iptr = pos next }) }
+{}
+
+/// A packet has at most one run alone.
+#[tactic(auto, using(crate::proofs::StepLemmas::one_run))]
+pub fn one_run_alone()
+    ensures { (image : ImageValue) (packet : List ℕ) (a b : Run) →
+        RunsAlone image packet a → RunsAlone image packet b → a ≡ b }
+{}
+
+/// Where a packet has a run alone, every state that steps reach from its start lies on the way to the end, and none of
+/// them is stuck.
+pub fn never_stuck_before_the_end()
+    ensures within { (image : ImageValue) (packet : List ℕ) (run : Run) (s : State) → RunsAlone image packet run →
+        (way : Reaches image (start image packet) s) → way.count ≤ run.steps }
+    ensures not_stuck { (image : ImageValue) (packet : List ℕ) (run : Run) (s : State) →
+        RunsAlone image packet run → Reaches image (start image packet) s → ¬ IsStuck image s }
+{}
+
+/// The result of a run alone has the length that the image states.
+#[tactic(auto, using(crate::proofs::SentLemmas::result_length))]
+pub fn result_has_its_length()
+    ensures { (image : ImageValue) (packet : List ℕ) (run : Run) → RunsAlone image packet run →
+        length run.result ≡ 4 * image.result }
+{}

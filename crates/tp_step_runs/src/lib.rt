@@ -1,0 +1,48 @@
+//! Runs that are computed on the step relation: the state that a few bytes lead to from a given one, or that they are
+//! stuck there. Nothing stands on this crate.
+//!
+//! What each run leads to was worked out by hand from the instruction table (`docs/INSTRUCTIONS.md`), never by a program.
+//!
+//! Each row of the table has a function named after it, whose runs would come out otherwise if its clause were another:
+//!
+//! | rows | runs |
+//! |---|---|
+//! | adc, add, sub, mul (checked), sum, diff, prod (wrapped), div, rem | [`arithmetic`] |
+//! | gt, eqc, csub0 | [`comparisons`] |
+//! | and, or, xor, not, shl, shr | [`bits`] |
+//! | ldc, mint, ldlp, ldl, stl, ldnl, stnl, ldnlp, ajw, rev | [`locals`] |
+//! | lb, sb, bsub, wsub | [`bytes`] |
+//! | j, cj, lend, seterr, stopp | [`control`] |
+//! | in, out on link 0, out on link 1 | [`messages`] |
+//! | move | [`moves`] |
+//! | pfix, nfix, bytes that are no instruction, Iptr outside the code | [`prefixes`] |
+//! | whole workers, and the state at their start | [`samples`] |
+//!
+//! Each way to be stuck has runs too, which differ in one thing from a state that is not:
+//!
+//! | stuck by | runs |
+//! |---|---|
+//! | an undefined register | `undefined` of most functions |
+//! | an undefined byte | `undefined` of `locals::ldl` and `locals::ldnl`, `undefined_byte` of `bytes::lb` |
+//! | an undefined loop index or count | `undefined_index` and `undefined_count` of `control::lend` |
+//! | an address outside the workspace | `above`, `below`, `outside` in `locals` and `bytes` |
+//! | a misaligned word | `misaligned` of `locals::ldnl`, `locals::stnl`, `control::lend` |
+//! | no room for the five words below Wptr | `no_room` of `control::j` |
+//! | an operation or function in no row | `prefixes::no_instruction` |
+//! | a shift by more than 31 | `by_32` of `bits::shl` and `bits::shr` |
+//! | the wrong channel, length or phase, a missing packet | `messages` |
+//! | stopp before the result | `before_the_result` of `control::stopp` |
+//! | move where it is not allowed | `moves::no_move` |
+//! | Iptr outside the code | `prefixes::no_byte` |
+#![tactic(auto)]
+
+pub mod arithmetic;
+pub mod bits;
+pub mod bytes;
+pub mod comparisons;
+pub mod control;
+pub mod locals;
+pub mod messages;
+pub mod moves;
+pub mod prefixes;
+pub mod samples;
