@@ -10,13 +10,13 @@ use Rattle.tp_flow.specs.declared.edge.Edge.TheVariants.{Next, Out}
 use Rattle.tp_flow.specs.declared.fault.FlowCode.{FlowCode}
 use Rattle.tp_flow.specs.declared.fault.FlowCode.TheVariants.{J1, J2, J3, J4, J5, J7}
 use Rattle.tp_flow.specs.declared.range.LoopRange.{LoopRange}
-use Rattle.tp_flow.specs.NestRanges.{ranges, contains, ended_at}
+use Rattle.tp_flow.specs.NestRanges.{ranges, contains, number_ended_at}
 use Rattle.tp_flow.specs.Edges.{has_edge, jump_operand, jump_target}
 use Rattle.tp_flow.specs.RowRules.{is_start, is_lend}
 
 -- J7: a lend that no row names
 abbrev pub names_no_loop : List LoopRange → ℕ → Instr → Bool
-names_no_loop nest at instr = is_lend instr && is_none (ended_at nest at)
+names_no_loop nest at instr = is_lend instr && is_none (number_ended_at nest at)
 
 -- J2: the target lies outside the code
 abbrev pub is_outside : List ℕ → Option ℕ → Bool

@@ -40,7 +40,7 @@ pub(crate) fn broken_at(
 fn names_no_loop(nest: &Nest, at: usize, instr: Instr) -> bool
     ensures { result ≡ names_no_loop nest.now at instr }
 {
-    instr == Instr::Lend && nest.ended_at(at).is_none()
+    instr == Instr::Lend && nest.lend_row(at).is_none()
 }
 
 /// Whether control goes on behind an instruction at the end of the code.

@@ -1,9 +1,9 @@
 //! The loop nest.
 
-ghost use Rattle.std.specs.Prelude.{◌≡◌, ◌≤◌, length, slice_get, false};
-ghost use Rattle.std.specs.Option.{option_map_or};
+ghost use Rattle.std.specs.Prelude.{◌≡◌, ◌≤◌, length, slice_get};
 ghost use Rattle.tp_image.specs.declared.limits.TheConstants.{LOOP_ROWS};
-ghost use Rattle.tp_flow.specs.NestRanges.{ranges, contains, ended_at, number_ended_at};
+ghost use Rattle.tp_flow.specs.NestRanges.{ranges, number_ended_at, head_of};
+ghost use Rattle.tp_flow.specs.LoopsAround.{is_around, entered_by, rows_around};
 ghost use Rattle.tp_flow.specs.Edges.{target};
 
 use crate::edge::{Edge, has_edge, jump_operand, jump_target};
@@ -52,13 +52,6 @@ impl Nest {
         self.loops.as_slice()
     }
 
-    /// The loop whose lend stands at an address.
-    pub(crate) fn ended_at(&self, at: usize) -> Option<LoopRange>
-        ensures { result ≡ ended_at self.now at }
-    {
-        self.loops().iter().copied().find(|range| range.lend == at)
-    }
-
     /// Where an edge goes from an instruction that stands at an address, where the next one stands
     /// behind it; all are byte addresses. None where the instruction has no such edge, or where its
     /// target is no address: a Taken edge to below 0, a Back edge of a lend that no row names.
@@ -71,19 +64,26 @@ impl Nest {
         match edge {
             Edge::Next | Edge::Out => Some(next),
             Edge::Taken => jump_target(next, jump_operand(instr)?),
-            Edge::Back => self.ended_at(at).map(|range| range.head),
+            Edge::Back => self.head_of(self.lend_row(at)?),
         }
     }
 
     /// Whether an address lies in the loop of a row, which is counted from 0; false where there is no
     /// such row.
     pub fn contains(&self, row: usize, at: usize) -> bool
-        ensures { result ≡ option_map_or (λ range. contains range at) (slice_get self.now row) false }
+        ensures { result ≡ is_around self.now at row }
     {
         match self.loops().get(row) {
             Some(range) => range.contains(at),
             None => false,
         }
+    }
+
+    /// Where the loop of a row begins, which is counted from 0; None where there is no such row.
+    fn head_of(&self, row: usize) -> Option<usize>
+        ensures { result ≡ head_of self.now row }
+    {
+        self.loops().get(row).map(|range| range.head)
     }
 
     /// The number of the row whose lend stands at an address.

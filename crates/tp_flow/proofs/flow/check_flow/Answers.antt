@@ -1,5 +1,4 @@
-use Rattle.std.proofs.Common.{◌≡◌, sym, ap, ◌∙◌}
-use Rattle.tp_flow.specs.NestRanges.{ranges}
+use Rattle.std.proofs.Common.{sym}
 use Rattle.tp_flow.proofs.FlowFirst.{refused_here, passed_here, all_passed}
 use Rattle.tp_flow.proofs.FlowKept.{nest_kept}
 use Rattle.tp_flow.proofs.flow.check_flow.Goals as goal
@@ -16,10 +15,6 @@ loop-start-preserved c =
 
 pub returns-clause-kept : goal.returns-clause-kept
 returns-clause-kept c =
-    let rows : c.deref.result.now ≡ c.args.image.now.loops = cc in
-    let nest : c.of-nest.result ≡ ranges c.args.image.now.loops = c.of-nest.ensures ∙ ap ranges rows in
-    let passed =
-    all_passed c.args.image.now c.args.listing.now c.starts-start-items.result.now c.loop-start.start-index c.starts-start-items.ensures c.loop-start-test.false (sym c.in_default.ensures)
-    c.loop-start.invariant
-    in
-    rw nest (nest_kept c.args.image.now c.args.listing.now c.requires passed)
+    nest_kept c.args.image.now c.args.listing.now c.requires
+    (all_passed c.args.image.now c.args.listing.now c.starts-start-items.result.now c.loop-start.start-index c.starts-start-items.ensures c.loop-start-test.false (sym c.in_default.ensures)
+    c.loop-start.invariant)
