@@ -1,11 +1,8 @@
 -- Finding an instruction by its address.
-use Rattle.std.proofs.Common.{◌≡◌, ℕ, zero, suc, ◌+◌, ◌-◌, ◌<◌, ◌≤◌, Bool, true, false, ◌&&◌, nat_eq, nat_lt, if◌then◌else◌, List, [], ◌∷◌, length, get_or, Some, None, refl, ap, sym, ◌∙◌, arith, slice_get}
+use Rattle.std.proofs.Common.{◌≡◌, ℕ, zero, suc, ◌+◌, ◌-◌, ◌<◌, ◌≤◌, Bool, true, false, ◌&&◌, nat_eq, nat_lt, if◌then◌else◌, List, [], ◌∷◌, length, get_or, Some, None, refl, ap, ◌∙◌, arith, slice_get}
 use Rattle.std.specs.List.{list_all}
 use Rattle.std.proofs.lemmas.Bool.Decides.{nat_tests}
-use Rattle.std.proofs.lemmas.List.{length-map}
-use Rattle.tp_decode.specs.declared.piece.Piece.{Piece}
 use Rattle.tp_decode.specs.Cutting.{Cut, starts_from, cut_at}
-use Rattle.tp_decode.specs.Listings.{cut_of, cuts_of, IsListing}
 
 -- no spelling is empty
 abbrev pub AreSome : List Cut → Type 0
@@ -51,37 +48,3 @@ not_found_at first (cut ∷ cuts) at are h = by_test (not_found_at (first + leng
     by_test go false e false e' =
         let past : length cut.bytes ≤ at = grind (arith, nat_tests) in
         go (some_first cut cuts are).1 (λ i lt is. h (suc i) (omega arith) (is ∙ omega arith))
-
--- the starts do not fall
-pub starts_rise : (at : ℕ) (cuts : List Cut) (i j : ℕ) → i ≤ j → j < length (starts_from at cuts) → get_or (starts_from at cuts) i 0 ≤ get_or (starts_from at cuts) j 0
-starts_rise at [] i j h lt = absurd (omega arith)
-starts_rise at (cut ∷ cuts) zero zero h lt = omega arith
-starts_rise at (cut ∷ cuts) zero (suc j) h lt =
-    omega (arith, starts_above (at + length cut.bytes) cuts j (omega (arith, length-starts (at + length cut.bytes) cuts)))
-starts_rise at (cut ∷ cuts) (suc i) zero h lt = absurd (omega arith)
-starts_rise at (cut ∷ cuts) (suc i) (suc j) h lt = starts_rise (at + length cut.bytes) cuts i j (omega arith) (omega arith)
-
--- the same of what a listing keeps
-module _ (starts : List ℕ) (pieces : List Piece) (is : IsListing starts pieces) where
-  lengths : length starts ≡ length pieces
-  lengths = ap length is.rising ∙ length-starts 0 (cuts_of pieces) ∙ length-map pieces cut_of
-
-  pub listing_rises : (i j : ℕ) → i ≤ j → j < length starts → get_or starts i 0 ≤ get_or starts j 0
-  listing_rises i j h lt = rw is.rising (starts_rise 0 (cuts_of pieces) i j h (omega (arith, ap length is.rising)))
-
-  pub listing_finds : (i addr : ℕ) → i < length starts → get_or starts i 0 ≡ addr → (i < length pieces) × (cut_at (cuts_of pieces) addr ≡ slice_get (cuts_of pieces) i)
-  listing_finds i addr h e =
-      let here : get_or (starts_from 0 (cuts_of pieces)) i 0 ≡ 0 + addr = ap (λ xs. get_or xs i 0) (sym is.rising) ∙ e ∙ omega arith in
-      (omega (arith, lengths), found_at 0 (cuts_of pieces) i addr is.some (omega (arith, lengths, length-map pieces cut_of)) here)
-
-  pub listing_misses : (addr : ℕ) → ((i : ℕ) → i < length starts → get_or starts i 0 ≡ addr → ⊥) → cut_at (cuts_of pieces) addr ≡ None
-  listing_misses addr h =
-      not_found_at 0 (cuts_of pieces) addr is.some (λ i lt e. h i (omega (arith, lengths, length-map pieces cut_of)) (ap (λ xs. get_or xs i 0) is.rising ∙ e ∙ omega arith))
-
--- what lies neither below the place nor above it is not there
-pub not_there : (xs : List ℕ) (x n : ℕ) → ((k : ℕ) → k < n → get_or xs k 0 < x) → ((k : ℕ) → n ≤ k → k < length xs → x < get_or xs k 0) → (k : ℕ) → k < length xs → get_or xs k 0 ≡ x → ⊥
-not_there xs x n below above k h e = by_test (nat_lt k n) refl
-  where
-    by_test : (p : Bool) → nat_lt k n ≡ p → ⊥
-    by_test true is = omega (arith, below k (grind (arith, nat_tests)))
-    by_test false is = omega (arith, above k (grind (arith, nat_tests)) h)

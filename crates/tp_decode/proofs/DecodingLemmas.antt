@@ -1,7 +1,7 @@
 -- One instruction more in a listing, and what an answer says.
 use Rattle.std.proofs.Common.{◌≡◌, ◌≢◌, ℕ, ◌+◌, ◌-◌, ◌<◌, true, nat_lt, List, [], ◌∷◌, ◌++◌, length, take, drop, Option, Some, None, Result, Ok, Err, MatchResult, IfOk, IfErr, refl, ap, sym, ◌∙◌, arith, length-append, length-drop, slice_range}
 use Rattle.std.specs.List.{list_all}
-use Rattle.std.proofs.lemmas.List.{append-nil, take-append-drop, drop-drop, map-append, length-take}
+use Rattle.std.proofs.lemmas.List.{length-map, append-nil, take-append-drop, drop-drop, map-append, length-take}
 use Rattle.std.proofs.lemmas.List.Folds.{list_all-append}
 use Rattle.std.proofs.lemmas.Grind.{flat_map-append}
 use Rattle.std.proofs.lemmas.Bool.Decides.{nat_tests}
@@ -16,7 +16,8 @@ use Rattle.tp_decode.proofs.TableLemmas.{entry_gives, given_entry}
 use Rattle.tp_prefix.proofs.SpellingLemmas.{none_some}
 use Rattle.tp_decode.specs.Table.{entry, instruction}
 use Rattle.tp_decode.specs.Front.{BeginsWith, Stops}
-use Rattle.tp_decode.specs.Listings.{cut_of, cuts_of, IsListing, Gives}
+use Rattle.tp_decode.specs.Listings.{cut_of, cuts_of, IsListing, numbered, numbers_from, Gives}
+use Rattle.tp_decode.proofs.NumberLemmas.{numbers_more}
 use Rattle.tp_decode.proofs.CuttingLemmas.{cut_one, stops, nothing_left}
 use Rattle.tp_decode.proofs.Verdicts.{with_front, with_front-append, before_is, is_cutting, is_refused, sound_ok, sound_err}
 
@@ -53,8 +54,12 @@ starts_more at (c ∷ cuts) cut =
     ap (λ xs. at ∷ xs) (starts_more (at + length c.bytes) cuts cut ∙ ap (λ n. starts_from (at + length c.bytes) cuts ++ n ∷ []) place)
 
 -- a listing with one instruction more
-pub listing_more : (starts : List ℕ) (pieces : List Piece) (piece : Piece) (at : ℕ) → IsListing starts pieces → length (code_of (cuts_of pieces)) ≡ at → 0 < length (cut_of piece).bytes → IsListing (starts ++ at ∷ []) (pieces ++ piece ∷ [])
-listing_more starts pieces piece at is place some = record {
+pub listing_more : (starts : List ℕ) (numbers : List (Option ℕ)) (pieces : List Piece) (piece : Piece) (at : ℕ) → IsListing starts numbers pieces → length (code_of (cuts_of pieces)) ≡ at → 0 < length (cut_of piece).bytes →
+    IsListing (starts ++ at ∷ []) (numbers ++ numbered (length pieces) (cut_of piece)) (pieces ++ piece ∷ [])
+listing_more starts numbers pieces piece at is place some = record {
+  counted =
+      ap (λ ns. ns ++ numbered (length pieces) (cut_of piece)) is.counted
+      ∙ sym (ap (numbers_from 0) (map-append cut_of pieces (piece ∷ [])) ∙ numbers_more 0 (cuts_of pieces) (cut_of piece) ∙ ap (λ n. numbers_from 0 (cuts_of pieces) ++ numbered n (cut_of piece)) (omega (arith, length-map pieces cut_of)));
   rising = ap (λ xs. xs ++ at ∷ []) is.rising ∙ sym (ap (starts_from 0) (map-append cut_of pieces (piece ∷ [])) ∙ starts_more 0 (cuts_of pieces) (cut_of piece) ∙ ap (λ n. starts_from 0 (cuts_of pieces) ++ n ∷ []) (omega (arith, place)));
   some =
       let test : nat_lt 0 (length (cut_of piece).bytes) ≡ true = grind (arith, nat_tests) in

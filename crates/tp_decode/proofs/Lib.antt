@@ -4,3 +4,4 @@ pub mod CuttingLemmas
 pub mod Verdicts
 pub mod DecodingLemmas
 pub mod LineLemmas
+pub mod NumberLemmas

@@ -24,8 +24,8 @@ lines_at at (c ∷ cuts) zero cut e = ap (λ x. Some (line at x)) (same_Some c c
 lines_at at (c ∷ cuts) (suc i) cut e = lines_at (at + length c.bytes) cuts i cut e
 
 -- the line that a listing has of one of its pieces
-pub line_of_piece : (starts : List ℕ) (pieces : List Piece) (i : ℕ) (piece : Piece) → IsListing starts pieces → i < length pieces → piece ≡ get_or pieces i piece → slice_get (lines_from 0 (cuts_of pieces)) i ≡ Some (line (get_or starts i 0) (cut_of piece))
-line_of_piece starts pieces i piece is h e =
+pub line_of_piece : (starts : List ℕ) (numbers : List (Option ℕ)) (pieces : List Piece) (i : ℕ) (piece : Piece) → IsListing starts numbers pieces → i < length pieces → piece ≡ get_or pieces i piece → slice_get (lines_from 0 (cuts_of pieces)) i ≡ Some (line (get_or starts i 0) (cut_of piece))
+line_of_piece starts numbers pieces i piece is h e =
     lines_at 0 (cuts_of pieces) i (cut_of piece) (cut_there pieces i piece h e) ∙ ap (λ xs. Some (line (get_or xs i 0) (cut_of piece))) (sym is.rising)
   where
     cut_there : (pieces : List Piece) (i : ℕ) (piece : Piece) → i < length pieces → piece ≡ get_or pieces i piece → slice_get (cuts_of pieces) i ≡ Some (cut_of piece)
@@ -33,8 +33,8 @@ line_of_piece starts pieces i piece is h e =
     cut_there (p ∷ pieces) zero piece h e = ap (λ x. Some (cut_of x)) (sym e)
     cut_there (p ∷ pieces) (suc i) piece h e = cut_there pieces i piece (omega arith) e
 
-pub starts_of_pieces : (starts : List ℕ) (pieces : List Piece) → IsListing starts pieces → length starts ≡ length pieces
-starts_of_pieces starts pieces is = ap length is.rising ∙ length-starts 0 (cuts_of pieces) ∙ length-map pieces cut_of
+pub starts_of_pieces : (starts : List ℕ) (numbers : List (Option ℕ)) (pieces : List Piece) → IsListing starts numbers pieces → length starts ≡ length pieces
+starts_of_pieces starts numbers pieces is = ap length is.rising ∙ length-starts 0 (cuts_of pieces) ∙ length-map pieces cut_of
 
 -- the two forms of a line
 pub line_alone : (at : ℕ) (cut : Cut) → bytes_eq (shortest cut.instr) cut.bytes ≡ true → line at cut ≡ plain_line at cut
@@ -51,10 +51,10 @@ other_default (x ∷ xs) zero d e h = refl
 other_default (x ∷ xs) (suc i) d e h = other_default xs i d e (omega arith)
 
 -- the line that is made of a start and a piece
-pub made_of : (starts : List ℕ) (pieces : List Piece) (i start : ℕ) (piece : Piece) → IsListing starts pieces → i < length pieces → start ≡ get_or starts i start → piece ≡ get_or pieces i piece → slice_get (lines_from 0 (cuts_of pieces)) i ≡ Some (line start (cut_of piece))
-made_of starts pieces i start piece is h e e' =
-    let within : i < length starts = omega (arith, starts_of_pieces starts pieces is) in
-    line_of_piece starts pieces i piece is h e' ∙ ap (λ n. Some (line n (cut_of piece))) (other_default starts i 0 start within ∙ sym e)
+pub made_of : (starts : List ℕ) (numbers : List (Option ℕ)) (pieces : List Piece) (i start : ℕ) (piece : Piece) → IsListing starts numbers pieces → i < length pieces → start ≡ get_or starts i start → piece ≡ get_or pieces i piece → slice_get (lines_from 0 (cuts_of pieces)) i ≡ Some (line start (cut_of piece))
+made_of starts numbers pieces i start piece is h e e' =
+    let within : i < length starts = omega (arith, starts_of_pieces starts numbers pieces is) in
+    line_of_piece starts numbers pieces i piece is h e' ∙ ap (λ n. Some (line n (cut_of piece))) (other_default starts i 0 start within ∙ sym e)
 
 pub said_of : {S E : Type 0} (bytes : S → List ℕ) (r : Result S E) (line : List ℕ) (there : Option (List ℕ)) → there ≡ Some line → IfOk r (λ text. bytes text ≡ line) → IfOk r (λ text. there ≡ Some (bytes text))
 said_of bytes (Ok text) line there e h = e ∙ ap Some (sym h)

@@ -1,9 +1,10 @@
 -- Cuttings: a code as the instructions that are spelled in it, one after another.
-use Rattle.std.specs.Prelude.{◌≡◌, ◌≢◌, ℕ, ◌+◌, ◌-◌, ◌==◌, nat_lt, if◌then◌else◌, ℤ, List, [], ◌∷◌, ◌++◌, length, Option, Some, None, Result, Ok, Err}
+use Rattle.std.specs.Prelude.{◌≡◌, ◌≢◌, ℕ, ◌+◌, ◌-◌, ◌==◌, Bool, true, false, nat_lt, if◌then◌else◌, ℤ, List, [], ◌∷◌, ◌++◌, length, Option, Some, None, Result, Ok, Err}
 use Rattle.std.specs.List.{flat_map, AllByRecursion}
 use Rattle.std.specs.Option.{option_and_then}
 use Rattle.tp_prefix.specs.Spelling.{is_prefix, spelled, IsSpelling, IsCutOff, IsTooLong}
 use Rattle.tp_decode.specs.declared.instr.Instr.{Instr}
+use Rattle.tp_decode.specs.declared.placed.Placed.{Placed}
 use Rattle.tp_decode.specs.declared.fault.DecodeFault.{DecodeFault}
 use Rattle.tp_decode.specs.declared.fault.DecodeFault.TheVariants.{D1, D2, D3, Memory}
 use Rattle.tp_decode.specs.Table.{entry, instruction}
@@ -62,19 +63,30 @@ before at bytes None rest = Err (D3 at)
 before at bytes (Some instr) (Ok cuts) = Ok (record { bytes = bytes; instr = instr } ∷ cuts)
 before at bytes (Some instr) (Err e) = Err e
 
+-- the one of two values that a test picks; the other is not worked out
+abbrev pub picked : {A : Type 0} → Bool → (Unit {0} → A) → (Unit {0} → A) → A
+picked true one other = one tt
+picked false one other = other tt
+
 -- the cutting of a code behind some prefixes, the first byte of which stands at an address
 unfoldable pub cutting_from : ℕ → List ℕ → List ℕ → Result (List Cut) DecodeFault
 cutting_from at [] [] = Ok []
 cutting_from at [] (p ∷ prefixes) = Err (D1 at)
 cutting_from at (b ∷ code) prefixes =
     let bytes = prefixes ++ b ∷ [] in
-    if is_prefix b then
-    (if nat_lt (length bytes) 8 then cutting_from at code bytes else Err (D2 at))
-    else before at bytes (spelled_instruction bytes) (cutting_from (at + length bytes) code [])
+    picked (is_prefix b)
+    (λ _. picked (nat_lt (length bytes) 8) (λ _. cutting_from at code bytes) (λ _. Err (D2 at)))
+    (λ _. before at bytes (spelled_instruction bytes) (cutting_from (at + length bytes) code []))
 
 -- the one cutting of a code, or why there is none
 abbrev pub cutting : List ℕ → Result (List Cut) DecodeFault
 cutting code = cutting_from 0 code []
+
+-- the instructions with their places, the first of them at an address
+abbrev pub placed_from : ℕ → List Cut → List Placed
+placed_from at [] = []
+placed_from at (cut ∷ cuts) =
+    record { at = at; instr = cut.instr; next = at + length cut.bytes } ∷ placed_from (at + length cut.bytes) cuts
 
 -- where the instructions stand, the first of them at an address
 abbrev pub starts_from : ℕ → List Cut → List ℕ
@@ -88,3 +100,11 @@ cut_at (cut ∷ cuts) at =
     if at == 0 then Some cut
     else if nat_lt at (length cut.bytes) then None
     else cut_at cuts (at - length cut.bytes)
+
+-- the number of the instruction that stands at an address, where the first has a number
+abbrev pub index_from : ℕ → List Cut → ℕ → Option ℕ
+index_from i [] at = None
+index_from i (cut ∷ cuts) at =
+    if at == 0 then Some i
+    else if nat_lt at (length cut.bytes) then None
+    else index_from (i + 1) cuts (at - length cut.bytes)

@@ -1,6 +1,6 @@
 //! Decoding.
 
-ghost use Rattle.std.specs.Prelude.{◌≡◌, ◌≢◌, ◌≤◌, ◌<◌, drop, length, List, IfOk, IfErr, MatchResult};
+ghost use Rattle.std.specs.Prelude.{◌≡◌, ◌≢◌, ◌≤◌, ◌<◌, ◌-◌, ◌∷◌, ◌++◌, drop, length, replicate, List, vec_len, OnOk, IfOk, IfErr, MatchResult};
 ghost use Rattle.tp_decode.specs.declared.fault.DecodeFault.{DecodeFault};
 ghost use Rattle.tp_decode.specs.Cutting.{Cut, IsCutting, IsRefused, cutting};
 ghost use Rattle.tp_decode.specs.Front.{BeginsWith, Stops};
@@ -11,7 +11,7 @@ use crate::instr::Instr;
 use crate::listing::Listing;
 use crate::piece::Piece;
 use arrayvec::ArrayVec;
-use std::alloc::Global;
+use std::alloc::{AllocError, Global};
 use tp_prefix::{PrefixFault, read_one};
 
 /// The most bytes of a code that is decoded.
@@ -36,16 +36,27 @@ fn cut(alloc: Global, code: &[u8]) -> Result<Listing, DecodeFault>
     ensures { Gives result (cutting code.now) }
 {
     let mut starts = Vec::new(alloc);
+    let mut numbers = Vec::new(alloc);
     let mut pieces = Vec::new(alloc);
     let mut at = 0;
     while at < code.len() {
         let piece = piece_at(code, at)?;
         let next = at + piece.spelling.len();
+        number(&mut numbers, starts.len() as u16, next)?;
         starts.push(at as u32)?;
         pieces.push(piece)?;
         at = next;
     }
-    Ok(Listing::new(starts, pieces))
+    Ok(Listing::new(starts, numbers, pieces))
+}
+
+/// Numbers an instruction that ends before an address: its first byte has the number, the others have none.
+fn number(numbers: &mut Vec<Option<u16>>, i: u16, next: usize) -> Result<(), AllocError>
+    requires { vec_len numbers.old < next }
+    ensures { OnOk result (numbers.new.items ≡ numbers.old.items ++ Some i ∷ replicate (next - vec_len numbers.old - 1) None) }
+{
+    numbers.push(Some(i))?;
+    numbers.resize(next, None)
 }
 
 /// The instruction that is spelled in a code at an address.

@@ -6,11 +6,14 @@
 mod decoding;
 mod fault;
 mod instr;
+pub mod laws;
 mod lines;
 mod listing;
 mod piece;
+mod placed;
 
 pub use decoding::{MAX_CODE, decode};
 pub use fault::DecodeFault;
 pub use instr::Instr;
 pub use listing::Listing;
+pub use placed::Placed;

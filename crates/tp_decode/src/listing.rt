@@ -1,14 +1,15 @@
 //! Listings.
 
-ghost use Rattle.std.specs.Prelude.{◌≡◌, ◌<◌, ◌+◌, ◌^◌, length, IfOk, IfSome, IfNone, OnSome, slice_get, string_bytes};
+ghost use Rattle.std.specs.Prelude.{◌≡◌, ◌<◌, ◌+◌, ◌==◌, length, IfOk, slice_get, string_bytes};
 ghost use Rattle.std.specs.Option.{option_map};
-ghost use Rattle.tp_decode.specs.Cutting.{starts_from, cut_at};
+ghost use Rattle.tp_decode.specs.Cutting.{starts_from, placed_from, index_from, cut_at};
 ghost use Rattle.tp_decode.specs.Lines.{lines_from};
 ghost use Rattle.tp_decode.specs.Listings.{IsListing, cuts_of};
 
 use crate::instr::Instr;
 use crate::lines::line;
 use crate::piece::Piece;
+use crate::placed::Placed;
 use std::alloc::{AllocError, Global};
 use std::marker::Model;
 
@@ -16,6 +17,8 @@ use std::marker::Model;
 #[derive(Drop)]
 pub struct Listing {
     starts: Vec<u32>,
+    /// For each byte of the code, the number of the instruction that starts there.
+    numbers: Vec<Option<u16>>,
     pieces: Vec<Piece>,
 }
 
@@ -28,15 +31,32 @@ impl Model for Listing {
 
     ghost view = { λ l. cuts_of l.pieces.items };
 
-    ghost invariant = { λ l. IsListing l.starts.items l.pieces.items };
+    ghost invariant = { λ l. IsListing l.starts.items l.numbers.items l.pieces.items };
 }
 
 impl Listing {
-    pub(crate) fn new(starts: Vec<u32>, pieces: Vec<Piece>) -> Listing
-        requires { IsListing starts.items pieces.items }
+    pub(crate) fn new(starts: Vec<u32>, numbers: Vec<Option<u16>>, pieces: Vec<Piece>) -> Listing
+        requires { IsListing starts.items numbers.items pieces.items }
         ensures { result ≡ cuts_of pieces.items }
     {
-        Listing { starts, pieces }
+        Listing {
+            starts,
+            numbers,
+            pieces,
+        }
+    }
+
+    /// How many instructions there are.
+    pub fn len(&self) -> usize
+        ensures { result ≡ length self.now }
+    {
+        self.pieces.len()
+    }
+
+    pub fn is_empty(&self) -> bool
+        ensures { result ≡ (length self.now == 0) }
+    {
+        self.pieces.is_empty()
     }
 
     /// The addresses of the instructions, rising from 0.
@@ -46,24 +66,49 @@ impl Listing {
         &self.starts
     }
 
+    /// Instruction i, counted from 0, with its place. It takes constant time, as `index_of`, `at` and `next` do.
+    pub fn get(&self, i: usize) -> Option<Placed>
+        ensures { result ≡ slice_get (placed_from 0 self.now) i }
+    {
+        let piece = self.pieces.get(i)?;
+        let at = self.starts[i] as usize;
+        Some(Placed {
+            at,
+            instr: piece.instr,
+            next: at + piece.spelling.len(),
+        })
+    }
+
+    /// The number of the instruction that stands at an address, counted from 0; none inside a spelling or past the end.
+    pub fn index_of(&self, addr: usize) -> Option<usize>
+        ensures { result ≡ index_from 0 self.now addr }
+    {
+        let number = (*self.numbers.get(addr)?)?;
+        Some(usize::from(number))
+    }
+
+    /// What stands at an address, with its place.
+    #[tactic(auto, using(crate::proofs::NumberLemmas::place_by_number))]
+    fn placed(&self, addr: usize) -> Option<Placed>
+        ensures { result ≡ option_map (λ cut. record { at = addr; instr = cut.instr; next = addr + length cut.bytes }) (cut_at self.now addr) }
+    {
+        self.index_of(addr).and_then(|i| self.get(i))
+    }
+
     /// The instruction that stands at an address; none inside a spelling or past the end.
     pub fn at(&self, addr: usize) -> Option<Instr>
         ensures { result ≡ option_map (λ cut. cut.instr) (cut_at self.now addr) }
     {
-        let i = index_of(&self.starts, &self.pieces, addr)?;
-        Some(self.pieces[i].instr)
+        self.placed(addr).map(|placed| placed.instr)
     }
 
     /// The address after the instruction that stands at an address.
     pub fn next(&self, addr: usize) -> Option<usize>
         ensures { result ≡ option_map (λ cut. addr + length cut.bytes) (cut_at self.now addr) }
     {
-        let i = index_of(&self.starts, &self.pieces, addr)?;
-        Some(addr + self.pieces[i].spelling.len())
+        self.placed(addr).map(|placed| placed.next)
     }
-}
 
-impl Listing {
     /// The listing line of instruction i, counted from 0, without its line feed: the address in decimal, the bytes in
     /// hexadecimal, the name with the operand in signed decimal; and ` least ` with the canonical spelling where that is
     /// another.
@@ -72,21 +117,5 @@ impl Listing {
         ensures { IfOk result (λ text. slice_get (lines_from 0 self.now) i ≡ Some (string_bytes text)) }
     {
         line(alloc, self.starts[i], &self.pieces[i])
-    }
-}
-
-/// Which instruction starts at an address.
-fn index_of(starts: &[u32], pieces: &[Piece], addr: usize) -> Option<usize>
-    requires { IsListing starts.now pieces.now }
-    ensures none { IfNone result (cut_at (cuts_of pieces.now) addr ≡ None) }
-    ensures some { IfSome result (λ i. (i < length pieces.now) × (cut_at (cuts_of pieces.now) addr ≡ slice_get (cuts_of pieces.now) i)) }
-    ensures word { OnSome result (addr < 2 ^ 32) }
-{
-    let Ok(wanted) = u32::try_from(addr) else {
-        return None;
-    };
-    match starts.binary_search(&wanted) {
-        Ok(i) => Some(i),
-        Err(_) => None,
     }
 }

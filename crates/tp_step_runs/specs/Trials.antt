@@ -64,6 +64,10 @@ local_0 word s = holding 8 (word ∷ []) s
 abbrev pub lacking : ℕ → ℕ → State → State
 lacking word count s = record s { memory = undefined s.memory (mem_start + 4 * word) (4 * count) }
 
+-- the byte at an address is undefined
+abbrev pub lacking_byte : ℕ → State → State
+lacking_byte a s = record s { memory = undefined s.memory a 1 }
+
 -- what a descheduling leaves: no registers, and the words 3 to 7 undefined, which are the five below Wptr
 abbrev pub given_way : State → State
 given_way s = lacking 3 5 (no_registers s)

@@ -73,6 +73,7 @@ pub fn div()
     ensures negative_divisor { Leads (0x22 ∷ 0xFC ∷ []) (three 0xFFFFFFFE 7 9) (two 0xFFFFFFFD 9) }
     ensures both_negative { Leads (0x22 ∷ 0xFC ∷ []) (three 0xFFFFFFFE 0xFFFFFFF9 9) (two 3 9) }
     ensures least { Leads (0x22 ∷ 0xFC ∷ []) (three 3 0x80000000 9) (two 0xD5555556 9) }
+    ensures stays_set { Leads (0x22 ∷ 0xFC ∷ []) (flagged (three 2 7 9)) (flagged (two 3 9)) }
 {}
 
 /// rem (`21 FF`): the remainder of Breg by Areg, which has the sign of Breg.
@@ -83,4 +84,5 @@ pub fn rem()
     ensures negative_dividend { Leads (0x21 ∷ 0xFF ∷ []) (three 2 0xFFFFFFF9 9) (two 0xFFFFFFFF 9) }
     ensures negative_divisor { Leads (0x21 ∷ 0xFF ∷ []) (three 0xFFFFFFFE 7 9) (two 1 9) }
     ensures both_negative { Leads (0x21 ∷ 0xFF ∷ []) (three 0xFFFFFFFE 0xFFFFFFF9 9) (two 0xFFFFFFFF 9) }
+    ensures stays_set { Leads (0x21 ∷ 0xFF ∷ []) (flagged (three 2 7 9)) (flagged (two 1 9)) }
 {}

@@ -17,6 +17,9 @@ pub fn j()
     ensures just_room { Leads (0x00 ∷ []) (record bare { wptr = 0x8000005C })
         (lacking 0 5 (record bare { wptr = 0x8000005C })) }
     ensures no_room { Sticks (0x00 ∷ []) (record bare { wptr = 0x80000058 }) }
+    ensures just_below { Leads (0x00 ∷ []) (record bare { wptr = 0x80000088 })
+        (lacking 11 5 (record bare { wptr = 0x80000088 })) }
+    ensures above { Sticks (0x00 ∷ []) (filled (record bare { wptr = 0x8000008C })) }
 {}
 
 /// cj (`An`): at 0 it jumps and the stack stays, else Areg is popped.
@@ -28,7 +31,8 @@ pub fn cj()
 {}
 
 /// lend (`22 F1`), behind ldlp 2 and ldc 4 (`12 44`): the block is words 10 and 11, and the loop's head is byte 0. The
-/// block is written before the five words become undefined, so a block among these is lost.
+/// block is written before the five words become undefined, so a block among these is lost. The distance is signed: from
+/// byte 2, -4 leads to byte 6.
 pub fn lend()
     ensures turns_left { LeadsTo (pos 0) (0x12 ∷ 0x44 ∷ 0x22 ∷ 0xF1 ∷ []) (holding 10 (5 ∷ 3 ∷ []) bare)
         (given_way (holding 10 (6 ∷ []) (holding 11 (2 ∷ []) (holding 10 (5 ∷ 3 ∷ []) bare)))) }
@@ -46,6 +50,12 @@ pub fn lend()
     ensures count_zero { seen_after 4 (0x12 ∷ 0x44 ∷ 0x22 ∷ 0xF1 ∷ []) (10 ∷ 11 ∷ [])
         (holding 10 (7 ∷ 0 ∷ []) bare)
         ≡ Some (pos 4, None ∷ None ∷ []) }
+    ensures count_below_zero { seen_after 4 (0x12 ∷ 0x44 ∷ 0x22 ∷ 0xF1 ∷ []) (10 ∷ 11 ∷ [])
+        (holding 10 (7 ∷ 0xFFFFFFFF ∷ []) bare)
+        ≡ Some (pos 4, None ∷ None ∷ []) }
+    ensures distance_below_zero { seen_after 2 (0x22 ∷ 0xF1 ∷ []) (10 ∷ 11 ∷ [])
+        (holding 10 (5 ∷ 3 ∷ []) (two 0xFFFFFFFC 0x80000070))
+        ≡ Some (pos 6, Some 6 ∷ Some 2 ∷ []) }
     ensures around { seen_after 4 (0x12 ∷ 0x44 ∷ 0x22 ∷ 0xF1 ∷ []) (10 ∷ 11 ∷ [])
         (holding 10 (0x7FFFFFFF ∷ 0x80000000 ∷ []) bare)
         ≡ Some (pos 0, Some 0x80000000 ∷ Some 0x7FFFFFFF ∷ []) }

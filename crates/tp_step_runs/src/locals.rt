@@ -4,7 +4,7 @@
 #![tactic(auto, unfolding(crate::proofs::Computing::by_steps))]
 
 ghost use Rattle.std.specs.Prelude.{[], ◌∷◌};
-ghost use Rattle.tp_step_runs.specs.Trials.{Leads, Sticks, bare, one, two, three, without_areg, holding, lacking, local_0, filled};
+ghost use Rattle.tp_step_runs.specs.Trials.{Leads, Sticks, bare, one, two, three, without_areg, holding, lacking, lacking_byte, local_0, filled};
 
 /// ldc (`4n`): what is on the stack goes down by one place.
 pub fn ldc()
@@ -21,14 +21,16 @@ pub fn mint()
     ensures twice { Leads (0x24 ∷ 0xF2 ∷ 0x24 ∷ 0xF2 ∷ []) bare (two 0x80000000 0x80000000) }
 {}
 
-/// ldlp (`1n`): an address is computed, in the workspace or not.
+/// ldlp (`1n`): an address is computed, in the workspace or not; by 2^30 words it comes round to itself.
 pub fn ldlp()
     ensures above { Leads (0x11 ∷ []) (three 1 2 3) (three 0x8000006C 1 2) }
     ensures below { Leads (0x60 ∷ 0x1F ∷ []) bare (one 0x80000064) }
     ensures outside { Leads (0x1F ∷ []) bare (one 0x800000A4) }
+    ensures around { Leads (0x24 ∷ 0x20 ∷ 0x20 ∷ 0x20 ∷ 0x20 ∷ 0x20 ∷ 0x20 ∷ 0x11 ∷ []) bare (one 0x8000006C) }
 {}
 
-/// ldl (`7n`): the local's word is pushed; there is none at local 8 nor -9, nor where a byte is undefined.
+/// ldl (`7n`): the local's word is pushed; there is none at local 8 nor -9, nor where a byte is undefined. Local 2^30 + 1
+/// is local 1.
 pub fn ldl()
     ensures first { Leads (0x70 ∷ []) (local_0 0x44332211 (three 1 2 3))
         (local_0 0x44332211 (three 0x44332211 1 2)) }
@@ -37,6 +39,9 @@ pub fn ldl()
     ensures above { Sticks (0x78 ∷ []) (filled bare) }
     ensures below { Sticks (0x60 ∷ 0x77 ∷ []) (filled bare) }
     ensures undefined { Sticks (0x70 ∷ []) (lacking 8 1 bare) }
+    ensures undefined_top_byte { Sticks (0x70 ∷ []) (lacking_byte 0x8000006B bare) }
+    ensures around { Leads (0x24 ∷ 0x20 ∷ 0x20 ∷ 0x20 ∷ 0x20 ∷ 0x20 ∷ 0x20 ∷ 0x71 ∷ []) (holding 9 (5 ∷ []) bare)
+        (holding 9 (5 ∷ []) (one 5)) }
 {}
 
 /// stl (`Dn`): the local takes Areg, which is popped.

@@ -1,8 +1,8 @@
-//! Runs of the message instructions. The worker's packet and its result have four bytes each.
+//! Runs of the message instructions. The worker's packet and its result have four bytes each, where nothing else is said.
 #![tactic(auto, unfolding(crate::proofs::Computing::by_steps))]
 
 ghost use Rattle.std.specs.Prelude.{◌≡◌, pos, Some, [], ◌∷◌, replicate};
-ghost use Rattle.tp_step_runs.specs.Trials.{Leads, LeadsIn, Sticks, SticksIn, roomy_trial, bare, two, three, holding, lacking, given_way, seen_after, coming, in_phase, local_0, filled};
+ghost use Rattle.tp_step_runs.specs.Trials.{Leads, LeadsIn, Sticks, SticksIn, trial, roomy_trial, bare, two, three, holding, lacking, given_way, seen_after, coming, in_phase, local_0, filled};
 
 /// in (`F7`): the packet, which is written before the five words below Wptr become undefined.
 pub fn input()
@@ -18,6 +18,13 @@ pub fn input()
         (coming (1 ∷ 2 ∷ 3 ∷ 4 ∷ 5 ∷ 6 ∷ 7 ∷ 8 ∷ []) (three 8 0x80000010 0x80000068)) }
     ensures phase { Sticks (0xF7 ∷ [])
         (in_phase 1 (coming (1 ∷ 2 ∷ 3 ∷ 4 ∷ []) (three 4 0x80000010 0x80000068))) }
+    ensures after_the_result { Sticks (0xF7 ∷ [])
+        (in_phase 2 (coming (1 ∷ 2 ∷ 3 ∷ 4 ∷ []) (three 4 0x80000010 0x80000068))) }
+    ensures two_words { LeadsIn (record (trial (0xF7 ∷ [])) { packet = 2 })
+        (coming (1 ∷ 0 ∷ 0 ∷ 0 ∷ 2 ∷ 0 ∷ 0 ∷ 0 ∷ []) (three 8 0x80000010 0x80000068))
+        (in_phase 1 (coming [] (given_way (holding 8 (1 ∷ 2 ∷ []) bare)))) }
+    ensures one_of_two_words { SticksIn (record (trial (0xF7 ∷ [])) { packet = 2 })
+        (coming (1 ∷ 0 ∷ 0 ∷ 0 ∷ 2 ∷ 0 ∷ 0 ∷ 0 ∷ []) (three 4 0x80000010 0x80000068)) }
     ensures missing { Sticks (0xF7 ∷ []) (coming (1 ∷ 2 ∷ 3 ∷ []) (three 4 0x80000010 0x80000068)) }
     ensures outside { Sticks (0xF7 ∷ []) (coming (1 ∷ 2 ∷ 3 ∷ 4 ∷ []) (three 4 0x80000010 0x80000085)) }
     ensures undefined { Sticks (0xF7 ∷ []) (coming (1 ∷ 2 ∷ 3 ∷ 4 ∷ []) (two 4 0x80000010)) }
@@ -33,6 +40,11 @@ pub fn output_result()
     ensures undefined_byte { Sticks (0xFB ∷ []) (in_phase 1 (lacking 8 1 (three 4 0x80000000 0x80000068))) }
     ensures channel { Sticks (0xFB ∷ []) (in_phase 1 (three 4 0x80000008 0x80000068)) }
     ensures length { Sticks (0xFB ∷ []) (in_phase 1 (three 8 0x80000000 0x80000068)) }
+    ensures two_words { LeadsIn (record (trial (0xFB ∷ [])) { result = 2 })
+        (in_phase 1 (holding 8 (1 ∷ 2 ∷ []) (three 8 0x80000000 0x80000068)))
+        (record (in_phase 2 (given_way (holding 8 (1 ∷ 2 ∷ []) bare))) { sent = 1 ∷ 0 ∷ 0 ∷ 0 ∷ 2 ∷ 0 ∷ 0 ∷ 0 ∷ [] }) }
+    ensures one_of_two_words { SticksIn (record (trial (0xFB ∷ [])) { result = 2 })
+        (in_phase 1 (three 4 0x80000000 0x80000068)) }
     ensures before_the_packet { Sticks (0xFB ∷ []) (three 4 0x80000000 0x80000068) }
     ensures twice { Sticks (0xFB ∷ []) (in_phase 2 (three 4 0x80000000 0x80000068)) }
     ensures outside { Sticks (0xFB ∷ []) (in_phase 1 (filled (three 4 0x80000000 0x80000085))) }

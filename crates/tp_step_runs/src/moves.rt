@@ -4,7 +4,7 @@
 ghost use Rattle.std.specs.Prelude.{[], ◌∷◌};
 ghost use Rattle.tp_step_runs.specs.Trials.{LeadsIn, Sticks, SticksIn, second_trial, bare, two, three, holding, lacking, filled, local_0};
 
-/// Areg bytes go to address Breg from address Creg, and the registers are lost.
+/// Areg bytes go to address Breg from address Creg, and the registers are lost. One range may end where the other begins.
 pub fn move_bytes()
     ensures word { LeadsIn (second_trial (0x24 ∷ 0xFA ∷ []))
         (local_0 0x44332211 (three 4 0x80000048 0x80000068))
@@ -12,6 +12,12 @@ pub fn move_bytes()
     ensures up { LeadsIn (second_trial (0x24 ∷ 0xFA ∷ []))
         (holding 0 (1 ∷ 2 ∷ []) (three 8 0x80000050 0x80000048))
         (holding 2 (1 ∷ 2 ∷ []) (holding 0 (1 ∷ 2 ∷ []) bare)) }
+    ensures down { LeadsIn (second_trial (0x24 ∷ 0xFA ∷ []))
+        (holding 1 (5 ∷ []) (three 4 0x80000048 0x8000004C))
+        (holding 0 (5 ∷ []) (holding 1 (5 ∷ []) bare)) }
+    ensures eight_words { LeadsIn (second_trial (0x24 ∷ 0xFA ∷ []))
+        (holding 0 (1 ∷ 2 ∷ 3 ∷ 4 ∷ 5 ∷ 6 ∷ 7 ∷ 8 ∷ []) (three 32 0x80000068 0x80000048))
+        (holding 8 (1 ∷ 2 ∷ 3 ∷ 4 ∷ 5 ∷ 6 ∷ 7 ∷ 8 ∷ []) (holding 0 (1 ∷ 2 ∷ 3 ∷ 4 ∷ 5 ∷ 6 ∷ 7 ∷ 8 ∷ []) bare)) }
     ensures unaligned { LeadsIn (second_trial (0x24 ∷ 0xFA ∷ []))
         (local_0 0x44332211 (three 4 0x80000048 0x80000069))
         (holding 0 (0x00443322 ∷ []) (local_0 0x44332211 bare)) }

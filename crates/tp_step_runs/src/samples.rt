@@ -53,6 +53,12 @@ pub fn stuck_after_jump()
     ensures { (a b c d : ℕ) → StuckAt reads_after_jump (a ∷ b ∷ c ∷ d ∷ []) (pos 8) }
 {}
 
+/// Wptr begins at the image's start word.
+pub fn first_wptr()
+    ensures word_8 { (start increment []).wptr ≡ 0x80000068 }
+    ensures word_11 { (start (record increment { start = 11 }) []).wptr ≡ 0x80000074 }
+{}
+
 /// The workspace begins with the image's initial words and then zeros; behind it nothing is defined.
 pub fn first_words()
     ensures version_1 { words_at (0 ∷ 11 ∷ 12 ∷ []) (start increment []) ≡ Some 0 ∷ Some 0 ∷ None ∷ [] }

@@ -8,7 +8,7 @@ use Rattle.tp_decode.proofs.decoding.cut.Given as goal
 abbrev pub invariant-loop-at : goal.invariant-loop-at
 invariant-loop-at l = record {
   within : l.at ≤ length l.code;
-  kept : IsListing l.starts.items l.pieces.items;
+  kept : IsListing l.starts.items l.numbers.items l.pieces.items;
   place : length (code_of (cuts_of l.pieces.items)) ≡ l.at;
   so_far : with_front (cuts_of l.pieces.items) (cutting_from l.at (drop l.at l.code) []) ≡ cutting l.code;
 }
