@@ -8,3 +8,4 @@ pub mod FlowDepth
 pub mod FlowKept
 pub mod FlowAround
 pub mod LoopMoves
+pub mod RowNumbers

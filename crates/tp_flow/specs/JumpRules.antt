@@ -1,10 +1,10 @@
 -- When an instruction breaks a rule of flow.
-use Rattle.std.specs.Prelude.{ℕ, ◌+◌, Bool, true, ◌&&◌, ◌||◌, not, nat_le, ◌==◌, List, [], ◌∷◌, ◌++◌, length, Option, Some, None, is_none, if◌then◌else◌, ℤ}
+use Rattle.std.specs.Prelude.{ℕ, Bool, true, ◌&&◌, ◌||◌, not, nat_le, ◌==◌, List, [], ◌∷◌, ◌++◌, length, Option, Some, None, is_none, if◌then◌else◌, ℤ}
 use Rattle.std.specs.List.{list_any}
-use Rattle.std.specs.Option.{option_and_then}
 use Rattle.std.specs.Int.{is_negative}
 use Rattle.tp_decode.specs.declared.instr.Instr.{Instr}
-use Rattle.tp_decode.specs.Cutting.{Cut, cut_at}
+use Rattle.tp_decode.specs.declared.placed.Placed.{Placed}
+use Rattle.tp_decode.specs.Cutting.{Cut}
 use Rattle.tp_image.specs.Image.{ImageValue}
 use Rattle.tp_flow.specs.declared.edge.Edge.TheVariants.{Next, Out}
 use Rattle.tp_flow.specs.declared.fault.FlowCode.{FlowCode}
@@ -82,9 +82,5 @@ rules_on image cuts at next instr =
     ++ (rule (runs_off image.code next instr) J5 ∷ [])
 
 -- the first rule that an instruction breaks
-abbrev pub broken_rule : ImageValue → List Cut → ℕ → Cut → Option FlowCode
-broken_rule image cuts at cut = first_broken (rules_on image cuts at (at + length cut.bytes) cut.instr)
-
--- the same of the instruction that stands at an address
-abbrev pub broken_at : ImageValue → List Cut → ℕ → Option FlowCode
-broken_at image cuts at = option_and_then (broken_rule image cuts at) (cut_at cuts at)
+abbrev pub broken_rule : ImageValue → List Cut → Placed → Option FlowCode
+broken_rule image cuts placed = first_broken (rules_on image cuts placed.at placed.next placed.instr)

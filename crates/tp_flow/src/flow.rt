@@ -7,7 +7,7 @@ ghost use Rattle.tp_flow.specs.FlowFaults.{first_flow_fault};
 ghost use Rattle.tp_flow.specs.NestKept.{KeepsNest};
 
 use crate::fault::{FlowCode, FlowFault};
-use crate::jumps::broken_at;
+use crate::jumps::instruction_fault;
 use crate::nest::Nest;
 use crate::rows::bad_row;
 use tp_decode::Listing;
@@ -30,11 +30,8 @@ pub fn check_flow(image: &Image, listing: &Listing) -> Result<Nest, FlowFault>
             place,
         });
     }
-    for start in listing.starts() {
-        let place = *start as usize;
-        if let Some(code) = broken_at(image, listing, &nest, place) {
-            return Err(FlowFault { code, place });
-        }
+    match instruction_fault(image, listing, &nest) {
+        Some(fault) => Err(fault),
+        None => Ok(nest),
     }
-    Ok(nest)
 }

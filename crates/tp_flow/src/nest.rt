@@ -7,20 +7,17 @@ ghost use Rattle.tp_flow.specs.LoopsAround.{is_around, entered_by, rows_around};
 ghost use Rattle.tp_flow.specs.Edges.{target};
 
 use crate::edge::{Edge, has_edge, jump_operand, jump_target};
+use crate::limits::MOST_LOOPS;
 use crate::range::LoopRange;
 use arrayvec::ArrayVec;
 use std::marker::Model;
 use tp_decode::Instr;
 use tp_image::LoopRow;
-use tp_image::limits::LOOP_ROWS;
-
-/// The most loops of a code.
-const LOOPS: usize = LOOP_ROWS as usize;
 
 /// The loops of a code: a contract sees their ranges, in the order of the loop rows.
 #[derive(Debug, Drop)]
 pub struct Nest {
-    loops: ArrayVec<LoopRange, LOOPS>,
+    loops: ArrayVec<LoopRange, MOST_LOOPS>,
 }
 
 impl Model for Nest {
@@ -47,7 +44,8 @@ impl Nest {
 
     /// The ranges, in the order of the rows.
     pub(crate) fn loops(&self) -> &[LoopRange]
-        ensures { result.now ≡ self.now }
+        ensures value { result.now ≡ self.now }
+        ensures few { length result.now ≤ MOST_LOOPS }
     {
         self.loops.as_slice()
     }
@@ -66,6 +64,13 @@ impl Nest {
             Edge::Taken => jump_target(next, jump_operand(instr)?),
             Edge::Back => self.head_of(self.lend_row(at)?),
         }
+    }
+
+    /// The loop of a row, which is counted from 0.
+    pub fn range(&self, row: usize) -> Option<LoopRange>
+        ensures { result ≡ slice_get self.now row }
+    {
+        self.loops().get(row).copied()
     }
 
     /// Whether an address lies in the loop of a row, which is counted from 0; false where there is no
@@ -91,5 +96,28 @@ impl Nest {
         ensures { result ≡ number_ended_at self.now at }
     {
         self.loops().iter().position(|range| range.lend == at)
+    }
+
+    /// The number of the row whose loop begins at the address `to` and does not contain the address `at`: the loop that
+    /// an edge between them enters.
+    pub fn entered(&self, at: usize, to: usize) -> Option<usize>
+        ensures { result ≡ entered_by self.now at to }
+    {
+        self.loops()
+            .iter()
+            .position(|range| range.head == to && !range.contains(at))
+    }
+
+    /// The numbers of the rows whose loops contain an address, rising: in a nest that passed, at most four.
+    pub fn around(&self, at: usize) -> ArrayVec<usize, MOST_LOOPS>
+        ensures { result.items ≡ rows_around self.now at }
+    {
+        let mut rows = ArrayVec::new();
+        for row in 0..self.loops().len() {
+            if self.contains(row, at) {
+                rows.push(row);
+            }
+        }
+        rows
     }
 }
