@@ -1,5 +1,5 @@
 -- The loops around an address lie one within the other.
-use Rattle.std.proofs.Common.{◌≡◌, ℕ, suc, ◌<◌, Bool, true, false, ◌⊎◌, inl, inr, if◌then◌else◌, List, [], ◌∷◌, length, get_or, Contains, None, refl, ap, ◌∙◌, arith, cond, filter}
+use Rattle.std.proofs.Common.{◌≡◌, ℕ, suc, Bool, true, false, ◌⊎◌, inl, inr, if◌then◌else◌, List, [], ◌∷◌, length, get_or, Contains, None, refl, ap, ◌∙◌, arith, cond, filter}
 use Rattle.std.specs.List.{AllByRecursion}
 use Rattle.std.proofs.lemmas.List.{get_or_default}
 use Rattle.std.proofs.lemmas.Bool.Decides.{nat_tests}
@@ -11,6 +11,7 @@ use Rattle.tp_flow.specs.NestKept.{IsNested}
 use Rattle.tp_flow.specs.NestAround.{with_loop, loops_around, IsOutermostFirst}
 use Rattle.tp_flow.specs.FlowFaults.{first_flow_fault}
 use Rattle.tp_flow.proofs.FlowNest.{loops_nested}
+use Rattle.tp_flow.proofs.FlowDepth.{all_by_place}
 
 within_trans : (a b c : LoopRange) → lies_within a b ≡ true → lies_within b c ≡ true → lies_within a c ≡ true
 within_trans a b c ab bc = grind (arith, nat_tests)
@@ -37,10 +38,6 @@ length_with range (other ∷ others) = by_test (length_with range others) (lies_
     by_test : length (with_loop range others) ≡ suc (length others) → (b : Bool) → length (if b then range ∷ other ∷ others else other ∷ with_loop range others) ≡ suc (suc (length others))
     by_test go true = refl
     by_test go false = ap suc go
-
-all_by_place : {X : Type 0} (P : X → Type 0) (xs : List X) → ((k : ℕ) (d : X) → k < length xs → P (get_or xs k d)) → AllByRecursion P xs
-all_by_place P [] each = tt
-all_by_place P (x ∷ xs) each = (each 0 x (omega arith), all_by_place P xs (λ k d lt. each (suc k) d (omega arith)))
 
 -- how many they are
 pub length_around : (nest : List LoopRange) (at : ℕ) → length (loops_around nest at) ≡ length (filter (λ range. contains range at) nest)

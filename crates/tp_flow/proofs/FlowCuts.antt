@@ -1,25 +1,9 @@
 -- Where the instructions of a cutting start.
-use Rattle.std.proofs.Common.{◌≡◌, ◌≢◌, ℕ, suc, ◌+◌, ◌-◌, ◌<◌, ◌≤◌, Bool, true, false, nat_eq, nat_lt, if◌then◌else◌, List, [], ◌∷◌, length, get_or, Some, None, refl, ap, ◌∙◌, arith, length-append}
+use Rattle.std.proofs.Common.{◌≡◌, ◌≢◌, ℕ, ◌+◌, ◌-◌, ◌<◌, ◌≤◌, Bool, true, false, nat_eq, nat_lt, if◌then◌else◌, List, [], ◌∷◌, length, Some, None, refl, ap, ◌∙◌, arith, length-append}
 use Rattle.std.specs.Option.{is_some}
 use Rattle.std.proofs.lemmas.Bool.Decides.{nat_tests}
-use Rattle.tp_decode.specs.Cutting.{Cut, code_of, starts_from, cut_at}
+use Rattle.tp_decode.specs.Cutting.{Cut, code_of, cut_at}
 use Rattle.tp_flow.specs.RowRules.{is_start}
-
--- an instruction is among the starts
-pub start_listed : (first : ℕ) (cuts : List Cut) (at : ℕ) → is_start cuts at ≡ true → (i : ℕ) × (i < length (starts_from first cuts)) × (get_or (starts_from first cuts) i 0 ≡ first + at)
-start_listed first [] at is = absurd cc
-start_listed first (c ∷ cuts) at is = by_test (start_listed (first + length c.bytes) cuts (at - length c.bytes)) (nat_eq at 0) refl (nat_lt at (length c.bytes)) refl is
-  where
-    Listed : List ℕ → ℕ → Type 0
-    Listed starts at = (i : ℕ) × (i < length starts) × (get_or starts i 0 ≡ at)
-
-    by_test : (is_start cuts (at - length c.bytes) ≡ true → (i : ℕ) × (i < length (starts_from (first + length c.bytes) cuts)) × (get_or (starts_from (first + length c.bytes) cuts) i 0 ≡ first + length c.bytes + (at - length c.bytes))) → (p : Bool) → nat_eq at 0 ≡ p → (q : Bool) → nat_lt at (length c.bytes) ≡ q → is_some (if p then Some c else if q then None else cut_at cuts (at - length c.bytes)) ≡ true → (i : ℕ) × (i < length (starts_from first (c ∷ cuts))) × (get_or (starts_from first (c ∷ cuts)) i 0 ≡ first + at)
-    by_test go true e q e' is = let none : at ≡ 0 = grind (arith, nat_tests) in (0, omega arith, omega arith)
-    by_test go false e true e' is = absurd cc
-    by_test go false e false e' is =
-        let past : length c.bytes ≤ at = grind (arith, nat_tests) in
-        let rest = go is in
-        (suc rest.0, omega (arith, rest.1), rest.2 ∙ omega arith)
 
 -- an instruction of the rest
 start_later : (c : Cut) (cuts : List Cut) (to : ℕ) → length c.bytes ≤ to → is_start cuts (to - length c.bytes) ≡ true → is_start (c ∷ cuts) to ≡ true

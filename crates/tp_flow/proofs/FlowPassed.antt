@@ -6,14 +6,15 @@ use Rattle.std.proofs.lemmas.List.FromFn.{length-enumerate_from, get_or-enumerat
 use Rattle.tp_image.specs.declared.image.LoopRow.{LoopRow}
 use Rattle.tp_image.specs.Image.{ImageValue}
 use Rattle.tp_decode.specs.declared.instr.Instr.{Instr}
-use Rattle.tp_decode.specs.Cutting.{Cut, starts_from, cut_at}
+use Rattle.tp_decode.specs.Cutting.{Cut, placed_from, index_from, cut_at}
 use Rattle.tp_flow.specs.declared.fault.FlowCode.TheVariants.{J5, J7}
 use Rattle.tp_flow.specs.NestRanges.{ranges}
 use Rattle.tp_flow.specs.Edges.{jump_operand}
 use Rattle.tp_flow.specs.RowRules.{is_bad_row}
-use Rattle.tp_flow.specs.JumpRules.{Rule, rule, first_broken, names_no_loop, runs_off, jump_rules, rules_on_jump, rules_on, broken_rule, broken_at}
-use Rattle.tp_flow.specs.FlowFaults.{bad_row, row_fault, fault_at, instruction_faults, first_flow_fault}
-use Rattle.tp_flow.proofs.FlowCuts.{start_listed}
+use Rattle.tp_flow.specs.JumpRules.{Rule, rule, first_broken, names_no_loop, runs_off, jump_rules, rules_on_jump, rules_on, broken_rule}
+use Rattle.tp_flow.specs.FlowFaults.{bad_row, row_fault, fault_of, instruction_faults, first_flow_fault}
+use Rattle.std.proofs.lemmas.Option.{slice_get_within, get_or_from_slice_get}
+use Rattle.tp_decode.proofs.NumberLemmas.{placed, place_by_number}
 
 map_none : {X Y : Type 0} (f : X → Y) (o : Option X) → option_map f o ≡ None → o ≡ None
 map_none f None is = refl
@@ -78,6 +79,14 @@ pub record Passes (image : ImageValue) (cuts : List Cut) (at next : ℕ) (instr 
   pub jumps : (n : ℤ) → jump_operand instr ≡ Some n → first_broken (jump_rules image cuts at next n) ≡ None
   pub goes_on : runs_off image.code next instr ≡ false
 
+-- an instruction is among those with their places
+placed_listed : (cuts : List Cut) (at : ℕ) (cut : Cut) → cut_at cuts at ≡ Some cut → (i : ℕ) × (slice_get (placed_from 0 cuts) i ≡ Some (placed at cut))
+placed_listed cuts at cut stands = by_number (index_from 0 cuts at) (place_by_number cuts at ∙ ap (option_map (placed at)) stands)
+  where
+    by_number : (o : Option ℕ) → option_and_then (slice_get (placed_from 0 cuts)) o ≡ Some (placed at cut) → (i : ℕ) × (slice_get (placed_from 0 cuts) i ≡ Some (placed at cut))
+    by_number None is = absurd cc
+    by_number (Some i) is = (i, is)
+
 module _ (image : ImageValue) (cuts : List Cut) (is : first_flow_fault image cuts ≡ None) where
   parts : (row_fault image cuts ≡ None) × (slice_get (instruction_faults image cuts) 0 ≡ None)
   unfolding first_flow_fault
@@ -94,12 +103,12 @@ module _ (image : ImageValue) (cuts : List Cut) (is : first_flow_fault image cut
 
   pub instruction_passes : (at : ℕ) (cut : Cut) → cut_at cuts at ≡ Some cut → Passes image cuts at (at + length cut.bytes) cut.instr
   instruction_passes at cut stands =
-      let listed = start_listed 0 cuts at (rw stands refl) in
-      let there : get_or (starts_from 0 cuts) listed.0 0 ≡ at = listed.2 ∙ omega arith in
-      let none = given_none (fault_at image cuts) (starts_from 0 cuts) listed.0 0 parts.1 listed.1 in
-      let unbroken_at : broken_at image cuts at ≡ None = map_none _ (broken_at image cuts at) (ap (fault_at image cuts) (sym there) ∙ none) in
+      let listed = placed_listed cuts at cut stands in
+      let all = placed_from 0 cuts in
+      let there = get_or_from_slice_get all listed.0 (placed at cut) (placed at cut) listed.1 in
+      let none = given_none (fault_of image cuts) all listed.0 (placed at cut) parts.1 (slice_get_within all listed.0 (placed at cut) listed.1) in
       let kept : first_broken (rules_on image cuts at (at + length cut.bytes) cut.instr) ≡ None =
-      sym (ap (option_and_then (broken_rule image cuts at)) stands) ∙ unbroken_at
+      map_none _ (broken_rule image cuts (placed at cut)) (ap (fault_of image cuts) (sym there) ∙ none)
       in
       let next = at + length cut.bytes in
       let each =

@@ -3,5 +3,9 @@ pub mod FlowFirst
 pub mod FlowCuts
 pub mod FlowPassed
 pub mod FlowNest
+pub mod FlowSpelled
+pub mod FlowDepth
 pub mod FlowKept
 pub mod FlowAround
+pub mod LoopMoves
+pub mod RowNumbers

@@ -1,13 +1,13 @@
 -- The edges of instructions: the ways on which control leaves them.
 use Rattle.std.specs.Prelude.{ℕ, ◌^◌, Bool, true, false, nat_lt, if◌then◌else◌, ℤ, pos, negsuc, ◌+ℤ◌, List, [], ◌∷◌, Option, Some, None}
 use Rattle.std.specs.List.{list_any}
-use Rattle.std.specs.Option.{option_map, option_and_then}
+use Rattle.std.specs.Option.{option_and_then}
 use Rattle.tp_decode.specs.declared.instr.Instr.{Instr}
 use Rattle.tp_decode.specs.declared.instr.Instr.TheVariants.{Jump, Cj, Lend, Stopp}
 use Rattle.tp_flow.specs.declared.edge.Edge.{Edge}
 use Rattle.tp_flow.specs.declared.edge.Edge.TheVariants.{Next, Taken, Back, Out}
 use Rattle.tp_flow.specs.declared.range.LoopRange.{LoopRange}
-use Rattle.tp_flow.specs.NestRanges.{ended_at}
+use Rattle.tp_flow.specs.NestRanges.{number_ended_at, head_of}
 
 abbrev pub edges : Instr → List Edge
 edges (Jump n) = Taken ∷ []
@@ -45,7 +45,7 @@ jump_target next n = address (pos next +ℤ n)
 abbrev pub goes_to : List LoopRange → ℕ → ℕ → Instr → Edge → Option ℕ
 goes_to nest at next instr Next = Some next
 goes_to nest at next instr Taken = option_and_then (jump_target next) (jump_operand instr)
-goes_to nest at next instr Back = option_map (λ range. range.head) (ended_at nest at)
+goes_to nest at next instr Back = option_and_then (head_of nest) (number_ended_at nest at)
 goes_to nest at next instr Out = Some next
 
 -- where an edge goes, if the instruction has it

@@ -3,11 +3,12 @@ use Rattle.std.specs.Prelude.{ℕ, List, Option, slice_get}
 use Rattle.std.specs.List.{find, filter_map, enumerate_from}
 use Rattle.std.specs.Option.{option_map, option_or}
 use Rattle.tp_image.specs.Image.{ImageValue}
-use Rattle.tp_decode.specs.Cutting.{Cut, starts_from}
+use Rattle.tp_decode.specs.declared.placed.Placed.{Placed}
+use Rattle.tp_decode.specs.Cutting.{Cut, placed_from}
 use Rattle.tp_flow.specs.declared.fault.FlowCode.TheVariants.{J6}
 use Rattle.tp_flow.specs.declared.fault.FlowFault.{FlowFault}
 use Rattle.tp_flow.specs.RowRules.{is_bad_row}
-use Rattle.tp_flow.specs.JumpRules.{broken_at}
+use Rattle.tp_flow.specs.JumpRules.{broken_rule}
 
 -- the least number of a bad row
 abbrev pub bad_row : ImageValue → List Cut → Option ℕ
@@ -17,13 +18,13 @@ bad_row image cuts = option_map (λ row. row.0) (find (λ row. is_bad_row image 
 abbrev pub row_fault : ImageValue → List Cut → Option FlowFault
 row_fault image cuts = option_map (λ i. record { code = J6; place = i }) (bad_row image cuts)
 
--- the fault of the instruction at an address, which is the place
-abbrev pub fault_at : ImageValue → List Cut → ℕ → Option FlowFault
-fault_at image cuts at = option_map (λ code. record { code = code; place = at }) (broken_at image cuts at)
+-- the fault of an instruction: the place is its address
+abbrev pub fault_of : ImageValue → List Cut → Placed → Option FlowFault
+fault_of image cuts placed = option_map (λ code. record { code = code; place = placed.at }) (broken_rule image cuts placed)
 
--- the instructions that break a rule, by rising address
+-- the faults of instructions, by rising address
 abbrev pub instruction_faults : ImageValue → List Cut → List FlowFault
-instruction_faults image cuts = filter_map (fault_at image cuts) (starts_from 0 cuts)
+instruction_faults image cuts = filter_map (fault_of image cuts) (placed_from 0 cuts)
 
 unfoldable pub first_flow_fault : ImageValue → List Cut → Option FlowFault
 first_flow_fault image cuts = option_or (row_fault image cuts) (slice_get (instruction_faults image cuts) 0)

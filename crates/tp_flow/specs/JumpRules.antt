@@ -1,22 +1,22 @@
 -- When an instruction breaks a rule of flow.
-use Rattle.std.specs.Prelude.{ℕ, ◌+◌, Bool, true, ◌&&◌, ◌||◌, not, nat_le, ◌==◌, List, [], ◌∷◌, ◌++◌, length, Option, Some, None, is_none, if◌then◌else◌, ℤ}
+use Rattle.std.specs.Prelude.{ℕ, Bool, true, ◌&&◌, ◌||◌, not, nat_le, ◌==◌, List, [], ◌∷◌, ◌++◌, length, Option, Some, None, is_none, if◌then◌else◌, ℤ}
 use Rattle.std.specs.List.{list_any}
-use Rattle.std.specs.Option.{option_and_then}
 use Rattle.std.specs.Int.{is_negative}
 use Rattle.tp_decode.specs.declared.instr.Instr.{Instr}
-use Rattle.tp_decode.specs.Cutting.{Cut, cut_at}
+use Rattle.tp_decode.specs.declared.placed.Placed.{Placed}
+use Rattle.tp_decode.specs.Cutting.{Cut}
 use Rattle.tp_image.specs.Image.{ImageValue}
 use Rattle.tp_flow.specs.declared.edge.Edge.TheVariants.{Next, Out}
 use Rattle.tp_flow.specs.declared.fault.FlowCode.{FlowCode}
 use Rattle.tp_flow.specs.declared.fault.FlowCode.TheVariants.{J1, J2, J3, J4, J5, J7}
 use Rattle.tp_flow.specs.declared.range.LoopRange.{LoopRange}
-use Rattle.tp_flow.specs.NestRanges.{ranges, contains, ended_at}
+use Rattle.tp_flow.specs.NestRanges.{ranges, contains, number_ended_at}
 use Rattle.tp_flow.specs.Edges.{has_edge, jump_operand, jump_target}
 use Rattle.tp_flow.specs.RowRules.{is_start, is_lend}
 
 -- J7: a lend that no row names
 abbrev pub names_no_loop : List LoopRange → ℕ → Instr → Bool
-names_no_loop nest at instr = is_lend instr && is_none (ended_at nest at)
+names_no_loop nest at instr = is_lend instr && is_none (number_ended_at nest at)
 
 -- J2: the target lies outside the code
 abbrev pub is_outside : List ℕ → Option ℕ → Bool
@@ -82,9 +82,5 @@ rules_on image cuts at next instr =
     ++ (rule (runs_off image.code next instr) J5 ∷ [])
 
 -- the first rule that an instruction breaks
-abbrev pub broken_rule : ImageValue → List Cut → ℕ → Cut → Option FlowCode
-broken_rule image cuts at cut = first_broken (rules_on image cuts at (at + length cut.bytes) cut.instr)
-
--- the same of the instruction that stands at an address
-abbrev pub broken_at : ImageValue → List Cut → ℕ → Option FlowCode
-broken_at image cuts at = option_and_then (broken_rule image cuts at) (cut_at cuts at)
+abbrev pub broken_rule : ImageValue → List Cut → Placed → Option FlowCode
+broken_rule image cuts placed = first_broken (rules_on image cuts placed.at placed.next placed.instr)

@@ -1,3 +1,4 @@
+pub mod Limits
 pub mod NestRanges
 pub mod Edges
 pub mod RowRules
@@ -6,5 +7,7 @@ pub mod FlowFaults
 pub mod NestKept
 pub mod FlowCodes
 pub mod NestAround
+pub mod LoopsAround
+pub mod AroundKept
 pub use Rattle.tp_decode.specs.Cutting
 pub use Rattle.tp_image.specs.Image

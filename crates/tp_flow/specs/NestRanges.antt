@@ -1,6 +1,6 @@
 -- The ranges of loops, from the head to the lend. Both ends belong to a range.
-use Rattle.std.specs.Prelude.{ℕ, Bool, ◌&&◌, ◌||◌, not, nat_le, ◌==◌, List, map, Option, position}
-use Rattle.std.specs.List.{find}
+use Rattle.std.specs.Prelude.{ℕ, Bool, ◌&&◌, ◌||◌, not, nat_le, ◌==◌, List, map, Option, position, slice_get}
+use Rattle.std.specs.Option.{option_map}
 use Rattle.tp_image.specs.declared.image.LoopRow.{LoopRow}
 use Rattle.tp_flow.specs.declared.range.LoopRange.{LoopRange}
 
@@ -29,9 +29,10 @@ crosses range other = overlaps range other && not (lies_within range other || li
 abbrev pub shares_an_end : LoopRange → LoopRange → Bool
 shares_an_end range other = (range.head == other.head) || (range.lend == other.lend)
 
--- the loop whose lend stands at an address, and its number
-abbrev pub ended_at : List LoopRange → ℕ → Option LoopRange
-ended_at nest at = find (λ range. range.lend == at) nest
-
+-- the number of the row whose lend stands at an address
 abbrev pub number_ended_at : List LoopRange → ℕ → Option ℕ
 number_ended_at nest at = position (λ range. range.lend == at) nest
+
+-- the head of a row's loop
+abbrev pub head_of : List LoopRange → ℕ → Option ℕ
+head_of nest l = option_map (λ range. range.head) (slice_get nest l)

@@ -1,5 +1,5 @@
 -- When a loop row is bad.
-use Rattle.std.specs.Prelude.{ℕ, ◌+◌, Bool, true, false, ◌||◌, not, nat_lt, nat_le, ◌==◌, pos, ◌+ℤ◌, ◌-ℤ◌, int_lt, List, ◌++◌, take, drop, count_by, Option, Some, None, is_some}
+use Rattle.std.specs.Prelude.{ℕ, ◌+◌, Bool, true, false, ◌||◌, not, nat_lt, nat_le, ◌==◌, ℤ, pos, ◌+ℤ◌, ◌-ℤ◌, int_lt, List, ◌++◌, take, drop, count_by, Option, Some, None, is_some}
 use Rattle.std.specs.List.{list_any}
 use Rattle.tp_image.specs.declared.image.LoopRow.{LoopRow}
 use Rattle.tp_image.specs.Image.{ImageValue}
@@ -7,7 +7,7 @@ use Rattle.tp_decode.specs.declared.instr.Instr.{Instr}
 use Rattle.tp_decode.specs.declared.instr.Instr.TheVariants.{Lend}
 use Rattle.tp_decode.specs.Cutting.{Cut, cut_at}
 use Rattle.tp_flow.specs.declared.range.LoopRange.{LoopRange}
-use Rattle.tp_flow.specs.declared.limits.TheConstants.{MOST_TURNS, MOST_INDEX, MOST_DEPTH}
+use Rattle.tp_flow.specs.Limits.{most_turns, greatest_index, most_depth}
 use Rattle.tp_flow.specs.NestRanges.{range_of, ranges, lies_within, crosses, shares_an_end}
 
 -- an instruction starts at the address
@@ -48,11 +48,15 @@ has_no_block image row = nat_le image.workspace (row.control + 1)
 
 -- the loop makes no turn, or too many
 abbrev pub turns_badly : LoopRow → Bool
-turns_badly row = nat_lt row.count 1 || nat_lt MOST_TURNS row.count
+turns_badly row = nat_lt row.count 1 || nat_lt most_turns row.count
 
--- the index of the last turn is not a word
+-- the index of the last turn
+abbrev pub last_index : LoopRow → ℤ
+last_index row = row.start +ℤ pos row.count -ℤ pos 1
+
+-- it is not a word
 abbrev pub counts_too_far : LoopRow → Bool
-counts_too_far row = int_lt (pos MOST_INDEX) (row.start +ℤ pos row.count -ℤ pos 1)
+counts_too_far row = int_lt (pos greatest_index) (last_index row)
 
 -- The rules on a range among others. It overlaps an earlier row's without one lying within the other:
 abbrev pub crosses_earlier : List LoopRange → LoopRange → Bool
@@ -64,7 +68,7 @@ shares_with_earlier earlier range = list_any (λ other. shares_an_end range othe
 
 -- it lies within more others than loops may nest
 abbrev pub lies_too_deep : List LoopRange → LoopRange → Bool
-lies_too_deep others range = nat_le MOST_DEPTH (count_by (λ other. lies_within range other) others)
+lies_too_deep others range = nat_le most_depth (count_by (λ other. lies_within range other) others)
 
 abbrev pub is_bad_alone : ImageValue → List Cut → LoopRow → Bool
 is_bad_alone image cuts row =

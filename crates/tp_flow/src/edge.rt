@@ -1,7 +1,7 @@
 //! Edges: the ways on which control leaves an instruction.
 
 ghost use Rattle.std.specs.Prelude.{◌≡◌};
-ghost use Rattle.tp_flow.specs.Edges.{has_edge, jump_operand, jump_target};
+ghost use Rattle.tp_flow.specs.Edges.{edges, has_edge, jump_operand, jump_target};
 
 use tp_decode::Instr;
 
@@ -16,6 +16,19 @@ pub enum Edge {
     Back,
     /// From a lend to the next instruction, after the last turn.
     Out,
+}
+
+/// The edges of an instruction, in the order Next, Taken, Back, Out.
+pub fn edges(instr: Instr) -> &'static [Edge]
+    ensures { result.now ≡ edges instr }
+{
+    match instr {
+        Instr::Jump(_) => &[Edge::Taken],
+        Instr::Cj(_) => &[Edge::Next, Edge::Taken],
+        Instr::Lend => &[Edge::Back, Edge::Out],
+        Instr::Stopp => &[],
+        _ => &[Edge::Next],
+    }
 }
 
 /// Whether an instruction has an edge.

@@ -1,13 +1,13 @@
 //! The judgement of a code's flow.
 
-ghost use Rattle.std.specs.Prelude.{◌≡◌, IfOk, IfErr, None, Some};
+ghost use Rattle.std.specs.Prelude.{◌≡◌, IfOk, IfErr, OnOk, None, Some};
 ghost use Rattle.tp_decode.specs.Cutting.{IsCutting};
 ghost use Rattle.tp_flow.specs.NestRanges.{ranges};
 ghost use Rattle.tp_flow.specs.FlowFaults.{first_flow_fault};
 ghost use Rattle.tp_flow.specs.NestKept.{KeepsNest};
 
 use crate::fault::{FlowCode, FlowFault};
-use crate::jumps::broken_at;
+use crate::jumps::instruction_fault;
 use crate::nest::Nest;
 use crate::rows::bad_row;
 use tp_decode::Listing;
@@ -19,8 +19,8 @@ use tp_image::Image;
 pub fn check_flow(image: &Image, listing: &Listing) -> Result<Nest, FlowFault>
     requires { IsCutting image.now.code listing.now }
     ensures nest { IfOk result (λ nest. nest ≡ ranges image.now.loops) }
-    ensures kept { IfOk result (λ nest. KeepsNest nest listing.now) }
-    ensures passed { IfOk result (λ nest. first_flow_fault image.now listing.now ≡ None) }
+    ensures kept { OnOk result (KeepsNest image.now.loops image.now.workspace listing.now) }
+    ensures passed { OnOk result (first_flow_fault image.now listing.now ≡ None) }
     ensures refused { IfErr result (λ fault. first_flow_fault image.now listing.now ≡ Some fault) }
 {
     let nest = Nest::of(&image.loops);
@@ -30,11 +30,8 @@ pub fn check_flow(image: &Image, listing: &Listing) -> Result<Nest, FlowFault>
             place,
         });
     }
-    for start in listing.starts() {
-        let place = *start as usize;
-        if let Some(code) = broken_at(image, listing, &nest, place) {
-            return Err(FlowFault { code, place });
-        }
+    match instruction_fault(image, listing, &nest) {
+        Some(fault) => Err(fault),
+        None => Ok(nest),
     }
-    Ok(nest)
 }

@@ -1,27 +1,37 @@
 //! The rules on instructions.
 
-ghost use Rattle.std.specs.Prelude.{◌≡◌, Some};
+ghost use Rattle.std.specs.Prelude.{◌≡◌, Some, slice_get};
 ghost use Rattle.tp_flow.specs.NestRanges.{ranges};
-ghost use Rattle.tp_flow.specs.JumpRules.{broken_at, names_no_loop, breaks_the_nest, runs_off, jump_rules, first_broken};
+ghost use Rattle.tp_flow.specs.FlowFaults.{instruction_faults};
+ghost use Rattle.tp_flow.specs.JumpRules.{broken_rule, names_no_loop, breaks_the_nest, runs_off, jump_rules, first_broken};
 
 use crate::edge::{Edge, has_edge, jump_operand, jump_target};
-use crate::fault::FlowCode;
+use crate::fault::{FlowCode, FlowFault};
 use crate::nest::Nest;
-use tp_decode::{Instr, Listing};
+use tp_decode::{Instr, Listing, Placed};
 use tp_image::Image;
 
-/// The first rule that the instruction at an address breaks.
-pub(crate) fn broken_at(
-    image: &Image,
-    listing: &Listing,
-    nest: &Nest,
-    at: usize,
-) -> Option<FlowCode>
+/// The fault of the first instruction that breaks a rule, by rising address.
+pub(crate) fn instruction_fault(image: &Image, listing: &Listing, nest: &Nest) -> Option<FlowFault>
     requires { nest.now ≡ ranges image.now.loops }
-    ensures { result ≡ broken_at image.now listing.now at }
+    ensures { result ≡ slice_get (instruction_faults image.now listing.now) 0 }
 {
-    let instr = listing.at(at)?;
-    let next = listing.next(at)?;
+    for i in 0..listing.len() {
+        let placed = listing.get(i).unwrap();
+        if let Some(code) = broken_rule(image, listing, nest, placed) {
+            let place = placed.at;
+            return Some(FlowFault { code, place });
+        }
+    }
+    None
+}
+
+/// The first rule that an instruction breaks.
+fn broken_rule(image: &Image, listing: &Listing, nest: &Nest, placed: Placed) -> Option<FlowCode>
+    requires { nest.now ≡ ranges image.now.loops }
+    ensures { result ≡ broken_rule image.now listing.now placed }
+{
+    let Placed { at, instr, next } = placed;
     if names_no_loop(nest, at, instr) {
         return Some(FlowCode::J7);
     }
@@ -40,7 +50,7 @@ pub(crate) fn broken_at(
 fn names_no_loop(nest: &Nest, at: usize, instr: Instr) -> bool
     ensures { result ≡ names_no_loop nest.now at instr }
 {
-    instr == Instr::Lend && nest.ended_at(at).is_none()
+    instr == Instr::Lend && nest.lend_row(at).is_none()
 }
 
 /// Whether control goes on behind an instruction at the end of the code.

@@ -12,7 +12,7 @@ mod nest;
 mod range;
 mod rows;
 
-pub use edge::Edge;
+pub use edge::{Edge, edges};
 pub use fault::{FlowCode, FlowFault};
 pub use flow::check_flow;
 pub use nest::Nest;

@@ -1,5 +1,10 @@
 //! What loops may do.
 
+use tp_image::limits::LOOP_ROWS;
+
+/// The most loops of a code: the rows of an image.
+pub const MOST_LOOPS: usize = LOOP_ROWS as usize;
+
 /// The most turns of a loop.
 pub const MOST_TURNS: u32 = 10_000;
 

@@ -1,26 +1,23 @@
 //! The loop nest.
 
-ghost use Rattle.std.specs.Prelude.{◌≡◌, ◌≤◌, length, slice_get, false};
-ghost use Rattle.std.specs.Option.{option_map_or};
+ghost use Rattle.std.specs.Prelude.{◌≡◌, ◌≤◌, length, slice_get};
 ghost use Rattle.tp_image.specs.declared.limits.TheConstants.{LOOP_ROWS};
-ghost use Rattle.tp_flow.specs.NestRanges.{ranges, contains, ended_at, number_ended_at};
+ghost use Rattle.tp_flow.specs.NestRanges.{ranges, number_ended_at, head_of};
+ghost use Rattle.tp_flow.specs.LoopsAround.{is_around, entered_by, rows_around};
 ghost use Rattle.tp_flow.specs.Edges.{target};
 
 use crate::edge::{Edge, has_edge, jump_operand, jump_target};
+use crate::limits::MOST_LOOPS;
 use crate::range::LoopRange;
 use arrayvec::ArrayVec;
 use std::marker::Model;
 use tp_decode::Instr;
 use tp_image::LoopRow;
-use tp_image::limits::LOOP_ROWS;
-
-/// The most loops of a code.
-const LOOPS: usize = LOOP_ROWS as usize;
 
 /// The loops of a code: a contract sees their ranges, in the order of the loop rows.
 #[derive(Debug, Drop)]
 pub struct Nest {
-    loops: ArrayVec<LoopRange, LOOPS>,
+    loops: ArrayVec<LoopRange, MOST_LOOPS>,
 }
 
 impl Model for Nest {
@@ -47,16 +44,10 @@ impl Nest {
 
     /// The ranges, in the order of the rows.
     pub(crate) fn loops(&self) -> &[LoopRange]
-        ensures { result.now ≡ self.now }
+        ensures value { result.now ≡ self.now }
+        ensures few { length result.now ≤ MOST_LOOPS }
     {
         self.loops.as_slice()
-    }
-
-    /// The loop whose lend stands at an address.
-    pub(crate) fn ended_at(&self, at: usize) -> Option<LoopRange>
-        ensures { result ≡ ended_at self.now at }
-    {
-        self.loops().iter().copied().find(|range| range.lend == at)
     }
 
     /// Where an edge goes from an instruction that stands at an address, where the next one stands
@@ -71,14 +62,21 @@ impl Nest {
         match edge {
             Edge::Next | Edge::Out => Some(next),
             Edge::Taken => jump_target(next, jump_operand(instr)?),
-            Edge::Back => self.ended_at(at).map(|range| range.head),
+            Edge::Back => self.head_of(self.lend_row(at)?),
         }
+    }
+
+    /// The loop of a row, which is counted from 0.
+    pub fn range(&self, row: usize) -> Option<LoopRange>
+        ensures { result ≡ slice_get self.now row }
+    {
+        self.loops().get(row).copied()
     }
 
     /// Whether an address lies in the loop of a row, which is counted from 0; false where there is no
     /// such row.
     pub fn contains(&self, row: usize, at: usize) -> bool
-        ensures { result ≡ option_map_or (λ range. contains range at) (slice_get self.now row) false }
+        ensures { result ≡ is_around self.now at row }
     {
         match self.loops().get(row) {
             Some(range) => range.contains(at),
@@ -86,10 +84,40 @@ impl Nest {
         }
     }
 
+    /// Where the loop of a row begins, which is counted from 0; None where there is no such row.
+    fn head_of(&self, row: usize) -> Option<usize>
+        ensures { result ≡ head_of self.now row }
+    {
+        self.loops().get(row).map(|range| range.head)
+    }
+
     /// The number of the row whose lend stands at an address.
     pub fn lend_row(&self, at: usize) -> Option<usize>
         ensures { result ≡ number_ended_at self.now at }
     {
         self.loops().iter().position(|range| range.lend == at)
+    }
+
+    /// The number of the row whose loop begins at the address `to` and does not contain the address `at`: the loop that
+    /// an edge between them enters.
+    pub fn entered(&self, at: usize, to: usize) -> Option<usize>
+        ensures { result ≡ entered_by self.now at to }
+    {
+        self.loops()
+            .iter()
+            .position(|range| range.head == to && !range.contains(at))
+    }
+
+    /// The numbers of the rows whose loops contain an address, rising: in a nest that passed, at most four.
+    pub fn around(&self, at: usize) -> ArrayVec<usize, MOST_LOOPS>
+        ensures { result.items ≡ rows_around self.now at }
+    {
+        let mut rows = ArrayVec::new();
+        for row in 0..self.loops().len() {
+            if self.contains(row, at) {
+                rows.push(row);
+            }
+        }
+        rows
     }
 }

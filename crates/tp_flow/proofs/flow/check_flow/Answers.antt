@@ -1,25 +1,8 @@
-use Rattle.std.proofs.Common.{◌≡◌, sym, ap, ◌∙◌}
-use Rattle.tp_flow.specs.NestRanges.{ranges}
-use Rattle.tp_flow.proofs.FlowFirst.{refused_here, passed_here, all_passed}
+use Rattle.std.proofs.Common.{sym}
+use Rattle.tp_flow.proofs.FlowFirst.{no_fault}
 use Rattle.tp_flow.proofs.FlowKept.{nest_kept}
 use Rattle.tp_flow.proofs.flow.check_flow.Goals as goal
 
-pub returns-in-Some-broken_at-clause-refused : goal.returns-in-Some-broken_at-clause-refused
-returns-in-Some-broken_at-clause-refused c =
-    refused_here c.args.image.now c.args.listing.now c.starts-start-items.result.now c.starts-start-items.ensures c.loop-start.start-index c.loop-start-test.true c.loop-start.invariant
-    c.in-Some-broken_at.code (sym c.in_default.ensures) (sym c.in-Some-broken_at.ensures)
-
-pub loop-start-preserved : goal.loop-start-preserved
-loop-start-preserved c =
-    passed_here c.args.image.now c.args.listing.now c.starts-start-items.result.now c.starts-start-items.ensures c.loop-start.start-index c.loop-start-test.true c.loop-start.invariant
-    (sym c.in_default-broken_at.ensures)
-
-pub returns-clause-kept : goal.returns-clause-kept
-returns-clause-kept c =
-    let rows : c.deref.result.now ≡ c.args.image.now.loops = cc in
-    let nest : c.of-nest.result ≡ ranges c.args.image.now.loops = c.of-nest.ensures ∙ ap ranges rows in
-    let passed =
-    all_passed c.args.image.now c.args.listing.now c.starts-start-items.result.now c.loop-start.start-index c.starts-start-items.ensures c.loop-start-test.false (sym c.in_default.ensures)
-    c.loop-start.invariant
-    in
-    rw nest (nest_kept c.args.image.now c.args.listing.now c.requires passed)
+pub returns-in-None-clause-kept : goal.returns-in-None-clause-kept
+returns-in-None-clause-kept c =
+    nest_kept c.args.image.now c.args.listing.now c.requires (no_fault c.args.image.now c.args.listing.now (sym c.in_default.ensures) (sym c.in-None.ensures))
