@@ -4,6 +4,10 @@
 #[cfg(test)]
 mod lines;
 #[cfg(test)]
+mod names;
+#[cfg(test)]
+mod sizes;
+#[cfg(test)]
 mod spellings;
 #[cfg(test)]
 mod streams;

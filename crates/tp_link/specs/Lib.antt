@@ -1,3 +1,4 @@
+pub mod Calls
 pub mod Device
 pub mod FaultyWire
 pub mod Medium
