@@ -18,7 +18,7 @@ pub struct Seat {
     pub(crate) packets: u32,
     pub(crate) hand: Option<u32>,
     pub(crate) ended: bool,
-    pub(crate) stopped: bool,
+    pub(crate) stop_seen: bool,
 }
 
 impl Model for Seat {
@@ -26,5 +26,5 @@ impl Model for Seat {
 
     ghost view = { λ s. seat_of s.token.table_id s.token.me.0 };
 
-    ghost invariant = { λ s. IsSeat s.token.me.0 s.packets s.hand s.ended s.stopped × (s.token.me.1 ≡ []) };
+    ghost invariant = { λ s. IsSeat s.token.me.0 s.packets s.hand s.ended s.stop_seen × (s.token.me.1 ≡ []) };
 }
