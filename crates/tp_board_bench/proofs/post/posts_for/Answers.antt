@@ -2,7 +2,7 @@ use Rattle.std.proofs.Common.{Some, sym, subst}
 use Rattle.std.proofs.lemmas.List.Elements.{All-pop}
 use Rattle.std.specs.Arc.{arc_value}
 use Rattle.tp_board.specs.Boards.{BoardView, IsSeatOf}
-use Rattle.tp_board_bench.proofs.rounds.posts_for.Goals as goal
+use Rattle.tp_board_bench.proofs.post.posts_for.Goals as goal
 
 pub new-requires-in-loop-own : goal.new-requires-in-loop-own
 new-requires-in-loop-own c =
