@@ -9,3 +9,4 @@ pub mod FlowKept
 pub mod FlowAround
 pub mod LoopMoves
 pub mod RowNumbers
+pub mod Alike

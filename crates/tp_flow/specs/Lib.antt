@@ -9,5 +9,6 @@ pub mod FlowCodes
 pub mod NestAround
 pub mod LoopsAround
 pub mod AroundKept
+pub mod Stretches
 pub use Rattle.tp_decode.specs.Cutting
 pub use Rattle.tp_image.specs.Image

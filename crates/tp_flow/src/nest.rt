@@ -1,10 +1,11 @@
 //! The loop nest.
 
-ghost use Rattle.std.specs.Prelude.{◌≡◌, ◌≤◌, length, slice_get};
+ghost use Rattle.std.specs.Prelude.{◌≡◌, ◌≤◌, length, slice_get, IsTrue};
 ghost use Rattle.tp_image.specs.declared.limits.TheConstants.{LOOP_ROWS};
 ghost use Rattle.tp_flow.specs.NestRanges.{ranges, number_ended_at, head_of};
 ghost use Rattle.tp_flow.specs.LoopsAround.{is_around, entered_by, rows_around};
 ghost use Rattle.tp_flow.specs.Edges.{target};
+ghost use Rattle.tp_flow.specs.Stretches.{IsStretch};
 
 use crate::edge::{Edge, has_edge, jump_operand, jump_target};
 use crate::limits::MOST_LOOPS;
@@ -18,6 +19,22 @@ use tp_image::LoopRow;
 #[derive(Debug, Drop)]
 pub struct Nest {
     loops: ArrayVec<LoopRange, MOST_LOOPS>,
+}
+
+/// Addresses in a row that lie in the same loops.
+#[derive(Clone, Copy)]
+pub(crate) struct Stretch {
+    pub(crate) first: usize,
+    pub(crate) last: usize,
+}
+
+impl Stretch {
+    /// Whether two addresses, of which the first is not above the second, lie in it.
+    pub(crate) fn has_both(self, at: usize, to: usize) -> bool
+        ensures { IsTrue result → (self.first ≤ at) × (at ≤ to) × (to ≤ self.last) }
+    {
+        self.first <= at && at <= to && to <= self.last
+    }
 }
 
 impl Model for Nest {
@@ -119,5 +136,16 @@ impl Nest {
             }
         }
         rows
+    }
+
+    /// The addresses in a row from this one on that lie in the same loops as it does.
+    pub(crate) fn stretch(&self, first: usize) -> Stretch
+        ensures { IsStretch self.now result.first result.last }
+    {
+        let mut last = usize::MAX;
+        for range in self.loops() {
+            last = last.min(range.alike_up_to(first));
+        }
+        Stretch { first, last }
     }
 }

@@ -1,6 +1,6 @@
 //! Ranges of loops.
 
-ghost use Rattle.std.specs.Prelude.{◌≡◌};
+ghost use Rattle.std.specs.Prelude.{◌≡◌, ◌≤◌, ℕ};
 ghost use Rattle.tp_flow.specs.NestRanges.{range_of, contains, lies_within, crosses, shares_an_end};
 ghost use Rattle.tp_flow.specs.JumpRules.{leaves, enters_inside};
 
@@ -31,6 +31,19 @@ impl LoopRange {
         ensures { result ≡ contains self at }
     {
         self.head <= at && at <= self.lend
+    }
+
+    /// An address up to which all addresses from one on lie in the loop, or none does.
+    pub(crate) fn alike_up_to(self, first: usize) -> usize
+        ensures { (at : ℕ) → first ≤ at → at ≤ result → contains self first ≡ contains self at }
+    {
+        if first < self.head {
+            self.head - 1
+        } else if first <= self.lend {
+            self.lend
+        } else {
+            usize::MAX
+        }
     }
 
     /// Whether each address of the loop lies in the other.

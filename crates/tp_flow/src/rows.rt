@@ -5,6 +5,7 @@ ghost use Rattle.tp_flow.specs.NestRanges.{ranges};
 ghost use Rattle.tp_flow.specs.RowRules.{has_no_start, turns_badly, counts_too_far, has_no_block, is_bad_alone, crosses_earlier, shares_with_earlier, lies_too_deep, is_bad_among, is_bad_row};
 ghost use Rattle.tp_flow.specs.FlowFaults.{bad_row};
 
+use crate::jumps::is_start;
 use crate::limits::{MOST_DEPTH, MOST_INDEX, MOST_TURNS};
 use crate::nest::Nest;
 use crate::range::LoopRange;
@@ -50,7 +51,7 @@ fn is_bad_alone(image: &Image, listing: &Listing, row: &LoopRow) -> bool
 fn has_no_start(listing: &Listing, row: &LoopRow) -> bool
     ensures { result ≡ has_no_start listing.now row.now }
 {
-    listing.at(row.head as usize).is_none() || listing.at(row.lend as usize).is_none()
+    !is_start(listing, row.head as usize) || !is_start(listing, row.lend as usize)
 }
 
 /// Whether the control word and the word after it do not both lie in the workspace.
