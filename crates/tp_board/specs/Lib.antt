@@ -12,6 +12,7 @@ pub mod Openings
 pub mod Laws
 pub mod Schedules
 pub mod Plays
+pub mod Faults
 pub mod Boards
 pub mod Calls
 pub mod Ledgers
