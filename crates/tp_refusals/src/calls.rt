@@ -2,8 +2,10 @@
 
 use crate::answer::{Answer, Tally, same_if};
 use crate::page::Page;
+use arrayvec::ArrayVec;
 use std::alloc::Global;
 use std::sync::Wait;
+use tp_collect::Collector;
 use tp_decode::{DecodeFault, Instr, Listing, decode};
 use tp_image::{Image, ImageFault, read_image, upgrade, write_image};
 use tp_link::{LinkDevice, Medium, OwnedWire, Wire};
@@ -73,6 +75,7 @@ fn images(alloc: Global, tally: &mut Tally) {
         Ok(image) => {
             tally.add(same_if(is_read(&image)));
             tally.add(written(alloc, &image));
+            tally.add(collected(alloc, &image));
             tally.add(match upgrade(alloc, &image) {
                 Ok(same) => same_if(is_read(&same)),
                 Err(ImageFault::Memory) => Answer::Memory,
@@ -98,6 +101,15 @@ fn written(alloc: Global, image: &Image) -> Answer {
         Ok(bytes) => same_if(bytes.as_slice() == IMAGE),
         Err(ImageFault::Memory) => Answer::Memory,
         Err(_) => Answer::Other,
+    }
+}
+
+/// Making a collector, of packets whose bytes it does not look at.
+fn collected(alloc: Global, image: &Image) -> Answer {
+    let packets = [ArrayVec::new(), ArrayVec::new(), ArrayVec::new()];
+    match Collector::new(alloc, 7, image, &packets) {
+        Ok(collector) => same_if(collector.finish().entries.len() == 3),
+        Err(_) => Answer::Memory,
     }
 }
 
