@@ -17,6 +17,11 @@ pub enum Link {
 }
 
 impl fmt::Display for Link {
+    ghost use Rattle.std.specs.Prelude.{Some};
+    ghost use Rattle.tp_link.specs.Links.{link_text};
+
+    ghost output = { λ link. Some (link_text link) };
+
     fn fmt<W: fmt::Write>(&self, f: &mut fmt::Formatter<W>) -> fmt::Result {
         f.write_str(match self {
             Link::Source => "source",
