@@ -26,7 +26,7 @@ all_along P Q [] f all = tt
 all_along P Q (x ∷ xs) f all = (f x all.0, all_along P Q xs f all.1)
 
 -- more pass a test that is implied
-count_implied : {X : Type 0} (p q : X → Bool) (xs : List X) → AllByRecursion (λ x. p x ≡ true → q x ≡ true) xs → count_by p xs ≤ count_by q xs
+pub count_implied : {X : Type 0} (p q : X → Bool) (xs : List X) → AllByRecursion (λ x. p x ≡ true → q x ≡ true) xs → count_by p xs ≤ count_by q xs
 count_implied p q [] all = omega arith
 count_implied {X} p q (x ∷ xs) all =
     omega (arith, count_implied p q xs all.1, sum_by-cons (λ y. cond {A = ℕ} (p y) 1 0) x xs, sum_by-cons (λ y. cond {A = ℕ} (q y) 1 0) x xs, by_test (p x) (q x) all.0)
@@ -52,6 +52,14 @@ count_others {X} p xs k d lt =
     at_most : (b : Bool) → cond {A = ℕ} b 1 0 ≤ 1
     at_most true = omega arith
     at_most false = omega arith
+
+-- with it, one more passes
+pub count_all : {X : Type 0} (p : X → Bool) (xs : List X) (k : ℕ) (d : X) → k < length xs → p (get_or xs k d) ≡ true → count_by p xs ≡ count_by p (take k xs ++ drop (k + 1) xs) + 1
+count_all {X} p xs k d lt is =
+    omega (arith, sum_by-take-drop one xs k, sum_by-drop_more one xs k d lt, sum_by-append one (take k xs) (drop (k + 1) xs), ap {B = ℕ} (λ b. cond b 1 0) is)
+  where
+    one : X → ℕ
+    one y = cond (p y) 1 0
 
 -- ---- the innermost loop
 

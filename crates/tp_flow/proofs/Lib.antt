@@ -10,3 +10,4 @@ pub mod FlowAround
 pub mod LoopMoves
 pub mod RowNumbers
 pub mod Alike
+pub mod FlowExact

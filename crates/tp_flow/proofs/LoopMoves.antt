@@ -124,6 +124,10 @@ module _ (rows : List LoopRow) (workspace : ℕ) (cuts : List Cut) (kept : Keeps
       let there = ap (cut_at cuts) (ap (λ r. r.lend) row.2) ∙ stands in
       is_lend_of cut.instr (ap is_lend_cut (sym there) ∙ row.3.lend)
 
+  -- the instruction at a loop's lend
+  pub lend_stands : (range : LoopRange) (cut : Cut) → Contains (ranges rows) range → cut_at cuts range.lend ≡ Some cut → cut.instr ≡ Lend
+  lend_stands range cut (k, lt, at_k) stands = lend_there k range cut (slice_get-get_or (ranges rows) k range lt ∙ ap Some at_k) stands
+
   own_head : (l k : ℕ) (range other : LoopRange) → slice_get nest l ≡ Some range → slice_get nest k ≡ Some other → range.head ≡ other.head → l ≡ k
   own_head l k range other at_l at_k same =
       let row = loop l range at_l in

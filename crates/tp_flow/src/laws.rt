@@ -13,14 +13,16 @@ ghost use Rattle.tp_image.specs.declared.image.LoopRow.{LoopRow};
 ghost use Rattle.tp_flow.specs.NestAround.{loops_around, IsOutermostFirst};
 ghost use Rattle.std.specs.List.{AllByRecursion};
 
-/// Where no rule of flow is broken, the loops are a nest in the code and its edges keep to them: heads and lends are
-/// each loop's own, of two loops that overlap one lies within the other, no address lies in more than four; each edge
-/// goes to an instruction, all but Back go forward; edges enter loops at their heads alone and leave them from their
-/// lends alone.
-#[tactic(auto, using(crate::proofs::FlowKept::nest_kept))]
+/// No rule of flow is broken exactly where the loops are a nest in the code and its edges keep to them: heads and lends
+/// are each loop's own, of two loops that overlap one lies within the other, no address lies in more than four; each
+/// edge goes to an instruction, all but Back go forward; edges enter loops at their heads alone and leave them from
+/// their lends alone.
+#[tactic(auto, using(crate::proofs::FlowKept::nest_kept, crate::proofs::FlowExact::nest_passes))]
 pub fn edges_keep_the_nest()
-    ensures { (image : ImageValue) (cuts : List Cut) → IsCutting image.code cuts →
+    ensures kept { (image : ImageValue) (cuts : List Cut) → IsCutting image.code cuts →
         first_flow_fault image cuts ≡ None → KeepsNest image.loops image.workspace cuts }
+    ensures exact { (image : ImageValue) (cuts : List Cut) → IsCutting image.code cuts →
+        KeepsNest image.loops image.workspace cuts → first_flow_fault image cuts ≡ None }
 {}
 
 /// In such a nest, the loops around the target of each edge are those around its source, without the one that the edge

@@ -248,6 +248,29 @@ fn answers_of_a_nest(rt: HostRuntime) -> Result<(), Fail> {
 }
 
 #[test]
+fn tells_loops_by_number(rt: HostRuntime) -> Result<(), Fail> {
+    // Loop 0 from 2 to 4 lies in loop 1 from 1 to 7.
+    let rows = [(2, 4, 10, 10, 0), (1, 7, 12, 10, 0)];
+    let bytes = image_bytes(rt.alloc(), &rows, TWO_LENDS)?;
+    let nest = judged(&rt, bytes.as_slice()).map_err(|_| "a nest")?;
+    let around: [(usize, &[usize]); 5] = [(0, &[]), (1, &[1]), (3, &[0, 1]), (6, &[1]), (9, &[])];
+    for (at, rows) in around {
+        assert_eq!(rt; nest.around(at).as_slice(), rows, "at {at}");
+    }
+    assert_eq!(rt;
+        (nest.entered(0, 1), nest.entered(1, 2)),
+        (Some(1), Some(0))
+    );
+    assert_eq!(rt; (nest.entered(4, 2), nest.entered(2, 3)), (None, None));
+    assert_eq!(rt; nest.range(1), Some(LoopRange { head: 1, lend: 7 }));
+    assert_eq!(rt; nest.range(2), None);
+    assert_eq!(rt; edges(Instr::Cj(0)), [Edge::Next, Edge::Taken].as_slice());
+    assert_eq!(rt; edges(Instr::Lend), [Edge::Back, Edge::Out].as_slice());
+    assert_eq!(rt; edges(Instr::Stopp).len(), 0);
+    Ok(())
+}
+
+#[test]
 fn prints_a_fault(rt: HostRuntime) -> Result<(), Fail> {
     let fault = judged(&rt, JUMPS_OUT_OF_LOOP).err().ok_or("a fault")?;
     assert_eq!(rt; format!(in rt.alloc(); "{fault}")?.as_str(), "J4 at 14");
