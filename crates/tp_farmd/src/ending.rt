@@ -1,9 +1,5 @@
 //! Why the program ends before the end of its input.
 
-ghost use Rattle.std.specs.Prelude.{◌≡◌};
-
-use std::io::Write;
-use std::process::ExitCode;
 use thiserror::Error;
 use tp_session::ServeFault;
 

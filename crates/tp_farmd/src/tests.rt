@@ -5,8 +5,7 @@ use crate::program::run;
 use std::env::{Env, FillError};
 use std::io;
 use std::io::{ErrorKind, Read, Write};
-use std::process::{Abort, ExitCode};
-use std::sync::Wait;
+use std::process::ExitCode;
 use std::test::Fail;
 use tp_session::ServeFault;
 

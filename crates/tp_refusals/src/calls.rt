@@ -5,6 +5,7 @@ use crate::page::Page;
 use arrayvec::ArrayVec;
 use std::alloc::Global;
 use std::sync::Wait;
+use tp_board::{Board, BoardFault, Core, Event, Reply};
 use tp_collect::Collector;
 use tp_decode::{DecodeFault, Instr, Listing, decode};
 use tp_image::{Image, ImageFault, read_image, upgrade, write_image};
@@ -18,6 +19,8 @@ pub fn all(rt: &impl Wait, alloc: Global) -> Tally {
     listings(alloc, &mut tally);
     images(alloc, &mut tally);
     devices(alloc, &mut tally);
+    core(alloc, &mut tally);
+    tally.add(board(alloc));
     tally
 }
 
@@ -126,4 +129,40 @@ fn devices(alloc: Global, tally: &mut Tally) {
         Ok((wire, place)) => same_if(wire.held() == 16 && place.get().is_none()),
         Err(_) => Answer::Memory,
     });
+}
+
+/// A farm core, and events on it.
+fn core(alloc: Global, tally: &mut Tally) {
+    let Ok(mut core) = Core::new(alloc, 2, 2) else {
+        tally.add(Answer::Memory);
+        return;
+    };
+    let events = [
+        (0, Event::Claim),
+        (1, Event::Claim),
+        (0, Event::Finish),
+        (1, Event::Abandon),
+    ];
+    let wanted = [
+        Reply::Number(0),
+        Reply::Number(1),
+        Reply::Number(0),
+        Reply::Number(1),
+    ];
+    tally.add(match core.play(alloc, &events) {
+        Ok(replies) => same_if(replies.as_slice() == wanted.as_slice()),
+        Err(_) => Answer::Memory,
+    });
+}
+
+/// A board, closed as it is.
+fn board(alloc: Global) -> Answer {
+    match Board::new(alloc, 4, 2) {
+        Ok((board, seats)) => match board.close(seats) {
+            Ok(ledger) => same_if(ledger.drawn == 0 && ledger.in_hand == 0),
+            Err(_) => Answer::Other,
+        },
+        Err(BoardFault::Memory) => Answer::Memory,
+        Err(_) => Answer::Other,
+    }
 }
