@@ -3,14 +3,15 @@ use Rattle.std.proofs.Common.{◌≤◌, zero, suc, ◌≡◌, ℕ, ◌+◌, nat
 use Rattle.std.proofs.lemmas.Bool.{ltb-true, lt-ltb}
 use mathlib.Core.Option.{some, some-ne-none, some-injective}
 use lib.ListN.{get_elem?}
-use Rattle.tp_board.specs.Boards.{SeatView}
 use Rattle.tp_board.specs.Counting.{times, once_below}
-use Rattle.tp_board.specs.Ledgers.{views_of, join_of_all, Balances}
-use Rattle.tp_board.specs.Rule.{words_of, size, total}
-use Rattle.tp_board.specs.Views.{join_of}
+use Rattle.tp_board.specs.Words.{words_of, size}
+use Rattle.tp_board.specs.Views.{all_finished, all_abandoned, all_in_hand, join_of}
+use Rattle.tp_board.specs.Rule.{total}
+use Rattle.tp_board.specs.Boards.{SeatView, views_of}
+use Rattle.tp_board.specs.Ledgers.{join_of_all, Balances}
 use Rattle.tp_board.proofs.Counting.{times-append}
 use Rattle.tp_board.proofs.Steps.{Whole}
-use Rattle.tp_board.proofs.Totals.{total_snoc}
+use Rattle.tp_board.proofs.Totals.{total_snoc, times_gathered, length_gathered}
 use Rattle.tp_board.specs.declared.view.Counters.{Counters}
 use Rattle.tp_board.specs.declared.view.View.{View}
 use Rattle.tp_board.specs.declared.answer.Ledger.{Ledger}
@@ -49,16 +50,30 @@ pub accounts : (packets members : ℕ) (w : Counters) (v : View) (us : List View
     → l.drawn ≡ min w.claimed packets → l.done ≡ w.done → l.lost ≡ w.lost → l.drawn ≡ w.done + w.lost + l.in_hand → l.stopped ≡ nat_lt 0 w.stop → Balances packets (us ++ v ∷ []) l
 accounts packets members w v us l h drawn done lost rest stopped =
     let sum = λ (f : View → ℕ) (more : (v u : View) → f (join_of v u) ≡ f v + f u). total_folded f more v us in
-    let stops = sum (λ v. v.stops) (λ v u. refl) in
+    let all = us ++ v ∷ [] in
+    let callers = sum (λ v. v.stop_callers) (λ v u. refl) in
     let was = h.stop in record {
-      each_once = (λ x. sym (sum (λ v. times x v.drawn) (λ v u. times-append x v.drawn u.drawn)) ∙ h.each_once x ∙ ap (once_below x) (sym drawn));
-      drawn = drawn ∙ sym h.drawn ∙ sum (λ v. length v.drawn) (λ v u. length-append v.drawn u.drawn);
-      done = done ∙ h.done ∙ sum (λ v. length v.finished) (λ v u. length-append v.finished u.finished);
-      lost = lost ∙ h.lost ∙ sum (λ v. length v.abandoned) (λ v u. length-append v.abandoned u.abandoned);
-      in_hand = (let a = sum (λ v. length v.hand) (λ v u. length-append v.hand u.hand) in let b = h.fits.counted in let c = h.drawn in let d = h.done in let e = h.lost in omega arith);
+      drew = (λ x. times_gathered (λ v. v.drawn) x all ∙ sym (sum (λ v. times x v.drawn) (λ v u. times-append x v.drawn u.drawn)) ∙ h.each_once x ∙ ap (once_below x) (sym drawn));
+      went = (λ x.
+          let kinds = times-append x (all_finished all ++ all_abandoned all) (all_in_hand all) in
+          let others = times-append x (all_finished all) (all_abandoned all) in
+          let finished = times_gathered (λ v. v.finished) x all in
+          let abandoned = times_gathered (λ v. v.abandoned) x all in
+          let held = times_gathered (λ v. v.hand) x all in
+          let a = sum (λ v. times x v.finished) (λ v u. times-append x v.finished u.finished) in
+          let b = sum (λ v. times x v.abandoned) (λ v u. times-append x v.abandoned u.abandoned) in
+          let c = sum (λ v. times x v.hand) (λ v u. times-append x v.hand u.hand) in
+          let split = h.fits.each_once x in
+          let every = h.each_once x in
+          let same : once_below x l.drawn ≡ once_below x (min w.claimed packets) = ap (once_below x) drawn in
+          omega arith);
+      drawn = drawn ∙ sym h.drawn ∙ sum (λ v. length v.drawn) (λ v u. length-append v.drawn u.drawn) ∙ sym (length_gathered (λ v. v.drawn) all);
+      done = done ∙ h.done ∙ sum (λ v. length v.finished) (λ v u. length-append v.finished u.finished) ∙ sym (length_gathered (λ v. v.finished) all);
+      lost = lost ∙ h.lost ∙ sum (λ v. length v.abandoned) (λ v u. length-append v.abandoned u.abandoned) ∙ sym (length_gathered (λ v. v.abandoned) all);
+      in_hand = (let g = length_gathered (λ v. v.hand) all in let a = sum (λ v. length v.hand) (λ v u. length-append v.hand u.hand) in let b = h.fits.counted in let c = h.drawn in let d = h.done in let e = h.lost in omega arith);
       all = (omega arith);
       within = (omega arith);
       stopped = ((λ t. let a = ltb-true 0 w.stop (sym stopped ∙ t) in omega arith), (λ t. stopped ∙ lt-ltb 0 w.stop (omega arith)));
       ended = (λ some_end. let a = sum (λ v. v.ended) (λ v u. refl) in let b = h.ended in omega arith);
-      told = (λ j u at seen. let a = seen_folded v us j u at in let b = h.fits.seen.stop in stopped ∙ lt-ltb 0 w.stop (omega arith));
+      stop_seen = (λ j u at seen. let a = seen_folded v us j u at in let b = h.fits.seen.stop in stopped ∙ lt-ltb 0 w.stop (omega arith));
     }

@@ -15,3 +15,6 @@ once_more x n = ⊎_elim
     (λ (l : n ≤ x). let l' : n < x = omega (arith, e) in rw (le-ltb x (n + 1) (omega arith), le-ltb x n l, ne_eqb n x e) refl)
     (cases_lt x n))
     (cases_eq n x)
+
+pub none_below : (x : ℕ) → once_below x 0 ≡ 0
+none_below x = rw (le-ltb x 0 (omega arith)) refl

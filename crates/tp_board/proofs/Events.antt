@@ -1,20 +1,22 @@
 -- Each kind of step of the board is one event of the farm.
-use Rattle.std.proofs.Common.{All, replicate, ◌≡◌, ℕ, zero, suc, ◌+◌, ◌<◌, ◌≤◌, ltb, min, nat_eq, bit_or, Bool, true, false, List, [], ◌∷◌, ◌++◌, length, map, set, get_or, Option, Some, None, sym, refl, ap, ◌∙◌, subst, ⊎_elim, arith, length-append}
+use Rattle.std.proofs.Common.{All, ◌≡◌, ℕ, zero, suc, ◌+◌, ◌<◌, ◌≤◌, ltb, min, nat_eq, bit_or, Bool, true, false, List, [], ◌∷◌, ◌++◌, length, map, set, get_or, Option, Some, None, sym, refl, ap, ◌∙◌, subst, ⊎_elim, arith}
 use Rattle.std.specs.Prelude.{slice_index, slice_set, if◌then◌else◌}
 use Rattle.std.proofs.lemmas.Bool.{lt-ltb, le-ltb, cases_lt}
 use Rattle.std.proofs.lemmas.List.Elements.{All-head, All-tail}
 use mathlib.Core.Option.{some, some-ne-none, some-injective}
 use lib.ListN.{get_elem?}
-use Rattle.tp_board.specs.Boards.{answer_for}
 use Rattle.tp_board.specs.Counting.{times, times_in_hands, hand_list}
-use Rattle.tp_board.specs.Farm.{opening_farm, Step, farm, step, claim_step, finish_step, abandon_step, hand_of}
-use Rattle.tp_board.specs.Laws.{OpeningLaw, AccountsLaw, one_more, word_of, first_of, all_finished, all_abandoned, farm_of, IsSame, claim_reply, StepLaw, hand_reply}
-use Rattle.tp_board.specs.Rule.{size, words_of, total, Rule}
+use Rattle.tp_board.specs.Farm.{Step, farm, step, claim_step, finish_step, abandon_step, hand_of}
 use Rattle.tp_board.specs.Runs.{Accounts}
-use Rattle.tp_board.specs.Views.{newcomer, counters, with_number, with_end, after_draw, after_finish, after_abandon, after_stop, with_seen, after_look}
+use Rattle.tp_board.specs.Words.{one_more, word_of, place_of, words_of, counters}
+use Rattle.tp_board.specs.Views.{first_of, all_finished, all_abandoned}
+use Rattle.tp_board.specs.Rule.{total, Rule}
+use Rattle.tp_board.specs.Steps.{answer_for, claim_reply, hand_reply, with_number, with_end, after_draw, after_finish, after_abandon, after_stop, with_seen, after_look}
+use Rattle.tp_board.specs.FarmOf.{farm_of, IsSame}
+use Rattle.tp_board.specs.Laws.{AccountsLaw, StepLaw}
 use Rattle.tp_board.proofs.Counting.{times-append}
-use Rattle.tp_board.proofs.Moves.{claim_moves, finish_moves, abandon_moves, stop_moves, look_moves, claimed_small, finished_small, abandoned_small, added, one_or}
-use Rattle.tp_board.proofs.Totals.{total_parts, total_same, total_set}
+use Rattle.tp_board.proofs.Moves.{moves, set_same, word_fresh, claimed_small, finished_small, abandoned_small, added, one_or}
+use Rattle.tp_board.proofs.Totals.{total_parts, length_gathered, times_gathered, gathered_set}
 use Rattle.tp_board.specs.declared.event.Event.TheVariants.{Claim, Finish, Abandon, Stop, Look}
 use Rattle.tp_board.specs.declared.event.Shown.{Shown}
 use Rattle.tp_board.specs.declared.event.Shown.TheVariants as shown
@@ -40,28 +42,6 @@ module _ where
   same_hand (y ∷ ys) zero v u at e = ap (λ h. first_of h ∷ map (λ v. first_of v.hand) ys) (e ∙ ap (λ (y : View). y.hand) (sym (some-injective y v at)))
   same_hand (y ∷ ys) (suc id) v u at e = ap (λ l. first_of y.hand ∷ l) (same_hand ys id v u at e)
 
-  times_finished : (x : ℕ) (views : List View) → times x (all_finished views) ≡ total (λ v. times x v.finished) views
-  times_finished x [] = refl
-  times_finished x (v ∷ vs) = let a = times-append x v.finished (all_finished vs) in let b = times_finished x vs in omega arith
-
-  times_abandoned : (x : ℕ) (views : List View) → times x (all_abandoned views) ≡ total (λ v. times x v.abandoned) views
-  times_abandoned x [] = refl
-  times_abandoned x (v ∷ vs) = let a = times-append x v.abandoned (all_abandoned vs) in let b = times_abandoned x vs in omega arith
-
-  length_finished : (views : List View) → length (all_finished views) ≡ total (λ v. length v.finished) views
-  length_finished [] = refl
-  length_finished (v ∷ vs) = let a = length-append v.finished (all_finished vs) in let b = length_finished vs in omega arith
-
-  length_abandoned : (views : List View) → length (all_abandoned views) ≡ total (λ v. length v.abandoned) views
-  length_abandoned [] = refl
-  length_abandoned (v ∷ vs) = let a = length-append v.abandoned (all_abandoned vs) in let b = length_abandoned vs in omega arith
-
-  finished_set : (x : ℕ) (views : List View) (id : ℕ) (v u : View) → get_elem? views id ≡ some v → times x (all_finished (set views id u)) + times x v.finished ≡ times x (all_finished views) + times x u.finished
-  finished_set x views id v u at = let a = times_finished x views in let b = times_finished x (set views id u) in let c = total_set (λ v. times x v.finished) views id v u at in omega arith
-
-  abandoned_set : (x : ℕ) (views : List View) (id : ℕ) (v u : View) → get_elem? views id ≡ some v → times x (all_abandoned (set views id u)) + times x v.abandoned ≡ times x (all_abandoned views) + times x u.abandoned
-  abandoned_set x views id v u at = let a = times_abandoned x views in let b = times_abandoned x (set views id u) in let c = total_set (λ v. times x v.abandoned) views id v u at in omega arith
-
 draw_below : (p : ℕ) (w : Counters) (views : List View) (id : ℕ) (v : View) → get_elem? views id ≡ some v → v.hand ≡ [] → w.claimed < p
     → let s = farm p (min w.claimed p) (map (λ v. first_of v.hand) views) (all_finished views) (all_abandoned views) (nat_eq w.stop 1) in
     let t = farm p (min (w.claimed + 1) p) (map (λ v. first_of v.hand) (set views id (with_number v w.claimed))) (all_finished (set views id (with_number v w.claimed))) (all_abandoned (set views id (with_number v w.claimed))) (nat_eq w.stop 1) in
@@ -84,8 +64,8 @@ draw_below p w views id v at none below =
         packets = refl;
         drawn = (omega arith);
         hands = hands_set views id u ∙ ap (λ h. set hs id (first_of h)) (ap (λ l. l ++ w.claimed ∷ []) none) ∙ ap (λ n. set hs id (Some n)) (sym was);
-        done = (λ x. let a = finished_set x views id v u at in omega arith);
-        lost = (λ x. let a = abandoned_set x views id v u at in omega arith);
+        done = (λ x. let a = gathered_set (λ v. v.finished) x views id v u at in omega arith);
+        lost = (λ x. let a = gathered_set (λ v. v.abandoned) x views id v u at in omega arith);
         stop = refl;
       },
       ap (λ n. Number n) was,
@@ -111,30 +91,29 @@ draw_above p w views id v at none above =
         packets = refl;
         drawn = (omega arith);
         hands = same_hand views id v u at refl;
-        done = (λ x. let a = finished_set x views id v u at in omega arith);
-        lost = (λ x. let a = abandoned_set x views id v u at in omega arith);
+        done = (λ x. let a = gathered_set (λ v. v.finished) x views id v u at in omega arith);
+        lost = (λ x. let a = gathered_set (λ v. v.abandoned) x views id v u at in omega arith);
         stop = refl;
       },
       refl,
     ))
 
 pub claim_law : StepLaw Claim
-claim_law k words views id v (h, at, one) (none, going) =
+claim_law k words views id v (h, at, one) may =
     let w = h.0 in
     let packets : v.packets ≡ k.packets = (h.2.fits id v at).packets (omega arith) in
-    let moved = claim_moves k words views id v h at none going one in
     let next : slice_set (words_of w) 0 (one_more w.claimed) ≡ words_of (counters (w.claimed + 1) w.done w.lost w.stop) =
     ap (λ n. n ∷ w.done ∷ w.lost ∷ w.stop ∷ []) (added w.claimed (claimed_small k w views h.2)) in
-    let Told : List ℕ → List ℕ → ℕ → View → Reply → Type 0 = λ ws ws' p u r. IsSame (farm_of k ws' (slice_set views id u)) (step (farm_of k ws views) id Claim).1 × ((step (farm_of k ws views) id Claim).0 ≡ r) in
-    let Goal : List ℕ → Type 0 = λ ws. Told ws (slice_set ws 0 (one_more (slice_index ws 0))) k.packets (after_draw v (slice_index ws 0)) (claim_reply k.packets (slice_index ws 0)) in
-    let Next : List ℕ → Type 0 = λ ws. Told (words_of w) ws k.packets (after_draw v w.claimed) (claim_reply k.packets w.claimed) in
-    let Case : ℕ → Type 0 = λ p. Told (words_of w) (words_of (counters (w.claimed + 1) w.done w.lost w.stop)) k.packets (if ltb w.claimed p then with_number v w.claimed else with_end v) (if ltb w.claimed k.packets then Number w.claimed else NoMore) in
-    let Branch : Bool → Type 0 = λ b. Told (words_of w) (words_of (counters (w.claimed + 1) w.done w.lost w.stop)) k.packets (if b then with_number v w.claimed else with_end v) (if b then Number w.claimed else NoMore) in
+    let Told : List ℕ → List ℕ → View → Reply → Type 0 = λ ws ws' u r. IsSame (farm_of k ws' (slice_set views id u)) (step (farm_of k ws views) id Claim).1 × ((step (farm_of k ws views) id Claim).0 ≡ r) in
+    let Goal : List ℕ → Type 0 = λ ws. Told ws (slice_set ws 0 (one_more (slice_index ws 0))) (after_draw v (slice_index ws 0)) (claim_reply v.packets (slice_index ws 0)) in
+    let Next : List ℕ → Type 0 = λ ws. Told (words_of w) ws (after_draw v w.claimed) (claim_reply v.packets w.claimed) in
+    let Branch : Bool → Type 0 = λ b. Told (words_of w) (words_of (counters (w.claimed + 1) w.done w.lost w.stop)) (if b then with_number v w.claimed else with_end v) (if b then Number w.claimed else NoMore) in
+    let Case : ℕ → Type 0 = λ p. Branch (ltb w.claimed p) in
     let told = subst Goal (sym h.1) (subst Next (sym next) (subst Case (sym packets) (⊎_elim
-    (λ (below : w.claimed < k.packets). subst Branch (sym (lt-ltb w.claimed k.packets below)) (draw_below k.packets w views id v at none below))
-    (λ (above : k.packets ≤ w.claimed). subst Branch (sym (le-ltb w.claimed k.packets above)) (draw_above k.packets w views id v at none above))
+    (λ (below : w.claimed < k.packets). subst Branch (sym (lt-ltb w.claimed k.packets below)) (draw_below k.packets w views id v at may.0 below))
+    (λ (above : k.packets ≤ w.claimed). subst Branch (sym (le-ltb w.claimed k.packets above)) (draw_above k.packets w views id v at may.0 above))
     (cases_lt w.claimed k.packets)))) in
-    record { rule = moved; farm = told.0; answered = told.1 }
+    (word_fresh k words views id v h at shown.Claimed one, record { rule = moves k words views id v h at Claim may one; farm = told.0; answered = told.1 })
 
 pub finish_law : StepLaw Finish
 finish_law k words views id v (h, at, one) (n, full) =
@@ -156,13 +135,13 @@ finish_law k words views id v (h, at, one) (n, full) =
         packets = refl;
         drawn = refl;
         hands = hands_set views id u;
-        done = (λ x. let a = finished_set x views id v u at in let b = times-append x v.finished v.hand in let c = times-append x (all_finished views) (n ∷ []) in let d = ap (times x) full in omega arith);
-        lost = (λ x. let a = abandoned_set x views id v u at in omega arith);
+        done = (λ x. let a = gathered_set (λ v. v.finished) x views id v u at in let b = times-append x v.finished v.hand in let c = times-append x (all_finished views) (n ∷ []) in let d = ap (times x) full in omega arith);
+        lost = (λ x. let a = gathered_set (λ v. v.abandoned) x views id v u at in omega arith);
         stop = refl;
       },
       refl,
     ))) in
-    record { rule = finish_moves k words views id v h at (ap length full); farm = told.0; answered = told.1 ∙ ap hand_reply (sym full) }
+    (word_fresh k words views id v h at shown.Done one, record { rule = moves k words views id v h at Finish (n, full) one; farm = told.0; answered = told.1 ∙ ap hand_reply (sym full) })
 
 pub abandon_law : StepLaw Abandon
 abandon_law k words views id v (h, at, one) (n, full) =
@@ -184,21 +163,21 @@ abandon_law k words views id v (h, at, one) (n, full) =
         packets = refl;
         drawn = refl;
         hands = hands_set views id u;
-        done = (λ x. let a = finished_set x views id v u at in omega arith);
-        lost = (λ x. let a = abandoned_set x views id v u at in let b = times-append x v.abandoned v.hand in let c = times-append x (all_abandoned views) (n ∷ []) in let d = ap (times x) full in omega arith);
+        done = (λ x. let a = gathered_set (λ v. v.finished) x views id v u at in omega arith);
+        lost = (λ x. let a = gathered_set (λ v. v.abandoned) x views id v u at in let b = times-append x v.abandoned v.hand in let c = times-append x (all_abandoned views) (n ∷ []) in let d = ap (times x) full in omega arith);
         stop = refl;
       },
       refl,
     ))) in
-    record { rule = abandon_moves k words views id v h at (ap length full); farm = told.0; answered = told.1 ∙ ap hand_reply (sym full) }
+    (word_fresh k words views id v h at shown.Lost one, record { rule = moves k words views id v h at Abandon (n, full) one; farm = told.0; answered = told.1 ∙ ap hand_reply (sym full) })
 
 pub stop_law : StepLaw Stop
-stop_law k words views id v (h, at, one) _ =
+stop_law k words views id v (h, at, one) may =
     let w = h.0 in
     let r = h.2 in
     let u = after_stop v in
     let next : slice_set (words_of w) 3 (bit_or w.stop 1) ≡ words_of (counters w.claimed w.done w.lost 1) =
-    ap (λ n. w.claimed ∷ w.done ∷ w.lost ∷ n ∷ []) (ap (λ n. bit_or n 1) r.stop ∙ one_or (total (λ v. v.stops) views)) in
+    ap (λ n. w.claimed ∷ w.done ∷ w.lost ∷ n ∷ []) (ap (λ n. bit_or n 1) r.stop ∙ one_or (total (λ v. v.stop_callers) views)) in
     let Goal : List ℕ → Type 0 = λ ws. IsSame (farm_of k (slice_set ws 3 (bit_or (slice_index ws 3) 1)) (slice_set views id u)) (step (farm_of k ws views) id Stop).1 × ((step (farm_of k ws views) id Stop).0 ≡ Made) in
     let Next : List ℕ → Type 0 = λ ws. IsSame (farm_of k ws (slice_set views id u)) (step (farm_of k (words_of w) views) id Stop).1 × ((step (farm_of k (words_of w) views) id Stop).0 ≡ Made) in
     let told = subst Goal (sym h.1) (subst Next (sym next) (
@@ -206,13 +185,13 @@ stop_law k words views id v (h, at, one) _ =
         packets = refl;
         drawn = refl;
         hands = same_hand views id v u at refl;
-        done = (λ x. let a = finished_set x views id v u at in omega arith);
-        lost = (λ x. let a = abandoned_set x views id v u at in omega arith);
+        done = (λ x. let a = gathered_set (λ v. v.finished) x views id v u at in omega arith);
+        lost = (λ x. let a = gathered_set (λ v. v.abandoned) x views id v u at in omega arith);
         stop = refl;
       },
       refl,
     )) in
-    record { rule = stop_moves k words views id v h at one; farm = told.0; answered = told.1 }
+    (word_fresh k words views id v h at shown.Stop one, record { rule = moves k words views id v h at Stop may one; farm = told.0; answered = told.1 })
 
 -- a look changes what the seat has seen, and nothing of the farm
 unchanged : (k : Size) (w : Counters) (views : List View) (id : ℕ) (v : View) (s : Counters) → get_elem? views id ≡ some v → IsSame (farm_of k (words_of w) (set views id (with_seen v s))) (farm_of k (words_of w) views)
@@ -221,8 +200,8 @@ unchanged k w views id v s at =
       packets = refl;
       drawn = refl;
       hands = same_hand views id v u at refl;
-      done = (λ x. let a = finished_set x views id v u at in omega arith);
-      lost = (λ x. let a = abandoned_set x views id v u at in omega arith);
+      done = (λ x. let a = gathered_set (λ v. v.finished) x views id v u at in omega arith);
+      lost = (λ x. let a = gathered_set (λ v. v.abandoned) x views id v u at in omega arith);
       stop = refl;
     }
 
@@ -235,43 +214,23 @@ look_at : (k : Size) (w : Counters) (views : List View) (id : ℕ) (v : View) (w
     let n = word_of what (words_of w) in
     IsSame (farm_of k (words_of w) (slice_set views id (after_look v what n))) (step s id (Look what)).1 × ((step s id (Look what)).0 ≡ Value (answer_for what k.packets n))
 look_at k w views id v shown.Claimed r at = (unchanged k w views id v (counters w.claimed v.seen.done v.seen.lost v.seen.stop) at, refl)
-look_at k w views id v shown.Done r at = (unchanged k w views id v (counters v.seen.claimed w.done v.seen.lost v.seen.stop) at, ap (λ n. Value n) (length_finished views ∙ sym r.done))
-look_at k w views id v shown.Lost r at = (unchanged k w views id v (counters v.seen.claimed v.seen.done w.lost v.seen.stop) at, ap (λ n. Value n) (length_abandoned views ∙ sym r.lost))
-look_at k w views id v shown.Stop r at = (unchanged k w views id v (counters v.seen.claimed v.seen.done v.seen.lost w.stop) at, ap (λ n. Value n) (ap (λ n. if nat_eq n 1 then 1 else 0) r.stop ∙ stop_shown (total (λ v. v.stops) views) ∙ sym r.stop))
+look_at k w views id v shown.Done r at = (unchanged k w views id v (counters v.seen.claimed w.done v.seen.lost v.seen.stop) at, ap (λ n. Value n) (length_gathered (λ v. v.finished) views ∙ sym r.done))
+look_at k w views id v shown.Lost r at = (unchanged k w views id v (counters v.seen.claimed v.seen.done w.lost v.seen.stop) at, ap (λ n. Value n) (length_gathered (λ v. v.abandoned) views ∙ sym r.lost))
+look_at k w views id v shown.Stop r at = (unchanged k w views id v (counters v.seen.claimed v.seen.done v.seen.lost w.stop) at, ap (λ n. Value n) (ap (λ n. if nat_eq n 1 then 1 else 0) r.stop ∙ stop_shown (total (λ v. v.stop_callers) views) ∙ sym r.stop))
 
 pub look_law : (what : Shown) → StepLaw (Look what)
-look_law what k words views id v (h, at, one) _ =
+look_law what k words views id v (h, at, one) may =
+    let packets : v.packets ≡ k.packets = (h.2.fits id v at).packets (omega arith) in
+    let u = after_look v what (word_of what words) in
     let Goal : List ℕ → Type 0 = λ ws. IsSame (farm_of k ws (slice_set views id (after_look v what (word_of what ws)))) (step (farm_of k ws views) id (Look what)).1 × ((step (farm_of k ws views) id (Look what)).0 ≡ Value (answer_for what k.packets (word_of what ws))) in
-    let told = subst Goal (sym h.1) (look_at k h.0 views id v what h.2 at) in
-    record { rule = look_moves k words views id v h at what; farm = told.0; answered = told.1 }
-
--- ---- the opening
-no_hands : (v : View) (n : ℕ) → first_of v.hand ≡ None → map (λ u. first_of u.hand) (replicate n v) ≡ replicate n None
-no_hands v zero e = refl
-no_hands v (suc n) e = ap (λ h. h ∷ map (λ u. first_of u.hand) (replicate n v)) e ∙ ap (λ l. None ∷ l) (no_hands v n e)
-
-none_finished : (v : View) (n : ℕ) → v.finished ≡ [] → all_finished (replicate n v) ≡ []
-none_finished v zero e = refl
-none_finished v (suc n) e = ap (λ l. l ++ all_finished (replicate n v)) e ∙ none_finished v n e
-
-none_abandoned : (v : View) (n : ℕ) → v.abandoned ≡ [] → all_abandoned (replicate n v) ≡ []
-none_abandoned v zero e = refl
-none_abandoned v (suc n) e = ap (λ l. l ++ all_abandoned (replicate n v)) e ∙ none_abandoned v n e
-
-pub opening_law : OpeningLaw
-opening_law p m words h =
-    let w = h.0 in
-    let r = h.2 in
-    let v = newcomer p 1 in
-    let views = replicate m v in
-    let drawn : min w.claimed p ≡ 0 = sym r.drawn ∙ total_same (λ u. length u.drawn) v m refl in
-    let clear : w.stop ≡ 0 = r.stop ∙ ap (min 1) (total_same (λ u. u.stops) v m refl) in
-    subst (λ ws. farm_of (size p m) ws views ≡ opening_farm p m) (sym h.1)
-    (ap (λ n. farm p n (map (λ u. first_of u.hand) views) (all_finished views) (all_abandoned views) (nat_eq w.stop 1)) drawn
-    ∙ ap (λ hs. farm p 0 hs (all_finished views) (all_abandoned views) (nat_eq w.stop 1)) (no_hands v m refl)
-    ∙ ap (λ l. farm p 0 (replicate m None) l (all_abandoned views) (nat_eq w.stop 1)) (none_finished v m refl)
-    ∙ ap (λ l. farm p 0 (replicate m None) [] l (nat_eq w.stop 1)) (none_abandoned v m refl)
-    ∙ ap (λ n. farm p 0 (replicate m None) [] [] (nat_eq n 1)) clear)
+    let told = subst Goal (sym h.1) (look_at k h.0 views id v what h.2 at) in (
+      word_fresh k words views id v h at what one,
+      record {
+        rule = moves k words views id v h at (Look what) may one;
+        farm = subst (λ ws. IsSame (farm_of k ws (slice_set views id u)) (step (farm_of k words views) id (Look what)).1) (sym (set_same (place_of what) words)) told.0;
+        answered = told.1 ∙ ap (λ p. Value (answer_for what p (word_of what words))) (sym packets);
+      },
+    )
 
 -- ---- the accounts
 hand_times : (x : ℕ) (ns : List ℕ) → length ns ≤ 1 → times x (hand_list (first_of ns)) ≡ times x ns
@@ -291,8 +250,8 @@ accounts_law k words views h one =
       within = omega arith;
       each_once = (λ x.
           let a = hands_total x views one in
-          let b = times_finished x views in
-          let c = times_abandoned x views in
+          let b = times_gathered (λ v. v.finished) x views in
+          let c = times_gathered (λ v. v.abandoned) x views in
           let d = total_parts (λ v. times x v.drawn) (λ v. times x v.finished) (λ v. times x v.abandoned) (λ v. times x v.hand) views (λ id v at. (r.fits id v at).each_once x) in
           let e = r.each_once x in omega arith);
     })

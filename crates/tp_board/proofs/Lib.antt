@@ -7,5 +7,6 @@ mod Allowed
 mod Hands
 mod Closing
 mod Events
+mod Opening
 mod Same
 mod Schedule

@@ -8,7 +8,7 @@ use Rattle.tp_board.specs.declared.event.Shown.TheVariants as shown
 use Rattle.tp_board.specs.declared.event.Reply.TheVariants.{Number, NoMore, Value}
 use Rattle.tp_board.specs.Counting.{times}
 use Rattle.tp_board.specs.Farm.{Farm, Step, farm, step, claim_step, finish_step, abandon_step, hand_of, hands_with}
-use Rattle.tp_board.specs.Laws.{IsSame}
+use Rattle.tp_board.specs.FarmOf.{IsSame}
 use Rattle.tp_board.proofs.Counting.{times-append}
 
 -- ---- lists with the same elements have one length

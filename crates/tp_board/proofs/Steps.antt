@@ -5,8 +5,10 @@ use mathlib.Core.Option.{some}
 use lib.ListN.{get_elem?}
 use Rattle.atomic_table.proofs.Lists.{at_set, at_snoc}
 use Rattle.tp_board.specs.Counting.{times, once_below}
+use Rattle.tp_board.specs.Words.{counters}
+use Rattle.tp_board.specs.Views.{newcomer, join_of}
 use Rattle.tp_board.specs.Rule.{AtMost, Fits, Rule}
-use Rattle.tp_board.specs.Views.{counters, newcomer, with_number, with_end, after_draw, after_finish, after_abandon, after_stop, with_seen, join_of}
+use Rattle.tp_board.specs.Steps.{with_number, with_end, after_draw, after_finish, after_abandon, after_stop, with_seen}
 use Rattle.tp_board.proofs.Counting.{times-append, once_more}
 use Rattle.tp_board.proofs.Totals.{total_set, total_snoc, le_total, others_none, all_of, each_set}
 use Rattle.tp_board.specs.declared.view.Counters.{Counters}
@@ -20,7 +22,7 @@ pub record Whole (k : Size) (w : Counters) (v : View) : Type 0 where
   pub ended : v.ended ≡ w.claimed - k.packets
   pub done : w.done ≡ length v.finished
   pub lost : w.lost ≡ length v.abandoned
-  pub stop : w.stop ≡ min 1 v.stops
+  pub stop : w.stop ≡ min 1 v.stop_callers
   pub fits : Fits k w v
 
 wider : (s w u : Counters) → AtMost s w → AtMost w u → AtMost s u
@@ -66,7 +68,7 @@ drew_rule k w views id v none going one r at =
       ended = (let a = total_set (λ v. v.ended) views id v u at in let b = r.ended in omega arith);
       done = (let a = total_set (λ v. length v.finished) views id v u at in let b = r.done in omega arith);
       lost = (let a = total_set (λ v. length v.abandoned) views id v u at in let b = r.lost in omega arith);
-      stop = (let a = total_set (λ v. v.stops) views id v u at in let b = r.stop in omega arith);
+      stop = (let a = total_set (λ v. v.stop_callers) views id v u at in let b = r.stop in omega arith);
       fits = each_set (Fits k w') views id u (grown k w w' u more (given_fits k w v w.claimed none one f)) (λ j y _ e. grown k w w' y more (r.fits j y e));
     })
     (λ t. let above : v.packets ≤ w.claimed = ltb-false w.claimed v.packets t in
@@ -81,7 +83,7 @@ drew_rule k w views id v none going one r at =
       ended = (let a = total_set (λ v. v.ended) views id v u at in let b = r.ended in omega arith);
       done = (let a = total_set (λ v. length v.finished) views id v u at in let b = r.done in omega arith);
       lost = (let a = total_set (λ v. length v.abandoned) views id v u at in let b = r.lost in omega arith);
-      stop = (let a = total_set (λ v. v.stops) views id v u at in let b = r.stop in omega arith);
+      stop = (let a = total_set (λ v. v.stop_callers) views id v u at in let b = r.stop in omega arith);
       fits = each_set (Fits k w') views id u (grown k w w' u more (at_end_fits k w v going one f)) (λ j y _ e. grown k w w' y more (r.fits j y e));
     })
 
@@ -122,7 +124,7 @@ finish_rule k w views id v one r at =
       ended = (let a = total_set (λ v. v.ended) views id v u at in let b = r.ended in omega arith);
       done = (let a = total_set (λ v. length v.finished) views id v u at in let b = r.done in let c = length-append v.finished v.hand in omega arith);
       lost = (let a = total_set (λ v. length v.abandoned) views id v u at in let b = r.lost in omega arith);
-      stop = (let a = total_set (λ v. v.stops) views id v u at in let b = r.stop in omega arith);
+      stop = (let a = total_set (λ v. v.stop_callers) views id v u at in let b = r.stop in omega arith);
       fits = each_set (Fits k w') views id u (grown k w w' u more (finished_fits k w v f)) (λ j y _ e. grown k w w' y more (r.fits j y e));
     }
 
@@ -141,7 +143,7 @@ abandon_rule k w views id v one r at =
       ended = (let a = total_set (λ v. v.ended) views id v u at in let b = r.ended in omega arith);
       done = (let a = total_set (λ v. length v.finished) views id v u at in let b = r.done in omega arith);
       lost = (let a = total_set (λ v. length v.abandoned) views id v u at in let b = r.lost in let c = length-append v.abandoned v.hand in omega arith);
-      stop = (let a = total_set (λ v. v.stops) views id v u at in let b = r.stop in omega arith);
+      stop = (let a = total_set (λ v. v.stop_callers) views id v u at in let b = r.stop in omega arith);
       fits = each_set (Fits k w') views id u (grown k w w' u more (abandoned_fits k w v f)) (λ j y _ e. grown k w w' y more (r.fits j y e));
     }
 
@@ -162,7 +164,7 @@ stop_rule k w views id v one r at =
       ended = (let a = total_set (λ v. v.ended) views id v u at in let b = r.ended in omega arith);
       done = (let a = total_set (λ v. length v.finished) views id v u at in let b = r.done in omega arith);
       lost = (let a = total_set (λ v. length v.abandoned) views id v u at in let b = r.lost in omega arith);
-      stop = (let a = total_set (λ v. v.stops) views id v u at in let b = le_total (λ v. v.stops) views id v at in omega arith);
+      stop = (let a = total_set (λ v. v.stop_callers) views id v u at in let b = le_total (λ v. v.stop_callers) views id v at in omega arith);
       fits = each_set (Fits k w') views id u (grown k w w' u more mine) (λ j y _ e. grown k w w' y more (r.fits j y e));
     }
 
@@ -179,7 +181,7 @@ saw_rule k w views id v s within r at =
       ended = (let a = total_set (λ v. v.ended) views id v u at in let b = r.ended in omega arith);
       done = (let a = total_set (λ v. length v.finished) views id v u at in let b = r.done in omega arith);
       lost = (let a = total_set (λ v. length v.abandoned) views id v u at in let b = r.lost in omega arith);
-      stop = (let a = total_set (λ v. v.stops) views id v u at in let b = r.stop in omega arith);
+      stop = (let a = total_set (λ v. v.stop_callers) views id v u at in let b = r.stop in omega arith);
       fits = each_set (Fits k w) views id u mine (λ j y _ e. r.fits j y e);
     }
 
@@ -208,7 +210,7 @@ split_rule k w views id p m some_part r at =
       ended = (let a = total_set (λ v. v.ended) views id v u at in let b = r.ended in let c = total_snoc (λ v. v.ended) vs n in omega arith);
       done = (let a = total_set (λ v. length v.finished) views id v u at in let b = r.done in let c = total_snoc (λ v. length v.finished) vs n in omega arith);
       lost = (let a = total_set (λ v. length v.abandoned) views id v u at in let b = r.lost in let c = total_snoc (λ v. length v.abandoned) vs n in omega arith);
-      stop = (let a = total_set (λ v. v.stops) views id v u at in let b = r.stop in let c = total_snoc (λ v. v.stops) vs n in omega arith);
+      stop = (let a = total_set (λ v. v.stop_callers) views id v u at in let b = r.stop in let c = total_snoc (λ v. v.stop_callers) vs n in omega arith);
       fits = (λ j y e. ⊎_elim
           (λ was. each_set (Fits k w) views id u (newcomer_fits k w p (m - 1) packets) (λ j y _ e. r.fits j y e) j y was)
           (λ (same : n ≡ y). subst (Fits k w) same (newcomer_fits k w p 1 packets))
@@ -251,7 +253,7 @@ join_rule k w views id v other u some_part r at apart there =
       ended = (let a = sum (λ v. v.ended) in let c = rest (λ v. v.ended) in let d = r.ended in omega arith);
       done = (let a = sum (λ v. length v.finished) in let c = rest (λ v. length v.finished) in let d = r.done in let e = length-append v.finished u.finished in omega arith);
       lost = (let a = sum (λ v. length v.abandoned) in let c = rest (λ v. length v.abandoned) in let d = r.lost in let e = length-append v.abandoned u.abandoned in omega arith);
-      stop = (let a = sum (λ v. v.stops) in let c = rest (λ v. v.stops) in let d = r.stop in omega arith);
+      stop = (let a = sum (λ v. v.stop_callers) in let c = rest (λ v. v.stop_callers) in let d = r.stop in omega arith);
       fits = each_set (Fits k w) vs other s nobody (λ j y _ e. each_set (Fits k w) views id b (joined_fits k w v u some_part (r.fits id v at) (r.fits other u was)) (λ j y _ e. r.fits j y e) j y e);
     }
 
@@ -265,6 +267,6 @@ whole_rule k w views id v every r at =
       ended = (let a = of (λ v. v.ended) (λ u f e. let b = f.ended in omega arith) in let b = r.ended in omega arith);
       done = r.done ∙ of (λ v. length v.finished) (λ u f e. let b : length u.drawn ≡ 0 = ap length (f.idle e).0 in let c = f.counted in omega arith);
       lost = r.lost ∙ of (λ v. length v.abandoned) (λ u f e. let b : length u.drawn ≡ 0 = ap length (f.idle e).0 in let c = f.counted in omega arith);
-      stop = r.stop ∙ ap (λ n. min 1 n) (of (λ v. v.stops) (λ u f e. (f.idle e).1));
+      stop = r.stop ∙ ap (λ n. min 1 n) (of (λ v. v.stop_callers) (λ u f e. (f.idle e).1));
       fits = r.fits id v at;
     }

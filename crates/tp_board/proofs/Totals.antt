@@ -1,9 +1,12 @@
 -- Totals over views, and how often a number stands in a list.
-use Rattle.std.proofs.Common.{replicate, ◌≡◌, ◌≢◌, ℕ, zero, suc, ◌+◌, ◌≤◌, List, [], ◌∷◌, ◌++◌, set, sym, refl, ap, subst, ⊎_elim, arith}
+use Rattle.std.proofs.Common.{replicate, length, ◌≡◌, ◌≢◌, ℕ, zero, suc, ◌+◌, ◌≤◌, List, [], ◌∷◌, ◌++◌, set, sym, refl, ap, ◌∙◌, subst, ⊎_elim, arith, length-append}
 use mathlib.Core.Option.{some, some-ne-none, some-injective}
 use lib.ListN.{get_elem?}
 use Rattle.atomic_table.proofs.Lists.{at_set}
+use Rattle.tp_board.specs.Counting.{times}
+use Rattle.tp_board.specs.Views.{gathered}
 use Rattle.tp_board.specs.Rule.{total}
+use Rattle.tp_board.proofs.Counting.{times-append}
 use Rattle.tp_board.specs.declared.view.View.{View}
 
 pub total_set : (f : View → ℕ) (views : List View) (id : ℕ) (v w : View) → get_elem? views id ≡ some v → total f (set views id w) + f v ≡ total f views + f w
@@ -54,3 +57,28 @@ total_parts f g h i (v ∷ vs) e = let here = e 0 v refl in let ih = total_parts
 pub total_same : (f : View → ℕ) (v : View) (n : ℕ) → f v ≡ 0 → total f (replicate n v) ≡ 0
 total_same f v zero e = refl
 total_same f v (suc n) e = let ih = total_same f v n e in omega arith
+
+pub total_each : (f : View → ℕ) (v : View) (n : ℕ) → f v ≡ 1 → total f (replicate n v) ≡ n
+total_each f v zero e = refl
+total_each f v (suc n) e = let ih = total_each f v n e in omega arith
+
+pub at_replicate : (v u : View) (n id : ℕ) → get_elem? (replicate n v) id ≡ some u → v ≡ u
+at_replicate v u zero id at = absurd (some-ne-none u (sym at))
+at_replicate v u (suc n) zero at = some-injective v u at
+at_replicate v u (suc n) (suc id) at = at_replicate v u n id at
+
+-- ---- what all views have, one after another
+pub times_gathered : (f : View → List ℕ) (x : ℕ) (views : List View) → times x (gathered f views) ≡ total (λ v. times x (f v)) views
+times_gathered f x [] = refl
+times_gathered f x (v ∷ vs) = let a = times-append x (f v) (gathered f vs) in let b = times_gathered f x vs in omega arith
+
+pub length_gathered : (f : View → List ℕ) (views : List View) → length (gathered f views) ≡ total (λ v. length (f v)) views
+length_gathered f [] = refl
+length_gathered f (v ∷ vs) = let a = length-append (f v) (gathered f vs) in let b = length_gathered f vs in omega arith
+
+pub gathered_set : (f : View → List ℕ) (x : ℕ) (views : List View) (id : ℕ) (v u : View) → get_elem? views id ≡ some v → times x (gathered f (set views id u)) + times x (f v) ≡ times x (gathered f views) + times x (f u)
+gathered_set f x views id v u at = let a = times_gathered f x views in let b = times_gathered f x (set views id u) in let c = total_set (λ v. times x (f v)) views id v u at in omega arith
+
+pub none_gathered : (f : View → List ℕ) (v : View) (n : ℕ) → f v ≡ [] → gathered f (replicate n v) ≡ []
+none_gathered f v zero e = refl
+none_gathered f v (suc n) e = ap (λ l. l ++ gathered f (replicate n v)) e ∙ none_gathered f v n e

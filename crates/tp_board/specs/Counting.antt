@@ -1,5 +1,5 @@
 -- How often a number stands in a list, and among what is in hand.
-use Rattle.std.specs.Prelude.{ℕ, ◌+◌, ◌==◌, ltb, List, [], ◌∷◌, Option, Some, None, if◌then◌else◌}
+use Rattle.std.specs.Prelude.{◌≡◌, ℕ, ◌+◌, ◌==◌, ltb, List, [], ◌∷◌, Option, Some, None, if◌then◌else◌}
 
 -- how often x stands in the list
 abbrev pub times : ℕ → List ℕ → ℕ
@@ -9,6 +9,10 @@ times x (y ∷ ys) = (if y == x then 1 else 0) + times x ys
 -- 1 where x is below n, and else 0
 abbrev pub once_below : ℕ → ℕ → ℕ
 once_below x n = if ltb x n then 1 else 0
+
+-- the list has the numbers below n, each once, and nothing else
+abbrev pub AreBelow : List ℕ → ℕ → Type 0
+AreBelow xs n = (x : ℕ) → times x xs ≡ once_below x n
 
 -- what a hand has, as a list of at most one number
 abbrev pub hand_list : Option ℕ → List ℕ

@@ -6,13 +6,7 @@ use Rattle.tp_board.specs.declared.view.Counters.{Counters}
 use Rattle.tp_board.specs.declared.view.View.{View}
 use Rattle.tp_board.specs.declared.rule.Size.{Size}
 use Rattle.tp_board.specs.Counting.{times, once_below}
-
-abbrev pub size : ℕ → ℕ → Size
-size packets members = record { packets = packets; members = members }
-
--- the words, in their places
-abbrev pub words_of : Counters → List ℕ
-words_of w = w.claimed ∷ w.done ∷ w.lost ∷ w.stop ∷ []
+use Rattle.tp_board.specs.Words.{words_of}
 
 -- f of each view, added up
 abbrev pub total : (View → ℕ) → List View → ℕ
@@ -35,7 +29,7 @@ pub record Fits (k : Size) (w : Counters) (v : View) : Type 0 where
   pub each_once : (x : ℕ) → times x v.drawn ≡ times x v.finished + times x v.abandoned + times x v.hand
   pub counted : length v.drawn ≡ length v.finished + length v.abandoned + length v.hand
   pub seen : AtMost v.seen w
-  pub idle : v.parts ≡ 0 → (v.drawn ≡ []) × (v.stops ≡ 0)
+  pub idle : v.parts ≡ 0 → (v.drawn ≡ []) × (v.stop_callers ≡ 0)
 
 -- of the words and all views: all drawn numbers are those below the lesser of `claimed` and
 -- packets, each once; `claimed` also counts the views that learnt the end, which exist only where
@@ -50,7 +44,7 @@ pub record Rule (k : Size) (w : Counters) (views : List View) : Type 0 where
   pub ended : total (λ v. v.ended) views ≡ w.claimed - k.packets
   pub done : w.done ≡ total (λ v. length v.finished) views
   pub lost : w.lost ≡ total (λ v. length v.abandoned) views
-  pub stop : w.stop ≡ min 1 (total (λ v. v.stops) views)
+  pub stop : w.stop ≡ min 1 (total (λ v. v.stop_callers) views)
   pub fits : (id : ℕ) (v : View) → get_elem? views id ≡ some v → Fits k w v
 
 -- the words are four, and they and the views keep the rule

@@ -7,14 +7,15 @@ use Rattle.tp_board.specs.declared.rule.Size.{Size}
 use Rattle.tp_board.specs.Runs.{farm_after, replies, DrawsInOrder}
 use Rattle.tp_board.specs.Views.{spent_view}
 use Rattle.tp_board.specs.Rule.{KeepsRule}
-use Rattle.tp_board.specs.Laws.{farm_of, IsSame, MayStep, words_after, view_after, reply_to}
+use Rattle.tp_board.specs.FarmOf.{farm_of, IsSame}
+use Rattle.tp_board.specs.Steps.{row_of, MayStep, found_by, words_after}
 
 abbrev pub view_at : List View → ℕ → View
 view_at views id = slice_index_or views id spent_view
 
 -- the views after a step of the seat
 abbrev pub views_after : List ℕ → List View → ℕ × Event → List View
-views_after words views e = slice_set views e.0 (view_after e.1 words (view_at views e.0))
+views_after words views e = slice_set views e.0 ((row_of e.1).view (view_at views e.0) (found_by e.1 words))
 
 -- each step is made by a seat, which may make it when its turn comes
 abbrev pub IsSchedule : List ℕ → List View → List (ℕ × Event) → Type 0
@@ -30,11 +31,11 @@ board_after words views [] = (words, views)
 board_after words views (e ∷ es) = board_after (words_after e.1 words) (views_after words views e) es
 
 -- the replies on which the calls' answers rest, in order
-abbrev pub board_replies : ℕ → List ℕ → List View → List (ℕ × Event) → List Reply
-board_replies packets words views [] = []
-board_replies packets words views (e ∷ es) =
-    reply_to packets e.1 words (view_at views e.0)
-    ∷ board_replies packets (words_after e.1 words) (views_after words views e) es
+abbrev pub board_replies : List ℕ → List View → List (ℕ × Event) → List Reply
+board_replies words views [] = []
+board_replies words views (e ∷ es) =
+    (row_of e.1).reply (view_at views e.0) (found_by e.1 words)
+    ∷ board_replies (words_after e.1 words) (views_after words views e) es
 
 -- a schedule keeps the rule; the farm that it leaves is what its events make of the farm before,
 -- with their replies; and the numbers that it draws are those from the count drawn before it on, in
@@ -42,8 +43,8 @@ board_replies packets words views (e ∷ es) =
 pub record IsRun (k : Size) (words : List ℕ) (views : List View) (events : List (ℕ × Event)) (words' : List ℕ) (views' : List View) : Type 0 where
   pub rule : KeepsRule k words' views'
   pub farm : IsSame (farm_of k words' views') (farm_after (farm_of k words views) events)
-  pub answered : board_replies k.packets words views events ≡ replies (farm_of k words views) events
-  pub in_order : DrawsInOrder (farm_of k words views) events (board_replies k.packets words views events) (farm_of k words' views')
+  pub answered : board_replies words views events ≡ replies (farm_of k words views) events
+  pub in_order : DrawsInOrder (farm_of k words views) events (board_replies words views events) (farm_of k words' views')
 
 -- whatever words and views the rule allows, every schedule of the seats' steps is a run of the farm
 abbrev pub ScheduleLaw : Type 0

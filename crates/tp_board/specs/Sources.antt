@@ -6,31 +6,31 @@ use Rattle.tp_board.specs.declared.answer.Claim.TheVariants as claim
 use Rattle.tp_board.specs.declared.source.Work.{Work}
 use Rattle.tp_board.specs.declared.source.Work.TheVariants as work
 use Rattle.tp_board.specs.Boards.{BoardView}
-use Rattle.tp_board.specs.Laws.{first_of}
+use Rattle.tp_board.specs.Views.{first_of}
 
 -- what a hand has done at its source: the numbers that it was given, where each of them went, what
--- it has in hand, whether it has learnt the end, whether it was shown the stop mark, and whether it
--- called stop
+-- it has in hand, whether it has learnt the end, whether it has seen the source stopped, and whether
+-- it called stop itself
 pub record Progress : Type 0 where
   pub taken : List ℕ
   pub finished : List ℕ
   pub abandoned : List ℕ
   pub in_hand : Option ℕ
   pub ended : Bool
-  pub told : Bool
-  pub stopped : Bool
+  pub stop_seen : Bool
+  pub stop_called : Bool
 
 -- what `next` answers to a hand with nothing in it. A packet comes with the bytes of that number
 abbrev pub NextSays : List (List ℕ) → Progress → Work → Progress → Type 0
 NextSays packets p (work.Packet n bytes) q =
     (p.ended ≡ false)
-    × (p.told ≡ false)
-    × (p.stopped ≡ false)
+    × (p.stop_seen ≡ false)
+    × (p.stop_called ≡ false)
     × (slice_get packets n ≡ Some bytes.items)
     × (q ≡ record p { taken = p.taken ++ n ∷ []; in_hand = Some n })
 NextSays packets p work.NoMore q =
-    ((p.ended ≡ true) ⊎ ((p.told ≡ false) × (p.stopped ≡ false))) × (q ≡ record p { ended = true })
-NextSays packets p work.Stopped q = (p.ended ≡ false) × (q ≡ record p { told = true })
+    ((p.ended ≡ true) ⊎ ((p.stop_seen ≡ false) × (p.stop_called ≡ false))) × (q ≡ record p { ended = true })
+NextSays packets p work.Stopped q = (p.ended ≡ false) × (q ≡ record p { stop_seen = true })
 
 -- the number n, in hand, is finished
 abbrev pub HandFinished : Progress → ℕ → Progress → Type 0
@@ -63,6 +63,6 @@ progress_of v = record {
   abandoned = v.abandoned;
   in_hand = first_of v.hand;
   ended = nat_lt 0 v.ended;
-  told = nat_lt 0 v.seen.stop;
-  stopped = nat_lt 0 v.stops;
+  stop_seen = nat_lt 0 v.seen.stop;
+  stop_called = nat_lt 0 v.stop_callers;
 }

@@ -1,12 +1,8 @@
--- What a seat knows of its board, its view, and what each kind of step makes of it.
-use Rattle.std.specs.Prelude.{ℕ, ◌+◌, ltb, max, [], ◌∷◌, ◌++◌, if◌then◌else◌}
+-- What a seat knows of its board, its view; several views in one; and what all seats have together.
+use Rattle.std.specs.Prelude.{ℕ, ◌+◌, max, List, [], ◌∷◌, ◌++◌, Option, Some, None}
 use Rattle.tp_board.specs.declared.view.Counters.{Counters}
 use Rattle.tp_board.specs.declared.view.View.{View}
-use Rattle.tp_board.specs.declared.event.Shown.{Shown}
-use Rattle.tp_board.specs.declared.event.Shown.TheVariants as shown
-
-abbrev pub counters : ℕ → ℕ → ℕ → ℕ → Counters
-counters claimed done lost stop = record { claimed = claimed; done = done; lost = lost; stop = stop }
+use Rattle.tp_board.specs.Words.{counters}
 
 abbrev pub nothing_seen : Counters
 nothing_seen = counters 0 0 0 0
@@ -22,45 +18,32 @@ newcomer packets parts = record {
   abandoned = [];
   hand = [];
   ended = 0;
-  stops = 0;
+  stop_callers = 0;
   seen = nothing_seen;
 }
 
--- ---- the five kinds of step, on the view of the seat that makes them
--- the number n is drawn, and in hand
-abbrev pub with_number : View → ℕ → View
-with_number v n = record v { steps = v.steps + 1; drawn = v.drawn ++ n ∷ []; hand = v.hand ++ n ∷ [] }
+-- the number in a seat's hand
+abbrev pub first_of : List ℕ → Option ℕ
+first_of [] = None
+first_of (n ∷ ns) = Some n
 
--- it has learnt that all numbers are drawn
-abbrev pub with_end : View → View
-with_end v = record v { steps = v.steps + 1; ended = v.ended + 1 }
+-- ---- of all seats together
+-- what each view has of a kind, one after another
+abbrev pub gathered : (View → List ℕ) → List View → List ℕ
+gathered f [] = []
+gathered f (v ∷ vs) = f v ++ gathered f vs
 
--- one was added to `claimed`, which was n
-abbrev pub after_draw : View → ℕ → View
-after_draw v n = if ltb n v.packets then with_number v n else with_end v
+abbrev pub all_drawn : List View → List ℕ
+all_drawn = gathered (λ v. v.drawn)
 
--- one was added to `done`
-abbrev pub after_finish : View → View
-after_finish v = record v { steps = v.steps + 1; finished = v.finished ++ v.hand; hand = [] }
+abbrev pub all_finished : List View → List ℕ
+all_finished = gathered (λ v. v.finished)
 
--- one was added to `lost`
-abbrev pub after_abandon : View → View
-after_abandon v = record v { steps = v.steps + 1; abandoned = v.abandoned ++ v.hand; hand = [] }
+abbrev pub all_abandoned : List View → List ℕ
+all_abandoned = gathered (λ v. v.abandoned)
 
--- the lowest bit of `stop` was set
-abbrev pub after_stop : View → View
-after_stop v = record v { steps = v.steps + 1; stops = 1 }
-
--- a word was loaded, after which these are the values seen
-abbrev pub with_seen : View → Counters → View
-with_seen v seen = record v { steps = v.steps + 1; seen = seen }
-
--- the word that `what` names was loaded, and was n
-abbrev pub after_look : View → Shown → ℕ → View
-after_look v shown.Claimed n = with_seen v (counters n v.seen.done v.seen.lost v.seen.stop)
-after_look v shown.Done n = with_seen v (counters v.seen.claimed n v.seen.lost v.seen.stop)
-after_look v shown.Lost n = with_seen v (counters v.seen.claimed v.seen.done n v.seen.stop)
-after_look v shown.Stop n = with_seen v (counters v.seen.claimed v.seen.done v.seen.lost n)
+abbrev pub all_in_hand : List View → List ℕ
+all_in_hand = gathered (λ v. v.hand)
 
 -- ---- several seats in one, for the close
 abbrev pub both_seen : Counters → Counters → Counters
@@ -76,7 +59,7 @@ join_of v w = record {
   abandoned = v.abandoned ++ w.abandoned;
   hand = v.hand ++ w.hand;
   ended = v.ended + w.ended;
-  stops = v.stops + w.stops;
+  stop_callers = v.stop_callers + w.stop_callers;
   seen = both_seen v.seen w.seen;
 }
 

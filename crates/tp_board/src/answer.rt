@@ -26,13 +26,18 @@ pub enum BoardFault {
 }
 
 impl fmt::Display for BoardFault {
+    ghost use Rattle.std.specs.Prelude.{Some};
+    ghost use Rattle.tp_board.specs.Faults.{fault_text};
+
+    ghost output = { λ fault. Some (fault_text fault) };
+
     fn fmt<W: fmt::Write>(&self, f: &mut fmt::Formatter<W>) -> fmt::Result {
-        match self {
-            BoardFault::Members => write!(f, "A1: not 1 to 64 members"),
-            BoardFault::Packets => write!(f, "A2: more than 1024 packets"),
-            BoardFault::EmptyHand => write!(f, "A3: nothing in hand"),
-            BoardFault::Memory => write!(f, "memory"),
-        }
+        f.write_str(match self {
+            BoardFault::Members => "A1: not 1 to 64 members",
+            BoardFault::Packets => "A2: more than 1024 packets",
+            BoardFault::EmptyHand => "A3: nothing in hand",
+            BoardFault::Memory => "memory",
+        })
     }
 }
 

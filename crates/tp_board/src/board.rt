@@ -1,11 +1,13 @@
 //! The board: the farm core in four shared words.
 ghost use Rattle.std.specs.Prelude.{◌≡◌, ◌+◌, ◌<◌, ◌≤◌, min, nat_lt, [], length, replicate, All};
 ghost use Rattle.std.specs.Prelude.{IfOk, IfErr, OnOk};
-ghost use Rattle.tp_board.specs.Views.{newcomer, after_stop};
-ghost use Rattle.tp_board.specs.Boards.{BoardView, board_of, IsBoard, IsSeatOf, seat_of, new_seat};
-ghost use Rattle.tp_board.specs.Boards.{InRange, NewRefuses, ClaimSays, LookSays};
-ghost use Rattle.tp_board.specs.Boards.{FinishSays, AbandonSays, IsEmptyHanded};
-ghost use Rattle.tp_board.specs.Ledgers.{Balances, views_of, join_of_all};
+ghost use Rattle.tp_board.specs.Views.{newcomer};
+ghost use Rattle.tp_board.specs.Boards.{BoardView, board_of, IsBoard, NewRefuses};
+ghost use Rattle.tp_board.specs.Boards.{IsSeatOf, seat_of, new_seat, views_of};
+ghost use Rattle.tp_board.specs.Calls.{ClaimSays, FinishSays, AbandonSays};
+ghost use Rattle.tp_board.specs.Calls.{IsEmptyHanded, StopSays, LookSays};
+ghost use Rattle.tp_board.specs.Ledgers.{Balances, join_of_all};
+ghost use Rattle.tp_board.specs.Openings.{InRange, Opens};
 
 use crate::answer::{BoardFault, Claim, Ledger, MAX_MEMBERS, MAX_PACKETS};
 use crate::event::Shown;
@@ -63,6 +65,7 @@ impl Board {
         ensures board { IfOk result (λ r. r.0 ≡ board_of r.0.table packets members) }
         ensures seats { IfOk result (λ r. r.1.items ≡ replicate members (new_seat r.0)) }
         ensures own { IfOk result (λ r. All (IsSeatOf r.0) r.1.items) }
+        ensures opens { IfOk result (λ r. Opens packets members (views_of r.1.items)) }
         ensures err { IfErr result (NewRefuses packets members) }
     {
         if members == 0 || members > MAX_MEMBERS {
@@ -108,12 +111,12 @@ impl Board {
         if seat.ended {
             return Claim::NoMore;
         }
-        if seat.stopped {
+        if seat.stop_seen {
             return Claim::Stopped;
         }
         let shared = &self.table.shared;
         if shared.load::<LookStop>(&mut seat.token, STOP) != 0 {
-            seat.stopped = true;
+            seat.stop_seen = true;
             return Claim::Stopped;
         }
         let found = shared.fetch_add::<Draw>(&mut seat.token, CLAIMED, 1);
@@ -166,7 +169,7 @@ impl Board {
     pub fn stop(&self, seat: &mut Seat)
         requires { IsSeatOf self.now seat.old }
         ensures own { IsSeatOf self.now seat.new }
-        ensures view { seat.new.view ≡ after_stop seat.old.view }
+        ensures says { StopSays seat.old.view seat.new.view }
     {
         self.table.shared.fetch_or::<Halt>(&mut seat.token, STOP, 1);
     }
@@ -188,7 +191,7 @@ impl Board {
             Shown::Stop => {
                 let found = shared.load::<LookStop>(&mut seat.token, STOP);
                 if found != 0 {
-                    seat.stopped = true;
+                    seat.stop_seen = true;
                 }
                 found
             }
@@ -252,7 +255,7 @@ fn seated(token: atomic_table::Seat<(), View>, packets: u32) -> Seat
         packets,
         hand: None,
         ended: false,
-        stopped: false,
+        stop_seen: false,
     }
 }
 

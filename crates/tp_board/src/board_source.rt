@@ -1,6 +1,7 @@
 //! A board as a source of work.
-ghost use Rattle.std.specs.Prelude.{◌≡◌, None, length, map};
-ghost use Rattle.tp_board.specs.Boards.{IsSeatOf, ClaimSays};
+ghost use Rattle.std.specs.Prelude.{◌≡◌, true, None, length, map, IfOk, IfErr, OnErr};
+ghost use Rattle.tp_board.specs.Boards.{IsSeatOf};
+ghost use Rattle.tp_board.specs.Calls.{ClaimSays, FinishSays, AbandonSays, StopSays};
 ghost use Rattle.tp_board.specs.Sources.{SourceView, source_of};
 
 use crate::answer::{BoardFault, Claim};
@@ -45,8 +46,9 @@ impl<'p> BoardSource<'p> {
 }
 
 impl<'p> WorkSource for BoardSource<'p> {
-    ghost use Rattle.tp_board.specs.Laws.{first_of};
-    ghost use Rattle.tp_board.specs.Sources.{progress_of, claim_of, NextSays};
+    ghost use Rattle.tp_board.specs.declared.answer.BoardFault.TheVariants.{EmptyHand};
+    ghost use Rattle.tp_board.specs.Sources.{progress_of, claim_of, NextSays, HandFinished, HandAbandoned};
+    ghost use Rattle.tp_board.specs.Views.{first_of};
 
     type Hand = Seat;
 
@@ -62,7 +64,7 @@ impl<'p> WorkSource for BoardSource<'p> {
         requires empty { first_of hand.old.view.hand ≡ None }
         ensures own { IsSeatOf self.now.board hand.new }
         ensures work { NextSays self.now.packets (progress_of hand.old.view) result (progress_of hand.new.view) }
-        ensures claim { ClaimSays hand.old.view (claim_of result) hand.new.view }
+        ensures steps { ClaimSays hand.old.view (claim_of result) hand.new.view }
     {
         match self.board.claim(hand) {
             Claim::Packet(number) => Work::Packet {
@@ -75,15 +77,39 @@ impl<'p> WorkSource for BoardSource<'p> {
         }
     }
 
-    fn finish(&self, hand: &mut Seat) -> Result<u32, BoardFault> {
+    /// One finish.
+    fn finish(&self, hand: &mut Seat) -> Result<u32, BoardFault>
+        requires { IsSeatOf self.now.board hand.old }
+        ensures own { IsSeatOf self.now.board hand.new }
+        ensures ok { IfOk result (λ n. HandFinished (progress_of hand.old.view) n (progress_of hand.new.view)) }
+        ensures err { IfErr result (λ e. e ≡ EmptyHand) }
+        ensures empty { OnErr result (first_of hand.old.view.hand ≡ None) }
+        ensures unchanged { OnErr result (hand.new ≡ hand.old) }
+        ensures steps { IfOk result (λ n. FinishSays hand.old.view n hand.new.view) }
+    {
         self.board.finish(hand)
     }
 
-    fn abandon(&self, hand: &mut Seat) -> Result<u32, BoardFault> {
+    /// One abandon.
+    fn abandon(&self, hand: &mut Seat) -> Result<u32, BoardFault>
+        requires { IsSeatOf self.now.board hand.old }
+        ensures own { IsSeatOf self.now.board hand.new }
+        ensures ok { IfOk result (λ n. HandAbandoned (progress_of hand.old.view) n (progress_of hand.new.view)) }
+        ensures err { IfErr result (λ e. e ≡ EmptyHand) }
+        ensures empty { OnErr result (first_of hand.old.view.hand ≡ None) }
+        ensures unchanged { OnErr result (hand.new ≡ hand.old) }
+        ensures steps { IfOk result (λ n. AbandonSays hand.old.view n hand.new.view) }
+    {
         self.board.abandon(hand)
     }
 
-    fn stop(&self, hand: &mut Seat) {
+    /// One stop.
+    fn stop(&self, hand: &mut Seat)
+        requires { IsSeatOf self.now.board hand.old }
+        ensures own { IsSeatOf self.now.board hand.new }
+        ensures called { progress_of hand.new.view ≡ record (progress_of hand.old.view) { stop_called = true } }
+        ensures steps { StopSays hand.old.view hand.new.view }
+    {
         self.board.stop(hand);
     }
 }

@@ -3,7 +3,8 @@
 ghost use Rattle.tp_board.specs.Runs.{RunLaw};
 ghost use Rattle.tp_board.specs.declared.event.Event.TheVariants.{Claim, Finish, Abandon, Stop, Look};
 ghost use Rattle.tp_board.specs.declared.event.Shown.{Shown};
-ghost use Rattle.tp_board.specs.Laws.{StepLaw, OpeningLaw, AccountsLaw};
+ghost use Rattle.tp_board.specs.Laws.{StepLaw, AccountsLaw};
+ghost use Rattle.tp_board.specs.Openings.{OpeningLaw};
 ghost use Rattle.tp_board.specs.Schedules.{ScheduleLaw};
 
 /// Every list of events draws the numbers in order, keeps each of them once, and takes nothing back.
@@ -41,7 +42,7 @@ pub fn every_schedule_is_a_run()
     ensures { ScheduleLaw }
 {}
 
-/// A board whose seats have made no step stands for the opening farm.
+/// A board whose seats have made no step keeps the rule, and stands for the opening farm.
 pub fn board_opens_as_core()
     ensures { OpeningLaw }
 {}

@@ -25,76 +25,84 @@ impl TableRule<(), View, Size> for BoardRule {
 pub struct Draw;
 
 impl Play<(), View> for Draw {
-    ghost use Rattle.tp_board.specs.Plays.{Draws};
+    ghost use Rattle.tp_board.specs.declared.event.Event.TheVariants as event;
+    ghost use Rattle.tp_board.specs.Plays.{Tells};
 
-    ghost then = { Draws };
+    ghost then = { Tells event.Claim };
 }
 
 /// An addition to `done`.
 pub struct Finish;
 
 impl Play<(), View> for Finish {
-    ghost use Rattle.tp_board.specs.Plays.{Finishes};
+    ghost use Rattle.tp_board.specs.declared.event.Event.TheVariants as event;
+    ghost use Rattle.tp_board.specs.Plays.{Tells};
 
-    ghost then = { Finishes };
+    ghost then = { Tells event.Finish };
 }
 
 /// An addition to `lost`.
 pub struct Abandon;
 
 impl Play<(), View> for Abandon {
-    ghost use Rattle.tp_board.specs.Plays.{Abandons};
+    ghost use Rattle.tp_board.specs.declared.event.Event.TheVariants as event;
+    ghost use Rattle.tp_board.specs.Plays.{Tells};
 
-    ghost then = { Abandons };
+    ghost then = { Tells event.Abandon };
 }
 
 /// A setting of `stop`.
 pub struct Halt;
 
 impl Play<(), View> for Halt {
-    ghost use Rattle.tp_board.specs.Plays.{Halts};
+    ghost use Rattle.tp_board.specs.declared.event.Event.TheVariants as event;
+    ghost use Rattle.tp_board.specs.Plays.{Tells};
 
-    ghost then = { Halts };
+    ghost then = { Tells event.Stop };
 }
 
 /// A load of `claimed`.
 pub struct LookClaimed;
 
 impl Play<(), View> for LookClaimed {
+    ghost use Rattle.tp_board.specs.declared.event.Event.TheVariants.{Look};
     ghost use Rattle.tp_board.specs.declared.event.Shown.TheVariants.{Claimed};
-    ghost use Rattle.tp_board.specs.Plays.{Looks};
+    ghost use Rattle.tp_board.specs.Plays.{Tells};
 
-    ghost then = { Looks Claimed };
+    ghost then = { Tells (Look Claimed) };
 }
 
 /// A load of `done`.
 pub struct LookDone;
 
 impl Play<(), View> for LookDone {
+    ghost use Rattle.tp_board.specs.declared.event.Event.TheVariants.{Look};
     ghost use Rattle.tp_board.specs.declared.event.Shown.TheVariants.{Done};
-    ghost use Rattle.tp_board.specs.Plays.{Looks};
+    ghost use Rattle.tp_board.specs.Plays.{Tells};
 
-    ghost then = { Looks Done };
+    ghost then = { Tells (Look Done) };
 }
 
 /// A load of `lost`.
 pub struct LookLost;
 
 impl Play<(), View> for LookLost {
+    ghost use Rattle.tp_board.specs.declared.event.Event.TheVariants.{Look};
     ghost use Rattle.tp_board.specs.declared.event.Shown.TheVariants.{Lost};
-    ghost use Rattle.tp_board.specs.Plays.{Looks};
+    ghost use Rattle.tp_board.specs.Plays.{Tells};
 
-    ghost then = { Looks Lost };
+    ghost then = { Tells (Look Lost) };
 }
 
 /// A load of `stop`.
 pub struct LookStop;
 
 impl Play<(), View> for LookStop {
+    ghost use Rattle.tp_board.specs.declared.event.Event.TheVariants.{Look};
     ghost use Rattle.tp_board.specs.declared.event.Shown.TheVariants.{Stop};
-    ghost use Rattle.tp_board.specs.Plays.{Looks};
+    ghost use Rattle.tp_board.specs.Plays.{Tells};
 
-    ghost then = { Looks Stop };
+    ghost then = { Tells (Look Stop) };
 }
 
 /// The cut of one seat from those that are still in one, and the joining of two.

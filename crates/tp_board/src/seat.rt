@@ -17,8 +17,10 @@ pub struct Seat {
     pub(crate) token: atomic_table::Seat<(), View>,
     pub(crate) packets: u32,
     pub(crate) hand: Option<u32>,
+    // A claim was answered NoMore.
     pub(crate) ended: bool,
-    pub(crate) stopped: bool,
+    // A load has found the stop mark set.
+    pub(crate) stop_seen: bool,
 }
 
 impl Model for Seat {
@@ -26,5 +28,5 @@ impl Model for Seat {
 
     ghost view = { λ s. seat_of s.token.table_id s.token.me.0 };
 
-    ghost invariant = { λ s. IsSeat s.token.me.0 s.packets s.hand s.ended s.stopped × (s.token.me.1 ≡ []) };
+    ghost invariant = { λ s. IsSeat s.token.me.0 s.packets s.hand s.ended s.stop_seen × (s.token.me.1 ≡ []) };
 }

@@ -66,5 +66,5 @@ pub trait WorkSource {
     fn stop(&self, hand: &mut Self::Hand)
         requires { Self.is_own self.now hand.old }
         ensures own { Self.is_own self.now hand.new }
-        ensures stopped { Self.progress hand.new ≡ record (Self.progress hand.old) { stopped = true } };
+        ensures called { Self.progress hand.new ≡ record (Self.progress hand.old) { stop_called = true } };
 }

@@ -74,19 +74,6 @@ fn sizes_refused(rt: HostRuntime) {
 }
 
 #[test]
-fn faults_printed(rt: HostRuntime) -> Result<(), Fail> {
-    for (fault, text) in [
-        (BoardFault::Members, "A1: not 1 to 64 members"),
-        (BoardFault::Packets, "A2: more than 1024 packets"),
-        (BoardFault::EmptyHand, "A3: nothing in hand"),
-        (BoardFault::Memory, "memory"),
-    ] {
-        assert_eq!(rt; format!(in rt.alloc(); "{fault}")?.as_str(), text);
-    }
-    Ok(())
-}
-
-#[test]
 fn board_of_three_packets(rt: HostRuntime) -> Result<(), Fail> {
     let (board, mut seats) = Board::new(rt.alloc(), 3, 2)?;
     let mut one = seats.pop().ok_or("no second seat")?;

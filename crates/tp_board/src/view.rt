@@ -9,9 +9,9 @@ pub struct Counters {
     pub stop: u64,
 }
 
-/// What a seat knows: the board's count of packets, how many seats it is, how many atomic steps it
-/// has made, the numbers that it drew and where each of them went, how often it learnt the end,
-/// whether it called stop, and what it has seen of the words.
+/// What a seat, or several in one, knows: the board's count of packets, how many seats it is, how
+/// many atomic steps it has made, the numbers that it drew and where each of them went, how many of
+/// it learnt the end, how many of it called stop, and what it has seen of the words.
 pub struct View {
     pub packets: u64,
     pub parts: u64,
@@ -21,6 +21,6 @@ pub struct View {
     pub abandoned: LinkedList<u32>,
     pub hand: LinkedList<u32>,
     pub ended: u64,
-    pub stops: u64,
+    pub stop_callers: u64,
     pub seen: Counters,
 }

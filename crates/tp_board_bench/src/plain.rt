@@ -1,25 +1,68 @@
-//! The same count of packets, taken from one list and put on another.
-use crate::Run;
+//! Plain atomics that make the same steps as a board: to claim, a load of `stop` and an addition to
+//! `claimed`; to finish, an addition to `done`. Nothing is proved of them, and no seat stands beside.
+use crate::rounds::Place;
 use anyhow::Result;
-use std::rt::Runtime;
-use std::time::Instant;
+use std::alloc::Global;
+use std::sync::Arc;
+use std::sync::atomic::AtomicU64;
+use std::sync::atomic::Ordering::SeqCst;
 use tp_board::MAX_PACKETS;
 
-pub fn run<R: Runtime>(rt: &R, boards: u32) -> Result<Run> {
-    let mut todo = Vec::new(rt.alloc());
+#[derive(Drop)]
+struct Words {
+    claimed: AtomicU64,
+    done: AtomicU64,
+    stop: AtomicU64,
+}
+
+/// One thread's share of the words.
+#[derive(Drop)]
+pub struct PlainPlace {
+    words: Arc<Words, Global>,
+}
+
+impl PlainPlace {
+    fn claim(&self) -> Option<u64> {
+        if self.words.stop.load(SeqCst) != 0 {
+            return None;
+        }
+        let found = self.words.claimed.fetch_add(1, SeqCst);
+        (found < u64::from(MAX_PACKETS)).then_some(found)
+    }
+}
+
+impl Place for PlainPlace {
+    fn work(&mut self) -> u64 {
+        for finished in 0..u64::from(MAX_PACKETS) {
+            if self.claim().is_none() {
+                return finished;
+            }
+            self.words.done.fetch_add(1, SeqCst);
+        }
+        u64::from(MAX_PACKETS)
+    }
+}
+
+/// For each thread its places, one at each of so many boards' words.
+pub fn places_for(alloc: Global, threads: u32, boards: u32) -> Result<Vec<Vec<PlainPlace>>> {
+    let mut all = Vec::new(alloc);
+    for _ in 0..threads {
+        all.push(Vec::new(alloc))?;
+    }
     for _ in 0..boards {
-        for number in 0..MAX_PACKETS {
-            todo.push(number)?;
+        let shared = Arc::new(
+            alloc,
+            Words {
+                claimed: AtomicU64::new(0),
+                done: AtomicU64::new(0),
+                stop: AtomicU64::new(0),
+            },
+        )?;
+        for own in all.iter_mut() {
+            own.push(PlainPlace {
+                words: Arc::try_clone(&shared)?,
+            })?;
         }
     }
-    let mut done = Vec::with_capacity(rt.alloc(), todo.len())?;
-    let start = Instant::now(rt)?;
-    while let Some(number) = todo.pop() {
-        done.push(number)?;
-    }
-    let took = start.elapsed(rt)?;
-    Ok(Run {
-        finished: done.len() as u64,
-        took,
-    })
+    Ok(all)
 }

@@ -3,6 +3,8 @@ ghost use Rattle.std.specs.Prelude.{◌≡◌, ◌+◌, length};
 ghost use Rattle.std.specs.Arc.{arc_value};
 ghost use Rattle.tp_board.specs.Boards.{IsSeatOf};
 
+use crate::rounds::Place;
+use anyhow::Result;
 use std::alloc::Global;
 use std::sync::Arc;
 use tp_board::{Board, Claim, MAX_PACKETS, Seat};
@@ -23,8 +25,8 @@ impl Post {
         Post { board, seat }
     }
 
-    /// Claims and finishes until there is no more: how many were finished.
-    pub fn work(&mut self) -> u64
+    // How many were finished, until there is no more.
+    fn finish_all(&mut self) -> u64
         ensures { length self.new.seat.view.finished ≡ length self.old.seat.view.finished + result }
     {
         for finished in 0..u64::from(MAX_PACKETS) {
@@ -35,4 +37,29 @@ impl Post {
         }
         u64::from(MAX_PACKETS)
     }
+}
+
+impl Place for Post {
+    fn work(&mut self) -> u64 {
+        self.finish_all()
+    }
+}
+
+/// For each thread its posts, one at each of so many boards.
+pub fn posts_for(alloc: Global, threads: u32, boards: u32) -> Result<Vec<Vec<Post>>> {
+    let mut all = Vec::new(alloc);
+    for _ in 0..threads {
+        all.push(Vec::new(alloc))?;
+    }
+    for _ in 0..boards {
+        let (board, mut seats) = Board::new(alloc, MAX_PACKETS, threads)?;
+        let shared = Arc::new(alloc, board)?;
+        for own in all.iter_mut() {
+            let Some(seat) = seats.pop() else {
+                break;
+            };
+            own.push(Post::new(Arc::try_clone(&shared)?, seat))?;
+        }
+    }
+    Ok(all)
 }

@@ -1,27 +1,38 @@
 //! Boards that are worked off by threads.
-ghost use Rattle.std.specs.Arc.{arc_value};
-ghost use Rattle.tp_board.specs.Boards.{IsSeatOf};
-
-use crate::Run;
-use crate::post::Post;
 use anyhow::Result;
 use std::alloc::Global;
 use std::rt::Runtime;
-use std::sync::Arc;
 use std::thread;
 use std::thread::Threads;
-use std::time::Instant;
-use tp_board::{Board, MAX_PACKETS};
+use std::time::{Duration, Instant};
 
-/// Each of the threads works at each of the boards, in the same order.
-pub fn run<R: Runtime<A = Global> + Threads + Sync>(
+/// A place at one board, for one thread to work at.
+pub trait Place: Drop {
+    /// Claims and finishes until there is no more: how many were finished.
+    fn work(&mut self) -> u64;
+}
+
+/// Packets that were finished, and how long it took.
+#[derive(Clone, Copy)]
+pub struct Run {
+    pub finished: u64,
+    took: Duration,
+}
+
+impl Run {
+    pub fn packets_a_second(&self) -> u64 {
+        let micros = u64::try_from(self.took.as_micros()).unwrap_or(u64::MAX);
+        self.finished.saturating_mul(1_000_000) / micros.max(1)
+    }
+}
+
+/// A thread for each list of places, which it works at in order.
+pub fn work_off<R: Runtime<A = Global> + Threads + Sync, P: Place + Send>(
     rt: &R,
-    threads: u32,
-    boards: u32,
+    places: Vec<Vec<P>>,
 ) -> Result<Run> {
-    let posts = posts_for(rt.alloc(), threads, boards)?;
     let start = Instant::now(rt)?;
-    let counts = thread::map_vec(rt, posts, &|own: Vec<Post>| worked(own))?;
+    let counts = thread::map_vec(rt, places, &|own: Vec<P>| worked(own))?;
     let took = start.elapsed(rt)?;
     let finished = counts
         .iter()
@@ -29,29 +40,10 @@ pub fn run<R: Runtime<A = Global> + Threads + Sync>(
     Ok(Run { finished, took })
 }
 
-// For each thread its seats.
-fn posts_for(alloc: Global, threads: u32, boards: u32) -> Result<Vec<Vec<Post>>> {
-    let mut all = Vec::new(alloc);
-    for _ in 0..threads {
-        all.push(Vec::new(alloc))?;
-    }
-    for _ in 0..boards {
-        let (board, mut seats) = Board::new(alloc, MAX_PACKETS, threads)?;
-        let shared = Arc::new(alloc, board)?;
-        for own in all.iter_mut() {
-            let Some(seat) = seats.pop() else {
-                break;
-            };
-            own.push(Post::new(Arc::try_clone(&shared)?, seat))?;
-        }
-    }
-    Ok(all)
-}
-
-fn worked(posts: Vec<Post>) -> u64 {
+fn worked<P: Place>(places: Vec<P>) -> u64 {
     let mut finished = 0u64;
-    for mut post in posts {
-        finished = finished.wrapping_add(post.work());
+    for mut place in places {
+        finished = finished.wrapping_add(place.work());
     }
     finished
 }

@@ -2,7 +2,13 @@
 #![tactic(auto)]
 
 #[cfg(test)]
+mod collecting;
+#[cfg(test)]
 mod lines;
+#[cfg(test)]
+mod names;
+#[cfg(test)]
+mod sizes;
 #[cfg(test)]
 mod spellings;
 #[cfg(test)]

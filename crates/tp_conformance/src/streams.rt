@@ -69,6 +69,25 @@ impl Write for Narrow {
     }
 }
 
+/// Takes all that it is given, and remembers how much that was at each flush.
+#[derive(Drop)]
+struct Flushed {
+    taken: Vec<u8>,
+    flushes: Vec<usize>,
+}
+
+impl Write for Flushed {
+    fn write(&mut self, buf: &[u8]) -> io::Result<usize> {
+        self.taken.extend_from_slice(buf)?;
+        Ok(buf.len())
+    }
+
+    fn flush(&mut self) -> io::Result<()> {
+        self.flushes.push(self.taken.len())?;
+        Ok(())
+    }
+}
+
 const INPUT: &[u8] = b"LIST 604F\nHELLO\nLIST 24F2\r\nLIST 41F3";
 
 const OUTPUT: &[u8] = b"0 604f ldc -1\nDONE 1\nNO E1 2\n0 24f2 mint\nDONE 1\nNO D3 1\n";
@@ -88,6 +107,19 @@ fn a_byte_at_a_time(rt: HostRuntime) -> Result<(), Fail> {
     serve(&rt, rt.alloc(), &mut reader, &mut writer)?;
     assert!(rt; writer.taken.as_slice() == OUTPUT);
     assert!(rt; answers(&rt, rt.alloc(), INPUT)?.as_slice() == OUTPUT);
+    Ok(())
+}
+
+#[test]
+fn each_answer_is_flushed(rt: HostRuntime) -> Result<(), Fail> {
+    let mut reader = INPUT;
+    let mut writer = Flushed {
+        taken: Vec::new(rt.alloc()),
+        flushes: Vec::new(rt.alloc()),
+    };
+    serve(&rt, rt.alloc(), &mut reader, &mut writer)?;
+    assert!(rt; writer.taken.as_slice() == OUTPUT);
+    assert_eq!(rt; writer.flushes.as_slice(), [21, 29, 48, 56].as_slice());
     Ok(())
 }
 

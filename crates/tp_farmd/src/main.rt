@@ -1,21 +1,22 @@
 //! `farmd`: lines on standard input, answers on standard output.
 //!
 //! It ends with status 0 at the end of its input. Where serving ends with a fault, it writes `farmd: ` and the fault to
-//! standard error, and ends with status 1.
+//! standard error, and ends with status 1. A command line that it does not know gives its usage there, and status 2.
 #![tactic(auto)]
 
+mod command_line;
+mod ending;
+mod program;
+#[cfg(test)]
+mod tests;
+
+use program::run;
 use std::io;
 use std::process::ExitCode;
-use tp_session::serve;
 
 fn main(rt: HostRuntime) -> ExitCode {
     let mut reader = rt.reader();
     let mut writer = io::writer(&rt);
-    match serve(&rt, rt.alloc(), &mut reader, &mut writer) {
-        Ok(()) => ExitCode::SUCCESS,
-        Err(fault) => {
-            let _ = eprintln!(rt; "farmd: {fault}");
-            ExitCode::FAILURE
-        }
-    }
+    let mut errors = rt.stderr();
+    run(&rt, &rt, rt.alloc(), &mut reader, &mut writer, &mut errors)
 }

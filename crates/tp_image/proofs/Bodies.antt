@@ -7,9 +7,11 @@ use Rattle.tp_image.specs.declared.header.Header.{Header}
 use Rattle.tp_image.specs.declared.image.LoopRow.{LoopRow}
 use Rattle.tp_image.specs.declared.image.Version.{Version}
 use Rattle.tp_image.specs.declared.image.Version.TheVariants.{One, Two}
-use Rattle.tp_image.specs.Image.{ImageValue, InRange, IsRow, most_code, most_workspace, most_initial}
+use Rattle.tp_image.specs.Image.{ImageValue, InRange, IsRow, most_initial}
+use Rattle.tp_image.specs.Limits.{most_code, most_workspace}
 use Rattle.tp_image.specs.Text.{word, row_text, header_text, header_of, text, IsTextOf}
-use Rattle.tp_image.specs.Faults.{version_of, header_bytes, header_at, image_bytes, header_fault, first_fault, IsWholeHeader}
+use Rattle.tp_image.specs.Faults.{version_of, header_at, image_bytes, header_fault, first_fault, IsWholeHeader}
+use Rattle.tp_image.specs.Layout.{header_bytes}
 use Rattle.tp_image.proofs.Headers.{AreBytes, passes_tests, no_header_fault, first_fault-whole}
 use Rattle.tp_image.proofs.Spelled.{IsHeader, header_spelled, header_at-text, version_of-text, length-header_text}
 

@@ -6,7 +6,8 @@ use Rattle.std.proofs.lemmas.List.{length-take, length-drop, get_or-drop, get_or
 use Rattle.tp_image.specs.declared.header.Header.{Header}
 use Rattle.tp_image.specs.Image.{ImageValue, IsRow}
 use Rattle.tp_image.specs.Text.{row_text, word, header_of, IsTextOf}
-use Rattle.tp_image.specs.Faults.{header_bytes, IsWholeHeader}
+use Rattle.tp_image.specs.Faults.{IsWholeHeader}
+use Rattle.tp_image.specs.Layout.{header_bytes}
 use Rattle.tp_image.proofs.Headers.{AreBytes, passes_tests}
 use Rattle.tp_image.proofs.Bodies.{assembled, flat_map-first_chunks, two_cuts}
 

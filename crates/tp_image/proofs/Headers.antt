@@ -9,10 +9,11 @@ use Rattle.tp_image.specs.declared.fault.ImageFault.TheVariants.{Refused}
 use Rattle.tp_image.specs.declared.header.Header.{Header}
 use Rattle.tp_image.specs.declared.image.Version.{Version}
 use Rattle.tp_image.specs.declared.image.Version.TheVariants.{One, Two}
-use Rattle.tp_image.specs.declared.limits.TheConstants.{LEAST_WORKSPACE, LEAST_START, MESSAGE_WORDS, LOOP_ROWS}
-use Rattle.tp_image.specs.Image.{most_code, most_workspace, most_initial, IsWithin}
+use Rattle.tp_image.specs.Limits.{most_code, least_workspace, most_workspace, least_start, most_message, most_loops}
+use Rattle.tp_image.specs.Image.{most_initial, IsWithin}
 use Rattle.tp_image.specs.Text.{magic}
-use Rattle.tp_image.specs.Faults.{version_of, header_bytes, header_at, image_bytes, is_outside, Test, header_tests, first_refusal, header_fault, fault_of, first_fault}
+use Rattle.tp_image.specs.Faults.{version_of, header_at, image_bytes, is_outside, Test, header_tests, first_refusal, header_fault, fault_of, first_fault}
+use Rattle.tp_image.specs.Layout.{header_bytes}
 
 -- past the first two tests the header decides
 pub first_fault-whole : (bytes : List ℕ) (v : Version) → version_of bytes ≡ Some v → header_bytes v ≤ length bytes → first_fault bytes ≡ header_fault (header_at v bytes) (length bytes)
@@ -26,12 +27,12 @@ first_fault-whole bytes v is long =
 -- the header's fields are in range, and its image has so many bytes
 pub record Passes (h : Header) (bytes : ℕ) : Type 0 where
   pub code : IsWithin 1 (most_code h.version) h.code
-  pub workspace : IsWithin LEAST_WORKSPACE (most_workspace h.version) h.workspace
-  pub start_least : LEAST_START ≤ h.start
+  pub workspace : IsWithin least_workspace (most_workspace h.version) h.workspace
+  pub start_least : least_start ≤ h.start
   pub start_most : h.start < h.workspace
-  pub packet : IsWithin 1 MESSAGE_WORDS h.packet
-  pub result : IsWithin 1 MESSAGE_WORDS h.result
-  pub loops : h.loops ≤ LOOP_ROWS
+  pub packet : IsWithin 1 most_message h.packet
+  pub result : IsWithin 1 most_message h.result
+  pub loops : h.loops ≤ most_loops
   pub initial : h.initial ≤ most_initial h.version h.workspace
   pub size : bytes ≡ image_bytes h
 
@@ -59,7 +60,7 @@ not_outside least most n p = or_from (ltb n least) (ltb most n) (le-ltb n least 
 pub passes_tests : (h : Header) (bytes : ℕ) → header_fault h bytes ≡ None → Passes h bytes
 passes_tests h bytes e =
     let p = none_fails (header_tests h bytes) e in
-    let start = or_parts (ltb h.start LEAST_START) (leb h.workspace h.start) p.1.1.0 in
+    let start = or_parts (ltb h.start least_start) (leb h.workspace h.start) p.1.1.0 in
     let enough = ltb-false bytes (image_bytes h) p.1.1.1.1.1.1.1.0 in
     let no_more = ltb-false (image_bytes h) bytes p.1.1.1.1.1.1.1.1.0 in
     record {
@@ -69,7 +70,7 @@ passes_tests h bytes e =
       start_most = leb-false _ _ start.1;
       packet = is_within _ _ _ p.1.1.1.0;
       result = is_within _ _ _ p.1.1.1.1.0;
-      loops = ltb-false LOOP_ROWS h.loops p.1.1.1.1.1.0;
+      loops = ltb-false most_loops h.loops p.1.1.1.1.1.0;
       initial = ltb-false (most_initial h.version h.workspace) h.initial p.1.1.1.1.1.1.0;
       size = omega (arith, enough, no_more);
     }

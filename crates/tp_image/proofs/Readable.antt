@@ -14,7 +14,8 @@ use Rattle.tp_image.specs.declared.image.LoopRow.{LoopRow}
 use Rattle.tp_image.specs.declared.image.Version.{Version}
 use Rattle.tp_image.specs.Image.{ImageValue, IsRow}
 use Rattle.tp_image.specs.Text.{word, row_text, header_of, IsTextOf}
-use Rattle.tp_image.specs.Faults.{version_of, half_word_at, header_bytes, header_at, header_fault, fault_of, first_fault, IsWholeHeader}
+use Rattle.tp_image.specs.Faults.{version_of, half_word_at, header_at, header_fault, fault_of, first_fault, IsWholeHeader}
+use Rattle.tp_image.specs.Layout.{header_bytes}
 use Rattle.tp_image.proofs.Cells.{drop-cells}
 use Rattle.tp_image.proofs.Headers.{AreBytes, passes_tests}
 use Rattle.tp_image.proofs.Spelled.{half-half_word_at}

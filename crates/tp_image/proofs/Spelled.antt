@@ -5,7 +5,8 @@ use Rattle.tp_image.specs.declared.image.Version.{Version}
 use Rattle.tp_image.specs.declared.image.Version.TheVariants.{One, Two}
 use Rattle.tp_image.specs.Image.{most_initial}
 use Rattle.tp_image.specs.Text.{magic, half_word, header_text}
-use Rattle.tp_image.specs.Faults.{version_of, half_word_at, header_bytes, header_at}
+use Rattle.tp_image.specs.Faults.{version_of, half_word_at, header_at}
+use Rattle.tp_image.specs.Layout.{header_bytes}
 use Rattle.tp_image.proofs.Cells.{cells, drop-cells}
 use Rattle.tp_image.proofs.Headers.{AreBytes, version_front}
 

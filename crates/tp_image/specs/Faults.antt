@@ -8,9 +8,9 @@ use Rattle.tp_image.specs.declared.fault.ImageFault.TheVariants.{Refused}
 use Rattle.tp_image.specs.declared.image.Version.{Version}
 use Rattle.tp_image.specs.declared.image.Version.TheVariants.{One, Two}
 use Rattle.tp_image.specs.declared.header.Header.{Header}
-use Rattle.tp_image.specs.declared.layout.TheConstants.{CODE_AT, WORKSPACE_AT, START_AT, PACKET_AT, RESULT_AT, LOOPS_AT, INITIAL_AT, HEADER_BYTES_1, HEADER_BYTES_2, ROW_BYTES, WORD_BYTES}
-use Rattle.tp_image.specs.declared.limits.TheConstants.{LEAST_WORKSPACE, LEAST_START, MESSAGE_WORDS, LOOP_ROWS}
-use Rattle.tp_image.specs.Image.{most_code, most_workspace, most_initial}
+use Rattle.tp_image.specs.Layout.{code_at, workspace_at, start_at, packet_at, result_at, loops_at, initial_at, header_bytes, row_bytes, word_bytes}
+use Rattle.tp_image.specs.Limits.{most_code, least_workspace, most_workspace, least_start, most_message, most_loops}
+use Rattle.tp_image.specs.Image.{most_initial}
 use Rattle.tp_image.specs.Text.{magic}
 
 -- the version that the first four bytes spell
@@ -24,31 +24,27 @@ version_of bytes =
 abbrev pub half_word_at : List ℕ → ℕ → ℕ
 half_word_at bytes place = slice_index bytes place + 256 * slice_index bytes (place + 1)
 
-abbrev pub header_bytes : Version → ℕ
-header_bytes One = HEADER_BYTES_1
-header_bytes Two = HEADER_BYTES_2
-
 -- version 1 has no initial words
-abbrev pub initial_at : Version → List ℕ → ℕ
-initial_at One bytes = 0
-initial_at Two bytes = half_word_at bytes INITIAL_AT
+abbrev pub initial_count_at : Version → List ℕ → ℕ
+initial_count_at One bytes = 0
+initial_count_at Two bytes = half_word_at bytes initial_at
 
 -- what the bytes say where a header stands
 abbrev pub header_at : Version → List ℕ → Header
 header_at version bytes = record {
   version = version;
-  code = half_word_at bytes CODE_AT;
-  workspace = half_word_at bytes WORKSPACE_AT;
-  start = half_word_at bytes START_AT;
-  packet = half_word_at bytes PACKET_AT;
-  result = half_word_at bytes RESULT_AT;
-  loops = half_word_at bytes LOOPS_AT;
-  initial = initial_at version bytes;
+  code = half_word_at bytes code_at;
+  workspace = half_word_at bytes workspace_at;
+  start = half_word_at bytes start_at;
+  packet = half_word_at bytes packet_at;
+  result = half_word_at bytes result_at;
+  loops = half_word_at bytes loops_at;
+  initial = initial_count_at version bytes;
 }
 
 -- how many bytes an image with this header has
 abbrev pub image_bytes : Header → ℕ
-image_bytes h = header_bytes h.version + ROW_BYTES * h.loops + WORD_BYTES * h.initial + h.code
+image_bytes h = header_bytes h.version + row_bytes * h.loops + word_bytes * h.initial + h.code
 
 -- A test: where it is true, the bytes are refused.
 pub record Test : Type 0 where
@@ -65,13 +61,13 @@ is_outside least most n = nat_lt n least || nat_lt most n
 -- The tests on a header of an image of so many bytes, in their order.
 abbrev pub header_tests : Header → ℕ → List Test
 header_tests h bytes =
-    test (is_outside 1 (most_code h.version) h.code) F3 CODE_AT
-    ∷ test (is_outside LEAST_WORKSPACE (most_workspace h.version) h.workspace) F4 WORKSPACE_AT
-    ∷ test (nat_lt h.start LEAST_START || nat_le h.workspace h.start) F5 START_AT
-    ∷ test (is_outside 1 MESSAGE_WORDS h.packet) F6 PACKET_AT
-    ∷ test (is_outside 1 MESSAGE_WORDS h.result) F7 RESULT_AT
-    ∷ test (nat_lt LOOP_ROWS h.loops) F8 LOOPS_AT
-    ∷ test (nat_lt (most_initial h.version h.workspace) h.initial) F10 INITIAL_AT
+    test (is_outside 1 (most_code h.version) h.code) F3 code_at
+    ∷ test (is_outside least_workspace (most_workspace h.version) h.workspace) F4 workspace_at
+    ∷ test (nat_lt h.start least_start || nat_le h.workspace h.start) F5 start_at
+    ∷ test (is_outside 1 most_message h.packet) F6 packet_at
+    ∷ test (is_outside 1 most_message h.result) F7 result_at
+    ∷ test (nat_lt most_loops h.loops) F8 loops_at
+    ∷ test (nat_lt (most_initial h.version h.workspace) h.initial) F10 initial_at
     ∷ test (nat_lt bytes (image_bytes h)) F2 bytes
     ∷ test (nat_lt (image_bytes h) bytes) F9 (image_bytes h)
     ∷ []

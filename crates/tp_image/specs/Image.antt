@@ -4,7 +4,7 @@ use Rattle.std.specs.Int.{w32}
 use Rattle.tp_image.specs.declared.image.Version.{Version}
 use Rattle.tp_image.specs.declared.image.Version.TheVariants.{One, Two}
 use Rattle.tp_image.specs.declared.image.LoopRow.{LoopRow}
-use Rattle.tp_image.specs.declared.limits.TheConstants.{CODE_BYTES_1, CODE_BYTES_2, LEAST_WORKSPACE, WORKSPACE_WORDS_1, WORKSPACE_WORDS_2, LEAST_START, MESSAGE_WORDS, LOOP_ROWS}
+use Rattle.tp_image.specs.Limits.{most_code, least_workspace, most_workspace, least_start, most_message, most_loops}
 
 -- an image without where it lies in memory
 pub record ImageValue : Type 0 where
@@ -21,14 +21,6 @@ pub record ImageValue : Type 0 where
 abbrev pub number_of : Version → ℕ
 number_of One = 1
 number_of Two = 2
-
-abbrev pub most_code : Version → ℕ
-most_code One = CODE_BYTES_1
-most_code Two = CODE_BYTES_2
-
-abbrev pub most_workspace : Version → ℕ
-most_workspace One = WORKSPACE_WORDS_1
-most_workspace Two = WORKSPACE_WORDS_2
 
 -- version 1 has no initial words
 abbrev pub most_initial : Version → ℕ → ℕ
@@ -50,12 +42,12 @@ pub record IsRow (row : LoopRow) : Type 0 where
 -- each field in the range of the image's version
 pub record InRange (image : ImageValue) : Type 0 where
   pub code : IsWithin 1 (most_code image.version) (length image.code)
-  pub workspace : IsWithin LEAST_WORKSPACE (most_workspace image.version) image.workspace
-  pub start_least : LEAST_START ≤ image.start
+  pub workspace : IsWithin least_workspace (most_workspace image.version) image.workspace
+  pub start_least : least_start ≤ image.start
   pub start_most : image.start < image.workspace
-  pub packet : IsWithin 1 MESSAGE_WORDS image.packet
-  pub result : IsWithin 1 MESSAGE_WORDS image.result
-  pub loops : length image.loops ≤ LOOP_ROWS
+  pub packet : IsWithin 1 most_message image.packet
+  pub result : IsWithin 1 most_message image.result
+  pub loops : length image.loops ≤ most_loops
   pub initial : length image.initial ≤ most_initial image.version image.workspace
   pub rows : All IsRow image.loops
   pub words : All (λ word. word < 2 ^ 32) image.initial

@@ -3,7 +3,8 @@
 ghost use Rattle.std.specs.Prelude.{◌≡◌, ◌+◌, ◌≤◌, ◌<◌, ◌++◌, length, OnOk, MatchResult, None, Some, Err};
 ghost use Rattle.tp_image.specs.Image.{most_initial};
 ghost use Rattle.tp_image.specs.Text.{header_of, header_text};
-ghost use Rattle.tp_image.specs.Faults.{half_word_at, header_bytes, header_at, version_of, image_bytes, is_outside, header_fault, first_fault, IsWholeHeader};
+ghost use Rattle.tp_image.specs.Faults.{half_word_at, header_at, version_of, image_bytes, is_outside, header_fault, first_fault, IsWholeHeader};
+ghost use Rattle.tp_image.specs.Layout.{header_bytes};
 
 use crate::fault::{ImageCode, ImageFault};
 use crate::image::{Image, Version};
@@ -56,8 +57,7 @@ fn version_of(bytes: &[u8]) -> Option<Version>
 fn is_outside(least: u32, most: u32, n: u16) -> bool
     ensures { result ≡ is_outside least most n }
 {
-    let n = u32::from(n);
-    n < least || most < n
+    !(least..=most).contains(&u32::from(n))
 }
 
 /// The refusal of a test.

@@ -17,8 +17,8 @@ pub enum Version {
 }
 
 impl Version {
-    ghost use Rattle.tp_image.specs.Image.{most_code, most_workspace};
-    ghost use Rattle.tp_image.specs.Faults.{header_bytes};
+    ghost use Rattle.tp_image.specs.Limits.{most_code, most_workspace};
+    ghost use Rattle.tp_image.specs.Layout.{header_bytes};
 
     /// The bytes of a header, its magic counted.
     pub(crate) fn header_bytes(self) -> usize

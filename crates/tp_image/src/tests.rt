@@ -206,6 +206,48 @@ fn reads_long_codes(rt: HostRuntime) -> Result<(), Fail> {
     Ok(())
 }
 
+/// The largest image of version 2: 16 rows, 512 initial words and 8,192 code bytes. Row i has head i, and word i and
+/// code byte i are i's low byte.
+fn largest(alloc: Global) -> Result<Vec<u8>, AllocError> {
+    let mut bytes = Vec::from_slice(
+        alloc,
+        b"TPW2\x00\x20\x00\x02\xFF\x01\x40\x00\x40\x00\x10\x00\x00\x02",
+    )?;
+    for row in 0..16u8 {
+        bytes.extend_from_slice(&[row, 0, 1, 2, 3, 4, 5, 6, 7, 8, 9, 0xFF])?;
+    }
+    for word in 0..512u32 {
+        bytes.extend_from_slice(&[(word % 256) as u8, 0, 0, 0])?;
+    }
+    for byte in 0..8192u32 {
+        bytes.push((byte % 256) as u8)?;
+    }
+    Ok(bytes)
+}
+
+#[test]
+fn reads_and_writes_the_largest(rt: HostRuntime) -> Result<(), Fail> {
+    let bytes = largest(rt.alloc())?;
+    assert_eq!(rt; bytes.len(), 10_450);
+    let image = read_image(rt.alloc(), &bytes)?;
+    let sizes = (image.loops.len(), image.initial.len(), image.code.len());
+    assert_eq!(rt; sizes, (16, 512, 8192));
+    assert_eq!(rt; (image.workspace, image.start), (512, 511));
+    let last = LoopRow {
+        head: 15,
+        lend: 0x0201,
+        control: 0x0403,
+        count: 0x0605,
+        start: -16_185_337,
+    };
+    assert_eq!(rt; image.loops.last(), Some(&last));
+    assert_eq!(rt; image.initial.last(), Some(&255));
+    assert_eq!(rt; write_image(rt.alloc(), &image)?, bytes);
+    let upgraded = upgrade(rt.alloc(), &image)?;
+    assert_eq!(rt; write_image(rt.alloc(), &upgraded)?, bytes);
+    Ok(())
+}
+
 #[test]
 fn upgrades(rt: HostRuntime) -> Result<(), Fail> {
     let image = upgrade(rt.alloc(), &read_image(rt.alloc(), INCREMENT)?)?;

@@ -1,7 +1,8 @@
 -- What a faulty wire means: a device over its medium, with a plan of when it fails.
-use Rattle.std.specs.Prelude.{ℕ, ◌+◌, Bool, not, nat_eq, min, if◌then◌else◌}
+use Rattle.std.specs.Prelude.{◌≡◌, ◌↔◌, ℕ, ◌+◌, Bool, not, nat_eq, min, if◌then◌else◌, IsTrue, IsErrOf}
 use Rattle.std.specs.Borrow.{GName}
-use Rattle.tp_link.specs.Device.{DeviceState}
+use Rattle.tp_link.specs.declared.device.DeviceFault.TheVariants.{Failed}
+use Rattle.tp_link.specs.Device.{DeviceState, Answer}
 use Rattle.tp_link.specs.Medium.{MediumState, device_over}
 use Rattle.tp_link.specs.declared.faulty.FaultyWire.{FaultyWire}
 
@@ -22,6 +23,11 @@ fails_next p = nat_eq (p.calls + 1) p.failing_call
 -- one more call was made
 abbrev pub after_call : FaultPlan → FaultPlan
 after_call p = record p { calls = min (p.calls + 1) p.failing_call }
+
+-- what a send or a receive answers where the plan is p, and the plan after it
+pub record FollowsPlan (p : FaultPlan) (answer : Answer) (q : FaultPlan) : Type 0 where
+  pub failing : IsErrOf answer Failed ↔ IsTrue (fails_next p)
+  pub counted : q ≡ after_call p
 
 abbrev pub can_fail : FaultPlan → Bool
 can_fail p = not (nat_eq p.failing_call 0)

@@ -61,16 +61,22 @@
 ghost use Rattle.std.specs.Prelude.{◌≡◌, ◌≤◌, length};
 ghost use Rattle.tp_link.specs.Device.{DeviceState, after_send, after_receive, after_close, received, MayAnswerSend, MayAnswerReceive};
 
-/// Why a device refused a send or a receive: the first that holds of K4, K1, and K2 or K3.
-#[derive(Clone, Copy, Debug, PartialEq, Eq)]
+use thiserror::Error;
+
+/// Why a device refused a send or a receive: the first that holds of K4, K1, and K2 or K3. It prints as that code.
+#[derive(Clone, Copy, Debug, PartialEq, Eq, Error)]
 pub enum DeviceFault {
     /// K1: the device is closed.
+    #[error("K1")]
     Closed,
     /// K2: the bytes that it holds and those to be sent are more than its room.
+    #[error("K2")]
     Full,
     /// K3: it holds fewer bytes than were asked for.
+    #[error("K3")]
     Short,
     /// K4: it failed in this call.
+    #[error("K4")]
     Failed,
 }
 

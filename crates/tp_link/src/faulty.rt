@@ -62,17 +62,16 @@ impl<'a> Drop for FaultyWire<'a> {
 }
 
 impl<'a> LinkDevice for FaultyWire<'a> {
-    ghost use Rattle.std.specs.Prelude.{◌↔◌, length, IsTrue, IsErrOf};
+    ghost use Rattle.std.specs.Prelude.{length};
     ghost use Rattle.tp_link.specs.Device.{after_send, after_receive, after_close, received, MayAnswerSend, MayAnswerReceive};
-    ghost use Rattle.tp_link.specs.FaultyWire.{device_of, loan_of, plan_of, fails_next, after_call};
+    ghost use Rattle.tp_link.specs.FaultyWire.{device_of, loan_of, plan_of, FollowsPlan};
 
     ghost state = { device_of };
 
     fn send(&mut self, bytes: &[u8]) -> Result<(), DeviceFault>
         ensures state { device_of self.new ≡ after_send (device_of self.old) bytes.now result }
         ensures answer { MayAnswerSend (device_of self.old) bytes.now result }
-        ensures failing { IsErrOf result DeviceFault.Failed ↔ IsTrue (fails_next (plan_of self.old)) }
-        ensures plan { plan_of self.new ≡ after_call (plan_of self.old) }
+        ensures plan { FollowsPlan (plan_of self.old) result (plan_of self.new) }
         ensures same_loan { loan_of self.new ≡ loan_of self.old }
     {
         if self.count_call() {
@@ -85,8 +84,7 @@ impl<'a> LinkDevice for FaultyWire<'a> {
         ensures state { device_of self.new ≡ after_receive (device_of self.old) (length into.old) result }
         ensures into { into.new ≡ received (device_of self.old) into.old result }
         ensures answer { MayAnswerReceive (device_of self.old) (length into.old) result }
-        ensures failing { IsErrOf result DeviceFault.Failed ↔ IsTrue (fails_next (plan_of self.old)) }
-        ensures plan { plan_of self.new ≡ after_call (plan_of self.old) }
+        ensures plan { FollowsPlan (plan_of self.old) result (plan_of self.new) }
         ensures same_loan { loan_of self.new ≡ loan_of self.old }
     {
         if self.count_call() {

@@ -13,6 +13,7 @@
 mod boxed;
 mod device;
 mod faulty;
+pub mod laws;
 mod links;
 mod medium;
 mod owned;

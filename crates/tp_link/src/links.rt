@@ -2,6 +2,8 @@ ghost use Rattle.std.specs.Prelude.{◌≡◌};
 ghost use Rattle.tp_link.specs.Device.{after_close};
 
 use crate::device::{DeviceFault, LinkDevice};
+use std::fmt;
+use thiserror::Error;
 
 /// One of a member's three devices.
 #[derive(Clone, Copy, Debug, PartialEq, Eq)]
@@ -14,10 +16,28 @@ pub enum Link {
     Trace,
 }
 
+impl fmt::Display for Link {
+    ghost use Rattle.std.specs.Prelude.{Some};
+    ghost use Rattle.tp_link.specs.Links.{link_text};
+
+    ghost output = { λ link. Some (link_text link) };
+
+    fn fmt<W: fmt::Write>(&self, f: &mut fmt::Formatter<W>) -> fmt::Result {
+        f.write_str(match self {
+            Link::Source => "source",
+            Link::Sink => "sink",
+            Link::Trace => "trace",
+        })
+    }
+}
+
 /// A refusal by one of a member's devices.
-#[derive(Clone, Copy, Debug, PartialEq, Eq)]
+#[derive(Clone, Copy, Debug, PartialEq, Eq, Error)]
+#[error("{code} at {link}")]
 pub struct LinkFault {
+    /// Which device refused: the fault's place.
     pub link: Link,
+    /// Why it refused.
     pub code: DeviceFault,
 }
 

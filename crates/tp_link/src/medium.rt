@@ -127,11 +127,8 @@ impl Medium {
         if self.bytes.len() < into.len() {
             return Err(DeviceFault::Short);
         }
-        let taken = into.len();
-        into.copy_from_slice(&self.bytes[..taken]);
-        let rest = self.bytes.len() - taken;
-        self.bytes.copy_within(taken.., 0);
-        self.bytes.truncate(rest);
+        into.copy_from_slice(&self.bytes[..into.len()]);
+        self.bytes.drain(..into.len());
         Ok(())
     }
 }

@@ -1,9 +1,7 @@
-ghost use Rattle.std.specs.Prelude.{◌≡◌, nat_le, ◌&&◌, if◌then◌else◌};
-
 mod ends;
 mod latch;
 
-use crate::{DeviceFault, FaultyWire, LinkDevice, Medium, OwnedWire, Wire};
+use crate::{DeviceFault, FaultyWire, Link, LinkDevice, LinkFault, Medium, OwnedWire, Wire};
 use latch::Latch;
 use std::test::Fail;
 
@@ -67,21 +65,18 @@ fn a_faulty_wire_fails_in_one_call(rt: HostRuntime) -> Result<(), Fail> {
     assert_eq!(rt; into, [1, 0, 0, 0]);
     assert_eq!(rt; wire.send(&into), Ok(()));
     assert_eq!(rt; wire.faults(), 1);
-    drop(wire);
-    assert_eq!(rt; failures_in(&mut medium, 0, 5), 0);
     Ok(())
 }
 
-/// How often a faulty wire fails in a number of calls. That it does so once, where its failing call
-/// is one of them, is proved from the wire's contracts alone.
-fn failures_in(medium: &mut Medium, failing_call: u64, calls: u64) -> u64
-    ensures { result ≡ (if nat_le 1 failing_call && nat_le failing_call calls then 1 else 0) }
-{
-    let mut wire = FaultyWire::new(medium, failing_call);
-    for _call in 0..calls {
-        let _ = wire.send(&[]);
+#[test]
+fn a_faulty_wire_that_never_fails(rt: HostRuntime) -> Result<(), Fail> {
+    let mut medium = Medium::new(rt.alloc(), 4)?;
+    let mut wire = FaultyWire::new(&mut medium, 0);
+    for byte in 0..4u8 {
+        assert_eq!(rt; wire.send(&[byte]), Ok(()));
     }
-    wire.faults()
+    assert_eq!(rt; wire.faults(), 0);
+    Ok(())
 }
 
 #[test]
@@ -113,5 +108,20 @@ fn the_last_count_of_faults_is_the_end_of_them(rt: HostRuntime) -> Result<(), Fa
     assert_eq!(rt; into, [7]);
     assert_eq!(rt; device.send(&[8, 9]), Err(DeviceFault::Full));
     assert_eq!(rt; device.faults(), u64::MAX);
+    Ok(())
+}
+
+#[test]
+fn prints_faults(rt: HostRuntime) -> Result<(), Fail> {
+    let faults = [
+        (Link::Source, DeviceFault::Closed, "K1 at source"),
+        (Link::Sink, DeviceFault::Full, "K2 at sink"),
+        (Link::Source, DeviceFault::Short, "K3 at source"),
+        (Link::Trace, DeviceFault::Failed, "K4 at trace"),
+    ];
+    for (link, code, text) in faults {
+        let fault = LinkFault { link, code };
+        assert_eq!(rt; format!(in rt.alloc(); "{fault}")?.as_str(), text);
+    }
     Ok(())
 }

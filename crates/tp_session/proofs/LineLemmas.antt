@@ -1,5 +1,5 @@
 -- What is told byte by byte is what is served line by line.
-use Rattle.std.proofs.Common.{◌≡◌, ℕ, suc, nat_eq, Bool, true, false, not, ◌&&◌, if◌then◌else◌, List, [], ◌∷◌, ◌++◌, length, take, refl, ap, sym, ◌∙◌, arith, append_assoc, subst}
+use Rattle.std.proofs.Common.{◌≡◌, ℕ, nat_eq, Bool, true, false, not, ◌&&◌, if◌then◌else◌, List, [], ◌∷◌, ◌++◌, length, refl, ap, sym, ◌∙◌, arith, append_assoc}
 use Rattle.std.specs.List.{filter, list_all}
 use Rattle.std.proofs.lemmas.Bool.Decides.{nat_tests}
 use Rattle.std.proofs.lemmas.List.{append-nil}
@@ -122,21 +122,3 @@ told_ended s (b ∷ bytes) plain = by_test (told_ended record { number = next_nu
         )
     by_test next same false e =
         byte_step s b bytes e ∙ same (plain_more s.line b plain e) ∙ ap (λ l. answers_from s.number (ended_lines l)) (append_assoc s.line (b ∷ []) bytes)
-
--- the lines that a beginning of an input ends are its first lines
-pub first_lines : (line bytes rest : List ℕ) → IsPlain line → ended_lines (line ++ bytes) ≡ take (length (ended_lines (line ++ bytes))) (lines_of (line ++ bytes ++ rest))
-first_lines line [] rest plain = rw (append-nil, ended_plain line plain) refl
-first_lines line (b ∷ bytes) rest plain = by_test (first_lines [] bytes rest refl) (λ p. first_lines (line ++ b ∷ []) bytes rest p) (nat_eq b line_feed) refl
-  where
-    by_test : ended_lines bytes ≡ take (length (ended_lines bytes)) (lines_of (bytes ++ rest))
-        → (IsPlain (line ++ b ∷ []) → ended_lines ((line ++ b ∷ []) ++ bytes) ≡ take (length (ended_lines ((line ++ b ∷ []) ++ bytes))) (lines_of ((line ++ b ∷ []) ++ bytes ++ rest)))
-        → (p : Bool) → nat_eq b line_feed ≡ p → ended_lines (line ++ b ∷ bytes) ≡ take (length (ended_lines (line ++ b ∷ bytes))) (lines_of (line ++ b ∷ bytes ++ rest))
-    by_test next same true e =
-        let feed : b ≡ line_feed = is_feed b e in
-        let first : Line = record { bytes = line; ended = true } in
-        let ends : ended_lines (line ++ line_feed ∷ bytes) ≡ first ∷ ended_lines bytes = ap (filter (λ line. line.ended)) (lines_ended line bytes plain) in
-        let all : lines_of (line ++ line_feed ∷ bytes ++ rest) ≡ first ∷ lines_of (bytes ++ rest) = ap lines_of (append_assoc line (line_feed ∷ bytes) rest) ∙ lines_ended line (bytes ++ rest) plain in
-        rw feed (ends ∙ ap (λ ls. first ∷ ls) next ∙ sym (ap (λ ls. take (length ls) (lines_of (line ++ line_feed ∷ bytes ++ rest))) ends ∙ ap (take (suc (length (ended_lines bytes)))) all))
-    by_test next same false e =
-        let P : List ℕ → Type 0 = λ l. ended_lines l ≡ take (length (ended_lines l)) (lines_of (l ++ rest)) in
-        subst P (append_assoc line (b ∷ []) bytes) (same (plain_more line b plain e))

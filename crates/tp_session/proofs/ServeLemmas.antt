@@ -1,16 +1,16 @@
 -- From what is told byte by byte to what is served.
-use Rattle.std.proofs.Common.{◌≡◌, ℕ, List, [], ◌++◌, length, take, drop, Option, Some, None, Result, Ok, Err, refl, ap, sym, ◌∙◌, append_assoc, subst, IfSome}
+use Rattle.std.proofs.Common.{◌≡◌, ◌≤◌, arith, length-drop, length-take, ℕ, List, [], ◌++◌, length, take, drop, Option, Some, None, Result, Ok, Err, refl, ap, sym, ◌∙◌, append_assoc, subst, IfSome}
 use Rattle.std.specs.Io.KnownBytes.{Appends, Consumes, Keeps as KeepsKnown, IsAtEnd}
 use Rattle.std.proofs.lemmas.List.{append-nil, take-append-drop}
 use Rattle.tp_session.specs.declared.fault.ServeFault.{ServeFault}
 use Rattle.tp_session.specs.declared.fault.ServeFault.TheVariants.{Read, Write, Memory}
 use Rattle.tp_session.specs.declared.progress.Progress.{Progress}
-use Rattle.tp_session.specs.Input.{lines_of, ended_lines}
-use Rattle.tp_session.specs.Served.{answers_from, served, Serves}
+use Rattle.tp_session.specs.Input.{ended_lines}
+use Rattle.tp_session.specs.Served.{answers_from, most_read, served, Serves}
 use Rattle.tp_session.specs.Stand.{beginning, after, told, told_at_end, Keeps, Fed, Finished}
 use Rattle.tp_session.proofs.KnownBytes.{appends_none, appends_more, appends_same, appends_front, consumes_more, consumes_keeps}
 use Rattle.tp_session.proofs.StandLemmas.{after-append, told-append}
-use Rattle.tp_session.proofs.LineLemmas.{told_all, told_ended, first_lines}
+use Rattle.tp_session.proofs.LineLemmas.{told_all, told_ended}
 
 -- the input so far: what was taken of it, and what was told of that
 pub record SoFar (input : List ℕ) (left old new : Option (List ℕ)) (p : Progress) : Type 0 where
@@ -48,10 +48,14 @@ told_front input taken rest e = (
   ap served e ∙ sym (told_all beginning (taken ++ rest) refl) ∙ ap (λ t. t ++ told_at_end (after beginning (taken ++ rest))) (told-append beginning taken rest) ∙ append_assoc (told beginning taken) (told (after beginning taken) rest) _,
 )
 
+-- of a full buffer no more than that is read
+pub short_read : (n : ℕ) (buf : List ℕ) → length buf ≡ most_read → length (take n buf) ≤ most_read
+short_read n buf full = omega (arith, full, length-take n buf)
+
 -- feeding failed
-pub serves_fed : (input : List ℕ) (left left' old new new' : Option (List ℕ)) (p : Progress) (bytes : List ℕ) (e : ServeFault) (so_far : SoFar input left old new p) → Consumes left left' bytes → Fed (after beginning so_far.taken) bytes new new' (Err e) → Serves input left' old new' (Err e)
-serves_fed input left left' old new new' p bytes Read so_far consumed fed = absurd fed
-serves_fed input left left' old new new' p bytes Write so_far consumed fed =
+pub serves_fed : (input : List ℕ) (left left' old new new' : Option (List ℕ)) (p : Progress) (bytes : List ℕ) (e : ServeFault) (so_far : SoFar input left old new p) → Consumes left left' bytes → length bytes ≤ most_read → Fed (after beginning so_far.taken) bytes new new' (Err e) → Serves input left' old new' (Err e)
+serves_fed input left left' old new new' p bytes Read so_far consumed short fed = absurd fed
+serves_fed input left left' old new new' p bytes Write so_far consumed short fed =
     let taken = so_far.taken in
     let whole = known_split input left' (taken ++ bytes) (taken_more input left left' taken bytes so_far.split consumed) in
     let front = told_front input (taken ++ bytes) whole.0 whole.1 in
@@ -60,16 +64,19 @@ serves_fed input left left' old new new' p bytes Write so_far consumed fed =
     front.1 ∙ ap (λ l. l ++ front.0) (told-append beginning taken bytes ∙ ap (λ l. told beginning taken ++ l) (sym (take-append-drop fed.0 t)) ∙ sym (append_assoc (told beginning taken) (take fed.0 t) (drop fed.0 t)))
     ∙ append_assoc (told beginning taken ++ take fed.0 t) (drop fed.0 t) front.0 in
     appends_front old new' (told beginning taken ++ take fed.0 t) _ (served input) all (appends_more old new new' (told beginning taken) (take fed.0 t) so_far.wrote fed.1)
-serves_fed input left left' old new new' p bytes Memory so_far consumed fed =
+serves_fed input left left' old new new' p bytes Memory so_far consumed short fed =
     let taken = so_far.taken in
-    let some = taken ++ take fed.0 bytes in
-    let whole = known_split input left' (taken ++ bytes) (taken_more input left left' taken bytes so_far.split consumed) in
-    let input_is : input ≡ some ++ (drop fed.0 bytes ++ whole.0) =
-    whole.1 ∙ ap (λ l. l ++ whole.0) (ap (λ l. taken ++ l) (sym (take-append-drop fed.0 bytes)) ∙ sym (append_assoc taken (take fed.0 bytes) (drop fed.0 bytes))) ∙ append_assoc some (drop fed.0 bytes) whole.0 in
-    let lines : ended_lines some ≡ take (length (ended_lines some)) (lines_of input) = first_lines [] some (drop fed.0 bytes ++ whole.0) refl ∙ ap (λ l. take (length (ended_lines some)) (lines_of l)) (sym input_is) in
-    let tells : told beginning taken ++ told (after beginning taken) (take fed.0 bytes) ≡ answers_from 1 (take (length (ended_lines some)) (lines_of input)) =
-    sym (told-append beginning taken (take fed.0 bytes)) ∙ told_ended beginning some refl ∙ ap (answers_from 1) lines in
-    (length (ended_lines some), appends_same old new' _ _ tells (appends_more old new new' (told beginning taken) _ so_far.wrote fed.1))
+    let before = taken ++ take fed.0 bytes in
+    let all : taken ++ bytes ≡ before ++ drop fed.0 bytes =
+    ap (λ l. taken ++ l) (sym (take-append-drop fed.0 bytes)) ∙ sym (append_assoc taken (take fed.0 bytes) (drop fed.0 bytes)) in
+    let tells : told beginning taken ++ told (after beginning taken) (take fed.0 bytes) ≡ answers_from 1 (ended_lines before) =
+    sym (told-append beginning taken (take fed.0 bytes)) ∙ told_ended beginning before refl in (
+      before,
+      drop fed.0 bytes,
+      subst (λ l. Consumes (Some input) left' l) all (taken_more input left left' taken bytes so_far.split consumed),
+      omega (arith, short, length-drop fed.0 bytes),
+      appends_same old new' _ _ tells (appends_more old new new' (told beginning taken) _ so_far.wrote fed.1),
+    )
 
 -- the end of the input
 at_the_end : (input : List ℕ) (left left' : Option (List ℕ)) (taken : List ℕ) → Consumes (Some input) left taken → Consumes left left' [] → IsAtEnd left' → input ≡ taken
@@ -92,9 +99,7 @@ serves_finished input left left' old new new' p (Err Write) so_far consumed end 
     appends_front old new' _ _ (served input) all (appends_more old new new' (told beginning taken) (take done.0 rest) so_far.wrote done.1)
 serves_finished input left left' old new new' p (Err Memory) so_far consumed end done =
     let taken = so_far.taken in
-    let is : input ≡ taken = at_the_end input left left' taken so_far.split consumed end in
-    let lines : ended_lines taken ≡ take (length (ended_lines taken)) (lines_of input) = first_lines [] taken [] refl ∙ ap (λ l. take (length (ended_lines taken)) (lines_of l)) (append-nil taken ∙ sym is) in
-    (length (ended_lines taken), appends_same old new' _ _ (append-nil (told beginning taken) ∙ told_ended beginning taken refl ∙ ap (answers_from 1) lines) (appends_more old new new' (told beginning taken) [] so_far.wrote done))
+    (taken, [], taken_more input left left' taken [] so_far.split consumed, omega arith, appends_same old new' _ _ (append-nil (told beginning taken) ∙ told_ended beginning taken refl) (appends_more old new new' (told beginning taken) [] so_far.wrote done))
 
 -- nothing was taken yet
 pub nothing_taken : (o c : Option (List ℕ)) (p : Progress) → Keeps p beginning → IfSome o (λ input. SoFar input o c c p)

@@ -1,5 +1,5 @@
 -- What is written for an input.
-use Rattle.std.specs.Prelude.{ℕ, ◌+◌, ◌-◌, ◌^◌, min, nat_lt, nat_eq, if◌then◌else◌, List, [], ◌∷◌, ◌++◌, length, take, drop, codes, Option, Some, None, Result, Ok, Err}
+use Rattle.std.specs.Prelude.{ℕ, ◌+◌, ◌-◌, ◌^◌, ◌≤◌, min, nat_lt, nat_eq, if◌then◌else◌, List, [], ◌∷◌, ◌++◌, length, take, drop, codes, Option, Some, None, Result, Ok, Err}
 use Rattle.std.specs.List.{flat_map, starts_with}
 use Rattle.std.specs.Fmt.{decimal}
 use Rattle.std.specs.Io.KnownBytes.{Appends, Consumes, IsAtEnd}
@@ -15,6 +15,10 @@ use Rattle.tp_session.specs.Input.{Line, lines_of, ended_lines, said_in, line_fe
 -- the most bytes of a line before its line feed
 abbrev pub most_line : ℕ
 most_line = 32768
+
+-- the most bytes that are read at a time
+abbrev pub most_read : ℕ
+most_read = 4096
 
 -- a text as a line
 abbrev pub written : List ℕ → List ℕ
@@ -70,11 +74,14 @@ abbrev pub served : List ℕ → List ℕ
 served input = answers_from 1 (lines_of input)
 
 -- What serving has done with an input, of which some is left, and with a writer's bytes. Ok: all is read, and what is
--- served is written. Read: the answers to the whole lines that were read. Memory: those to some of the first lines.
--- Write: some of the first bytes.
+-- served is written. Read: the answers to the whole lines that were read. Memory: those to the whole lines before the
+-- byte at which a growth was refused; that byte is among those that were read last, or the end of the input. Write: some
+-- of the first bytes.
 abbrev pub Serves : List ℕ → Option (List ℕ) → Option (List ℕ) → Option (List ℕ) → Result (Unit {0}) ServeFault → Type 0
 Serves input left old new (Ok _) = IsAtEnd left × Appends old new (served input)
 Serves input left old new (Err fault.Read) =
     (taken : List ℕ) × Consumes (Some input) left taken × Appends old new (answers_from 1 (ended_lines taken))
-Serves input left old new (Err fault.Memory) = (n : ℕ) × Appends old new (answers_from 1 (take n (lines_of input)))
+Serves input left old new (Err fault.Memory) =
+    (before : List ℕ) × (rest : List ℕ) × Consumes (Some input) left (before ++ rest) × (length rest ≤ most_read)
+    × Appends old new (answers_from 1 (ended_lines before))
 Serves input left old new (Err fault.Write) = (n : ℕ) × Appends old new (take n (served input))

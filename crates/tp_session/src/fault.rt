@@ -14,7 +14,7 @@ pub enum ServeFault {
     /// The writer failed, took no byte, or could not be flushed. A beginning of the answers is written.
     #[error("write")]
     Write,
-    /// A growth was refused. The answers of the lines before this one are written.
+    /// A growth was refused. The answers of the lines before the one that wanted it are written.
     #[error("memory")]
     Memory,
 }

@@ -39,6 +39,47 @@ fn a_dropped_box_ends_its_wire(rt: HostRuntime) -> Result<(), Fail> {
     Ok(())
 }
 
+/// As many bytes as a medium of a member can hold, counting up from one of them.
+fn full(alloc: Global, first: u8) -> Result<Vec<u8>, AllocError> {
+    let mut bytes = Vec::with_capacity(alloc, 256)?;
+    for i in 0..=255u8 {
+        bytes.push(first.wrapping_add(i))?;
+    }
+    Ok(bytes)
+}
+
+#[test]
+fn a_full_medium_ends(rt: HostRuntime) -> Result<(), Fail> {
+    let bytes = full(rt.alloc(), 0)?;
+    let mut medium = Medium::new(rt.alloc(), 256)?;
+    let mut wire = Box::new(rt.alloc(), Wire::new(&mut medium))?;
+    assert_eq!(rt; wire.send(&bytes), Ok(()));
+    drop(wire);
+    assert_ended(&rt, &medium, &bytes);
+    let mut wire = Box::new(rt.alloc(), FaultyWire::new(&mut medium, 0))?;
+    let mut first = [1];
+    assert_eq!(rt; wire.receive(&mut first), Ok(()));
+    assert_eq!(rt; wire.send(&first), Ok(()));
+    drop(wire);
+    let bytes = full(rt.alloc(), 1)?;
+    assert_ended(&rt, &medium, &bytes);
+    let (owned, ended) = OwnedWire::new(rt.alloc(), medium)?;
+    drop(owned);
+    assert_landed(&rt, &ended, &bytes);
+    Ok(())
+}
+
+#[test]
+fn an_empty_medium_ends(rt: HostRuntime) -> Result<(), Fail> {
+    for room in [0, 256] {
+        let (owned, ended) = OwnedWire::new(rt.alloc(), Medium::new(rt.alloc(), room)?)?;
+        let device: Box<dyn LinkDevice + Send> = Box::new(rt.alloc(), owned)?;
+        drop(device);
+        assert_landed(&rt, &ended, &[]);
+    }
+    Ok(())
+}
+
 /// The six orders in which three boxes can be dropped.
 const ORDERS: [[usize; 3]; 6] = [
     [0, 1, 2],

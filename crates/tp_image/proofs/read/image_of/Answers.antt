@@ -2,7 +2,7 @@ use Rattle.std.proofs.Common.{◌≡◌, ℕ, ◌*◌, List, length, take, drop,
 use Rattle.std.specs.List.{flat_map}
 use Rattle.tp_image.specs.Image.{ImageValue}
 use Rattle.tp_image.specs.Text.{IsTextOf}
-use Rattle.tp_image.specs.Faults.{header_bytes}
+use Rattle.tp_image.specs.Layout.{header_bytes}
 use Rattle.tp_image.proofs.Headers.{passes_tests}
 use Rattle.tp_image.proofs.Cuts.{IsTextOf-cuts}
 use Rattle.tp_image.proofs.read.image_of.Goals as goal

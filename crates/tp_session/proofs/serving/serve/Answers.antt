@@ -1,7 +1,7 @@
 use Rattle.std.proofs.Common.{◌<◌, length, arith}
 use Rattle.std.proofs.lemmas.Result.{err_from_is_err_and}
 use Rattle.tp_session.specs.Stand.{after, beginning}
-use Rattle.tp_session.proofs.ServeLemmas.{nothing_taken, if_known, none_read, serves_read, serves_finished, serves_fed, so_far_more}
+use Rattle.tp_session.proofs.ServeLemmas.{nothing_taken, if_known, none_read, serves_read, serves_finished, serves_fed, short_read, so_far_more}
 use Rattle.tp_session.proofs.serving.serve.Goals as goal
 
 pub loop-init : goal.loop-init
@@ -20,7 +20,7 @@ returns-then-count-eq0 g c =
 pub returns-in_err-feed : goal.returns-in_err-feed
 returns-in_err-feed g c =
     let p = err_from_is_err_and c.from_residual.result c.from_residual.ensures.1 in
-    rw (p.1, p.2) (if_known _ c.loop.invariant.so_far (λ input so_far. serves_fed input _ _ _ _ _ c.loop.progress _ _ so_far c.in-Ok.ensures.bytes.0 (c.in_err-feed.ensures.fed (after beginning so_far.taken) so_far.stands)))
+    rw (p.1, p.2) (if_known _ c.loop.invariant.so_far (λ input so_far. serves_fed input _ _ _ _ _ c.loop.progress _ _ so_far c.in-Ok.ensures.bytes.0 (short_read _ _ (omega (arith, c.read.auto.buf, c.loop.invariant.room))) (c.in_err-feed.ensures.fed (after beginning so_far.taken) so_far.stands)))
 
 pub loop-preserved : goal.loop-preserved
 loop-preserved g c = record {

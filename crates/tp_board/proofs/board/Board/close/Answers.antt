@@ -1,8 +1,9 @@
 use Rattle.std.proofs.Common.{ℕ, ◌≤◌, min, nat_lt, List, [], ◌∷◌, length, refl, sym, ap, ◌∙◌, subst, arith, length-append}
 use Rattle.tp_board.specs.declared.view.View.{View}
 use Rattle.tp_board.specs.declared.rule.Size.{Size}
-use Rattle.tp_board.specs.Ledgers.{views_of, join_of_all, Balances}
-use Rattle.tp_board.specs.Rule.{size}
+use Rattle.tp_board.specs.Words.{size}
+use Rattle.tp_board.specs.Boards.{views_of}
+use Rattle.tp_board.specs.Ledgers.{join_of_all, Balances}
 use Rattle.tp_board.proofs.Allowed.{closes}
 use Rattle.tp_board.proofs.Closing.{views_pop, word_at, accounts}
 use Rattle.tp_board.proofs.Steps.{Whole}

@@ -1,6 +1,6 @@
 use Rattle.std.proofs.Common.{◌≡◌, ◌+◌, ◌<◌, [], length, All}
-use Rattle.tp_board.specs.Boards.{IsSeatOf}
-use Rattle.tp_board.specs.Ledgers.{views_of, join_of_all}
+use Rattle.tp_board.specs.Boards.{IsSeatOf, views_of}
+use Rattle.tp_board.specs.Ledgers.{join_of_all}
 use Rattle.tp_board.proofs.board.Board.gather.Given as goal
 
 abbrev pub invariant-loop-next : goal.invariant-loop-next

@@ -1,6 +1,6 @@
 use Rattle.std.proofs.Common.{◌≡◌, ◌-◌, ◌≤◌, [], replicate, vec_capacity}
-use Rattle.tp_board.specs.Boards.{seat_of}
 use Rattle.tp_board.specs.Views.{newcomer}
+use Rattle.tp_board.specs.Boards.{seat_of}
 use Rattle.tp_board.proofs.board.Board.new.Given as goal
 
 abbrev pub invariant-loop-made : goal.invariant-loop-made

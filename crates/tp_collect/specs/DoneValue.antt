@@ -1,0 +1,22 @@
+-- What a result says, and of which run it is the result.
+use Rattle.std.specs.Prelude.{ℕ, Bool, List}
+use Rattle.tp_image.specs.Image.{ImageValue}
+use Rattle.tp_step.specs.Runs.{Run, RunsAlone}
+
+pub record DoneValue : Type 0 where
+  pub batch : ℕ
+  pub packet : ℕ
+  pub result : List ℕ
+  pub error : Bool
+  pub steps : ℕ
+  pub trace : List ℕ
+  -- the image and the packet whose run it is
+  pub image : ImageValue
+  pub bytes : List ℕ
+
+abbrev pub run_of_done : DoneValue → Run
+run_of_done done = record { result = done.result; error = done.error; steps = done.steps; trace = done.trace }
+
+-- it is what the run of the packet alone gives
+abbrev pub IsAlone : DoneValue → Type 0
+IsAlone done = RunsAlone done.image done.bytes (run_of_done done)

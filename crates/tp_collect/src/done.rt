@@ -1,0 +1,72 @@
+//! Results of runs.
+
+ghost use Rattle.std.specs.Prelude.{◌≡◌};
+ghost use Rattle.tp_step.specs.Runs.{RunsAlone};
+
+use crate::limits::MESSAGE_BYTES;
+use arrayvec::ArrayVec;
+use std::marker::Model;
+use std::snapshot::Snapshot;
+use tp_image::Image;
+
+/// What the run of one packet alone gave. A contract also sees the image and the packet whose run it is (`image`,
+/// `bytes`); at run time they are not there.
+#[derive(Drop)]
+pub struct Done {
+    /// The number of the batch.
+    pub batch: u64,
+    /// The packet's number in the batch, from 0.
+    pub packet: u32,
+    /// The result, in bytes.
+    pub result: ArrayVec<u8, MESSAGE_BYTES>,
+    /// The error flag at the end.
+    pub error: bool,
+    /// How many instruction bytes were executed.
+    pub steps: u32,
+    /// The bytes of all trace messages, in the order in which they were sent.
+    pub trace: ArrayVec<u8, MESSAGE_BYTES>,
+    image: Snapshot<Image>,
+    bytes: Snapshot<ArrayVec<u8, MESSAGE_BYTES>>,
+}
+
+impl Model for Done {
+    ghost use Rattle.tp_collect.specs.DoneValue.{DoneValue};
+
+    ghost Value = { DoneValue };
+
+    ghost use Rattle.tp_collect.specs.DoneValue.{IsAlone};
+    ghost use Rattle.tp_collect.specs.View.{value_of_done};
+
+    ghost view = { value_of_done };
+
+    ghost invariant = { λ d. IsAlone (value_of_done d) };
+}
+
+impl Done {
+    /// The result of a packet of a batch: `bytes` are the packet's. It takes no memory, and borrows neither the image nor
+    /// the packet.
+    pub fn new(
+        batch: u64,
+        image: &Image,
+        packet: u32,
+        bytes: &ArrayVec<u8, MESSAGE_BYTES>,
+        result_bytes: ArrayVec<u8, MESSAGE_BYTES>,
+        error: bool,
+        steps: u32,
+        trace: ArrayVec<u8, MESSAGE_BYTES>,
+    ) -> Done
+        requires { RunsAlone image.now bytes.now.items record { result = result_bytes.items; error = error; steps = steps; trace = trace.items } }
+        ensures { result ≡ record { batch = batch; packet = packet; result = result_bytes.items; error = error; steps = steps; trace = trace.items; image = image.now; bytes = bytes.now.items } }
+    {
+        Done {
+            batch,
+            packet,
+            result: result_bytes,
+            error,
+            steps,
+            trace,
+            image: Snapshot::of(image),
+            bytes: Snapshot::of(bytes),
+        }
+    }
+}

@@ -1,0 +1,129 @@
+//! The calls.
+
+use crate::answer::{Answer, Tally, same_if};
+use crate::page::Page;
+use arrayvec::ArrayVec;
+use std::alloc::Global;
+use std::sync::Wait;
+use tp_collect::Collector;
+use tp_decode::{DecodeFault, Instr, Listing, decode};
+use tp_image::{Image, ImageFault, read_image, upgrade, write_image};
+use tp_link::{LinkDevice, Medium, OwnedWire, Wire};
+use tp_session::{ServeFault, serve};
+
+/// Makes every call, and counts the answers.
+pub fn all(rt: &impl Wait, alloc: Global) -> Tally {
+    let mut tally = Tally::new();
+    tally.add(served(rt, alloc));
+    listings(alloc, &mut tally);
+    images(alloc, &mut tally);
+    devices(alloc, &mut tally);
+    tally
+}
+
+const INPUT: &[u8] = b"LIST 604F\nHELLO\nLIST 24F2616F40\nLIST 41F3\nLIST 2222";
+
+const OUTPUT: &[u8] =
+    b"0 604f ldc -1\nDONE 1\nNO E1 2\n0 24f2 mint\n2 616f40 ldc 256 least 212040\nDONE 2\nNO D3 1\nNO D1 0\n";
+
+/// How much of the output is written before each line.
+const BEFORE: [usize; 5] = [0, 21, 29, 78, 86];
+
+/// Serving. After Memory the answers to some of the first lines are written, each of them whole.
+fn served(rt: &impl Wait, alloc: Global) -> Answer {
+    let mut reader = INPUT;
+    let mut page = Page::new();
+    let result = serve(rt, alloc, &mut reader, &mut page);
+    let written = page.written();
+    match result {
+        Ok(()) => same_if(written == OUTPUT),
+        Err(ServeFault::Memory) if OUTPUT.starts_with(written) && BEFORE.contains(&written.len()) =>
+            Answer::Memory,
+        Err(_) => Answer::Other,
+    }
+}
+
+/// Cutting a code, and the text of an instruction.
+fn listings(alloc: Global, tally: &mut Tally) {
+    match decode(alloc, &[0x60, 0x4F, 0x24, 0xF2, 0x24, 0xF2]) {
+        Ok(listing) => {
+            tally.add(same_if(listing.at(2) == Some(Instr::Mint) && listing.starts().len() == 3));
+            tally.add(text(alloc, &listing));
+        }
+        Err(DecodeFault::Memory) => tally.add(Answer::Memory),
+        Err(_) => tally.add(Answer::Other),
+    }
+}
+
+fn text(alloc: Global, listing: &Listing) -> Answer {
+    if listing.starts().is_empty() {
+        return Answer::Other;
+    }
+    match listing.text(alloc, 0) {
+        Ok(text) => same_if(text.as_str() == "0 604f ldc -1"),
+        Err(_) => Answer::Memory,
+    }
+}
+
+/// An image of version 2 with a loop row and an initial word.
+const IMAGE: &[u8] = b"TPW2\x02\x00\x08\x00\x05\x00\x01\x00\x01\x00\x01\x00\x01\x00\
+    \x01\x00\x02\x00\x03\x00\x04\x00\x05\x00\x00\x00\x2A\x00\x00\x00\x21\xF5";
+
+/// Reading, writing and upgrading an image.
+fn images(alloc: Global, tally: &mut Tally) {
+    match read_image(alloc, IMAGE) {
+        Ok(image) => {
+            tally.add(same_if(is_read(&image)));
+            tally.add(written(alloc, &image));
+            tally.add(collected(alloc, &image));
+            tally.add(match upgrade(alloc, &image) {
+                Ok(same) => same_if(is_read(&same)),
+                Err(ImageFault::Memory) => Answer::Memory,
+                Err(_) => Answer::Other,
+            });
+        }
+        Err(ImageFault::Memory) => tally.add(Answer::Memory),
+        Err(_) => tally.add(Answer::Other),
+    }
+}
+
+fn is_read(image: &Image) -> bool {
+    let rows = image.loops.as_slice();
+    image.version() == 2
+        && rows.len() == 1
+        && rows.iter().all(|row| row.lend == 2 && row.start == 5)
+        && image.initial.as_slice() == [42].as_slice()
+        && image.code.as_slice() == [0x21, 0xF5].as_slice()
+}
+
+fn written(alloc: Global, image: &Image) -> Answer {
+    match write_image(alloc, image) {
+        Ok(bytes) => same_if(bytes.as_slice() == IMAGE),
+        Err(ImageFault::Memory) => Answer::Memory,
+        Err(_) => Answer::Other,
+    }
+}
+
+/// Making a collector, of packets whose bytes it does not look at.
+fn collected(alloc: Global, image: &Image) -> Answer {
+    let packets = [ArrayVec::new(), ArrayVec::new(), ArrayVec::new()];
+    match Collector::new(alloc, 7, image, &packets) {
+        Ok(collector) => same_if(collector.finish().entries.len() == 3),
+        Err(_) => Answer::Memory,
+    }
+}
+
+/// Making a medium, and a wire that owns it.
+fn devices(alloc: Global, tally: &mut Tally) {
+    let Ok(mut medium) = Medium::new(alloc, 16) else {
+        tally.add(Answer::Memory);
+        return;
+    };
+    let mut wire = Wire::new(&mut medium);
+    tally.add(same_if(wire.room() == 16 && wire.send(&[7; 16]).is_ok()));
+    drop(wire);
+    tally.add(match OwnedWire::new(alloc, medium) {
+        Ok((wire, place)) => same_if(wire.held() == 16 && place.get().is_none()),
+        Err(_) => Answer::Memory,
+    });
+}

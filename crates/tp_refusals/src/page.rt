@@ -1,0 +1,38 @@
+use std::io;
+use std::io::Write;
+
+/// A writer that takes no memory. It takes no more than 256 bytes.
+#[derive(Drop)]
+pub struct Page {
+    bytes: [u8; 256],
+    taken: usize,
+}
+
+impl Page {
+    /// An empty page.
+    pub fn new() -> Page {
+        Page {
+            bytes: [0; 256],
+            taken: 0,
+        }
+    }
+
+    /// What was written.
+    pub fn written(&self) -> &[u8] {
+        self.bytes.get(..self.taken).unwrap_or(&[])
+    }
+}
+
+impl Write for Page {
+    fn write(&mut self, buf: &[u8]) -> io::Result<usize> {
+        let room = self.bytes.get_mut(self.taken..).unwrap_or(&mut []);
+        let count = buf.len().min(room.len());
+        room[..count].copy_from_slice(&buf[..count]);
+        self.taken = self.taken.saturating_add(count);
+        Ok(count)
+    }
+
+    fn flush(&mut self) -> io::Result<()> {
+        Ok(())
+    }
+}
