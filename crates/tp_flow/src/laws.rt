@@ -6,7 +6,9 @@ ghost use Rattle.tp_image.specs.Image.{ImageValue};
 ghost use Rattle.tp_flow.specs.declared.range.LoopRange.{LoopRange};
 ghost use Rattle.tp_flow.specs.NestRanges.{ranges, contains};
 ghost use Rattle.tp_flow.specs.FlowFaults.{first_flow_fault};
-ghost use Rattle.tp_flow.specs.NestKept.{KeepsNest};
+ghost use Rattle.tp_flow.specs.NestKept.{depth_at, KeepsNest};
+ghost use Rattle.tp_flow.specs.Limits.{most_depth};
+ghost use Rattle.tp_flow.specs.LoopsAround.{rows_around};
 ghost use Rattle.tp_flow.specs.AroundKept.{KeepsAround};
 ghost use Rattle.tp_flow.specs.RowRules.{is_start};
 ghost use Rattle.tp_image.specs.declared.image.LoopRow.{LoopRow};
@@ -46,12 +48,15 @@ pub fn instructions_stand_in_order()
         at < to → at + length cut.bytes ≤ to }
 {}
 
-/// The loops around an address are as many as contain it; and where no rule of flow is broken, each of them is a loop of
-/// the nest that contains it, and lies within all before it.
-#[tactic(auto, using(crate::proofs::FlowAround::length_around, crate::proofs::FlowAround::each_around, crate::proofs::FlowAround::outermost_first))]
+/// The loops around an address are as many as contain it, at most four in a nest that passed; and where no rule of flow
+/// is broken, each of them is a loop of the nest that contains it, and lies within all before it.
+#[tactic(auto, using(crate::proofs::FlowAround::length_around, crate::proofs::FlowAround::each_around, crate::proofs::FlowAround::outermost_first, crate::proofs::RowNumbers::length_numbers))]
 pub fn loops_around_an_address()
     ensures number { (nest : List LoopRange) (at : ℕ) →
         length (loops_around nest at) ≡ length (filter (λ range. contains range at) nest) }
+    ensures rows { (nest : List LoopRange) (at : ℕ) → length (rows_around nest at) ≡ depth_at nest at }
+    ensures few { (rows : List LoopRow) (workspace : ℕ) (cuts : List Cut) → KeepsNest rows workspace cuts →
+        (at : ℕ) → length (rows_around (ranges rows) at) ≤ most_depth }
     ensures each { (image : ImageValue) (cuts : List Cut) (at : ℕ) → first_flow_fault image cuts ≡ None →
         AllByRecursion (λ range. Contains (ranges image.loops) range × IsTrue (contains range at)) (loops_around (ranges image.loops) at) }
     ensures outermost { (image : ImageValue) (cuts : List Cut) (at : ℕ) → first_flow_fault image cuts ≡ None →

@@ -1,7 +1,7 @@
 //! The loop nest.
 
 ghost use Rattle.std.specs.Prelude.{◌≡◌, ◌≤◌, length, slice_get, IsTrue};
-ghost use Rattle.tp_image.specs.declared.limits.TheConstants.{LOOP_ROWS};
+ghost use Rattle.tp_image.specs.Limits.{most_loops};
 ghost use Rattle.tp_flow.specs.NestRanges.{ranges, number_ended_at, head_of};
 ghost use Rattle.tp_flow.specs.LoopsAround.{is_around, entered_by, rows_around};
 ghost use Rattle.tp_flow.specs.Edges.{target};
@@ -49,7 +49,7 @@ impl Model for Nest {
 impl Nest {
     /// The ranges of loop rows.
     pub(crate) fn of(rows: &[LoopRow]) -> Nest
-        requires { length rows.now ≤ LOOP_ROWS }
+        requires { length rows.now ≤ most_loops }
         ensures { result ≡ ranges rows.now }
     {
         let mut loops = ArrayVec::new();
@@ -62,7 +62,7 @@ impl Nest {
     /// The ranges, in the order of the rows.
     pub(crate) fn loops(&self) -> &[LoopRange]
         ensures value { result.now ≡ self.now }
-        ensures few { length result.now ≤ MOST_LOOPS }
+        ensures few { length result.now ≤ most_loops }
     {
         self.loops.as_slice()
     }
