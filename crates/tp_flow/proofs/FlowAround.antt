@@ -1,23 +1,16 @@
 -- The loops around an address lie one within the other.
-use Rattle.std.proofs.Common.{◌≡◌, ℕ, suc, Bool, true, false, ◌⊎◌, inl, inr, if◌then◌else◌, List, [], ◌∷◌, length, get_or, Contains, None, refl, ap, ◌∙◌, arith, cond, filter}
+use Rattle.std.proofs.Common.{◌≡◌, ℕ, suc, Bool, true, false, ◌⊎◌, inl, inr, if◌then◌else◌, List, [], ◌∷◌, length, get_or, Contains, None, refl, ap, ◌∙◌, cond, filter}
 use Rattle.std.specs.List.{AllByRecursion}
 use Rattle.std.proofs.lemmas.List.{get_or_default}
-use Rattle.std.proofs.lemmas.Bool.Decides.{nat_tests}
 use Rattle.tp_image.specs.Image.{ImageValue}
 use Rattle.tp_decode.specs.Cutting.{Cut}
 use Rattle.tp_flow.specs.declared.range.LoopRange.{LoopRange}
-use Rattle.tp_flow.specs.NestRanges.{ranges, contains, overlaps, lies_within}
+use Rattle.tp_flow.specs.NestRanges.{ranges, contains, lies_within}
 use Rattle.tp_flow.specs.NestKept.{IsNested}
 use Rattle.tp_flow.specs.NestAround.{with_loop, loops_around, IsOutermostFirst}
 use Rattle.tp_flow.specs.FlowFaults.{first_flow_fault}
 use Rattle.tp_flow.proofs.FlowNest.{loops_nested}
-use Rattle.tp_flow.proofs.FlowDepth.{all_by_place}
-
-within_trans : (a b c : LoopRange) → lies_within a b ≡ true → lies_within b c ≡ true → lies_within a c ≡ true
-within_trans a b c ab bc = grind (arith, nat_tests)
-
-meet : (a b : LoopRange) (at : ℕ) → contains a at ≡ true → contains b at ≡ true → overlaps a b ≡ true
-meet a b at in_a in_b = grind (arith, nat_tests)
+use Rattle.tp_flow.proofs.FlowDepth.{all_by_place, meet, within_trans}
 
 all_within : (inner outer : LoopRange) (others : List LoopRange) → lies_within inner outer ≡ true → AllByRecursion (λ other. lies_within other inner ≡ true) others → AllByRecursion (λ other. lies_within other outer ≡ true) others
 all_within inner outer [] is all = tt

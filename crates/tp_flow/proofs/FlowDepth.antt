@@ -63,13 +63,13 @@ count_all {X} p xs k d lt is =
 
 -- ---- the innermost loop
 
-meet : (a b : LoopRange) (at : ℕ) → contains a at ≡ true → contains b at ≡ true → overlaps a b ≡ true
+pub meet : (a b : LoopRange) (at : ℕ) → contains a at ≡ true → contains b at ≡ true → overlaps a b ≡ true
 meet a b at in_a in_b = grind (arith, nat_tests)
 
-within_trans : (a b c : LoopRange) → lies_within a b ≡ true → lies_within b c ≡ true → lies_within a c ≡ true
+pub within_trans : (a b c : LoopRange) → lies_within a b ≡ true → lies_within b c ≡ true → lies_within a c ≡ true
 within_trans a b c ab bc = grind (arith, nat_tests)
 
-within_itself : (a : LoopRange) → lies_within a a ≡ true
+pub within_itself : (a : LoopRange) → lies_within a a ≡ true
 within_itself a = grind (arith, nat_tests)
 
 module _ (nest : List LoopRange) (at : ℕ) (nested : IsNested nest) where

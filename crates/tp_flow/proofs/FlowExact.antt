@@ -28,8 +28,8 @@ use Rattle.tp_flow.specs.FlowFaults.{bad_row, fault_of, instruction_faults, firs
 use Rattle.tp_flow.specs.NestKept.{IsGood, IsLoop, IsEdge, KeepsNest}
 use Rattle.tp_flow.proofs.FlowNest.{body_of}
 use Rattle.tp_flow.proofs.FlowFirst.{no_fault}
-use Rattle.tp_flow.proofs.FlowDepth.{count_implied, count_all, all_by_place}
-use Rattle.tp_flow.proofs.LoopMoves.{lend_stands}
+use Rattle.tp_flow.proofs.FlowDepth.{count_implied, count_all, all_by_place, within_itself}
+use Rattle.tp_flow.proofs.LoopMoves.{is_lend_of, lend_stands}
 
 -- ---- tests
 
@@ -147,9 +147,6 @@ differs range other heads lends = neither _ _ (unlike range.head other.head (λ 
 around_head : (range other : LoopRange) → range.head < range.lend → lies_within range other ≡ true → contains other range.head ≡ true
 around_head range other body within = grind (arith, nat_tests)
 
-within_itself : (range : LoopRange) → lies_within range range ≡ true
-within_itself range = grind (arith, nat_tests)
-
 few : (n : ℕ) → n < 4 → nat_le 4 n ≡ false
 few n h = grind (arith, nat_tests)
 
@@ -211,10 +208,6 @@ no_lend_jumps : (instr : Instr) (n : ℤ) → jump_operand instr ≡ Some n → 
 no_lend_jumps Lend n is same = cc
 no_lend_jumps instr n is same = cc
 
-lend_of : (instr : Instr) → is_lend instr ≡ true → instr ≡ Lend
-lend_of Lend is = refl
-lend_of instr is = cc
-
 target_some : (o : Option ℕ) → IsSome o → (to : ℕ) × (o ≡ Some to)
 target_some None has = absurd cc
 target_some (Some to) has = (to, refl)
@@ -266,7 +259,7 @@ module _ (image : ImageValue) (cuts : List Cut) (cutting : IsCutting image.code 
 
   unnamed_not : names_no_loop (ranges image.loops) at cut.instr ≡ false
   unnamed_not = not_both (is_lend cut.instr) _ λ lend.
-      let same = lend_of cut.instr lend in
+      let same = is_lend_of cut.instr lend in
       let P : Instr → Type 0 = λ i. is_lend i ≡ true → IsSome (target (ranges image.loops) at (at + length cut.bytes) i Back) in
       let has : has_edge cut.instr Back ≡ true = ap (λ i. has_edge i Back) same in
       named_not (head_of (ranges image.loops)) (number_ended_at (ranges image.loops) at) (subst (λ i. IsSome (target (ranges image.loops) at (at + length cut.bytes) i Back)) same (kept.targets at cut Back stands has))

@@ -22,7 +22,7 @@ use Rattle.tp_flow.specs.FlowFaults.{first_flow_fault}
 use Rattle.tp_flow.specs.NestKept.{IsEdge, KeepsNest}
 use Rattle.tp_flow.proofs.FlowCuts.{start_behind, none_between}
 use Rattle.tp_flow.proofs.FlowPassed.{unbroken, instruction_passes}
-use Rattle.tp_flow.proofs.FlowNest.{IsBody, good_at, all_good, all_loops, own_heads, own_lends, loops_nested, none_around_start}
+use Rattle.tp_flow.proofs.FlowNest.{not_false, IsBody, good_at, all_good, all_loops, own_heads, own_lends, loops_nested, none_around_start}
 use Rattle.tp_flow.proofs.FlowDepth.{loops_shallow}
 use Rattle.tp_flow.proofs.FlowSpelled.{each_some}
 
@@ -204,10 +204,6 @@ or_right : (a b : Bool) → b ≡ true → (a || b) ≡ true
 or_right true b is = refl
 or_right false b is = is
 
-is_not : (b : Bool) → not b ≡ false → b ≡ true
-is_not true is = refl
-is_not false is = absurd cc
-
 -- which instructions have an edge taken or back
 taken_jumps : (instr : Instr) → has_edge instr Taken ≡ true → is_some (jump_operand instr) ≡ true
 taken_jumps (Jump n) has = refl
@@ -245,7 +241,7 @@ module _ (image : ImageValue) (cuts : List Cut) (cutting : IsCutting image.code 
       let one = unbroken (rule (is_no_start cuts (jump_target next jump.0)) J1) (rule (breaks_the_nest (ranges image.loops) at (jump_target next jump.0)) J4 ∷ []) three.1 in
       let four = unbroken (rule (breaks_the_nest (ranges image.loops) at (jump_target next jump.0)) J4) [] one.1 in
       record {
-        starts = is_not (is_start cuts to) (ap (is_no_start cuts) (sym jump.2) ∙ one.0);
+        starts = not_false (is_start cuts to) (ap (is_no_start cuts) (sym jump.2) ∙ one.0);
         forward = onward next to jump.0 three.0 jump.2;
         keeps = ap (breaks_the_nest (ranges image.loops) at) (sym jump.2) ∙ four.0;
       }

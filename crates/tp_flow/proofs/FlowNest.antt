@@ -21,7 +21,7 @@ use Rattle.tp_flow.proofs.FlowPassed.{row_passes}
 
 -- ---- a row by itself
 
-not_false : (b : Bool) → not b ≡ false → b ≡ true
+pub not_false : (b : Bool) → not b ≡ false → b ≡ true
 not_false true is = refl
 not_false false is = absurd cc
 
@@ -96,7 +96,7 @@ none_does does earlier i d none lt = by_test (does (get_or earlier i d)) refl
     by_test false e = refl
     by_test true e = absurd (none i d lt e)
 
-true_false : {P : Type 0} → ◌≡◌ {A = Bool} true false → P
+pub true_false : {P : Type 0} → ◌≡◌ {A = Bool} true false → P
 true_false e = cc
 
 -- none of some ranges is crossed, and none shares an end

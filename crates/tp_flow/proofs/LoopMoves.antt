@@ -19,11 +19,8 @@ use Rattle.tp_flow.specs.RowRules.{is_lend, is_lend_cut}
 use Rattle.tp_flow.specs.NestKept.{IsLoop, IsEdge, KeepsNest}
 use Rattle.tp_flow.specs.LoopsAround.{is_around, is_entered, entered_by, left_by, without, along_with, around_after}
 use Rattle.tp_flow.specs.AroundKept.{KeepsAround}
-use Rattle.tp_flow.proofs.FlowNest.{row_of, range_at, at_place}
+use Rattle.tp_flow.proofs.FlowNest.{true_false, row_of, range_at, at_place}
 use Rattle.tp_flow.proofs.FlowSpelled.{some_bytes}
-
-true_false : {P : Type 0} → ◌≡◌ {A = Bool} true false → P
-true_false e = cc
 
 -- ---- places in lists
 
@@ -103,7 +100,7 @@ one_of f xs l k x y differ at_l at_k same = by_order (nat_lt l k) refl (nat_lt k
     by_order false e true f' = absurd (clash k l (grind (arith, nat_tests)) (slice_get_within xs l x at_l) (sym here))
     by_order false e false f' = grind (arith, nat_tests)
 
-is_lend_of : (i : Instr) → is_lend i ≡ true → i ≡ Lend
+pub is_lend_of : (i : Instr) → is_lend i ≡ true → i ≡ Lend
 is_lend_of Lend e = refl
 is_lend_of i e = cc
 
