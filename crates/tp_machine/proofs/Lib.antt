@@ -1,0 +1,8 @@
+pub mod Casts
+pub mod BytesLemmas
+pub mod MessageLemmas
+pub mod DeviceLemmas
+pub mod ExchangeLemmas
+pub mod TurnLemmas
+pub mod StartLemmas
+pub mod RunLemmas

@@ -1,0 +1,9 @@
+pub mod Devices
+pub mod Answers
+pub mod Phases
+pub mod Meaning
+pub use Rattle.tp_step.specs.State
+pub use Rattle.tp_step.specs.Steps
+pub use Rattle.tp_step.specs.Runs
+pub use Rattle.tp_image.specs.Image
+pub use Rattle.tp_link.specs.Device

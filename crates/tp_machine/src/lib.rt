@@ -1,0 +1,27 @@
+//! A machine that runs worker images: a checking interpreter of the step relation.
+//!
+//! [`Machine::run_image`] runs one packet of an image over a member's [`Links`](tp_link::Links). The machine keeps a tag
+//! beside each register and byte, so it knows what is undefined, and tests everything that it does: where no step exists
+//! it answers [`RunFault::Stuck`].
+#![tactic(auto)]
+
+mod arithmetic;
+mod bits;
+mod control;
+mod decode;
+mod functions;
+mod machine;
+mod memory;
+mod messages;
+mod outcome;
+mod phase;
+mod places;
+mod run;
+mod stack;
+mod start;
+mod step;
+mod turn;
+mod words;
+
+pub use machine::Machine;
+pub use outcome::{Outcome, RunFault};
