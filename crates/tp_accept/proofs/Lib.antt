@@ -1,0 +1,3 @@
+pub mod CostTable
+pub mod CappedCosts
+pub mod TableFilled

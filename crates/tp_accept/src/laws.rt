@@ -1,0 +1,1 @@
+//! Laws of the bound: each function's contract is the law.

@@ -1,0 +1,1 @@
+//! Budgets of whole images, worked out by hand.
