@@ -1,5 +1,5 @@
 -- Counting no further than the cap gives what is capped of the costs.
-use Rattle.std.proofs.Common.{◌≡◌, ℕ, zero, suc, ◌+◌, ◌-◌, ◌*◌, ◌<◌, ◌≤◌, min, Bool, true, false, nat_lt, List, length, Option, Some, None, refl, ap, sym, ◌∙◌, arith, suc-mul}
+use Rattle.std.proofs.Common.{◌≡◌, ℕ, zero, suc, ◌+◌, ◌-◌, ◌*◌, ◌<◌, ◌≤◌, min, Bool, true, false, nat_lt, List, Option, Some, None, refl, ap, sym, ◌∙◌, arith, suc-mul}
 use Rattle.std.proofs.lemmas.Bool.Decides.{nat_tests}
 use Rattle.tp_image.specs.declared.image.LoopRow.{LoopRow}
 use Rattle.tp_decode.specs.declared.instr.Instr.{Instr}
@@ -8,40 +8,40 @@ use Rattle.tp_decode.specs.Cutting.{Cut}
 use Rattle.tp_flow.specs.Edges.{jump_target}
 use Rattle.tp_accept.specs.declared.counting.Counted.{Counted}
 use Rattle.tp_accept.specs.Bound.{Costs, whole_at, left_of, behind, begun_at, whole_of, cost_of}
-use Rattle.tp_accept.specs.Capped.{capped, counted, table}
+use Rattle.tp_accept.specs.Capped.{cap, capped, counted}
 
-capped_turns : (n l : ℕ) → min (n * min l 16777217) 16777217 ≡ min (n * l) 16777217
+capped_turns : (n l : ℕ) → min (n * min l cap) cap ≡ min (n * l) cap
 capped_turns zero l = omega arith
-capped_turns (suc k) l = by_test (nat_lt l 16777217) refl
+capped_turns (suc k) l = by_test (nat_lt l cap) refl
   where
-    by_test : (b : Bool) → nat_lt l 16777217 ≡ b → min (suc k * min l 16777217) 16777217 ≡ min (suc k * l) 16777217
-    by_test true e = let low : l < 16777217 = grind (arith, nat_tests) in ap (λ x. min (suc k * x) 16777217) (omega arith)
+    by_test : (b : Bool) → nat_lt l cap ≡ b → min (suc k * min l cap) cap ≡ min (suc k * l) cap
+    by_test true e = let low : l < cap = grind (arith, nat_tests) in ap (λ x. min (suc k * x) cap) (omega arith)
     by_test false e =
-        let high : 16777217 ≤ l = grind (arith, nat_tests) in omega (arith, suc-mul k l, suc-mul k (min l 16777217))
+        let high : cap ≤ l = grind (arith, nat_tests) in omega (arith, suc-mul k l, suc-mul k (min l cap))
 
-capped_product : (n l m : ℕ) → min l 16777217 ≡ min m 16777217 → min (n * l) 16777217 ≡ min (n * m) 16777217
-capped_product n l m e = sym (capped_turns n l) ∙ ap (λ x. min (n * x) 16777217) e ∙ capped_turns n m
+capped_product : (n l m : ℕ) → min l cap ≡ min m cap → min (n * l) cap ≡ min (n * m) cap
+capped_product n l m e = sym (capped_turns n l) ∙ ap (λ x. min (n * x) cap) e ∙ capped_turns n m
 
 same_capped : (l m w v : ℕ) → l ≡ m → w ≡ v → Path Counted (record { left = l; whole = w }) (record { left = m; whole = v })
 same_capped l m w v e f = cc
 
 -- from costs that are capped
-module _ (f g : Costs) (each : (to : ℕ) → (f to).whole ≡ min (g to).whole 16777217) where
-  whole_each : (to : ℕ) → (f to).whole ≡ min (g to).whole 16777217
+module _ (f g : Costs) (each : (to : ℕ) → (f to).whole ≡ min (g to).whole cap) where
+  whole_each : (to : ℕ) → (f to).whole ≡ min (g to).whole cap
   whole_each to = each to
 
-  capped_at : (o : Option ℕ) → min (whole_at f o) 16777217 ≡ min (whole_at g o) 16777217
+  capped_at : (o : Option ℕ) → min (whole_at f o) cap ≡ min (whole_at g o) cap
   capped_at None = refl
   capped_at (Some to) = omega (arith, whole_each to)
 
-  capped_left : (n next : ℕ) (instr : Instr) → min (left_of f n next instr) 16777217 ≡ min (left_of g n next instr) 16777217
+  capped_left : (n next : ℕ) (instr : Instr) → min (left_of f n next instr) cap ≡ min (left_of g n next instr) cap
   capped_left n next Stopp = refl
   capped_left n next Lend = refl
   capped_left n next (Jump operand) = omega (arith, capped_at (jump_target next operand))
   capped_left n next (Cj operand) = omega (arith, capped_at (jump_target next operand), capped_at (Some next))
   capped_left n next instr = omega (arith, capped_at (Some next))
 
-  capped_whole : (code : List Cut) (l m : ℕ) (o : Option LoopRow) → min l 16777217 ≡ min m 16777217 → min (whole_of code f l o) 16777217 ≡ min (whole_of code g m o) 16777217
+  capped_whole : (code : List Cut) (l m : ℕ) (o : Option LoopRow) → min l cap ≡ min m cap → min (whole_of code f l o) cap ≡ min (whole_of code g m o) cap
   capped_whole code l m None e = e
   capped_whole code l m (Some row) e = omega (arith, capped_product row.count l m e, capped_at (Some (behind code row.lend)))
 
@@ -53,7 +53,7 @@ module _ (f g : Costs) (each : (to : ℕ) → (f to).whole ≡ min (g to).whole 
 -- from what is left of an instruction, capped
 whole_from_capped : (code : List Cut) (costs : Costs) (o : Option LoopRow) (l : ℕ) → capped (whole_of code costs (capped l) o) ≡ capped (whole_of code costs l o)
 whole_from_capped code costs None l = omega arith
-whole_from_capped code costs (Some row) l = omega (arith, capped_product row.count (min l 16777217) l (omega arith))
+whole_from_capped code costs (Some row) l = omega (arith, capped_product row.count (min l cap) l (omega arith))
 
 -- the two parts of a cost, as they are counted one after the other
 pub counted_parts : (rows : List LoopRow) (code : List Cut) (costs : Costs) (at next : ℕ) (instr : Instr) (left whole : ℕ) (o : Option LoopRow) → at ≤ next → o ≡ begun_at rows at → left ≡ capped (left_of costs (next - at) next instr) → whole ≡ capped (whole_of code costs left o) → Path Counted (record { left = left; whole = whole }) (counted (cost_of rows code costs at (next - at) instr))

@@ -8,7 +8,7 @@ use Rattle.tp_image.specs.declared.image.LoopRow.{LoopRow}
 use Rattle.tp_decode.specs.declared.placed.Placed.{Placed}
 use Rattle.tp_decode.specs.Cutting.{Cut, code_of, placed_from}
 use Rattle.tp_accept.specs.declared.counting.Counted.{Counted}
-use Rattle.tp_accept.specs.Bound.{Cost, Costs, nothing, with_cost, whole_at, cost_of, costs_from, costs_of, bound}
+use Rattle.tp_accept.specs.Bound.{Cost, Costs, nothing, with_cost, whole_at, cost_of, costs_from, bound}
 use Rattle.tp_accept.specs.Capped.{capped, counted, uncounted, counted_at, table, AreCapped}
 use Rattle.tp_accept.proofs.CostTable.{with_cost-here, with_cost-other}
 use Rattle.tp_accept.proofs.CappedCosts.{counted_cost_of}

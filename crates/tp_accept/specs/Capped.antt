@@ -1,11 +1,12 @@
 -- Costs as they are counted: no further than is needed to see that they are above the greatest budget.
-use Rattle.std.specs.Prelude.{ℕ, ◌≤◌, min, List, get_or, All}
+use Rattle.std.specs.Prelude.{ℕ, ◌+◌, ◌≤◌, min, List, get_or, All}
 use Rattle.tp_accept.specs.declared.counting.Counted.{Counted}
+use Rattle.tp_accept.specs.Limits.{most_budget}
 use Rattle.tp_accept.specs.Bound.{Cost, Costs}
 
 -- one more than the greatest budget
 abbrev pub cap : ℕ
-cap = 16777217
+cap = most_budget + 1
 
 abbrev pub capped : ℕ → ℕ
 capped n = min n cap

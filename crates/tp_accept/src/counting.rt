@@ -94,9 +94,13 @@ fn whole_of(listing: &Listing, costs: &[Counted], left: u64, row: Option<LoopRow
 }
 
 /// The cost of an instruction from the costs behind it.
-
 #[tactic(auto, using(crate::proofs::CappedCosts::counted_parts))]
-pub(crate) fn cost_of(image: &Image, listing: &Listing, costs: &[Counted], placed: Placed) -> Counted
+pub(crate) fn cost_of(
+    image: &Image,
+    listing: &Listing,
+    costs: &[Counted],
+    placed: Placed,
+) -> Counted
     requires capped { AreCapped costs.now }
     requires order { placed.at ≤ placed.next }
     ensures { result ≡ counted (cost_of image.now.loops listing.now (table costs.now) placed.at (placed.next - placed.at) placed.instr) }

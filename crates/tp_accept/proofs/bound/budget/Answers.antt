@@ -1,10 +1,9 @@
-use Rattle.std.proofs.Common.{◌≡◌, ◌-◌, ◌+◌, ℕ, suc, length, ap, sym, ◌∙◌, subst, arith, replicate, Some, slice_get}
-use Rattle.tp_decode.specs.Cutting.{code_of, placed_from}
+use Rattle.std.proofs.Common.{◌≡◌, ◌-◌, suc, length, ap, sym, ◌∙◌, subst, arith, replicate}
+use Rattle.tp_decode.specs.Cutting.{code_of}
 use Rattle.tp_flow.proofs.FlowFirst.{is_there}
 use Rattle.tp_flow.proofs.FlowSpelled.{each_some}
-use Rattle.tp_accept.specs.Bound.{whole_at, bound}
-use Rattle.tp_accept.specs.Capped.{AreCapped, table, uncounted, capped}
-use Rattle.tp_accept.proofs.TableFilled.{HasCostsFrom, IsPlaced, placed_within, none_yet, all_capped, one_more, found_all}
+use Rattle.tp_accept.specs.Capped.{AreCapped, uncounted}
+use Rattle.tp_accept.proofs.TableFilled.{HasCostsFrom, placed_within, none_yet, all_capped, one_more, found_all}
 use Rattle.tp_accept.proofs.bound.budget.Goals as goal
 
 pub loop-i-init : goal.loop-i-init

@@ -1,0 +1,42 @@
+-- What look-ups find.
+use Rattle.std.proofs.Common.{◌≡◌, ℕ, zero, suc, ◌+◌, ◌≤◌, Bool, true, false, cond, List, [], ◌∷◌, length, Contains, map, Option, Some, None, refl, ap, sym, ◌∙◌, arith}
+use Rattle.std.specs.Option.{option_map_or}
+use Rattle.std.specs.List.{find}
+use Rattle.tp_decode.specs.Cutting.{Cut, cut_at}
+use Rattle.tp_flow.specs.RowRules.{is_lend, is_lend_cut}
+use Rattle.tp_accept.specs.Bound.{behind}
+
+pub behind_least : (cuts : List Cut) (at : ℕ) → at ≤ behind cuts at
+behind_least cuts at = by_case (cut_at cuts at)
+  where
+    by_case : (o : Option Cut) → at ≤ option_map_or (λ cut. at + length cut.bytes) o at
+    by_case None = omega arith
+    by_case (Some cut) = omega arith
+
+pub behind_is : (cuts : List Cut) (at : ℕ) (cut : Cut) → cut_at cuts at ≡ Some cut → behind cuts at ≡ at + length cut.bytes
+behind_is cuts at cut is = ap (λ o. option_map_or (λ (c : Cut). at + length c.bytes) o at) is
+
+-- what is found
+pub found : {X : Type 0} (p : X → Bool) (xs : List X) (x : X) → find p xs ≡ Some x → Contains xs x × (p x ≡ true)
+found p [] x is = absurd cc
+found {X} p (y ∷ xs) x is = by_test (found p xs x) (p y) refl is
+  where
+    by_test : (find p xs ≡ Some x → Contains xs x × (p x ≡ true)) → (b : Bool) → p y ≡ b → cond b (Some y) (find p xs) ≡ Some x → Contains (y ∷ xs) x × (p x ≡ true)
+    by_test go true e is = let same : y ≡ x = cc in ((0, omega arith, same), sym (ap p same) ∙ e)
+    by_test go false e is = let rest = go is in ((suc rest.0.0, omega (arith, rest.0.1), rest.0.2), rest.1)
+
+pub found_none : {X : Type 0} (p : X → Bool) (xs : List X) → ((x : X) → Contains xs x → p x ≡ false) → find p xs ≡ None
+found_none p [] each = refl
+found_none {X} p (x ∷ xs) each =
+    ap (λ b. cond b (Some x) (find p xs)) (each x (0, omega arith, refl)) ∙ found_none p xs (λ y (k, k_in, at_k). each y (suc k, omega arith, at_k))
+
+-- what a list of images contains
+pub map_contains : {X Y : Type 0} (f : X → Y) (xs : List X) (x : X) → Contains xs x → Contains (map f xs) (f x)
+map_contains f [] x (k, k_in, at_k) = absurd (omega arith)
+map_contains f (y ∷ xs) x (zero, k_in, at_k) = (0, omega arith, ap f at_k)
+map_contains f (y ∷ xs) x (suc k, k_in, at_k) =
+    let rest = map_contains f xs x (k, omega arith, at_k) in (suc rest.0, omega (arith, rest.1), rest.2)
+
+pub lend_cut : (o : Option Cut) → is_lend_cut o ≡ true → (cut : Cut) × (o ≡ Some cut) × (is_lend cut.instr ≡ true)
+lend_cut None is = absurd cc
+lend_cut (Some cut) is = (cut, refl, is)
