@@ -2,8 +2,9 @@
 use Rattle.std.proofs.Common.{◌≡◌, ℕ, zero, suc, ◌+◌, ◌≤◌, Bool, true, false, cond, List, [], ◌∷◌, length, Contains, map, Option, Some, None, refl, ap, sym, ◌∙◌, arith}
 use Rattle.std.specs.Option.{option_map_or}
 use Rattle.std.specs.List.{find}
-use Rattle.tp_decode.specs.Cutting.{Cut, cut_at}
-use Rattle.tp_flow.specs.RowRules.{is_lend, is_lend_cut}
+use Rattle.tp_image.specs.Image.{ImageValue, InRange}
+use Rattle.tp_decode.specs.Cutting.{Cut, IsCutting, cut_at}
+use Rattle.tp_flow.specs.RowRules.{is_start, is_lend, is_lend_cut}
 use Rattle.tp_accept.specs.Bound.{behind}
 
 pub behind_least : (cuts : List Cut) (at : ℕ) → at ≤ behind cuts at
@@ -40,3 +41,8 @@ map_contains f (y ∷ xs) x (suc k, k_in, at_k) =
 pub lend_cut : (o : Option Cut) → is_lend_cut o ≡ true → (cut : Cut) × (o ≡ Some cut) × (is_lend cut.instr ≡ true)
 lend_cut None is = absurd cc
 lend_cut (Some cut) is = (cut, refl, is)
+
+-- a code of an image is not empty
+pub first_starts : (image : ImageValue) (cuts : List Cut) → InRange image → IsCutting image.code cuts → is_start cuts 0 ≡ true
+first_starts image [] range cutting = absurd (omega (arith, range.code.0, ap length cutting.joined))
+first_starts image (cut ∷ cuts) range cutting = refl

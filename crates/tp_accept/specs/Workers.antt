@@ -1,16 +1,21 @@
 -- Small workers, as loop rows and code bytes, to compute their bounds.
-use Rattle.std.specs.Prelude.{ℕ, pos, List, [], ◌∷◌, ◌++◌, Option, Some, None, Result, Ok, Err}
+use Rattle.std.specs.Prelude.{ℕ, ◌==◌, if◌then◌else◌, pos, List, [], ◌∷◌, ◌++◌, Option, Some, None, Result, Ok, Err}
 use Rattle.tp_image.specs.declared.image.LoopRow.{LoopRow}
 use Rattle.tp_decode.specs.declared.fault.DecodeFault.{DecodeFault}
 use Rattle.tp_decode.specs.Cutting.{Cut, cutting}
 use Rattle.tp_accept.specs.Bound.{bound}
+use Rattle.tp_accept.specs.Measure.{Counts, measure}
 
-abbrev pub bound_if_cut : List LoopRow → Result (List Cut) DecodeFault → Option ℕ
-bound_if_cut rows (Ok cuts) = Some (bound rows cuts)
-bound_if_cut rows (Err e) = None
+-- a number of the cutting, where there is one
+abbrev pub if_cut : (List Cut → ℕ) → Result (List Cut) DecodeFault → Option ℕ
+if_cut number (Ok cuts) = Some (number cuts)
+if_cut number (Err e) = None
 
 abbrev pub bound_of_bytes : List LoopRow → List ℕ → Option ℕ
-bound_of_bytes rows bytes = bound_if_cut rows (cutting bytes)
+bound_of_bytes rows bytes = if_cut (bound rows) (cutting bytes)
+
+abbrev pub measure_of_bytes : List LoopRow → List ℕ → ℕ → ℕ → Counts → Option ℕ
+measure_of_bytes rows bytes at executed counts = if_cut (λ cuts. measure rows cuts at executed counts) (cutting bytes)
 
 abbrev pub row : ℕ → ℕ → ℕ → ℕ → LoopRow
 row head lend control count = record { head = head; lend = lend; control = control; count = count; start = pos 0 }
@@ -55,6 +60,10 @@ loop_in_a_loop turns =
 
 abbrev pub outer_and_inner : ℕ → List LoopRow
 outer_and_inner turns = row 13 26 10 turns ∷ row 20 22 12 10000 ∷ []
+
+-- in the last turn but one of the outer loop, and the last but two of the inner one
+abbrev pub two_and_three : Counts
+two_and_three row = if row.head == 13 then 2 else 3
 
 -- ldl 0, cj over ldc 5, stl 0
 abbrev pub early_exit : List ℕ

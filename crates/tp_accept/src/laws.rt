@@ -2,7 +2,8 @@
 
 ghost use Rattle.std.specs.Prelude.{◌≡◌, ◌≤◌, ◌<◌, ◌+◌, ℕ, List, [], ◌∷◌, length, Some, IsTrue};
 ghost use Rattle.tp_image.specs.declared.image.LoopRow.{LoopRow};
-ghost use Rattle.tp_decode.specs.Cutting.{Cut, cut_at};
+ghost use Rattle.tp_image.specs.Image.{ImageValue, InRange};
+ghost use Rattle.tp_decode.specs.Cutting.{Cut, cut_at, IsCutting};
 ghost use Rattle.tp_flow.specs.declared.edge.Edge.{Edge};
 ghost use Rattle.tp_flow.specs.declared.edge.Edge.TheVariants.{Back};
 ghost use Rattle.tp_flow.specs.NestRanges.{ranges};
@@ -12,7 +13,7 @@ ghost use Rattle.tp_accept.specs.Bound.{bound, costs_of};
 ghost use Rattle.tp_accept.specs.Equations.{AreCosts};
 ghost use Rattle.tp_accept.specs.Measure.{Counts, measure, AreCountsAfter, HasTurns};
 ghost use Rattle.tp_accept.specs.Walks.{Walk};
-ghost use Rattle.tp_accept.specs.Workers.{bound_of_bytes, row, increment, sum_to, ten, ten_thousand, loop_in_a_loop, outer_and_inner, early_exit, two_ways, neighbours};
+ghost use Rattle.tp_accept.specs.Workers.{bound_of_bytes, measure_of_bytes, two_and_three, row, increment, sum_to, ten, ten_thousand, loop_in_a_loop, outer_and_inner, early_exit, two_ways, neighbours};
 
 /// The costs of a code meet the equations of the bound.
 
@@ -31,6 +32,13 @@ pub fn equations_determine_costs()
         V at to ≡ (costs_of rows code to).whole }
     ensures bound { (rows : List LoopRow) (workspace : ℕ) (code : List Cut) → KeepsNest rows workspace code →
         (L : ℕ → ℕ) (V : ℕ → ℕ → ℕ) → AreCosts rows code L V → IsTrue (is_start code 0) → L 0 ≡ bound rows code }
+{}
+
+/// The code of an image begins with an instruction.
+#[tactic(auto, using(crate::proofs::LookedUp::first_starts))]
+pub fn code_begins_with_an_instruction()
+    ensures { (image : ImageValue) (cuts : List Cut) → InRange image → IsCutting image.code cuts →
+        IsTrue (is_start cuts 0) }
 {}
 
 /// At the start the measure is the bound.
@@ -84,4 +92,12 @@ pub fn bounds_of_small_workers()
     // The longer of two ways.
     ensures early_exit { bound_of_bytes [] early_exit ≡ Some 17 }
     ensures two_ways { bound_of_bytes [] two_ways ≡ Some 20 }
+{}
+
+/// The measure before the last instruction but one of an inner loop, and in the midst of its lend, as they are worked out
+/// by hand.
+#[tactic(auto, unfolding(crate::proofs::Computing::by_steps))]
+pub fn measures_in_a_small_worker()
+    ensures before { measure_of_bytes (outer_and_inner 10) (loop_in_a_loop ten) 21 0 two_and_three ≡ Some 40033 }
+    ensures among { measure_of_bytes (outer_and_inner 10) (loop_in_a_loop ten) 22 1 two_and_three ≡ Some 40031 }
 {}
