@@ -1,7 +1,7 @@
 //! Operands and their canonical spellings, as the Compiler Writer's Guide's rule gives them.
 
 use std::test::Fail;
-use tp_decode::{DecodeFault, Instr, decode};
+use tp_decode::{DecodeCode, DecodeFault, Instr, decode};
 use tp_prefix::{PrefixFault, Spelled, encode, read_one};
 
 fn spells(rt: &impl std::process::Abort, operand: i32, bytes: &[u8]) {
@@ -58,14 +58,38 @@ fn a_listing_finds_its_instructions(rt: HostRuntime) -> Result<(), Fail> {
 #[test]
 fn the_lowest_refusal(rt: HostRuntime) {
     let call = decode(rt.alloc(), &[0x41, 0x90, 0x22]);
-    assert!(rt; matches!(call, Err(DecodeFault::D3(1))));
+    assert!(rt;
+        matches!(
+            call,
+            Err(DecodeFault::Refused {
+                code: DecodeCode::D3,
+                place: 1
+            })
+        )
+    );
     let cut = decode(rt.alloc(), &[0x41, 0x22]);
-    assert!(rt; matches!(cut, Err(DecodeFault::D1(1))));
+    assert!(rt;
+        matches!(
+            cut,
+            Err(DecodeFault::Refused {
+                code: DecodeCode::D1,
+                place: 1
+            })
+        )
+    );
     let long = decode(
         rt.alloc(),
         &[0x41, 0x20, 0x20, 0x20, 0x20, 0x20, 0x20, 0x20, 0x20],
     );
-    assert!(rt; matches!(long, Err(DecodeFault::D2(1))));
+    assert!(rt;
+        matches!(
+            long,
+            Err(DecodeFault::Refused {
+                code: DecodeCode::D2,
+                place: 1
+            })
+        )
+    );
     let empty = decode(rt.alloc(), &[]);
     assert!(rt; matches!(empty, Ok(_)));
 }

@@ -6,7 +6,8 @@ use Rattle.tp_prefix.specs.Spelling.{is_prefix, spelled}
 use Rattle.tp_prefix.proofs.SpellingLemmas.{ArePrefixes, no_last, not_last, none_some, prefix_first}
 use Rattle.tp_decode.specs.declared.instr.Instr.{Instr}
 use Rattle.tp_decode.specs.declared.fault.DecodeFault.{DecodeFault}
-use Rattle.tp_decode.specs.declared.fault.DecodeFault.TheVariants.{D1, D2, D3, Memory}
+use Rattle.tp_decode.specs.declared.fault.DecodeCode.TheVariants.{D1, D2, D3}
+use Rattle.tp_decode.specs.declared.fault.DecodeFault.TheVariants.{Refused, Memory}
 use Rattle.tp_decode.specs.Table.{entry, instruction}
 use Rattle.tp_decode.specs.Cutting.{Cut, IsSpelled, IsUnknown, spelled_instruction, before, cutting_from}
 use Rattle.tp_decode.specs.Front.{Stops}
@@ -18,7 +19,7 @@ unfolding cutting_from
 one_prefix at b rest prefixes is few =
     let test : nat_lt (length (prefixes ++ b ∷ [])) 8 ≡ true = grind (arith, nat_tests) in rw (is, test) refl
 
-pub eighth_prefix : (at b : ℕ) (rest prefixes : List ℕ) → is_prefix b ≡ true → 8 ≤ length (prefixes ++ b ∷ []) → cutting_from at (b ∷ rest) prefixes ≡ Err (D2 at)
+pub eighth_prefix : (at b : ℕ) (rest prefixes : List ℕ) → is_prefix b ≡ true → 8 ≤ length (prefixes ++ b ∷ []) → cutting_from at (b ∷ rest) prefixes ≡ Err (Refused D2 at)
 unfolding cutting_from
 eighth_prefix at b rest prefixes is many =
     let test : nat_lt (length (prefixes ++ b ∷ [])) 8 ≡ false = grind (arith, nat_tests) in rw (is, test) refl
@@ -62,12 +63,12 @@ pub nothing_left : (at : ℕ) → cutting_from at [] [] ≡ Ok []
 unfolding cutting_from
 nothing_left at = refl
 
-pub ended : (at p : ℕ) (prefixes : List ℕ) → cutting_from at [] (p ∷ prefixes) ≡ Err (D1 at)
+pub ended : (at p : ℕ) (prefixes : List ℕ) → cutting_from at [] (p ∷ prefixes) ≡ Err (Refused D1 at)
 unfolding cutting_from
 ended at p prefixes = refl
 
 -- no instruction in front
-pub cut_off : (at : ℕ) (code prefixes : List ℕ) → ArePrefixes code → 0 < length prefixes + length code → length prefixes + length code < 8 → cutting_from at code prefixes ≡ Err (D1 at)
+pub cut_off : (at : ℕ) (code prefixes : List ℕ) → ArePrefixes code → 0 < length prefixes + length code → length prefixes + length code < 8 → cutting_from at code prefixes ≡ Err (Refused D1 at)
 cut_off at [] [] are some few = absurd (omega arith)
 cut_off at [] (p ∷ prefixes) are some few = ended at p prefixes
 cut_off at (b ∷ code) prefixes are some few = by_test (cut_off at code (prefixes ++ b ∷ [])) (is_prefix b) refl are
@@ -75,15 +76,15 @@ cut_off at (b ∷ code) prefixes are some few = by_test (cut_off at code (prefix
     longer : length (prefixes ++ b ∷ []) ≡ length prefixes + 1
     longer = length-append prefixes (b ∷ [])
 
-    by_test : (ArePrefixes code → 0 < length (prefixes ++ b ∷ []) + length code → length (prefixes ++ b ∷ []) + length code < 8 → cutting_from at code (prefixes ++ b ∷ []) ≡ Err (D1 at)) → (p : Bool) → is_prefix b ≡ p → (p && list_all is_prefix code) ≡ true → cutting_from at (b ∷ code) prefixes ≡ Err (D1 at)
+    by_test : (ArePrefixes code → 0 < length (prefixes ++ b ∷ []) + length code → length (prefixes ++ b ∷ []) + length code < 8 → cutting_from at code (prefixes ++ b ∷ []) ≡ Err (Refused D1 at)) → (p : Bool) → is_prefix b ≡ p → (p && list_all is_prefix code) ≡ true → cutting_from at (b ∷ code) prefixes ≡ Err (Refused D1 at)
     by_test go true e are = one_prefix at b code prefixes e (omega (arith, longer)) ∙ go are (omega (arith, longer)) (omega (arith, longer))
     by_test go false e are = cc
 
-pub cut_too_long : (at n : ℕ) (code prefixes : List ℕ) → length prefixes + suc n ≡ 8 → suc n ≤ length code → ArePrefixes (take (suc n) code) → cutting_from at code prefixes ≡ Err (D2 at)
+pub cut_too_long : (at n : ℕ) (code prefixes : List ℕ) → length prefixes + suc n ≡ 8 → suc n ≤ length code → ArePrefixes (take (suc n) code) → cutting_from at code prefixes ≡ Err (Refused D2 at)
 cut_too_long at n [] prefixes eight many are = absurd (omega arith)
 cut_too_long at zero (b ∷ code) prefixes eight many are = by_test (is_prefix b) refl are
   where
-    by_test : (p : Bool) → is_prefix b ≡ p → (p && true) ≡ true → cutting_from at (b ∷ code) prefixes ≡ Err (D2 at)
+    by_test : (p : Bool) → is_prefix b ≡ p → (p && true) ≡ true → cutting_from at (b ∷ code) prefixes ≡ Err (Refused D2 at)
     by_test true e are = eighth_prefix at b code prefixes e (omega (arith, length-append prefixes (b ∷ [])))
     by_test false e are = cc
 cut_too_long at (suc n) (b ∷ code) prefixes eight many are = by_test (cut_too_long at n code (prefixes ++ b ∷ [])) (is_prefix b) refl are
@@ -91,7 +92,7 @@ cut_too_long at (suc n) (b ∷ code) prefixes eight many are = by_test (cut_too_
     longer : length (prefixes ++ b ∷ []) ≡ length prefixes + 1
     longer = length-append prefixes (b ∷ [])
 
-    by_test : (length (prefixes ++ b ∷ []) + suc n ≡ 8 → suc n ≤ length code → ArePrefixes (take (suc n) code) → cutting_from at code (prefixes ++ b ∷ []) ≡ Err (D2 at)) → (p : Bool) → is_prefix b ≡ p → (p && list_all is_prefix (take (suc n) code)) ≡ true → cutting_from at (b ∷ code) prefixes ≡ Err (D2 at)
+    by_test : (length (prefixes ++ b ∷ []) + suc n ≡ 8 → suc n ≤ length code → ArePrefixes (take (suc n) code) → cutting_from at code (prefixes ++ b ∷ []) ≡ Err (Refused D2 at)) → (p : Bool) → is_prefix b ≡ p → (p && list_all is_prefix (take (suc n) code)) ≡ true → cutting_from at (b ∷ code) prefixes ≡ Err (Refused D2 at)
     by_test go true e are = one_prefix at b code prefixes e (omega (arith, longer)) ∙ go (omega (arith, longer)) (omega arith) are
     by_test go false e are = cc
 
@@ -102,7 +103,7 @@ no_instruction f e unknown = by_case (instruction f e) refl
     by_case None is = refl
     by_case (Some i) is = let has = given_entry f e i is in absurd (unknown i has.0 has.1)
 
-pub cut_unknown : (at : ℕ) (code : List ℕ) → IsUnknown code → cutting_from at code [] ≡ Err (D3 at)
+pub cut_unknown : (at : ℕ) (code : List ℕ) → IsUnknown code → cutting_from at code [] ≡ Err (Refused D3 at)
 unfolding spelled_instruction
 cut_unknown at code is =
     let none : spelled_instruction is.bytes ≡ None = rw is.spelling.spells (no_instruction is.function is.operand is.unknown) in
@@ -111,7 +112,7 @@ cut_unknown at code is =
 
 -- what stops a cutting in front
 pub stops : (at : ℕ) (code : List ℕ) (e : DecodeFault) → Stops code at e → cutting_from at code [] ≡ Err e
-stops at code (D1 place) is = cut_off at code [] is.1.prefixes (omega (arith, is.1.some)) (omega (arith, is.1.few)) ∙ ap (λ p. Err (D1 p)) (sym is.0)
-stops at code (D2 place) is = cut_too_long at 7 code [] refl is.1.many is.1.prefixes ∙ ap (λ p. Err (D2 p)) (sym is.0)
-stops at code (D3 place) is = cut_unknown at code is.1 ∙ ap (λ p. Err (D3 p)) (sym is.0)
+stops at code (Refused D1 place) is = cut_off at code [] is.1.prefixes (omega (arith, is.1.some)) (omega (arith, is.1.few)) ∙ ap (λ p. Err (Refused D1 p)) (sym is.0)
+stops at code (Refused D2 place) is = cut_too_long at 7 code [] refl is.1.many is.1.prefixes ∙ ap (λ p. Err (Refused D2 p)) (sym is.0)
+stops at code (Refused D3 place) is = cut_unknown at code is.1 ∙ ap (λ p. Err (Refused D3 p)) (sym is.0)
 stops at code Memory is = absurd is

@@ -6,7 +6,8 @@ use Rattle.std.proofs.lemmas.List.Folds.{list_all-append}
 use Rattle.std.proofs.lemmas.Grind.{flat_map-append}
 use Rattle.std.proofs.lemmas.Bool.Decides.{nat_tests}
 use Rattle.tp_decode.specs.declared.fault.DecodeFault.{DecodeFault}
-use Rattle.tp_decode.specs.declared.fault.DecodeFault.TheVariants.{D1, D2, D3, Memory}
+use Rattle.tp_decode.specs.declared.fault.DecodeCode.TheVariants.{D1, D2, D3}
+use Rattle.tp_decode.specs.declared.fault.DecodeFault.TheVariants.{Refused, Memory}
 use Rattle.tp_decode.specs.declared.piece.Piece.{Piece}
 use Rattle.tp_decode.specs.Cutting.{Cut, IsSpelled, code_of, IsCutting, IsRefused, IsUnknown, cutting_from, cutting, starts_from}
 use Rattle.tp_prefix.specs.Spelling.{spelled, StandsAt}
@@ -38,9 +39,9 @@ all_cut code at cuts so_far end =
     sym so_far ∙ ap (with_front cuts) (ap (λ c. cutting_from at c []) end ∙ nothing_left at) ∙ ap Ok (append-nil cuts)
 
 pub gives_err : (e : DecodeFault) (said : Result (List Cut) DecodeFault) → said ≡ Err e → Gives (Err e) said
-gives_err (D1 at) said is = is
-gives_err (D2 at) said is = is
-gives_err (D3 at) said is = is
+gives_err (Refused D1 at) said is = is
+gives_err (Refused D2 at) said is = is
+gives_err (Refused D3 at) said is = is
 gives_err Memory said is = tt
 
 -- no instruction in front
@@ -77,16 +78,16 @@ said_cutting code (Err e) gives = tt
 
 pub said_only : (code : List ℕ) (r : Result (List Cut) DecodeFault) (cuts : List Cut) → Gives r (cutting code) → IsCutting code cuts → MatchResult r (λ listing. listing ≡ cuts) (λ e. e ≡ Memory)
 said_only code (Ok cs) cuts gives is = let e = sym gives ∙ is_cutting code cuts is in cc
-said_only code (Err (D1 at)) cuts gives is = let e = sym gives ∙ is_cutting code cuts is in cc
-said_only code (Err (D2 at)) cuts gives is = let e = sym gives ∙ is_cutting code cuts is in cc
-said_only code (Err (D3 at)) cuts gives is = let e = sym gives ∙ is_cutting code cuts is in cc
+said_only code (Err (Refused D1 at)) cuts gives is = let e = sym gives ∙ is_cutting code cuts is in cc
+said_only code (Err (Refused D2 at)) cuts gives is = let e = sym gives ∙ is_cutting code cuts is in cc
+said_only code (Err (Refused D3 at)) cuts gives is = let e = sym gives ∙ is_cutting code cuts is in cc
 said_only code (Err Memory) cuts gives is = refl
 
 pub said_refused : (code : List ℕ) (r : Result (List Cut) DecodeFault) → Gives r (cutting code) → IfErr r (λ e. e ≢ Memory → IsRefused code e)
 said_refused code (Ok cuts) gives = tt
-said_refused code (Err (D1 at)) gives = λ other. sound_err code (D1 at) gives
-said_refused code (Err (D2 at)) gives = λ other. sound_err code (D2 at) gives
-said_refused code (Err (D3 at)) gives = λ other. sound_err code (D3 at) gives
+said_refused code (Err (Refused D1 at)) gives = λ other. sound_err code (Refused D1 at) gives
+said_refused code (Err (Refused D2 at)) gives = λ other. sound_err code (Refused D2 at) gives
+said_refused code (Err (Refused D3 at)) gives = λ other. sound_err code (Refused D3 at) gives
 said_refused code (Err Memory) gives = λ other. absurd (other refl)
 
 pub said_first : (code : List ℕ) (r : Result (List Cut) DecodeFault) (e : DecodeFault) → Gives r (cutting code) → IsRefused code e → MatchResult r (λ listing. ⊥) (λ f. f ≢ Memory → f ≡ e)
@@ -94,9 +95,9 @@ said_first code (Ok cuts) e gives is = let same = sym gives ∙ is_refused code 
   where
     no_cutting : (cuts : List Cut) (e : DecodeFault) → ◌≡◌ {A = Result (List Cut) DecodeFault} (Ok cuts) (Err e) → ⊥
     no_cutting cuts e same = cc
-said_first code (Err (D1 at)) e gives is = λ other. let same = sym gives ∙ is_refused code e is in cc
-said_first code (Err (D2 at)) e gives is = λ other. let same = sym gives ∙ is_refused code e is in cc
-said_first code (Err (D3 at)) e gives is = λ other. let same = sym gives ∙ is_refused code e is in cc
+said_first code (Err (Refused D1 at)) e gives is = λ other. let same = sym gives ∙ is_refused code e is in cc
+said_first code (Err (Refused D2 at)) e gives is = λ other. let same = sym gives ∙ is_refused code e is in cc
+said_first code (Err (Refused D3 at)) e gives is = λ other. let same = sym gives ∙ is_refused code e is in cc
 said_first code (Err Memory) e gives is = λ other. absurd (other refl)
 
 -- a spelling is not empty

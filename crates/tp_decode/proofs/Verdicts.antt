@@ -9,7 +9,8 @@ use Rattle.tp_prefix.proofs.SpellingLemmas.{ArePrefixes, last_byte}
 use Rattle.tp_prefix.proofs.CanonicalLemmas.{loaded, spelled_behind, ArePrefixes-append}
 use Rattle.tp_decode.specs.declared.instr.Instr.{Instr}
 use Rattle.tp_decode.specs.declared.fault.DecodeFault.{DecodeFault}
-use Rattle.tp_decode.specs.declared.fault.DecodeFault.TheVariants.{D1, D2, D3, Memory}
+use Rattle.tp_decode.specs.declared.fault.DecodeCode.TheVariants.{D1, D2, D3}
+use Rattle.tp_decode.specs.declared.fault.DecodeFault.TheVariants.{Refused, Memory}
 use Rattle.tp_decode.specs.Table.{entry, instruction}
 use Rattle.tp_decode.specs.Cutting.{Cut, IsSpelled, code_of, IsCutting, IsUnknown, BreaksAt, IsRefused, spelled_instruction, before, cutting_from, cutting}
 use Rattle.tp_decode.specs.Front.{Stops}
@@ -58,9 +59,9 @@ breaks code at B e stop is =
     ∙ ap (λ n. with_front is.cuts (cutting_from n is.rest [])) (omega (arith, is.place)) ∙ ap (with_front is.cuts) (stops at is.rest e (stop is.rest is.breaks))
 
 pub is_refused : (code : List ℕ) (e : DecodeFault) → IsRefused code e → cutting code ≡ Err e
-is_refused code (D1 at) is = breaks code at IsCutOff (D1 at) (λ rest b. (refl, b)) is
-is_refused code (D2 at) is = breaks code at IsTooLong (D2 at) (λ rest b. (refl, b)) is
-is_refused code (D3 at) is = breaks code at IsUnknown (D3 at) (λ rest b. (refl, b)) is
+is_refused code (Refused D1 at) is = breaks code at IsCutOff (Refused D1 at) (λ rest b. (refl, b)) is
+is_refused code (Refused D2 at) is = breaks code at IsTooLong (Refused D2 at) (λ rest b. (refl, b)) is
+is_refused code (Refused D3 at) is = breaks code at IsUnknown (Refused D3 at) (λ rest b. (refl, b)) is
 is_refused code Memory is = absurd is
 
 -- what a cutting from an address on says of the code
@@ -74,9 +75,9 @@ pub record BreaksFrom (code : List ℕ) (first at : ℕ) (Breaks : List ℕ → 
 
 abbrev Sound : List ℕ → ℕ → Result (List Cut) DecodeFault → Type 0
 Sound code first (Ok cuts) = IsCutting code cuts
-Sound code first (Err (D1 at)) = BreaksFrom code first at IsCutOff
-Sound code first (Err (D2 at)) = BreaksFrom code first at IsTooLong
-Sound code first (Err (D3 at)) = BreaksFrom code first at IsUnknown
+Sound code first (Err (Refused D1 at)) = BreaksFrom code first at IsCutOff
+Sound code first (Err (Refused D2 at)) = BreaksFrom code first at IsTooLong
+Sound code first (Err (Refused D3 at)) = BreaksFrom code first at IsUnknown
 Sound code first (Err Memory) = ⊥
 
 -- a break in front
@@ -96,9 +97,9 @@ behind cut code first at B is b = record {
 
 sound_before : (cut : Cut) (code : List ℕ) (first : ℕ) (r : Result (List Cut) DecodeFault) → IsSpelled cut → Sound code (first + length cut.bytes) r → Sound (cut.bytes ++ code) first (before first cut.bytes (Some cut.instr) r)
 sound_before cut code first (Ok cuts) is s = record { joined = ap (λ c. cut.bytes ++ c) s.joined; each = (is, s.each) }
-sound_before cut code first (Err (D1 at)) is s = behind cut code first at IsCutOff is s
-sound_before cut code first (Err (D2 at)) is s = behind cut code first at IsTooLong is s
-sound_before cut code first (Err (D3 at)) is s = behind cut code first at IsUnknown is s
+sound_before cut code first (Err (Refused D1 at)) is s = behind cut code first at IsCutOff is s
+sound_before cut code first (Err (Refused D2 at)) is s = behind cut code first at IsTooLong is s
+sound_before cut code first (Err (Refused D3 at)) is s = behind cut code first at IsUnknown is s
 sound_before cut code first (Err Memory) is s = absurd s
 
 none_some' : (o : Option Instr) (i : Instr) → o ≡ None → o ≡ Some i → ⊥
@@ -167,7 +168,7 @@ abbrev at_zero : {code : List ℕ} {at : ℕ} {B : List ℕ → Type 0} → Brea
 at_zero b = record { cuts = b.cuts; rest = b.rest; joined = b.joined; each = b.each; place = b.place ∙ omega arith; breaks = b.breaks }
 
 pub sound_err : (code : List ℕ) (e : DecodeFault) → cutting code ≡ Err e → IsRefused code e
-sound_err code (D1 at) is = at_zero (rw is at (sound 0 code [] refl (omega arith)))
-sound_err code (D2 at) is = at_zero (rw is at (sound 0 code [] refl (omega arith)))
-sound_err code (D3 at) is = at_zero (rw is at (sound 0 code [] refl (omega arith)))
+sound_err code (Refused D1 at) is = at_zero (rw is at (sound 0 code [] refl (omega arith)))
+sound_err code (Refused D2 at) is = at_zero (rw is at (sound 0 code [] refl (omega arith)))
+sound_err code (Refused D3 at) is = at_zero (rw is at (sound 0 code [] refl (omega arith)))
 sound_err code Memory is = rw is at (sound 0 code [] refl (omega arith))

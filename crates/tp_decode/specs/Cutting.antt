@@ -6,7 +6,8 @@ use Rattle.tp_prefix.specs.Spelling.{is_prefix, spelled, IsSpelling, IsCutOff, I
 use Rattle.tp_decode.specs.declared.instr.Instr.{Instr}
 use Rattle.tp_decode.specs.declared.placed.Placed.{Placed}
 use Rattle.tp_decode.specs.declared.fault.DecodeFault.{DecodeFault}
-use Rattle.tp_decode.specs.declared.fault.DecodeFault.TheVariants.{D1, D2, D3, Memory}
+use Rattle.tp_decode.specs.declared.fault.DecodeCode.TheVariants.{D1, D2, D3}
+use Rattle.tp_decode.specs.declared.fault.DecodeFault.TheVariants.{Refused, Memory}
 use Rattle.tp_decode.specs.Table.{entry, instruction}
 
 -- an instruction as it stands in a code: the bytes that spell it
@@ -48,9 +49,9 @@ pub record BreaksAt (code : List ℕ) (at : ℕ) (Breaks : List ℕ → Type 0) 
 
 -- why a code has no cutting: at an address no instruction can be cut, though all before it are
 abbrev pub IsRefused : List ℕ → DecodeFault → Type 0
-IsRefused code (D1 at) = BreaksAt code at IsCutOff
-IsRefused code (D2 at) = BreaksAt code at IsTooLong
-IsRefused code (D3 at) = BreaksAt code at IsUnknown
+IsRefused code (Refused D1 at) = BreaksAt code at IsCutOff
+IsRefused code (Refused D2 at) = BreaksAt code at IsTooLong
+IsRefused code (Refused D3 at) = BreaksAt code at IsUnknown
 IsRefused code Memory = ⊥
 
 -- The same as a function of the code. The instruction that bytes spell:
@@ -59,7 +60,7 @@ spelled_instruction bytes = option_and_then (λ s. instruction s.0 s.1) (spelled
 
 -- an instruction, if there is one, before those that are cut behind it
 abbrev pub before : ℕ → List ℕ → Option Instr → Result (List Cut) DecodeFault → Result (List Cut) DecodeFault
-before at bytes None rest = Err (D3 at)
+before at bytes None rest = Err (Refused D3 at)
 before at bytes (Some instr) (Ok cuts) = Ok (record { bytes = bytes; instr = instr } ∷ cuts)
 before at bytes (Some instr) (Err e) = Err e
 
@@ -71,11 +72,11 @@ picked false one other = other tt
 -- the cutting of a code behind some prefixes, the first byte of which stands at an address
 unfoldable pub cutting_from : ℕ → List ℕ → List ℕ → Result (List Cut) DecodeFault
 cutting_from at [] [] = Ok []
-cutting_from at [] (p ∷ prefixes) = Err (D1 at)
+cutting_from at [] (p ∷ prefixes) = Err (Refused D1 at)
 cutting_from at (b ∷ code) prefixes =
     let bytes = prefixes ++ b ∷ [] in
     picked (is_prefix b)
-    (λ _. picked (nat_lt (length bytes) 8) (λ _. cutting_from at code bytes) (λ _. Err (D2 at)))
+    (λ _. picked (nat_lt (length bytes) 8) (λ _. cutting_from at code bytes) (λ _. Err (Refused D2 at)))
     (λ _. before at bytes (spelled_instruction bytes) (cutting_from (at + length bytes) code []))
 
 -- the one cutting of a code, or why there is none

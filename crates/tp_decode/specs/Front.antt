@@ -2,7 +2,8 @@
 use Rattle.std.specs.Prelude.{◌≡◌, ℕ, ◌≤◌, List, length, take}
 use Rattle.tp_prefix.specs.Spelling.{IsCutOff, IsTooLong}
 use Rattle.tp_decode.specs.declared.fault.DecodeFault.{DecodeFault}
-use Rattle.tp_decode.specs.declared.fault.DecodeFault.TheVariants.{D1, D2, D3, Memory}
+use Rattle.tp_decode.specs.declared.fault.DecodeCode.TheVariants.{D1, D2, D3}
+use Rattle.tp_decode.specs.declared.fault.DecodeFault.TheVariants.{Refused, Memory}
 use Rattle.tp_decode.specs.Cutting.{Cut, IsSpelled, IsUnknown}
 
 -- the code begins with this instruction
@@ -13,7 +14,7 @@ pub record BeginsWith (code : List ℕ) (cut : Cut) : Type 0 where
 
 -- no instruction can be cut from the front of the code, which stands at an address
 abbrev pub Stops : List ℕ → ℕ → DecodeFault → Type 0
-Stops code at (D1 place) = (place ≡ at) × IsCutOff code
-Stops code at (D2 place) = (place ≡ at) × IsTooLong code
-Stops code at (D3 place) = (place ≡ at) × IsUnknown code
+Stops code at (Refused D1 place) = (place ≡ at) × IsCutOff code
+Stops code at (Refused D2 place) = (place ≡ at) × IsTooLong code
+Stops code at (Refused D3 place) = (place ≡ at) × IsUnknown code
 Stops code at Memory = ⊥

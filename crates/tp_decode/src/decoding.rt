@@ -6,7 +6,7 @@ ghost use Rattle.tp_decode.specs.Cutting.{Cut, IsCutting, IsRefused, cutting};
 ghost use Rattle.tp_decode.specs.Front.{BeginsWith, Stops};
 ghost use Rattle.tp_decode.specs.Listings.{cut_of, Gives};
 
-use crate::fault::DecodeFault;
+use crate::fault::{DecodeCode, DecodeFault};
 use crate::instr::Instr;
 use crate::listing::Listing;
 use crate::piece::Piece;
@@ -66,16 +66,22 @@ fn piece_at(code: &[u8], at: usize) -> Result<Piece, DecodeFault>
 {
     let spelled = match read_one(code, at) {
         Ok(spelled) => spelled,
-        Err(PrefixFault::D1(place)) => return Err(DecodeFault::D1(place)),
-        Err(PrefixFault::D2(place)) => return Err(DecodeFault::D2(place)),
+        Err(PrefixFault::D1(place)) => return Err(refused(DecodeCode::D1, place)),
+        Err(PrefixFault::D2(place)) => return Err(refused(DecodeCode::D2, place)),
     };
     let Some(instr) = Instr::of(spelled.function, spelled.operand) else {
-        return Err(DecodeFault::D3(at));
+        return Err(refused(DecodeCode::D3, at));
     };
     Ok(Piece {
         spelling: copied(&code[at..spelled.next]),
         instr,
     })
+}
+
+fn refused(code: DecodeCode, place: usize) -> DecodeFault
+    ensures { result ≡ DecodeFault.Refused code place }
+{
+    DecodeFault::Refused { code, place }
 }
 
 /// A spelling by itself.

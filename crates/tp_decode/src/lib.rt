@@ -13,7 +13,7 @@ mod piece;
 mod placed;
 
 pub use decoding::{MAX_CODE, decode};
-pub use fault::DecodeFault;
+pub use fault::{DecodeCode, DecodeFault};
 pub use instr::Instr;
 pub use listing::Listing;
 pub use placed::Placed;

@@ -5,7 +5,8 @@ use Rattle.std.specs.Fmt.{decimal}
 use Rattle.std.specs.Io.KnownBytes.{Appends, Consumes, IsAtEnd}
 use Rattle.hex.specs.Hex.{decode_of}
 use Rattle.tp_decode.specs.declared.fault.DecodeFault.{DecodeFault}
-use Rattle.tp_decode.specs.declared.fault.DecodeFault.TheVariants.{D1, D2, D3, Memory}
+use Rattle.tp_decode.specs.declared.fault.DecodeFault.TheVariants.{Refused, Memory}
+use Rattle.tp_decode.specs.Codes.{decode_code_text}
 use Rattle.tp_decode.specs.Cutting.{Cut, cutting}
 use Rattle.tp_decode.specs.Lines.{lines_from}
 use Rattle.tp_session.specs.declared.fault.ServeFault.{ServeFault}
@@ -44,9 +45,7 @@ list_request line = if starts_with nat_eq line (codes "LIST ") then hex_bytes (d
 -- a line for each instruction, and their number; or the refusal of the code
 unfoldable pub listing_answer : Result (List Cut) DecodeFault → List ℕ
 listing_answer (Ok cuts) = flat_map written (lines_from 0 cuts) ++ written (codes "DONE " ++ decimal (length cuts))
-listing_answer (Err (D1 at)) = refusal (codes "D1") at
-listing_answer (Err (D2 at)) = refusal (codes "D2") at
-listing_answer (Err (D3 at)) = refusal (codes "D3") at
+listing_answer (Err (Refused code place)) = refusal (decode_code_text code) place
 listing_answer (Err Memory) = []
 
 -- the answer to a request, or E1 with the number of the line

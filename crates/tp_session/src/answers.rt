@@ -71,9 +71,10 @@ fn listing(alloc: Global, code: &[u8]) -> Result<String, AllocError>
             text.push_str(format!(in alloc; "DONE {count}\n")?.as_str())?;
             Ok(text)
         }
-        Err(DecodeFault::D1(at)) => refusal(alloc, "D1", at as u64),
-        Err(DecodeFault::D2(at)) => refusal(alloc, "D2", at as u64),
-        Err(DecodeFault::D3(at)) => refusal(alloc, "D3", at as u64),
+        Err(DecodeFault::Refused { code, place }) => {
+            let code = format!(in alloc; "{code}")?;
+            refusal(alloc, code.as_str(), place as u64)
+        }
         Err(DecodeFault::Memory) => Err(AllocError),
     }
 }

@@ -11,7 +11,7 @@ returns-in_default c =
     let s = c.in-Ok.spelled in
     let fits : SFits w32 s.operand = search rules in
     let none : instruction s.function s.operand ≡ None = ap (instruction s.function) (sym (to_z-of_z w32 s.operand fits)) ∙ sym c.of.ensures ∙ c.in_default.is in
-    (refl, unknown_in_front c.args.code.now c.args.at s c.in-Ok.ensures.found none)
+    rw c.refused-in_default.ensures (refl, unknown_in_front c.args.code.now c.args.at s c.in-Ok.ensures.found none)
 
 pub returns : goal.returns
 returns c =
