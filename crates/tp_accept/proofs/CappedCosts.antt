@@ -10,6 +10,7 @@ use Rattle.tp_accept.specs.declared.counting.Counted.{Counted}
 use Rattle.tp_accept.specs.Bound.{Costs, whole_at, left_of, behind, begun_at, whole_of, cost_of}
 use Rattle.tp_accept.specs.Capped.{cap, capped, counted}
 
+-- the turns of a loop
 capped_turns : (n l : ℕ) → min (n * min l cap) cap ≡ min (n * l) cap
 capped_turns zero l = omega arith
 capped_turns (suc k) l = by_test (nat_lt l cap) refl
@@ -22,11 +23,13 @@ capped_turns (suc k) l = by_test (nat_lt l cap) refl
 capped_product : (n l m : ℕ) → min l cap ≡ min m cap → min (n * l) cap ≡ min (n * m) cap
 capped_product n l m e = sym (capped_turns n l) ∙ ap (λ x. min (n * x) cap) e ∙ capped_turns n m
 
+-- two costs of the same parts
 same_capped : (l m w v : ℕ) → l ≡ m → w ≡ v → Path Counted (record { left = l; whole = w }) (record { left = m; whole = v })
 same_capped l m w v e f = cc
 
 -- from costs that are capped
 module _ (f g : Costs) (each : (to : ℕ) → (f to).whole ≡ min (g to).whole cap) where
+  -- what an address, an instruction and a loop cost
   whole_each : (to : ℕ) → (f to).whole ≡ min (g to).whole cap
   whole_each to = each to
 
@@ -45,6 +48,7 @@ module _ (f g : Costs) (each : (to : ℕ) → (f to).whole ≡ min (g to).whole 
   capped_whole code l m None e = e
   capped_whole code l m (Some row) e = omega (arith, capped_product row.count l m e, capped_at (Some (behind code row.lend)))
 
+  -- and so an instruction
   pub counted_cost_of : (rows : List LoopRow) (code : List Cut) (at n : ℕ) (instr : Instr) → counted (cost_of rows code f at n instr) ≡ counted (cost_of rows code g at n instr)
   counted_cost_of rows code at n instr =
       let left = capped_left n (at + n) instr in

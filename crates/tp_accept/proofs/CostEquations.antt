@@ -29,10 +29,12 @@ no_further row at to lt = by_test (nat_eq row.head to) refl
         ap not out
     by_test false e = refl
 
+-- tests that agree find the same
 found_same : (p q : LoopRow → Bool) (rows : List LoopRow) → ((row : LoopRow) → p row ≡ q row) → find p rows ≡ find q rows
 found_same p q [] same = refl
 found_same p q (row ∷ rows) same = ap (λ b. cond b (Some row) (find p rows)) (same row) ∙ ap (λ o. cond (q row) (Some row) o) (found_same p q rows same)
 
+-- seen from before it, a loop that begins at an address is entered there
 pub entered_begun : (rows : List LoopRow) (at to : ℕ) → at < to → entered_at rows at to ≡ begun_at rows to
 entered_begun rows at to lt = found_same _ (λ row. row.head == to) rows (λ row. no_further row at to lt)
 
@@ -52,6 +54,7 @@ same_edges f g n next (Cj operand) on jumps = ap (λ x. n + max x (whole_at f (j
     by_case (Some to) e = jumps operand to refl e
 same_edges f g n next instr on jumps = ap (λ x. n + x) (on refl)
 
+-- an instruction ends within the code
 start_below : (cuts : List Cut) (at : ℕ) (cut : Cut) → cut_at cuts at ≡ Some cut → at + length cut.bytes ≤ length (code_of cuts)
 start_below [] at cut is = absurd cc
 start_below (c ∷ cuts) at cut is = by_test (start_below cuts (at - length c.bytes) cut) (nat_eq at 0) refl (nat_lt at (length c.bytes)) refl is
@@ -65,6 +68,7 @@ start_below (c ∷ cuts) at cut is = by_test (start_below cuts (at - length c.by
     by_test go false e1 false e2 is =
         let past : length c.bytes ≤ at = grind (arith, nat_tests) in omega (arith, go is, length-append c.bytes (code_of cuts))
 
+-- a lend has an Out edge
 lend_out : (instr : Instr) → is_lend instr ≡ true → has_edge instr Out ≡ true
 lend_out Lend is = refl
 lend_out instr is = absurd cc
@@ -81,6 +85,7 @@ module _ (rows : List LoopRow) (workspace : ℕ) (code : List Cut) (nest : Keeps
         ∙ ap (whole_of code (costs_of rows code) (costs_of rows code to).left) (sym (entered_begun rows at to lt));
   }
 
+  -- where edges go
   edge_next : (at : ℕ) (cut : Cut) → cut_at code at ≡ Some cut → has_edge cut.instr Next ≡ true → is_start code (at + length cut.bytes) ≡ true
   edge_next at cut stands has =
       let edge : IsEdge (ranges rows) code at Next (at + length cut.bytes) =
@@ -160,6 +165,7 @@ module _ (rows : List LoopRow) (workspace : ℕ) (code : List Cut) (nest : Keeps
         absurd (omega (arith, start_below code to cut.0 cut.1))
     alike (suc k) to long starts = step k to long starts (alike k)
 
+    -- so two solutions are one
     pub determined : (to : ℕ) → is_start code to ≡ true → (L to ≡ (costs_of rows code to).left) × ((at : ℕ) → at < to → V at to ≡ (costs_of rows code to).whole)
     unfolding Alike
     determined to starts = alike (length (code_of code)) to (omega arith) starts

@@ -9,6 +9,7 @@ use Rattle.tp_decode.specs.Cutting.{Cut, cut_at}
 use Rattle.tp_flow.specs.Edges.{jump_operand, jump_target}
 use Rattle.tp_accept.specs.Bound.{Cost, Costs, with_cost, whole_at, left_of, behind, begun_at, whole_of, cost_of, with_instruction, costs_from}
 
+-- a cost, and beside it
 pub with_cost-here : (costs : Costs) (at to : ℕ) (cost : Cost) → to ≡ at → with_cost costs at cost to ≡ cost
 with_cost-here costs at to cost e = by_test (nat_eq to at) refl
   where
@@ -23,6 +24,7 @@ with_cost-other costs at to cost other = by_test (nat_eq to at) refl
     by_test true f = absurd (let same : to ≡ at = grind (arith, nat_tests) in other same)
     by_test false f = refl
 
+-- two costs of the same parts
 same_cost_parts : (l m w v : ℕ) → l ≡ m → w ≡ v → Path Cost (record { left = l; whole = w }) (record { left = m; whole = v })
 same_cost_parts l m w v e f = cc
 
@@ -32,6 +34,7 @@ pub record LooksForward (rows : List LoopRow) (code : List Cut) (at : ℕ) (cut 
   pub lends : (row : LoopRow) → begun_at rows at ≡ Some row → at + length cut.bytes ≤ behind code row.lend
 
 module _ (f g : Costs) (next : ℕ) (same : (to : ℕ) → next ≤ to → f to ≡ g to) where
+  -- what costs that agree from the next address on give
   same_at : (o : Option ℕ) → ((to : ℕ) → o ≡ Some to → next ≤ to) → whole_at f o ≡ whole_at g o
   same_at None h = refl
   same_at (Some to) h = ap (λ c. c.whole) (same to (h to refl))
@@ -64,6 +67,7 @@ module _ (rows : List LoopRow) (code : List Cut) (a : ℕ) (cut : Cut) (some : 0
       let left = same_left f g (a + n) same n cut.instr looks.jumps in
       same_cost_parts _ _ _ _ left (same_whole f g (a + n) same code _ _ (begun_at rows a) left looks.lends)
 
+  -- the cost of an instruction is the one from the costs behind it
   pub costs_here : (cuts : List Cut) (at k : ℕ) → AllByRecursion (λ c. 0 < length c.bytes) cuts → cut_at cuts k ≡ Some cut → a ≡ at + k → costs_from rows code at cuts a ≡ cost_in (costs_from rows code at cuts)
   costs_here [] at k all is e = absurd cc
   costs_here (c ∷ cs) at k all is e = by_test (costs_here cs (at + length c.bytes) (k - length c.bytes) all.1) (nat_eq k 0) refl (nat_lt k (length c.bytes)) refl is

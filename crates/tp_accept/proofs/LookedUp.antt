@@ -1,12 +1,14 @@
 -- What look-ups find.
-use Rattle.std.proofs.Common.{◌≡◌, ℕ, zero, suc, ◌+◌, ◌≤◌, Bool, true, false, cond, List, [], ◌∷◌, length, Contains, map, Option, Some, None, refl, ap, sym, ◌∙◌, arith}
+use Rattle.std.proofs.Common.{◌≡◌, ℕ, suc, ◌+◌, ◌≤◌, Bool, true, false, cond, List, [], ◌∷◌, length, Contains, map, Option, Some, None, refl, ap, sym, ◌∙◌, arith}
 use Rattle.std.specs.Option.{option_map_or}
 use Rattle.std.specs.List.{find}
+use Rattle.std.proofs.lemmas.List.{get_or-map, length-map}
 use Rattle.tp_image.specs.Image.{ImageValue, InRange}
 use Rattle.tp_decode.specs.Cutting.{Cut, IsCutting, cut_at}
 use Rattle.tp_flow.specs.RowRules.{is_start, is_lend, is_lend_cut}
 use Rattle.tp_accept.specs.Bound.{behind}
 
+-- behind an instruction
 pub behind_least : (cuts : List Cut) (at : ℕ) → at ≤ behind cuts at
 behind_least cuts at = by_case (cut_at cuts at)
   where
@@ -26,6 +28,7 @@ found {X} p (y ∷ xs) x is = by_test (found p xs x) (p y) refl is
     by_test go true e is = let same : y ≡ x = cc in ((0, omega arith, same), sym (ap p same) ∙ e)
     by_test go false e is = let rest = go is in ((suc rest.0.0, omega (arith, rest.0.1), rest.0.2), rest.1)
 
+-- nothing is found where nothing passes
 pub found_none : {X : Type 0} (p : X → Bool) (xs : List X) → ((x : X) → Contains xs x → p x ≡ false) → find p xs ≡ None
 found_none p [] each = refl
 found_none {X} p (x ∷ xs) each =
@@ -33,11 +36,9 @@ found_none {X} p (x ∷ xs) each =
 
 -- what a list of images contains
 pub map_contains : {X Y : Type 0} (f : X → Y) (xs : List X) (x : X) → Contains xs x → Contains (map f xs) (f x)
-map_contains f [] x (k, k_in, at_k) = absurd (omega arith)
-map_contains f (y ∷ xs) x (zero, k_in, at_k) = (0, omega arith, ap f at_k)
-map_contains f (y ∷ xs) x (suc k, k_in, at_k) =
-    let rest = map_contains f xs x (k, omega arith, at_k) in (suc rest.0, omega (arith, rest.1), rest.2)
+map_contains f xs x (k, k_in, at_k) = (k, omega (arith, length-map xs f), get_or-map f xs k x (f x) k_in ∙ ap f at_k)
 
+-- the lend that stands at a place
 pub lend_cut : (o : Option Cut) → is_lend_cut o ≡ true → (cut : Cut) × (o ≡ Some cut) × (is_lend cut.instr ≡ true)
 lend_cut None is = absurd cc
 lend_cut (Some cut) is = (cut, refl, is)

@@ -1,13 +1,14 @@
 -- Sums over loops.
-use Rattle.std.proofs.Common.{◌≡◌, ◌≢◌, ℕ, zero, suc, ◌+◌, ◌<◌, ◌≤◌, Bool, true, false, nat_eq, nat_lt, ◌==◌, cond, if◌then◌else◌, List, [], ◌∷◌, get_or, Contains, sum_by, Some, refl, ap, sym, ◌∙◌, arith}
+use Rattle.std.proofs.Common.{◌≡◌, ◌≢◌, ℕ, suc, ◌+◌, ◌<◌, ◌≤◌, Bool, true, false, nat_eq, nat_lt, ◌==◌, cond, if◌then◌else◌, List, [], ◌∷◌, get_or, Contains, sum_by, Some, refl, ap, sym, ◌∙◌, subst, arith}
 use Rattle.std.specs.Option.{option_map_or}
-use Rattle.std.proofs.lemmas.List.Sums.{sum_by-cons}
+use Rattle.std.proofs.lemmas.List.Sums.{sum_by-cons, get_or-le-sum_by}
 use Rattle.std.proofs.lemmas.List.{get_or_default}
 use Rattle.std.proofs.lemmas.Bool.Decides.{nat_tests}
 use Rattle.tp_image.specs.declared.image.LoopRow.{LoopRow}
 use Rattle.tp_accept.specs.Bound.{begun_at}
 use Rattle.tp_flow.specs.NestKept.{HasOwnHeads}
 
+-- what a list contains that has one more at its front
 pub contains_first : {X : Type 0} (x : X) (xs : List X) → Contains (x ∷ xs) x
 contains_first x xs = (0, omega arith, refl)
 
@@ -24,18 +25,19 @@ sums_le f g h i (x ∷ xs) each =
 
 -- one of the parts
 pub part_le : {X : Type 0} (f : X → ℕ) (xs : List X) (x : X) → Contains xs x → f x ≤ sum_by f xs
-part_le f [] x (k, k_in, at_k) = absurd (omega arith)
-part_le f (y ∷ xs) x (zero, k_in, at_k) = omega (arith, sum_by-cons f y xs, ap f at_k)
-part_le f (y ∷ xs) x (suc k, k_in, at_k) = omega (arith, sum_by-cons f y xs, part_le f xs x (k, omega arith, at_k))
+part_le f xs x (k, k_in, at_k) = subst (λ y. f y ≤ sum_by f xs) at_k (get_or-le-sum_by f xs k x k_in)
 
+-- nothing
 pub sum_zero : {X : Type 0} (f : X → ℕ) (xs : List X) → ((x : X) → Contains xs x → f x ≡ 0) → sum_by f xs ≡ 0
 sum_zero f [] each = refl
 sum_zero f (x ∷ xs) each =
     omega (arith, sum_by-cons f x xs, each x (contains_first x xs), sum_zero f xs (λ y y_in. each y (contains_later x xs y y_in)))
 
+-- the heads of the other loops
 later_heads : (row : LoopRow) (rows : List LoopRow) → HasOwnHeads (row ∷ rows) → HasOwnHeads rows
 later_heads row rows heads i j d lt lt_j = heads (suc i) (suc j) d (omega arith) (omega arith)
 
+-- the first loop has none of them
 own_head : (row : LoopRow) (rows : List LoopRow) (other : LoopRow) → HasOwnHeads (row ∷ rows) → Contains rows other → row.head ≢ other.head
 own_head row rows other heads (k, k_in, at_k) e = heads 0 (suc k) other (omega arith) (omega arith) (e ∙ sym (ap (λ r. r.head) at_k))
 

@@ -28,6 +28,7 @@ use Rattle.tp_accept.proofs.LoopSums.{sums_le, part_le, sum_zero, begun_sum, sam
 use Rattle.tp_accept.proofs.LookedUp.{behind_least, behind_is, found, found_none, map_contains}
 use Rattle.tp_accept.proofs.LoopSteps.{one_turn, forward_step, back_step}
 
+-- what a test or an edge tells
 pub some_is : {X : Type 0} (o : Option X) → is_some o ≡ true → (x : X) × (o ≡ Some x)
 some_is None is = absurd cc
 some_is (Some x) is = (x, refl)
@@ -57,6 +58,7 @@ from_head : (to : ℕ) (o : Option LoopRange) → option_map (λ range. range.he
 from_head to None is = absurd cc
 from_head to (Some range) is = (range, refl, cc)
 
+-- a loop contains the addresses from its head to its lend
 contained : (row : LoopRow) (at : ℕ) → row.head ≤ at → at ≤ row.lend → contains (range_of row) at ≡ true
 contained row at low high = grind (arith, nat_tests)
 
@@ -67,6 +69,7 @@ container row at is = (grind (arith, nat_tests), grind (arith, nat_tests))
 abbrev added_at : List Cut → Costs → ℕ → Counts → LoopRow → ℕ
 added_at code costs at counts row = if contains (range_of row) at then turns_left code costs row (counts row) else 0
 
+-- a sum over some of a list
 sum_chosen : (p : LoopRow → Bool) (f : LoopRow → ℕ) (rows : List LoopRow) → sum_by f (filter p rows) ≡ sum_by (λ row. if p row then f row else 0) rows
 sum_chosen p f [] = refl
 sum_chosen p f (row ∷ rows) = by_test (sum_chosen p f rows) (p row) refl
@@ -79,6 +82,7 @@ sum_chosen p f (row ∷ rows) = by_test (sum_chosen p f rows) (p row) refl
         let here : (if p row then f row else 0) ≡ 0 = ap (λ b. cond b (f row) 0) e in
         omega (arith, sum_by-cons (λ row. if p row then f row else 0) row rows, go, here)
 
+-- the measure as a sum over all rows
 measure_is : (rows : List LoopRow) (code : List Cut) (at executed : ℕ) (counts : Counts) → measure rows code at executed counts ≡ (costs_of rows code at).left - executed + sum_by (added_at code (costs_of rows code) at counts) rows
 unfolding measure
 measure_is rows code at executed counts =
@@ -92,6 +96,7 @@ module _ (rows : List LoopRow) (workspace : ℕ) (code : List Cut) (nest : Keeps
   turns_of : (row : LoopRow) → Contains rows row → 0 < row.count
   turns_of row row_in = let good = All-contains (IsGood workspace) rows row nest.good row_in in omega (arith, good.turns_least)
 
+  -- an instruction reads costs behind it alone
   looks : (at : ℕ) (cut : Cut) → cut_at code at ≡ Some cut → LooksForward rows code at cut
   looks at cut stands = record {
     jumps = λ n to is goes.
@@ -149,9 +154,11 @@ module _ (rows : List LoopRow) (workspace : ℕ) (code : List Cut) (nest : Keeps
       let here : range.0.lend ≡ at = grind (arith, nat_tests) in
       (row.0, (number.0, slice_get_within rows number.0 row.0 row.1, get_or_from_slice_get rows number.0 row.0 row.0 row.1), ap (λ r. r.lend) row.2 ∙ here, ap (λ r. r.head) row.2 ∙ range.2)
 
+  -- a loop is entered at its head
   enters : (at to : ℕ) (edge : Edge) → IsEdge (ranges rows) code at edge to → (row : LoopRow) → Contains rows row → contains (range_of row) at ≡ false → contains (range_of row) to ≡ true → to ≡ row.head
   enters at to edge e row row_in out in_to = nest.enters at to edge (range_of row) e (map_contains range_of rows row row_in) (λ h. absurd cc) in_to
 
+  -- what loops add, before and after an edge that goes forward
   forward_sums : (at to : ℕ) (edge : Edge) (counts later : Counts) → IsEdge (ranges rows) code at edge to → is_edge edge Back ≡ false → at < to → AreCountsAfter rows at edge to counts later
       → sum_by (added_at code (costs_of rows code) to later) rows + sum_by (λ row. if row.lend == at then added_at code (costs_of rows code) at counts row else 0) rows
       ≤ sum_by (added_at code (costs_of rows code) at counts) rows + option_map_or (λ row. turns_left code (costs_of rows code) row row.count) (begun_at rows to) 0
@@ -172,6 +179,7 @@ module _ (rows : List LoopRow) (workspace : ℕ) (code : List Cut) (nest : Keeps
           past : contains (range_of row) to ≡ true → (row.lend == at) ≡ true → ⊥
           past in_to ends = let last : row.lend ≡ at = grind (arith, nat_tests) in omega (arith, (container row to in_to).1)
 
+  -- and before and after an edge back
   back_sums : (at to : ℕ) (counts later : Counts) → IsEdge (ranges rows) code at Back to → (own : LoopRow) → Contains rows own → own.lend ≡ at → own.head ≡ to → HasTurns rows at counts → AreCountsAfter rows at Back to counts later
       → sum_by (added_at code (costs_of rows code) to later) rows + (costs_of rows code to).left ≤ sum_by (added_at code (costs_of rows code) at counts) rows
   back_sums at to counts later e own own_in lend head turns after =

@@ -45,6 +45,7 @@ pub record IsPlaced (cuts : List Cut) (from : ℕ) (p : Placed) : Type 0 where
   pub order : p.at ≤ p.next
   pub within : p.at < from + length (code_of cuts)
 
+-- each instruction has bytes, all of them in the code
 pub placed_within : (from : ℕ) (cuts : List Cut) (i : ℕ) (p : Placed) → AllByRecursion (λ c. 0 < length c.bytes) cuts → slice_get (placed_from from cuts) i ≡ Some p → IsPlaced cuts from p
 placed_within from [] i p all is = absurd cc
 placed_within from (cut ∷ cuts) zero p all is =
@@ -60,11 +61,13 @@ pub record HasCostsFrom (rows : List LoopRow) (code : List Cut) (items : List Co
   pub long : length items ≡ length (code_of code)
   pub each : (to : ℕ) → counted_at items to ≡ counted (costs_past rows code 0 code i to)
 
+-- they are capped
 pub all_capped : (rows : List LoopRow) (code : List Cut) (items : List Counted) (i : ℕ) → HasCostsFrom rows code items i → AreCapped items
 all_capped rows code items i has k d lt =
     let e : get_or items k d ≡ counted (costs_past rows code 0 code i k) = get_or_default items k d uncounted lt ∙ has.each k in
     record { left = omega (arith, ap (λ c. c.left) e); whole = omega (arith, ap (λ c. c.whole) e) }
 
+-- a table that is not filled
 nothing_at : (n to : ℕ) → get_or (replicate n uncounted) to uncounted ≡ uncounted
 nothing_at zero to = refl
 nothing_at (suc n) zero = refl
