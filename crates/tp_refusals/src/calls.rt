@@ -5,6 +5,7 @@ use crate::page::Page;
 use arrayvec::ArrayVec;
 use std::alloc::Global;
 use std::sync::Wait;
+use tp_accept::{BoundFault, budget};
 use tp_board::{Board, BoardFault, Core, Event, Reply};
 use tp_collect::Collector;
 use tp_decode::{DecodeFault, Instr, Listing, decode};
@@ -79,6 +80,7 @@ fn images(alloc: Global, tally: &mut Tally) {
             tally.add(same_if(is_read(&image)));
             tally.add(written(alloc, &image));
             tally.add(collected(alloc, &image));
+            tally.add(budgeted(alloc, &image));
             tally.add(match upgrade(alloc, &image) {
                 Ok(same) => same_if(is_read(&same)),
                 Err(ImageFault::Memory) => Answer::Memory,
@@ -113,6 +115,20 @@ fn collected(alloc: Global, image: &Image) -> Answer {
     match Collector::new(alloc, 7, image, &packets) {
         Ok(collector) => same_if(collector.finish().entries.len() == 3),
         Err(_) => Answer::Memory,
+    }
+}
+
+/// The budget of a code of one instruction of two bytes.
+fn budgeted(alloc: Global, image: &Image) -> Answer {
+    let listing = match decode(alloc, &image.code) {
+        Ok(listing) => listing,
+        Err(DecodeFault::Memory) => return Answer::Memory,
+        Err(_) => return Answer::Other,
+    };
+    match budget(alloc, image, &listing) {
+        Ok(budget) => same_if(budget == 2),
+        Err(BoundFault::Memory) => Answer::Memory,
+        Err(BoundFault::B1) => Answer::Other,
     }
 }
 

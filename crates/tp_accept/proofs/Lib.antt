@@ -1,0 +1,11 @@
+pub mod CostTable
+pub mod CappedCosts
+pub mod TableFilled
+pub mod CostEdges
+pub mod LoopSums
+pub mod LookedUp
+pub mod LoopSteps
+pub mod MeasureDrops
+pub mod CostEquations
+pub mod WalkBound
+pub mod Computing

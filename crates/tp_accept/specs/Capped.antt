@@ -1,0 +1,32 @@
+-- Costs as they are counted: no further than is needed to see that they are above the greatest budget.
+use Rattle.std.specs.Prelude.{ℕ, ◌+◌, ◌≤◌, min, List, get_or, All}
+use Rattle.tp_accept.specs.declared.counting.Counted.{Counted}
+use Rattle.tp_accept.specs.Limits.{most_budget}
+use Rattle.tp_accept.specs.Bound.{Cost, Costs}
+
+-- one more than the greatest budget
+abbrev pub cap : ℕ
+cap = most_budget + 1
+
+abbrev pub capped : ℕ → ℕ
+capped n = min n cap
+
+abbrev pub counted : Cost → Counted
+counted cost = record { left = capped cost.left; whole = capped cost.whole }
+
+abbrev pub uncounted : Counted
+uncounted = record { left = 0; whole = 0 }
+
+-- a list that has what was counted for the addresses from 0 on
+abbrev pub counted_at : List Counted → ℕ → Counted
+counted_at items to = get_or items to uncounted
+
+abbrev pub table : List Counted → Costs
+table items = λ to. record { left = (counted_at items to).left; whole = (counted_at items to).whole }
+
+pub record IsCapped (cost : Counted) : Type 0 where
+  pub left : cost.left ≤ cap
+  pub whole : cost.whole ≤ cap
+
+abbrev pub AreCapped : List Counted → Type 0
+AreCapped items = All IsCapped items

@@ -1,0 +1,12 @@
+pub mod Limits
+pub mod Bound
+pub mod Equations
+pub mod Capped
+pub mod Measure
+pub mod Walks
+pub mod Workers
+pub mod BoundFaults
+pub use Rattle.tp_decode.specs.Cutting
+pub use Rattle.tp_flow.specs.NestRanges
+pub use Rattle.tp_flow.specs.RowRules
+pub use Rattle.tp_flow.specs.NestKept

@@ -1,0 +1,4 @@
+//! What a code may cost.
+
+/// The greatest budget, in instruction bytes.
+pub const MOST_BUDGET: u32 = 16_777_216;
