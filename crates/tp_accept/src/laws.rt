@@ -16,7 +16,6 @@ ghost use Rattle.tp_accept.specs.Walks.{Walk};
 ghost use Rattle.tp_accept.specs.Workers.{bound_of_bytes, measure_of_bytes, two_and_three, row, increment, sum_to, ten, ten_thousand, loop_in_a_loop, outer_and_inner, early_exit, two_ways, neighbours};
 
 /// The costs of a code meet the equations of the bound.
-
 pub fn costs_meet_their_equations()
     ensures { (rows : List LoopRow) (workspace : ℕ) (code : List Cut) → KeepsNest rows workspace code →
         AreCosts rows code (λ at. (costs_of rows code at).left) (λ at to. (costs_of rows code to).whole) }
@@ -57,7 +56,7 @@ pub fn each_byte_takes_one()
         length cut.bytes ≤ measure rows code at 0 counts }
 {}
 
-/// Along each edge the measure goes down by the bytes of the instruction that were still to come.
+/// Along each edge the measure goes down by at least the bytes of the instruction that were still to come.
 pub fn measure_goes_down()
     ensures { (rows : List LoopRow) (workspace : ℕ) (code : List Cut) → KeepsNest rows workspace code →
         (at to executed : ℕ) (edge : Edge) (counts later : Counts) (e : IsEdge (ranges rows) code at edge to) →
