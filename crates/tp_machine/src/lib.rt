@@ -25,3 +25,6 @@ mod words;
 
 pub use machine::Machine;
 pub use outcome::{Outcome, RunFault};
+
+#[cfg(test)]
+mod tests;

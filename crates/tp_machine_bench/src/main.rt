@@ -46,7 +46,7 @@ fn told<R: Runtime<A = Global>>(rt: &R, worker: &Worker, rounds: Option<u32>) ->
     let image = read_image(rt.alloc(), worker.image)?;
     let Some(rounds) = rounds else {
         let run = machine_rounds(rt, &image, 1)?;
-        let plain = plain_rounds(rt, worker, 1)?;
+        let plain = plain_rounds(rt, worker, &image, 1)?;
         println!(rt;
             "{name}: {} instruction bytes, result {}, plain loop {}",
             run.counted, run.result_word, plain.result_word
@@ -54,7 +54,7 @@ fn told<R: Runtime<A = Global>>(rt: &R, worker: &Worker, rounds: Option<u32>) ->
         return Ok(());
     };
     let run = machine_rounds(rt, &image, rounds)?;
-    let plain = plain_rounds(rt, worker, rounds)?;
+    let plain = plain_rounds(rt, worker, &image, rounds)?;
     let rate = run.counted.saturating_mul(1000) / nanos(run).max(1);
     let times = nanos(run) / nanos(plain).max(1);
     println!(rt;
@@ -104,21 +104,20 @@ fn machine_rounds<R: Runtime<A = Global>>(rt: &R, image: &Image, rounds: u32) ->
     })
 }
 
-/// The same turns by a plain function.
-fn plain_rounds<R: Runtime>(rt: &R, worker: &Worker, rounds: u32) -> Result<Run> {
-    let mut counted = 0u64;
-    let mut result_word = 0;
+/// The same turns by a plain function. Where its words stand is read from the image, so that no compiler knows it.
+fn plain_rounds<R: Runtime>(rt: &R, worker: &Worker, image: &Image, rounds: u32) -> Result<Run> {
+    let sum = image.result as usize % 8;
+    let block = (image.packet as usize + 1) % 8;
+    let mut words = [0u32; plain::WORDS];
     let start = Instant::now(rt)?;
     for _ in 0..rounds {
-        let mut words = [0u32; 16];
-        plain::turns(&mut words, worker.outer, worker.inner);
-        result_word = words[1];
-        counted = counted.saturating_add(1);
+        words[sum] = 0;
+        plain::turns(&mut words, sum, block, worker.outer, worker.inner);
     }
     let took = start.elapsed(rt)?;
     Ok(Run {
-        counted,
-        result_word,
+        counted: u64::from(rounds),
+        result_word: words[sum],
         took,
     })
 }

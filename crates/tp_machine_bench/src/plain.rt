@@ -1,14 +1,24 @@
 //! Loops over an array of words. Nothing is tested here.
 
-/// Sums the indices of the inner loop's turns in word 1. Words 2 and 3 are the loop's index and count.
-pub fn turns(words: &mut [u32; 16], outer: u32, inner: u32) {
+ghost use Rattle.std.specs.Prelude.{◌<◌, ◌+◌};
+
+/// The words of a memory.
+pub const WORDS: usize = 16;
+
+/// Sums the indices of the inner loop's turns in a word. The loop's index stands at `block`, and its count after it. The
+/// places come as values, so that each turn reads and writes the array.
+#[inline(never)]
+pub fn turns(words: &mut [u32; WORDS], sum: usize, block: usize, outer: u32, inner: u32)
+    requires sum { sum < 16 }
+    requires block { block + 1 < 16 }
+{
     for _ in 0..outer {
-        words[2] = 0;
-        words[3] = inner;
+        words[block] = 0;
+        words[block + 1] = inner;
         for _ in 0..inner {
-            words[1] = words[1].wrapping_add(words[2]);
-            words[2] = words[2].wrapping_add(1);
-            words[3] = words[3].wrapping_sub(1);
+            words[sum] = words[sum].wrapping_add(words[block]);
+            words[block + 1] = words[block + 1].wrapping_sub(1);
+            words[block] = words[block].wrapping_add(1);
         }
     }
 }
