@@ -3,10 +3,11 @@ use Rattle.std.proofs.Common.{◌≡◌, ℕ, ◌+◌, ◌-◌, ◌*◌, ◌<◌
 use Rattle.tp_link.specs.declared.links.LinkFault.{LinkFault}
 use Rattle.tp_image.specs.Image.{ImageValue}
 use Rattle.tp_step.specs.Steps.{step, steps}
-use Rattle.tp_step.specs.Runs.{start}
+use Rattle.tp_step.specs.Runs.{start, run_of, RunsAlone}
 use Rattle.tp_step.proofs.StepLemmas.{steps_add}
 use Rattle.tp_decode.specs.Words.{low_word}
 use Rattle.tp_machine.specs.declared.machine.Machine.{Machine}
+use Rattle.tp_machine.specs.declared.outcome.Outcome.{Outcome}
 use Rattle.tp_machine.specs.declared.phase.Phase.{Phase}
 use Rattle.tp_machine.specs.declared.phase.Phase.TheVariants.{BeforePacket, Stopped}
 use Rattle.tp_machine.specs.declared.turn.Turn.TheVariants as turn
@@ -102,3 +103,8 @@ has_ended_last image limit before now n m phase all last h = has_ended_here imag
 
 pub is_out_last : (image : ImageValue) (limit : ℕ) (before now : Devices) (n : ℕ) (m : Machine) (phase : Phase) → n ≡ limit → (phase ≡ Stopped → ⊥) → Stands image before n m phase now → OutOfSteps image limit before now
 is_out_last image limit before now n m phase all going h = is_out_of_steps image limit before now m phase going (subst (λ k. Stands image before k m phase now) all h)
+
+-- a run that has ended is the run alone
+pub ended_alone : (image : ImageValue) (limit : ℕ) (before after : Devices) (outcome : Outcome) (run : Ended image limit before after outcome) → RunsAlone image (packet_of image before.source) (record { result = run.state.sent; error = outcome.error; steps = outcome.steps; trace = run.state.traced })
+unfolding run_of
+ended_alone image limit before after outcome run = rw (run.come.leads, run.ended, run.error) refl

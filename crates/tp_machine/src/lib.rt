@@ -10,6 +10,7 @@ mod bits;
 mod control;
 mod decode;
 mod functions;
+pub mod laws;
 mod machine;
 mod memory;
 mod messages;
