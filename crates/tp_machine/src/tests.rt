@@ -1,4 +1,4 @@
-//! Runs over wires that borrow and over trait objects, and the samples of tp_step_runs.
+//! Runs over wires that borrow and over trait objects. The whole workers of tp_step_runs run on the machine there.
 
 mod samples;
 
@@ -58,30 +58,6 @@ fn run(
     let answer = machine.run_image(&image, &mut links, limit);
     drop(links);
     Ok(Seen { answer, media })
-}
-
-#[test]
-fn runs_the_samples(rt: HostRuntime) -> Result<(), Fail> {
-    for (number, sample) in SAMPLES.into_iter().enumerate() {
-        let seen = run(rt.alloc(), sample.image, &sample.packet, 1_000_000, 256)?;
-        let outcome = Outcome {
-            error: sample.error,
-            steps: sample.steps,
-        };
-        let wanted = sample.result_bytes;
-        assert_eq!(rt; seen.answer, Ok(outcome), "sample {number}");
-        assert_eq!(rt;
-            seen.media.sink.bytes(),
-            wanted.as_slice(),
-            "sample {number}"
-        );
-        match sample.trace {
-            Some(word) => assert_eq!(rt; seen.media.trace.bytes(), word.as_slice()),
-            None => assert_eq!(rt; seen.media.trace.bytes().len(), 0),
-        }
-        assert_eq!(rt; seen.media.source.bytes().len(), 0);
-    }
-    Ok(())
 }
 
 #[test]

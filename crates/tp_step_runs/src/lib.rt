@@ -16,7 +16,8 @@
 //! | in, out on link 0, out on link 1 | [`messages`] |
 //! | move | [`moves`] |
 //! | pfix, nfix, bytes that are no instruction, Iptr outside the code | [`prefixes`] |
-//! | whole workers, and the state at their start | [`samples`] |
+//! | whole workers | [`table`] |
+//! | a worker that is stuck, the state at the start | [`samples`] |
 //!
 //! Each way to be stuck has runs too, which differ in one thing from a state that is not:
 //!
@@ -46,3 +47,6 @@ pub mod messages;
 pub mod moves;
 pub mod prefixes;
 pub mod samples;
+pub mod table;
+#[cfg(test)]
+mod tests;
