@@ -1,4 +1,9 @@
 pub mod EdgesTaken
+pub mod Answer
+pub mod Kinds
+pub mod CellRules
+pub mod Rules
+pub mod After
 pub use Rattle.tp_flow.specs.Edges
 pub use Rattle.tp_flow.specs.AroundKept
 pub use Rattle.tp_step.specs.State
