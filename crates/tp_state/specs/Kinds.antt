@@ -2,6 +2,7 @@
 use Rattle.std.specs.Prelude.{ℕ, ◌+◌, ◌*◌, ◌==◌, Bool, true, false, ◌&&◌, not, nat_le, nat_lt, if◌then◌else◌, ℤ, pos, negsuc, ◌+ℤ◌, ◌*ℤ◌, int_le, int_lt, List, [], ◌∷◌, Result, Ok, Err}
 use Rattle.std.specs.List.{list_all}
 use Rattle.std.specs.Ordering.{int_eq}
+use Rattle.std.specs.Int.{int_min, int_max}
 use Rattle.tp_image.specs.Image.{ImageValue}
 use Rattle.tp_step.specs.Numbers.{least_integer, greatest_integer, overflows}
 use Rattle.tp_state.specs.declared.kind.Kind.{Kind}
@@ -74,18 +75,12 @@ byte_in image x = below (4 * image.workspace) x
 -- ---- numbers that are made
 
 -- a range of whole numbers, and any number where an end is none of a word's
-abbrev pub range : ℤ → ℤ → Kind
+unfoldable pub range : ℤ → ℤ → Kind
 range low high = if overflows low then full else if overflows high then full else Int low high
 
-abbrev pub least : ℤ → ℤ → ℤ
-least a b = if int_le a b then a else b
-
-abbrev pub greatest : ℤ → ℤ → ℤ
-greatest a b = if int_le a b then b else a
-
 -- the least range that has four whole numbers, and any number where one of them is none of a word's
-abbrev pub hull : ℤ → ℤ → ℤ → ℤ → Kind
-hull a b c d = range (least (least a b) (least c d)) (greatest (greatest a b) (greatest c d))
+unfoldable pub hull : ℤ → ℤ → ℤ → ℤ → Kind
+hull a b c d = range (int_min (int_min a b) (int_min c d)) (int_max (int_max a b) (int_max c d))
 
 -- the results at the ends of two ranges
 abbrev pub at_ends : (ℤ → ℤ → ℤ) → ℤ × ℤ → ℤ × ℤ → Kind

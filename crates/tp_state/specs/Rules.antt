@@ -77,6 +77,20 @@ words_on image p n = do
   last ← word_in image (pos p.1 +ℤ n)
   Ok (first, last)
 
+-- what is n words on from a register: a place in the workspace, or a number
+abbrev pub words_further : ImageValue → ℤ → Kind → Result Kind StateCode
+words_further image n kind.Undef = Err S1
+words_further image n (kind.Int low high) = Ok (range (low +ℤ (n *ℤ pos 4)) (high +ℤ (n *ℤ pos 4)))
+words_further image n (kind.Ptr p q) = do
+  w ← words_on image (p, q) n
+  Ok (kind.Ptr w.0 w.1)
+words_further image n (kind.BytePtr p q) = Err S2
+
+-- a place for Wptr, which has five words of the workspace below it: S6
+abbrev pub frame_at : ImageValue → ℤ → Result ℕ StateCode
+frame_at image (pos x) = if nat_le 5 x && nat_lt x image.workspace then Ok x else Err S6
+frame_at image (negsuc x) = Err S6
+
 -- the words from the first to the last
 abbrev pub between : List Cell → ℕ × ℕ → List Cell
 between cells w = cells_from cells w.0 (w.1 + 1 - w.0)
@@ -124,7 +138,7 @@ is_positive a = int_eq a.0 a.1 && int_lt (pos 0) a.0
 
 -- by one divisor above 0, the quotients at the ends
 abbrev pub quotients : ℤ × ℤ → ℤ × ℤ → Kind
-quotients b a = if is_positive a then range (int_div b.0 a.0) (int_div b.1 a.0) else full
+quotients b a = if is_positive a then kind.Int (int_div b.0 a.0) (int_div b.1 a.0) else full
 
 -- by one divisor above 0, what is less than it, with the dividend's sign
 abbrev pub remainders : ℤ × ℤ → ℤ × ℤ → Kind
@@ -142,25 +156,31 @@ conjunctions b a =
     else full
 
 -- from 0 to 31
+abbrev pub is_shift_count : ℤ → Bool
+is_shift_count n = int_le (pos 0) n && int_le n (pos 31)
+
 abbrev pub are_shift_counts : ℤ × ℤ → Bool
-are_shift_counts a = int_le (pos 0) a.0 && int_le a.1 (pos 31)
+are_shift_counts a = is_shift_count a.0 && is_shift_count a.1
 
 abbrev pub count_of : ℤ → ℕ
 count_of (pos n) = n
 count_of (negsuc n) = 0
 
+-- 2 to a shift count
+abbrev pub power : ℤ → ℤ
+power n = pos (2 ^ count_of n)
+
 -- a number that is never below 0, shifted up by one count
 abbrev pub shifted_up : ℤ × ℤ → ℤ × ℤ → Kind
 shifted_up b a =
-    if int_eq a.0 a.1 && int_le (pos 0) b.0 then
-    range (b.0 *ℤ pos (2 ^ count_of a.0)) (b.1 *ℤ pos (2 ^ count_of a.0))
+    if int_eq a.0 a.1 && int_le (pos 0) b.0 then range (b.0 *ℤ power a.0) (b.1 *ℤ power a.0)
     else full
 
 -- shifted down; a number below 0 is a large one without its sign
 abbrev pub shifted_down : ℤ × ℤ → ℤ × ℤ → Kind
 shifted_down b a =
-    if int_le (pos 0) b.0 then kind.Int (pos (count_of b.0 / 2 ^ count_of a.1)) (pos (count_of b.1 / 2 ^ count_of a.0))
-    else if int_le (pos 1) a.0 then kind.Int (pos 0) (pos (2 ^ (32 - count_of a.0) - 1))
+    if int_le (pos 0) b.0 then kind.Int (int_div b.0 (power a.1)) (int_div b.1 (power a.0))
+    else if int_le (pos 1) a.0 then kind.Int (pos 0) (power (pos 32 -ℤ a.0) -ℤ pos 1)
     else full
 
 abbrev pub truth_value : Kind
@@ -244,15 +264,9 @@ rule image at next (Ldnl n) edge t = do
 -- ldc
 rule image at next (Ldc n) edge t = Ok (push (exactly n) t)
 -- ldnlp: of a pointer, or of a number
-rule image at next (Ldnlp n) edge t = ldnlp t.a
-  where
-    ldnlp : Kind → Result State StateCode
-    ldnlp kind.Undef = Err S1
-    ldnlp (kind.Int low high) = Ok (set_areg (range (low +ℤ (n *ℤ pos 4)) (high +ℤ (n *ℤ pos 4))) t)
-    ldnlp (kind.Ptr p q) = do
-      w ← words_on image (p, q) n
-      Ok (set_areg (kind.Ptr w.0 w.1) t)
-    ldnlp (kind.BytePtr p q) = Err S2
+rule image at next (Ldnlp n) edge t = do
+  k ← words_further image n t.a
+  Ok (set_areg k t)
 -- ldl
 rule image at next (Ldl n) edge t = do
   x ← local image t n
@@ -270,13 +284,9 @@ rule image at next (Cj n) edge t = do
   one_number t
   Ok (pop t)
 -- ajw
-rule image at next (Ajw n) edge t = moved (pos t.wptr +ℤ n)
-  where
-    moved : ℤ → Result State StateCode
-    moved (pos x) = do
-      unless S6 (nat_le 5 x && nat_lt x image.workspace)
-      Ok (record t { wptr = x })
-    moved (negsuc x) = Err S6
+rule image at next (Ajw n) edge t = do
+  x ← frame_at image (pos t.wptr +ℤ n)
+  Ok (record t { wptr = x })
 -- eqc
 rule image at next (Eqc n) edge t = do
   one_number t

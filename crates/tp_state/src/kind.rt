@@ -1,3 +1,10 @@
+//! What is known of a register.
+
+ghost use Rattle.std.specs.Prelude.{◌≡◌};
+ghost use Rattle.tp_state.specs.Kinds.{known, number, pointer, one_word, byte_pointer, is_exactly, points_at};
+
+use crate::fault::StateCode;
+
 /// What is known of a register.
 #[derive(Clone, Copy, Debug, PartialEq, Eq)]
 pub enum Kind {
@@ -9,4 +16,66 @@ pub enum Kind {
     Ptr(u32, u32),
     /// The address of a workspace byte, by the byte's number, in a range, both ends counted.
     BytePtr(u32, u32),
+}
+
+impl Kind {
+    /// Something that an instruction may read.
+    pub(crate) fn known(self) -> Result<Kind, StateCode>
+        ensures { result ≡ known self }
+    {
+        match self {
+            Kind::Undef => Err(StateCode::S1),
+            kind => Ok(kind),
+        }
+    }
+
+    /// The range of a number.
+    pub(crate) fn number(self) -> Result<(i32, i32), StateCode>
+        ensures { result ≡ number self }
+    {
+        match self {
+            Kind::Int(low, high) => Ok((low, high)),
+            _ => Err(StateCode::S2),
+        }
+    }
+
+    /// The range of a word's address.
+    pub(crate) fn pointer(self) -> Result<(u32, u32), StateCode>
+        ensures { result ≡ pointer self }
+    {
+        match self {
+            Kind::Ptr(first, last) => Ok((first, last)),
+            _ => Err(StateCode::S2),
+        }
+    }
+
+    /// The address of one word.
+    pub(crate) fn one_word(self) -> Result<u32, StateCode>
+        ensures { result ≡ one_word self }
+    {
+        match self {
+            Kind::Ptr(first, last) if first == last => Ok(first),
+            _ => Err(StateCode::S2),
+        }
+    }
+
+    /// Whether it is one number, this one.
+    pub(crate) fn is_exactly(self, n: i32) -> bool
+        ensures { result ≡ is_exactly n self }
+    {
+        match self {
+            Kind::Int(low, high) => low == n && high == n,
+            _ => false,
+        }
+    }
+
+    /// Whether it is the address of one word, this one.
+    pub(crate) fn points_at(self, x: u32) -> bool
+        ensures { result ≡ points_at x self }
+    {
+        match self {
+            Kind::Ptr(first, last) => first == x && last == x,
+            _ => false,
+        }
+    }
 }

@@ -8,6 +8,7 @@ mod cell;
 mod fault;
 mod kind;
 pub mod laws;
+mod ranges;
 mod state;
 
 pub use cell::Cell;
