@@ -20,3 +20,8 @@ unless e false = Err e
 abbrev pub found : {A E : Type 0} → E → Option A → Result A E
 found e (Some x) = Ok x
 found e None = Err e
+
+-- what a call that changes a value in place has answered, with the value that it left
+abbrev pub answered : {A B E : Type 0} → Result A E → B → Result B E
+answered (Ok x) new = Ok new
+answered (Err e) new = Err e

@@ -1,8 +1,9 @@
 -- What is known of the workspace's words: reading and writing.
-use Rattle.std.specs.Prelude.{ℕ, ◌+◌, ◌-◌, ◌*◌, ◌/◌, Bool, true, false, not, if◌then◌else◌, ℤ, pos, ◌+ℤ◌, ◌-ℤ◌, List, ◌++◌, length, take, drop, slice_index_or, slice_get, slice_set, Result, Ok, Err}
+use Rattle.std.specs.Prelude.{ℕ, ◌+◌, ◌-◌, ◌^◌, ◌≤◌, ◌≤ℤ◌, ◌*◌, ◌/◌, Bool, true, false, not, if◌then◌else◌, ℤ, pos, ◌+ℤ◌, ◌-ℤ◌, List, ◌++◌, length, take, drop, slice_index_or, slice_get, slice_set, Result, Ok, Err}
 use Rattle.std.specs.List.{list_all}
 use Rattle.std.specs.Ordering.{int_eq}
 use Rattle.tp_image.specs.declared.image.LoopRow.{LoopRow}
+use Rattle.tp_flow.specs.Limits.{most_turns, greatest_index}
 use Rattle.tp_flow.specs.RowRules.{last_index}
 use Rattle.tp_state.specs.declared.kind.Kind.{Kind}
 use Rattle.tp_state.specs.declared.kind.Kind.TheVariants as kind
@@ -17,7 +18,7 @@ abbrev pub cell_at : List Cell → ℕ → Cell
 cell_at cells x = slice_index_or cells x Undef
 
 -- n cells, from cell x on
-abbrev pub cells_from : List Cell → ℕ → ℕ → List Cell
+unfoldable pub cells_from : List Cell → ℕ → ℕ → List Cell
 cells_from cells x n = take n (drop x cells)
 
 -- these cells stand from cell x on
@@ -41,8 +42,14 @@ is_defined cell = true
 abbrev pub are_defined : List Cell → Bool
 are_defined cells = list_all is_defined cells
 
+-- the index and the count of a loop are words at each of its turns
+pub record HasWords (row : LoopRow) : Type 0 where
+  pub some : 1 ≤ row.count
+  pub few : row.count ≤ most_turns
+  pub ends : last_index row ≤ℤ pos greatest_index
+
 -- what is read from a word; the index of a live loop goes from its start over its turns, and its count from 1
-abbrev pub read : List LoopRow → Cell → Result Kind StateCode
+unfoldable pub read : List LoopRow → Cell → Result Kind StateCode
 read rows Undef = Err S4
 read rows Any = Ok full
 read rows (Known n) = Ok (exactly n)

@@ -32,27 +32,27 @@ points_at x kind = false
 -- ---- what a rule asks of a register
 
 -- something: S1
-abbrev pub known : Kind → Result Kind StateCode
+unfoldable pub known : Kind → Result Kind StateCode
 known Undef = Err S1
 known kind = Ok kind
 
 -- a number, by its range: S2
-abbrev pub number : Kind → Result (ℤ × ℤ) StateCode
+unfoldable pub number : Kind → Result (ℤ × ℤ) StateCode
 number (Int low high) = Ok (low, high)
 number kind = Err S2
 
 -- the address of a word, by the range of the word's number: S2
-abbrev pub pointer : Kind → Result (ℕ × ℕ) StateCode
+unfoldable pub pointer : Kind → Result (ℕ × ℕ) StateCode
 pointer (Ptr p q) = Ok (p, q)
 pointer kind = Err S2
 
 -- the address of one word
-abbrev pub one_word : Kind → Result ℕ StateCode
+unfoldable pub one_word : Kind → Result ℕ StateCode
 one_word (Ptr p q) = if p == q then Ok p else Err S2
 one_word kind = Err S2
 
 -- the address of a byte, by the range of the byte's number; a word's address is that of its bytes' first
-abbrev pub byte_pointer : Kind → Result (ℕ × ℕ) StateCode
+unfoldable pub byte_pointer : Kind → Result (ℕ × ℕ) StateCode
 byte_pointer (Ptr p q) = Ok (4 * p, 4 * q)
 byte_pointer (BytePtr p q) = Ok (p, q)
 byte_pointer kind = Err S2
@@ -60,16 +60,16 @@ byte_pointer kind = Err S2
 -- ---- places
 
 -- a whole number below a bound: S3
-abbrev pub below : ℕ → ℤ → Result ℕ StateCode
+unfoldable pub below : ℕ → ℤ → Result ℕ StateCode
 below bound (pos x) = if nat_lt x bound then Ok x else Err S3
 below bound (negsuc x) = Err S3
 
 -- a word of the workspace
-abbrev pub word_in : ImageValue → ℤ → Result ℕ StateCode
+unfoldable pub word_in : ImageValue → ℤ → Result ℕ StateCode
 word_in image x = below image.workspace x
 
 -- a byte of the workspace
-abbrev pub byte_in : ImageValue → ℤ → Result ℕ StateCode
+unfoldable pub byte_in : ImageValue → ℤ → Result ℕ StateCode
 byte_in image x = below (4 * image.workspace) x
 
 -- ---- numbers that are made

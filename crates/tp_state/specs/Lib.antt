@@ -2,6 +2,7 @@ pub mod EdgesTaken
 pub mod Answer
 pub mod Kinds
 pub mod CellRules
+pub mod Conditions
 pub mod Rules
 pub mod After
 pub use Rattle.tp_flow.specs.Edges

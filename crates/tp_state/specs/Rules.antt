@@ -52,13 +52,13 @@ no_registers t = record t { a = kind.Undef; b = kind.Undef; c = kind.Undef }
 -- ---- what a rule reads
 
 -- Areg as a number
-abbrev pub one_number : State → Result (ℤ × ℤ) StateCode
+unfoldable pub one_number : State → Result (ℤ × ℤ) StateCode
 one_number t = do
   known t.a
   number t.a
 
 -- Areg and Breg as numbers
-abbrev pub two_numbers : State → Result ((ℤ × ℤ) × (ℤ × ℤ)) StateCode
+unfoldable pub two_numbers : State → Result ((ℤ × ℤ) × (ℤ × ℤ)) StateCode
 two_numbers t = do
   known t.a
   known t.b
@@ -67,18 +67,18 @@ two_numbers t = do
   Ok (a, b)
 
 -- the word n words on from Wptr
-abbrev pub local : ImageValue → State → ℤ → Result ℕ StateCode
+unfoldable pub local : ImageValue → State → ℤ → Result ℕ StateCode
 local image t n = word_in image (pos t.wptr +ℤ n)
 
 -- the words n words on from a pointer
-abbrev pub words_on : ImageValue → ℕ × ℕ → ℤ → Result (ℕ × ℕ) StateCode
+unfoldable pub words_on : ImageValue → ℕ × ℕ → ℤ → Result (ℕ × ℕ) StateCode
 words_on image p n = do
   first ← word_in image (pos p.0 +ℤ n)
   last ← word_in image (pos p.1 +ℤ n)
   Ok (first, last)
 
 -- what is n words on from a register: a place in the workspace, or a number
-abbrev pub words_further : ImageValue → ℤ → Kind → Result Kind StateCode
+unfoldable pub words_further : ImageValue → ℤ → Kind → Result Kind StateCode
 words_further image n kind.Undef = Err S1
 words_further image n (kind.Int low high) = Ok (range (low +ℤ (n *ℤ pos 4)) (high +ℤ (n *ℤ pos 4)))
 words_further image n (kind.Ptr p q) = do
@@ -87,7 +87,7 @@ words_further image n (kind.Ptr p q) = do
 words_further image n (kind.BytePtr p q) = Err S2
 
 -- a place for Wptr, which has five words of the workspace below it: S6
-abbrev pub frame_at : ImageValue → ℤ → Result ℕ StateCode
+unfoldable pub frame_at : ImageValue → ℤ → Result ℕ StateCode
 frame_at image (pos x) = if nat_le 5 x && nat_lt x image.workspace then Ok x else Err S6
 frame_at image (negsuc x) = Err S6
 
@@ -189,7 +189,7 @@ truth_value = kind.Int (pos 0) (pos 1)
 -- ---- messages
 
 -- a message's words, from this one on: S3
-abbrev pub message_in : ImageValue → ℕ → ℕ → Result Bool StateCode
+unfoldable pub message_in : ImageValue → ℕ → ℕ → Result Bool StateCode
 message_in image x n = unless S3 (nat_le (x + n) image.workspace)
 
 -- a channel, as a number
@@ -201,7 +201,7 @@ abbrev pub is_trace_length : ℕ → Bool
 is_trace_length n = (n % 4 == 0) && nat_le 4 n && nat_le n 256
 
 -- how many words a result or a trace message has, by its channel: S8, S7
-abbrev pub words_to_send : ImageValue → Kind → ℤ × ℤ → Result ℕ StateCode
+unfoldable pub words_to_send : ImageValue → Kind → ℤ × ℤ → Result ℕ StateCode
 words_to_send image b a =
     if is_exactly (channel link0_output) b then
     (do
@@ -214,19 +214,19 @@ words_to_send image b a =
     else Err S8
 
 -- the phase after a message on a channel: the result comes after the packet, and a trace message at any time
-abbrev pub phase_after : Kind → ℕ → Result ℕ StateCode
+unfoldable pub phase_after : Kind → ℕ → Result ℕ StateCode
 phase_after b phase =
     if is_exactly (channel link1_output) b then Ok phase
     else if phase == 1 then Ok 2
     else Err S9
 
 -- words that move copies: 1 to 512 of them
-abbrev pub is_move_length : ℤ × ℤ → Bool
+unfoldable pub is_move_length : ℤ × ℤ → Bool
 is_move_length a =
     int_eq a.0 a.1 && int_le (pos 4) a.0 && int_le a.0 (pos 2048) && (count_of a.0 % 4 == 0)
 
 -- two ranges of n words do not touch
-abbrev pub are_apart : ℕ → ℕ → ℕ → Bool
+unfoldable pub are_apart : ℕ → ℕ → ℕ → Bool
 are_apart n x y = nat_le (x + n) y || nat_le (y + n) x
 
 -- ---- loops
@@ -236,7 +236,7 @@ abbrev pub with_block : LoopRow → Cell → Cell → State → State
 with_block row index count t = record t { cells = slice_set (slice_set t.cells row.control index) (row.control + 1) count }
 
 -- the loop whose lend stands at an address
-abbrev pub row_ended_at : ImageValue → ℕ → Option LoopRow
+unfoldable pub row_ended_at : ImageValue → ℕ → Option LoopRow
 row_ended_at image at = option_and_then (slice_get image.loops) (number_ended_at (ranges image.loops) at)
 
 -- a loop that is left has no block any more

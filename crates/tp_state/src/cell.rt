@@ -1,3 +1,14 @@
+//! What is known of a workspace word.
+
+ghost use Rattle.std.specs.Prelude.{◌≡◌, All};
+ghost use Rattle.tp_flow.specs.RowRules.{last_index};
+ghost use Rattle.tp_state.specs.CellRules.{HasWords, is_free, is_defined, read, blurred, copied};
+
+use crate::fault::StateCode;
+use crate::kind::Kind;
+use crate::ranges::FULL;
+use tp_image::LoopRow;
+
 /// What is known of a workspace word.
 #[derive(Clone, Copy, Debug, PartialEq, Eq)]
 pub enum Cell {
@@ -11,4 +22,69 @@ pub enum Cell {
     Index(u8),
     /// It is the count of the live loop of this row.
     Count(u8),
+}
+
+impl Cell {
+    /// Whether it is no live control word.
+    pub(crate) fn is_free(self) -> bool
+        ensures { result ≡ is_free self }
+    {
+        !matches!(self, Cell::Index(_) | Cell::Count(_))
+    }
+
+    /// Whether its bytes are defined.
+    pub(crate) fn is_defined(self) -> bool
+        ensures { result ≡ is_defined self }
+    {
+        self != Cell::Undef
+    }
+
+    /// What is known of the word when something, or a part of something, may have been written to it.
+    pub(crate) fn blurred(self) -> Cell
+        ensures { result ≡ blurred self }
+    {
+        match self {
+            Cell::Known(_) => Cell::Any,
+            cell => cell,
+        }
+    }
+
+    /// What is known of a copy of the word.
+    pub(crate) fn copied(self) -> Cell
+        ensures { result ≡ copied self }
+    {
+        match self {
+            Cell::Index(_) | Cell::Count(_) => Cell::Any,
+            cell => cell,
+        }
+    }
+
+    /// What is read from the word.
+    #[tactic(auto, unfolding(crate::specs::CellRules::read))]
+    pub(crate) fn read(self, rows: &[LoopRow]) -> Result<Kind, StateCode>
+        requires { All HasWords rows.now }
+        ensures { result ≡ read rows.now self }
+    {
+        match self {
+            Cell::Undef => Err(StateCode::S4),
+            Cell::Any => Ok(FULL),
+            Cell::Known(n) => Ok(Kind::Int(n, n)),
+            Cell::Index(l) => match rows.get(usize::from(l)) {
+                Some(row) => Ok(Kind::Int(row.start, last_index(row))),
+                None => Err(StateCode::S4),
+            },
+            Cell::Count(l) => match rows.get(usize::from(l)) {
+                Some(row) => Ok(Kind::Int(1, row.count as i32)),
+                None => Err(StateCode::S4),
+            },
+        }
+    }
+}
+
+/// The index of a loop's last turn.
+fn last_index(row: &LoopRow) -> i32
+    requires { HasWords row.now }
+    ensures { result ≡ last_index row.now }
+{
+    (i64::from(row.start) + i64::from(row.count) - 1) as i32
 }

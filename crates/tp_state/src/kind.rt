@@ -3,6 +3,7 @@
 ghost use Rattle.std.specs.Prelude.{◌≡◌};
 ghost use Rattle.tp_state.specs.Kinds.{known, number, pointer, one_word, byte_pointer, is_exactly, points_at};
 
+use crate::cell::Cell;
 use crate::fault::StateCode;
 
 /// What is known of a register.
@@ -19,7 +20,33 @@ pub enum Kind {
 }
 
 impl Kind {
+    ghost use Rattle.tp_state.specs.CellRules.{written};
+
+    /// What is known of a word that takes it.
+    pub(crate) fn written(self) -> Cell
+        ensures { result ≡ written self }
+    {
+        match self {
+            Kind::Undef => Cell::Undef,
+            Kind::Int(low, high) if low == high => Cell::Known(low),
+            _ => Cell::Any,
+        }
+    }
+
+    /// The range of a byte's address. A word's address is that of its first byte.
+    #[tactic(auto, unfolding(crate::specs::Kinds::byte_pointer))]
+    pub(crate) fn byte_pointer(self) -> Result<(u64, u64), StateCode>
+        ensures { result ≡ byte_pointer self }
+    {
+        match self {
+            Kind::Ptr(first, last) => Ok((4 * u64::from(first), 4 * u64::from(last))),
+            Kind::BytePtr(first, last) => Ok((u64::from(first), u64::from(last))),
+            _ => Err(StateCode::S2),
+        }
+    }
+
     /// Something that an instruction may read.
+    #[tactic(auto, unfolding(crate::specs::Kinds::known))]
     pub(crate) fn known(self) -> Result<Kind, StateCode>
         ensures { result ≡ known self }
     {
@@ -30,6 +57,7 @@ impl Kind {
     }
 
     /// The range of a number.
+    #[tactic(auto, unfolding(crate::specs::Kinds::number))]
     pub(crate) fn number(self) -> Result<(i32, i32), StateCode>
         ensures { result ≡ number self }
     {
@@ -40,6 +68,7 @@ impl Kind {
     }
 
     /// The range of a word's address.
+    #[tactic(auto, unfolding(crate::specs::Kinds::pointer))]
     pub(crate) fn pointer(self) -> Result<(u32, u32), StateCode>
         ensures { result ≡ pointer self }
     {
@@ -50,6 +79,7 @@ impl Kind {
     }
 
     /// The address of one word.
+    #[tactic(auto, unfolding(crate::specs::Kinds::one_word))]
     pub(crate) fn one_word(self) -> Result<u32, StateCode>
         ensures { result ≡ one_word self }
     {

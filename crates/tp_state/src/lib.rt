@@ -5,13 +5,16 @@
 #![tactic(auto)]
 
 mod cell;
+mod cells;
 mod fault;
 mod kind;
 pub mod laws;
+mod places;
 mod ranges;
 mod state;
 
 pub use cell::Cell;
+pub use cells::Cells;
 pub use fault::StateCode;
 pub use kind::Kind;
-pub use state::{Cells, State};
+pub use state::State;

@@ -1,0 +1,75 @@
+//! What is known of the words of a workspace.
+
+ghost use Rattle.std.specs.Prelude.{◌≡◌, ◌+◌, ◌≤◌, ◌<◌, length, map, replicate, slice_set};
+ghost use Rattle.tp_state.specs.CellRules.{cell_at, cells_from, with_cells, are_free, are_defined, blurred, copied};
+
+use crate::cell::Cell;
+use std::marker::Model;
+
+/// What is known of each workspace word, by its number: a contract sees the list of these.
+#[derive(Drop)]
+pub struct Cells {
+    cells: Vec<Cell>,
+}
+
+impl Model for Cells {
+    ghost use Rattle.std.specs.Prelude.{List};
+    ghost use Rattle.tp_state.specs.declared.cell.Cell.{Cell};
+
+    ghost Value = { List Cell };
+
+    ghost view = { λ c. c.cells.items };
+}
+
+impl Cells {
+    /// What is known of a word; nothing of a word outside the workspace.
+    pub fn get(&self, x: usize) -> Cell
+        ensures { result ≡ cell_at self.now x }
+    {
+        match self.cells.get(x) {
+            Some(cell) => *cell,
+            None => Cell::Undef,
+        }
+    }
+
+    pub(crate) fn set(&mut self, x: usize, cell: Cell)
+        requires { x < length self.old }
+        ensures { self.new ≡ slice_set self.old x cell }
+    {
+        self.cells[x] = cell;
+    }
+
+    /// The cells of n words, from a word on, as far as the workspace goes.
+    #[tactic(auto, unfolding(crate::specs::CellRules::cells_from))]
+    fn part(&self, x: usize, n: usize) -> &[Cell]
+        ensures { result.now ≡ cells_from self.now x n }
+    {
+        let len = self.cells.len();
+        let first = x.min(len);
+        let last = first + n.min(len - first);
+        &self.cells[first..last]
+    }
+
+    /// Whether none of n words, from a word on, is a live control word.
+    pub(crate) fn are_free(&self, x: usize, n: usize) -> bool
+        ensures { result ≡ are_free (cells_from self.now x n) }
+    {
+        self.part(x, n).iter().all(|cell| cell.is_free())
+    }
+
+    /// Whether the bytes of n words, from a word on, are defined.
+    pub(crate) fn are_defined(&self, x: usize, n: usize) -> bool
+        ensures { result ≡ are_defined (cells_from self.now x n) }
+    {
+        self.part(x, n).iter().all(|cell| cell.is_defined())
+    }
+
+    /// The same is known of n words, from a word on.
+    #[tactic(auto, unfolding(crate::specs::CellRules::with_cells))]
+    pub(crate) fn fill(&mut self, x: usize, n: usize, cell: Cell)
+        requires { x + n ≤ length self.old }
+        ensures { self.new ≡ with_cells self.old x (replicate n cell) }
+    {
+        self.cells[x..x + n].fill(cell);
+    }
+}
