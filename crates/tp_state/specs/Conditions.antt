@@ -13,3 +13,8 @@ pub record IsPlaced (image : ImageValue) (t : State) : Type 0 where
   pub roomy : 5 ≤ t.wptr
   pub inside : t.wptr < image.workspace
   pub sized : length t.cells ≡ image.workspace
+
+-- Wptr and the number of words stay
+pub record KeepsPlace (old new : State) : Type 0 where
+  pub wptr : new.wptr ≡ old.wptr
+  pub sized : length new.cells ≡ length old.cells

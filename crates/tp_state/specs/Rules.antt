@@ -99,11 +99,13 @@ between cells w = cells_from cells w.0 (w.1 + 1 - w.0)
 abbrev pub words_of_bytes : ℕ × ℕ → ℕ × ℕ
 words_of_bytes p = (p.0 / 4, p.1 / 4)
 
--- one word takes a kind; of several, one takes it, and which is not known
-abbrev pub store : ℕ × ℕ → Kind → State → State
-store w k t =
-    if w.0 == w.1 then record t { cells = slice_set t.cells w.0 (written k) }
-    else record t { cells = with_cells t.cells w.0 (map blurred (between t.cells w)) }
+-- a word takes a kind
+abbrev pub with_word : ℕ → Kind → State → State
+with_word x k t = record t { cells = slice_set t.cells x (written k) }
+
+-- of several words one takes something, or a part of something, and which is not known
+abbrev pub with_blurred : ℕ × ℕ → State → State
+with_blurred w t = record t { cells = with_cells t.cells w.0 (map blurred (between t.cells w)) }
 
 -- ---- descheduling
 
@@ -296,15 +298,15 @@ rule image at next (Stl n) edge t = do
   k ← known t.a
   x ← local image t n
   unless S5 (is_free (cell_at t.cells x))
-  Ok (pop (store (x, x) k t))
--- stnl
+  Ok (pop (with_word x k t))
+-- stnl: of several words, one takes it
 rule image at next (Stnl n) edge t = do
   known t.a
   k ← known t.b
   p ← pointer t.a
   w ← words_on image p n
   unless S5 (are_free (between t.cells w))
-  Ok (pop_two (store w k t))
+  Ok (pop_two (if w.0 == w.1 then with_word w.0 k t else with_blurred w t))
 -- ---- operations
 -- rev
 rule image at next Rev edge t = do
@@ -427,7 +429,7 @@ rule image at next Sb edge t = do
   number t.b
   let w = words_of_bytes p
   unless S5 (are_free (between t.cells w))
-  Ok (pop_two (record t { cells = with_cells t.cells w.0 (map blurred (between t.cells w)) }))
+  Ok (pop_two (with_blurred w t))
 -- shr
 rule image at next Shr edge t = do
   (a, b) ← two_numbers t

@@ -1,7 +1,8 @@
 //! What is known of the words of a workspace.
 
-ghost use Rattle.std.specs.Prelude.{◌≡◌, ◌+◌, ◌≤◌, ◌<◌, length, map, replicate, slice_set};
+ghost use Rattle.std.specs.Prelude.{◌≡◌, ◌+◌, ◌≤◌, ◌<◌, length, map, replicate, slice_set, IsTrue};
 ghost use Rattle.tp_state.specs.CellRules.{cell_at, cells_from, with_cells, are_free, are_defined, blurred, copied};
+ghost use Rattle.tp_state.specs.Rules.{are_apart};
 
 use crate::cell::Cell;
 use std::marker::Model;
@@ -68,8 +69,37 @@ impl Cells {
     #[tactic(auto, unfolding(crate::specs::CellRules::with_cells))]
     pub(crate) fn fill(&mut self, x: usize, n: usize, cell: Cell)
         requires { x + n ≤ length self.old }
-        ensures { self.new ≡ with_cells self.old x (replicate n cell) }
+        ensures sized { length self.new ≡ length self.old }
+        ensures value { self.new ≡ with_cells self.old x (replicate n cell) }
     {
         self.cells[x..x + n].fill(cell);
+    }
+
+    /// Each of n words, from a word on, may have taken something, as far as the workspace goes.
+    #[tactic(auto, unfolding(crate::specs::CellRules::with_cells, crate::specs::CellRules::cells_from))]
+    pub(crate) fn blur(&mut self, x: usize, n: usize)
+        ensures value { self.new ≡ with_cells self.old x (map blurred (cells_from self.old x n)) }
+        ensures sized { length self.new ≡ length self.old }
+    {
+        let len = self.cells.len();
+        let first = x.min(len);
+        let last = first + n.min(len - first);
+        for i in first..last {
+            self.cells[i] = self.cells[i].blurred();
+        }
+    }
+
+    /// n words, from a word on, take copies of n others.
+    #[tactic(auto, unfolding(crate::specs::CellRules::with_cells, crate::specs::CellRules::cells_from))]
+    pub(crate) fn copy(&mut self, x: usize, y: usize, n: usize)
+        requires target { x + n ≤ length self.old }
+        requires source { y + n ≤ length self.old }
+        requires apart { IsTrue (are_apart n x y) }
+        ensures value { self.new ≡ with_cells self.old x (map copied (cells_from self.old y n)) }
+        ensures sized { length self.new ≡ length self.old }
+    {
+        for i in 0..n {
+            self.cells[x + i] = self.cells[y + i].copied();
+        }
     }
 }

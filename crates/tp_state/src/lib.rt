@@ -11,6 +11,7 @@ mod kind;
 pub mod laws;
 mod places;
 mod ranges;
+mod rules;
 mod state;
 
 pub use cell::Cell;

@@ -1,6 +1,6 @@
 //! Places in the workspace.
 
-ghost use Rattle.std.specs.Prelude.{◌≡◌, ◌*◌, ◌+ℤ◌, ◌*ℤ◌, pos, true};
+ghost use Rattle.std.specs.Prelude.{◌≡◌, ◌+◌, ◌*◌, ◌<◌, ◌≤◌, ◌+ℤ◌, ◌*ℤ◌, pos, true, IfOk, OnOk};
 ghost use Rattle.tp_state.specs.Answer.{answered};
 ghost use Rattle.tp_state.specs.Kinds.{below, word_in, byte_in};
 ghost use Rattle.tp_state.specs.Rules.{words_on, words_further, frame_at, message_in};
@@ -16,7 +16,8 @@ const FRAME_WORDS: i64 = 5;
 /// A whole number below a bound.
 #[tactic(auto, unfolding(crate::specs::Kinds::below))]
 fn below(bound: u32, x: i64) -> Result<u32, StateCode>
-    ensures { result ≡ below bound x }
+    ensures value { result ≡ below bound x }
+    ensures inside { IfOk result (λ place. place < bound) }
 {
     match u32::try_from(x) {
         Ok(x) if x < bound => Ok(x),
@@ -27,7 +28,8 @@ fn below(bound: u32, x: i64) -> Result<u32, StateCode>
 /// A word of the workspace.
 #[tactic(auto, unfolding(crate::specs::Kinds::word_in))]
 pub(crate) fn word_in(image: &Image, x: i64) -> Result<u32, StateCode>
-    ensures { result ≡ word_in image.now x }
+    ensures value { result ≡ word_in image.now x }
+    ensures inside { IfOk result (λ place. place < image.now.workspace) }
 {
     below(image.workspace, x)
 }
@@ -43,7 +45,8 @@ pub(crate) fn byte_in(image: &Image, x: i64) -> Result<u32, StateCode>
 /// The words n words on from those of a pointer.
 #[tactic(auto, unfolding(crate::specs::Rules::words_on))]
 pub(crate) fn words_on(image: &Image, p: (u32, u32), n: i32) -> Result<(u32, u32), StateCode>
-    ensures { result ≡ words_on image.now p n }
+    ensures value { result ≡ words_on image.now p n }
+    ensures inside { IfOk result (λ w. w.0 < image.now.workspace) }
 {
     let first = word_in(image, i64::from(p.0) + i64::from(n))?;
     let last = word_in(image, i64::from(p.1) + i64::from(n))?;
@@ -80,7 +83,8 @@ pub(crate) fn frame_at(image: &Image, x: i64) -> Result<u32, StateCode>
 /// Refused, unless a message of n words from a word on lies in the workspace.
 #[tactic(auto, unfolding(crate::specs::Rules::message_in))]
 pub(crate) fn message_in(image: &Image, x: u32, n: u32) -> Result<(), StateCode>
-    ensures { answered result true ≡ message_in image.now x n }
+    ensures value { answered result true ≡ message_in image.now x n }
+    ensures inside { OnOk result (x + n ≤ image.now.workspace) }
 {
     if u64::from(x) + u64::from(n) <= u64::from(image.workspace) {
         Ok(())
