@@ -1,3 +1,4 @@
 pub mod EdgeLemmas
 pub mod Casts
 pub mod RangeLemmas
+pub mod CellLemmas

@@ -1,9 +1,8 @@
 -- What is known of the workspace's words: reading and writing.
-use Rattle.std.specs.Prelude.{ℕ, ◌+◌, ◌-◌, ◌^◌, ◌≤◌, ◌≤ℤ◌, ◌*◌, ◌/◌, Bool, true, false, not, if◌then◌else◌, ℤ, pos, ◌+ℤ◌, ◌-ℤ◌, List, ◌++◌, length, take, drop, slice_index_or, slice_get, slice_set, Result, Ok, Err}
+use Rattle.std.specs.Prelude.{ℕ, ◌+◌, ◌-◌, ◌*◌, ◌/◌, Bool, true, false, not, if◌then◌else◌, ℤ, pos, ◌+ℤ◌, ◌-ℤ◌, List, ◌++◌, length, take, drop, slice_index_or, slice_get, slice_set, Result, Ok, Err}
 use Rattle.std.specs.List.{list_all}
 use Rattle.std.specs.Ordering.{int_eq}
 use Rattle.tp_image.specs.declared.image.LoopRow.{LoopRow}
-use Rattle.tp_flow.specs.Limits.{most_turns, greatest_index}
 use Rattle.tp_flow.specs.RowRules.{last_index}
 use Rattle.tp_state.specs.declared.kind.Kind.{Kind}
 use Rattle.tp_state.specs.declared.kind.Kind.TheVariants as kind
@@ -41,12 +40,6 @@ is_defined cell = true
 
 abbrev pub are_defined : List Cell → Bool
 are_defined cells = list_all is_defined cells
-
--- the index and the count of a loop are words at each of its turns
-pub record HasWords (row : LoopRow) : Type 0 where
-  pub some : 1 ≤ row.count
-  pub few : row.count ≤ most_turns
-  pub ends : last_index row ≤ℤ pos greatest_index
 
 -- what is read from a word; the index of a live loop goes from its start over its turns, and its count from 1
 unfoldable pub read : List LoopRow → Cell → Result Kind StateCode

@@ -70,11 +70,18 @@ two_numbers t = do
 unfoldable pub local : ImageValue → State → ℤ → Result ℕ StateCode
 local image t n = word_in image (pos t.wptr +ℤ n)
 
--- the words n words on from a pointer
-unfoldable pub words_on : ImageValue → ℕ × ℕ → ℤ → Result (ℕ × ℕ) StateCode
+-- the words that a range of words on from a pointer may be
+unfoldable pub words_on : ImageValue → ℕ × ℕ → ℤ × ℤ → Result (ℕ × ℕ) StateCode
 words_on image p n = do
-  first ← word_in image (pos p.0 +ℤ n)
-  last ← word_in image (pos p.1 +ℤ n)
+  first ← word_in image (pos p.0 +ℤ n.0)
+  last ← word_in image (pos p.1 +ℤ n.1)
+  Ok (first, last)
+
+-- the bytes likewise
+unfoldable pub bytes_on : ImageValue → ℕ × ℕ → ℤ × ℤ → Result (ℕ × ℕ) StateCode
+bytes_on image p n = do
+  first ← byte_in image (pos p.0 +ℤ n.0)
+  last ← byte_in image (pos p.1 +ℤ n.1)
   Ok (first, last)
 
 -- what is n words on from a register: a place in the workspace, or a number
@@ -82,7 +89,7 @@ unfoldable pub words_further : ImageValue → ℤ → Kind → Result Kind State
 words_further image n kind.Undef = Err S1
 words_further image n (kind.Int low high) = Ok (range (low +ℤ (n *ℤ pos 4)) (high +ℤ (n *ℤ pos 4)))
 words_further image n (kind.Ptr p q) = do
-  w ← words_on image (p, q) n
+  w ← words_on image (p, q) (n, n)
   Ok (kind.Ptr w.0 w.1)
 words_further image n (kind.BytePtr p q) = Err S2
 
@@ -92,7 +99,7 @@ frame_at image (pos x) = if nat_le 5 x && nat_lt x image.workspace then Ok x els
 frame_at image (negsuc x) = Err S6
 
 -- the words from the first to the last
-abbrev pub between : List Cell → ℕ × ℕ → List Cell
+unfoldable pub between : List Cell → ℕ × ℕ → List Cell
 between cells w = cells_from cells w.0 (w.1 + 1 - w.0)
 
 -- the words that have the bytes from the first to the last
@@ -202,16 +209,20 @@ channel address = signed address
 abbrev pub is_trace_length : ℕ → Bool
 is_trace_length n = (n % 4 == 0) && nat_le 4 n && nat_le n 256
 
+-- one number of bytes
+abbrev pub is_one_length : ℤ × ℤ → Bool
+is_one_length a = int_eq a.0 a.1 && int_le (pos 0) a.0
+
 -- how many words a result or a trace message has, by its channel: S8, S7
 unfoldable pub words_to_send : ImageValue → Kind → ℤ × ℤ → Result ℕ StateCode
 words_to_send image b a =
     if is_exactly (channel link0_output) b then
     (do
-      unless S7 (int_eq a.0 a.1 && int_eq a.0 (pos (4 * image.result)))
+      unless S7 (is_one_length a && (count_of a.0 == 4 * image.result))
       Ok image.result)
     else if is_exactly (channel link1_output) b then
     (do
-      unless S7 (int_eq a.0 a.1 && int_le (pos 0) a.0 && is_trace_length (count_of a.0))
+      unless S7 (is_one_length a && is_trace_length (count_of a.0))
       Ok (count_of a.0 / 4))
     else Err S8
 
@@ -230,6 +241,14 @@ is_move_length a =
 -- two ranges of n words do not touch
 unfoldable pub are_apart : ℕ → ℕ → ℕ → Bool
 are_apart n x y = nat_le (x + n) y || nat_le (y + n) x
+
+-- n words, from x on, take copies of n others, from y on: S3, S4, S5
+abbrev pub moved : ℕ → ℕ → ℕ → State → Result State StateCode
+moved n x y t = do
+  unless S3 (are_apart n x y)
+  unless S4 (are_defined (cells_from t.cells y n))
+  unless S5 (are_free (cells_from t.cells x n))
+  Ok (no_registers (record t { cells = with_cells t.cells x (map copied (cells_from t.cells y n)) }))
 
 -- ---- loops
 
@@ -259,7 +278,7 @@ rule image at next (Ldlp n) edge t = do
 rule image at next (Ldnl n) edge t = do
   known t.a
   p ← pointer t.a
-  w ← words_on image p n
+  w ← words_on image p (n, n)
   unless S4 (are_defined (between t.cells w))
   k ← if w.0 == w.1 then read image.loops (cell_at t.cells w.0) else Ok full
   Ok (set_areg k t)
@@ -304,7 +323,7 @@ rule image at next (Stnl n) edge t = do
   known t.a
   k ← known t.b
   p ← pointer t.a
-  w ← words_on image p n
+  w ← words_on image p (n, n)
   unless S5 (are_free (between t.cells w))
   Ok (pop_two (if w.0 == w.1 then with_word w.0 k t else with_blurred w t))
 -- ---- operations
@@ -325,9 +344,8 @@ rule image at next Bsub edge t = do
   known t.b
   p ← byte_pointer t.a
   b ← number t.b
-  first ← byte_in image (pos p.0 +ℤ b.0)
-  last ← byte_in image (pos p.1 +ℤ b.1)
-  Ok (give (kind.BytePtr first last) t)
+  w ← bytes_on image p b
+  Ok (give (kind.BytePtr w.0 w.1) t)
 -- diff
 rule image at next Diff edge t = do
   (a, b) ← two_numbers t
@@ -364,9 +382,8 @@ rule image at next Wsub edge t = do
   known t.b
   p ← pointer t.a
   b ← number t.b
-  first ← word_in image (pos p.0 +ℤ b.0)
-  last ← word_in image (pos p.1 +ℤ b.1)
-  Ok (give (kind.Ptr first last) t)
+  w ← words_on image p b
+  Ok (give (kind.Ptr w.0 w.1) t)
 -- out: the result, or a trace message, from one place; the process is descheduled before it is read
 rule image at next Output edge t = do
   known t.a
@@ -459,10 +476,7 @@ rule image at next MoveBytes edge t = do
   let n = count_of a.0 / 4
   message_in image x n
   message_in image y n
-  unless S3 (are_apart n x y)
-  unless S4 (are_defined (cells_from t.cells y n))
-  unless S5 (are_free (cells_from t.cells x n))
-  Ok (no_registers (record t { cells = with_cells t.cells x (map copied (cells_from t.cells y n)) }))
+  moved n x y t
 -- or
 rule image at next BitOr edge t = do
   two_numbers t

@@ -1,13 +1,14 @@
 //! What is known of a workspace word.
 
-ghost use Rattle.std.specs.Prelude.{◌≡◌, All};
+ghost use Rattle.std.specs.Prelude.{◌≡◌, ◌≤◌, ◌≤ℤ◌, ◌^◌, ◌-◌, pos};
 ghost use Rattle.tp_flow.specs.RowRules.{last_index};
-ghost use Rattle.tp_state.specs.CellRules.{HasWords, is_free, is_defined, read, blurred, copied};
+ghost use Rattle.tp_state.specs.Conditions.{HasGoodLoops};
+ghost use Rattle.tp_state.specs.CellRules.{is_free, is_defined, read, blurred, copied};
 
 use crate::fault::StateCode;
 use crate::kind::Kind;
 use crate::ranges::FULL;
-use tp_image::LoopRow;
+use tp_image::{Image, LoopRow};
 
 /// What is known of a workspace word.
 #[derive(Clone, Copy, Debug, PartialEq, Eq)]
@@ -61,19 +62,19 @@ impl Cell {
 
     /// What is read from the word.
     #[tactic(auto, unfolding(crate::specs::CellRules::read))]
-    pub(crate) fn read(self, rows: &[LoopRow]) -> Result<Kind, StateCode>
-        requires { All HasWords rows.now }
-        ensures { result ≡ read rows.now self }
+    pub(crate) fn read(self, image: &Image) -> Result<Kind, StateCode>
+        requires { HasGoodLoops image.now }
+        ensures { result ≡ read image.now.loops self }
     {
         match self {
             Cell::Undef => Err(StateCode::S4),
             Cell::Any => Ok(FULL),
             Cell::Known(n) => Ok(Kind::Int(n, n)),
-            Cell::Index(l) => match rows.get(usize::from(l)) {
+            Cell::Index(l) => match image.loops.get(usize::from(l)) {
                 Some(row) => Ok(Kind::Int(row.start, last_index(row))),
                 None => Err(StateCode::S4),
             },
-            Cell::Count(l) => match rows.get(usize::from(l)) {
+            Cell::Count(l) => match image.loops.get(usize::from(l)) {
                 Some(row) => Ok(Kind::Int(1, row.count as i32)),
                 None => Err(StateCode::S4),
             },
@@ -83,7 +84,8 @@ impl Cell {
 
 /// The index of a loop's last turn.
 fn last_index(row: &LoopRow) -> i32
-    requires { HasWords row.now }
+    requires some { 1 ≤ row.now.count }
+    requires ends { last_index row.now ≤ℤ pos (2 ^ 31 - 1) }
     ensures { result ≡ last_index row.now }
 {
     (i64::from(row.start) + i64::from(row.count) - 1) as i32

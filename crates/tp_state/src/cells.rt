@@ -76,21 +76,17 @@ impl Cells {
     }
 
     /// Each of n words, from a word on, may have taken something, as far as the workspace goes.
-    #[tactic(auto, unfolding(crate::specs::CellRules::with_cells, crate::specs::CellRules::cells_from))]
+    #[tactic(auto, using(crate::proofs::CellLemmas::blurred_part))]
     pub(crate) fn blur(&mut self, x: usize, n: usize)
         ensures value { self.new ≡ with_cells self.old x (map blurred (cells_from self.old x n)) }
         ensures sized { length self.new ≡ length self.old }
     {
         let len = self.cells.len();
         let first = x.min(len);
-        let last = first + n.min(len - first);
-        for i in first..last {
-            self.cells[i] = self.cells[i].blurred();
-        }
+        blur_cells(&mut self.cells, first, n.min(len - first));
     }
 
     /// n words, from a word on, take copies of n others.
-    #[tactic(auto, unfolding(crate::specs::CellRules::with_cells, crate::specs::CellRules::cells_from))]
     pub(crate) fn copy(&mut self, x: usize, y: usize, n: usize)
         requires target { x + n ≤ length self.old }
         requires source { y + n ≤ length self.old }
@@ -98,8 +94,28 @@ impl Cells {
         ensures value { self.new ≡ with_cells self.old x (map copied (cells_from self.old y n)) }
         ensures sized { length self.new ≡ length self.old }
     {
-        for i in 0..n {
-            self.cells[x + i] = self.cells[y + i].copied();
-        }
+        copy_cells(&mut self.cells, x, y, n);
+    }
+}
+
+/// Each of n words, from a word on, may have taken something.
+fn blur_cells(cells: &mut [Cell], x: usize, n: usize)
+    requires { x + n ≤ length cells.old }
+    ensures { cells.new ≡ with_cells cells.old x (map blurred (cells_from cells.old x n)) }
+{
+    for i in 0..n {
+        cells[x + i] = cells[x + i].blurred();
+    }
+}
+
+/// n words, from a word on, take copies of n others.
+fn copy_cells(cells: &mut [Cell], x: usize, y: usize, n: usize)
+    requires target { x + n ≤ length cells.old }
+    requires source { y + n ≤ length cells.old }
+    requires apart { IsTrue (are_apart n x y) }
+    ensures { cells.new ≡ with_cells cells.old x (map copied (cells_from cells.old y n)) }
+{
+    for i in 0..n {
+        cells[x + i] = cells[y + i].copied();
     }
 }

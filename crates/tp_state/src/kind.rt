@@ -1,6 +1,6 @@
 //! What is known of a register.
 
-ghost use Rattle.std.specs.Prelude.{◌≡◌};
+ghost use Rattle.std.specs.Prelude.{◌≡◌, ◌<◌, ◌^◌, IfOk};
 ghost use Rattle.tp_state.specs.Kinds.{known, number, pointer, one_word, byte_pointer, is_exactly, points_at};
 
 use crate::cell::Cell;
@@ -36,7 +36,9 @@ impl Kind {
     /// The range of a byte's address. A word's address is that of its first byte.
     #[tactic(auto, unfolding(crate::specs::Kinds::byte_pointer))]
     pub(crate) fn byte_pointer(self) -> Result<(u64, u64), StateCode>
-        ensures { result ≡ byte_pointer self }
+        ensures value { result ≡ byte_pointer self }
+        ensures first { IfOk result (λ p. p.0 < 2 ^ 34) }
+        ensures last { IfOk result (λ p. p.1 < 2 ^ 34) }
     {
         match self {
             Kind::Ptr(first, last) => Ok((4 * u64::from(first), 4 * u64::from(last))),

@@ -1,6 +1,6 @@
 //! Ranges of numbers, and what operations make of them.
 
-ghost use Rattle.std.specs.Prelude.{◌≡◌, ◌≤ℤ◌, pos, ◌^◌, ◌*ℤ◌, ◌-ℤ◌, int_div, IsTrue};
+ghost use Rattle.std.specs.Prelude.{◌≡◌, ◌+ℤ◌, ◌≤ℤ◌, pos, ◌^◌, ◌*ℤ◌, ◌-ℤ◌, int_div, IsTrue};
 ghost use Rattle.tp_state.specs.Kinds.{range, hull, at_ends};
 ghost use Rattle.tp_state.specs.Rules.{sum_of, difference, product, quotients, remainders, conjunctions, is_positive, is_shift_count, are_shift_counts, power, shifted_up, shifted_down};
 
@@ -36,6 +36,20 @@ pub(crate) fn sums(b: (i32, i32), a: (i32, i32)) -> Kind
     let (b0, b1) = (i64::from(b.0), i64::from(b.1));
     let (a0, a1) = (i64::from(a.0), i64::from(a.1));
     hull(b0 + a0, b0 + a1, b1 + a0, b1 + a1)
+}
+
+/// A sum.
+fn plus(a: i32, n: i32) -> i64
+    ensures { result ≡ a +ℤ n }
+{
+    i64::from(a) + i64::from(n)
+}
+
+/// Sums of a number and one number.
+pub(crate) fn raised(a: (i32, i32), n: i32) -> Kind
+    ensures { result ≡ range (a.0 +ℤ n) (a.1 +ℤ n) }
+{
+    range(plus(a.0, n), plus(a.1, n))
 }
 
 /// Differences of two numbers, likewise.

@@ -10,7 +10,7 @@ use crate::cell::Cell;
 use crate::cells::Cells;
 use crate::fault::StateCode;
 use crate::kind::Kind;
-use crate::places::word_in;
+use crate::places::word_on;
 use tp_image::Image;
 
 /// The words below Wptr that are undefined after a place to deschedule.
@@ -103,12 +103,11 @@ impl State {
 
     /// The word n words on from Wptr.
     #[tactic(auto, unfolding(crate::specs::Rules::local))]
-    pub(crate) fn local(&self, image: &Image, n: i32) -> Result<usize, StateCode>
+    pub(crate) fn local(&self, image: &Image, n: i32) -> Result<u32, StateCode>
         ensures value { result ≡ local image.now self.now n }
         ensures inside { IfOk result (λ x. x < image.now.workspace) }
     {
-        let x = word_in(image, i64::from(self.wptr) + i64::from(n))?;
-        Ok(x as usize)
+        word_on(image, self.wptr, n)
     }
 
     /// Registers and the five words below Wptr are undefined.

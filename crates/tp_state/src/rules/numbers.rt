@@ -10,7 +10,7 @@ ghost use Rattle.tp_state.specs.Rules.{rule};
 
 use crate::fault::StateCode;
 use crate::kind::Kind;
-use crate::ranges::{FULL, are_shift_counts, conjunctions, differences, products, quotients, range, remainders, shifted_down, shifted_up, sums};
+use crate::ranges::{FULL, are_shift_counts, conjunctions, differences, products, quotients, raised, remainders, shifted_down, shifted_up, sums};
 use crate::state::State;
 
 /// 0 or 1.
@@ -24,7 +24,7 @@ impl State {
         ensures kept { KeepsPlace self.old self.new }
     {
         let a = self.one_number()?;
-        self.set_areg(range(i64::from(a.0) + i64::from(n), i64::from(a.1) + i64::from(n)));
+        self.set_areg(raised(a, n));
         Ok(())
     }
 

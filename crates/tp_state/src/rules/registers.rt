@@ -10,7 +10,7 @@ ghost use Rattle.tp_state.specs.Rules.{rule};
 
 use crate::fault::StateCode;
 use crate::kind::Kind;
-use crate::places::{byte_in, frame_at, word_in, words_further};
+use crate::places::{bytes_on, frame_on, words_further, words_on};
 use crate::state::State;
 use tp_flow::Edge;
 use tp_image::Image;
@@ -21,7 +21,7 @@ impl State {
         ensures value { (at next : ℕ) (edge : Edge) → answered result self.new ≡ rule image.now at next (Ldlp n) edge self.old }
         ensures kept { KeepsPlace self.old self.new }
     {
-        let x = self.local(image, n)? as u32;
+        let x = self.local(image, n)?;
         self.push(Kind::Ptr(x, x));
         Ok(())
     }
@@ -73,7 +73,7 @@ impl State {
         ensures value { (at next : ℕ) (edge : Edge) → answered result self.new ≡ rule image.now at next (Ajw n) edge self.old }
         ensures placed { IsPlaced image.now self.new }
     {
-        self.wptr = frame_at(image, i64::from(self.wptr) + i64::from(n))?;
+        self.wptr = frame_on(image, self.wptr, n)?;
         Ok(())
     }
 
@@ -98,8 +98,7 @@ impl State {
         self.b.known()?;
         let p = self.a.pointer()?;
         let b = self.b.number()?;
-        let first = word_in(image, i64::from(p.0) + i64::from(b.0))?;
-        let last = word_in(image, i64::from(p.1) + i64::from(b.1))?;
+        let (first, last) = words_on(image, p, b)?;
         self.give(Kind::Ptr(first, last));
         Ok(())
     }
@@ -113,8 +112,7 @@ impl State {
         self.b.known()?;
         let p = self.a.byte_pointer()?;
         let b = self.b.number()?;
-        let first = byte_in(image, p.0 as i64 + i64::from(b.0))?;
-        let last = byte_in(image, p.1 as i64 + i64::from(b.1))?;
+        let (first, last) = bytes_on(image, p, b)?;
         self.give(Kind::BytePtr(first, last));
         Ok(())
     }
