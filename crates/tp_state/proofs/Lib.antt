@@ -2,3 +2,4 @@ pub mod EdgeLemmas
 pub mod Casts
 pub mod RangeLemmas
 pub mod CellLemmas
+pub mod JoinLemmas

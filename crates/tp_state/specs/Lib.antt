@@ -5,6 +5,9 @@ pub mod CellRules
 pub mod Conditions
 pub mod Rules
 pub mod After
+pub mod Order
+pub mod Entry
+pub mod StateCodes
 pub use Rattle.tp_flow.specs.Edges
 pub use Rattle.tp_flow.specs.AroundKept
 pub use Rattle.tp_step.specs.State

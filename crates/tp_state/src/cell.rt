@@ -3,6 +3,7 @@
 ghost use Rattle.std.specs.Prelude.{◌≡◌, ◌≤◌, ◌≤ℤ◌, ◌^◌, ◌-◌, pos};
 ghost use Rattle.tp_flow.specs.RowRules.{last_index};
 ghost use Rattle.tp_state.specs.Conditions.{HasGoodLoops};
+ghost use Rattle.tp_state.specs.Order.{join_cells};
 ghost use Rattle.tp_state.specs.CellRules.{is_free, is_defined, read, blurred, copied};
 
 use crate::fault::StateCode;
@@ -57,6 +58,17 @@ impl Cell {
         match self {
             Cell::Index(_) | Cell::Count(_) => Cell::Any,
             cell => cell,
+        }
+    }
+
+    /// What holds of both.
+    pub fn join(self, other: Cell) -> Cell
+        ensures { result ≡ join_cells self other }
+    {
+        match (self, other) {
+            (cell, other) if cell == other => cell,
+            (Cell::Known(_) | Cell::Any, Cell::Known(_) | Cell::Any) => Cell::Any,
+            _ => Cell::Undef,
         }
     }
 

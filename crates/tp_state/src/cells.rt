@@ -1,11 +1,15 @@
 //! What is known of the words of a workspace.
 
-ghost use Rattle.std.specs.Prelude.{◌≡◌, ◌+◌, ◌≤◌, ◌<◌, length, map, replicate, slice_set, IsTrue};
+ghost use Rattle.std.specs.Prelude.{◌≡◌, ◌≢◌, ◌↔◌, ◌+◌, ◌≤◌, ◌<◌, length, map, replicate, slice_set, IsTrue, IfOk};
 ghost use Rattle.tp_state.specs.CellRules.{cell_at, cells_from, with_cells, are_free, are_defined, blurred, copied};
 ghost use Rattle.tp_state.specs.Rules.{are_apart};
+ghost use Rattle.tp_state.specs.Order.{joined_cells};
+ghost use Rattle.tp_state.specs.Entry.{first_cells};
 
 use crate::cell::Cell;
+use std::alloc::{AllocError, Global};
 use std::marker::Model;
+use tp_image::Image;
 
 /// What is known of each workspace word, by its number: a contract sees the list of these.
 #[derive(Drop)]
@@ -38,6 +42,37 @@ impl Cells {
         ensures { self.new ≡ slice_set self.old x cell }
     {
         self.cells[x] = cell;
+    }
+
+    /// What is known of a worker's words before its first instruction.
+    pub(crate) fn entry(alloc: Global, image: &Image) -> Result<Cells, AllocError>
+        ensures { IfOk result (λ cells. cells ≡ first_cells image.now) }
+    {
+        let mut cells = Vec::new(alloc);
+        for word in &image.initial {
+            cells.push(Cell::Known(word.cast_signed()))?;
+        }
+        for _ in image.initial.len()..image.workspace as usize {
+            cells.push(Cell::Known(0))?;
+        }
+        Ok(Cells { cells })
+    }
+
+    /// A copy.
+    pub(crate) fn copy_of(&self) -> Result<Cells, AllocError>
+        ensures { IfOk result (λ cells. cells ≡ self.now) }
+    {
+        let cells = self.cells.clone()?;
+        Ok(Cells { cells })
+    }
+
+    /// What holds of both, word by word. It answers whether anything changed.
+    pub(crate) fn join(&mut self, others: &Cells) -> bool
+        requires { length others.now ≡ length self.old }
+        ensures value { self.new ≡ joined_cells self.old others.now }
+        ensures changed { IsTrue result ↔ (self.new ≢ self.old) }
+    {
+        join_all(&mut self.cells, &others.cells)
     }
 
     /// The cells of n words, from a word on, as far as the workspace goes.
@@ -76,14 +111,11 @@ impl Cells {
     }
 
     /// Each of n words, from a word on, may have taken something, as far as the workspace goes.
-    #[tactic(auto, using(crate::proofs::CellLemmas::blurred_part))]
     pub(crate) fn blur(&mut self, x: usize, n: usize)
         ensures value { self.new ≡ with_cells self.old x (map blurred (cells_from self.old x n)) }
         ensures sized { length self.new ≡ length self.old }
     {
-        let len = self.cells.len();
-        let first = x.min(len);
-        blur_cells(&mut self.cells, first, n.min(len - first));
+        blur_cells(&mut self.cells, x, n);
     }
 
     /// n words, from a word on, take copies of n others.
@@ -98,8 +130,18 @@ impl Cells {
     }
 }
 
-/// Each of n words, from a word on, may have taken something.
+/// Each of n words, from a word on, may have taken something, as far as there are words.
+#[tactic(auto, using(crate::proofs::CellLemmas::blurred_part))]
 fn blur_cells(cells: &mut [Cell], x: usize, n: usize)
+    ensures { cells.new ≡ with_cells cells.old x (map blurred (cells_from cells.old x n)) }
+{
+    let len = cells.len();
+    let first = x.min(len);
+    blur_within(cells, first, n.min(len - first));
+}
+
+/// Each of n words, from a word on, may have taken something.
+fn blur_within(cells: &mut [Cell], x: usize, n: usize)
     requires { x + n ≤ length cells.old }
     ensures { cells.new ≡ with_cells cells.old x (map blurred (cells_from cells.old x n)) }
 {
@@ -118,4 +160,21 @@ fn copy_cells(cells: &mut [Cell], x: usize, y: usize, n: usize)
     for i in 0..n {
         cells[x + i] = cells[y + i].copied();
     }
+}
+
+/// What holds of both, word by word. It answers whether anything changed.
+fn join_all(cells: &mut [Cell], others: &[Cell]) -> bool
+    requires { length others.now ≡ length cells.old }
+    ensures value { cells.new ≡ joined_cells cells.old others.now }
+    ensures changed { IsTrue result ↔ (cells.new ≢ cells.old) }
+{
+    let mut changed = false;
+    for i in 0..cells.len() {
+        let joined = cells[i].join(others[i]);
+        if joined != cells[i] {
+            cells[i] = joined;
+            changed = true;
+        }
+    }
+    changed
 }

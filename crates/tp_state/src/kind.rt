@@ -1,6 +1,7 @@
 //! What is known of a register.
 
 ghost use Rattle.std.specs.Prelude.{◌≡◌, ◌<◌, ◌^◌, IfOk};
+ghost use Rattle.tp_state.specs.Order.{join_kinds};
 ghost use Rattle.tp_state.specs.Kinds.{known, number, pointer, one_word, byte_pointer, is_exactly, points_at};
 
 use crate::cell::Cell;
@@ -108,6 +109,18 @@ impl Kind {
         match self {
             Kind::Ptr(first, last) => first == x && last == x,
             _ => false,
+        }
+    }
+
+    /// What holds of both: the least range that has two of one form.
+    pub fn join(self, other: Kind) -> Kind
+        ensures { result ≡ join_kinds self other }
+    {
+        match (self, other) {
+            (Kind::Int(a, b), Kind::Int(c, d)) => Kind::Int(a.min(c), b.max(d)),
+            (Kind::Ptr(p, q), Kind::Ptr(r, s)) => Kind::Ptr(p.min(r), q.max(s)),
+            (Kind::BytePtr(p, q), Kind::BytePtr(r, s)) => Kind::BytePtr(p.min(r), q.max(s)),
+            _ => Kind::Undef,
         }
     }
 }

@@ -9,13 +9,15 @@ mod cells;
 mod fault;
 mod kind;
 pub mod laws;
+mod outcome;
 mod places;
 mod ranges;
 mod rules;
 mod state;
 
+pub use outcome::after;
 pub use cell::Cell;
 pub use cells::Cells;
-pub use fault::StateCode;
+pub use fault::{StateCode, StateFault};
 pub use kind::Kind;
 pub use state::State;

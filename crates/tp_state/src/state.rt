@@ -1,8 +1,10 @@
 //! Abstract states.
 
-ghost use Rattle.std.specs.Prelude.{◌≡◌, pos, ◌+ℤ◌, ◌≤◌, ◌<◌, length, true, IfOk};
+ghost use Rattle.std.specs.Prelude.{◌≡◌, ◌≤◌, ◌<◌, length, IfOk, OnErr, IsTrue, ◌↔◌, ◌≢◌};
 ghost use Rattle.tp_state.specs.Answer.{answered};
-ghost use Rattle.tp_state.specs.Conditions.{KeepsPlace};
+ghost use Rattle.tp_state.specs.Conditions.{KeepsPlace, IsPlaced};
+ghost use Rattle.tp_state.specs.Order.{join, meeting};
+ghost use Rattle.tp_state.specs.Entry.{entry};
 ghost use Rattle.tp_state.specs.Rules.{push, pop, pop_two, set_areg, give, no_registers, one_number, two_numbers, local, below_wptr, given_way, descheduled};
 ghost use Rattle.tp_state.specs.CellRules.{are_free};
 
@@ -11,6 +13,7 @@ use crate::cells::Cells;
 use crate::fault::StateCode;
 use crate::kind::Kind;
 use crate::places::word_on;
+use std::alloc::{AllocError, Global};
 use tp_image::Image;
 
 /// The words below Wptr that are undefined after a place to deschedule.
@@ -34,6 +37,70 @@ pub struct State {
 }
 
 impl State {
+    /// What is known before the first instruction of an image's code.
+    pub fn entry(alloc: Global, image: &Image) -> Result<State, AllocError>
+        ensures value { IfOk result (λ t. t ≡ entry image.now) }
+        ensures placed { IfOk result (IsPlaced image.now) }
+    {
+        let cells = Cells::entry(alloc, image)?;
+        Ok(State {
+            wptr: image.start,
+            a: Kind::Undef,
+            b: Kind::Undef,
+            c: Kind::Undef,
+            phase: 0,
+            cells,
+        })
+    }
+
+    /// A copy.
+    pub fn copy_of(&self) -> Result<State, AllocError>
+        ensures { IfOk result (λ t. t ≡ self.now) }
+    {
+        let cells = self.cells.copy_of()?;
+        Ok(State {
+            wptr: self.wptr,
+            a: self.a,
+            b: self.b,
+            c: self.c,
+            phase: self.phase,
+            cells,
+        })
+    }
+
+    /// What holds of both states, where they may meet: the state itself takes it. It answers whether anything changed;
+    /// after a refusal, S6 or S9, nothing has. It takes no memory.
+    pub fn join(&mut self, other: &State) -> Result<bool, StateCode>
+        requires { length other.now.cells ≡ length self.old.cells }
+        ensures value { answered result self.new ≡ meeting self.old other.now }
+        ensures changed { IfOk result (λ changed. IsTrue changed ↔ (self.new ≢ self.old)) }
+        ensures kept { OnErr result (self.new ≡ self.old) }
+    {
+        if self.wptr != other.wptr {
+            return Err(StateCode::S6);
+        }
+        if self.phase != other.phase {
+            return Err(StateCode::S9);
+        }
+        Ok(self.join_known(other))
+    }
+
+    /// What holds of both, of registers and words.
+    fn join_known(&mut self, other: &State) -> bool
+        requires { length other.now.cells ≡ length self.old.cells }
+        ensures value { self.new ≡ join self.old other.now }
+        ensures changed { IsTrue result ↔ (self.new ≢ self.old) }
+    {
+        let a = self.a.join(other.a);
+        let b = self.b.join(other.b);
+        let c = self.c.join(other.c);
+        let same = a == self.a && b == self.b && c == self.c;
+        self.a = a;
+        self.b = b;
+        self.c = c;
+        self.cells.join(&other.cells) || !same
+    }
+
     pub(crate) fn push(&mut self, kind: Kind)
         ensures { self.new ≡ push kind self.old }
     {

@@ -7,7 +7,7 @@ ghost use Rattle.tp_step.specs.Effects.{has_move};
 ghost use Rattle.tp_image.specs.Image.{number_of};
 ghost use Rattle.tp_state.specs.Answer.{answered};
 ghost use Rattle.tp_state.specs.Conditions.{KeepsPlace, IsPlaced};
-ghost use Rattle.tp_state.specs.Rules.{rule, count_of, words_to_send, phase_after, is_move_length, are_apart, moved};
+ghost use Rattle.tp_state.specs.Rules.{rule, count_of, is_one_length, is_trace_length, words_to_send, phase_after, is_move_length, are_apart, moved};
 
 use crate::cell::Cell;
 use crate::fault::StateCode;
@@ -28,21 +28,34 @@ fn count_of(n: i32) -> u32
     if n < 0 { 0 } else { n as u32 }
 }
 
+/// Whether it is one number of bytes.
+fn is_one_length(length: (i32, i32)) -> bool
+    ensures { result ≡ is_one_length length }
+{
+    length.0 == length.1 && 0 <= length.0
+}
+
+/// Whether a trace message may have so many bytes.
+fn is_trace_length(bytes: u32) -> bool
+    ensures { result ≡ is_trace_length bytes }
+{
+    bytes % 4 == 0 && 4 <= bytes && bytes <= 256
+}
+
 /// How many words a result or a trace message has, by its channel.
 #[tactic(auto, unfolding(crate::specs::Rules::words_to_send))]
 fn words_to_send(image: &Image, channel: Kind, length: (i32, i32)) -> Result<u32, StateCode>
     ensures { result ≡ words_to_send image.now channel length }
 {
     let bytes = count_of(length.0);
-    let is_one = length.0 == length.1 && 0 <= length.0;
     if channel.is_exactly(LINK0_OUTPUT) {
-        if is_one && bytes == 4 * image.result {
+        if is_one_length(length) && bytes == 4 * image.result {
             Ok(image.result)
         } else {
             Err(StateCode::S7)
         }
     } else if channel.is_exactly(LINK1_OUTPUT) {
-        if is_one && bytes % 4 == 0 && 4 <= bytes && bytes <= 256 {
+        if is_one_length(length) && is_trace_length(bytes) {
             Ok(bytes / 4)
         } else {
             Err(StateCode::S7)

@@ -1,7 +1,7 @@
 use Rattle.std.proofs.Common.{inr, ap, ◌∙◌, ◌+◌, arith}
 use Rattle.tp_state.specs.CellRules.{blurred}
 use Rattle.tp_state.proofs.CellLemmas.{changes_one, changes_all, changes_end}
-use Rattle.tp_state.proofs.cells.blur_cells.Goals as goal
+use Rattle.tp_state.proofs.cells.blur_within.Goals as goal
 
 pub loop-i-preserved : goal.loop-i-preserved
 loop-i-preserved c =
