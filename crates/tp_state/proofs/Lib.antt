@@ -3,3 +3,5 @@ pub mod Casts
 pub mod RangeLemmas
 pub mod CellLemmas
 pub mod JoinLemmas
+pub mod EntryLemmas
+pub mod OrderLemmas

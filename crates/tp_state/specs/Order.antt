@@ -1,5 +1,5 @@
 -- The order of what is known, and joins: of two things that may be known, what holds of both.
-use Rattle.std.specs.Prelude.{◌≡◌, ℕ, ◌==◌, nat_le, min, max, Bool, true, false, ◌&&◌, if◌then◌else◌, IsTrue, pos, negsuc, ℤ, int_le, List, map, length, Result, Ok, Err}
+use Rattle.std.specs.Prelude.{◌≡◌, ◌≢◌, ℕ, ◌==◌, nat_le, min, max, Bool, true, false, ◌&&◌, if◌then◌else◌, IsTrue, pos, negsuc, ℤ, int_le, List, map, length, Result, Ok, Err}
 use Rattle.std.specs.Ordering.{int_eq}
 use Rattle.std.specs.Int.{int_min, int_max}
 use Rattle.std.specs.List.{zip}
@@ -78,6 +78,11 @@ pub record MayMeet (s t : State) : Type 0 where
 
 abbrev pub joined_cells : List Cell → List Cell → List Cell
 joined_cells cells others = map (λ pair. join_cells pair.0 pair.1) (zip cells others)
+
+-- an answer tells whether a value changed
+pub record TellsChange {X : Type 0} (changed : Bool) (old new : X) : Type 0 where
+  pub stays : changed ≡ false → new ≡ old
+  pub moves : changed ≡ true → new ≢ old
 
 -- what holds of both states
 abbrev pub join : State → State → State

@@ -1,9 +1,11 @@
 //! What is known of the words of a workspace.
 
-ghost use Rattle.std.specs.Prelude.{◌≡◌, ◌≢◌, ◌↔◌, ◌+◌, ◌≤◌, ◌<◌, length, map, replicate, slice_set, IsTrue, IfOk};
+ghost use Rattle.std.specs.Prelude.{◌≡◌, ◌+◌, ◌≤◌, ◌<◌, length, map, replicate, slice_set, IsTrue, IfOk, OnOk, pos, ◌++◌, ◌-◌};
 ghost use Rattle.tp_state.specs.CellRules.{cell_at, cells_from, with_cells, are_free, are_defined, blurred, copied};
+ghost use Rattle.tp_decode.specs.Words.{signed};
+ghost use Rattle.tp_state.specs.declared.cell.Cell.TheVariants.{Known};
 ghost use Rattle.tp_state.specs.Rules.{are_apart};
-ghost use Rattle.tp_state.specs.Order.{joined_cells};
+ghost use Rattle.tp_state.specs.Order.{joined_cells, TellsChange};
 ghost use Rattle.tp_state.specs.Entry.{first_cells};
 
 use crate::cell::Cell;
@@ -48,13 +50,8 @@ impl Cells {
     pub(crate) fn entry(alloc: Global, image: &Image) -> Result<Cells, AllocError>
         ensures { IfOk result (λ cells. cells ≡ first_cells image.now) }
     {
-        let mut cells = Vec::new(alloc);
-        for word in &image.initial {
-            cells.push(Cell::Known(word.cast_signed()))?;
-        }
-        for _ in image.initial.len()..image.workspace as usize {
-            cells.push(Cell::Known(0))?;
-        }
+        let mut cells = known_words(alloc, &image.initial)?;
+        push_zeros(&mut cells, image.workspace as usize)?;
         Ok(Cells { cells })
     }
 
@@ -70,7 +67,7 @@ impl Cells {
     pub(crate) fn join(&mut self, others: &Cells) -> bool
         requires { length others.now ≡ length self.old }
         ensures value { self.new ≡ joined_cells self.old others.now }
-        ensures changed { IsTrue result ↔ (self.new ≢ self.old) }
+        ensures changed { TellsChange result self.old self.new }
     {
         join_all(&mut self.cells, &others.cells)
     }
@@ -166,7 +163,7 @@ fn copy_cells(cells: &mut [Cell], x: usize, y: usize, n: usize)
 fn join_all(cells: &mut [Cell], others: &[Cell]) -> bool
     requires { length others.now ≡ length cells.old }
     ensures value { cells.new ≡ joined_cells cells.old others.now }
-    ensures changed { IsTrue result ↔ (cells.new ≢ cells.old) }
+    ensures changed { TellsChange result cells.old cells.new }
 {
     let mut changed = false;
     for i in 0..cells.len() {
@@ -177,4 +174,29 @@ fn join_all(cells: &mut [Cell], others: &[Cell]) -> bool
         }
     }
     changed
+}
+
+/// The words of an image's beginning.
+fn known_words(alloc: Global, words: &[u32]) -> Result<Vec<Cell>, AllocError>
+    ensures { IfOk result (λ cells. cells.items ≡ map (λ word. Known (signed word)) words.now) }
+{
+    words.iter().map(|word| known_word(*word)).collect(alloc)
+}
+
+/// A word that is known.
+fn known_word(word: u32) -> Cell
+    ensures { result ≡ Known (signed word) }
+{
+    Cell::Known(word.cast_signed())
+}
+
+/// The other words are 0.
+fn push_zeros(cells: &mut Vec<Cell>, words: usize) -> Result<(), AllocError>
+    requires { length cells.old.items ≤ words }
+    ensures { OnOk result (cells.new.items ≡ cells.old.items ++ replicate (words - length cells.old.items) (Known (pos 0))) }
+{
+    for zero in cells.len()..words {
+        cells.push(Cell::Known(0))?;
+    }
+    Ok(())
 }

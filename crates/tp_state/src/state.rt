@@ -1,9 +1,9 @@
 //! Abstract states.
 
-ghost use Rattle.std.specs.Prelude.{◌≡◌, ◌≤◌, ◌<◌, length, IfOk, OnErr, IsTrue, ◌↔◌, ◌≢◌};
+ghost use Rattle.std.specs.Prelude.{◌≡◌, ◌≤◌, ◌<◌, length, IfOk, OnErr};
 ghost use Rattle.tp_state.specs.Answer.{answered};
 ghost use Rattle.tp_state.specs.Conditions.{KeepsPlace, IsPlaced};
-ghost use Rattle.tp_state.specs.Order.{join, meeting};
+ghost use Rattle.tp_state.specs.Order.{join, join_kinds, meeting, TellsChange};
 ghost use Rattle.tp_state.specs.Entry.{entry};
 ghost use Rattle.tp_state.specs.Rules.{push, pop, pop_two, set_areg, give, no_registers, one_number, two_numbers, local, below_wptr, given_way, descheduled};
 ghost use Rattle.tp_state.specs.CellRules.{are_free};
@@ -73,7 +73,7 @@ impl State {
     pub fn join(&mut self, other: &State) -> Result<bool, StateCode>
         requires { length other.now.cells ≡ length self.old.cells }
         ensures value { answered result self.new ≡ meeting self.old other.now }
-        ensures changed { IfOk result (λ changed. IsTrue changed ↔ (self.new ≢ self.old)) }
+        ensures changed { IfOk result (λ changed. TellsChange changed self.old self.new) }
         ensures kept { OnErr result (self.new ≡ self.old) }
     {
         if self.wptr != other.wptr {
@@ -89,16 +89,13 @@ impl State {
     fn join_known(&mut self, other: &State) -> bool
         requires { length other.now.cells ≡ length self.old.cells }
         ensures value { self.new ≡ join self.old other.now }
-        ensures changed { IsTrue result ↔ (self.new ≢ self.old) }
+        ensures changed { TellsChange result self.old self.new }
     {
-        let a = self.a.join(other.a);
-        let b = self.b.join(other.b);
-        let c = self.c.join(other.c);
-        let same = a == self.a && b == self.b && c == self.c;
-        self.a = a;
-        self.b = b;
-        self.c = c;
-        self.cells.join(&other.cells) || !same
+        let cells = self.cells.join(&other.cells);
+        let a = join_kind(&mut self.a, other.a);
+        let b = join_kind(&mut self.b, other.b);
+        let c = join_kind(&mut self.c, other.c);
+        cells || a || b || c
     }
 
     pub(crate) fn push(&mut self, kind: Kind)
@@ -210,4 +207,15 @@ impl State {
         self.give_way();
         Ok(())
     }
+}
+
+/// What holds of both, of one register. It answers whether it changed.
+fn join_kind(kind: &mut Kind, other: Kind) -> bool
+    ensures value { kind.new ≡ join_kinds kind.old other }
+    ensures changed { TellsChange result kind.old kind.new }
+{
+    let joined = kind.join(other);
+    let changed = joined != *kind;
+    *kind = joined;
+    changed
 }
