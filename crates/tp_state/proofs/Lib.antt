@@ -5,3 +5,4 @@ pub mod CellLemmas
 pub mod JoinLemmas
 pub mod EntryLemmas
 pub mod OrderLemmas
+pub mod Computing

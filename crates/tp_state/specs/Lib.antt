@@ -5,6 +5,7 @@ pub mod CellRules
 pub mod Conditions
 pub mod Rules
 pub mod After
+pub mod Samples
 pub mod Order
 pub mod Entry
 pub mod StateCodes
