@@ -6,3 +6,4 @@ pub mod JoinLemmas
 pub mod EntryLemmas
 pub mod OrderLemmas
 pub mod Computing
+pub mod CellOrder

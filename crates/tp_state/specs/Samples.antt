@@ -76,3 +76,14 @@ regs_words a b c cells = record { wptr = 7; a = a; b = b; c = c; phase = 0; cell
 -- what is known after an instruction at address 12 on its way to the next one
 abbrev pub next_of : Instr → State → Result State StateCode
 next_of instr t = after image 12 14 instr Next t
+
+-- an image without loops, Wptr at word 8 of so many
+abbrev pub worker : Version → (workspace : ℕ) → ImageValue
+worker version workspace = record (image_of version 1 1) { workspace = workspace; start = 8; loops = [] }
+
+-- after the packet was taken to word 8, of so many words more
+abbrev pub words_taken : ℕ → List Cell
+words_taken more = replicate 3 (cell.Known (pos 0)) ++ (replicate 5 cell.Undef ++ (cell.Any ∷ replicate more (cell.Known (pos 0))))
+
+abbrev pub taken : Kind → Kind → Kind → (more : ℕ) → State
+taken a b c more = record { wptr = 8; a = a; b = b; c = c; phase = 1; cells = words_taken more }

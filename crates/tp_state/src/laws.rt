@@ -11,6 +11,8 @@ ghost use Rattle.tp_state.specs.EdgesTaken.{KnowsItsHead, IsAlongAnEdge};
 
 pub mod messages;
 pub mod numbers;
+pub mod order;
+pub mod refusals;
 pub mod registers;
 pub mod words;
 
