@@ -12,10 +12,10 @@ use Rattle.tp_state.specs.Order.{cell_below, join_cells, cells_agree, IsBelow, M
 use Rattle.tp_state.proofs.OrderLemmas.{kind_below-self, kind_below-antisym, kind_below-trans, kind_below-join_left, kind_below-join_right, kind_below-least}
 use Rattle.tp_state.proofs.JoinLemmas.{length-joined, cell_at-joined}
 
-same_int : (n m : ℤ) → IsTrue (int_eq n m) → n ≡ m
+pub same_int : (n m : ℤ) → IsTrue (int_eq n m) → n ≡ m
 same_int n m h = grind (arith, ints)
 
-same_nat : (l k : ℕ) → IsTrue (l == k) → l ≡ k
+pub same_nat : (l k : ℕ) → IsTrue (l == k) → l ≡ k
 same_nat l k h = grind (arith, nat_tests)
 
 -- the ways in which a cell is below another
@@ -45,10 +45,10 @@ below_ways Any (Count k) h = absurd (search rules)
 below_ways (Known n) (Count k) h = absurd (search rules)
 below_ways (Index l) (Count k) h = absurd (search rules)
 
-int_self : (n : ℤ) → IsTrue (int_eq n n)
+pub int_self : (n : ℤ) → IsTrue (int_eq n n)
 int_self n = grind (arith, ints)
 
-nat_self : (n : ℕ) → IsTrue (n == n)
+pub nat_self : (n : ℕ) → IsTrue (n == n)
 nat_self n = grind (arith, nat_tests)
 
 pub cell_below-self : (c : Cell) → IsTrue (cell_below c c)

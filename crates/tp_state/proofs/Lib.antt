@@ -7,3 +7,4 @@ pub mod EntryLemmas
 pub mod OrderLemmas
 pub mod Computing
 pub mod CellOrder
+pub mod StateOrder
