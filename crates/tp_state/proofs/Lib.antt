@@ -8,3 +8,4 @@ pub mod OrderLemmas
 pub mod Computing
 pub mod CellOrder
 pub mod StateOrder
+pub mod FitsAbove

@@ -15,19 +15,19 @@ int_within-self a b = grind (arith, ints)
 nat_within-self : (a b : ℕ) → IsTrue (nat_le a a && nat_le b b)
 nat_within-self a b = grind (arith, nat_tests)
 
-int_low : (a b c d : ℤ) → IsTrue (int_le c a && int_le b d) → c ≤ℤ a
+pub int_low : (a b c d : ℤ) → IsTrue (int_le c a && int_le b d) → c ≤ℤ a
 int_low a b c d h = grind (arith, ints)
 
-int_high : (a b c d : ℤ) → IsTrue (int_le c a && int_le b d) → b ≤ℤ d
+pub int_high : (a b c d : ℤ) → IsTrue (int_le c a && int_le b d) → b ≤ℤ d
 int_high a b c d h = grind (arith, ints)
 
 int_within : (a b c d : ℤ) → c ≤ℤ a → b ≤ℤ d → IsTrue (int_le c a && int_le b d)
 int_within a b c d h g = grind (arith, ints)
 
-nat_low : (a b c d : ℕ) → IsTrue (nat_le c a && nat_le b d) → c ≤ a
+pub nat_low : (a b c d : ℕ) → IsTrue (nat_le c a && nat_le b d) → c ≤ a
 nat_low a b c d h = grind (arith, nat_tests)
 
-nat_high : (a b c d : ℕ) → IsTrue (nat_le c a && nat_le b d) → b ≤ d
+pub nat_high : (a b c d : ℕ) → IsTrue (nat_le c a && nat_le b d) → b ≤ d
 nat_high a b c d h = grind (arith, nat_tests)
 
 nat_within : (a b c d : ℕ) → c ≤ a → b ≤ d → IsTrue (nat_le c a && nat_le b d)

@@ -280,5 +280,3 @@ join-below t s h = is_below-antisym (join t s) t (is_below-least t s t (is_below
 -- and only that
 pub below-join : (t s : State) → MayMeet t s → join t s ≡ t → IsBelow s t
 below-join t s m e = rw (← e) (is_below-join_right t s m)
-
-

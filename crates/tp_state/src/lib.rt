@@ -15,9 +15,9 @@ mod ranges;
 mod rules;
 mod state;
 
-pub use outcome::after;
 pub use cell::Cell;
 pub use cells::Cells;
 pub use fault::{StateCode, StateFault};
 pub use kind::Kind;
+pub use outcome::after;
 pub use state::State;

@@ -15,7 +15,15 @@ use tp_image::Image;
 /// What is known after the instruction that stands at an address, where the next one stands behind it, on an edge that it
 /// has; stopp, which has none, is asked with Next and gives the state back. The refusal's place is the instruction's
 /// address. [`State::go_on`] is the same in place.
-pub fn after(state: &State, at: usize, next: usize, instr: Instr, edge: Edge, image: &Image, nest: &Nest) -> Result<State, StateFault>
+pub fn after(
+    state: &State,
+    at: usize,
+    next: usize,
+    instr: Instr,
+    edge: Edge,
+    image: &Image,
+    nest: &Nest,
+) -> Result<State, StateFault>
     requires placed { IsPlaced image.now state.now }
     requires good { HasGoodLoops image.now }
     requires nest { nest.now ≡ ranges image.now.loops }

@@ -73,7 +73,12 @@ fn product(b: i32, a: i32) -> i64
 pub(crate) fn products(b: (i32, i32), a: (i32, i32)) -> Kind
     ensures { result ≡ at_ends product b a }
 {
-    hull(product(b.0, a.0), product(b.0, a.1), product(b.1, a.0), product(b.1, a.1))
+    hull(
+        product(b.0, a.0),
+        product(b.0, a.1),
+        product(b.1, a.0),
+        product(b.1, a.1),
+    )
 }
 
 /// Whether it is one number above 0.

@@ -24,7 +24,15 @@ impl State {
     /// What is known after the instruction that stands at an address, where the next one stands behind it, on an edge
     /// that it has: the state itself takes it. After a refusal the state is not to be used. It takes no memory.
     #[tactic(auto, unfolding(crate::specs::After::after))]
-    pub fn go_on(&mut self, at: usize, next: usize, instr: Instr, edge: Edge, image: &Image, nest: &Nest) -> Result<(), StateCode>
+    pub fn go_on(
+        &mut self,
+        at: usize,
+        next: usize,
+        instr: Instr,
+        edge: Edge,
+        image: &Image,
+        nest: &Nest,
+    ) -> Result<(), StateCode>
         requires placed { IsPlaced image.now self.old }
         requires good { HasGoodLoops image.now }
         requires nest { nest.now ≡ ranges image.now.loops }
@@ -36,7 +44,15 @@ impl State {
     }
 
     /// The instruction's own rule.
-    fn obey(&mut self, at: usize, next: usize, instr: Instr, edge: Edge, image: &Image, nest: &Nest) -> Result<(), StateCode>
+    fn obey(
+        &mut self,
+        at: usize,
+        next: usize,
+        instr: Instr,
+        edge: Edge,
+        image: &Image,
+        nest: &Nest,
+    ) -> Result<(), StateCode>
         requires placed { IsPlaced image.now self.old }
         requires good { HasGoodLoops image.now }
         requires nest { nest.now ≡ ranges image.now.loops }

@@ -181,7 +181,8 @@ impl State {
         ensures value { self.new ≡ given_way self.old }
         ensures kept { KeepsPlace self.old self.new }
     {
-        self.cells.fill(self.wptr as usize - FRAME_WORDS, FRAME_WORDS, Cell::Undef);
+        self.cells
+            .fill(self.wptr as usize - FRAME_WORDS, FRAME_WORDS, Cell::Undef);
         self.forget_registers();
     }
 
@@ -190,7 +191,8 @@ impl State {
         requires { 5 ≤ self.now.wptr }
         ensures { result ≡ are_free (below_wptr self.now) }
     {
-        self.cells.are_free(self.wptr as usize - FRAME_WORDS, FRAME_WORDS)
+        self.cells
+            .are_free(self.wptr as usize - FRAME_WORDS, FRAME_WORDS)
     }
 
     /// The same, unless one of these words is a live control word.

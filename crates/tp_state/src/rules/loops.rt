@@ -61,7 +61,13 @@ fn is_distance(kind: Kind, next: usize, head: u32) -> bool
 }
 
 /// The number of the loop that an edge of an instruction enters.
-pub(crate) fn entered_at(nest: &Nest, at: usize, next: usize, instr: Instr, edge: Edge) -> Option<usize>
+pub(crate) fn entered_at(
+    nest: &Nest,
+    at: usize,
+    next: usize,
+    instr: Instr,
+    edge: Edge,
+) -> Option<usize>
     ensures { (image : ImageValue) → nest.now ≡ ranges image.loops → result ≡ entered_at image at next instr edge }
 {
     let to = nest.target(at, next, instr, edge)?;
@@ -100,7 +106,14 @@ impl State {
     }
 
     #[tactic(auto, unfolding(crate::specs::Rules::rule))]
-    pub(super) fn lend(&mut self, image: &Image, nest: &Nest, at: usize, next: usize, edge: Edge) -> Result<(), StateCode>
+    pub(super) fn lend(
+        &mut self,
+        image: &Image,
+        nest: &Nest,
+        at: usize,
+        next: usize,
+        edge: Edge,
+    ) -> Result<(), StateCode>
         requires placed { IsPlaced image.now self.old }
         requires good { HasGoodLoops image.now }
         requires nest { nest.now ≡ ranges image.now.loops }

@@ -18,7 +18,9 @@ use tp_image::Image;
 
 // The channels of links 0 and 1, as numbers.
 const LINK0_OUTPUT: i32 = i32::MIN;
+
 const LINK1_OUTPUT: i32 = i32::MIN + 4;
+
 const LINK0_INPUT: i32 = i32::MIN + 16;
 
 /// A number of bytes: 0 for one below 0.
@@ -124,7 +126,8 @@ impl State {
         if !self.cells.are_free(x as usize, image.packet as usize) {
             return Err(StateCode::S5);
         }
-        self.cells.fill(x as usize, image.packet as usize, Cell::Any);
+        self.cells
+            .fill(x as usize, image.packet as usize, Cell::Any);
         self.phase = 1;
         self.deschedule()
     }

@@ -10,7 +10,10 @@ ghost use Rattle.tp_state.specs.Rules.{rule};
 
 use crate::fault::StateCode;
 use crate::kind::Kind;
-use crate::ranges::{FULL, are_shift_counts, conjunctions, differences, products, quotients, raised, remainders, shifted_down, shifted_up, sums};
+use crate::ranges::{
+    FULL, are_shift_counts, conjunctions, differences, products, quotients, raised, remainders,
+    shifted_down, shifted_up, sums,
+};
 use crate::state::State;
 
 /// 0 or 1.

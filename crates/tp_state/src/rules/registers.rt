@@ -122,6 +122,10 @@ impl State {
         ensures value { (image : ImageValue) (at next : ℕ) (edge : Edge) → answered result self.new ≡ rule image at next Stopp edge self.old }
         ensures kept { KeepsPlace self.old self.new }
     {
-        if self.phase == 2 { Ok(()) } else { Err(StateCode::S9) }
+        if self.phase == 2 {
+            Ok(())
+        } else {
+            Err(StateCode::S9)
+        }
     }
 }
