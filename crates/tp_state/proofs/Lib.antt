@@ -9,3 +9,4 @@ pub mod Computing
 pub mod CellOrder
 pub mod StateOrder
 pub mod FitsAbove
+pub mod EntryFits
