@@ -21,3 +21,6 @@ pub use fault::{StateCode, StateFault};
 pub use kind::Kind;
 pub use outcome::after;
 pub use state::State;
+
+#[cfg(test)]
+mod tests;
