@@ -1,1 +1,12 @@
 pub mod EdgeLemmas
+pub mod Casts
+pub mod RangeLemmas
+pub mod CellLemmas
+pub mod JoinLemmas
+pub mod EntryLemmas
+pub mod OrderLemmas
+pub mod Computing
+pub mod CellOrder
+pub mod StateOrder
+pub mod FitsAbove
+pub mod EntryFits

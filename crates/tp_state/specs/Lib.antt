@@ -1,4 +1,15 @@
 pub mod EdgesTaken
+pub mod Answer
+pub mod Kinds
+pub mod CellRules
+pub mod Conditions
+pub mod Rules
+pub mod After
+pub mod Samples
+pub mod Fits
+pub mod Order
+pub mod Entry
+pub mod StateCodes
 pub use Rattle.tp_flow.specs.Edges
 pub use Rattle.tp_flow.specs.AroundKept
 pub use Rattle.tp_step.specs.State

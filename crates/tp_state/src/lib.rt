@@ -1,6 +1,26 @@
-//! The flow of a code and what the code does, joined.
+//! Abstract states: what the verifier knows of a worker before an instruction, and what comes after it.
 //!
-//! The definitions stand in `specs/`, the law that joins the two in [`laws`]. The crate has no code that runs.
+//! The definitions stand in `specs/`: what is known of registers and words, the rules of the instructions, and what fits.
+//! The laws are the contracts of the functions of [`laws`].
 #![tactic(auto)]
 
+mod cell;
+mod cells;
+mod fault;
+mod kind;
 pub mod laws;
+mod outcome;
+mod places;
+mod ranges;
+mod rules;
+mod state;
+
+pub use cell::Cell;
+pub use cells::Cells;
+pub use fault::{StateCode, StateFault};
+pub use kind::Kind;
+pub use outcome::after;
+pub use state::State;
+
+#[cfg(test)]
+mod tests;

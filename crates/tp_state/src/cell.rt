@@ -1,0 +1,104 @@
+//! What is known of a workspace word.
+
+ghost use Rattle.std.specs.Prelude.{◌≡◌, ◌≤◌, ◌≤ℤ◌, ◌^◌, ◌-◌, pos};
+ghost use Rattle.tp_flow.specs.RowRules.{last_index};
+ghost use Rattle.tp_state.specs.Conditions.{HasGoodLoops};
+ghost use Rattle.tp_state.specs.Order.{join_cells};
+ghost use Rattle.tp_state.specs.CellRules.{is_free, is_defined, read, blurred, copied};
+
+use crate::fault::StateCode;
+use crate::kind::Kind;
+use crate::ranges::FULL;
+use tp_image::{Image, LoopRow};
+
+/// What is known of a workspace word.
+#[derive(Clone, Copy, Debug, PartialEq, Eq)]
+pub enum Cell {
+    /// Nothing: a byte of it may be undefined.
+    Undef,
+    /// Its bytes are defined.
+    Any,
+    /// It has this value, read signed.
+    Known(i32),
+    /// It is the index of the live loop of this row.
+    Index(u8),
+    /// It is the count of the live loop of this row.
+    Count(u8),
+}
+
+impl Cell {
+    /// Whether it is no live control word.
+    pub(crate) fn is_free(self) -> bool
+        ensures { result ≡ is_free self }
+    {
+        !matches!(self, Cell::Index(_) | Cell::Count(_))
+    }
+
+    /// Whether its bytes are defined.
+    pub(crate) fn is_defined(self) -> bool
+        ensures { result ≡ is_defined self }
+    {
+        self != Cell::Undef
+    }
+
+    /// What is known of the word when something, or a part of something, may have been written to it.
+    pub(crate) fn blurred(self) -> Cell
+        ensures { result ≡ blurred self }
+    {
+        match self {
+            Cell::Known(_) => Cell::Any,
+            cell => cell,
+        }
+    }
+
+    /// What is known of a copy of the word.
+    pub(crate) fn copied(self) -> Cell
+        ensures { result ≡ copied self }
+    {
+        match self {
+            Cell::Index(_) | Cell::Count(_) => Cell::Any,
+            cell => cell,
+        }
+    }
+
+    /// What holds of both.
+    pub fn join(self, other: Cell) -> Cell
+        ensures { result ≡ join_cells self other }
+    {
+        match (self, other) {
+            (cell, other) if cell == other => cell,
+            (Cell::Known(_) | Cell::Any, Cell::Known(_) | Cell::Any) => Cell::Any,
+            _ => Cell::Undef,
+        }
+    }
+
+    /// What is read from the word.
+    #[tactic(auto, unfolding(crate::specs::CellRules::read))]
+    pub(crate) fn read(self, image: &Image) -> Result<Kind, StateCode>
+        requires { HasGoodLoops image.now }
+        ensures { result ≡ read image.now.loops self }
+    {
+        match self {
+            Cell::Undef => Err(StateCode::S4),
+            Cell::Any => Ok(FULL),
+            Cell::Known(n) => Ok(Kind::Int(n, n)),
+            Cell::Index(l) => match image.loops.get(usize::from(l)) {
+                Some(row) => Ok(Kind::Int(row.start, last_index(row))),
+                None => Err(StateCode::S4),
+            },
+            Cell::Count(l) => match image.loops.get(usize::from(l)) {
+                Some(row) => Ok(Kind::Int(1, row.count as i32)),
+                None => Err(StateCode::S4),
+            },
+        }
+    }
+}
+
+/// The index of a loop's last turn.
+fn last_index(row: &LoopRow) -> i32
+    requires some { 1 ≤ row.now.count }
+    requires ends { last_index row.now ≤ℤ pos (2 ^ 31 - 1) }
+    ensures { result ≡ last_index row.now }
+{
+    (i64::from(row.start) + i64::from(row.count) - 1) as i32
+}

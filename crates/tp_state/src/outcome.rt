@@ -1,0 +1,39 @@
+//! What is known after an instruction.
+
+ghost use Rattle.std.specs.Prelude.{◌≡◌, Ok, IfOk, IfErr};
+ghost use Rattle.tp_flow.specs.NestRanges.{ranges};
+ghost use Rattle.tp_state.specs.Conditions.{IsPlaced, HasGoodLoops};
+ghost use Rattle.tp_state.specs.After.{after};
+ghost use Rattle.tp_state.specs.StateCodes.{IsFaultAt};
+
+use crate::fault::StateFault;
+use crate::state::State;
+use tp_decode::Instr;
+use tp_flow::{Edge, Nest};
+use tp_image::Image;
+
+/// What is known after the instruction that stands at an address, where the next one stands behind it, on an edge that it
+/// has; stopp, which has none, is asked with Next and gives the state back. The refusal's place is the instruction's
+/// address. [`State::go_on`] is the same in place.
+pub fn after(
+    state: &State,
+    at: usize,
+    next: usize,
+    instr: Instr,
+    edge: Edge,
+    image: &Image,
+    nest: &Nest,
+) -> Result<State, StateFault>
+    requires placed { IsPlaced image.now state.now }
+    requires good { HasGoodLoops image.now }
+    requires nest { nest.now ≡ ranges image.now.loops }
+    ensures ok { IfOk result (λ t. after image.now at next instr edge state.now ≡ Ok t) }
+    ensures placed { IfOk result (IsPlaced image.now) }
+    ensures refused { IfErr result (IsFaultAt at (after image.now at next instr edge state.now)) }
+{
+    let mut state = state.copy_of()?;
+    match state.go_on(at, next, instr, edge, image, nest) {
+        Ok(()) => Ok(state),
+        Err(code) => Err(StateFault::Refused { code, place: at }),
+    }
+}

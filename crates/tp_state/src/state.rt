@@ -1,0 +1,223 @@
+//! Abstract states.
+
+ghost use Rattle.std.specs.Prelude.{◌≡◌, ◌≤◌, ◌<◌, length, IfOk, OnErr};
+ghost use Rattle.tp_state.specs.Answer.{answered};
+ghost use Rattle.tp_state.specs.Conditions.{KeepsPlace, IsPlaced};
+ghost use Rattle.tp_state.specs.Order.{join, join_kinds, meeting, TellsChange};
+ghost use Rattle.tp_state.specs.Entry.{entry};
+ghost use Rattle.tp_state.specs.Rules.{push, pop, pop_two, set_areg, give, no_registers, one_number, two_numbers, local, below_wptr, given_way, descheduled};
+ghost use Rattle.tp_state.specs.CellRules.{are_free};
+
+use crate::cell::Cell;
+use crate::cells::Cells;
+use crate::fault::StateCode;
+use crate::kind::Kind;
+use crate::places::word_on;
+use std::alloc::{AllocError, Global};
+use tp_image::Image;
+
+/// The words below Wptr that are undefined after a place to deschedule.
+const FRAME_WORDS: usize = 5;
+
+/// What is known of a worker before an instruction.
+#[derive(Drop)]
+pub struct State {
+    /// Wptr, as the number of a workspace word.
+    pub wptr: u32,
+    /// What is known of Areg.
+    pub a: Kind,
+    /// What is known of Breg.
+    pub b: Kind,
+    /// What is known of Creg.
+    pub c: Kind,
+    /// 0 before the packet, 1 after it, 2 after the result.
+    pub phase: u8,
+    /// What is known of the workspace.
+    pub cells: Cells,
+}
+
+impl State {
+    /// What is known before the first instruction of an image's code.
+    pub fn entry(alloc: Global, image: &Image) -> Result<State, AllocError>
+        ensures value { IfOk result (λ t. t ≡ entry image.now) }
+        ensures placed { IfOk result (IsPlaced image.now) }
+    {
+        let cells = Cells::entry(alloc, image)?;
+        Ok(State {
+            wptr: image.start,
+            a: Kind::Undef,
+            b: Kind::Undef,
+            c: Kind::Undef,
+            phase: 0,
+            cells,
+        })
+    }
+
+    /// A copy.
+    pub fn copy_of(&self) -> Result<State, AllocError>
+        ensures { IfOk result (λ t. t ≡ self.now) }
+    {
+        let cells = self.cells.copy_of()?;
+        Ok(State {
+            wptr: self.wptr,
+            a: self.a,
+            b: self.b,
+            c: self.c,
+            phase: self.phase,
+            cells,
+        })
+    }
+
+    /// What holds of both states, where they may meet: the state itself takes it. It answers whether anything changed;
+    /// after a refusal, S6 or S9, nothing has. It takes no memory.
+    pub fn join(&mut self, other: &State) -> Result<bool, StateCode>
+        requires { length other.now.cells ≡ length self.old.cells }
+        ensures value { answered result self.new ≡ meeting self.old other.now }
+        ensures changed { IfOk result (λ changed. TellsChange changed self.old self.new) }
+        ensures kept { OnErr result (self.new ≡ self.old) }
+    {
+        if self.wptr != other.wptr {
+            return Err(StateCode::S6);
+        }
+        if self.phase != other.phase {
+            return Err(StateCode::S9);
+        }
+        Ok(self.join_known(other))
+    }
+
+    /// What holds of both, of registers and words.
+    fn join_known(&mut self, other: &State) -> bool
+        requires { length other.now.cells ≡ length self.old.cells }
+        ensures value { self.new ≡ join self.old other.now }
+        ensures changed { TellsChange result self.old self.new }
+    {
+        let cells = self.cells.join(&other.cells);
+        let a = join_kind(&mut self.a, other.a);
+        let b = join_kind(&mut self.b, other.b);
+        let c = join_kind(&mut self.c, other.c);
+        cells || a || b || c
+    }
+
+    pub(crate) fn push(&mut self, kind: Kind)
+        ensures { self.new ≡ push kind self.old }
+    {
+        self.c = self.b;
+        self.b = self.a;
+        self.a = kind;
+    }
+
+    pub(crate) fn pop(&mut self)
+        ensures { self.new ≡ pop self.old }
+    {
+        self.a = self.b;
+        self.b = self.c;
+        self.c = Kind::Undef;
+    }
+
+    pub(crate) fn pop_two(&mut self)
+        ensures { self.new ≡ pop_two self.old }
+    {
+        self.a = self.c;
+        self.b = Kind::Undef;
+        self.c = Kind::Undef;
+    }
+
+    pub(crate) fn set_areg(&mut self, kind: Kind)
+        ensures { self.new ≡ set_areg kind self.old }
+    {
+        self.a = kind;
+    }
+
+    pub(crate) fn give(&mut self, kind: Kind)
+        ensures { self.new ≡ give kind self.old }
+    {
+        self.a = kind;
+        self.b = self.c;
+        self.c = Kind::Undef;
+    }
+
+    pub(crate) fn forget_registers(&mut self)
+        ensures { self.new ≡ no_registers self.old }
+    {
+        self.a = Kind::Undef;
+        self.b = Kind::Undef;
+        self.c = Kind::Undef;
+    }
+
+    /// Areg as a number.
+    #[tactic(auto, unfolding(crate::specs::Rules::one_number))]
+    pub(crate) fn one_number(&self) -> Result<(i32, i32), StateCode>
+        ensures { result ≡ one_number self.now }
+    {
+        self.a.known()?;
+        self.a.number()
+    }
+
+    /// Areg and Breg as numbers, Areg first.
+    #[tactic(auto, unfolding(crate::specs::Rules::two_numbers))]
+    pub(crate) fn two_numbers(&self) -> Result<((i32, i32), (i32, i32)), StateCode>
+        ensures { result ≡ two_numbers self.now }
+    {
+        self.a.known()?;
+        self.b.known()?;
+        let a = self.a.number()?;
+        let b = self.b.number()?;
+        Ok((a, b))
+    }
+
+    /// The word n words on from Wptr.
+    #[tactic(auto, unfolding(crate::specs::Rules::local))]
+    pub(crate) fn local(&self, image: &Image, n: i32) -> Result<u32, StateCode>
+        ensures value { result ≡ local image.now self.now n }
+        ensures inside { IfOk result (λ x. x < image.now.workspace) }
+    {
+        word_on(image, self.wptr, n)
+    }
+
+    /// Registers and the five words below Wptr are undefined.
+    pub(crate) fn give_way(&mut self)
+        requires roomy { 5 ≤ self.old.wptr }
+        requires inside { self.old.wptr ≤ length self.old.cells }
+        ensures value { self.new ≡ given_way self.old }
+        ensures kept { KeepsPlace self.old self.new }
+    {
+        self.cells
+            .fill(self.wptr as usize - FRAME_WORDS, FRAME_WORDS, Cell::Undef);
+        self.forget_registers();
+    }
+
+    /// Whether no live control word is among the five words below Wptr.
+    pub(crate) fn may_give_way(&self) -> bool
+        requires { 5 ≤ self.now.wptr }
+        ensures { result ≡ are_free (below_wptr self.now) }
+    {
+        self.cells
+            .are_free(self.wptr as usize - FRAME_WORDS, FRAME_WORDS)
+    }
+
+    /// The same, unless one of these words is a live control word.
+    #[tactic(auto, unfolding(crate::specs::Rules::descheduled))]
+    pub(crate) fn deschedule(&mut self) -> Result<(), StateCode>
+        requires roomy { 5 ≤ self.old.wptr }
+        requires inside { self.old.wptr ≤ length self.old.cells }
+        ensures value { answered result self.new ≡ descheduled self.old }
+        ensures kept { KeepsPlace self.old self.new }
+    {
+        if !self.may_give_way() {
+            return Err(StateCode::S5);
+        }
+        self.give_way();
+        Ok(())
+    }
+}
+
+/// What holds of both, of one register. It answers whether it changed.
+fn join_kind(kind: &mut Kind, other: Kind) -> bool
+    ensures value { kind.new ≡ join_kinds kind.old other }
+    ensures changed { TellsChange result kind.old kind.new }
+{
+    let joined = kind.join(other);
+    let changed = joined != *kind;
+    *kind = joined;
+    changed
+}
