@@ -3,7 +3,7 @@
 ghost use Rattle.std.specs.Prelude.{◌≡◌, ◌≤◌, ◌≤ℤ◌, ◌^◌, ◌-◌, pos};
 ghost use Rattle.tp_flow.specs.RowRules.{last_index};
 ghost use Rattle.tp_state.specs.Conditions.{HasGoodLoops};
-ghost use Rattle.tp_state.specs.Order.{join_cells};
+ghost use Rattle.tp_state.specs.Order.{cell_below, join_cells};
 ghost use Rattle.tp_state.specs.CellRules.{is_free, is_defined, read, blurred, copied};
 
 use crate::fault::StateCode;
@@ -69,6 +69,17 @@ impl Cell {
             (cell, other) if cell == other => cell,
             (Cell::Known(_) | Cell::Any, Cell::Known(_) | Cell::Any) => Cell::Any,
             _ => Cell::Undef,
+        }
+    }
+
+    /// Whether it says as much as the other or more.
+    pub fn is_below(self, other: Cell) -> bool
+        ensures { result ≡ cell_below self other }
+    {
+        match (self, other) {
+            (cell, Cell::Undef) => cell.is_free(),
+            (Cell::Known(_), Cell::Any) => true,
+            (cell, other) => cell == other,
         }
     }
 

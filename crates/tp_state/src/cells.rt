@@ -1,11 +1,11 @@
 //! What is known of the words of a workspace.
 
-ghost use Rattle.std.specs.Prelude.{◌≡◌, ◌+◌, ◌≤◌, ◌<◌, length, map, replicate, slice_set, IsTrue, IfOk, OnOk, pos, ◌++◌, ◌-◌};
+ghost use Rattle.std.specs.Prelude.{◌≡◌, ◌+◌, ◌≤◌, ◌<◌, length, map, replicate, slice_set, IsTrue, IfOk, OnOk, pos, ◌++◌, ◌-◌, ℕ, true, false};
 ghost use Rattle.tp_state.specs.CellRules.{cell_at, cells_from, with_cells, are_free, are_defined, blurred, copied};
 ghost use Rattle.tp_decode.specs.Words.{signed};
 ghost use Rattle.tp_state.specs.declared.cell.Cell.TheVariants.{Known};
 ghost use Rattle.tp_state.specs.Rules.{are_apart};
-ghost use Rattle.tp_state.specs.Order.{joined_cells, TellsChange};
+ghost use Rattle.tp_state.specs.Order.{cell_below, joined_cells, TellsChange};
 ghost use Rattle.tp_state.specs.Entry.{first_cells};
 
 use crate::cell::Cell;
@@ -70,6 +70,15 @@ impl Cells {
         ensures changed { TellsChange result self.old self.new }
     {
         join_all(&mut self.cells, &others.cells)
+    }
+
+    /// Whether each says as much as the other's of the same word or more.
+    pub(crate) fn are_below(&self, others: &Cells) -> bool
+        requires { length others.now ≡ length self.now }
+        ensures yes { result ≡ true → (i : ℕ) → IsTrue (cell_below (cell_at self.now i) (cell_at others.now i)) }
+        ensures no { result ≡ false → (i : ℕ) × (cell_below (cell_at self.now i) (cell_at others.now i) ≡ false) }
+    {
+        all_below(&self.cells, &others.cells)
     }
 
     /// The cells of n words, from a word on, as far as the workspace goes.
@@ -199,4 +208,18 @@ fn push_zeros(cells: &mut Vec<Cell>, words: usize) -> Result<(), AllocError>
         cells.push(Cell::Known(0))?;
     }
     Ok(())
+}
+
+/// Whether each cell says as much as the other's of the same word or more.
+fn all_below(cells: &[Cell], others: &[Cell]) -> bool
+    requires { length others.now ≡ length cells.now }
+    ensures yes { result ≡ true → (i : ℕ) → IsTrue (cell_below (cell_at cells.now i) (cell_at others.now i)) }
+    ensures no { result ≡ false → (i : ℕ) × (cell_below (cell_at cells.now i) (cell_at others.now i) ≡ false) }
+{
+    for i in 0..cells.len() {
+        if !cells[i].is_below(others[i]) {
+            return false;
+        }
+    }
+    true
 }

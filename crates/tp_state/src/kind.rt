@@ -1,7 +1,7 @@
 //! What is known of a register.
 
 ghost use Rattle.std.specs.Prelude.{◌≡◌, ◌<◌, ◌^◌, IfOk};
-ghost use Rattle.tp_state.specs.Order.{join_kinds};
+ghost use Rattle.tp_state.specs.Order.{kind_below, join_kinds};
 ghost use Rattle.tp_state.specs.Kinds.{known, number, pointer, one_word, byte_pointer, is_exactly, points_at};
 
 use crate::cell::Cell;
@@ -121,6 +121,19 @@ impl Kind {
             (Kind::Ptr(p, q), Kind::Ptr(r, s)) => Kind::Ptr(p.min(r), q.max(s)),
             (Kind::BytePtr(p, q), Kind::BytePtr(r, s)) => Kind::BytePtr(p.min(r), q.max(s)),
             _ => Kind::Undef,
+        }
+    }
+
+    /// Whether it says as much as the other or more: its range lies within the other's, or the other says nothing.
+    pub fn is_below(self, other: Kind) -> bool
+        ensures { result ≡ kind_below self other }
+    {
+        match (self, other) {
+            (_, Kind::Undef) => true,
+            (Kind::Int(a, b), Kind::Int(c, d)) => c <= a && b <= d,
+            (Kind::Ptr(p, q), Kind::Ptr(r, s)) => r <= p && q <= s,
+            (Kind::BytePtr(p, q), Kind::BytePtr(r, s)) => r <= p && q <= s,
+            _ => false,
         }
     }
 }

@@ -1,9 +1,9 @@
 //! Abstract states.
 
-ghost use Rattle.std.specs.Prelude.{◌≡◌, ◌≤◌, ◌<◌, length, IfOk, OnErr};
+ghost use Rattle.std.specs.Prelude.{◌≡◌, ◌≤◌, ◌<◌, length, IfOk, OnErr, true, false};
 ghost use Rattle.tp_state.specs.Answer.{answered};
 ghost use Rattle.tp_state.specs.Conditions.{KeepsPlace, IsPlaced};
-ghost use Rattle.tp_state.specs.Order.{join, join_kinds, meeting, TellsChange};
+ghost use Rattle.tp_state.specs.Order.{IsBelow, join, join_kinds, meeting, TellsChange};
 ghost use Rattle.tp_state.specs.Entry.{entry};
 ghost use Rattle.tp_state.specs.Rules.{push, pop, pop_two, set_areg, give, no_registers, one_number, two_numbers, local, below_wptr, given_way, descheduled};
 ghost use Rattle.tp_state.specs.CellRules.{are_free};
@@ -83,6 +83,20 @@ impl State {
             return Err(StateCode::S9);
         }
         Ok(self.join_known(other))
+    }
+
+    /// Whether the state says as much as the other or more.
+    pub fn is_below(&self, other: &State) -> bool
+        requires { length other.now.cells ≡ length self.now.cells }
+        ensures yes { result ≡ true → IsBelow self.now other.now }
+        ensures no { result ≡ false → ¬ IsBelow self.now other.now }
+    {
+        self.wptr == other.wptr
+            && self.phase == other.phase
+            && self.a.is_below(other.a)
+            && self.b.is_below(other.b)
+            && self.c.is_below(other.c)
+            && self.cells.are_below(&other.cells)
     }
 
     /// What holds of both, of registers and words.
