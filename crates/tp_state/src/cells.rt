@@ -56,10 +56,10 @@ impl Cells {
     }
 
     /// A copy.
-    pub(crate) fn copy_of(&self) -> Result<Cells, AllocError>
+    pub(crate) fn copy_of(&self, alloc: Global) -> Result<Cells, AllocError>
         ensures { IfOk result (λ cells. cells ≡ self.now) }
     {
-        let cells = self.cells.clone()?;
+        let cells = Vec::from_slice(alloc, &self.cells)?;
         Ok(Cells { cells })
     }
 

@@ -8,6 +8,7 @@ ghost use Rattle.tp_state.specs.StateCodes.{IsFaultAt};
 
 use crate::fault::StateFault;
 use crate::state::State;
+use std::alloc::Global;
 use tp_decode::Instr;
 use tp_flow::{Edge, Nest};
 use tp_image::Image;
@@ -16,6 +17,7 @@ use tp_image::Image;
 /// has; stopp, which has none, is asked with Next and gives the state back. The refusal's place is the instruction's
 /// address. [`State::go_on`] is the same in place.
 pub fn after(
+    alloc: Global,
     state: &State,
     at: usize,
     next: usize,
@@ -31,7 +33,7 @@ pub fn after(
     ensures placed { IfOk result (IsPlaced image.now) }
     ensures refused { IfErr result (IsFaultAt at (after image.now at next instr edge state.now)) }
 {
-    let mut state = state.copy_of()?;
+    let mut state = state.copy_of(alloc)?;
     match state.go_on(at, next, instr, edge, image, nest) {
         Ok(()) => Ok(state),
         Err(code) => Err(StateFault::Refused { code, place: at }),

@@ -54,10 +54,10 @@ impl State {
     }
 
     /// A copy.
-    pub fn copy_of(&self) -> Result<State, AllocError>
+    pub fn copy_of(&self, alloc: Global) -> Result<State, AllocError>
         ensures { IfOk result (λ t. t ≡ self.now) }
     {
-        let cells = self.cells.copy_of()?;
+        let cells = self.cells.copy_of(alloc)?;
         Ok(State {
             wptr: self.wptr,
             a: self.a,

@@ -68,7 +68,7 @@ fn first_refusal(
         let instr = listing.at(at).expect(rt, "an instruction");
         let next = listing.next(at).expect(rt, "an address");
         let edge = edges(instr).first().copied().unwrap_or(Edge::Next);
-        match after(&state, at, next, instr, edge, image, nest) {
+        match after(rt.alloc(), &state, at, next, instr, edge, image, nest) {
             Ok(known) => state = known,
             Err(fault) => return Some(fault),
         }
@@ -103,7 +103,7 @@ fn passes_small_codes(rt: HostRuntime) {
 fn begins_with_the_first_words(rt: HostRuntime) {
     let image = read_image(rt.alloc(), WITH_A_FIRST_WORD).expect(&rt, "an image");
     let state = State::entry(rt.alloc(), &image).expect(&rt, "a state");
-    let copy = state.copy_of().expect(&rt, "a copy");
+    let copy = state.copy_of(rt.alloc()).expect(&rt, "a copy");
     assert_eq!(rt; copy.wptr, 8);
     assert_eq!(rt; copy.cells.get(0), Cell::Known(42));
     assert_eq!(rt; copy.cells.get(15), Cell::Known(0));
