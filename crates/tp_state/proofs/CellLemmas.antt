@@ -1,5 +1,5 @@
 -- Cells that are replaced, one by one.
-use Rattle.std.proofs.Common.{◌≡◌, IsTrue, ℕ, ◌+◌, ◌-◌, ◌<◌, ◌≤◌, ◌⊎◌, inl, inr, List, [], ◌++◌, length, take, drop, map, slice_index_or, slice_set, min, length-set, length-drop, append-nil, get_or-set_same, get_or-set_other, refl, sym, ap, ◌∙◌, arith}
+use Rattle.std.proofs.Common.{◌≡◌, IsTrue, ℕ, ◌+◌, ◌-◌, ◌<◌, ◌≤◌, ◌⊎◌, inl, inr, List, [], length, drop, map, slice_set, min, length-set, length-drop, append-nil, get_or-set_same, get_or-set_other, refl, sym, ap, ◌∙◌, arith}
 use Rattle.std.proofs.lemmas.Bool.{cases_lt, cases_eq}
 use Rattle.std.proofs.lemmas.List.{places, ext_get_or, get_or-map, length-map, take_all}
 use Rattle.std.proofs.Math.ListN.{drop_of_length-le}

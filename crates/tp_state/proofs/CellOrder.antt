@@ -1,16 +1,12 @@
 -- The order of cells, and of states.
-use Rattle.std.proofs.Common.{◌≡◌, ◌⊎◌, inl, inr, ℕ, ◌==◌, Bool, true, false, ◌&&◌, IsTrue, ℤ, pos, List, length, refl, sym, ap, ◌∙◌, subst, arith, rules}
-use Rattle.std.proofs.lemmas.Bool.Decides.{Decides-eqb, nat_tests}
+use Rattle.std.proofs.Common.{◌≡◌, ◌⊎◌, inl, inr, ℕ, ◌==◌, IsTrue, ℤ, refl, sym, ap, ◌∙◌, arith, rules}
+use Rattle.std.proofs.lemmas.Bool.Decides.{nat_tests}
 use Rattle.std.proofs.lemmas.Int.{ints}
 use Rattle.std.specs.Ordering.{int_eq}
-use Rattle.std.proofs.lemmas.List.{ext_get_or}
 use Rattle.tp_state.specs.declared.cell.Cell.{Cell}
 use Rattle.tp_state.specs.declared.cell.Cell.TheVariants.{Undef, Any, Known, Index, Count}
-use Rattle.tp_state.specs.declared.state.State.{State}
-use Rattle.tp_state.specs.CellRules.{cell_at, is_free}
-use Rattle.tp_state.specs.Order.{cell_below, join_cells, cells_agree, IsBelow, MayMeet, join, joined_cells}
-use Rattle.tp_state.proofs.OrderLemmas.{kind_below-self, kind_below-antisym, kind_below-trans, kind_below-join_left, kind_below-join_right, kind_below-least}
-use Rattle.tp_state.proofs.JoinLemmas.{length-joined, cell_at-joined}
+use Rattle.tp_state.specs.CellRules.{is_free}
+use Rattle.tp_state.specs.Order.{cell_below}
 
 pub same_int : (n m : ℤ) → IsTrue (int_eq n m) → n ≡ m
 same_int n m h = grind (arith, ints)

@@ -1,5 +1,5 @@
 -- The start of a run fits the first state.
-use Rattle.std.proofs.Common.{◌≡◌, ◌⊎◌, inl, inr, ℕ, ◌+◌, ◌-◌, zero, suc, ◌*◌, ◌/◌, ◌%◌, ◌<◌, ◌≤◌, ◌^◌, Bool, true, false, ℤ, pos, negsuc, ◌≤ℤ◌, List, ◌++◌, length, map, replicate, slice_index_or, Option, Some, None, All, refl, sym, [], ◌∷◌, nat_le, nat_lt, ◌&&◌, if◌then◌else◌, get_or, ap, ◌∙◌, subst, arith, rules, length-append}
+use Rattle.std.proofs.Common.{◌≡◌, ◌⊎◌, inl, inr, ℕ, ◌+◌, ◌-◌, zero, suc, ◌/◌, ◌%◌, ◌<◌, ◌≤◌, ◌^◌, Bool, true, false, pos, List, length, map, replicate, slice_index_or, Option, Some, None, All, refl, sym, [], ◌∷◌, nat_le, nat_lt, ◌&&◌, if◌then◌else◌, get_or, ap, ◌∙◌, subst, arith, length-append}
 use Rattle.std.proofs.lemmas.Int.{ints}
 use Rattle.std.proofs.lemmas.Bool.{cases_lt}
 use Rattle.std.proofs.lemmas.Option.{same_Some}
@@ -13,16 +13,15 @@ use Rattle.tp_image.specs.declared.image.Version.TheVariants.{One, Two}
 use Rattle.tp_image.specs.Image.{ImageValue, InRange, most_initial}
 use Rattle.tp_flow.specs.NestRanges.{ranges}
 use Rattle.tp_flow.specs.LoopsAround.{IsOutside}
-use Rattle.tp_step.specs.Memory.{Memory, word_at, with_bytes, with_cells}
+use Rattle.tp_step.specs.Memory.{with_bytes, with_cells}
 use Rattle.tp_step.specs.State.{mem_start}
 use Rattle.tp_step.specs.Runs.{start, first_words}
-use Rattle.tp_step.proofs.StartLemmas.{start_word, start_outside}
+use Rattle.tp_step.proofs.StartLemmas.{start_word}
 use Rattle.tp_state.specs.declared.cell.Cell.{Cell}
 use Rattle.tp_state.specs.declared.cell.Cell.TheVariants.{Undef, Known}
 use Rattle.tp_state.specs.CellRules.{cell_at, is_free}
 use Rattle.tp_state.specs.Entry.{first_cells, entry}
-use Rattle.tp_state.specs.Fits.{CellFits, WordsFit, LoopsFit, Fits, AreBytes, word_address}
-use Rattle.tp_state.specs.Fits.{InRange as ValueInRange}
+use Rattle.tp_state.specs.Fits.{CellFits, WordsFit, Fits}
 
 few : (version : Version) (n workspace : ℕ) → n ≤ most_initial version workspace → n ≤ workspace
 few One n workspace h = omega arith

@@ -1,7 +1,6 @@
 -- What fits, and what fits above it.
-use Rattle.std.proofs.Common.{◌≡◌, ◌⊎◌, inl, inr, ℕ, ◌+◌, ◌<◌, ◌≤◌, ◌^◌, nat_le, Bool, true, false, ◌&&◌, IsTrue, ℤ, pos, ◌≤ℤ◌, int_le, List, length, Option, Some, refl, sym, ap, ◌∙◌, subst, arith, rules}
+use Rattle.std.proofs.Common.{◌≡◌, inl, inr, ℕ, ◌+◌, Bool, false, ◌&&◌, IsTrue, ℤ, int_le, List, Option, sym, ap, ◌∙◌, subst, arith, rules}
 use Rattle.std.proofs.lemmas.Int.{ints}
-use Rattle.tp_decode.specs.Words.{signed}
 use Rattle.tp_image.specs.declared.image.LoopRow.{LoopRow}
 use Rattle.tp_image.specs.Image.{ImageValue}
 use Rattle.tp_step.specs.Memory.{Memory, word_at}
@@ -9,11 +8,10 @@ use Rattle.tp_step.specs.State.{State as Machine}
 use Rattle.tp_state.specs.declared.kind.Kind.{Kind}
 use Rattle.tp_state.specs.declared.kind.Kind.TheVariants as kind
 use Rattle.tp_state.specs.declared.cell.Cell.{Cell}
-use Rattle.tp_state.specs.declared.cell.Cell.TheVariants as cell
 use Rattle.tp_state.specs.declared.state.State.{State}
 use Rattle.tp_state.specs.CellRules.{cell_at, is_free}
 use Rattle.tp_state.specs.Order.{kind_below, cell_below, IsBelow}
-use Rattle.tp_state.specs.Fits.{InRange, KindFits, RegistersFit, CellFits, WordsFit, IsLive, LoopsFit, StandsAt, FitsAmong, word_address}
+use Rattle.tp_state.specs.Fits.{InRange, KindFits, CellFits, LoopsFit, StandsAt, FitsAmong, word_address}
 use Rattle.tp_state.proofs.OrderLemmas.{int_low, int_high, nat_low, nat_high}
 use Rattle.tp_state.proofs.CellOrder.{BelowWays, below_ways}
 

@@ -1,5 +1,5 @@
 -- The order of what is known is a partial order, and a join is the least of what is above both.
-use Rattle.std.proofs.Common.{◌≡◌, ℕ, ◌≤◌, ◌==◌, nat_le, nat_eq, min, max, Bool, true, false, ◌&&◌, IsTrue, ℤ, pos, negsuc, int_le, ◌≤ℤ◌, List, length, refl, sym, ap, ◌∙◌, arith, rules}
+use Rattle.std.proofs.Common.{◌≡◌, ℕ, ◌≤◌, nat_le, min, max, ◌&&◌, IsTrue, ℤ, int_le, ◌≤ℤ◌, refl, arith, rules}
 use Rattle.std.proofs.lemmas.Bool.Decides.{nat_tests}
 use Rattle.std.proofs.lemmas.Int.{ints, clamps}
 use Rattle.std.specs.Int.{int_min, int_max}

@@ -1,5 +1,5 @@
 -- What is made of the ends of ranges.
-use Rattle.std.proofs.Common.{◌≡◌, ℤ, ap, ◌∙◌, refl}
+use Rattle.std.proofs.Common.{◌≡◌, ℤ}
 use Rattle.tp_state.specs.declared.kind.Kind.{Kind}
 use Rattle.tp_state.specs.Kinds.{range, hull}
 

@@ -1,5 +1,5 @@
 -- Joins of cells, and of states: the least of what is above both.
-use Rattle.std.proofs.Common.{◌≡◌, ◌⊎◌, inl, inr, ℕ, ◌==◌, Bool, true, false, ◌&&◌, if◌then◌else◌, IsTrue, ℤ, pos, List, length, refl, sym, ap, ◌∙◌, subst, arith, rules}
+use Rattle.std.proofs.Common.{◌≡◌, ◌⊎◌, inl, inr, ℕ, ◌==◌, Bool, true, false, if◌then◌else◌, IsTrue, ℤ, List, length, refl, sym, ap, ◌∙◌, subst, rules}
 use Rattle.std.specs.Ordering.{int_eq}
 use Rattle.std.proofs.lemmas.List.{ext_get_or}
 use Rattle.tp_state.specs.declared.cell.Cell.{Cell}
@@ -7,7 +7,7 @@ use Rattle.tp_state.specs.declared.cell.Cell.TheVariants.{Undef, Any, Known, Ind
 use Rattle.tp_state.specs.declared.kind.Kind.{Kind}
 use Rattle.tp_state.specs.declared.state.State.{State}
 use Rattle.tp_state.specs.CellRules.{cell_at, is_free}
-use Rattle.tp_state.specs.Order.{cell_below, join_cells, cells_agree, IsBelow, MayMeet, join, joined_cells}
+use Rattle.tp_state.specs.Order.{cell_below, join_cells, cells_agree, IsBelow, MayMeet, join}
 use Rattle.tp_state.proofs.OrderLemmas.{kind_below-self, kind_below-antisym, kind_below-trans, kind_below-join_left, kind_below-join_right, kind_below-least}
 use Rattle.tp_state.proofs.CellOrder.{same_int, same_nat, int_self, nat_self, BelowWays, below_ways, cell_below-self, cell_below-trans, cell_below-antisym, free_below}
 use Rattle.tp_state.proofs.JoinLemmas.{length-joined, cell_at-joined}

@@ -1,5 +1,5 @@
 -- What is known of the workspace's words: reading and writing.
-use Rattle.std.specs.Prelude.{ℕ, ◌+◌, ◌-◌, ◌*◌, ◌/◌, Bool, true, false, not, if◌then◌else◌, ℤ, pos, ◌+ℤ◌, ◌-ℤ◌, List, ◌++◌, length, take, drop, slice_index_or, slice_get, slice_set, Result, Ok, Err}
+use Rattle.std.specs.Prelude.{ℕ, ◌+◌, Bool, true, false, if◌then◌else◌, pos, List, ◌++◌, length, take, drop, slice_index_or, slice_get, Result, Ok, Err}
 use Rattle.std.specs.List.{list_all}
 use Rattle.std.specs.Ordering.{int_eq}
 use Rattle.tp_image.specs.declared.image.LoopRow.{LoopRow}
@@ -10,7 +10,7 @@ use Rattle.tp_state.specs.declared.cell.Cell.{Cell}
 use Rattle.tp_state.specs.declared.cell.Cell.TheVariants.{Undef, Any, Known, Index, Count}
 use Rattle.tp_state.specs.declared.fault.StateCode.{StateCode}
 use Rattle.tp_state.specs.declared.fault.StateCode.TheVariants.{S4}
-use Rattle.tp_state.specs.Answer.{◌>>=◌, ◌>>◌, found}
+use Rattle.tp_state.specs.Answer.{◌>>=◌, found}
 use Rattle.tp_state.specs.Kinds.{full, exactly}
 
 abbrev pub cell_at : List Cell → ℕ → Cell

@@ -1,5 +1,5 @@
 -- What is asked of a state before a rule is applied to it.
-use Rattle.std.specs.Prelude.{◌≡◌, ℕ, ◌<◌, ◌≤◌, length, All}
+use Rattle.std.specs.Prelude.{◌≡◌, ◌<◌, ◌≤◌, length, All}
 use Rattle.tp_image.specs.Image.{ImageValue}
 use Rattle.tp_flow.specs.NestKept.{IsGood}
 use Rattle.tp_state.specs.declared.state.State.{State}

@@ -1,5 +1,5 @@
 -- The order of what is known, and joins: of two things that may be known, what holds of both.
-use Rattle.std.specs.Prelude.{◌≡◌, ◌≢◌, ℕ, ◌==◌, nat_le, min, max, Bool, true, false, ◌&&◌, if◌then◌else◌, IsTrue, pos, negsuc, ℤ, int_le, List, map, length, Result, Ok, Err}
+use Rattle.std.specs.Prelude.{◌≡◌, ◌≢◌, ℕ, ◌==◌, nat_le, min, max, Bool, true, false, ◌&&◌, if◌then◌else◌, IsTrue, int_le, List, map, length, Result, Ok}
 use Rattle.std.specs.Ordering.{int_eq}
 use Rattle.std.specs.Int.{int_min, int_max}
 use Rattle.std.specs.List.{zip}
@@ -10,7 +10,7 @@ use Rattle.tp_state.specs.declared.cell.Cell.TheVariants as cell
 use Rattle.tp_state.specs.declared.state.State.{State}
 use Rattle.tp_state.specs.declared.fault.StateCode.{StateCode}
 use Rattle.tp_state.specs.declared.fault.StateCode.TheVariants.{S6, S9}
-use Rattle.tp_state.specs.Answer.{◌>>=◌, ◌>>◌, unless}
+use Rattle.tp_state.specs.Answer.{◌>>◌, unless}
 use Rattle.tp_state.specs.CellRules.{cell_at, is_free}
 
 -- ---- kinds

@@ -5,7 +5,7 @@
 -- S5. The effects of the instructions stand in tp_step/specs/Effects.antt, in the same order.
 --
 -- Sums of a word's number and an operand are whole numbers, never wrapped.
-use Rattle.std.specs.Prelude.{ℕ, ◌+◌, ◌-◌, ◌*◌, ◌/◌, ◌%◌, ◌^◌, ◌==◌, Bool, true, false, ◌&&◌, ◌||◌, not, nat_le, nat_lt, if◌then◌else◌, ℤ, pos, negsuc, ◌+ℤ◌, ◌-ℤ◌, ◌*ℤ◌, int_le, int_lt, int_div, List, [], ◌∷◌, map, replicate, length, slice_get, slice_set, Option, Some, None, Result, Ok, Err}
+use Rattle.std.specs.Prelude.{ℕ, ◌+◌, ◌-◌, ◌*◌, ◌/◌, ◌%◌, ◌^◌, ◌==◌, Bool, ◌&&◌, ◌||◌, not, nat_le, nat_lt, if◌then◌else◌, ℤ, pos, negsuc, ◌+ℤ◌, ◌-ℤ◌, ◌*ℤ◌, int_le, int_lt, int_div, List, map, replicate, slice_get, slice_set, Option, Result, Ok, Err}
 use Rattle.std.specs.Ordering.{int_eq}
 use Rattle.std.specs.Option.{option_and_then}
 use Rattle.tp_decode.specs.Words.{signed}
@@ -14,7 +14,7 @@ use Rattle.tp_decode.specs.declared.instr.Instr.TheVariants.{Jump, Ldlp, Ldnl, L
 use Rattle.tp_image.specs.declared.image.LoopRow.{LoopRow}
 use Rattle.tp_image.specs.Image.{ImageValue}
 use Rattle.tp_flow.specs.declared.edge.Edge.{Edge}
-use Rattle.tp_flow.specs.declared.edge.Edge.TheVariants.{Next, Taken, Back, Out}
+use Rattle.tp_flow.specs.declared.edge.Edge.TheVariants.{Taken, Out}
 use Rattle.tp_flow.specs.NestRanges.{ranges, number_ended_at}
 use Rattle.tp_step.specs.Numbers.{least_integer}
 use Rattle.tp_step.specs.Effects.{link0_output, link1_output, link0_input, has_move}

@@ -1,13 +1,12 @@
 -- Small states and images to try the rules on.
-use Rattle.std.specs.Prelude.{ℕ, ◌-◌, ◌^◌, ◌++◌, ℤ, pos, negsuc, List, [], ◌∷◌, replicate, Result, Ok}
+use Rattle.std.specs.Prelude.{ℕ, ◌-◌, ◌^◌, ◌++◌, ℤ, pos, negsuc, List, [], ◌∷◌, replicate, Result}
 use Rattle.tp_decode.specs.declared.instr.Instr.{Instr}
 use Rattle.tp_image.specs.declared.image.Version.{Version}
-use Rattle.tp_image.specs.declared.image.Version.TheVariants.{One, Two}
+use Rattle.tp_image.specs.declared.image.Version.TheVariants.{One}
 use Rattle.tp_image.specs.Image.{ImageValue}
-use Rattle.tp_flow.specs.declared.edge.Edge.{Edge}
 use Rattle.tp_flow.specs.declared.edge.Edge.TheVariants.{Next}
 use Rattle.tp_state.specs.declared.kind.Kind.{Kind}
-use Rattle.tp_state.specs.declared.kind.Kind.TheVariants.{Undef, Int}
+use Rattle.tp_state.specs.declared.kind.Kind.TheVariants.{Int}
 use Rattle.tp_state.specs.declared.cell.Cell.{Cell}
 use Rattle.tp_state.specs.declared.cell.Cell.TheVariants as cell
 use Rattle.tp_state.specs.declared.state.State.{State}

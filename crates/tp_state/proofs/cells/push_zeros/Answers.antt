@@ -1,5 +1,5 @@
 use Rattle.std.proofs.Common.{arith, ◌≡◌, ◌≤◌, length}
-use Rattle.tp_state.proofs.EntryLemmas.{zeros_none, zeros_more}
+use Rattle.tp_state.proofs.EntryLemmas.{zeros_more}
 use Rattle.tp_state.proofs.cells.push_zeros.Goals as goal
 
 pub loop-zero-preserved : goal.loop-zero-preserved

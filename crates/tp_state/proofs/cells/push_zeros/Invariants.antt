@@ -1,4 +1,4 @@
-use Rattle.std.proofs.Common.{◌≡◌, ◌++◌, ◌-◌, ◌≤◌, length, pos, replicate}
+use Rattle.std.proofs.Common.{◌≡◌, ◌++◌, ◌-◌, length, pos, replicate}
 use Rattle.tp_state.specs.declared.cell.Cell.TheVariants.{Known}
 use Rattle.tp_state.proofs.cells.push_zeros.Given as goal
 
