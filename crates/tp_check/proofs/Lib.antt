@@ -1,0 +1,2 @@
+mod PassLemmas
+mod RespectLemmas

@@ -1,0 +1,78 @@
+-- The passes: tables that are made from the first state, edge by edge, until a pass changes nothing.
+use Rattle.std.specs.Prelude.{◌≡◌, ℕ, zero, suc, List, [], ◌∷◌, map, Option, Some, None, Result, Ok, Err}
+use Rattle.std.specs.List.{flat_map}
+use Rattle.tp_decode.specs.declared.placed.Placed.{Placed}
+use Rattle.tp_decode.specs.Cutting.{Cut, placed_from}
+use Rattle.tp_flow.specs.declared.edge.Edge.{Edge}
+use Rattle.tp_flow.specs.NestRanges.{ranges}
+use Rattle.tp_flow.specs.Edges.{target}
+use Rattle.tp_image.specs.Image.{ImageValue}
+use Rattle.tp_state.specs.declared.state.State.{State}
+use Rattle.tp_state.specs.declared.fault.StateCode.{StateCode}
+use Rattle.tp_state.specs.declared.fault.StateFault.{StateFault}
+use Rattle.tp_state.specs.declared.fault.StateFault.TheVariants.{Refused}
+use Rattle.tp_state.specs.Answer.{◌>>=◌}
+use Rattle.tp_state.specs.Order.{meeting}
+use Rattle.tp_state.specs.Entry.{entry}
+use Rattle.tp_state.specs.After.{after}
+use Rattle.tp_check.specs.Tables.{Table, no_states, with_state, asked}
+
+-- ---- one edge
+
+-- a refusal has its place
+abbrev pub placed : {A : Type 0} → ℕ → Result A StateCode → Result A StateFault
+placed place (Ok x) = Ok x
+placed place (Err code) = Err (Refused code place)
+
+-- what is known where a state comes to another: its first state, or what holds of both
+abbrev pub met : Option State → State → Result State StateCode
+met None s = Ok s
+met (Some t) s = meeting t s
+
+-- a state comes to an edge's target, if it has one: S6 and S9 at the target
+unfoldable pub enter : Option ℕ → State → Table → Result Table StateFault
+enter None s table = Ok table
+enter (Some to) s table = do
+  t ← placed to (met (table to) s)
+  Ok (with_state to t table)
+
+-- what is known after an instruction comes to an edge's target, if there is a state before it
+unfoldable pub go_along : ImageValue → Placed → Edge → Option State → Table → Result Table StateFault
+go_along image p edge None table = Ok table
+go_along image p edge (Some s) table = do
+  t ← placed p.at (after image p.at p.next p.instr edge s)
+  enter (target (ranges image.loops) p.at p.next p.instr edge) t table
+
+-- ---- one pass
+
+-- the edges of a code: by rising address, and those of an instruction in their order
+abbrev pub edges_in : List Cut → List (Placed × Edge)
+edges_in cuts = flat_map (λ p. map (λ edge. (p, edge)) (asked p.instr)) (placed_from 0 cuts)
+
+-- one edge after another
+abbrev pub along : ImageValue → List (Placed × Edge) → Table → Result Table StateFault
+along image [] table = Ok table
+along image (e ∷ more) table = do
+  table ← go_along image e.0 e.1 (table e.0.at) table
+  along image more table
+
+abbrev pub pass : ImageValue → List Cut → Table → Result Table StateFault
+pass image cuts table = along image (edges_in cuts) table
+
+-- ---- the passes
+
+-- at first the first instruction alone has a state
+abbrev pub first_table : ImageValue → Table
+first_table image = with_state 0 (entry image) no_states
+
+-- the table after so many passes; the first refusal ends them
+abbrev pub passes : ImageValue → List Cut → ℕ → Result Table StateFault
+passes image cuts zero = Ok (first_table image)
+passes image cuts (suc n) = passes image cuts n >>= pass image cuts
+
+-- The verdict of the passes is what some number of them comes to and one more leaves as it is: a refusal, or a table that
+-- a pass does not change.
+pub record IsVerdict (image : ImageValue) (cuts : List Cut) (verdict : Result Table StateFault) : Type 0 where
+  pub number : ℕ
+  pub comes : passes image cuts number ≡ verdict
+  pub stays : (verdict >>= pass image cuts) ≡ verdict
