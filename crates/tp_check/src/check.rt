@@ -6,7 +6,6 @@ ghost use Rattle.tp_state.specs.Conditions.{IsPlaced, HasGoodLoops};
 ghost use Rattle.tp_check.specs.Tables.{asked, table_of, HasPlacedStates};
 ghost use Rattle.tp_check.specs.EdgesRespect.{HasAbove, Respects, RespectsFrom, EveryEdgeRespects};
 
-use crate::order::is_below;
 use crate::table::Table;
 use std::alloc::{AllocError, Global};
 use tp_decode::{Instr, Listing};
@@ -32,7 +31,7 @@ pub fn every_edge_respects(
         return Ok(false);
     }
     for at in 0..table.len() {
-        if !edges_from_respect(image, listing, nest, table, at)? {
+        if !edges_from_respect(alloc, image, listing, nest, table, at)? {
             return Ok(false);
         }
     }
@@ -41,6 +40,7 @@ pub fn every_edge_respects(
 
 /// Whether the edges from an address do.
 fn edges_from_respect(
+    alloc: Global,
     image: &Image,
     listing: &Listing,
     nest: &Nest,
@@ -54,7 +54,7 @@ fn edges_from_respect(
 {
     match (table.at(at), listing.at(at), listing.next(at)) {
         (Some(state), Some(instr), Some(next)) => {
-            edges_respect(image, nest, table, state, at, next, instr)
+            edges_respect(alloc, image, nest, table, state, at, next, instr)
         }
         _ => Ok(true),
     }
@@ -62,6 +62,7 @@ fn edges_from_respect(
 
 /// Whether the edges of an instruction do, from a state before it.
 fn edges_respect(
+    alloc: Global,
     image: &Image,
     nest: &Nest,
     table: &Table,
@@ -78,7 +79,7 @@ fn edges_respect(
 {
     let ways = asked(instr);
     for edge in ways {
-        if !edge_respects(image, nest, table, state, at, next, instr, *edge)? {
+        if !edge_respects(alloc, image, nest, table, state, at, next, instr, *edge)? {
             return Ok(false);
         }
     }
@@ -87,6 +88,7 @@ fn edges_respect(
 
 /// Whether an edge does.
 fn edge_respects(
+    alloc: Global,
     image: &Image,
     nest: &Nest,
     table: &Table,
@@ -102,7 +104,7 @@ fn edge_respects(
     requires state { IsPlaced image.now state.now }
     ensures { IfOk result (λ answer. IsTrue answer ↔ Respects image.now (table_of table.now) at next instr state.now edge) }
 {
-    let mut outcome = state.copy_of()?;
+    let mut outcome = state.copy_of(alloc)?;
     if outcome.go_on(at, next, instr, edge, image, nest).is_err() {
         return Ok(false);
     }
@@ -119,7 +121,7 @@ fn has_above(image: &Image, table: &Table, at: usize, state: &State) -> bool
     ensures { IsTrue result ↔ HasAbove (table_of table.now) at state.now }
 {
     match table.at(at) {
-        Some(above) => is_below(state, above, image.workspace as usize),
+        Some(above) => state.is_below(above),
         None => false,
     }
 }

@@ -6,7 +6,6 @@
 
 mod check;
 pub mod laws;
-mod order;
 mod table;
 
 pub use check::every_edge_respects;
