@@ -10,7 +10,7 @@ ghost use Rattle.tp_image.specs.Image.{ImageValue};
 ghost use Rattle.tp_step.specs.State.{State};
 ghost use Rattle.tp_step.specs.Effects.{effect};
 ghost use Rattle.tp_step.specs.Steps.{performed, step, steps, IsStuck, Reaches};
-ghost use Rattle.tp_step.specs.Runs.{start, Run, RunsAlone};
+ghost use Rattle.tp_step.specs.Runs.{start, Run, RunsAlone, HasSent};
 
 /// A state has at most one next state.
 pub fn one_next_state()
@@ -72,4 +72,10 @@ pub fn never_stuck_before_the_end()
 pub fn result_has_its_length()
     ensures { (image : ImageValue) (packet : List ℕ) (run : Run) → RunsAlone image packet run →
         length run.result ≡ 4 * image.result }
+{}
+
+/// Nothing is sent on link 0 before the result, which is sent whole.
+pub fn the_result_is_sent_whole()
+    ensures { (image : ImageValue) (packet : List ℕ) (s : State) →
+        Reaches image (start image packet) s → HasSent image s.phase s.sent }
 {}
