@@ -1,4 +1,4 @@
-//! Laws of the bound: each function's contract is the law.
+//! Laws of the bound, and of answers: each function's contract is the law.
 
 ghost use Rattle.std.specs.Prelude.{◌≡◌, ◌≤◌, ◌<◌, ◌+◌, ℕ, List, [], ◌∷◌, length, Some, IsTrue};
 ghost use Rattle.tp_image.specs.declared.image.LoopRow.{LoopRow};
@@ -13,7 +13,17 @@ ghost use Rattle.tp_accept.specs.Bound.{bound, costs_of};
 ghost use Rattle.tp_accept.specs.Equations.{AreCosts};
 ghost use Rattle.tp_accept.specs.Measure.{Counts, measure, AreCountsAfter, HasTurns};
 ghost use Rattle.tp_accept.specs.Walks.{Walk};
+ghost use Rattle.tp_accept.specs.Verdict.{Answer, IsAnswer};
 ghost use Rattle.tp_accept.specs.Workers.{bound_of_bytes, measure_of_bytes, two_and_three, row, increment, sum_to, ten, ten_thousand, loop_in_a_loop, outer_and_inner, early_exit, two_ways, neighbours};
+
+use tp_check::laws::passes_have_one_verdict;
+
+/// One text has one answer: it is not both allowed and refused, nor allowed or refused in two ways.
+pub fn one_text_has_one_answer()
+    ensures { (text : List ℕ) (answer other : Answer) → IsAnswer text answer → IsAnswer text other → answer ≡ other }
+{
+    passes_have_one_verdict();
+}
 
 /// The costs of a code meet the equations of the bound.
 pub fn costs_meet_their_equations()

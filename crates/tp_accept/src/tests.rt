@@ -2,7 +2,8 @@
 
 mod samples;
 
-use super::*;
+use crate::bound::budget;
+use crate::refusal::{Refusal, RefusalCode};
 use samples::*;
 use std::alloc::{AllocError, Global};
 use std::process::Abort;
@@ -11,7 +12,7 @@ use tp_decode::decode;
 use tp_image::read_image;
 
 /// The budget of an image.
-fn budget_of(rt: &(impl Abort + AllocGlobal), bytes: &[u8]) -> Result<u32, BoundFault> {
+fn budget_of(rt: &(impl Abort + AllocGlobal), bytes: &[u8]) -> Result<u32, Refusal> {
     let image = read_image(rt.alloc(), bytes).expect(rt, "an image");
     let listing = decode(rt.alloc(), &image.code).expect(rt, "a listing");
     budget(rt.alloc(), &image, &listing)
@@ -19,12 +20,12 @@ fn budget_of(rt: &(impl Abort + AllocGlobal), bytes: &[u8]) -> Result<u32, Bound
 
 #[test]
 fn finds_budgets(rt: HostRuntime) {
-    let samples: [(&[u8], Result<u32, BoundFault>); 8] = [
+    let samples: [(&[u8], Result<u32, Refusal>); 8] = [
         (INCREMENT, Ok(16)),
         (SUM_TO_TEN, Ok(99)),
         (ONE_TURN, Ok(27)),
         (SUM_TO_TEN_THOUSAND, Ok(80_022)),
-        (LOOP_IN_A_LOOP, Err(BoundFault::B1)),
+        (LOOP_IN_A_LOOP, Err(TOO_LONG)),
         (TEN_TIMES_TEN_THOUSAND, Ok(400_130)),
         (EARLY_EXIT, Ok(17)),
         (TWO_WAYS, Ok(20)),
@@ -62,6 +63,6 @@ fn finds_budgets_of_long_codes(rt: HostRuntime) -> Result<(), Fail> {
 #[test]
 fn prints_faults(rt: HostRuntime) -> Result<(), Fail> {
     let fault = budget_of(&rt, LOOP_IN_A_LOOP).err().ok_or("a fault")?;
-    assert_eq!(rt; format!(in rt.alloc(); "{fault}")?.as_str(), "B1 at 0");
+    assert_eq!(rt; format!(in rt.alloc(); "{fault}")?.as_str(), "B1 0");
     Ok(())
 }

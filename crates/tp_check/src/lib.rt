@@ -6,7 +6,9 @@
 
 mod check;
 pub mod laws;
+mod stub;
 mod table;
 
 pub use check::every_edge_respects;
+pub use stub::check_states;
 pub use table::Table;
