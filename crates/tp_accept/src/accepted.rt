@@ -32,14 +32,16 @@ impl Accepted {
 
     /// How many bytes a packet has.
     pub fn packet_bytes(&self) -> usize
-        ensures { result ≡ 4 * self.now.image.packet }
+        ensures value { result ≡ 4 * self.now.image.packet }
+        ensures most { result ≤ 256 }
     {
         WORD_BYTES * self.image.packet as usize
     }
 
     /// How many bytes a result has.
     pub fn result_bytes(&self) -> usize
-        ensures { result ≡ 4 * self.now.image.result }
+        ensures value { result ≡ 4 * self.now.image.result }
+        ensures most { result ≤ 256 }
     {
         WORD_BYTES * self.image.result as usize
     }

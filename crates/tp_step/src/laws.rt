@@ -10,7 +10,7 @@ ghost use Rattle.tp_image.specs.Image.{ImageValue};
 ghost use Rattle.tp_step.specs.State.{State};
 ghost use Rattle.tp_step.specs.Effects.{effect};
 ghost use Rattle.tp_step.specs.Steps.{performed, step, steps, IsStuck, Reaches};
-ghost use Rattle.tp_step.specs.Runs.{start, Run, RunsAlone, HasSent};
+ghost use Rattle.tp_step.specs.Runs.{start, Run, RunsAlone, HasExchanged};
 
 /// A state has at most one next state.
 pub fn one_next_state()
@@ -74,8 +74,8 @@ pub fn result_has_its_length()
         length run.result ≡ 4 * image.result }
 {}
 
-/// Nothing is sent on link 0 before the result, which is sent whole.
-pub fn the_result_is_sent_whole()
+/// A worker receives its packet whole, and sends nothing on link 0 before its result, which it sends whole.
+pub fn packet_and_result_go_whole()
     ensures { (image : ImageValue) (packet : List ℕ) (s : State) →
-        Reaches image (start image packet) s → HasSent image s.phase s.sent }
+        Reaches image (start image packet) s → HasExchanged image packet s.phase s.to_come s.sent }
 {}

@@ -1,0 +1,1 @@
+-- What refusals are to a handling.

@@ -1,0 +1,145 @@
+//! The handling of one packet.
+
+ghost use Rattle.std.specs.Prelude.{◌≡◌, ℕ, ◌*◌, ◌+◌, ◌≤◌, ◌<◌, length, [], slice_get, OnOk, IfOk, IfErr, Ok, Err, Some};
+ghost use Rattle.tp_link.specs.Device.{failures};
+ghost use Rattle.tp_machine.specs.Devices.{devices};
+ghost use Rattle.tp_collect.specs.Collected.{IsResult};
+ghost use Rattle.tp_image.specs.Image.{ImageValue};
+ghost use Rattle.tp_farm.specs.Settings.{SameDevice, SameSettings, Rises, failures_of};
+ghost use Rattle.tp_farm.specs.Losses.{HasCause, most_trace};
+ghost use Rattle.tp_farm.specs.Stages.{of_links, IsReady, HasGiven};
+ghost use Rattle.tp_farm.specs.Handled.{batch_of, on_link, HasReason, failed_in};
+
+use crate::job::Job;
+use arrayvec::ArrayVec;
+use tp_accept::Accepted;
+use tp_board::Packet;
+use tp_collect::Done;
+use tp_link::{DeviceFault, Link, LinkDevice, LinkFault, Links};
+use tp_machine::{Machine, Outcome, RunFault};
+
+/// The most bytes that one call receives.
+const MOST_RECEIVED: usize = 256;
+
+/// A device's refusal, with its link.
+fn of_link<T>(link: Link, answer: Result<T, DeviceFault>) -> Result<T, RunFault>
+    ensures { result ≡ on_link link answer }
+{
+    match answer {
+        Ok(x) => Ok(x),
+        Err(code) => Err(RunFault::Link(LinkFault { link, code })),
+    }
+}
+
+/// Receives all that a device holds.
+fn empty<D: LinkDevice>(device: &mut D) -> Result<(), DeviceFault>
+    ensures settings { SameDevice (D.state device.old) (D.state device.new) }
+    ensures rises { (D.state device.new).faults ≡ (D.state device.old).faults + failures result }
+    ensures emptied { OnOk result ((D.state device.new).held ≡ []) }
+    ensures cause { IfErr result (HasCause (D.state device.old) ⊥) }
+{
+    let mut scratch = [0u8; MOST_RECEIVED];
+    while device.held() > 0 {
+        let n = device.held().min(MOST_RECEIVED);
+        device.receive(&mut scratch[..n])?;
+    }
+    Ok(())
+}
+
+/// Empties the three devices, and sends a packet to the source.
+fn prepare<D: LinkDevice>(links: &mut Links<D>, packet: &Packet) -> Result<(), RunFault>
+    ensures settings { SameSettings (of_links D.state links.old) (of_links D.state links.new) }
+    ensures rises { Rises (of_links D.state links.old) (of_links D.state links.new) (λ which. failed_in which result) }
+    ensures ready { OnOk result (IsReady packet.now.items (of_links D.state links.new)) }
+    ensures reason { (image : ImageValue) (budget : ℕ) → length packet.now.items ≡ 4 * image.packet →
+        IfErr result (HasReason image budget packet.now.items (of_links D.state links.old)) }
+{
+    of_link(Link::Source, empty(&mut links.source))?;
+    of_link(Link::Sink, empty(&mut links.sink))?;
+    of_link(Link::Trace, empty(&mut links.trace))?;
+    of_link(Link::Source, links.source.send(packet.as_slice()))
+}
+
+/// Runs the worker on the packet that the source holds, where the others hold nothing.
+fn run_on<D: LinkDevice>(
+    machine: &mut Machine,
+    accepted: &Accepted,
+    packet: &Packet,
+    links: &mut Links<D>,
+) -> Result<Outcome, RunFault>
+    requires ready { IsReady packet.now.items (of_links D.state links.old) }
+    requires length { length packet.now.items ≡ 4 * accepted.now.image.packet }
+    ensures settings { SameSettings (of_links D.state links.old) (of_links D.state links.new) }
+    ensures rises { Rises (of_links D.state links.old) (of_links D.state links.new) (λ which. failed_in which result) }
+    ensures given { IfOk result (λ outcome. HasGiven accepted.now.image packet.now.items outcome (of_links D.state links.new)) }
+    ensures reason { IfErr result (HasReason accepted.now.image accepted.now.budget packet.now.items (of_links D.state links.old)) }
+{
+    let _ = packet;
+    machine.run(accepted, links)
+}
+
+/// The n bytes that a device holds.
+fn received<D: LinkDevice>(device: &mut D, n: usize) -> Result<Packet, DeviceFault>
+    requires count { n ≡ length (D.state device.old).held }
+    requires most { n ≤ 256 }
+    ensures settings { SameDevice (D.state device.old) (D.state device.new) }
+    ensures rises { (D.state device.new).faults ≡ (D.state device.old).faults + failures_of result }
+    ensures bytes { IfOk result (λ bytes. bytes.items ≡ (D.state device.old).held) }
+    ensures cause { IfErr result (HasCause (D.state device.old) ⊥) }
+{
+    let mut bytes = [0u8; MOST_RECEIVED];
+    if n > 0 {
+        device.receive(&mut bytes[..n])?;
+    }
+    Ok(ArrayVec::try_from(&bytes[..n]).unwrap())
+}
+
+/// What a device holds, where that is no more than a trace may have.
+fn trace_held<D: LinkDevice>(device: &mut D) -> Result<Packet, DeviceFault>
+    ensures settings { SameDevice (D.state device.old) (D.state device.new) }
+    ensures rises { (D.state device.new).faults ≡ (D.state device.old).faults + failures_of result }
+    ensures bytes { IfOk result (λ bytes. bytes.items ≡ (D.state device.old).held) }
+    ensures cause { IfErr result (HasCause (D.state device.old) (most_trace < length (D.state device.old).held)) }
+{
+    let n = device.held();
+    if n > MOST_RECEIVED {
+        return Err(DeviceFault::Full);
+    }
+    received(device, n)
+}
+
+/// Runs the worker on the packet of a number, over the member's devices: they are emptied, the packet is sent to the
+/// source, the worker runs, and the result and the trace are received. The first refusal ends it. A trace of more than
+/// 256 bytes is refused as K2 of the trace.
+pub(crate) fn handle<D: LinkDevice>(
+    machine: &mut Machine,
+    job: &Job<'_>,
+    number: u32,
+    packet: &Packet,
+    links: &mut Links<D>,
+) -> Result<Done, RunFault>
+    requires packet { slice_get (batch_of job.now).packets number ≡ Some packet.now.items }
+    requires length { length packet.now.items ≡ 4 * job.now.image.now.image.packet }
+    ensures settings { SameSettings (of_links D.state links.old) (of_links D.state links.new) }
+    ensures rises { Rises (of_links D.state links.old) (of_links D.state links.new) (λ which. failed_in which result) }
+    ensures done { IfOk result (IsResult (batch_of job.now) number) }
+    ensures reason { IfErr result (HasReason job.now.image.now.image job.now.image.now.budget packet.now.items (of_links D.state links.old)) }
+{
+    prepare(links, packet)?;
+    let outcome = run_on(machine, job.image, packet, links)?;
+    let result_bytes = of_link(
+        Link::Sink,
+        received(&mut links.sink, job.image.result_bytes()),
+    )?;
+    let trace = of_link(Link::Trace, trace_held(&mut links.trace))?;
+    Ok(Done::new(
+        job.batch,
+        job.image.image(),
+        number,
+        packet,
+        result_bytes,
+        outcome.error,
+        outcome.steps,
+        trace,
+    ))
+}

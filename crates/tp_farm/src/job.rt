@@ -1,0 +1,14 @@
+//! What all members work on.
+
+use tp_accept::Accepted;
+use tp_board::Packet;
+
+/// One batch: an accepted image, and the packets that its worker is to run on.
+#[derive(Clone, Copy)]
+pub struct Job<'j> {
+    /// The batch's number, which its results carry.
+    pub batch: u64,
+    pub image: &'j Accepted,
+    /// In order of number, from 0.
+    pub packets: &'j [Packet],
+}
