@@ -4,10 +4,9 @@ ghost use Rattle.std.specs.Prelude.{◌≡◌, ℕ, ◌*◌, ◌+◌, ◌≤◌,
 ghost use Rattle.tp_link.specs.Device.{failures};
 ghost use Rattle.tp_machine.specs.Devices.{devices};
 ghost use Rattle.tp_collect.specs.Collected.{IsResult};
-ghost use Rattle.tp_image.specs.Image.{ImageValue};
 ghost use Rattle.tp_farm.specs.Settings.{SameDevice, SameSettings, Rises, failures_of};
 ghost use Rattle.tp_farm.specs.Losses.{HasCause, most_trace};
-ghost use Rattle.tp_farm.specs.Stages.{of_links, IsReady, HasGiven};
+ghost use Rattle.tp_farm.specs.Stages.{of_links, IsReady, HasGiven, HasTraced};
 ghost use Rattle.tp_farm.specs.Handled.{batch_of, on_link, HasReason, failed_in};
 
 use crate::job::Job;
@@ -47,12 +46,16 @@ fn empty<D: LinkDevice>(device: &mut D) -> Result<(), DeviceFault>
 }
 
 /// Empties the three devices, and sends a packet to the source.
-fn prepare<D: LinkDevice>(links: &mut Links<D>, packet: &Packet) -> Result<(), RunFault>
+fn prepare<D: LinkDevice>(
+    _accepted: &Accepted,
+    packet: &Packet,
+    links: &mut Links<D>,
+) -> Result<(), RunFault>
+    requires { length packet.now.items ≡ 4 * _accepted.now.image.packet }
     ensures settings { SameSettings (of_links D.state links.old) (of_links D.state links.new) }
     ensures rises { Rises (of_links D.state links.old) (of_links D.state links.new) (λ which. failed_in which result) }
     ensures ready { OnOk result (IsReady packet.now.items (of_links D.state links.new)) }
-    ensures reason { (image : ImageValue) (budget : ℕ) → length packet.now.items ≡ 4 * image.packet →
-        IfErr result (HasReason image budget packet.now.items (of_links D.state links.old)) }
+    ensures reason { IfErr result (HasReason _accepted.now.image _accepted.now.budget packet.now.items (of_links D.state links.old)) }
 {
     of_link(Link::Source, empty(&mut links.source))?;
     of_link(Link::Sink, empty(&mut links.sink))?;
@@ -64,17 +67,16 @@ fn prepare<D: LinkDevice>(links: &mut Links<D>, packet: &Packet) -> Result<(), R
 fn run_on<D: LinkDevice>(
     machine: &mut Machine,
     accepted: &Accepted,
-    packet: &Packet,
+    _packet: &Packet,
     links: &mut Links<D>,
 ) -> Result<Outcome, RunFault>
-    requires ready { IsReady packet.now.items (of_links D.state links.old) }
-    requires length { length packet.now.items ≡ 4 * accepted.now.image.packet }
+    requires ready { IsReady _packet.now.items (of_links D.state links.old) }
+    requires length { length _packet.now.items ≡ 4 * accepted.now.image.packet }
     ensures settings { SameSettings (of_links D.state links.old) (of_links D.state links.new) }
     ensures rises { Rises (of_links D.state links.old) (of_links D.state links.new) (λ which. failed_in which result) }
-    ensures given { IfOk result (λ outcome. HasGiven accepted.now.image packet.now.items outcome (of_links D.state links.new)) }
-    ensures reason { IfErr result (HasReason accepted.now.image accepted.now.budget packet.now.items (of_links D.state links.old)) }
+    ensures given { IfOk result (λ outcome. HasGiven accepted.now.image _packet.now.items outcome (of_links D.state links.new)) }
+    ensures reason { IfErr result (HasReason accepted.now.image accepted.now.budget _packet.now.items (of_links D.state links.old)) }
 {
-    let _ = packet;
     machine.run(accepted, links)
 }
 
@@ -94,23 +96,32 @@ fn received<D: LinkDevice>(device: &mut D, n: usize) -> Result<Packet, DeviceFau
     Ok(ArrayVec::try_from(&bytes[..n]).unwrap())
 }
 
-/// What a device holds, where that is no more than a trace may have.
-fn trace_held<D: LinkDevice>(device: &mut D) -> Result<Packet, DeviceFault>
-    ensures settings { SameDevice (D.state device.old) (D.state device.new) }
-    ensures rises { (D.state device.new).faults ≡ (D.state device.old).faults + failures_of result }
-    ensures bytes { IfOk result (λ bytes. bytes.items ≡ (D.state device.old).held) }
-    ensures cause { IfErr result (HasCause (D.state device.old) (most_trace < length (D.state device.old).held)) }
+/// The trace of a packet that was run, where that is no more than a trace may have.
+fn trace_held<D: LinkDevice>(
+    _accepted: &Accepted,
+    _packet: &Packet,
+    links: &mut Links<D>,
+) -> Result<Packet, RunFault>
+    requires { HasTraced _accepted.now.image _packet.now.items (D.state links.old.trace).held }
+    ensures settings { SameSettings (of_links D.state links.old) (of_links D.state links.new) }
+    ensures rises { Rises (of_links D.state links.old) (of_links D.state links.new) (λ which. failed_in which result) }
+    ensures bytes { IfOk result (λ bytes. bytes.items ≡ (D.state links.old.trace).held) }
+    ensures reason { IfErr result (HasReason _accepted.now.image _accepted.now.budget _packet.now.items (of_links D.state links.old)) }
 {
-    let n = device.held();
+    let n = links.trace.held();
     if n > MOST_RECEIVED {
-        return Err(DeviceFault::Full);
+        return Err(RunFault::Link(LinkFault {
+            link: Link::Trace,
+            code: DeviceFault::Full,
+        }));
     }
-    received(device, n)
+    of_link(Link::Trace, received(&mut links.trace, n))
 }
 
 /// Runs the worker on the packet of a number, over the member's devices: they are emptied, the packet is sent to the
 /// source, the worker runs, and the result and the trace are received. The first refusal ends it. A trace of more than
 /// 256 bytes is refused as K2 of the trace.
+#[tactic(auto, using(crate::proofs::Refusals::same_reason))]
 pub(crate) fn handle<D: LinkDevice>(
     machine: &mut Machine,
     job: &Job<'_>,
@@ -125,13 +136,13 @@ pub(crate) fn handle<D: LinkDevice>(
     ensures done { IfOk result (IsResult (batch_of job.now) number) }
     ensures reason { IfErr result (HasReason job.now.image.now.image job.now.image.now.budget packet.now.items (of_links D.state links.old)) }
 {
-    prepare(links, packet)?;
+    prepare(job.image, packet, links)?;
     let outcome = run_on(machine, job.image, packet, links)?;
     let result_bytes = of_link(
         Link::Sink,
         received(&mut links.sink, job.image.result_bytes()),
     )?;
-    let trace = of_link(Link::Trace, trace_held(&mut links.trace))?;
+    let trace = trace_held(job.image, packet, links)?;
     Ok(Done::new(
         job.batch,
         job.image.image(),
