@@ -144,7 +144,7 @@ long_trace image packet traced room h more =
 
 -- ---- the same reason, of the devices as they were
 
-lose_before : (image : ImageValue) (packet : List ℕ) (before now : Devices) (which : Link) (code : DeviceFault) → SameSettings before now → MayLose image packet now which code → MayLose image packet before which code
+pub lose_before : (image : ImageValue) (packet : List ℕ) (before now : Devices) (which : Link) (code : DeviceFault) → SameSettings before now → MayLose image packet now which code → MayLose image packet before which code
 lose_before image packet before now Source code same h = same_cause before.source now.source _ _ (sym same.source.opened) (λ lacks. subst (λ room. room < 4 * image.packet) same.source.room lacks) code h
 lose_before image packet before now Sink code same h = same_cause before.sink now.sink _ _ (sym same.sink.opened) (λ lacks. subst (λ room. room < 4 * image.result) same.sink.room lacks) code h
 lose_before image packet before now Trace code same h = same_cause before.trace now.trace _ _ (sym same.trace.opened) (λ lacks. subst (TracesMore image packet) same.trace.room lacks) code h

@@ -1,5 +1,5 @@
 -- What the handling of a packet answers.
-use Rattle.std.specs.Prelude.{◌≡◌, ℕ, ◌*◌, false, List, map, length, Result, Ok, Err, Some}
+use Rattle.std.specs.Prelude.{◌≡◌, ℕ, ◌*◌, false, List, Result, Ok, Err, Some}
 use Rattle.tp_link.specs.declared.device.DeviceFault.{DeviceFault}
 use Rattle.tp_link.specs.declared.links.Link.{Link}
 use Rattle.tp_link.specs.declared.links.LinkFault.{LinkFault}
@@ -10,15 +10,8 @@ use Rattle.tp_step.specs.Runs.{start, has_ended}
 use Rattle.tp_machine.specs.declared.outcome.RunFault.{RunFault}
 use Rattle.tp_machine.specs.declared.outcome.RunFault.TheVariants as fault
 use Rattle.tp_machine.specs.Devices.{Devices}
-use Rattle.tp_collect.specs.DoneValue.{DoneValue}
-use Rattle.tp_collect.specs.Collected.{Batch, IsResult}
-use Rattle.tp_farm.specs.declared.job.Job.{Job}
 use Rattle.tp_farm.specs.Settings.{failed_by}
 use Rattle.tp_farm.specs.Losses.{MayLose}
-
--- the batch that a job is
-abbrev pub batch_of : Job → Batch
-batch_of job = record { number = job.batch; image = job.image.now.image; packets = map (λ p. p.items) job.packets.now }
 
 -- from a packet's start steps lead to a stuck state
 pub record SticksOn (image : ImageValue) (packet : List ℕ) : Type 0 where

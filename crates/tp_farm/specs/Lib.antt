@@ -2,5 +2,8 @@ pub mod Settings
 pub mod Losses
 pub mod Stages
 pub mod Handled
+pub mod Jobs
+pub mod Turns
+pub mod Members
 pub use Rattle.tp_machine.specs.Devices
 pub use Rattle.tp_collect.specs.Collected

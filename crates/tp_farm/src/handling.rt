@@ -7,7 +7,8 @@ ghost use Rattle.tp_collect.specs.Collected.{IsResult};
 ghost use Rattle.tp_farm.specs.Settings.{SameDevice, SameSettings, Rises, failures_of};
 ghost use Rattle.tp_farm.specs.Losses.{HasCause, most_trace};
 ghost use Rattle.tp_farm.specs.Stages.{of_links, IsReady, HasGiven, HasTraced};
-ghost use Rattle.tp_farm.specs.Handled.{batch_of, on_link, HasReason, failed_in};
+ghost use Rattle.tp_farm.specs.Jobs.{batch_of};
+ghost use Rattle.tp_farm.specs.Handled.{on_link, HasReason, failed_in};
 
 use crate::job::Job;
 use arrayvec::ArrayVec;

@@ -1,7 +1,10 @@
 //! A farm of members: threads that run one image's worker on the packets of a batch.
 #![tactic(auto)]
 
+mod gate;
 mod handling;
 mod job;
+mod member;
 
+pub use gate::{Gate, OpenGate};
 pub use job::Job;

@@ -1,0 +1,72 @@
+-- What a member does with its packets: what it files, and how it ends.
+use Rattle.std.specs.Prelude.{◌≡◌, ℕ, ◌<◌, ◌⊎◌, Bool, true, false, List, [], ◌∷◌, length, sum_by, Option, Some, None, slice_get, All}
+use Rattle.tp_link.specs.declared.links.Link.{Link}
+use Rattle.tp_link.specs.declared.links.LinkFault.{LinkFault}
+use Rattle.tp_image.specs.Image.{ImageValue}
+use Rattle.tp_machine.specs.Devices.{Devices}
+use Rattle.tp_board.specs.Sources.{Progress}
+use Rattle.tp_collect.specs.Collected.{Batch, IsResult}
+use Rattle.tp_farm.specs.declared.member.Filed.{Filed}
+use Rattle.tp_farm.specs.declared.member.Filed.TheVariants as filed
+use Rattle.tp_farm.specs.declared.member.End.{End}
+use Rattle.tp_farm.specs.declared.member.End.TheVariants as end
+use Rattle.tp_farm.specs.Settings.{SameSettings, Rises, failed_by}
+use Rattle.tp_farm.specs.Losses.{MayLose}
+use Rattle.tp_farm.specs.Handled.{SticksOn, GoesOn}
+
+-- ---- what is filed
+
+-- the packet of a number, which a member's devices lost
+pub record IsLost (batch : Batch) (devices : Devices) (number : ℕ) (fault : LinkFault) : Type 0 where
+  pub packet : List ℕ
+  pub is : slice_get batch.packets number ≡ Some packet
+  pub cause : MayLose batch.image packet devices fault.link fault.code
+
+abbrev pub IsFiled : Batch → Devices → Filed → Type 0
+IsFiled batch devices (filed.Done done) = IsResult batch done.packet done
+IsFiled batch devices (filed.Lost number fault) = IsLost batch devices number fault
+
+-- how often the device of a link failed for it
+abbrev pub filed_failed : Link → Filed → ℕ
+filed_failed which (filed.Done done) = 0
+filed_failed which (filed.Lost number fault) = failed_by which fault
+
+-- the numbers of the packets that are done, in their order, and of those that are lost
+abbrev pub done_numbers : List Filed → List ℕ
+done_numbers [] = []
+done_numbers (filed.Done done ∷ more) = done.packet ∷ done_numbers more
+done_numbers (filed.Lost number fault ∷ more) = done_numbers more
+
+abbrev pub lost_numbers : List Filed → List ℕ
+lost_numbers [] = []
+lost_numbers (filed.Done done ∷ more) = lost_numbers more
+lost_numbers (filed.Lost number fault ∷ more) = number ∷ lost_numbers more
+
+-- A member's accounts: its devices keep their settings and have failed as often as what it files says; what it files is of
+-- the batch; and what it finished and abandoned at its source is what it files as done and as lost.
+pub record KeepsAccounts (batch : Batch) (before now : Devices) (p : Progress) (these : List Filed) : Type 0 where
+  pub settings : SameSettings before now
+  pub rises : Rises before now (λ which. sum_by (filed_failed which) these)
+  pub filed : All (IsFiled batch before) these
+  pub finished : p.finished ≡ done_numbers these
+  pub abandoned : p.abandoned ≡ lost_numbers these
+
+-- ---- how a member ends
+
+-- of some packet of the batch this is so
+pub record SomePacket (batch : Batch) (P : List ℕ → Type 0) : Type 0 where
+  pub number : ℕ
+  pub packet : List ℕ
+  pub is : slice_get batch.packets number ≡ Some packet
+  pub does : P packet
+
+-- With nothing in hand, a member ends where there are no more packets, or where the source was stopped; it stops the source
+-- itself only by its gate, or by a fault.
+abbrev pub EndsBy : Batch → (budget : ℕ) → (open_for_good : Bool) → Progress → End → Type 0
+EndsBy batch budget open_for_good p end.Drained =
+    (p.in_hand ≡ None) × (p.stop_called ≡ false) × ((p.ended ≡ true) ⊎ (length batch.packets < length p.taken))
+EndsBy batch budget open_for_good p end.Stopped =
+    (p.in_hand ≡ None) × (((p.stop_called ≡ false) × (p.stop_seen ≡ true)) ⊎ (open_for_good ≡ false))
+EndsBy batch budget open_for_good p end.Memory = Unit {0}
+EndsBy batch budget open_for_good p end.Stuck = SomePacket batch (SticksOn batch.image)
+EndsBy batch budget open_for_good p end.Limit = SomePacket batch (λ packet. GoesOn batch.image packet budget)

@@ -1,0 +1,101 @@
+//! A member's work: taking packets, handling them, and filing what became of them.
+
+ghost use Rattle.std.specs.Prelude.{◌≡◌, ◌<◌, IfSome, Some, None, slice_get, vec_len, vec_capacity};
+ghost use Rattle.tp_farm.specs.Jobs.{batch_of, AreWhole};
+ghost use Rattle.tp_farm.specs.Stages.{of_links};
+ghost use Rattle.tp_farm.specs.Members.{KeepsAccounts, EndsBy};
+ghost use Rattle.tp_farm.specs.Turns.{no_progress, MayTake, HasTaken, HasPutDown};
+
+use crate::gate::Gate;
+use crate::handling::handle;
+use crate::job::Job;
+use std::alloc::Global;
+use std::snapshot::Snapshot;
+use std::sync::Wait;
+use tp_board::{Packet, Work, WorkSource};
+use tp_collect::Done;
+use tp_link::{LinkDevice, LinkFault, Links};
+use tp_machine::{Machine, RunFault};
+
+/// What became of one packet.
+#[derive(Drop)]
+pub(crate) enum Filed {
+    Done(Done),
+    /// A device refused a call for the packet of this number.
+    Lost(u32, LinkFault),
+}
+
+/// Why a member takes no more packets.
+#[derive(Clone, Copy, Debug, PartialEq, Eq)]
+pub(crate) enum End {
+    /// There are no more.
+    Drained,
+    /// The batch was stopped, by the gate or by another member.
+    Stopped,
+    /// Memory was refused.
+    Memory,
+    /// A worker was stuck.
+    Stuck,
+    /// A worker did not end within its budget.
+    Limit,
+}
+
+/// A member, with its hand at the source of its packets, its machine and its devices.
+#[derive(Drop)]
+pub(crate) struct Member<H, D> {
+    pub(crate) number: u32,
+    pub(crate) hand: H,
+    pub(crate) machine: Machine,
+    pub(crate) links: Links<D>,
+    /// What became of its packets so far.
+    pub(crate) filed: Vec<Filed>,
+    /// The devices at its start, for contracts.
+    pub(crate) entry: Snapshot<Links<D>>,
+}
+
+/// Handles a packet that is in hand, files what became of it, and finishes or abandons it. Where the machine's run has a
+/// fault of its own it stops the source instead.
+fn file_packet<W: WorkSource, D: LinkDevice, G: Gate>(
+    job: &Job<'_>,
+    gate: &G,
+    source: &W,
+    member: &mut Member<W::Hand, D>,
+    number: u32,
+    packet: &Packet,
+) -> Option<End>
+    requires own { W.is_own source.now member.old.hand }
+    requires in_hand { (W.progress member.old.hand).in_hand ≡ Some number }
+    requires whole { AreWhole (batch_of job.now) }
+    requires packet { slice_get (batch_of job.now).packets number ≡ Some packet.now.items }
+    requires room { vec_len member.old.filed < vec_capacity member.old.filed }
+    requires accounts { KeepsAccounts (batch_of job.now) (of_links D.state member.old.entry.value) (of_links D.state member.old.links) (W.progress member.old.hand) member.old.filed.items }
+    ensures own { W.is_own source.now member.new.hand }
+    ensures entry { member.new.entry.value ≡ member.old.entry.value }
+    ensures accounts { KeepsAccounts (batch_of job.now) (of_links D.state member.new.entry.value) (of_links D.state member.new.links) (W.progress member.new.hand) member.new.filed.items }
+    ensures going { result ≡ None → HasPutDown (W.progress member.old.hand) (W.progress member.new.hand) }
+    ensures end { IfSome result (EndsBy (batch_of job.now) job.now.image.now.budget (G.open_for_good gate.now) (W.progress member.new.hand)) }
+{
+    gate.claimed(member.number, number);
+    match handle(&mut member.machine, job, number, packet, &mut member.links) {
+        Ok(done) => {
+            member.filed.push_reserved(Filed::Done(done));
+            let _ = source.finish(&mut member.hand);
+            gate.finished(member.number, number);
+            None
+        }
+        Err(RunFault::Link(fault)) => {
+            member.filed.push_reserved(Filed::Lost(number, fault));
+            let _ = source.abandon(&mut member.hand);
+            gate.finished(member.number, number);
+            None
+        }
+        Err(RunFault::Stuck(_)) => {
+            source.stop(&mut member.hand);
+            Some(End::Stuck)
+        }
+        Err(RunFault::Limit) => {
+            source.stop(&mut member.hand);
+            Some(End::Limit)
+        }
+    }
+}
