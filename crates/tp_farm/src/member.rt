@@ -99,3 +99,64 @@ fn file_packet<W: WorkSource, D: LinkDevice, G: Gate>(
         }
     }
 }
+
+/// Takes the next packet and files what became of it, or ends.
+fn take_turn<W: WorkSource, D: LinkDevice, G: Gate>(
+    rt: &impl Wait,
+    job: &Job<'_>,
+    gate: &G,
+    source: &W,
+    member: &mut Member<W::Hand, D>,
+) -> Option<End>
+    requires own { W.is_own source.now member.old.hand }
+    requires may { MayTake (W.progress member.old.hand) }
+    requires packets { W.packets source.now ≡ (batch_of job.now).packets }
+    requires whole { AreWhole (batch_of job.now) }
+    requires accounts { KeepsAccounts (batch_of job.now) (of_links D.state member.old.entry.value) (of_links D.state member.old.links) (W.progress member.old.hand) member.old.filed.items }
+    ensures own { W.is_own source.now member.new.hand }
+    ensures entry { member.new.entry.value ≡ member.old.entry.value }
+    ensures accounts { KeepsAccounts (batch_of job.now) (of_links D.state member.new.entry.value) (of_links D.state member.new.links) (W.progress member.new.hand) member.new.filed.items }
+    ensures going { result ≡ None → HasTaken (W.progress member.old.hand) (W.progress member.new.hand) }
+    ensures end { IfSome result (EndsBy (batch_of job.now) job.now.image.now.budget (G.open_for_good gate.now) (W.progress member.new.hand)) }
+{
+    if member.filed.reserve(1).is_err() {
+        source.stop(&mut member.hand);
+        return Some(End::Memory);
+    }
+    if !gate.ask(member.number) {
+        source.stop(&mut member.hand);
+        return Some(End::Stopped);
+    }
+    match source.next(rt, &mut member.hand) {
+        Work::Packet { number, bytes } => file_packet(job, gate, source, member, number, &bytes),
+        Work::NoMore => Some(End::Drained),
+        Work::Stopped => Some(End::Stopped),
+    }
+}
+
+/// A member's whole work: it takes packets until there are no more, or the batch is stopped, or a fault comes. One turn
+/// more than there are packets is enough.
+pub(crate) fn work<W: WorkSource, D: LinkDevice, G: Gate>(
+    rt: &impl Wait,
+    job: &Job<'_>,
+    gate: &G,
+    source: &W,
+    member: &mut Member<W::Hand, D>,
+) -> End
+    requires own { W.is_own source.now member.old.hand }
+    requires fresh { W.progress member.old.hand ≡ no_progress }
+    requires packets { W.packets source.now ≡ (batch_of job.now).packets }
+    requires whole { AreWhole (batch_of job.now) }
+    requires accounts { KeepsAccounts (batch_of job.now) (of_links D.state member.old.entry.value) (of_links D.state member.old.links) (W.progress member.old.hand) member.old.filed.items }
+    ensures own { W.is_own source.now member.new.hand }
+    ensures entry { member.new.entry.value ≡ member.old.entry.value }
+    ensures accounts { KeepsAccounts (batch_of job.now) (of_links D.state member.new.entry.value) (of_links D.state member.new.links) (W.progress member.new.hand) member.new.filed.items }
+    ensures end { EndsBy (batch_of job.now) job.now.image.now.budget (G.open_for_good gate.now) (W.progress member.new.hand) result }
+{
+    for _ in 0..job.packets.len() + 1 {
+        if let Some(end) = take_turn(rt, job, gate, source, member) {
+            return end;
+        }
+    }
+    End::Drained
+}
