@@ -5,5 +5,6 @@ pub mod Handled
 pub mod Jobs
 pub mod Turns
 pub mod Members
+pub mod Working
 pub use Rattle.tp_machine.specs.Devices
 pub use Rattle.tp_collect.specs.Collected

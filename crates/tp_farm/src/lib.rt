@@ -5,6 +5,7 @@ mod gate;
 mod handling;
 mod job;
 mod member;
+mod worker;
 
 pub use gate::{Gate, OpenGate};
 pub use job::Job;

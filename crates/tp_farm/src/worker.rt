@@ -1,0 +1,65 @@
+//! A member's thread.
+
+ghost use Rattle.std.specs.Prelude.{◌≡◌, IfSome};
+ghost use Rattle.tp_farm.specs.Working.{IsSet, IsFresh, HasWorked, work_of};
+
+use crate::gate::Gate;
+use crate::job::Job;
+use crate::member::{End, Filed, Member, work};
+use std::alloc::Global;
+use std::snapshot::Snapshot;
+use std::sync::Wait;
+use tp_board::{BoardSource, Seat};
+use tp_link::{LinkDevice, Links};
+use tp_machine::Machine;
+
+/// What a member's thread gives back.
+#[derive(Drop)]
+pub(crate) struct Returned<D> {
+    pub(crate) seat: Seat,
+    pub(crate) links: Links<D>,
+    pub(crate) filed: Vec<Filed>,
+    pub(crate) end: End,
+}
+
+/// What all members work with.
+#[derive(Clone, Copy)]
+pub(crate) struct Shop<'j, G> {
+    pub(crate) job: &'j Job<'j>,
+    pub(crate) gate: &'j G,
+    pub(crate) source: &'j BoardSource<'j>,
+}
+
+/// The whole work of the member of a number, on a machine of its own.
+pub(crate) fn work_as<D: LinkDevice, G: Gate>(
+    rt: &impl Wait,
+    alloc: Global,
+    shop: Shop<'_, G>,
+    number: u32,
+    seat: Seat,
+    links: Links<D>,
+) -> Returned<D>
+    requires set { IsSet shop }
+    requires fresh { IsFresh shop.source.now.board seat }
+    ensures { HasWorked D.state (work_of G.open_for_good shop.entry) links result }
+{
+    let entry = Snapshot::of(&links);
+    let mut member = Member {
+        number,
+        hand: seat,
+        machine: Machine::new(),
+        links,
+        filed: Vec::new(alloc),
+        entry,
+    };
+    let end = work(rt, shop.job, shop.gate, shop.source, &mut member);
+    let Member {
+        hand, links, filed, ..
+    } = member;
+    Returned {
+        seat: hand,
+        links,
+        filed,
+        end,
+    }
+}
