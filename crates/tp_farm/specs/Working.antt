@@ -5,6 +5,7 @@ use Rattle.tp_link.specs.declared.links.Links.{Links}
 use Rattle.tp_board.specs.Boards.{BoardView, SeatView, IsSeatOf}
 use Rattle.tp_board.specs.Sources.{progress_of}
 use Rattle.tp_collect.specs.Collected.{Batch}
+use Rattle.tp_farm.specs.declared.member.Filed.{Filed}
 use Rattle.tp_farm.specs.declared.worker.Returned.{Returned}
 use Rattle.tp_farm.specs.declared.worker.Shop.{Shop}
 use Rattle.tp_farm.specs.Jobs.{batch_of, AreWhole}
@@ -39,7 +40,7 @@ pub record IsFresh (board : BoardView) (seat : SeatView) : Type 0 where
 
 -- a member that had these devices has done its work: its seat is one of the board's, its accounts are in order, and it has
 -- ended as it says
-pub record HasWorked {D : Type 0} (state : D → DeviceState) (work : Work) (before : Links D) (r : Returned D) : Type 0 where
-  pub own : IsSeatOf work.board r.seat
-  pub accounts : KeepsAccounts work.batch (of_links state before) (of_links state r.links) (progress_of r.seat.view) r.filed.items
-  pub ends : EndsBy work.batch work.budget work.open_for_good (progress_of r.seat.view) r.end
+pub record HasWorked {D : Type 0} (state : D → DeviceState) (work : Work) (before : Links D) (r : Returned SeatView Filed D) : Type 0 where
+  pub own : IsSeatOf work.board r.hand
+  pub accounts : KeepsAccounts work.batch (of_links state before) (of_links state r.links) (progress_of r.hand.view) r.filed.items
+  pub ends : EndsBy work.batch work.budget work.open_for_good (progress_of r.hand.view) r.end

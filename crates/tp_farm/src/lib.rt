@@ -1,11 +1,14 @@
 //! A farm of members: threads that run one image's worker on the packets of a batch.
 #![tactic(auto)]
 
+mod fault;
 mod gate;
 mod handling;
 mod job;
 mod member;
+mod members;
 mod worker;
 
+pub use fault::FarmFault;
 pub use gate::{Gate, OpenGate};
 pub use job::Job;

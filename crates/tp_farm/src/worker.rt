@@ -13,17 +13,19 @@ use tp_board::{BoardSource, Seat};
 use tp_link::{LinkDevice, Links};
 use tp_machine::Machine;
 
-/// What a member's thread gives back.
+/// What a member's thread gives back: its hand, its devices, what it filed, and why it ended.
 #[derive(Drop)]
-pub(crate) struct Returned<D> {
-    pub(crate) seat: Seat,
+pub(crate) struct Returned<H, F, D> {
+    pub(crate) hand: H,
     pub(crate) links: Links<D>,
-    pub(crate) filed: Vec<Filed>,
+    pub(crate) filed: Vec<F>,
     pub(crate) end: End,
 }
 
+/// The same of a member with a seat at a board.
+pub(crate) type Back<D> = Returned<Seat, Filed, D>;
+
 /// What all members work with.
-#[derive(Clone, Copy)]
 pub(crate) struct Shop<'j, G> {
     pub(crate) job: &'j Job<'j>,
     pub(crate) gate: &'j G,
@@ -34,14 +36,14 @@ pub(crate) struct Shop<'j, G> {
 pub(crate) fn work_as<D: LinkDevice, G: Gate>(
     rt: &impl Wait,
     alloc: Global,
-    shop: Shop<'_, G>,
+    shop: &Shop<'_, G>,
     number: u32,
     seat: Seat,
     links: Links<D>,
-) -> Returned<D>
-    requires set { IsSet shop }
-    requires fresh { IsFresh shop.source.now.board seat }
-    ensures { HasWorked D.state (work_of G.open_for_good shop.entry) links result }
+) -> Back<D>
+    requires set { IsSet shop.now }
+    requires fresh { IsFresh shop.now.source.now.board seat }
+    ensures { HasWorked D.state (work_of G.open_for_good shop.now) links result }
 {
     let entry = Snapshot::of(&links);
     let mut member = Member {
@@ -57,7 +59,7 @@ pub(crate) fn work_as<D: LinkDevice, G: Gate>(
         hand, links, filed, ..
     } = member;
     Returned {
-        seat: hand,
+        hand,
         links,
         filed,
         end,

@@ -1,0 +1,112 @@
+//! The members of a batch, each in a thread of its own.
+
+ghost use Rattle.std.specs.Prelude.{◌≡◌, ◌≤◌, ◌+◌, ◌++◌, ◌∷◌, [], true, map, IfSome, IfOk, All, vec_len, vec_capacity};
+ghost use Rattle.std.specs.List.{AllZip};
+ghost use Rattle.tp_farm.specs.Working.{IsSet, IsFresh, HasWorked, work_of};
+
+use crate::fault::FarmFault;
+use crate::gate::Gate;
+use crate::worker::{Back, Shop, work_as};
+use std::alloc::{AllocError, Global};
+use std::snapshot::Snapshot;
+use std::sync::Wait;
+use std::thread;
+use std::thread::{Promise, PromisedHandle, Scope, Threads, join_promised};
+use tp_board::Seat;
+use tp_link::{LinkDevice, Links};
+
+/// What a member's thread keeps: it has done the shop's work with the devices that it had.
+#[derive(Drop)]
+struct WorkOf<'j, G, D> {
+    shop: &'j Shop<'j, G>,
+    before: Snapshot<Links<D>>,
+}
+
+impl<'j, G: Gate, D: LinkDevice> Promise<Back<D>> for WorkOf<'j, G, D> {
+    ghost use Rattle.tp_farm.specs.Working.{HasWorked, work_of};
+
+    ghost kept_by = { λ p r. HasWorked D.state (work_of G.open_for_good p.shop.now) p.before.value r };
+}
+
+/// A member's thread.
+type Handle<'e, G, D> = PromisedHandle<Back<D>, WorkOf<'e, G, D>>;
+
+/// Starts the member of a number.
+fn start<'s, 'e, R: Wait + Sync, D: LinkDevice + Send + 'e, G: Gate>(
+    rt: &'e R,
+    scope: &'s Scope<'s, &'e ()>,
+    alloc: Global,
+    shop: &'e Shop<'e, G>,
+    number: u32,
+    seat: Seat,
+    links: Links<D>,
+) -> Option<Handle<'e, G, D>>
+    requires set { IsSet shop.now }
+    requires fresh { IsFresh shop.now.source.now.board seat }
+    ensures shop { IfSome result (λ h. h.promise.shop.now ≡ shop.now) }
+    ensures before { IfSome result (λ h. h.promise.before.value ≡ links) }
+{
+    let promise = WorkOf {
+        shop,
+        before: Snapshot::of(&links),
+    };
+    let started = scope.spawn_with(
+        promise,
+        move || -> Back<D>
+            requires set { IsSet shop.now }
+            requires fresh { IsFresh shop.now.source.now.board seat }
+            ensures worked { HasWorked D.state (work_of G.open_for_good shop.entry.now) links result }
+        { work_as(rt, alloc, shop, number, seat, links) },
+    );
+    match started {
+        Ok(handle) => Some(handle),
+        Err(refused) => {
+            drop(refused);
+            None
+        }
+    }
+}
+
+/// Members that were started.
+#[derive(Drop)]
+struct Started<'e, G: Gate, D: LinkDevice> {
+    handles: Vec<Handle<'e, G, D>>,
+    all_started: bool,
+}
+
+/// Starts a member for each of the links in turn, up to the first for which no thread could be started.
+fn start_all<'s, 'e, R: Wait + Sync, D: LinkDevice + Send + 'e, G: Gate>(
+    rt: &'e R,
+    scope: &'s Scope<'s, &'e ()>,
+    alloc: Global,
+    shop: &'e Shop<'e, G>,
+    mut seats: Vec<Seat>,
+    all: Vec<Links<D>>,
+) -> Result<Started<'e, G, D>, AllocError>
+    requires set { IsSet shop.now }
+    requires fresh { All (IsFresh shop.now.source.now.board) seats.items }
+    requires seats { vec_len seats ≡ vec_len all }
+    requires members { vec_len all ≤ 64 }
+    ensures before { IfOk result (λ s. s.all_started ≡ true → map (λ h. h.promise.before.value) s.handles.items ≡ all.items) }
+    ensures shop { IfOk result (λ s. All (λ h. h.promise.shop.now ≡ shop.now) s.handles.items) }
+{
+    let mut handles = Vec::with_capacity(alloc, all.len())?;
+    let mut number = 0u32;
+    for links in all {
+        let Some(seat) = seats.pop() else {
+            unreachable!()
+        };
+        let Some(handle) = start(rt, scope, alloc, shop, number, seat, links) else {
+            return Ok(Started {
+                handles,
+                all_started: false,
+            });
+        };
+        handles.push_reserved(handle);
+        number += 1;
+    }
+    Ok(Started {
+        handles,
+        all_started: true,
+    })
+}
