@@ -1,3 +1,4 @@
 pub mod Refusals
 pub mod Accounts
 pub mod Starting
+pub mod Joining

@@ -6,5 +6,6 @@ pub mod Jobs
 pub mod Turns
 pub mod Members
 pub mod Working
+pub mod Refused
 pub use Rattle.tp_machine.specs.Devices
 pub use Rattle.tp_collect.specs.Collected

@@ -1,7 +1,8 @@
 //! The members of a batch, each in a thread of its own.
 
-ghost use Rattle.std.specs.Prelude.{◌≡◌, ◌≤◌, ◌+◌, ◌++◌, ◌∷◌, [], true, map, IfSome, IfOk, All, vec_len, vec_capacity};
+ghost use Rattle.std.specs.Prelude.{◌≡◌, ◌≤◌, ◌+◌, ◌++◌, ◌∷◌, [], true, map, IfSome, IfOk, IfErr, All, vec_len, vec_capacity};
 ghost use Rattle.std.specs.List.{AllZip};
+ghost use Rattle.tp_farm.specs.Refused.{IsFromOutside};
 ghost use Rattle.tp_farm.specs.Working.{IsSet, IsFresh, HasWorked, work_of};
 
 use crate::fault::FarmFault;
@@ -109,4 +110,71 @@ fn start_all<'s, 'e, R: Wait + Sync, D: LinkDevice + Send + 'e, G: Gate>(
         handles,
         all_started: true,
     })
+}
+
+/// Starts the members, and joins those that were started.
+fn start_and_join<'s, 'e, R: Threads + Wait + Sync, D: LinkDevice + Send + 'e, G: Gate>(
+    rt: &'e R,
+    scope: &'s Scope<'s, &'e ()>,
+    alloc: Global,
+    shop: &'e Shop<'e, G>,
+    seats: Vec<Seat>,
+    all: Vec<Links<D>>,
+) -> Result<Vec<Back<D>>, FarmFault>
+    requires set { IsSet shop.now }
+    requires fresh { All (IsFresh shop.now.source.now.board) seats.items }
+    requires seats { vec_len seats ≡ vec_len all }
+    requires members { vec_len all ≤ 64 }
+    ensures worked { IfOk result (λ rs. AllZip (HasWorked D.state (work_of G.open_for_good shop.now)) all.items rs.items) }
+    ensures err { IfErr result IsFromOutside }
+{
+    let Started {
+        handles,
+        all_started,
+    } = start_all(rt, scope, alloc, shop, seats, all)?;
+    match join_promised(rt, handles) {
+        Ok(returned) => {
+            if all_started {
+                Ok(returned)
+            } else {
+                Err(FarmFault::Thread)
+            }
+        }
+        Err(refused) => {
+            for handle in refused.value {
+                let _ = handle.join(rt);
+            }
+            Err(FarmFault::Memory)
+        }
+    }
+}
+
+/// Runs the members, each in a thread of its own, until all have ended. What they give back comes in the order of the
+/// links.
+pub(crate) fn run_members<R: Threads + Wait + Sync, D: LinkDevice + Send, G: Gate>(
+    rt: &R,
+    alloc: Global,
+    shop: &Shop<'_, G>,
+    seats: Vec<Seat>,
+    all: Vec<Links<D>>,
+) -> Result<Vec<Back<D>>, FarmFault>
+    requires set { IsSet shop.now }
+    requires fresh { All (IsFresh shop.now.source.now.board) seats.items }
+    requires seats { vec_len seats ≡ vec_len all }
+    requires members { vec_len all ≤ 64 }
+    ensures worked { IfOk result (λ rs. AllZip (HasWorked D.state (work_of G.open_for_good shop.now)) all.items rs.items) }
+    ensures err { IfErr result IsFromOutside }
+{
+    thread::scope(
+        thread::scope_env(),
+        rt,
+        |scope| -> Result<Vec<Back<D>>, FarmFault>
+            requires set { IsSet shop.now }
+            requires fresh { All (IsFresh shop.now.source.now.board) seats.items }
+            requires seats { vec_len seats ≡ vec_len all }
+            requires members { vec_len all ≤ 64 }
+            ensures worked { IfOk result (λ rs. AllZip (HasWorked D.state (work_of G.open_for_good shop.entry.now)) all.items rs.items) }
+            ensures err { IfErr result IsFromOutside }
+        { start_and_join(rt, scope, alloc, shop, seats, all) },
+    )
 }

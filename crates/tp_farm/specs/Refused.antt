@@ -1,0 +1,40 @@
+-- Why a batch gives nothing.
+use Rattle.std.specs.Prelude.{◌≡◌, ◌≢◌, ℕ, ◌*◌, ◌==◌, Bool, not, ◌||◌, nat_lt, if◌then◌else◌, List, length, position, Option, Some, None, Result, Ok, Err}
+use Rattle.std.specs.Option.{option_map}
+use Rattle.tp_collect.specs.Collected.{Batch}
+use Rattle.tp_farm.specs.declared.fault.FarmFault.{FarmFault}
+use Rattle.tp_farm.specs.declared.fault.FarmFault.TheVariants.{Members, Packets, Length, Thread, Stuck, Limit, Memory}
+use Rattle.tp_farm.specs.Handled.{SticksOn, GoesOn}
+use Rattle.tp_farm.specs.Members.{SomePacket}
+
+-- the most members, and the most packets
+abbrev pub most_members : ℕ
+most_members = 64
+
+abbrev pub most_packets : ℕ
+most_packets = 1024
+
+-- the number of the first packet that has another length than the image's
+abbrev pub first_other : Batch → Option ℕ
+first_other batch = position (λ packet. not (length packet == 4 * batch.image.packet)) batch.packets
+
+-- G1, G2, G3: why a batch does not begin
+abbrev pub job_fault : (members : ℕ) → Batch → Option FarmFault
+job_fault members batch =
+    if (members == 0) || nat_lt most_members members then Some Members
+    else if nat_lt most_packets (length batch.packets) then Some Packets
+    else option_map Length (first_other batch)
+
+-- what the machine it runs on refused: G4, memory
+abbrev pub IsFromOutside : FarmFault → Type 0
+IsFromOutside Thread = Unit {0}
+IsFromOutside Memory = Unit {0}
+IsFromOutside fault = ⊥
+
+-- why a batch that has begun gives nothing: G5 where a worker is stuck, and G6 where one has not ended within its budget
+abbrev pub EndsWithout : Batch → (budget : ℕ) → FarmFault → Type 0
+EndsWithout batch budget Thread = Unit {0}
+EndsWithout batch budget Memory = Unit {0}
+EndsWithout batch budget Stuck = SomePacket batch (SticksOn batch.image)
+EndsWithout batch budget Limit = SomePacket batch (λ packet. GoesOn batch.image packet budget)
+EndsWithout batch budget fault = ⊥
