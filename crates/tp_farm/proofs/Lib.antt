@@ -2,3 +2,4 @@ pub mod Refusals
 pub mod Accounts
 pub mod Starting
 pub mod Joining
+pub mod Filing

@@ -7,5 +7,7 @@ pub mod Turns
 pub mod Members
 pub mod Working
 pub mod Refused
+pub mod Gathering
+pub mod Apart
 pub use Rattle.tp_machine.specs.Devices
 pub use Rattle.tp_collect.specs.Collected

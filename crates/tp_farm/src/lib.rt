@@ -3,6 +3,7 @@
 
 mod fault;
 mod gate;
+mod gathering;
 mod handling;
 mod job;
 mod member;

@@ -1,0 +1,111 @@
+//! What the members give back becomes one batch.
+
+ghost use Rattle.std.specs.Prelude.{◌≡◌, ◌≤◌, ◌+◌, ◌++◌, None, Some, All, map, slice_get, slice_set, OnOk, IfErr, vec_len, vec_capacity};
+ghost use Rattle.tp_board.specs.Sources.{progress_of};
+ghost use Rattle.tp_collect.specs.Collected.{Batch};
+ghost use Rattle.tp_collect.specs.Collecting.{vacant};
+ghost use Rattle.tp_farm.specs.Jobs.{batch_of};
+ghost use Rattle.tp_farm.specs.Members.{EndsBy};
+ghost use Rattle.tp_farm.specs.Refused.{EndsWithout};
+ghost use Rattle.tp_farm.specs.Gathering.{number_of, entry_of, IsOfBatch, filed_in, FindVacant, all_filed, fault_of_end};
+ghost use Rattle.tp_farm.specs.Apart.{EndsAsItSays, kept_of};
+
+use crate::fault::FarmFault;
+use crate::job::Job;
+use crate::member::{End, Filed};
+use crate::worker::Back;
+use tp_board::Seat;
+use tp_collect::Collector;
+use tp_link::{LinkDevice, Links};
+
+/// What is left of a member when its seat is gone.
+#[derive(Drop)]
+pub(crate) struct Kept<D> {
+    pub(crate) links: Links<D>,
+    pub(crate) filed: Vec<Filed>,
+}
+
+/// The fault of a member that ended by one.
+fn fault_of_end(end: End) -> Option<FarmFault>
+    ensures { result ≡ fault_of_end end }
+{
+    match end {
+        End::Drained | End::Stopped => None,
+        End::Memory => Some(FarmFault::Memory),
+        End::Stuck => Some(FarmFault::Stuck),
+        End::Limit => Some(FarmFault::Limit),
+    }
+}
+
+/// Takes the seats from what the members gave back; the first fault of a member is the answer.
+pub(crate) fn take_seats<D: LinkDevice>(
+    _job: &Job<'_>,
+    returned: Vec<Back<D>>,
+    seats: &mut Vec<Seat>,
+    kept: &mut Vec<Kept<D>>,
+) -> Result<(), FarmFault>
+    requires ends { All (EndsAsItSays _job.now) returned.items }
+    requires seats { vec_len seats.old + vec_len returned ≤ vec_capacity seats.old }
+    requires kept { vec_len kept.old + vec_len returned ≤ vec_capacity kept.old }
+    ensures seats { OnOk result (seats.new.items ≡ seats.old.items ++ map (λ r. r.hand) returned.items) }
+    ensures kept { OnOk result (kept.new.items ≡ kept.old.items ++ map kept_of returned.items) }
+    ensures well { OnOk result (All (λ r. fault_of_end r.end ≡ None) returned.items) }
+    ensures err { IfErr result (EndsWithout (batch_of _job.now) _job.now.image.now.budget) }
+{
+    for one in returned {
+        if let Some(fault) = fault_of_end(one.end) {
+            return Err(fault);
+        }
+        seats.push_reserved(one.hand);
+        kept.push_reserved(Kept {
+            links: one.links,
+            filed: one.filed,
+        });
+    }
+    Ok(())
+}
+
+/// Files one result or loss.
+fn file_one(collector: &mut Collector<'_>, one: Filed)
+    requires of { IsOfBatch collector.old.batch one }
+    requires vacant { slice_get collector.old.entries (number_of one) ≡ Some vacant }
+    ensures { collector.new ≡ record collector.old { entries = slice_set collector.old.entries (number_of one) (entry_of one) } }
+{
+    match one {
+        Filed::Done(done) => {
+            let _ = collector.put(done);
+        }
+        Filed::Lost(number, fault) => {
+            let _ = collector.lose(number, fault);
+        }
+    }
+}
+
+/// Files what a member filed.
+fn gather(collector: &mut Collector<'_>, filed: Vec<Filed>)
+    requires of { All (IsOfBatch collector.old.batch) filed.items }
+    requires vacant { FindVacant collector.old.entries filed.items }
+    ensures { collector.new ≡ record collector.old { entries = filed_in collector.old.entries filed.items } }
+{
+    for one in filed {
+        file_one(collector, one);
+    }
+}
+
+/// Files what all members filed, and gives back their devices in order.
+pub(crate) fn gather_all<D: LinkDevice>(
+    collector: &mut Collector<'_>,
+    kept: Vec<Kept<D>>,
+    links: &mut Vec<Links<D>>,
+)
+    requires of { All (λ k. All (IsOfBatch collector.old.batch) k.filed.items) kept.items }
+    requires vacant { FindVacant collector.old.entries (all_filed (map (λ k. k.filed.items) kept.items)) }
+    requires room { vec_len links.old + vec_len kept ≤ vec_capacity links.old }
+    ensures entries { collector.new ≡ record collector.old { entries = filed_in collector.old.entries (all_filed (map (λ k. k.filed.items) kept.items)) } }
+    ensures links { links.new.items ≡ links.old.items ++ map (λ k. k.links) kept.items }
+{
+    for one in kept {
+        gather(collector, one.filed);
+        links.push_reserved(one.links);
+    }
+}
