@@ -3,3 +3,4 @@ pub mod Accounts
 pub mod Starting
 pub mod Joining
 pub mod Filing
+pub mod Ending
