@@ -4,3 +4,6 @@ pub mod Starting
 pub mod Joining
 pub mod Filing
 pub mod Ending
+pub mod Numbers
+pub mod Origins
+pub mod Beginning

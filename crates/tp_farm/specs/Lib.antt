@@ -9,5 +9,6 @@ pub mod Working
 pub mod Refused
 pub mod Gathering
 pub mod Apart
+pub mod Batches
 pub use Rattle.tp_machine.specs.Devices
 pub use Rattle.tp_collect.specs.Collected

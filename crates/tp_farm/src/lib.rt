@@ -1,6 +1,7 @@
 //! A farm of members: threads that run one image's worker on the packets of a batch.
 #![tactic(auto)]
 
+mod batch;
 mod fault;
 mod gate;
 mod gathering;
@@ -10,6 +11,7 @@ mod member;
 mod members;
 mod worker;
 
+pub use batch::Batch;
 pub use fault::FarmFault;
 pub use gate::{Gate, OpenGate};
 pub use job::Job;

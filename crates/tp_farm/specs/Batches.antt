@@ -1,0 +1,53 @@
+-- A batch that was run.
+use Rattle.std.specs.Prelude.{◌≡◌, ℕ, ◌+◌, ◌*◌, Bool, false, List, map, sum_by, Some, slice_get, Result, Err}
+use Rattle.std.specs.List.{AllZip}
+use Rattle.tp_link.specs.Device.{DeviceState}
+use Rattle.tp_link.specs.declared.links.Link.{Link}
+use Rattle.tp_link.specs.declared.links.Link.TheVariants.{Source, Sink, Trace}
+use Rattle.tp_link.specs.declared.links.LinkFault.{LinkFault}
+use Rattle.tp_link.specs.declared.links.Links.{Links}
+use Rattle.tp_machine.specs.Devices.{Devices}
+use Rattle.tp_collect.specs.declared.collected.Entry.{Entry}
+use Rattle.tp_collect.specs.declared.collected.Entry.TheVariants as entry
+use Rattle.tp_collect.specs.declared.collected.LostCause.TheVariants as cause
+use Rattle.tp_collect.specs.Collected.{Batch, IsCollected}
+use Rattle.tp_farm.specs.Settings.{SameSettings, failed_by}
+use Rattle.tp_farm.specs.Losses.{MayLose}
+
+-- the device of a link, of a member's three
+abbrev pub device_at : Link → Devices → DeviceState
+device_at Source devices = devices.source
+device_at Sink devices = devices.sink
+device_at Trace devices = devices.trace
+
+-- how often the devices of a link have failed, of all members
+abbrev pub failures_at : Link → List Devices → ℕ
+failures_at which all = sum_by (λ devices. (device_at which devices).faults) all
+
+-- 1 where an entry tells of a failure of the link's device, else 0
+abbrev pub tells_failure : Link → Entry → ℕ
+tells_failure which (entry.Done done) = 0
+tells_failure which (entry.Lost (cause.Link fault)) = failed_by which fault
+tells_failure which (entry.Lost cause.Stopped) = 0
+
+-- the devices of some member may have lost packet i of the batch so
+pub record LostBySome (batch : Batch) (members : List Devices) (i : ℕ) (fault : LinkFault) : Type 0 where
+  pub packet : List ℕ
+  pub is : slice_get batch.packets i ≡ Some packet
+  pub member : ℕ
+  pub devices : Devices
+  pub there : slice_get members member ≡ Some devices
+  pub cause : MayLose batch.image packet devices fault.link fault.code
+
+-- What became of a batch whose members had these devices before, and have these after:
+pub record IsBatch (batch : Batch) (open_for_good : Bool) (before after : List Devices) (entries : List Entry) : Type 0 where
+  -- each result is what the run of its packet alone gives, and there is one entry for each packet
+  pub collected : IsCollected batch entries
+  -- the links come back in the order given, each device with its room, openness and whether it can fail
+  pub settings : AllZip SameSettings before after
+  -- as many entries tell of a failure of a link as its devices have failed in all
+  pub failures : (which : Link) → failures_at which after ≡ failures_at which before + sum_by (tells_failure which) entries
+  -- each loss by a device has its cause
+  pub losses : (i : ℕ) (fault : LinkFault) → slice_get entries i ≡ Some (entry.Lost (cause.Link fault)) → LostBySome batch before i fault
+  -- a packet is lost by a stop only where the gate is not open for good
+  pub stopped : (i : ℕ) → slice_get entries i ≡ Some (entry.Lost cause.Stopped) → open_for_good ≡ false
