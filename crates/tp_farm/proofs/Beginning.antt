@@ -1,10 +1,10 @@
 -- Why a batch does not begin.
-use Rattle.std.proofs.Common.{◌≡◌, ℕ, ◌+◌, ◌*◌, ◌<◌, ◌≤◌, ◌⊎◌, inl, inr, Bool, true, false, not, cond, ◌==◌, ◌||◌, nat_lt, if◌then◌else◌, List, [], ◌∷◌, map, position, length, Option, Some, None, refl, sym, ap, ◌∙◌, subst, arith}
+use Rattle.std.proofs.Common.{◌≡◌, ℕ, ◌+◌, ◌*◌, ◌<◌, ◌≤◌, ◌⊎◌, inl, inr, Bool, true, false, not, cond, ◌==◌, ◌||◌, nat_lt, if◌then◌else◌, List, [], ◌∷◌, map, position, length, get_or, Option, Some, None, refl, sym, ap, ◌∙◌, subst, arith}
 use Rattle.std.specs.List.{position_or_len, All}
 use Rattle.std.specs.Option.{option_map}
 use Rattle.std.proofs.lemmas.Bool.{cases_lt}
 use Rattle.std.proofs.lemmas.List.{length-map}
-use Rattle.std.proofs.lemmas.List.Quantifiers.{position-Some}
+use Rattle.std.proofs.lemmas.List.Sums.{fails_before_first}
 use Rattle.std.proofs.lemmas.Bool.Decides.{nat_tests}
 use Rattle.tp_collect.specs.Collected.{Batch}
 use Rattle.tp_farm.specs.declared.fault.FarmFault.{FarmFault}
@@ -34,5 +34,34 @@ pub record Begins (members : ℕ) (batch : Batch) : Type 0 where
   pub less : length batch.packets ≤ 1024
   pub whole : AreWhole batch
 
-none_some : (x : FarmFault) → ◌≡◌ {A = Option FarmFault} (Some x) None → ⊥
-none_some x e = cc
+module _ {X : Type 0} (p : X → Bool) (xs : List X) where
+  no_first : position p xs ≡ None → length xs ≤ position_or_len p xs
+  no_first e = by_test (nat_lt (position_or_len p xs) (length xs)) refl e
+    where
+      by_test : (b : Bool) → nat_lt (position_or_len p xs) (length xs) ≡ b → cond b (Some (position_or_len p xs)) None ≡ None → length xs ≤ position_or_len p xs
+      by_test true is e = cc
+      by_test false is e = grind (arith, nat_tests, is)
+
+  all_other : position p xs ≡ None → (k : ℕ) (d : X) → k < length xs → p (get_or xs k d) ≡ false
+  all_other e k d lt = fails_before_first p xs k d (omega (arith, no_first e, lt))
+
+first_whole : (batch : Batch) → first_other batch ≡ None → AreWhole batch
+first_whole batch e k d lt = same (get_or batch.packets k d) (all_other (λ packet. not (length packet == 4 * batch.image.packet)) batch.packets e k d lt)
+  where
+    same : (packet : List ℕ) → not (length packet == 4 * batch.image.packet) ≡ false → length packet ≡ 4 * batch.image.packet
+    same packet is = grind (arith, nat_tests, is)
+
+-- no refusal
+pub begun : (members : ℕ) (batch : Batch) → job_fault members batch ≡ None → Begins members batch
+begun members batch e = by_tests ((members == 0) || nat_lt most_members members) refl (nat_lt most_packets (length batch.packets)) refl (first_other batch) refl e
+  where
+    by_tests : (a : Bool) → ((members == 0) || nat_lt most_members members) ≡ a → (b : Bool) → nat_lt most_packets (length batch.packets) ≡ b → (o : Option ℕ) → first_other batch ≡ o → (if a then Some Members else if b then Some Packets else option_map Length o) ≡ None → Begins members batch
+    by_tests true is b more o first e = cc
+    by_tests false is true more o first e = cc
+    by_tests false is false more (Some n) first e = cc
+    by_tests false is false more None first e = record {
+      some = grind (arith, nat_tests, is);
+      few = grind (arith, nat_tests, is);
+      less = grind (arith, nat_tests, more);
+      whole = first_whole batch first;
+    }

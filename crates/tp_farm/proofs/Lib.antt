@@ -7,3 +7,4 @@ pub mod Ending
 pub mod Numbers
 pub mod Origins
 pub mod Beginning
+pub mod Settling

@@ -25,6 +25,10 @@ times_parts x [] = refl
 times_parts x (filed.Done d ∷ more) = omega (arith, times_parts x more)
 times_parts x (filed.Lost n f ∷ more) = omega (arith, times_parts x more)
 
+pub times-append : (x : ℕ) (xs ys : List ℕ) → times x (xs ++ ys) ≡ times x xs + times x ys
+times-append x [] ys = omega arith
+times-append x (y ∷ xs) ys = omega (arith, times-append x xs ys)
+
 same_once : (x : ℕ) (more : List ℕ) → times x (x ∷ more) ≡ 1 + times x more
 same_once x more = grind (arith, nat_tests)
 
@@ -97,11 +101,11 @@ stays_filed entries (f ∷ more) i e v is some =
 -- an entry that is vacant at the end has nothing filed for it
 pub none_filed : (entries : List Entry) (fs : List Filed) (i : ℕ) → FindVacant entries fs → slice_get (filed_in entries fs) i ≡ Some vacant → times i (numbers fs) ≡ 0
 none_filed entries [] i v is = refl
-none_filed entries (f ∷ more) i v is = by_number (cases_eq (number_of f) i)
+none_filed entries (f ∷ more) i v is = by_number (none_filed (slice_set entries (number_of f) (entry_of f)) more i v.1 is) (cases_eq (number_of f) i)
   where
-    by_number : (number_of f ≡ i) ⊎ (number_of f ≡ i → ⊥) → times i (numbers (f ∷ more)) ≡ 0
-    by_number (inl same) =
+    by_number : times i (numbers more) ≡ 0 → (number_of f ≡ i) ⊎ (number_of f ≡ i → ⊥) → times i (numbers (f ∷ more)) ≡ 0
+    by_number later (inl same) =
         let within : number_of f < length entries = slice_get_within entries (number_of f) vacant v.0 in
         let there : slice_get (slice_set entries (number_of f) (entry_of f)) i ≡ Some (entry_of f) = subst (λ j. slice_get (slice_set entries (number_of f) (entry_of f)) j ≡ Some (entry_of f)) same (set_there entries (number_of f) (entry_of f) within) in
         absurd (never_vacant f (same_Some _ _ (sym (stays_filed (slice_set entries (number_of f) (entry_of f)) more i (entry_of f) v.1 there (never_vacant f)) ∙ is)))
-    by_number (inr other) = other_not i (number_of f) (numbers more) other ∙ none_filed (slice_set entries (number_of f) (entry_of f)) more i v.1 is
+    by_number later (inr other) = other_not i (number_of f) (numbers more) other ∙ later
