@@ -8,3 +8,4 @@ pub mod Numbers
 pub mod Origins
 pub mod Beginning
 pub mod Settling
+pub mod Together

@@ -51,7 +51,7 @@ pub record DidWell (batch : Batch) (budget : ℕ) (open_for_good : Bool) (m : Me
   pub ends : EndsBy batch budget open_for_good (progress_of m.view) m.end
   pub well : fault_of_end m.end ≡ None
 
-abbrev AllDidWell : Batch → ℕ → Bool → List Member → Type 0
+abbrev pub AllDidWell : Batch → ℕ → Bool → List Member → Type 0
 AllDidWell batch budget o [] = Unit {0}
 AllDidWell batch budget o (m ∷ ms) = DidWell batch budget o m × AllDidWell batch budget o ms
 

@@ -10,5 +10,6 @@ pub mod Refused
 pub mod Gathering
 pub mod Apart
 pub mod Batches
+pub mod Rooms
 pub use Rattle.tp_machine.specs.Devices
 pub use Rattle.tp_collect.specs.Collected

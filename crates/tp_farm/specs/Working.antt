@@ -5,6 +5,7 @@ use Rattle.tp_link.specs.declared.links.Links.{Links}
 use Rattle.tp_board.specs.Boards.{BoardView, SeatView, IsSeatOf}
 use Rattle.tp_board.specs.Sources.{progress_of}
 use Rattle.tp_collect.specs.Collected.{Batch}
+use Rattle.tp_farm.specs.declared.job.Job.{Job}
 use Rattle.tp_farm.specs.declared.member.Filed.{Filed}
 use Rattle.tp_farm.specs.declared.worker.Returned.{Returned}
 use Rattle.tp_farm.specs.declared.worker.Shop.{Shop}
@@ -20,13 +21,16 @@ pub record Work : Type 0 where
   pub open_for_good : Bool
   pub board : BoardView
 
-abbrev pub work_of : {G : Type 0} → (G → Bool) → Shop G → Work
-work_of open_for_good shop = record {
-  batch = batch_of shop.job.now;
-  budget = shop.job.now.image.now.budget;
-  open_for_good = open_for_good shop.gate.now;
-  board = shop.source.now.board;
+abbrev pub work_on : {G : Type 0} → (G → Bool) → Job → G → BoardView → Work
+work_on open_for_good job gate board = record {
+  batch = batch_of job;
+  budget = job.image.now.budget;
+  open_for_good = open_for_good gate;
+  board = board;
 }
+
+abbrev pub work_of : {G : Type 0} → (G → Bool) → Shop G → Work
+work_of open_for_good shop = work_on open_for_good shop.job.now shop.gate.now shop.source.now.board
 
 -- the shop is of the board and the packets, and each packet has its length
 pub record IsSet {G : Type 0} (shop : Shop G) : Type 0 where

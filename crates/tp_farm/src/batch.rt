@@ -1,21 +1,26 @@
 //! Batches.
 
-ghost use Rattle.std.specs.Prelude.{◌≡◌, ◌==◌, ◌<◌, not, None, Some, Err, map, position, IfSome, IfOk, IfErr, OnOk, length};
+ghost use Rattle.std.specs.Prelude.{◌≡◌, ◌==◌, ◌<◌, not, None, Some, Err, map, position, replicate, IfSome, IfOk, IfErr, OnOk, length, vec_len};
+ghost use Rattle.std.specs.List.{AllZip};
+ghost use Rattle.tp_collect.specs.Collecting.{vacant};
 ghost use Rattle.tp_farm.specs.Jobs.{batch_of};
 ghost use Rattle.tp_farm.specs.Stages.{of_links};
+ghost use Rattle.tp_farm.specs.Working.{HasWorked, work_on};
 ghost use Rattle.tp_farm.specs.Refused.{job_fault, EndsWithout};
 ghost use Rattle.tp_farm.specs.Batches.{IsBatch};
+ghost use Rattle.tp_farm.specs.Rooms.{HasRoom};
 
 use crate::fault::FarmFault;
 use crate::gate::Gate;
-use crate::gathering::{gather_all, take_seats};
+use crate::gathering::{Kept, gather_all, take_seats};
 use crate::job::Job;
 use crate::members::run_members;
-use crate::worker::Shop;
-use std::alloc::Global;
+use crate::worker::{Back, Shop};
+use std::alloc::{AllocError, Global};
+use std::snapshot::Snapshot;
 use std::sync::Wait;
 use std::thread::Threads;
-use tp_board::{Board, BoardFault, BoardSource, MAX_MEMBERS, MAX_PACKETS, Packet};
+use tp_board::{Board, BoardSource, MAX_MEMBERS, MAX_PACKETS, Packet, Seat};
 use tp_collect::{Collected, Collector};
 use tp_link::{LinkDevice, Links};
 
@@ -48,4 +53,94 @@ fn job_fault(job: &Job<'_>, members: usize) -> Option<FarmFault>
         Some(number) => Some(FarmFault::Length(number as u32)),
         None => None,
     }
+}
+
+/// Room for what the members give back.
+#[derive(Drop)]
+struct Room<D> {
+    seats: Vec<Seat>,
+    kept: Vec<Kept<D>>,
+    links: Vec<Links<D>>,
+}
+
+impl<D: Drop> Room<D> {
+    /// Room for so many members.
+    fn for_members(alloc: Global, members: usize) -> Result<Room<D>, AllocError>
+        ensures { IfOk result (HasRoom members) }
+    {
+        Ok(Room {
+            seats: Vec::with_capacity(alloc, members)?,
+            kept: Vec::with_capacity(alloc, members)?,
+            links: Vec::with_capacity(alloc, members)?,
+        })
+    }
+}
+
+/// Makes one batch of what the members give back: the board is closed, which accounts for each number once, and all that
+/// was filed is gathered. The first fault of a member is the answer.
+fn settle<D: LinkDevice, G: Gate>(
+    job: &Job<'_>,
+    _gate: &G,
+    board: Board,
+    mut collector: Collector<'_>,
+    returned: Vec<Back<D>>,
+    mut room: Room<D>,
+    _before: Snapshot<Vec<Links<D>>>,
+) -> Result<Batch<D>, FarmFault>
+    requires worked { AllZip (HasWorked D.state (work_on G.open_for_good job.now _gate.now board)) _before.value.items returned.items }
+    requires members { vec_len returned ≡ board.members }
+    requires some { 0 < vec_len returned }
+    requires packets { board.packets ≡ length (batch_of job.now).packets }
+    requires collector { collector ≡ record { batch = batch_of job.now; entries = replicate board.packets vacant } }
+    requires room { HasRoom (vec_len returned) room }
+    ensures batch { IfOk result (λ b. IsBatch (batch_of job.now) (G.open_for_good _gate.now) (map (of_links D.state) _before.value.items) (map (of_links D.state) b.links.items) b.collected) }
+    ensures err { IfErr result (EndsWithout (batch_of job.now) job.now.image.now.budget) }
+{
+    take_seats(job, returned, &mut room.seats, &mut room.kept)?;
+    if board.close(room.seats).is_err() {
+        unreachable!()
+    }
+    gather_all(&mut collector, room.kept, &mut room.links);
+    Ok(Batch {
+        collected: collector.finish(),
+        links: room.links,
+    })
+}
+
+/// Runs the packets of a job, by a member for each of the links: a thread with a machine of its own. The links come back
+/// in the order given; where there is a fault they are dropped. It may wait.
+///
+/// G1, G2 and G3 are tested first, in this order. Where a thread cannot be started no further one is, and the members that
+/// were started go on until they end. A member with a fault of its own stops the batch first.
+pub fn run_batch<R: Threads + Wait + Sync, D: LinkDevice + Send, G: Gate>(
+    rt: &R,
+    alloc: Global,
+    job: &Job<'_>,
+    links: Vec<Links<D>>,
+    gate: &G,
+) -> Result<Batch<D>, FarmFault>
+    ensures batch { IfOk result (λ b. IsBatch (batch_of job.now) (G.open_for_good gate.now) (map (of_links D.state) links.items) (map (of_links D.state) b.links.items) b.collected) }
+    ensures begins { OnOk result (job_fault (length links.items) (batch_of job.now) ≡ None) }
+    ensures refused { IfSome (job_fault (length links.items) (batch_of job.now)) (λ fault. result ≡ Err fault) }
+    ensures err { job_fault (length links.items) (batch_of job.now) ≡ None → IfErr result (EndsWithout (batch_of job.now) job.now.image.now.budget) }
+{
+    if let Some(fault) = job_fault(job, links.len()) {
+        return Err(fault);
+    }
+    let collector = Collector::new(alloc, job.batch, job.image.image(), job.packets)?;
+    let room = Room::for_members(alloc, links.len())?;
+    let made = Board::new(alloc, job.packets.len() as u32, links.len() as u32);
+    let Ok((board, seats)) = made else {
+        return Err(FarmFault::Memory);
+    };
+    let source = BoardSource::new(board, job.packets);
+    let before = Snapshot::of(&links);
+    let shop = Shop {
+        job,
+        gate,
+        source: &source,
+    };
+    let returned = run_members(rt, alloc, &shop, seats, links)?;
+    let board = source.into_board();
+    settle(job, gate, board, collector, returned, room, before)
 }

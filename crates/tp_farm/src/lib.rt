@@ -11,7 +11,7 @@ mod member;
 mod members;
 mod worker;
 
-pub use batch::Batch;
+pub use batch::{Batch, run_batch};
 pub use fault::FarmFault;
 pub use gate::{Gate, OpenGate};
 pub use job::Job;
