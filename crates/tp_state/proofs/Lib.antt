@@ -10,3 +10,7 @@ pub mod CellOrder
 pub mod StateOrder
 pub mod FitsAbove
 pub mod EntryFits
+pub mod LiveCells
+pub mod LiveRules
+pub mod LiveLoops
+pub mod LiveWords

@@ -6,6 +6,7 @@ pub mod Conditions
 pub mod Rules
 pub mod After
 pub mod Samples
+pub mod Live
 pub mod Fits
 pub mod Order
 pub mod Entry
