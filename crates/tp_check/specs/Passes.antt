@@ -45,9 +45,16 @@ go_along image p edge (Some s) table = do
 
 -- ---- one pass
 
--- the edges of a code: by rising address, and those of an instruction in their order
+-- edges of an instruction, and all that it is asked on, in their order
+abbrev pub from : Placed → List Edge → List (Placed × Edge)
+from p ways = map (λ edge. (p, edge)) ways
+
+abbrev pub edges_of : Placed → List (Placed × Edge)
+edges_of p = from p (asked p.instr)
+
+-- the edges of a code: by rising address
 abbrev pub edges_in : List Cut → List (Placed × Edge)
-edges_in cuts = flat_map (λ p. map (λ edge. (p, edge)) (asked p.instr)) (placed_from 0 cuts)
+edges_in cuts = flat_map edges_of (placed_from 0 cuts)
 
 -- one edge after another
 abbrev pub along : ImageValue → List (Placed × Edge) → Table → Result Table StateFault
