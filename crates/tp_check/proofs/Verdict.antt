@@ -11,8 +11,8 @@ use Rattle.tp_state.specs.Answer.{◌>>=◌}
 use Rattle.tp_check.specs.declared.passes.Passes.{Passes}
 use Rattle.tp_check.specs.Tables.{Table, table_of, HasPlacedStates}
 use Rattle.tp_check.specs.EdgesRespect.{EveryEdgeRespects}
-use Rattle.tp_check.specs.Passes.{pass, passes, IsVerdict}
-use Rattle.tp_check.specs.UnderWay.{IsUnderWay, HasPlaces, AreTaken, Gives, Moves, IsRefusalOf, table_height, has_changed}
+use Rattle.tp_check.specs.Passes.{pass, passes, IsVerdict, IsRefusalOf}
+use Rattle.tp_check.specs.UnderWay.{IsUnderWay, HasPlaces, AreTaken, Gives, Moves, table_height, has_changed}
 
 -- between two passes; whether the last one changed the table
 pub record IsBetween (image : ImageValue) (cuts : List Cut) (p : Passes) (moved : Bool) : Type 0 where

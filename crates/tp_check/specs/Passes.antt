@@ -10,7 +10,7 @@ use Rattle.tp_image.specs.Image.{ImageValue}
 use Rattle.tp_state.specs.declared.state.State.{State}
 use Rattle.tp_state.specs.declared.fault.StateCode.{StateCode}
 use Rattle.tp_state.specs.declared.fault.StateFault.{StateFault}
-use Rattle.tp_state.specs.declared.fault.StateFault.TheVariants.{Refused}
+use Rattle.tp_state.specs.declared.fault.StateFault.TheVariants.{Refused, Memory}
 use Rattle.tp_state.specs.Answer.{◌>>=◌}
 use Rattle.tp_state.specs.Order.{meeting}
 use Rattle.tp_state.specs.Entry.{entry}
@@ -83,3 +83,8 @@ pub record IsVerdict (image : ImageValue) (cuts : List Cut) (verdict : Result Ta
   pub number : ℕ
   pub comes : passes image cuts number ≡ verdict
   pub stays : (verdict >>= pass image cuts) ≡ verdict
+
+-- a fault is the passes' refusal, or a want of memory
+abbrev pub IsRefusalOf : ImageValue → List Cut → StateFault → Type 0
+IsRefusalOf image cuts (Refused code place) = IsVerdict image cuts (Err (Refused code place))
+IsRefusalOf image cuts Memory = Unit {0}

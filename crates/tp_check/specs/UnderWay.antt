@@ -23,7 +23,6 @@ use Rattle.tp_state.specs.Live.{LiveWordsAre}
 use Rattle.tp_check.specs.declared.passes.Passes.{Passes}
 use Rattle.tp_check.specs.Tables.{Table, table_of, asked}
 use Rattle.tp_check.specs.EdgesRespect.{HasAbove, Respects}
-use Rattle.tp_check.specs.Passes.{IsVerdict}
 
 -- ---- what a table keeps
 
@@ -133,10 +132,3 @@ pub record MovesTable (image : ImageValue) (moved : Bool) (old new : List (Optio
 pub record Moves (image : ImageValue) (moved : Bool) (old new : Passes) : Type 0 where
   pub table : MovesTable image moved old.table new.table
   pub rests : moved ≡ false → (at : ℕ) → has_changed old at ≡ false → has_changed new at ≡ false
-
--- ---- the answer
-
--- a fault is the passes' refusal, or a want of memory
-abbrev pub IsRefusalOf : ImageValue → List Cut → StateFault → Type 0
-IsRefusalOf image cuts (Refused code place) = IsVerdict image cuts (Err (Refused code place))
-IsRefusalOf image cuts Memory = Unit {0}

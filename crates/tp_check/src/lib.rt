@@ -12,3 +12,6 @@ mod table;
 pub use check::every_edge_respects;
 pub use passes::check_states;
 pub use table::Table;
+
+#[cfg(test)]
+mod tests;
