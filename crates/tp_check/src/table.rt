@@ -36,7 +36,8 @@ impl Table {
         ensures value { IfOk result (λ table. table_of table ≡ first_table image.now) }
     {
         let mut states = Vec::with_capacity(alloc, places)?;
-        states.push(Some(State::entry(alloc, image)?))?;
+        let first = State::entry(alloc, image)?;
+        states.push(Some(first))?;
         for _place in 1..places {
             states.push(None)?;
         }

@@ -20,3 +20,7 @@ every_edge_respects-requires-clause-placed c at s there = (c.loop-moved.invarian
 
 pub returns-clause-placed : goal.returns-clause-placed
 returns-clause-placed c at s there = (c.loop-moved.invariant.way.grown.states at s there).placed
+
+-- what the table promises is what the check of its edges has found, whatever the passes did
+pub returns-clause-respected : goal.returns-clause-respected
+returns-clause-respected c = c.in_ok-every_edge_respects.ensures.0 c.if-not-branch.false

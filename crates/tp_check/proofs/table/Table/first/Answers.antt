@@ -9,7 +9,7 @@ pub loop-place-init : goal.loop-place-init
 loop-place-init c = record { sized = ap length states_are; value = ap table_of states_are ∙ table_first c.args.image.now }
   where
     states_are : c.push.new.self.items ≡ Some (entry c.args.image.now) ∷ []
-    states_are = c.in_ok-push.ensures.items ∙ ap (λ (xs : List (Option State)). xs ++ Some c.in_ok-entry.field-0 ∷ []) c.in_ok-states.ensures.items ∙ ap (λ s. Some s ∷ []) c.in_ok-entry.ensures.value
+    states_are = c.in_ok-push.ensures.items ∙ ap (λ (xs : List (Option State)). xs ++ Some c.in_ok-first.first ∷ []) c.in_ok-states.ensures.items ∙ ap (λ s. Some s ∷ []) c.in_ok-first.ensures.value
 
 pub loop-place-preserved : goal.loop-place-preserved
 loop-place-preserved c = record {
