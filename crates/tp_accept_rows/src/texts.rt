@@ -21,7 +21,8 @@ pub fn changed(alloc: Global, text: &[u8], at: usize, bytes: &[u8]) -> Result<Ve
 /// The increment's header, with the length of a short code, and the code.
 pub fn with_code(alloc: Global, code: &[u8]) -> Result<Vec<u8>, AllocError> {
     let header = INCREMENT.get(..HEADER_BYTES).unwrap_or(&[]);
-    let mut text = changed(alloc, header, 4, &[code.len() as u8])?;
+    let length = u8::try_from(code.len()).unwrap_or(0);
+    let mut text = changed(alloc, header, 4, &[length])?;
     text.extend_from_slice(code)?;
     Ok(text)
 }
