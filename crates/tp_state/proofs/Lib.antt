@@ -5,7 +5,6 @@ pub mod CellLemmas
 pub mod JoinLemmas
 pub mod EntryLemmas
 pub mod OrderLemmas
-pub mod Computing
 pub mod CellOrder
 pub mod StateOrder
 pub mod FitsAbove

@@ -5,7 +5,6 @@ pub mod CellRules
 pub mod Conditions
 pub mod Rules
 pub mod After
-pub mod Samples
 pub mod Fits
 pub mod Order
 pub mod Entry
