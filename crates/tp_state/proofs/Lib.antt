@@ -9,3 +9,10 @@ pub mod CellOrder
 pub mod StateOrder
 pub mod FitsAbove
 pub mod EntryFits
+pub mod Passing
+pub mod WordLemmas
+pub mod KindLemmas
+pub mod WordsChange
+pub mod Makes
+pub mod NumberPass
+pub mod Products

@@ -6,6 +6,7 @@ pub mod Conditions
 pub mod Rules
 pub mod After
 pub mod Fits
+pub mod GoesOn
 pub mod Order
 pub mod Entry
 pub mod StateCodes
