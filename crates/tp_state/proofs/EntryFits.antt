@@ -92,7 +92,7 @@ low_bytes : (i k n : ℕ) → All (λ byte. byte < 256) (bytes_low_first i k n)
 low_bytes i zero n = All-nil (λ byte. byte < 256)
 low_bytes i (suc k) n = All-cons (λ byte. byte < 256) (byte_at i n) (bytes_low_first (suc i) k n) (byte_small i n) (low_bytes (suc i) k n)
 
-word_bytes : (n : ℕ) → All (λ byte. byte < 256) (to_le_bytes w32 n)
+pub word_bytes : (n : ℕ) → All (λ byte. byte < 256) (to_le_bytes w32 n)
 word_bytes n = low_bytes 0 4 n
 
 all_bytes : (words : List ℕ) → All (λ byte. byte < 256) (flat_map (to_le_bytes w32) words)

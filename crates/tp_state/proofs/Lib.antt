@@ -16,3 +16,7 @@ pub mod WordsChange
 pub mod Makes
 pub mod NumberPass
 pub mod Products
+pub mod StretchLemmas
+pub mod ByteLemmas
+pub mod ConstantPass
+pub mod LoadLemmas

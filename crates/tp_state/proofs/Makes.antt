@@ -116,3 +116,26 @@ module _ (image : ImageValue) (around : ℕ → Bool) (at : ℕ) (t : State) (s 
 
   pub words_turns : (cells' : List Cell) (m' : Memory) → Change image.loops image.workspace t.cells cells' s.memory m' → KeepsTurns image.loops around None s.memory m'
   words_turns cells' m' c = turns_kept image.loops image.workspace t.cells cells' s.memory m' c f.words.sized around f.loops
+
+  pub words_made : (instr : Instr) (t' : State) (cells' : List Cell) (m' : Memory) (a b c : Kind) (ra rb rc : Option ℕ)
+      → effect image instr s ≡ Some (record s { memory = m'; areg = ra; breg = rb; creg = rc })
+      → ◌≡◌ {A = Result State StateCode} (Ok (record t { cells = cells'; a = a; b = b; c = c })) (Ok t')
+      → Change image.loops image.workspace t.cells cells' s.memory m' → ((a byte : ℕ) → m' a ≡ Some byte → byte < 256)
+      → KindFits image a ra → KindFits image b rb → KindFits image c rc
+      → Makes image around None at instr t' s
+  words_made instr t' cells' m' a b c ra rb rc made ok change small fa fb fc =
+      let w = words_fit cells' m' change small in
+      record {
+        end = record s { memory = m'; areg = ra; breg = rb; creg = rc };
+        made = made;
+        fits = subst (λ u. FitsAmong image around at u (record s { memory = m'; areg = ra; breg = rb; creg = rc })) (same_Ok _ _ ok) record {
+          place = record { running = w.place.running; iptr = w.place.iptr; oreg = w.place.oreg; wptr = w.place.wptr; roomy = w.place.roomy; inside = w.place.inside };
+          phase = w.phase;
+          registers = record { a = fa; b = fb; c = fc };
+          words = w.words;
+          bytes = record { memory = w.bytes.memory; packet = w.bytes.packet };
+          packet = w.packet;
+          loops = w.loops;
+        };
+        turns = words_turns cells' m' change;
+      }
