@@ -20,3 +20,4 @@ pub mod StretchLemmas
 pub mod ByteLemmas
 pub mod ConstantPass
 pub mod LoadLemmas
+pub mod PointerPass

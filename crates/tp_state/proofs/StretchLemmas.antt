@@ -10,7 +10,7 @@ use Rattle.tp_state.specs.declared.cell.Cell.{Cell}
 use Rattle.tp_state.specs.declared.cell.Cell.TheVariants as cell
 use Rattle.tp_state.specs.CellRules.{cell_at, cells_from, with_cells, is_free, are_free, is_defined, blurred, copied}
 use Rattle.tp_state.specs.Fits.{CellFits, WordsFit, word_address}
-use Rattle.tp_state.proofs.CellLemmas.{length-with_cells, cell_at-with_cells_in, cell_at-with_cells_out, length-cells_from, cell_at-cells_from}
+use Rattle.tp_state.proofs.CellLemmas.{length-with_cells, cell_at-with_cells_in, cell_at-with_cells_out, length-cells_from, cell_at-cells_from, cut_short}
 use Rattle.tp_state.proofs.Passing.{true_false}
 use Rattle.tp_state.proofs.WordsChange.{Change, IsKept, IsTaken, kept_word}
 
@@ -28,6 +28,28 @@ pub all_inside : (p : Cell → Bool) (cells : List Cell) (x n y : ℕ) → list_
 all_inside p cells x n y all room low high =
     let back : x + (y - x) ≡ y = omega arith in
     ap (λ j. p (cell_at cells j)) (sym back) ∙ all_between p cells x n (y - x) all room (omega arith)
+
+-- some words without those that lie behind the last one
+pub record Within (cells : List Cell) (x n : ℕ) : Type 0 where
+  pub number : ℕ
+  pub same : cells_from cells x n ≡ cells_from cells x number
+  pub room : x + number ≤ length cells
+  pub few : number ≤ n
+  pub all : (i : ℕ) → i < n → x + i < length cells → i < number
+
+pub cut_within : (cells : List Cell) (x n : ℕ) → x ≤ length cells → Within cells x n
+cut_within cells x n low = by_end (cases_lt (length cells) (x + n))
+  where
+    by_end : (length cells < x + n) ⊎ (x + n ≤ length cells) → Within cells x n
+    by_end (inl beyond) = record { number = length cells - x; same = sym (cut_short cells x n beyond); room = omega arith; few = omega arith; all = λ i lt inside. omega arith }
+    by_end (inr room) = record { number = n; same = refl; room = room; few = omega arith; all = λ i lt inside. lt }
+
+-- what holds of each of some words, those behind the last one left out
+pub all_within : (p : Cell → Bool) (cells : List Cell) (x n y : ℕ) → list_all p (cells_from cells x n) ≡ true → x ≤ y → y < x + n → y < length cells → p (cell_at cells y) ≡ true
+all_within p cells x n y all low high inside =
+    let w = cut_within cells x n (omega arith) in
+    let back : x + (y - x) ≡ y = omega arith in
+    all_inside p cells x w.number y (ap (list_all p) (sym w.same) ∙ all) w.room low (omega (arith, w.all (y - x) (omega arith) (omega arith)))
 
 -- what one of some words takes
 pub record Takes (rows : List LoopRow) (cells these : List Cell) (m' : Memory) (x i : ℕ) : Type 0 where
