@@ -21,3 +21,6 @@ pub mod ByteLemmas
 pub mod ConstantPass
 pub mod LoadLemmas
 pub mod PointerPass
+pub mod RestLemmas
+pub mod JumpPass
+pub mod MessagePass

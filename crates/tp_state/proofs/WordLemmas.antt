@@ -43,6 +43,27 @@ natural_signed v n h e =
     let is : signed v ≡ pos v = signed_natural v h (omega (arith, ints)) in
     omega (arith, ints)
 
+pub signed_same : (v w : ℕ) → v < 2 ^ 32 → w < 2 ^ 32 → signed v ≡ signed w → v ≡ w
+signed_same v w hv hw e = by_signs (cases_lt v (2 ^ 31)) (cases_lt w (2 ^ 31))
+  where
+    by_signs : (v < 2 ^ 31) ⊎ (2 ^ 31 ≤ v) → (w < 2 ^ 31) ⊎ (2 ^ 31 ≤ w) → v ≡ w
+    by_signs (inl a) (inl b) =
+        let v_is = signed_low v a in
+        let w_is = signed_low w b in
+        omega (arith, ints)
+    by_signs (inl a) (inr b) =
+        let v_is = signed_low v a in
+        let w_is = signed_high w b in
+        absurd (omega (arith, ints))
+    by_signs (inr a) (inl b) =
+        let v_is = signed_high v a in
+        let w_is = signed_low w b in
+        absurd (omega (arith, ints))
+    by_signs (inr a) (inr b) =
+        let v_is = signed_high v a in
+        let w_is = signed_high w b in
+        omega (arith, ints)
+
 pub signed_complement : (v : ℕ) → v < 2 ^ 32 → signed (2 ^ 32 - 1 - v) ≡ negsuc 0 -ℤ signed v
 signed_complement v h = by_sign (cases_lt v (2 ^ 31))
   where
