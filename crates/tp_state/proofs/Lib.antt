@@ -24,3 +24,4 @@ pub mod PointerPass
 pub mod RestLemmas
 pub mod JumpPass
 pub mod MessagePass
+pub mod MovePass

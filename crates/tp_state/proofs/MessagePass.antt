@@ -179,3 +179,169 @@ module _ (image : ImageValue) (around : ℕ → Bool) (next : ℕ) (t : State) (
         fits = fits';
         turns = λ l row is row_is. turns' l row is row_is ∙ turns l row is row_is;
       }
+
+-- ---- out
+
+-- a message of n words goes out, of this length, on this channel, and this is the phase after it
+record Sends (image : ImageValue) (s : Machine) (phase after n v w : ℕ) : Type 0 where
+  whole : v ≡ 4 * n
+  sent : (bytes : List ℕ) (r : Machine) → length bytes ≡ v → r.phase ≡ phase → (out : List ℕ) × (trace : List ℕ) × (sent_on image w bytes r ≡ Some (record r { phase = after; sent = out; traced = trace }))
+  later : after ≡ 0 → phase ≡ 0
+
+result_sent : (image : ImageValue) (bytes : List ℕ) (r : Machine) → length bytes ≡ 4 * image.result → r.phase ≡ 1 → sent_on image link0_output bytes r ≡ Some (record r { phase = 2; sent = r.sent ++ bytes })
+result_sent image bytes r long phase =
+    let size : (length bytes == 4 * image.result) ≡ true = (Decides-eqb (length bytes) (4 * image.result)).1 long in
+    let first : (r.phase == 1) ≡ true = (Decides-eqb r.phase 1).1 phase in
+    let test : is_result image link0_output (length bytes) r ≡ true = rw (size, first) refl in
+    rw test refl
+
+trace_sent : (image : ImageValue) (bytes : List ℕ) (r : Machine) → is_trace_length (length bytes) ≡ true → sent_on image link1_output bytes r ≡ Some (record r { traced = r.traced ++ bytes })
+trace_sent image bytes r size =
+    let test : is_trace link1_output (length bytes) ≡ true = size_is (length bytes) size in
+    rw test refl
+  where
+    size_is : (n : ℕ) → is_trace_length n ≡ true → is_trace link1_output n ≡ true
+    size_is n e = grind (arith, nat_tests)
+
+-- one number of bytes
+one_length : {P : Type 0} (a : ℤ × ℤ) (v : ℕ) → InRange a.0 a.1 v → is_one_length a ≡ true → (v ≡ count_of a.0 → P) → P
+one_length (pos n, high) v in_a e go =
+    let parts = and_parts (int_eq (pos n) high) (int_le (pos 0) (pos n)) e in
+    let same : pos n ≡ high = (Decides-int_eq (pos n) high).0 parts.0 in
+    let above = in_a.above in
+    let below = in_a.below in
+    go (natural_signed v n in_a.word (omega (arith, ints)))
+one_length (negsuc n, high) v in_a e go =
+    let parts = and_parts (int_eq (negsuc n) high) (int_le (pos 0) (negsuc n)) e in true_false (sym parts.1)
+
+sends : {P : Type 0} (image : ImageValue) (s : Machine) (k : Kind) (r : Option ℕ) (a : ℤ × ℤ) (n phase after v : ℕ) → KindFits image k r → InRange a.0 a.1 v → words_to_send image k a ≡ Ok n → phase_after k phase ≡ Ok after
+    → ((w : ℕ) → r ≡ Some w → Sends image s phase after n v w → P) → P
+unfolding words_to_send phase_after
+sends {P} image s k r a n phase after v fits in_a sized later go =
+    by_link (is_exactly (channel link0_output) k) refl (is_exactly (channel link1_output) k) refl sized later
+  where
+    no_link : (w : ℕ) → signed w ≡ channel link0_output → signed w ≡ channel link1_output → ⊥
+    no_link w e e' = let both : channel link0_output ≡ channel link1_output = sym e ∙ e' in
+        let same : link0_output ≡ link1_output = signed_same link0_output link1_output (omega arith) (omega arith) both in
+        omega arith
+
+    by_link : (p : Bool) → is_exactly (channel link0_output) k ≡ p → (q : Bool) → is_exactly (channel link1_output) k ≡ q
+        → (if p then (unless S7 (is_one_length a && (count_of a.0 == 4 * image.result)) >> Ok image.result)
+           else if q then (unless S7 (is_one_length a && is_trace_length (count_of a.0)) >> Ok (count_of a.0 / 4)) else Err S8) ≡ Ok n
+        → (if q then Ok phase else if phase == 1 then Ok 2 else Err S9) ≡ Ok after → P
+    by_link true is true is' sized later =
+        exactly_is image (channel link0_output) k r is fits λ w w_is word e.
+        exactly_is image (channel link1_output) k r is' fits λ w' w_is' word' e'.
+        let same : w ≡ w' = cc in
+        absurd (no_link w e (ap signed same ∙ e'))
+    by_link true is false is' sized later =
+        held S7 (is_one_length a && (count_of a.0 == 4 * image.result)) _ n sized λ tests sized.
+        let parts = and_parts (is_one_length a) (count_of a.0 == 4 * image.result) tests in
+        let n_is : image.result ≡ n = same_Ok _ _ sized in
+        let size : count_of a.0 ≡ 4 * image.result = (Decides-eqb (count_of a.0) (4 * image.result)).0 parts.1 in
+        exactly_is image (channel link0_output) k r is fits λ w w_is word e.
+        one_length a v in_a parts.0 λ v_is.
+        by_phase (phase == 1) refl later (λ first after_is.
+            go w w_is record {
+              whole = omega arith;
+              sent = λ bytes m long at. (m.sent ++ bytes, m.traced,
+                  ap (λ c. sent_on image c bytes m) (signed_same w link0_output word (omega arith) e)
+                  ∙ result_sent image bytes m (omega arith) (omega arith)
+                  ∙ ap (λ p. Some (record m { phase = p; sent = m.sent ++ bytes })) after_is);
+              later = λ none. absurd (omega arith);
+            })
+      where
+        by_phase : (b : Bool) → (phase == 1) ≡ b → (if b then Ok 2 else Err S9) ≡ Ok after → (phase ≡ 1 → 2 ≡ after → P) → P
+        by_phase true first e go = go ((Decides-eqb phase 1).0 first) (same_Ok _ _ e)
+        by_phase false first e go = cc
+    by_link false is true is' sized later =
+        held S7 (is_one_length a && is_trace_length (count_of a.0)) _ n sized λ tests sized.
+        let parts = and_parts (is_one_length a) (is_trace_length (count_of a.0)) tests in
+        let n_is : count_of a.0 / 4 ≡ n = same_Ok _ _ sized in
+        let after_is : phase ≡ after = same_Ok _ _ later in
+        exactly_is image (channel link1_output) k r is' fits λ w w_is word e.
+        one_length a v in_a parts.0 λ v_is.
+        go w w_is record {
+          whole = omega (arith, whole_words (count_of a.0) parts.1);
+          sent = λ bytes m long at. (m.sent, m.traced ++ bytes,
+              ap (λ c. sent_on image c bytes m) (signed_same w link1_output word (omega arith) e)
+              ∙ trace_sent image bytes m (ap is_trace_length (long ∙ v_is) ∙ parts.1)
+              ∙ ap (λ p. Some (record m { phase = p; traced = m.traced ++ bytes })) (at ∙ after_is));
+          later = λ none. omega arith;
+        }
+      where
+        whole_words : (c : ℕ) → is_trace_length c ≡ true → c % 4 ≡ 0
+        whole_words c e = grind (arith, nat_tests)
+    by_link false is false is' sized later = cc
+
+-- what out asks of the machine
+record IsSending (image : ImageValue) (s r : Machine) (x v w : ℕ) (bytes : List ℕ) (end : Machine) : Type 0 where
+  length_is : s.areg ≡ Some v
+  channel_is : s.breg ≡ Some w
+  source_is : s.creg ≡ Some (word_address x)
+  inside : in_workspace image (word_address x) v ≡ true
+  rests : machine_descheduled image s ≡ Some r
+  are : bytes_at r.memory (word_address x) v ≡ Some bytes
+  sent : sent_on image w bytes r ≡ Some end
+
+output_is : (image : ImageValue) (s r : Machine) (x v w : ℕ) (bytes : List ℕ) (end : Machine) → IsSending image s r x v w bytes end → effect image Output s ≡ Some end
+unfolding effect
+output_is image s r x v w bytes end h = by_registers s.areg s.breg s.creg (machine_descheduled image s) h.length_is h.channel_is h.source_is h.rests h.inside h.are h.sent
+  where
+    by_registers : (ra rb rc : Option ℕ) (o : Option Machine) → ra ≡ Some v → rb ≡ Some w → rc ≡ Some (word_address x) → o ≡ Some r
+        → in_workspace image (word_address x) v ≡ true → bytes_at r.memory (word_address x) v ≡ Some bytes → sent_on image w bytes r ≡ Some end
+        → option_and_then (λ n. option_and_then (λ channel. option_and_then (λ source. only_if (in_workspace image source n) >>? option_and_then (λ s. option_and_then (λ message. sent_on image channel message s) (bytes_at s.memory source n)) o) rc) rb) ra ≡ Some end
+    by_registers ra rb rc o ea eb ec eo inside are sent = rw (ea, eb, ec, eo, inside, are) sent
+
+module _ (image : ImageValue) (around : ℕ → Bool) (next : ℕ) (t : State) (s : Machine) (f : FitsAmong image around next t s) where
+  -- the same in another phase
+  sent_fits : (phase : ℕ) (out trace : List ℕ) → (phase ≡ 0 → s.phase ≡ 0) → FitsAmong image around next (record t { phase = phase }) (record s { phase = phase; sent = out; traced = trace })
+  sent_fits phase out trace later = record {
+    place = record { running = f.place.running; iptr = f.place.iptr; oreg = f.place.oreg; wptr = f.place.wptr; roomy = f.place.roomy; inside = f.place.inside };
+    phase = refl;
+    registers = record { a = f.registers.a; b = f.registers.b; c = f.registers.c };
+    words = f.words;
+    bytes = record { memory = f.bytes.memory; packet = f.bytes.packet };
+    packet = λ none. f.packet (later none);
+    loops = f.loops;
+  }
+
+module _ (image : ImageValue) (around : ℕ → Bool) (next : ℕ) (t : State) (s : Machine) (f : FitsAmong image around next t s) (at : ℕ) (e : Edge) (t' : State) where
+  pub output_makes : rule image at next Output e t ≡ Ok t' → Makes image around None next Output t' s
+  unfolding rule
+  output_makes ok =
+      past (known t.a) _ t' ok λ ok.
+      past (known t.b) _ t' ok λ ok.
+      past (known t.c) _ t' ok λ ok.
+      through (number t.a) _ t' ok λ a a_is ok.
+      past (number t.b) _ t' ok λ ok.
+      through (one_word t.c) _ t' ok λ x x_is ok.
+      through (words_to_send image t.b a) _ t' ok λ n n_is ok.
+      through (phase_after t.b t.phase) _ t' ok λ after after_is ok.
+      past_is (message_in image x n) _ t' ok λ b b_is ok.
+      held S4 (are_defined (cells_from (given_way t).cells x n)) _ t' ok λ defined ok.
+      through (descheduled t) _ t' ok λ u u_is ok.
+      message_inside image x n b b_is λ inside.
+      one_word_is image t.c s.creg x x_is f.registers.c λ c_is lt.
+      number_is image t.a s.areg a a_is f.registers.a λ v v_is in_a.
+      sends image s t.b s.breg a n t.phase after v f.registers.b in_a n_is after_is λ w w_is sending.
+      rest image around next t s f u u_is λ free fits turns same.
+      let read : Reads (rested s).memory (word_address x) (4 * n) = words_read image.loops image.workspace u.cells (rested s).memory x n fits.words inside (ap (λ (z : State). are_defined (cells_from z.cells x n)) (sym same) ∙ defined) in
+      let v_whole : v ≡ 4 * n = sending.whole in
+      let (out, trace, sent) = sending.sent read.bytes (rested s) (read.long ∙ sym v_whole) f.phase in
+      let send : IsSending image s (rested s) x v w read.bytes (record (rested s) { phase = after; sent = out; traced = trace }) = record {
+        length_is = v_is;
+        channel_is = w_is;
+        source_is = c_is;
+        inside = ap (in_workspace image (word_address x)) v_whole ∙ words_inside image x n inside;
+        rests = rests image around next t s f;
+        are = ap (bytes_at (rested s).memory (word_address x)) v_whole ∙ read.are;
+        sent = sent;
+      } in
+      record {
+        end = record (rested s) { phase = after; sent = out; traced = trace };
+        made = output_is image s (rested s) x v w read.bytes _ send;
+        fits = subst (λ z. FitsAmong image around next z (record (rested s) { phase = after; sent = out; traced = trace })) (same_Ok (record u { phase = after }) t' ok)
+            (sent_fits image around next u (rested s) fits after out trace (λ none. f.phase ∙ sending.later none));
+        turns = turns;
+      }
