@@ -25,3 +25,7 @@ pub mod RestLemmas
 pub mod JumpPass
 pub mod MessagePass
 pub mod MovePass
+pub mod LoopsPart
+pub mod EnteringPass
+pub mod LendLemmas
+pub mod LendPass

@@ -22,7 +22,7 @@ abbrev pub rested : Machine → Machine
 rested s = machine_no_registers (record s { memory = undefined s.memory (s.wptr - 20) 20 })
 
 -- the five words below Wptr are words of the workspace
-five_below : (image : ImageValue) (x wptr : ℕ) → 5 ≤ x → x < image.workspace → wptr ≡ word_address x → in_workspace image (wptr - 20) 20 ≡ true
+pub five_below : (image : ImageValue) (x wptr : ℕ) → 5 ≤ x → x < image.workspace → wptr ≡ word_address x → in_workspace image (wptr - 20) 20 ≡ true
 five_below image x wptr roomy inside is = grind (arith, nat_tests)
 
 pub rested_is : (image : ImageValue) (x : ℕ) (s : Machine) → 5 ≤ x → x < image.workspace → s.wptr ≡ word_address x → machine_descheduled image s ≡ Some (rested s)
