@@ -9,6 +9,10 @@ pub mod CellOrder
 pub mod StateOrder
 pub mod FitsAbove
 pub mod EntryFits
+pub mod LiveCells
+pub mod LiveRules
+pub mod LiveLoops
+pub mod LiveWords
 pub mod Passing
 pub mod WordLemmas
 pub mod KindLemmas

@@ -1,5 +1,5 @@
 -- When the state of a worker's machine fits what is known of it at an address.
-use Rattle.std.specs.Prelude.{◌≡◌, ℕ, ◌+◌, ◌*◌, ◌^◌, ◌<◌, ◌≤◌, ◌⊎◌, Bool, true, false, ℤ, pos, ◌+ℤ◌, ◌≤ℤ◌, List, Option, Some, length, slice_get, All}
+use Rattle.std.specs.Prelude.{◌≡◌, ℕ, ◌+◌, ◌*◌, ◌^◌, ◌<◌, ◌≤◌, Bool, true, false, ℤ, pos, ◌+ℤ◌, ◌≤ℤ◌, List, Option, Some, length, slice_get, All}
 use Rattle.tp_decode.specs.Words.{signed}
 use Rattle.tp_image.specs.declared.image.LoopRow.{LoopRow}
 use Rattle.tp_image.specs.Image.{ImageValue}
@@ -15,6 +15,7 @@ use Rattle.tp_state.specs.declared.cell.Cell.{Cell}
 use Rattle.tp_state.specs.declared.cell.Cell.TheVariants as cell
 use Rattle.tp_state.specs.declared.state.State.{State}
 use Rattle.tp_state.specs.CellRules.{cell_at, is_free}
+use Rattle.tp_state.specs.Live.{IsInBlock}
 
 -- the address of a workspace word
 abbrev pub word_address : ℕ → ℕ
@@ -73,12 +74,6 @@ pub record IsLive (cells : List Cell) (m : Memory) (l : ℕ) (row : LoopRow) : T
   pub index_is : word_at m (word_address row.control) ≡ Some index
   pub left_is : word_at m (word_address (row.control + 1)) ≡ Some left
   pub sum : (signed index +ℤ signed left) ≡ (row.start +ℤ pos row.count)
-
--- word x is one of the block of row l's loop
-pub record IsInBlock (rows : List LoopRow) (x l : ℕ) : Type 0 where
-  pub row : LoopRow
-  pub is : slice_get rows l ≡ Some row
-  pub place : (x ≡ row.control) ⊎ (x ≡ row.control + 1)
 
 -- the live control words are those of the blocks of some loops
 pub record LoopsFit (rows : List LoopRow) (around : ℕ → Bool) (cells : List Cell) (m : Memory) : Type 0 where

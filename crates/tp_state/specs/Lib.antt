@@ -5,6 +5,7 @@ pub mod CellRules
 pub mod Conditions
 pub mod Rules
 pub mod After
+pub mod Live
 pub mod Fits
 pub mod GoesOn
 pub mod Order

@@ -10,6 +10,7 @@ ghost use Rattle.tp_step.specs.Effects.{effect};
 ghost use Rattle.tp_state.specs.EdgesTaken.{KnowsItsHead, IsAlongAnEdge};
 
 pub mod fits;
+pub mod live;
 pub mod order;
 
 /// Control goes along edges. Where no rule of flow is broken at an instruction, and Iptr stands behind it, its effect
