@@ -1,5 +1,5 @@
 -- What constants, locals, Wptr, rev and seterr make of a state that fits.
-use Rattle.std.proofs.Common.{◌≡◌, ℕ, ◌+◌, ◌*◌, ◌^◌, ◌<◌, ◌≤◌, Bool, true, false, ◌&&◌, nat_le, nat_lt, if◌then◌else◌, ℤ, pos, negsuc, ◌+ℤ◌, ◌≤ℤ◌, FitsSigned, w32, length, slice_set, Option, Some, None, Result, Ok, Err, refl, sym, ap, ◌∙◌, subst, arith}
+use Rattle.std.proofs.Common.{◌≡◌, ℕ, ◌+◌, ◌*◌, ◌^◌, ◌<◌, ◌≤◌, Bool, true, false, ◌&&◌, nat_le, nat_lt, if◌then◌else◌, ℤ, pos, negsuc, ◌+ℤ◌, ◌≤ℤ◌, length, slice_set, Option, Some, None, Result, Ok, Err, refl, sym, ap, ◌∙◌, subst, arith}
 use Rattle.std.proofs.lemmas.Int.{ints}
 use Rattle.std.proofs.lemmas.Bool.Decides.{nat_tests}
 use Rattle.std.specs.Option.{option_and_then}
@@ -43,10 +43,9 @@ constant_fits : (image : ImageValue) (n : ℤ) → overflows n ≡ false → Kin
 constant_fits image n small = exactly_fits image n (low_word n) (low_word_lt n) (signed_low_word n small)
 
 module _ (image : ImageValue) (small : image.workspace ≤ 512) (around : ℕ → Bool) (next : ℕ) (t : State) (s : Machine) (f : FitsAmong image around next t s) (at : ℕ) (e : Edge) (t' : State) where
-  pub ldc_makes : (n : ℤ) → FitsSigned w32 n → rule image at next (Ldc n) e t ≡ Ok t' → Makes image around None next (Ldc n) t' s
+  pub ldc_makes : (n : ℤ) → overflows n ≡ false → rule image at next (Ldc n) e t ≡ Ok t' → Makes image around None next (Ldc n) t' s
   unfolding rule effect
-  ldc_makes n fits ok =
-      let no_overflow : overflows n ≡ false = grind (arith, ints, nat_tests) in
+  ldc_makes n no_overflow ok =
       registers_made image around next t s f (Ldc n) t' (exactly n) t.a t.b (Some (low_word n)) s.areg s.breg s.error refl ok (constant_fits image n no_overflow) f.registers.a f.registers.b
 
   pub mint_makes : rule image at next Mint e t ≡ Ok t' → Makes image around None next Mint t' s

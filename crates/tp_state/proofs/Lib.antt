@@ -33,3 +33,5 @@ pub mod LoopsPart
 pub mod EnteringPass
 pub mod LendLemmas
 pub mod LendPass
+pub mod CodeLemmas
+pub mod GoingOn

@@ -10,7 +10,8 @@ use Rattle.tp_step.specs.Memory.{Memory, word_at}
 use Rattle.tp_state.specs.declared.cell.Cell.{Cell}
 use Rattle.tp_state.specs.declared.cell.Cell.TheVariants as cell
 use Rattle.tp_state.specs.CellRules.{cell_at, is_free}
-use Rattle.tp_state.specs.Fits.{CellFits, WordsFit, IsLive, IsInBlock, LoopsFit, word_address}
+use Rattle.tp_state.specs.Fits.{CellFits, WordsFit, IsLive, LoopsFit, word_address}
+use Rattle.tp_state.specs.Live.{IsInBlock}
 use Rattle.tp_state.specs.GoesOn.{turns_in}
 use Rattle.tp_state.proofs.Passing.{true_false}
 

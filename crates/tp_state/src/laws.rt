@@ -10,6 +10,7 @@ ghost use Rattle.tp_step.specs.Effects.{effect};
 ghost use Rattle.tp_state.specs.EdgesTaken.{KnowsItsHead, IsAlongAnEdge};
 
 pub mod fits;
+pub mod going;
 pub mod live;
 pub mod order;
 
