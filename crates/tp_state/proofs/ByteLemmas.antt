@@ -1,15 +1,15 @@
 -- Bytes of words, and bytes that are written and read.
-use Rattle.std.proofs.Common.{◌≡◌, ◌⊎◌, inl, inr, ℕ, zero, suc, ◌+◌, ◌-◌, ◌*◌, ◌/◌, ◌%◌, ◌^◌, ◌<◌, ◌≤◌, Bool, true, false, ◌&&◌, nat_le, nat_lt, if◌then◌else◌, List, [], ◌∷◌, length, map, take, replicate, get_or, slice_index_or, All, Option, Some, None, refl, sym, ap, ◌∙◌, subst, arith}
+use Rattle.std.proofs.Common.{◌≡◌, ◌⊎◌, inl, inr, ℕ, zero, suc, ◌+◌, ◌-◌, ◌^◌, ◌<◌, ◌≤◌, Bool, true, false, ◌&&◌, nat_le, nat_lt, if◌then◌else◌, List, [], ◌∷◌, length, map, replicate, get_or, slice_index_or, All, Option, Some, None, refl, sym, ap, ◌∙◌, subst, arith}
 use Rattle.std.specs.Int.{w32, to_le_bytes, from_le_bytes}
 use Rattle.std.proofs.lemmas.Bool.{cases_lt}
 use Rattle.std.proofs.lemmas.Option.{same_Some}
 use Rattle.std.proofs.lemmas.List.{length-replicate, length-map, get_or-map, get_or_past, get_or-replicate}
 use Rattle.std.specs.Option.{option_and_then}
 use Rattle.tp_step.specs.Memory.{Memory, with_cells, with_bytes, undefined, bytes_at, word_at, with_word}
-use Rattle.tp_step.proofs.MemoryLemmas.{cell_in, cell_at, cell_below, cell_above, word_is, word_apart}
+use Rattle.tp_step.proofs.MemoryLemmas.{cell_at, cell_below, cell_above, word_is, word_apart}
 use Rattle.tp_image.specs.declared.image.LoopRow.{LoopRow}
 use Rattle.tp_state.specs.declared.cell.Cell.TheVariants as cell
-use Rattle.tp_state.specs.Fits.{CellFits, word_address}
+use Rattle.tp_state.specs.Fits.{CellFits}
 use Rattle.tp_state.proofs.EntryFits.{word_bytes}
 
 -- each defined byte is one
@@ -112,8 +112,8 @@ module _ (m : Memory) (a : ℕ) (bytes : List ℕ) where
   written_small small all x byte e =
       by_place x
       (λ k lt same.
-          let is : get_or bytes k 0 ≡ byte = same_Some _ _ (sym (written_in k lt) ∙ ap (with_bytes m a bytes) (sym same) ∙ e) in
-          subst (λ b. b < 256) is (all k 0 lt))
+      let is : get_or bytes k 0 ≡ byte = same_Some _ _ (sym (written_in k lt) ∙ ap (with_bytes m a bytes) (sym same) ∙ e) in
+      subst (λ b. b < 256) is (all k 0 lt))
       (λ out. small x byte (sym (written_out x out) ∙ e))
 
   pub written_apart : (x : ℕ) → (x + 4 ≤ a) ⊎ (a + length bytes ≤ x) → word_at (with_bytes m a bytes) x ≡ word_at m x

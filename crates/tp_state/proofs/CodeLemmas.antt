@@ -1,5 +1,5 @@
 -- An instruction of a cutting as it stands in the code.
-use Rattle.std.proofs.Common.{◌≡◌, ℕ, zero, suc, ◌+◌, ◌-◌, ◌*◌, ◌%◌, ◌^◌, ◌<◌, ◌≤◌, Bool, true, false, ◌||◌, ◌==◌, nat_eq, nat_lt, if◌then◌else◌, ℤ, pos, List, [], ◌∷◌, ◌++◌, length, take, drop, Option, Some, None, refl, sym, ap, ◌∙◌, subst, arith, append_assoc, length-append}
+use Rattle.std.proofs.Common.{◌≡◌, ℕ, ◌+◌, ◌-◌, ◌*◌, ◌%◌, ◌^◌, ◌<◌, ◌≤◌, Bool, true, false, nat_eq, nat_lt, if◌then◌else◌, ℤ, pos, List, [], ◌∷◌, ◌++◌, length, take, drop, Option, Some, None, refl, sym, ap, ◌∙◌, subst, arith, append_assoc, length-append}
 use Rattle.std.proofs.lemmas.Int.{ints}
 use Rattle.std.proofs.lemmas.Bool.Decides.{nat_tests, Decides-eqb}
 use Rattle.std.proofs.lemmas.List.{take_at, drop_at}
@@ -56,9 +56,9 @@ stands code cuts at cut cutting here =
     let code_is : code ≡ l.front ++ (cut.bytes ++ l.rest) = sym cutting.joined ∙ l.joined in
     let long : length code ≡ length l.front + (length cut.bytes + length l.rest) = ap length code_is ∙ length-append l.front (cut.bytes ++ l.rest) ∙ ap (λ n. length l.front + n) (length-append cut.bytes l.rest) in
     let bytes_are : take (at + length cut.bytes - at) (drop at code) ≡ cut.bytes =
-        ap (λ c. take (at + length cut.bytes - at) (drop at c)) code_is
-        ∙ ap (λ n. take (n + length cut.bytes - n) (drop n (l.front ++ (cut.bytes ++ l.rest)))) (sym l.place)
-        ∙ range_of_it l.front cut.bytes l.rest in
+    ap (λ c. take (at + length cut.bytes - at) (drop at c)) code_is
+    ∙ ap (λ n. take (n + length cut.bytes - n) (drop n (l.front ++ (cut.bytes ++ l.rest)))) (sym l.place)
+    ∙ range_of_it l.front cut.bytes l.rest in
     record { forward = omega arith; within = omega (arith, l.place); spelling = subst (λ bs. IsSpelling bs (entry cut.instr).function (entry cut.instr).operand) (sym bytes_are) l.spelled }
 
 pub spelling_of : (code : List ℕ) (cuts : List Cut) (at : ℕ) (cut : Cut) → IsCutting code cuts → cut_at cuts at ≡ Some cut → IsSpelled cut

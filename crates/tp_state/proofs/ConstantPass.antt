@@ -1,10 +1,7 @@
 -- What constants, locals, Wptr, rev and seterr make of a state that fits.
-use Rattle.std.proofs.Common.{◌≡◌, ℕ, ◌+◌, ◌*◌, ◌^◌, ◌<◌, ◌≤◌, Bool, true, false, ◌&&◌, nat_le, nat_lt, if◌then◌else◌, ℤ, pos, negsuc, ◌+ℤ◌, ◌≤ℤ◌, length, slice_set, Option, Some, None, Result, Ok, Err, refl, sym, ap, ◌∙◌, subst, arith}
-use Rattle.std.proofs.lemmas.Int.{ints}
+use Rattle.std.proofs.Common.{◌≡◌, ℕ, ◌<◌, ◌≤◌, Bool, true, false, ◌&&◌, nat_le, nat_lt, if◌then◌else◌, ℤ, pos, negsuc, ◌+ℤ◌, slice_set, Some, None, Ok, Err, refl, ap, ◌∙◌, subst, arith}
 use Rattle.std.proofs.lemmas.Bool.Decides.{nat_tests}
-use Rattle.std.specs.Option.{option_and_then}
-use Rattle.tp_decode.specs.Words.{signed, low_word}
-use Rattle.tp_decode.specs.declared.instr.Instr.{Instr}
+use Rattle.tp_decode.specs.Words.{low_word}
 use Rattle.tp_decode.specs.declared.instr.Instr.TheVariants.{Ldc, Ldlp, Ldl, Stl, Ajw, Rev, Seterr, Mint}
 use Rattle.tp_image.specs.Image.{ImageValue}
 use Rattle.tp_flow.specs.declared.edge.Edge.{Edge}
@@ -12,10 +9,8 @@ use Rattle.tp_step.specs.Memory.{word_at, with_word}
 use Rattle.tp_step.specs.Numbers.{overflows, words_on, least_integer}
 use Rattle.tp_step.specs.State.{State as Machine, load, store, local as machine_local, push as machine_push, pop as machine_pop}
 use Rattle.tp_step.specs.Effects.{effect}
-use Rattle.tp_state.specs.declared.kind.Kind.{Kind}
 use Rattle.tp_state.specs.declared.kind.Kind.TheVariants as kind
 use Rattle.tp_state.specs.declared.state.State.{State}
-use Rattle.tp_state.specs.declared.fault.StateCode.{StateCode}
 use Rattle.tp_state.specs.declared.fault.StateCode.TheVariants.{S5, S6}
 use Rattle.tp_state.specs.Kinds.{exactly, known}
 use Rattle.tp_state.specs.CellRules.{cell_at, is_free, read, written}

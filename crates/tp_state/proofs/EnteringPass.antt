@@ -1,5 +1,5 @@
 -- What entering a loop makes of a state that fits, whatever the instruction.
-use Rattle.std.proofs.Common.{◌≡◌, ℕ, ◌+◌, ◌<◌, ◌≤◌, ◌^◌, Bool, true, false, ◌&&◌, ℤ, pos, ◌+ℤ◌, ◌≤ℤ◌, List, length, length-set, slice_set, slice_get, All, Option, Some, None, Result, Ok, Err, refl, sym, ap, ◌∙◌, subst, arith}
+use Rattle.std.proofs.Common.{◌≡◌, ℕ, ◌+◌, ◌<◌, ◌^◌, Bool, true, ◌&&◌, ℤ, pos, ◌+ℤ◌, ◌≤ℤ◌, List, length, length-set, slice_set, slice_get, Option, Some, None, Result, Ok, refl, sym, ap, ◌∙◌, subst, arith}
 use Rattle.std.specs.Prelude.{unwrap_or}
 use Rattle.std.proofs.lemmas.Int.{ints}
 use Rattle.std.proofs.lemmas.Bool.{and_parts}
@@ -23,11 +23,12 @@ use Rattle.tp_state.specs.CellRules.{cell_at, is_free}
 use Rattle.tp_state.specs.Conditions.{HasGoodLoops}
 use Rattle.tp_state.specs.Rules.{with_block}
 use Rattle.tp_state.specs.After.{is_known, entering}
-use Rattle.tp_state.specs.Fits.{CellFits, FitsAmong, LoopsFit, word_address}
+use Rattle.tp_state.specs.Fits.{CellFits, FitsAmong, word_address}
 use Rattle.tp_state.specs.GoesOn.{turns_in}
 use Rattle.tp_state.proofs.Passing.{through, held, found_is, same_Ok}
 use Rattle.tp_state.proofs.WordLemmas.{natural_signed}
-use Rattle.tp_state.proofs.LoopsPart.{with_two, first_set, second_set, others_set, loops_entered, words_block}
+use Rattle.tp_state.proofs.LiveLoops.{with_two, first_set, second_set, others_set}
+use Rattle.tp_state.proofs.LoopsPart.{loops_entered, words_block}
 
 pub good_row : (image : ImageValue) (l : ℕ) (row : LoopRow) → HasGoodLoops image → slice_get image.loops l ≡ Some row → IsGood image.workspace row
 good_row image l row good is = at_place (IsGood image.workspace) image.loops l row good is

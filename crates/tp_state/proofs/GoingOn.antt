@@ -1,10 +1,10 @@
 -- A machine whose state fits goes on by its instruction: the instruction's own rule, then entering.
-use Rattle.std.proofs.Common.{◌≡◌, ◌≢◌, ◌⊎◌, inl, inr, IsTrue, ℕ, zero, suc, ◌+◌, ◌-◌, ◌^◌, ◌<◌, ◌≤◌, Bool, true, false, ◌&&◌, ◌||◌, not, ◌==◌, nat_eq, nat_lt, if◌then◌else◌, ℤ, pos, negsuc, ◌+ℤ◌, List, [], ◌∷◌, length, slice_get, get_or, All, Option, Some, None, Result, Ok, Err, refl, sym, ap, ◌∙◌, subst, arith}
-use Rattle.std.specs.Prelude.{IsOk, is_ok, Contains, position, AllPairs}
+use Rattle.std.proofs.Common.{◌≡◌, ◌⊎◌, inl, inr, ℕ, suc, ◌+◌, ◌-◌, ◌<◌, ◌≤◌, Bool, true, false, ◌&&◌, not, ◌==◌, nat_lt, if◌then◌else◌, ℤ, pos, ◌+ℤ◌, List, [], ◌∷◌, length, slice_get, All, Option, Some, None, Result, Ok, Err, refl, sym, ap, ◌∙◌, subst, arith}
+use Rattle.std.specs.Prelude.{IsOk, Contains}
 use Rattle.std.specs.Option.{option_and_then}
 use Rattle.std.proofs.lemmas.Bool.{and_parts, or_cases, not-true, false_from_ne_true, cases_eq}
-use Rattle.std.proofs.lemmas.Bool.Decides.{nat_tests, Decides-eqb}
-use Rattle.std.proofs.lemmas.Option.{same_Some, slice_get-get_or, get_or_from_slice_get}
+use Rattle.std.proofs.lemmas.Bool.Decides.{Decides-eqb}
+use Rattle.std.proofs.lemmas.Option.{same_Some, slice_get-get_or}
 use Rattle.tp_decode.specs.Cutting.{Cut, cut_at, IsCutting}
 use Rattle.tp_decode.specs.declared.instr.Instr.{Instr}
 use Rattle.tp_decode.specs.declared.instr.Instr.TheVariants.{Jump, Ldlp, Ldnl, Ldc, Ldnlp, Ldl, Adc, Cj, Ajw, Eqc, Stl, Stnl, Rev, Lb, Bsub, Diff, Add, Input, Prod, Gt, Wsub, Output, Sub, Seterr, Csub0, Stopp, Rem, Lend, Div, BitNot, BitXor, Sb, Shr, Shl, Mint, BitAnd, MoveBytes, BitOr, Sum, Mul}
@@ -16,8 +16,7 @@ use Rattle.tp_image.specs.Image.{ImageValue, InRange}
 use Rattle.tp_image.specs.Limits.{most_workspace}
 use Rattle.tp_flow.specs.declared.edge.Edge.{Edge}
 use Rattle.tp_flow.specs.declared.edge.Edge.TheVariants.{Next, Taken, Back, Out}
-use Rattle.tp_flow.specs.declared.range.LoopRange.{LoopRange}
-use Rattle.tp_flow.specs.NestRanges.{range_of, ranges, contains, number_ended_at}
+use Rattle.tp_flow.specs.NestRanges.{range_of, ranges, contains}
 use Rattle.tp_flow.specs.NestKept.{HasOwnLends, KeepsNest}
 use Rattle.tp_flow.specs.Edges.{is_edge, edges, target}
 use Rattle.tp_flow.specs.LoopsAround.{is_around, is_entered, entered_by, left_by, without, along_with, around_after}
@@ -28,20 +27,18 @@ use Rattle.tp_step.specs.Memory.{Memory}
 use Rattle.tp_step.specs.State.{State as Machine}
 use Rattle.tp_step.specs.Effects.{effect}
 use Rattle.tp_step.specs.Numbers.{overflows}
-use Rattle.tp_step.specs.Runs.{has_ended}
 use Rattle.tp_step.proofs.SpellingLemmas.{instruction_runs}
 use Rattle.tp_step.specs.Steps.{step, steps, IsStuck}
 use Rattle.tp_step.proofs.StepLemmas.{steps_add}
 use Rattle.tp_state.specs.declared.state.State.{State}
-use Rattle.tp_state.specs.declared.fault.StateCode.{StateCode}
 use Rattle.tp_state.specs.Rules.{rule}
-use Rattle.tp_state.specs.After.{after, asked, entering, entered_at}
+use Rattle.tp_state.specs.After.{after, asked, entering}
 use Rattle.tp_state.specs.Fits.{Fits, FitsAmong, IsLive}
 use Rattle.tp_state.specs.GoesOn.{IsAccepted, turns_in, turns_after, AreTurnsAfter, TurnsBy, GoesAlong, HasStopped, GoesOn}
 use Rattle.tp_state.proofs.EdgeLemmas.{some_is, address_is}
 use Rattle.tp_state.proofs.CodeLemmas.{stands, spelling_of, operand_fits}
-use Rattle.tp_state.proofs.Passing.{through, same_Ok, true_false}
-use Rattle.tp_state.proofs.LoopsPart.{loops_alike, kept_other}
+use Rattle.tp_state.proofs.Passing.{through}
+use Rattle.tp_state.proofs.LoopsPart.{loops_alike}
 use Rattle.tp_state.proofs.RestLemmas.{fits_at}
 use Rattle.tp_state.proofs.Makes.{Makes, KeepsTurns, one_less}
 use Rattle.tp_state.proofs.ConstantPass.{ldc_makes, mint_makes, ldlp_makes, ldl_makes, stl_makes, ajw_makes, rev_makes, seterr_makes}
@@ -50,7 +47,7 @@ use Rattle.tp_state.proofs.PointerPass.{ldnlp_makes, wsub_makes, bsub_makes, ldn
 use Rattle.tp_state.proofs.JumpPass.{jump_makes, cj_looks, cj_stays, cj_goes, stopp_stops}
 use Rattle.tp_state.proofs.MessagePass.{input_makes, output_makes}
 use Rattle.tp_state.proofs.MovePass.{move_makes}
-use Rattle.tp_state.proofs.EnteringPass.{Enters, HasAllTurns, entered, good_row}
+use Rattle.tp_state.proofs.EnteringPass.{entered, good_row}
 use Rattle.tp_state.proofs.LendLemmas.{Ends, lend_ends, lend_ruled}
 use Rattle.tp_state.proofs.LendPass.{block, turns_are, lend_back, lend_out}
 
@@ -296,7 +293,7 @@ module _ (image : ImageValue) (small : image.workspace ≤ 512) (own_lends : Has
           by_count false is =
               along image at next Lend t s kept Out next None refl (accepted 1 Out (omega arith))
               (λ t' ok. subst (λ o. Makes image (without o around) None next Lend t' (behind next s)) (sym ends.number)
-                  (lend_out image small around next t (behind next s) l row ends.row_is (good_row image l row kept.good ends.row_is) own here is t' (lend_ruled image at next l row Out t t' ends ok)))
+              (lend_out image small around next t (behind next s) l row ends.row_is (good_row image l row kept.good ends.row_is) own here is t' (lend_ruled image at next l row Out t t' ends ok)))
               (all_left image at next Lend t s kept Out refl) (λ _. way_is Out l row ends (rw (turns, is) refl))
 
 -- ---- each instruction

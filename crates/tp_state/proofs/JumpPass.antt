@@ -1,8 +1,7 @@
 -- What j, cj and stopp make of a state that fits.
-use Rattle.std.proofs.Common.{◌≡◌, ℕ, ◌^◌, ◌<◌, Bool, true, false, ◌&&◌, ◌==◌, nat_eq, if◌then◌else◌, ℤ, pos, ◌+ℤ◌, Option, Some, None, Result, Ok, Err, refl, sym, ap, ◌∙◌, subst, arith}
+use Rattle.std.proofs.Common.{◌≡◌, ℕ, ◌^◌, ◌<◌, Bool, true, false, ◌==◌, nat_eq, if◌then◌else◌, ℤ, pos, ◌+ℤ◌, Option, Some, None, Ok, refl, sym, ap, ◌∙◌, subst, arith}
 use Rattle.std.proofs.lemmas.Bool.Decides.{nat_tests}
 use Rattle.std.specs.Option.{option_and_then}
-use Rattle.tp_decode.specs.declared.instr.Instr.{Instr}
 use Rattle.tp_decode.specs.declared.instr.Instr.TheVariants.{Jump, Cj, Stopp}
 use Rattle.tp_image.specs.Image.{ImageValue}
 use Rattle.tp_flow.specs.declared.edge.Edge.{Edge}
@@ -12,10 +11,9 @@ use Rattle.tp_step.specs.Effects.{effect, go}
 use Rattle.tp_step.specs.Runs.{has_ended}
 use Rattle.tp_state.specs.declared.kind.Kind.TheVariants as kind
 use Rattle.tp_state.specs.declared.state.State.{State}
-use Rattle.tp_state.specs.declared.fault.StateCode.{StateCode}
 use Rattle.tp_state.specs.declared.fault.StateCode.TheVariants.{S9}
-use Rattle.tp_state.specs.Kinds.{exactly, number}
-use Rattle.tp_state.specs.Rules.{rule, one_number, descheduled, set_areg}
+use Rattle.tp_state.specs.Kinds.{exactly}
+use Rattle.tp_state.specs.Rules.{rule, one_number, set_areg}
 use Rattle.tp_state.specs.Fits.{KindFits, FitsAmong}
 use Rattle.tp_state.proofs.Passing.{past_is, held, same_Ok}
 use Rattle.tp_state.proofs.KindLemmas.{exactly_fits, number_is, one_number_is}

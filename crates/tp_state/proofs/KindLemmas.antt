@@ -1,6 +1,6 @@
 -- What fits kinds and cells, and what the rules ask of registers.
-use Rattle.std.proofs.Common.{◌≡◌, ◌⊎◌, inl, inr, ℕ, ◌+◌, ◌*◌, ◌^◌, ◌<◌, ◌≤◌, Bool, true, false, ◌&&◌, nat_lt, nat_le, nat_eq, ◌==◌, if◌then◌else◌, ℤ, pos, negsuc, ◌+ℤ◌, ◌-ℤ◌, ◌≤ℤ◌, List, slice_get, Option, Some, None, Result, Ok, Err, refl, sym, ap, ◌∙◌, subst, arith}
-use Rattle.std.proofs.lemmas.Int.{ints, clamps}
+use Rattle.std.proofs.Common.{◌≡◌, ℕ, ◌+◌, ◌*◌, ◌^◌, ◌<◌, ◌≤◌, Bool, true, false, nat_lt, ◌==◌, if◌then◌else◌, ℤ, pos, negsuc, ◌≤ℤ◌, List, Option, Some, Ok, Err, refl, sym, ap, ◌∙◌, subst, arith}
+use Rattle.std.proofs.lemmas.Int.{ints}
 use Rattle.std.proofs.lemmas.Bool.{and_parts}
 use Rattle.std.proofs.lemmas.Bool.Decides.{nat_tests, Decides-int_eq, Decides-eqb}
 use Rattle.std.specs.Ordering.{int_eq}
@@ -8,21 +8,20 @@ use Rattle.std.specs.Int.{int_min, int_max}
 use Rattle.tp_decode.specs.Words.{signed, low_word}
 use Rattle.tp_image.specs.declared.image.LoopRow.{LoopRow}
 use Rattle.tp_image.specs.Image.{ImageValue}
-use Rattle.tp_step.specs.Numbers.{overflows, least_integer, greatest_integer}
+use Rattle.tp_step.specs.Numbers.{overflows}
 use Rattle.tp_step.specs.State.{mem_start}
 use Rattle.tp_state.specs.declared.kind.Kind.{Kind}
 use Rattle.tp_state.specs.declared.kind.Kind.TheVariants as kind
 use Rattle.tp_state.specs.declared.cell.Cell.{Cell}
 use Rattle.tp_state.specs.declared.cell.Cell.TheVariants as cell
 use Rattle.tp_state.specs.declared.state.State.{State}
-use Rattle.tp_state.specs.declared.fault.StateCode.{StateCode}
-use Rattle.tp_state.specs.declared.fault.StateCode.TheVariants.{S1, S2, S3, S4}
+use Rattle.tp_state.specs.declared.fault.StateCode.TheVariants.{S2, S3}
 use Rattle.tp_state.specs.Kinds.{full, exactly, is_exactly, points_at, known, number, pointer, one_word, byte_pointer, below, word_in, byte_in, range, hull}
 use Rattle.tp_state.specs.CellRules.{is_free, is_defined, read, written}
 use Rattle.tp_state.specs.Rules.{one_number, two_numbers}
 use Rattle.tp_state.specs.Fits.{InRange, KindFits, CellFits, word_address}
 use Rattle.tp_state.proofs.Passing.{through, past, same_Ok}
-use Rattle.tp_state.proofs.WordLemmas.{low_word_lt, signed_low_word, signed_above, signed_below, word_address_lt}
+use Rattle.tp_state.proofs.WordLemmas.{low_word_lt, signed_low_word, signed_above, signed_below}
 
 -- ---- places
 

@@ -1,5 +1,5 @@
 -- What a lend makes of a state that fits: another turn follows, or the loop is left.
-use Rattle.std.proofs.Common.{◌≡◌, ℕ, ◌+◌, ◌-◌, ◌^◌, ◌<◌, ◌≤◌, ◌⊎◌, inl, inr, Bool, true, false, ◌==◌, nat_eq, if◌then◌else◌, ℤ, pos, ◌+ℤ◌, ◌-ℤ◌, ◌≤ℤ◌, nat_lt, length, length-set, map, slice_set, slice_get, Option, Some, None, refl, sym, ap, ◌∙◌, subst, arith}
+use Rattle.std.proofs.Common.{◌≡◌, ℕ, ◌+◌, ◌-◌, ◌^◌, ◌<◌, ◌≤◌, ◌⊎◌, inl, inr, Bool, true, false, ◌==◌, if◌then◌else◌, ℤ, pos, ◌+ℤ◌, ◌-ℤ◌, ◌≤ℤ◌, nat_lt, length, length-set, map, slice_set, slice_get, Some, None, refl, sym, ap, ◌∙◌, subst, arith}
 use Rattle.std.specs.Prelude.{int_lt, unwrap_or}
 use Rattle.std.specs.Int.{w32, to_le_bytes}
 use Rattle.std.proofs.lemmas.Int.{ints}
@@ -27,10 +27,11 @@ use Rattle.tp_state.proofs.WordLemmas.{low_word_lt, signed_low_word, signed_abov
 use Rattle.tp_state.proofs.KindLemmas.{exactly_is, points_is}
 use Rattle.tp_state.proofs.WordsChange.{written_word, unwritten_word, kept_word}
 use Rattle.tp_state.proofs.ByteLemmas.{AreSmall, word_small, undefined_small}
-use Rattle.tp_state.proofs.LoopsPart.{IsElse, with_two, first_set, second_set, others_set, loops_turned, loops_left, other_turns, kept_other, words_block}
-use Rattle.tp_state.proofs.RestLemmas.{rested, rests, rest, five_below, fits_at}
+use Rattle.tp_state.proofs.LiveLoops.{IsElse, with_two, first_set, second_set, others_set, kept_other}
+use Rattle.tp_state.proofs.LoopsPart.{loops_turned, loops_left, other_turns, words_block}
+use Rattle.tp_state.proofs.RestLemmas.{rested, rest, five_below, fits_at}
 use Rattle.tp_state.proofs.LendLemmas.{LendRuled, cell_word, index_range, count_range}
-use Rattle.tp_state.proofs.Makes.{Makes, KeepsTurns, one_less}
+use Rattle.tp_state.proofs.Makes.{Makes, KeepsTurns}
 
 -- one turn less, and the next index
 less : ℕ → ℕ

@@ -1,12 +1,11 @@
 -- Words of the workspace that the machine loads and stores.
-use Rattle.std.proofs.Common.{◌≡◌, ℕ, ◌<◌, ◌≤◌, Bool, true, ℤ, pos, ◌+ℤ◌, Option, Some, refl, sym, ap, ◌∙◌, subst, arith}
+use Rattle.std.proofs.Common.{◌≡◌, ℕ, ◌<◌, ◌≤◌, Bool, ℤ, pos, ◌+ℤ◌, Option, Some, ap, ◌∙◌, arith}
 use Rattle.std.specs.Option.{option_and_then}
 use Rattle.tp_image.specs.Image.{ImageValue}
 use Rattle.tp_step.specs.Memory.{word_at, with_word}
 use Rattle.tp_step.specs.Numbers.{words_on}
 use Rattle.tp_step.specs.State.{State as Machine, load, store, local as machine_local}
 use Rattle.tp_state.specs.declared.state.State.{State}
-use Rattle.tp_state.specs.Kinds.{word_in}
 use Rattle.tp_state.specs.Rules.{local}
 use Rattle.tp_state.specs.Fits.{FitsAmong, word_address}
 use Rattle.std.specs.Prelude.{Ok}

@@ -1,6 +1,6 @@
 -- How the loops part of what fits changes where a loop turns, is entered or is left.
-use Rattle.std.proofs.Common.{◌≡◌, ℕ, ◌+◌, ◌-◌, ◌<◌, ◌⊎◌, inl, inr, Bool, true, false, not, ◌==◌, ◌&&◌, ◌||◌, if◌then◌else◌, pos, ◌+ℤ◌, List, length, length-set, slice_set, slice_get, get_or-set_same, get_or-set_other, Some, refl, sym, ap, ◌∙◌, subst, arith}
-use Rattle.std.proofs.lemmas.Bool.{cases_eq, and_parts, and_from, or_cases, or_left, or_right, not_from_true, not_from_false, false_from_ne_true}
+use Rattle.std.proofs.Common.{◌≡◌, ℕ, ◌+◌, ◌<◌, ◌⊎◌, inl, inr, Bool, true, false, ◌==◌, pos, ◌+ℤ◌, List, length, slice_get, Some, refl, sym, ap, ◌∙◌, subst, arith}
+use Rattle.std.proofs.lemmas.Bool.{cases_eq, or_left, or_right}
 use Rattle.std.proofs.lemmas.Bool.Decides.{Decides-eqb}
 use Rattle.std.proofs.lemmas.Option.{same_Some}
 use Rattle.tp_decode.specs.Words.{signed}
@@ -11,39 +11,11 @@ use Rattle.tp_state.specs.declared.cell.Cell.{Cell}
 use Rattle.tp_state.specs.declared.cell.Cell.TheVariants as cell
 use Rattle.tp_state.specs.CellRules.{cell_at, is_free}
 use Rattle.tp_state.specs.Fits.{CellFits, WordsFit, IsLive, LoopsFit, word_address}
-use Rattle.tp_state.specs.Live.{IsInBlock}
+use Rattle.tp_state.specs.Live.{IsInBlock, NamesLoop}
+use Rattle.tp_state.proofs.LiveCells.{elsewhere}
+use Rattle.tp_state.proofs.LiveLoops.{blocks_apart, IsElse, which, with_two, first_set, second_set, others_set, kept_other, stays_other, was_other}
 use Rattle.tp_state.specs.GoesOn.{turns_in}
 use Rattle.tp_state.proofs.Passing.{true_false}
-
--- the two words from c on
-abbrev pub with_two : List Cell → ℕ → Cell → Cell → List Cell
-with_two cells c a b = slice_set (slice_set cells c a) (c + 1) b
-
--- a live word is none that is free
-pub elsewhere : (cells : List Cell) (i x : ℕ) → is_free (cell_at cells i) ≡ false → is_free (cell_at cells x) ≡ true → i ≡ x → ⊥
-elsewhere cells i x live free e = true_false (sym free ∙ ap (λ j. is_free (cell_at cells j)) (sym e) ∙ live)
-
-same_index : (l k : ℕ) → cell.Index l ≡ cell.Index k → l ≡ k
-same_index l k e = cc
-
-same_count : (l k : ℕ) → cell.Count l ≡ cell.Count k → l ≡ k
-same_count l k e = cc
-
-index_no_count : (l k : ℕ) → cell.Index l ≡ cell.Count k → ⊥
-index_no_count l k e = cc
-
--- the blocks of two live loops have no word in common
-pub record AreApart (row other : LoopRow) : Type 0 where
-  pub indices : row.control ≡ other.control → ⊥
-  pub count_index : row.control + 1 ≡ other.control → ⊥
-  pub index_count : row.control ≡ other.control + 1 → ⊥
-
-pub blocks_apart : (cells : List Cell) (m m' : Memory) (l k : ℕ) (row other : LoopRow) → IsLive cells m l row → IsLive cells m' k other → (l ≡ k → ⊥) → AreApart row other
-blocks_apart cells m m' l k row other a b differ = record {
-  indices = λ e. differ (same_index l k (sym a.index_cell ∙ ap (cell_at cells) e ∙ b.index_cell));
-  count_index = λ e. index_no_count k l (sym b.index_cell ∙ ap (cell_at cells) (sym e) ∙ a.count_cell);
-  index_count = λ e. index_no_count l k (sym a.index_cell ∙ ap (cell_at cells) e ∙ b.count_cell);
-}
 
 -- the same block, where its cells and words are kept
 pub block_kept : (cells cells' : List Cell) (m m' : Memory) (l : ℕ) (row : LoopRow) → IsLive cells m l row
@@ -73,48 +45,9 @@ loops_alike rows around around' cells m same f = record {
   only = λ i is. let found = f.only i is in (found.0, same found.0 ∙ found.1, found.2);
 }
 
--- ---- the two words of a block
-
-pub record IsElse (i c : ℕ) : Type 0 where
-  pub first : i ≡ c → ⊥
-  pub second : i ≡ c + 1 → ⊥
-
-pub which : {P : Type 0} (i c : ℕ) → (i ≡ c → P) → (i ≡ c + 1 → P) → (IsElse i c → P) → P
-which {P = P} i c first second other = by_first (cases_eq i c) (cases_eq i (c + 1))
-  where
-    by_first : (i ≡ c) ⊎ (i ≡ c → ⊥) → (i ≡ c + 1) ⊎ (i ≡ c + 1 → ⊥) → P
-    by_first (inl e) _ = first e
-    by_first (inr n) (inl e) = second e
-    by_first (inr n) (inr n') = other record { first = n; second = n' }
-
--- both cells of a block replaced
-module _ (cells : List Cell) (c : ℕ) (a b : Cell) (room : c + 1 < length cells) where
-  pub first_set : cell_at (with_two cells c a b) c ≡ a
-  first_set = get_or-set_other (slice_set cells c a) (c + 1) c b cell.Undef (omega arith) ∙ get_or-set_same cells c a cell.Undef (omega arith)
-
-  pub second_set : cell_at (with_two cells c a b) (c + 1) ≡ b
-  second_set = get_or-set_same (slice_set cells c a) (c + 1) b cell.Undef (omega (arith, length-set cells c a))
-
-  pub others_set : (i : ℕ) → IsElse i c → cell_at (with_two cells c a b) i ≡ cell_at cells i
-  others_set i n = get_or-set_other (slice_set cells c a) (c + 1) i b cell.Undef n.second ∙ get_or-set_other cells c i a cell.Undef n.first
-
--- ---- membership
-
-pub kept_other : (around : ℕ → Bool) (l k : ℕ) → without (Some l) around k ≡ true → (around k ≡ true) × (k ≡ l → ⊥)
-kept_other around l k is =
-    let parts = and_parts (around k) (not (k == l)) is in
-    (parts.0, λ e. true_false (sym parts.1 ∙ not_from_true (k == l) ((Decides-eqb k l).1 e)))
-
-stays_other : (around : ℕ → Bool) (l k : ℕ) → around k ≡ true → (k ≡ l → ⊥) → without (Some l) around k ≡ true
-stays_other around l k is differ =
-    and_from (around k) (not (k == l)) is (not_from_false (k == l) (false_from_ne_true (k == l) (λ e. differ ((Decides-eqb k l).0 e))))
-
-pub was_other : (around : ℕ → Bool) (l k : ℕ) → along_with (Some l) around k ≡ true → (k ≡ l → ⊥) → around k ≡ true
-was_other around l k is differ = by_case (or_cases (around k) (k == l) is)
-  where
-    by_case : (around k ≡ true) ⊎ ((k == l) ≡ true) → around k ≡ true
-    by_case (inl was) = was
-    by_case (inr e) = absurd (differ ((Decides-eqb k l).0 e))
+-- the cells of a live block name their loop
+named : (cells : List Cell) (m : Memory) (l : ℕ) (row : LoopRow) → IsLive cells m l row → NamesLoop cells l row
+named cells m l row b = record { index = b.index_cell; count = b.count_cell }
 
 -- ---- a turn, and the end of the last: the words of one block change
 
@@ -125,7 +58,7 @@ module _ (rows : List LoopRow) (around : ℕ → Bool) (cells : List Cell) (m m'
   -- the words of another block are others
   other_block : (k : ℕ) (other : LoopRow) → IsLive cells m k other → (k ≡ l → ⊥) → IsElse other.control row.control × IsElse (other.control + 1) row.control
   other_block k other its differ =
-      let apart = blocks_apart cells m m l k row other own_block its (λ e. differ (sym e)) in (
+      let apart = blocks_apart cells l k row other (named cells m l row own_block) (named cells m k other its) (λ e. differ (sym e)) in (
         record { first = λ e. apart.indices (sym e); second = λ e. apart.count_index (sym e) },
         record { first = λ e. apart.index_count (sym e); second = λ e. apart.indices (omega (arith, e)) },
       )

@@ -1,5 +1,5 @@
 -- What in and out make of a state that fits.
-use Rattle.std.proofs.Common.{◌≡◌, ◌⊎◌, inl, inr, ℕ, zero, suc, ◌+◌, ◌-◌, ◌*◌, ◌/◌, ◌%◌, ◌^◌, ◌<◌, ◌≤◌, Bool, true, false, ◌&&◌, ◌==◌, nat_eq, nat_le, nat_lt, if◌then◌else◌, ℤ, pos, negsuc, ◌≤ℤ◌, List, ◌++◌, length, take, drop, replicate, get_or, All, Option, Some, None, Result, Ok, Err, refl, sym, ap, ◌∙◌, subst, arith}
+use Rattle.std.proofs.Common.{◌≡◌, ◌⊎◌, inl, inr, ℕ, ◌+◌, ◌*◌, ◌/◌, ◌%◌, ◌<◌, ◌≤◌, Bool, true, false, ◌&&◌, ◌==◌, nat_eq, nat_le, if◌then◌else◌, ℤ, pos, negsuc, List, ◌++◌, length, take, drop, replicate, get_or, Option, Some, None, Ok, Err, refl, sym, ap, ◌∙◌, subst, arith}
 use Rattle.std.specs.Prelude.{int_le}
 use Rattle.std.specs.Ordering.{int_eq}
 use Rattle.std.proofs.lemmas.Int.{ints}
@@ -9,7 +9,6 @@ use Rattle.std.proofs.lemmas.List.{length-take-le}
 use Rattle.std.proofs.lemmas.List.Elements.{All-take, All-drop}
 use Rattle.std.specs.Option.{option_and_then}
 use Rattle.tp_decode.specs.Words.{signed}
-use Rattle.tp_decode.specs.declared.instr.Instr.{Instr}
 use Rattle.tp_decode.specs.declared.instr.Instr.TheVariants.{Input, Output}
 use Rattle.tp_image.specs.declared.image.LoopRow.{LoopRow}
 use Rattle.tp_image.specs.Image.{ImageValue}
@@ -22,19 +21,18 @@ use Rattle.tp_state.specs.declared.kind.Kind.{Kind}
 use Rattle.tp_state.specs.declared.cell.Cell.{Cell}
 use Rattle.tp_state.specs.declared.cell.Cell.TheVariants as cell
 use Rattle.tp_state.specs.declared.state.State.{State}
-use Rattle.tp_state.specs.declared.fault.StateCode.{StateCode}
 use Rattle.tp_state.specs.declared.fault.StateCode.TheVariants.{S3, S4, S5, S7, S8, S9}
-use Rattle.tp_state.specs.Answer.{◌>>=◌, ◌>>◌, unless}
+use Rattle.tp_state.specs.Answer.{◌>>◌, unless}
 use Rattle.tp_state.specs.Kinds.{known, number, one_word, is_exactly}
 use Rattle.tp_state.specs.CellRules.{cell_at, cells_from, with_cells, are_free, is_defined, are_defined}
 use Rattle.tp_state.specs.Rules.{rule, message_in, words_to_send, phase_after, descheduled, given_way, channel, is_one_length, is_trace_length, count_of}
 use Rattle.tp_state.specs.Fits.{InRange, KindFits, CellFits, FitsAmong, WordsFit, word_address}
 use Rattle.tp_state.proofs.Passing.{through, past, past_is, held, holds, same_Ok, true_false}
-use Rattle.tp_state.proofs.WordLemmas.{signed_natural, natural_signed, signed_same, words_inside}
+use Rattle.tp_state.proofs.WordLemmas.{natural_signed, signed_same, words_inside}
 use Rattle.tp_state.proofs.KindLemmas.{number_is, one_word_is, exactly_is, defined_word}
 use Rattle.tp_state.proofs.WordsChange.{Change}
 use Rattle.tp_state.proofs.StretchLemmas.{all_between, any_taken}
-use Rattle.tp_state.proofs.ByteLemmas.{AreSmall, IsByte, HasBytes, has_bytes, byte_of, bytes_of, bytes_word, written_in, written_apart, written_small, Reads, reads}
+use Rattle.tp_state.proofs.ByteLemmas.{AreSmall, IsByte, has_bytes, byte_of, bytes_of, bytes_word, written_in, written_apart, written_small, Reads, reads}
 use Rattle.tp_state.proofs.Makes.{KeepsTurns, Makes, words_fit, words_turns}
 use Rattle.tp_state.proofs.RestLemmas.{rested, rests, rest}
 
@@ -54,7 +52,7 @@ pub words_written : (rows : List LoopRow) (m : Memory) (x n i : ℕ) (bytes : Li
 words_written rows m x n i bytes small long lt =
     bytes_word rows (with_bytes m (word_address x) bytes) (word_address (x + i)) small
     (bytes_of (with_bytes m (word_address x) bytes) (word_address (x + i)) (λ k k_lt.
-        (get_or bytes (4 * i + k) 0, ap (with_bytes m (word_address x) bytes) (byte_at_place x i k) ∙ written_in m (word_address x) bytes (4 * i + k) (omega arith))))
+    (get_or bytes (4 * i + k) 0, ap (with_bytes m (word_address x) bytes) (byte_at_place x i k) ∙ written_in m (word_address x) bytes (4 * i + k) (omega arith))))
 
 pub words_elsewhere : (m : Memory) (x n i : ℕ) (bytes : List ℕ) → length bytes ≡ 4 * n → (i < x) ⊎ (x + n ≤ i) → word_at (with_bytes m (word_address x) bytes) (word_address i) ≡ word_at m (word_address i)
 words_elsewhere m x n i bytes long (inl below) = written_apart m (word_address x) bytes (word_address i) (inl (omega arith))
@@ -227,7 +225,7 @@ sends {P} image s k r a n phase after v fits in_a sized later go =
 
     by_link : (p : Bool) → is_exactly (channel link0_output) k ≡ p → (q : Bool) → is_exactly (channel link1_output) k ≡ q
         → (if p then (unless S7 (is_one_length a && (count_of a.0 == 4 * image.result)) >> Ok image.result)
-           else if q then (unless S7 (is_one_length a && is_trace_length (count_of a.0)) >> Ok (count_of a.0 / 4)) else Err S8) ≡ Ok n
+        else if q then (unless S7 (is_one_length a && is_trace_length (count_of a.0)) >> Ok (count_of a.0 / 4)) else Err S8) ≡ Ok n
         → (if q then Ok phase else if phase == 1 then Ok 2 else Err S9) ≡ Ok after → P
     by_link true is true is' sized later =
         exactly_is image (channel link0_output) k r is fits λ w w_is word e.
@@ -242,14 +240,17 @@ sends {P} image s k r a n phase after v fits in_a sized later go =
         exactly_is image (channel link0_output) k r is fits λ w w_is word e.
         one_length a v in_a parts.0 λ v_is.
         by_phase (phase == 1) refl later (λ first after_is.
-            go w w_is record {
-              whole = omega arith;
-              sent = λ bytes m long at. (m.sent ++ bytes, m.traced,
-                  ap (λ c. sent_on image c bytes m) (signed_same w link0_output word (omega arith) e)
-                  ∙ result_sent image bytes m (omega arith) (omega arith)
-                  ∙ ap (λ p. Some (record m { phase = p; sent = m.sent ++ bytes })) after_is);
-              later = λ none. absurd (omega arith);
-            })
+        go w w_is record {
+          whole = omega arith;
+          sent = λ bytes m long at. (
+            m.sent ++ bytes,
+            m.traced,
+            ap (λ c. sent_on image c bytes m) (signed_same w link0_output word (omega arith) e)
+                ∙ result_sent image bytes m (omega arith) (omega arith)
+                ∙ ap (λ p. Some (record m { phase = p; sent = m.sent ++ bytes })) after_is,
+          );
+          later = λ none. absurd (omega arith);
+        })
       where
         by_phase : (b : Bool) → (phase == 1) ≡ b → (if b then Ok 2 else Err S9) ≡ Ok after → (phase ≡ 1 → 2 ≡ after → P) → P
         by_phase true first e go = go ((Decides-eqb phase 1).0 first) (same_Ok _ _ e)
@@ -263,10 +264,13 @@ sends {P} image s k r a n phase after v fits in_a sized later go =
         one_length a v in_a parts.0 λ v_is.
         go w w_is record {
           whole = omega (arith, whole_words (count_of a.0) parts.1);
-          sent = λ bytes m long at. (m.sent, m.traced ++ bytes,
-              ap (λ c. sent_on image c bytes m) (signed_same w link1_output word (omega arith) e)
-              ∙ trace_sent image bytes m (ap is_trace_length (long ∙ v_is) ∙ parts.1)
-              ∙ ap (λ p. Some (record m { phase = p; traced = m.traced ++ bytes })) (at ∙ after_is));
+          sent = λ bytes m long at. (
+            m.sent,
+            m.traced ++ bytes,
+            ap (λ c. sent_on image c bytes m) (signed_same w link1_output word (omega arith) e)
+                ∙ trace_sent image bytes m (ap is_trace_length (long ∙ v_is) ∙ parts.1)
+                ∙ ap (λ p. Some (record m { phase = p; traced = m.traced ++ bytes })) (at ∙ after_is),
+          );
           later = λ none. omega arith;
         }
       where

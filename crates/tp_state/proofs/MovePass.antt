@@ -1,19 +1,17 @@
 -- What move makes of a state that fits.
-use Rattle.std.proofs.Common.{◌≡◌, ◌⊎◌, inl, inr, ℕ, ◌+◌, ◌-◌, ◌*◌, ◌/◌, ◌%◌, ◌^◌, ◌<◌, ◌≤◌, Bool, true, false, ◌&&◌, ◌||◌, ◌==◌, nat_eq, nat_le, if◌then◌else◌, ℤ, pos, negsuc, ◌≤ℤ◌, List, length, map, get_or, Option, Some, None, Result, Ok, Err, refl, sym, ap, ◌∙◌, subst, arith}
+use Rattle.std.proofs.Common.{◌≡◌, ℕ, ◌+◌, ◌*◌, ◌/◌, ◌%◌, ◌≤◌, Bool, true, ◌&&◌, ◌||◌, ◌==◌, nat_eq, nat_le, ℤ, pos, negsuc, List, map, Option, Some, None, Ok, sym, ap, ◌∙◌, arith}
 use Rattle.std.specs.Prelude.{int_le}
 use Rattle.std.specs.Ordering.{int_eq}
 use Rattle.std.proofs.lemmas.Int.{ints}
 use Rattle.std.proofs.lemmas.Bool.{and_parts}
 use Rattle.std.proofs.lemmas.Bool.Decides.{nat_tests, Decides-eqb, Decides-int_eq}
 use Rattle.std.specs.Option.{option_and_then}
-use Rattle.tp_decode.specs.Words.{signed}
-use Rattle.tp_decode.specs.declared.instr.Instr.{Instr}
 use Rattle.tp_decode.specs.declared.instr.Instr.TheVariants.{MoveBytes}
 use Rattle.tp_image.specs.Image.{ImageValue}
 use Rattle.tp_flow.specs.declared.edge.Edge.{Edge}
 use Rattle.tp_step.specs.Maybe.{only_if, ◌>>◌ as ◌>>?◌}
-use Rattle.tp_step.specs.Memory.{Memory, word_at, with_bytes, bytes_at}
-use Rattle.tp_step.specs.State.{State as Machine, in_workspace, no_registers as machine_no_registers}
+use Rattle.tp_step.specs.Memory.{Memory, with_bytes, bytes_at}
+use Rattle.tp_step.specs.State.{State as Machine, no_registers as machine_no_registers}
 use Rattle.tp_step.specs.Effects.{effect, has_move, may_move}
 use Rattle.tp_state.specs.declared.kind.Kind.TheVariants as kind
 use Rattle.tp_state.specs.declared.state.State.{State}
@@ -133,7 +131,7 @@ module _ (image : ImageValue) (around : ℕ → Bool) (next : ℕ) (t : State) (
         are = read.are;
       }) ok
       (copies_taken image.loops image.workspace t.cells s.memory m' x y n f.words (omega (arith, f.words.sized)) (omega (arith, f.words.sized)) free
-          (λ i lt. word_moved s.memory m' (word_address (x + i)) (word_address (y + i)) (λ k k_lt.
-              ap m' (copied_place x i k) ∙ written_in s.memory (word_address x) read.bytes (4 * i + k) (omega (arith, read.long)) ∙ sym (read.each (4 * i + k) (omega arith)) ∙ ap s.memory (sym (copied_place y i k))))
-          (λ i out lt. words_elsewhere s.memory x n i read.bytes read.long out))
+      (λ i lt. word_moved s.memory m' (word_address (x + i)) (word_address (y + i)) (λ k k_lt.
+      ap m' (copied_place x i k) ∙ written_in s.memory (word_address x) read.bytes (4 * i + k) (omega (arith, read.long)) ∙ sym (read.each (4 * i + k) (omega arith)) ∙ ap s.memory (sym (copied_place y i k))))
+      (λ i out lt. words_elsewhere s.memory x n i read.bytes read.long out))
       (written_small s.memory (word_address x) read.bytes f.bytes.memory (reads_small s.memory (word_address y) (4 * n) read f.bytes.memory)) tt tt tt

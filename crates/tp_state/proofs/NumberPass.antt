@@ -1,5 +1,5 @@
 -- What instructions on numbers make of a state that fits: arithmetic, shifts, comparisons.
-use Rattle.std.proofs.Common.{◌≡◌, ◌⊎◌, inl, inr, ℕ, suc, ◌+◌, ◌-◌, ◌*◌, ◌/◌, ◌%◌, ◌^◌, ◌<◌, ◌≤◌, Bool, true, false, ◌&&◌, ◌||◌, not, ◌==◌, nat_lt, nat_le, if◌then◌else◌, ℤ, pos, negsuc, ◌+ℤ◌, ◌-ℤ◌, ◌*ℤ◌, ◌≤ℤ◌, Option, Some, None, Result, Ok, Err, refl, sym, ap, ◌∙◌, subst, arith, pow_pos, pow-add, mul-le-mul_left}
+use Rattle.std.proofs.Common.{◌≡◌, ℕ, suc, ◌+◌, ◌-◌, ◌*◌, ◌/◌, ◌^◌, ◌<◌, ◌≤◌, Bool, true, false, ◌&&◌, ◌||◌, not, nat_lt, nat_le, if◌then◌else◌, ℤ, pos, negsuc, ◌+ℤ◌, ◌-ℤ◌, ◌*ℤ◌, ◌≤ℤ◌, Option, Some, None, Ok, refl, sym, ap, ◌∙◌, arith, pow_pos, pow-add, mul-le-mul_left}
 use Rattle.std.specs.Prelude.{int_le, int_lt, int_div, int_rem, bit_and, bit_or, bit_xor}
 use Rattle.std.specs.Ordering.{int_eq}
 use Rattle.std.specs.Option.{option_and_then}
@@ -28,7 +28,7 @@ use Rattle.tp_state.specs.Fits.{InRange, KindFits, FitsAmong}
 use Rattle.tp_state.proofs.Passing.{through, bound, held, past_is}
 use Rattle.tp_state.proofs.Products.{between_corners, mul_up, div_more, quotient_up, remainder_low, remainder_high, remainder_sign}
 use Rattle.tp_state.proofs.WordLemmas.{low_word_lt, low_word_alike, signed_low_word, unsigned_is, signed_low, signed_natural, signed_complement, signed_above, signed_below}
-use Rattle.tp_state.proofs.KindLemmas.{full_fits, within_fits, range_fits, hull_fits, number_is, one_number_is, two_numbers_are}
+use Rattle.tp_state.proofs.KindLemmas.{full_fits, within_fits, range_fits, hull_fits, number_is, two_numbers_are}
 use Rattle.tp_state.proofs.Makes.{Makes, registers_made, operated, replaced, both_there}
 
 -- ---- results at the ends of ranges

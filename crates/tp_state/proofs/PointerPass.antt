@@ -1,12 +1,11 @@
 -- What pointers make of a state that fits: words and bytes by their addresses.
-use Rattle.std.proofs.Common.{◌≡◌, ◌⊎◌, inl, inr, ℕ, zero, suc, ◌+◌, ◌-◌, ◌*◌, ◌/◌, ◌%◌, ◌^◌, ◌<◌, ◌≤◌, Bool, true, false, ◌&&◌, ◌==◌, nat_eq, nat_le, nat_lt, if◌then◌else◌, ℤ, pos, negsuc, ◌+ℤ◌, ◌*ℤ◌, ◌≤ℤ◌, List, [], ◌∷◌, length, map, slice_set, All, Option, Some, None, Result, Ok, Err, refl, sym, ap, ◌∙◌, subst, arith}
+use Rattle.std.proofs.Common.{◌≡◌, ◌⊎◌, inl, inr, ℕ, ◌+◌, ◌-◌, ◌*◌, ◌/◌, ◌%◌, ◌^◌, ◌<◌, ◌≤◌, Bool, true, false, ◌==◌, if◌then◌else◌, ℤ, pos, negsuc, ◌+ℤ◌, ◌*ℤ◌, ◌≤ℤ◌, List, [], ◌∷◌, map, slice_set, All, Option, Some, None, Result, Ok, refl, sym, ap, ◌∙◌, subst, arith}
 use Rattle.std.proofs.lemmas.Int.{ints}
-use Rattle.std.proofs.lemmas.Bool.{cases_lt, cases_eq}
-use Rattle.std.proofs.lemmas.Bool.Decides.{nat_tests, Decides-eqb}
+use Rattle.std.proofs.lemmas.Bool.{cases_eq}
+use Rattle.std.proofs.lemmas.Bool.Decides.{Decides-eqb}
 use Rattle.std.proofs.lemmas.List.Elements.{All-nil, All-cons}
 use Rattle.std.specs.Option.{option_and_then}
 use Rattle.tp_decode.specs.Words.{signed, low_word}
-use Rattle.tp_decode.specs.declared.instr.Instr.{Instr}
 use Rattle.tp_decode.specs.declared.instr.Instr.TheVariants.{Ldnl, Ldnlp, Stnl, Lb, Bsub, Wsub, Sb}
 use Rattle.tp_image.specs.declared.image.LoopRow.{LoopRow}
 use Rattle.tp_image.specs.Image.{ImageValue}
@@ -18,22 +17,20 @@ use Rattle.tp_step.specs.State.{State as Machine, mem_start, in_workspace, load,
 use Rattle.tp_step.specs.Effects.{effect}
 use Rattle.tp_state.specs.declared.kind.Kind.{Kind}
 use Rattle.tp_state.specs.declared.kind.Kind.TheVariants as kind
-use Rattle.tp_state.specs.declared.cell.Cell.{Cell}
 use Rattle.tp_state.specs.declared.cell.Cell.TheVariants as cell
 use Rattle.tp_state.specs.declared.state.State.{State}
 use Rattle.tp_state.specs.declared.fault.StateCode.{StateCode}
 use Rattle.tp_state.specs.declared.fault.StateCode.TheVariants.{S4, S5}
-use Rattle.tp_state.specs.Answer.{◌>>=◌, ◌>>◌, unless}
 use Rattle.tp_state.specs.Kinds.{full, known, number, pointer, byte_pointer, word_in, byte_in, range}
 use Rattle.tp_state.specs.CellRules.{cell_at, cells_from, with_cells, is_free, are_free, is_defined, are_defined, read, written, blurred}
-use Rattle.tp_state.specs.Rules.{rule, words_on, bytes_on, words_further, between, words_of_bytes, set_areg, give, pop_two, with_word as with_word_of, with_blurred}
+use Rattle.tp_state.specs.Rules.{rule, words_on, bytes_on, words_further, between, words_of_bytes, pop_two, with_word as with_word_of, with_blurred}
 use Rattle.tp_state.specs.Fits.{InRange, KindFits, CellFits, FitsAmong, word_address}
 use Rattle.tp_state.proofs.Passing.{through, past, past_is, held, same_Ok}
-use Rattle.tp_state.proofs.WordLemmas.{low_word_alike, unsigned_is, words_on_is, is_word_at, byte_inside}
+use Rattle.tp_state.proofs.WordLemmas.{low_word_alike, unsigned_is, words_on_is, byte_inside}
 use Rattle.tp_state.proofs.KindLemmas.{word_in_is, byte_in_is, full_fits, within_fits, range_fits, pointer_fits, byte_pointer_fits, number_is, pointer_is, byte_pointer_is, known_is, read_fits, written_fits, written_free, defined_word}
 use Rattle.tp_state.proofs.WordsChange.{Change, word_taken, written_word, unwritten_word}
 use Rattle.tp_state.proofs.StretchLemmas.{all_inside, all_within, cut_within, blurred_taken}
-use Rattle.tp_state.proofs.ByteLemmas.{AreSmall, IsByte, has_bytes, byte_of, bytes_of, bytes_word, word_small, written_defined, written_apart, written_small}
+use Rattle.tp_state.proofs.ByteLemmas.{AreSmall, has_bytes, byte_of, bytes_of, bytes_word, word_small, written_defined, written_apart, written_small}
 use Rattle.tp_state.proofs.LoadLemmas.{load_there, store_there, loaded_there, both_stored}
 use Rattle.tp_state.proofs.Makes.{Makes, one_there, both_there, registers_made, words_made}
 
@@ -265,9 +262,9 @@ module _ (image : ImageValue) (small : image.workspace ≤ 512) (around : ℕ �
       let still : AreSmall m' = written_small s.memory (mem_start + x) (v % 256 ∷ []) f.bytes.memory (low_byte v) in
       let among = cut.all (x / 4 - p.0 / 4) (omega arith) (omega arith) in
       let change : Change image.loops image.workspace t.cells (with_cells t.cells (p.0 / 4) (map blurred (cells_from t.cells (p.0 / 4) cut.number))) s.memory m' =
-          blurred_taken image.loops image.workspace t.cells s.memory m' (p.0 / 4) cut.number f.words cut.room (ap are_free (sym cut.same) ∙ free)
-          (λ i lt. word_still image.loops s.memory (mem_start + x) (p.0 / 4 + i) (v % 256 ∷ []) still)
-          (λ i out lt. byte_elsewhere s.memory x (v % 256) i (elsewhere (p.0 / 4) cut.number x i (omega arith) (omega arith) out)) in
+      blurred_taken image.loops image.workspace t.cells s.memory m' (p.0 / 4) cut.number f.words cut.room (ap are_free (sym cut.same) ∙ free)
+      (λ i lt. word_still image.loops s.memory (mem_start + x) (p.0 / 4 + i) (v % 256 ∷ []) still)
+      (λ i out lt. byte_elsewhere s.memory x (v % 256) i (elsewhere (p.0 / 4) cut.number x i (omega arith) (omega arith) out)) in
       words_made image around next t s f Sb t' (with_cells t.cells (p.0 / 4) (map blurred (cells_from t.cells (p.0 / 4) (p.1 / 4 + 1 - p.0 / 4)))) m' t.c kind.Undef kind.Undef s.creg None None
       (byte_stored s.areg s.breg (mem_start + x) v x_is v_is (byte_inside image x inside)) ok
       (subst (λ cs. Change image.loops image.workspace t.cells (with_cells t.cells (p.0 / 4) (map blurred cs)) s.memory m') (sym cut.same) change) still f.registers.c tt tt
@@ -318,8 +315,8 @@ module _ (image : ImageValue) (small : image.workspace ≤ 512) (around : ℕ �
           let sized = f.words.sized in
           words_made image around next t s f (Stnl n) t' (with_cells t.cells w.0 (map blurred (cells_from t.cells w.0 (w.1 + 1 - w.0)))) (with_word s.memory (word_address y) v) t.c kind.Undef kind.Undef s.creg None None made ok
           (blurred_taken image.loops image.workspace t.cells s.memory (with_word s.memory (word_address y) v) w.0 (w.1 + 1 - w.0) f.words (omega arith) free
-              (λ i lt was. inside (w.0 + i) (cases_eq (w.0 + i) y) was)
-              (λ i out i_lt. unwritten_word s.memory y i v (other i out)))
+          (λ i lt was. inside (w.0 + i) (cases_eq (w.0 + i) y) was)
+          (λ i out i_lt. unwritten_word s.memory y i v (other i out)))
           (word_small s.memory (word_address y) v f.bytes.memory) f.registers.c tt tt
         where
           inside : (i : ℕ) → (i ≡ y) ⊎ (i ≡ y → ⊥) → CellFits image.loops cell.Any (word_at s.memory (word_address i)) → CellFits image.loops cell.Any (word_at (with_word s.memory (word_address y) v) (word_address i))

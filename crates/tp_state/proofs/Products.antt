@@ -1,11 +1,10 @@
 -- Products and quotients of signed numbers, and their order.
-use Rattle.std.proofs.Common.{◌≡◌, ℕ, zero, suc, ◌+◌, ◌*◌, ◌/◌, ◌%◌, ◌^◌, ◌<◌, ◌≤◌, refl, sym, ap, ◌∙◌, ℤ, pos, negsuc, ◌*ℤ◌, ◌+ℤ◌, ◌-ℤ◌, ◌≤ℤ◌, arith, mul-le-mul_right, mul-le-mul_left}
+use Rattle.std.proofs.Common.{ℕ, suc, ◌/◌, ◌%◌, ◌<◌, ◌≤◌, ℤ, pos, negsuc, ◌*ℤ◌, ◌-ℤ◌, ◌≤ℤ◌, arith, mul-le-mul_right, mul-le-mul_left}
 use Rattle.std.proofs.lemmas.Int.{ints, clamps}
 use Rattle.std.specs.Int.{int_min, int_max}
 use Rattle.std.specs.Prelude.{int_div, int_rem}
-use Rattle.std.proofs.lemmas.Nat.{le-div, div_below}
-use Rattle.std.proofs.Math.Nat.{div-mul-le_self, div-le_self}
-use Rattle.std.proofs.Math.Pow.{shr_mono}
+use Rattle.std.proofs.lemmas.Nat.{le-div}
+use Rattle.std.proofs.Math.Nat.{div-mul-le_self}
 use lib.IntN.{*ℤ_comm}
 
 -- a factor from 0 up keeps the order

@@ -1,14 +1,13 @@
 -- Places to deschedule: registers and the five words below Wptr become undefined.
-use Rattle.std.proofs.Common.{◌≡◌, ℕ, ◌+◌, ◌-◌, ◌*◌, ◌<◌, ◌≤◌, Bool, true, false, ◌&&◌, nat_le, ℤ, pos, length, replicate, Option, Some, None, Result, Ok, Err, refl, sym, ap, ◌∙◌, subst, arith}
+use Rattle.std.proofs.Common.{◌≡◌, ℕ, ◌-◌, ◌<◌, ◌≤◌, Bool, true, ℤ, pos, replicate, Some, None, Ok, subst, arith}
 use Rattle.std.proofs.lemmas.Bool.Decides.{nat_tests}
 use Rattle.tp_image.specs.Image.{ImageValue}
 use Rattle.tp_step.specs.Memory.{undefined}
 use Rattle.tp_step.specs.State.{State as Machine, in_workspace, no_registers as machine_no_registers, descheduled as machine_descheduled}
 use Rattle.tp_state.specs.declared.cell.Cell.TheVariants as cell
-use Rattle.tp_state.specs.declared.kind.Kind.TheVariants as kind
 use Rattle.tp_state.specs.declared.state.State.{State}
 use Rattle.tp_state.specs.declared.fault.StateCode.TheVariants.{S5}
-use Rattle.tp_state.specs.CellRules.{with_cells, cells_from, are_free}
+use Rattle.tp_state.specs.CellRules.{with_cells, are_free}
 use Rattle.tp_state.specs.Rules.{below_wptr, given_way, descheduled}
 use Rattle.tp_state.specs.Fits.{FitsAmong, word_address}
 use Rattle.tp_state.proofs.Passing.{held, same_Ok}

@@ -1,5 +1,5 @@
 -- Words one after another that take something, and what is asked of them.
-use Rattle.std.proofs.Common.{◌≡◌, ◌⊎◌, inl, inr, ℕ, ◌+◌, ◌-◌, ◌*◌, ◌<◌, ◌≤◌, Bool, true, false, List, length, map, replicate, Option, Some, None, refl, sym, ap, ◌∙◌, subst, arith}
+use Rattle.std.proofs.Common.{◌≡◌, ◌⊎◌, inl, inr, ℕ, ◌+◌, ◌-◌, ◌*◌, ◌<◌, ◌≤◌, Bool, true, false, List, length, map, replicate, Option, refl, sym, ap, ◌∙◌, subst, arith}
 use Rattle.std.specs.List.{list_all}
 use Rattle.std.proofs.lemmas.Bool.{cases_lt}
 use Rattle.std.proofs.lemmas.List.{length-map, get_or-map, length-replicate, get_or-replicate}
@@ -8,10 +8,11 @@ use Rattle.tp_image.specs.declared.image.LoopRow.{LoopRow}
 use Rattle.tp_step.specs.Memory.{Memory, word_at, undefined}
 use Rattle.tp_state.specs.declared.cell.Cell.{Cell}
 use Rattle.tp_state.specs.declared.cell.Cell.TheVariants as cell
-use Rattle.tp_state.specs.CellRules.{cell_at, cells_from, with_cells, is_free, are_free, is_defined, blurred, copied}
+use Rattle.tp_state.specs.CellRules.{cell_at, cells_from, with_cells, is_free, are_free, blurred, copied}
 use Rattle.tp_state.specs.Fits.{CellFits, WordsFit, word_address}
 use Rattle.tp_state.proofs.CellLemmas.{length-with_cells, cell_at-with_cells_in, cell_at-with_cells_out, length-cells_from, cell_at-cells_from, cut_short}
 use Rattle.tp_state.proofs.Passing.{true_false}
+use Rattle.tp_state.proofs.LiveCells.{blurred_free, copied_free}
 use Rattle.tp_state.proofs.WordsChange.{Change, IsKept, IsTaken, kept_word}
 
 -- what holds of each of some cells
@@ -96,18 +97,11 @@ pub undefined_taken : (rows : List LoopRow) (workspace : ℕ) (cells : List Cell
 undefined_taken rows workspace cells m x n room free =
     stretch_taken rows workspace cells (replicate n cell.Undef) m (undefined m (word_address x) (4 * n)) x n (length-replicate n cell.Undef) room
     (λ i lt.
-        let here : cell_at (replicate n cell.Undef) i ≡ cell.Undef = get_or-replicate n i cell.Undef cell.Undef lt in
-        record { was = all_between is_free cells x n i free room lt; free = ap is_free here; fits = rw here tt })
+    let here : cell_at (replicate n cell.Undef) i ≡ cell.Undef = get_or-replicate n i cell.Undef cell.Undef lt in
+    record { was = all_between is_free cells x n i free room lt; free = ap is_free here; fits = rw here tt })
     (λ i out lt. kept_word m x n i out)
 
 -- ---- words of which one takes something, or a part of something
-
-blurred_free : (c : Cell) → is_free c ≡ true → is_free (blurred c) ≡ true
-blurred_free cell.Undef e = refl
-blurred_free cell.Any e = refl
-blurred_free (cell.Known n) e = refl
-blurred_free (cell.Index l) e = cc
-blurred_free (cell.Count l) e = cc
 
 -- the word is defined still, if it was
 blurred_fits : (rows : List LoopRow) (c : Cell) (r r' : Option ℕ) → is_free c ≡ true → CellFits rows c r → (CellFits rows cell.Any r → CellFits rows cell.Any r') → CellFits rows (blurred c) r'
@@ -124,24 +118,17 @@ pub blurred_taken : (rows : List LoopRow) (workspace : ℕ) (cells : List Cell) 
 blurred_taken rows workspace cells m m' x n f room free inside outside =
     stretch_taken rows workspace cells (map blurred (cells_from cells x n)) m m' x n (length-map (cells_from cells x n) blurred ∙ length-cells_from cells x n room) room
     (λ i lt.
-        let short : i < length (cells_from cells x n) = omega (arith, length-cells_from cells x n room) in
-        let here : cell_at (map blurred (cells_from cells x n)) i ≡ blurred (cell_at cells (x + i)) = get_or-map blurred (cells_from cells x n) i cell.Undef cell.Undef short ∙ ap blurred (cell_at-cells_from cells x n i lt) in
-        let was = all_between is_free cells x n i free room lt in
-        record {
-          was = was;
-          free = ap is_free here ∙ blurred_free _ was;
-          fits = rw here (blurred_fits rows (cell_at cells (x + i)) _ _ was (f.word (x + i) (omega (arith, f.sized))) (inside i lt));
-        })
+    let short : i < length (cells_from cells x n) = omega (arith, length-cells_from cells x n room) in
+    let here : cell_at (map blurred (cells_from cells x n)) i ≡ blurred (cell_at cells (x + i)) = get_or-map blurred (cells_from cells x n) i cell.Undef cell.Undef short ∙ ap blurred (cell_at-cells_from cells x n i lt) in
+    let was = all_between is_free cells x n i free room lt in
+    record {
+      was = was;
+      free = ap is_free here ∙ blurred_free _ was;
+      fits = rw here (blurred_fits rows (cell_at cells (x + i)) _ _ was (f.word (x + i) (omega (arith, f.sized))) (inside i lt));
+    })
     outside
 
 -- ---- words that take copies
-
-copied_free : (c : Cell) → is_free (copied c) ≡ true
-copied_free cell.Undef = refl
-copied_free cell.Any = refl
-copied_free (cell.Known n) = refl
-copied_free (cell.Index l) = refl
-copied_free (cell.Count l) = refl
 
 copied_fits : (rows : List LoopRow) (c : Cell) (r : Option ℕ) → CellFits rows c r → CellFits rows (copied c) r
 copied_fits rows cell.Undef r h = h
@@ -157,13 +144,13 @@ pub copies_taken : (rows : List LoopRow) (workspace : ℕ) (cells : List Cell) (
 copies_taken rows workspace cells m m' x y n f room from free inside outside =
     stretch_taken rows workspace cells (map copied (cells_from cells y n)) m m' x n (length-map (cells_from cells y n) copied ∙ length-cells_from cells y n from) room
     (λ i lt.
-        let short : i < length (cells_from cells y n) = omega (arith, length-cells_from cells y n from) in
-        let here : cell_at (map copied (cells_from cells y n)) i ≡ copied (cell_at cells (y + i)) = get_or-map copied (cells_from cells y n) i cell.Undef cell.Undef short ∙ ap copied (cell_at-cells_from cells y n i lt) in
-        record {
-          was = all_between is_free cells x n i free room lt;
-          free = ap is_free here ∙ copied_free (cell_at cells (y + i));
-          fits = rw (here, inside i lt) (copied_fits rows (cell_at cells (y + i)) _ (f.word (y + i) (omega (arith, f.sized))));
-        })
+    let short : i < length (cells_from cells y n) = omega (arith, length-cells_from cells y n from) in
+    let here : cell_at (map copied (cells_from cells y n)) i ≡ copied (cell_at cells (y + i)) = get_or-map copied (cells_from cells y n) i cell.Undef cell.Undef short ∙ ap copied (cell_at-cells_from cells y n i lt) in
+    record {
+      was = all_between is_free cells x n i free room lt;
+      free = ap is_free here ∙ copied_free (cell_at cells (y + i));
+      fits = rw (here, inside i lt) (copied_fits rows (cell_at cells (y + i)) _ (f.word (y + i) (omega (arith, f.sized))));
+    })
     outside
 
 -- ---- words that take something
@@ -175,6 +162,6 @@ pub any_taken : (rows : List LoopRow) (workspace : ℕ) (cells : List Cell) (m m
 any_taken rows workspace cells m m' x n room free inside outside =
     stretch_taken rows workspace cells (replicate n cell.Any) m m' x n (length-replicate n cell.Any) room
     (λ i lt.
-        let here : cell_at (replicate n cell.Any) i ≡ cell.Any = get_or-replicate n i cell.Any cell.Undef lt in
-        record { was = all_between is_free cells x n i free room lt; free = ap is_free here; fits = rw here (inside i lt) })
+    let here : cell_at (replicate n cell.Any) i ≡ cell.Any = get_or-replicate n i cell.Any cell.Undef lt in
+    record { was = all_between is_free cells x n i free room lt; free = ap is_free here; fits = rw here (inside i lt) })
     outside

@@ -1,7 +1,6 @@
 -- Free words that take something that fits, and what else stays.
-use Rattle.std.proofs.Common.{◌≡◌, ◌⊎◌, inl, inr, ℕ, ◌+◌, ◌*◌, ◌^◌, ◌<◌, ◌≤◌, Bool, true, false, List, length, length-set, slice_set, slice_get, get_or-set_same, get_or-set_other, Option, Some, None, refl, sym, ap, ◌∙◌, subst, arith}
-use Rattle.std.proofs.lemmas.Bool.{cases_lt, cases_eq}
-use Rattle.std.proofs.lemmas.List.{get_or_past}
+use Rattle.std.proofs.Common.{◌≡◌, ◌⊎◌, inl, inr, ℕ, ◌+◌, ◌*◌, ◌^◌, ◌<◌, ◌≤◌, Bool, true, false, List, length, length-set, slice_set, slice_get, get_or-set_same, get_or-set_other, Some, refl, sym, ap, ◌∙◌, arith}
+use Rattle.std.proofs.lemmas.Bool.{cases_eq}
 use Rattle.tp_image.specs.declared.image.LoopRow.{LoopRow}
 use Rattle.tp_step.specs.Memory.{Memory, word_at, with_word, undefined}
 use Rattle.tp_step.proofs.MemoryLemmas.{word_same, word_other, word_kept}
@@ -9,9 +8,9 @@ use Rattle.tp_state.specs.declared.cell.Cell.{Cell}
 use Rattle.tp_state.specs.declared.cell.Cell.TheVariants as cell
 use Rattle.tp_state.specs.CellRules.{cell_at, is_free}
 use Rattle.tp_state.specs.Fits.{CellFits, WordsFit, IsLive, LoopsFit, word_address}
-use Rattle.tp_state.specs.Live.{IsInBlock}
 use Rattle.tp_state.specs.GoesOn.{turns_in}
 use Rattle.tp_state.proofs.Passing.{true_false}
+use Rattle.tp_state.proofs.LiveLoops.{live_room}
 
 -- a word and what is known of it stay
 pub record IsKept (cells cells' : List Cell) (m m' : Memory) (x : ℕ) : Type 0 where
@@ -29,21 +28,6 @@ pub record Change (rows : List LoopRow) (workspace : ℕ) (cells cells' : List C
   pub sized : length cells' ≡ length cells
   pub word : (x : ℕ) → x < workspace → IsKept cells cells' m m' x ⊎ IsTaken rows cells cells' m' x
 
-pub free_or_live : (c : Cell) → (is_free c ≡ true) ⊎ (is_free c ≡ false)
-free_or_live cell.Undef = inl refl
-free_or_live cell.Any = inl refl
-free_or_live (cell.Known n) = inl refl
-free_or_live (cell.Index l) = inr refl
-free_or_live (cell.Count l) = inr refl
-
--- behind the workspace there is no live word
-pub live_inside : (cells : List Cell) (x : ℕ) → is_free (cell_at cells x) ≡ false → x < length cells
-live_inside cells x live = by_place (cases_lt x (length cells))
-  where
-    by_place : (x < length cells) ⊎ (length cells ≤ x) → x < length cells
-    by_place (inl lt) = lt
-    by_place (inr past) = true_false (sym (ap is_free (get_or_past cells x cell.Undef past)) ∙ live)
-
 module _ (rows : List LoopRow) (workspace : ℕ) (cells cells' : List Cell) (m m' : Memory) (c : Change rows workspace cells cells' m m') where
   pub words_changed : WordsFit rows workspace cells m → WordsFit rows workspace cells' m'
   words_changed f = record { sized = c.sized ∙ f.sized; word = λ x lt. at x lt (c.word x lt) }
@@ -55,7 +39,7 @@ module _ (rows : List LoopRow) (workspace : ℕ) (cells cells' : List Cell) (m m
   module _ (sized : length cells ≡ workspace) where
     -- a live word stays
     pub live_kept : (x : ℕ) → is_free (cell_at cells x) ≡ false → IsKept cells cells' m m' x
-    live_kept x live = by_word (c.word x (omega (arith, sized, live_inside cells x live)))
+    live_kept x live = by_word (c.word x (omega (arith, sized, live_room cells x live)))
       where
         by_word : IsKept cells cells' m m' x ⊎ IsTaken rows cells cells' m' x → IsKept cells cells' m m' x
         by_word (inl kept) = kept
@@ -64,7 +48,7 @@ module _ (rows : List LoopRow) (workspace : ℕ) (cells cells' : List Cell) (m m
     -- and none becomes live
     live_was : (x : ℕ) → is_free (cell_at cells' x) ≡ false → is_free (cell_at cells x) ≡ false
     live_was x live =
-        let in_cells = live_inside cells' x live in
+        let in_cells = live_room cells' x live in
         by_word (c.word x (omega (arith, sized, c.sized)))
       where
         by_word : IsKept cells cells' m m' x ⊎ IsTaken rows cells cells' m' x → is_free (cell_at cells x) ≡ false
