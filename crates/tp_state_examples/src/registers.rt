@@ -6,7 +6,7 @@ ghost use Rattle.tp_flow.specs.declared.edge.Edge.TheVariants.{Next, Taken};
 ghost use Rattle.tp_state.specs.declared.kind.Kind.TheVariants.{Undef, Int, Ptr, BytePtr};
 ghost use Rattle.tp_state.specs.declared.fault.StateCode.TheVariants.{S1, S2, S3, S6, S9};
 ghost use Rattle.tp_state.specs.After.{after};
-ghost use Rattle.tp_state.specs.Samples.{minus, ints, one, any, image, regs, next_of};
+ghost use Rattle.tp_state_examples.specs.Samples.{minus, ints, one, any, image, regs, next_of};
 
 /// ldc, ldlp and ldnlp.
 #[tactic(auto, unfolding(crate::proofs::Computing::by_computing))]

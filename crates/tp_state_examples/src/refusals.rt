@@ -9,7 +9,7 @@ ghost use Rattle.tp_state.specs.declared.cell.Cell.TheVariants as cell;
 ghost use Rattle.tp_state.specs.declared.fault.StateCode.TheVariants.{S1, S2, S3, S4, S5, S6, S7, S8, S9, S11};
 ghost use Rattle.tp_state.specs.After.{after};
 ghost use Rattle.tp_state.specs.Entry.{entry};
-ghost use Rattle.tp_state.specs.Samples.{minus, one, any, worker, words_taken, taken};
+ghost use Rattle.tp_state_examples.specs.Samples.{minus, one, any, worker, words_taken, taken};
 
 /// The refusals of small codes.
 #[tactic(auto, unfolding(crate::proofs::Computing::by_computing))]

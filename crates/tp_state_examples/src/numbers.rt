@@ -4,7 +4,7 @@ ghost use Rattle.std.specs.Prelude.{◌≡◌, pos, Ok, Err};
 ghost use Rattle.tp_decode.specs.declared.instr.Instr.TheVariants.{Adc, Eqc, Diff, Add, Prod, Gt, Sub, Csub0, Rem, Div, BitNot, BitXor, Shr, Shl, Mint, BitAnd, BitOr, Sum, Mul};
 ghost use Rattle.tp_state.specs.declared.kind.Kind.TheVariants.{Undef, Int, Ptr, BytePtr};
 ghost use Rattle.tp_state.specs.declared.fault.StateCode.TheVariants.{S1, S2, S10};
-ghost use Rattle.tp_state.specs.Samples.{minus, ints, one, any, regs, next_of};
+ghost use Rattle.tp_state_examples.specs.Samples.{minus, ints, one, any, regs, next_of};
 
 /// One operand: adc, eqc, not; and mint, which has none.
 #[tactic(auto, unfolding(crate::proofs::Computing::by_computing))]

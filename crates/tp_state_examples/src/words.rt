@@ -8,7 +8,7 @@ ghost use Rattle.tp_state.specs.declared.kind.Kind.TheVariants.{Undef, Int, Ptr,
 ghost use Rattle.tp_state.specs.declared.cell.Cell.TheVariants as cell;
 ghost use Rattle.tp_state.specs.declared.fault.StateCode.TheVariants.{S1, S2, S3, S4, S5, S7, S11};
 ghost use Rattle.tp_state.specs.After.{after};
-ghost use Rattle.tp_state.specs.Samples.{minus, ints, one, any, image_of, regs, regs_words, words_with, next_of};
+ghost use Rattle.tp_state_examples.specs.Samples.{minus, ints, one, any, image_of, regs, regs_words, words_with, next_of};
 
 /// ldl and ldnl.
 #[tactic(auto, unfolding(crate::proofs::Computing::by_computing))]

@@ -8,7 +8,7 @@ ghost use Rattle.tp_state.specs.declared.kind.Kind.TheVariants.{Undef, Int, Ptr,
 ghost use Rattle.tp_state.specs.declared.cell.Cell.TheVariants as cell;
 ghost use Rattle.tp_state.specs.declared.fault.StateCode.TheVariants.{S1, S2, S3, S4, S5, S7, S8, S9};
 ghost use Rattle.tp_state.specs.After.{after};
-ghost use Rattle.tp_state.specs.Samples.{minus, ints, one, any, image, image_of, regs, regs_words, words_with, words_after_with, next_of};
+ghost use Rattle.tp_state_examples.specs.Samples.{minus, ints, one, any, image, image_of, regs, regs_words, words_with, words_after_with, next_of};
 
 /// in: the registers hold the length, the channel and the place.
 #[tactic(auto, unfolding(crate::proofs::Computing::by_computing))]
