@@ -5,6 +5,7 @@ use Rattle.std.specs.Option.{option_and_then}
 use Rattle.std.specs.Prelude.{IfSome}
 use Rattle.std.proofs.lemmas.Bool.Decides.{nat_tests}
 use Rattle.std.proofs.Common.{length-set}
+use Rattle.std.proofs.lemmas.List.{set-get_or}
 use Rattle.tp_image.specs.Image.{ImageValue}
 use Rattle.tp_state.specs.declared.state.State.{State}
 use Rattle.tp_state.specs.declared.fault.StateFault.{StateFault}
@@ -57,15 +58,10 @@ enter_gives states i there new s r h is given = by_answer r (placed i (met there
     by_answer (Err (Refused code place)) wanted e gives = ap (λ r. r >>= (λ t. Ok (with_state i t (table_of states)))) (e ∙ gives)
     by_answer (Err Memory) wanted e gives = tt
 
-same_set : (states : List (Option State)) (i : ℕ) (there : Option State) → there ≡ slice_index_or states i None → i < length states → slice_set states i there ≡ states
-same_set [] i there is h = refl
-same_set (o ∷ states) zero there is h = ap (λ x. x ∷ states) is
-same_set (o ∷ states) (suc i) there is h = ap (λ xs. o ∷ xs) (same_set states i there is (omega (arith, h)))
-
 pub enter_moves : (image : ImageValue) (states : List (Option State)) (i : ℕ) (there new : Option State) (moved : Bool) → i < length states → there ≡ slice_index_or states i None → MovesState image moved there new → MovesTable image moved states (slice_set states i new)
 enter_moves image states i there new moved h is moves = record {
   sized = length-set states i new;
-  stays = λ same. ap (slice_set states i) (moves.stays same) ∙ same_set states i there is h;
+  stays = λ same. ap (slice_set states i) (moves.stays same ∙ is) ∙ set-get_or states i None;
   falls = λ differs. table_sinks image states i new h (subst (λ o. height image new < height image o) is (moves.falls differs));
 }
 

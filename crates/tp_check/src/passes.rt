@@ -1,13 +1,11 @@
 //! The passes: a table is made edge by edge until a pass changes nothing.
 
-ghost use Rattle.std.specs.Prelude.{◌≡◌, ◌≢◌, ◌<◌, ◌+◌, ℕ, true, false, length, All, Some, Ok, IfOk, IfErr, OnOk, IsTrue};
+ghost use Rattle.std.specs.Prelude.{◌≡◌, ◌≢◌, ◌<◌, ℕ, true, false, length, All, Some, Ok, IfOk, IfErr, OnOk, IsTrue};
 ghost use Rattle.tp_decode.specs.declared.instr.Instr.{Instr as AnInstr};
-ghost use Rattle.tp_decode.specs.Cutting.{Cut, cut_at};
 ghost use Rattle.tp_flow.specs.declared.edge.Edge.{Edge as AnEdge};
 ghost use Rattle.tp_flow.specs.NestRanges.{ranges};
 ghost use Rattle.tp_flow.specs.NestKept.{KeepsNest};
 ghost use Rattle.tp_flow.specs.RowRules.{is_start};
-ghost use Rattle.tp_state.specs.declared.fault.StateFault.TheVariants.{Refused};
 ghost use Rattle.tp_check.specs.Tables.{table_of, asked, HasPlacedStates};
 ghost use Rattle.tp_check.specs.EdgesRespect.{EveryEdgeRespects};
 ghost use Rattle.tp_check.specs.Passes.{IsVerdict, first_table, enter, go_along, along, edges_of, pass, IsRefusalOf};
@@ -21,7 +19,9 @@ use tp_flow::{Edge, Nest};
 use tp_image::Image;
 use tp_state::{State, StateFault};
 
-/// A table that every edge respects, for an image whose flow is sound, or the first refusal of the passes that look for it.
+/// The table that the passes come to, of an image whose flow has passed: every edge respects it. Refused is the first
+/// refusal of the passes, Memory that a growth was refused. That the last check fails is proved not to happen; what is
+/// promised of the table rests on it, and on nothing that the passes do.
 pub fn check_states(
     alloc: Global,
     image: &Image,
@@ -51,7 +51,7 @@ pub fn check_states(
 #[derive(Drop)]
 struct Passes {
     table: Table,
-    /// Whether the state at an address has changed since the edges from there were last taken.
+    /// Whether the state at an address has changed since the edges from there were last taken; at first, of each.
     changed: Vec<bool>,
     /// What is known after the edge that is being taken.
     outcome: State,
