@@ -9,3 +9,4 @@ pub mod MeasureDrops
 pub mod CostEquations
 pub mod WalkBound
 pub mod Computing
+pub mod AnswerLemmas

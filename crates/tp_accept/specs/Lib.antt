@@ -5,8 +5,14 @@ pub mod Capped
 pub mod Measure
 pub mod Walks
 pub mod Workers
-pub mod BoundFaults
+pub mod Refusals
+pub mod Verdict
+pub mod Acceptance
 pub use Rattle.tp_decode.specs.Cutting
+pub use Rattle.tp_image.specs.Image
+pub use Rattle.tp_image.specs.Text
 pub use Rattle.tp_flow.specs.NestRanges
 pub use Rattle.tp_flow.specs.RowRules
 pub use Rattle.tp_flow.specs.NestKept
+pub use Rattle.tp_check.specs.Tables
+pub use Rattle.tp_check.specs.EdgesRespect

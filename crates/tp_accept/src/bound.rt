@@ -1,25 +1,26 @@
 //! The budget of a code.
 
-ghost use Rattle.std.specs.Prelude.{◌≡◌, ◌≤◌, ◌<◌, IfOk, OnOk, OnErr, Err};
+ghost use Rattle.std.specs.Prelude.{◌≡◌, ◌≢◌, ◌≤◌, ◌<◌, IfOk, OnOk, IfErr};
 ghost use Rattle.tp_decode.specs.Cutting.{IsCutting};
 ghost use Rattle.tp_accept.specs.Bound.{bound};
 ghost use Rattle.tp_accept.specs.Limits.{most_budget};
-ghost use Rattle.tp_accept.specs.declared.fault.BoundFault.TheVariants.{B1};
+ghost use Rattle.tp_accept.specs.declared.refusal.Refusal.TheVariants as refusal;
+ghost use Rattle.tp_accept.specs.Refusals.{too_long};
 
 use crate::counting::{Counted, cost_of, whole_at};
-use crate::fault::BoundFault;
 use crate::limits::MOST_BUDGET;
+use crate::refusal::{Refusal, RefusalCode};
 use std::alloc::Global;
 use tp_decode::Listing;
 use tp_image::Image;
 
 /// The bound on the instruction bytes of a run of an image's code, where it is within the limit; otherwise B1. The costs
 /// are worked out once, from the highest address down, in one table with an entry for each code byte.
-pub fn budget(alloc: Global, image: &Image, listing: &Listing) -> Result<u32, BoundFault>
+pub(crate) fn budget(alloc: Global, image: &Image, listing: &Listing) -> Result<u32, Refusal>
     requires { IsCutting image.now.code listing.now }
     ensures value { IfOk result (λ budget. budget ≡ bound image.now.loops listing.now) }
     ensures within { OnOk result (bound image.now.loops listing.now ≤ most_budget) }
-    ensures refused { result ≡ Err B1 → most_budget < bound image.now.loops listing.now }
+    ensures refused { IfErr result (λ e. e ≢ refusal.Memory → (e ≡ too_long) × (most_budget < bound image.now.loops listing.now)) }
 {
     let mut costs = vec![in alloc; Counted::NOTHING; image.code.len()]?;
     for i in (0..listing.len()).rev() {
@@ -28,7 +29,10 @@ pub fn budget(alloc: Global, image: &Image, listing: &Listing) -> Result<u32, Bo
     }
     let bytes = whole_at(&costs, Some(0));
     if u64::from(MOST_BUDGET) < bytes {
-        return Err(BoundFault::B1);
+        return Err(Refusal::Refused {
+            code: RefusalCode::B1,
+            place: 0,
+        });
     }
     Ok(bytes as u32)
 }

@@ -1,4 +1,4 @@
-//! Laws of the bound: each function's contract is the law.
+//! Laws of the bound, and of answers: each function's contract is the law.
 
 ghost use Rattle.std.specs.Prelude.{◌≡◌, ◌≤◌, ◌<◌, ◌+◌, ℕ, List, [], ◌∷◌, length, Some, IsTrue};
 ghost use Rattle.tp_image.specs.declared.image.LoopRow.{LoopRow};
@@ -13,7 +13,18 @@ ghost use Rattle.tp_accept.specs.Bound.{bound, costs_of};
 ghost use Rattle.tp_accept.specs.Equations.{AreCosts};
 ghost use Rattle.tp_accept.specs.Measure.{Counts, measure, AreCountsAfter, HasTurns};
 ghost use Rattle.tp_accept.specs.Walks.{Walk};
+ghost use Rattle.tp_accept.specs.Verdict.{Answer, IsAnswer};
 ghost use Rattle.tp_accept.specs.Workers.{bound_of_bytes, measure_of_bytes, two_and_three, row, increment, sum_to, ten, ten_thousand, loop_in_a_loop, outer_and_inner, early_exit, two_ways, neighbours};
+
+use crate::accepted::Accepted;
+use tp_check::laws::passes_have_one_verdict;
+
+/// One text has one answer: it is not both allowed and refused, nor allowed or refused in two ways.
+pub fn one_text_has_one_answer()
+    ensures { (text : List ℕ) (answer other : Answer) → IsAnswer text answer → IsAnswer text other → answer ≡ other }
+{
+    passes_have_one_verdict();
+}
 
 /// The costs of a code meet the equations of the bound.
 pub fn costs_meet_their_equations()
@@ -69,6 +80,12 @@ pub fn measure_goes_down()
 pub fn no_walk_is_longer()
     ensures { (rows : List LoopRow) (workspace : ℕ) (code : List Cut) → KeepsNest rows workspace code →
         IsTrue (is_start code 0) → (counts : Counts) (n : ℕ) → Walk rows code 0 counts n → n ≤ bound rows code }
+{}
+
+/// No way through the code of an accepted image executes more bytes than its budget.
+pub fn no_walk_is_longer_than_the_budget(accepted: &Accepted)
+    ensures { (cuts : List Cut) → IsCutting accepted.now.image.code cuts → (counts : Counts) (n : ℕ) →
+        Walk accepted.now.image.loops cuts 0 counts n → n ≤ accepted.now.budget }
 {}
 
 /// The bounds of small workers, as they are worked out by hand.

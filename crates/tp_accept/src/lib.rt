@@ -1,14 +1,18 @@
-//! What an image's code may cost: the bound on the instruction bytes of a run, and the budget that is within the limit.
+//! Acceptance: the verdict on a text, and images that may be run.
+//!
+//! [`accept`] makes every judgement. What it answers is said in `specs/Verdict.antt`, what it promises of an image that may
+//! be run in `specs/Acceptance.antt`. The bound on the instruction bytes of a run stands in `specs/Bound.antt`, and the laws
+//! are the contracts of the functions of [`laws`].
 #![tactic(auto)]
 
+mod acceptance;
+mod accepted;
 mod bound;
 mod counting;
-mod fault;
 pub mod laws;
 pub mod limits;
+mod refusal;
 
-pub use bound::budget;
-pub use fault::BoundFault;
-
-#[cfg(test)]
-mod tests;
+pub use acceptance::accept;
+pub use accepted::Accepted;
+pub use refusal::{Refusal, RefusalCode};

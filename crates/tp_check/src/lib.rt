@@ -6,7 +6,12 @@
 
 mod check;
 pub mod laws;
+mod passes;
 mod table;
 
 pub use check::every_edge_respects;
+pub use passes::check_states;
 pub use table::Table;
+
+#[cfg(test)]
+mod tests;

@@ -1,5 +1,5 @@
 -- Runs on a machine, step after step, and how they end.
-use Rattle.std.proofs.Common.{◌≡◌, ℕ, ◌+◌, ◌-◌, ◌*◌, ◌<◌, ◌≤◌, List, [], length, Some, refl, sym, ap, ◌∙◌, arith, subst}
+use Rattle.std.proofs.Common.{◌≡◌, ℕ, ◌+◌, ◌-◌, ◌*◌, ◌<◌, ◌≤◌, List, [], length, Some, Result, Ok, Err, IfOk, refl, sym, ap, ◌∙◌, arith, subst}
 use Rattle.tp_link.specs.declared.links.LinkFault.{LinkFault}
 use Rattle.tp_image.specs.Image.{ImageValue}
 use Rattle.tp_step.specs.Steps.{step, steps}
@@ -8,11 +8,12 @@ use Rattle.tp_step.proofs.StepLemmas.{steps_add}
 use Rattle.tp_decode.specs.Words.{low_word}
 use Rattle.tp_machine.specs.declared.machine.Machine.{Machine}
 use Rattle.tp_machine.specs.declared.outcome.Outcome.{Outcome}
+use Rattle.tp_machine.specs.declared.outcome.RunFault.{RunFault}
 use Rattle.tp_machine.specs.declared.phase.Phase.{Phase}
 use Rattle.tp_machine.specs.declared.phase.Phase.TheVariants.{BeforePacket, Stopped}
 use Rattle.tp_machine.specs.declared.turn.Turn.TheVariants as turn
 use Rattle.tp_machine.specs.Devices.{Devices, Gave, packet_of}
-use Rattle.tp_machine.specs.Answers.{HasCome, Ended, Refused, StuckWithin, OutOfSteps}
+use Rattle.tp_machine.specs.Answers.{HasCome, Ended, Refused, StuckWithin, OutOfSteps, Answered, RanAlone}
 use Rattle.tp_machine.specs.Phases.{is_stopped}
 use Rattle.tp_machine.specs.Meaning.{Messages, state_of, Turned, Standing}
 use Rattle.tp_machine.proofs.DeviceLemmas.{packet_length, gave_none, took_none}
@@ -108,3 +109,17 @@ is_out_last image limit before now n m phase all going h = is_out_of_steps image
 pub ended_alone : (image : ImageValue) (limit : ℕ) (before after : Devices) (outcome : Outcome) (run : Ended image limit before after outcome) → RunsAlone image (packet_of image before.source) (record { result = run.state.sent; error = outcome.error; steps = outcome.steps; trace = run.state.traced })
 unfolding run_of
 ended_alone image limit before after outcome run = rw (run.come.leads, run.ended, run.error) refl
+
+pub ran_alone : (image : ImageValue) (limit : ℕ) (before after : Devices) (outcome : Outcome) → Ended image limit before after outcome → RanAlone image before after outcome
+ran_alone image limit before after outcome run = record {
+  result = run.state.sent;
+  traced = run.state.traced;
+  alone = ended_alone image limit before after outcome run;
+  sink = run.come.devices.sink;
+  trace = run.come.devices.trace;
+}
+
+-- an answer that is an Outcome
+pub answered_alone : (image : ImageValue) (limit : ℕ) (before after : Devices) (answer : Result Outcome RunFault) → Answered image limit before after answer → IfOk answer (RanAlone image before after)
+answered_alone image limit before after (Ok outcome) run = ran_alone image limit before after outcome run
+answered_alone image limit before after (Err fault) run = tt

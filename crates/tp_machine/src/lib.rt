@@ -1,8 +1,8 @@
 //! A machine that runs worker images: a checking interpreter of the step relation.
 //!
-//! [`Machine::run_image`] runs one packet of an image over a member's [`Links`](tp_link::Links). The machine keeps a tag
-//! beside each register and byte, so it knows what is undefined, and tests everything that it does: where no step exists
-//! it answers [`RunFault::Stuck`].
+//! [`Machine::run`] runs one packet of an accepted image over a member's [`Links`](tp_link::Links), and
+//! [`Machine::run_image`] one of any image. The machine keeps a tag beside each register and byte, so it knows what is
+//! undefined, and tests everything that it does: where no step exists it answers [`RunFault::Stuck`].
 #![tactic(auto)]
 
 mod arithmetic;

@@ -5,7 +5,7 @@ use crate::page::Page;
 use arrayvec::ArrayVec;
 use std::alloc::Global;
 use std::sync::Wait;
-use tp_accept::{BoundFault, budget};
+use tp_accept::{Refusal, accept};
 use tp_board::{Board, BoardFault, Core, Event, Reply};
 use tp_collect::Collector;
 use tp_decode::{DecodeFault, Instr, Listing, decode};
@@ -19,6 +19,7 @@ pub fn all(rt: &impl Wait, alloc: Global) -> Tally {
     tally.add(served(rt, alloc));
     listings(alloc, &mut tally);
     images(alloc, &mut tally);
+    tally.add(accepted(alloc));
     devices(alloc, &mut tally);
     core(alloc, &mut tally);
     tally.add(board(alloc));
@@ -80,7 +81,6 @@ fn images(alloc: Global, tally: &mut Tally) {
             tally.add(same_if(is_read(&image)));
             tally.add(written(alloc, &image));
             tally.add(collected(alloc, &image));
-            tally.add(budgeted(alloc, &image));
             tally.add(match upgrade(alloc, &image) {
                 Ok(same) => same_if(is_read(&same)),
                 Err(ImageFault::Memory) => Answer::Memory,
@@ -118,17 +118,19 @@ fn collected(alloc: Global, image: &Image) -> Answer {
     }
 }
 
-/// The budget of a code of one instruction of two bytes.
-fn budgeted(alloc: Global, image: &Image) -> Answer {
-    let listing = match decode(alloc, &image.code) {
-        Ok(listing) => listing,
-        Err(DecodeFault::Memory) => return Answer::Memory,
-        Err(_) => return Answer::Other,
+/// A worker that adds one to a number: its image has 16 code bytes, and its budget is 16.
+const INCREMENT: &[u8] = b"TPW1\x10\x00\x0C\x00\x08\x00\x01\x00\x01\x00\x00\x00\
+    \x10\x24\xF2\x54\x44\xF7\x70\x81\xD0\x10\x24\xF2\x44\xFB\x21\xF5";
+
+/// Accepting an image.
+fn accepted(alloc: Global) -> Answer {
+    let Ok(text) = Vec::from_slice(alloc, INCREMENT) else {
+        return Answer::Memory;
     };
-    match budget(alloc, image, &listing) {
-        Ok(budget) => same_if(budget == 2),
-        Err(BoundFault::Memory) => Answer::Memory,
-        Err(BoundFault::B1) => Answer::Other,
+    match accept(alloc, text) {
+        Ok(accepted) => same_if(accepted.budget() == 16 && accepted.code().len() == 16),
+        Err(Refusal::Memory) => Answer::Memory,
+        Err(_) => Answer::Other,
     }
 }
 

@@ -63,6 +63,14 @@ impl Cells {
         Ok(Cells { cells })
     }
 
+    /// It takes the other's value, of as many words.
+    pub(crate) fn set_to(&mut self, others: &Cells)
+        requires { length others.now ≡ length self.old }
+        ensures { self.new ≡ others.now }
+    {
+        self.cells.copy_from_slice(&others.cells);
+    }
+
     /// What holds of both, word by word. It answers whether anything changed.
     pub(crate) fn join(&mut self, others: &Cells) -> bool
         requires { length others.now ≡ length self.old }

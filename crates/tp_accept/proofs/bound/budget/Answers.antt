@@ -1,4 +1,4 @@
-use Rattle.std.proofs.Common.{◌≡◌, ◌-◌, suc, length, ap, sym, ◌∙◌, subst, arith, replicate}
+use Rattle.std.proofs.Common.{◌≡◌, ◌-◌, suc, length, refl, ap, sym, ◌∙◌, subst, arith, replicate}
 use Rattle.tp_decode.specs.Cutting.{code_of}
 use Rattle.tp_flow.proofs.FlowFirst.{is_there}
 use Rattle.tp_flow.proofs.FlowSpelled.{each_some}
@@ -47,7 +47,7 @@ whole_at-bytes-requires c = subst AreCapped (sym c.deref-2.ensures.value) (all_c
 pub returns-then-from-bytes-clause-refused : goal.returns-then-from-bytes-clause-refused
 returns-then-from-bytes-clause-refused c =
     let counted = found_all c.args.image.now.loops c.args.listing.now c.deref-2.result.now c.loop-i.costs.items c.loop-i.i c.whole_at-bytes.result c.whole_at-bytes.ensures.value c.deref-2.ensures.value (omega arith) c.loop-i.invariant.found in
-    λ _. omega (arith, counted)
+    λ _. (refl, omega (arith, counted))
 
 pub returns-clause-value : goal.returns-clause-value
 returns-clause-value c =

@@ -1,0 +1,31 @@
+//! The verdict on a text.
+
+ghost use Rattle.std.specs.Prelude.{◌≡◌, ◌≢◌, IfOk, IfErr, Ok, Err};
+ghost use Rattle.tp_image.specs.Text.{IsTextOf};
+ghost use Rattle.tp_accept.specs.Verdict.{allowed, IsAnswer};
+ghost use Rattle.tp_accept.specs.declared.refusal.Refusal.TheVariants as refusal;
+
+use crate::accepted::Accepted;
+use crate::bound::budget;
+use crate::refusal::Refusal;
+use std::alloc::Global;
+use tp_check::check_states;
+use tp_decode::decode;
+use tp_flow::check_flow;
+use tp_image::read_image;
+
+/// The verdict on a text: the image that it spells, if it may be run, or the first refusal. The bytes are judged first, then
+/// the cutting of the code, its flow, its states and its bound.
+pub fn accept(alloc: Global, text: Vec<u8>) -> Result<Accepted, Refusal>
+    ensures image { IfOk result (λ accepted. IsTextOf text.items accepted.image) }
+    ensures allowed { IfOk result (λ accepted. IsAnswer text.items (Ok (allowed accepted.image accepted.budget))) }
+    ensures refused { IfErr result (λ e. e ≢ refusal.Memory → IsAnswer text.items (Err e)) }
+{
+    let image = read_image(alloc, &text)?;
+    let listing = decode(alloc, &image.code)?;
+    let nest = check_flow(&image, &listing)?;
+    let table = check_states(alloc, &image, &listing, &nest)?;
+    drop(table);
+    let budget = budget(alloc, &image, &listing)?;
+    Ok(Accepted { image, budget })
+}
