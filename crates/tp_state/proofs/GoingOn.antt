@@ -34,7 +34,7 @@ use Rattle.tp_state.specs.declared.state.State.{State}
 use Rattle.tp_state.specs.Rules.{rule}
 use Rattle.tp_state.specs.After.{after, asked, entering}
 use Rattle.tp_state.specs.Fits.{Fits, FitsAmong, IsLive}
-use Rattle.tp_state.specs.GoesOn.{IsAccepted, turns_in, turns_after, AreTurnsAfter, TurnsBy, GoesAlong, HasStopped, GoesOn}
+use Rattle.tp_state.specs.GoesOn.{IsAccepted, turns_in, turns_after, AreTurnsAfter, FollowsTurns, GoesAlong, HasStopped, GoesOn}
 use Rattle.tp_state.proofs.EdgeLemmas.{some_is, address_is}
 use Rattle.tp_state.proofs.CodeLemmas.{stands, spelling_of, operand_fits}
 use Rattle.tp_state.proofs.Passing.{through}
@@ -145,10 +145,10 @@ pub record Outcome (image : ImageValue) (at next : ℕ) (instr : Instr) (t : Sta
 module _ (image : ImageValue) (at next : ℕ) (instr : Instr) (t : State) (s : Machine) (kept : KeepsAround image.loops image.workspace at next instr) where
   along : (edge : Edge) (to : ℕ) (back : Option ℕ) → target (ranges image.loops) at next instr edge ≡ Some to → IsOk (after image at next instr edge t)
       → ((t' : State) → rule image at next instr edge t ≡ Ok t' → Makes image (without (left_by (ranges image.loops) at edge) (is_around (ranges image.loops) at)) back to instr t' (behind next s))
-      → TurnsLeft image at edge back → (instr ≡ Lend → TurnsBy image.loops at s.memory edge)
+      → TurnsLeft image at edge back → (instr ≡ Lend → FollowsTurns image.loops at s.memory edge)
       → Outcome image at next instr t s
   unfolding after
-  along edge to back leads accepted make left by_turns =
+  along edge to back leads accepted make left follows =
       let ok = is_accepted (after image at next instr edge t) accepted in
       through (rule image at next instr edge t) _ ok.0 ok.1 λ t' ruled enters.
       let m = make t' ruled in
@@ -165,7 +165,7 @@ module _ (image : ImageValue) (at next : ℕ) (instr : Instr) (t : State) (s : M
           known = ok.1;
           fits = fits_alike image (along_with (entered_by (ranges image.loops) at to) (without (left_by (ranges image.loops) at edge) (is_around (ranges image.loops) at))) (is_around (ranges image.loops) to) to ok.0 m.end (kept.moves edge to leads) e.fits;
           turns = turns_along image at edge to s.memory m.end.memory back (kept.moves edge to leads) m.turns e.turns left;
-          by_turns = by_turns;
+          follows = follows;
         };
       }
 
@@ -252,7 +252,7 @@ module _ (image : ImageValue) (small : image.workspace ≤ 512) (own_lends : Has
           rw (number, lend) refl
 
   -- the way is that of the loop's turns
-  way_is : (edge : Edge) (l : ℕ) (row : LoopRow) → Ends image at l row → edge ≡ (if nat_lt 1 (turns_in s.memory row) then Back else Out) → TurnsBy image.loops at s.memory edge
+  way_is : (edge : Edge) (l : ℕ) (row : LoopRow) → Ends image at l row → edge ≡ (if nat_lt 1 (turns_in s.memory row) then Back else Out) → FollowsTurns image.loops at s.memory edge
   way_is edge l row ends is other among ends_too =
       let number = numbered image.loops other among in
       let same = number_is l number.0 row other ends number.1 ends_too in

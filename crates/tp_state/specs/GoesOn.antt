@@ -38,8 +38,8 @@ AreTurnsAfter rows at edge to m later =
     (row : LoopRow) → Contains rows row → IsTrue (contains (range_of row) to) → turns_in later row ≡ turns_after at edge row (turns_in m row)
 
 -- the loop that ends at an address goes back where it has more turns to make, and else it is left
-abbrev pub TurnsBy : List LoopRow → (at : ℕ) → Memory → Edge → Type 0
-TurnsBy rows at m edge = (row : LoopRow) → Contains rows row → row.lend ≡ at → edge ≡ (if nat_lt 1 (turns_in m row) then Back else Out)
+abbrev pub FollowsTurns : List LoopRow → (at : ℕ) → Memory → Edge → Type 0
+FollowsTurns rows at m edge = (row : LoopRow) → Contains rows row → row.lend ≡ at → edge ≡ (if nat_lt 1 (turns_in m row) then Back else Out)
 
 -- ---- where it goes
 
@@ -52,7 +52,7 @@ pub record GoesAlong (image : ImageValue) (at next : ℕ) (instr : Instr) (t : S
   pub known : after image at next instr edge t ≡ Ok outcome
   pub fits : Fits image to outcome end
   pub turns : AreTurnsAfter image.loops at edge to s.memory end.memory
-  pub by_turns : instr ≡ Lend → TurnsBy image.loops at s.memory edge
+  pub follows : instr ≡ Lend → FollowsTurns image.loops at s.memory edge
 
 -- by stopp the worker has stopped after its result
 abbrev pub HasStopped : Instr → Machine → Type 0

@@ -1,14 +1,25 @@
 //! What is known after messages, and along the edges of loops: computed examples.
 
-ghost use Rattle.std.specs.Prelude.{◌≡◌, pos, [], ◌∷◌, Ok, Err};
+ghost use Rattle.std.specs.Prelude.{◌≡◌, pos, [], ◌∷◌, Ok, Err, is_ok, true, Some, None};
 ghost use Rattle.tp_decode.specs.declared.instr.Instr.TheVariants.{Jump, Cj, Stl, Input, Output, Lend};
 ghost use Rattle.tp_image.specs.declared.image.Version.TheVariants.{One};
 ghost use Rattle.tp_flow.specs.declared.edge.Edge.TheVariants.{Next, Taken, Back, Out};
 ghost use Rattle.tp_state.specs.declared.kind.Kind.TheVariants.{Undef, Int, Ptr, BytePtr};
 ghost use Rattle.tp_state.specs.declared.cell.Cell.TheVariants as cell;
 ghost use Rattle.tp_state.specs.declared.fault.StateCode.TheVariants.{S1, S2, S3, S4, S5, S7, S8, S9};
+ghost use Rattle.tp_step.specs.Effects.{effect, link0_input};
+ghost use Rattle.tp_step.specs.Runs.{start};
 ghost use Rattle.tp_state.specs.After.{after};
-ghost use Rattle.tp_state_examples.specs.Samples.{minus, ints, one, any, image, image_of, regs, regs_words, words_with, words_after_with, next_of};
+ghost use Rattle.tp_state.specs.Entry.{entry};
+ghost use Rattle.tp_state.specs.Fits.{word_address};
+ghost use Rattle.tp_state_examples.specs.Samples.{minus, ints, one, any, image, image_of, regs, regs_words, words_with, words_after_with, next_of, worker};
+
+/// Nothing refuses this in, and where its packet is not there the machine is stuck: so a state that fits has its packet.
+#[tactic(auto, unfolding(crate::proofs::Computing::by_computing))]
+pub fn packet_must_be_there()
+    ensures accepted { is_ok (after (worker One 12) 5 6 Input Next (record (entry (worker One 12)) { a = one 4; b = Int (minus 2147483632) (minus 2147483632); c = Ptr 8 8 })) ≡ true }
+    ensures stuck { effect (worker One 12) Input (record (start (worker One 12) []) { areg = Some 4; breg = Some link0_input; creg = Some (word_address 8) }) ≡ None }
+{}
 
 /// in: the registers hold the length, the channel and the place.
 #[tactic(auto, unfolding(crate::proofs::Computing::by_computing))]
