@@ -1,5 +1,5 @@
 -- A member's accounts, one packet after another.
-use Rattle.std.proofs.Common.{◌≡◌, ℕ, ◌+◌, List, [], ◌∷◌, ◌++◌, Option, Some, None, Result, Ok, Err, IfOk, OnErr, sum_by, slice_get, refl, sym, ap, ◌∙◌, subst, arith}
+use Rattle.std.proofs.Common.{◌≡◌, ℕ, ◌+◌, List, [], ◌∷◌, ◌++◌, Some, None, Result, Ok, Err, IfOk, OnErr, slice_get, refl, sym, ap, ◌∙◌, arith}
 use Rattle.std.proofs.lemmas.List.Elements.{All-push}
 use Rattle.std.proofs.lemmas.List.Sums.{sum_by_push}
 use Rattle.tp_link.specs.declared.links.Link.{Link}
@@ -12,7 +12,7 @@ use Rattle.tp_collect.specs.Collected.{Batch, IsResult}
 use Rattle.tp_farm.specs.declared.member.Filed.{Filed}
 use Rattle.tp_farm.specs.declared.member.Filed.TheVariants as filed
 use Rattle.tp_farm.specs.Settings.{SameDevice, SameSettings, Rises, failed_by}
-use Rattle.tp_farm.specs.Members.{IsLost, IsFiled, filed_failed, done_numbers, lost_numbers, KeepsAccounts}
+use Rattle.tp_farm.specs.Members.{IsFiled, filed_failed, done_numbers, lost_numbers, KeepsAccounts}
 use Rattle.tp_farm.specs.Losses.{MayLose}
 use Rattle.tp_farm.proofs.Refusals.{lose_before}
 

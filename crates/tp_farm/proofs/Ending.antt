@@ -1,5 +1,5 @@
 -- How members end.
-use Rattle.std.proofs.Common.{◌≡◌, Bool, ℕ, Some, None, Option, refl, sym, ◌∙◌}
+use Rattle.std.proofs.Common.{◌≡◌, Bool, ℕ, Some}
 use Rattle.tp_board.specs.Sources.{Progress}
 use Rattle.tp_collect.specs.Collected.{Batch}
 use Rattle.tp_farm.specs.declared.member.End.{End}

@@ -1,5 +1,5 @@
 -- What is known of the results of joined threads.
-use Rattle.std.proofs.Common.{◌≡◌, ◌∷◌, ◌++◌, [], List, map, length, sym, ◌∙◌, ap, subst, refl, rules, suc, zero, arith}
+use Rattle.std.proofs.Common.{◌≡◌, ◌∷◌, [], List, map, length, subst, refl, rules, suc, zero, arith}
 use Rattle.std.proofs.lemmas.List.Elements.{All-head, All-tail}
 use Rattle.std.specs.List.{All, AllZip}
 use Rattle.std.specs.PromisedHandle.{KeepsEach}

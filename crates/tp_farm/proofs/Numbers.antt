@@ -1,5 +1,5 @@
 -- The numbers of what is filed, and the entries that come of it.
-use Rattle.std.proofs.Common.{◌≡◌, ℕ, ◌+◌, ◌<◌, ◌≤◌, ◌⊎◌, inl, inr, ◌==◌, Bool, true, false, if◌then◌else◌, List, [], ◌∷◌, ◌++◌, map, length, replicate, length-set, get_or, get_or-set_same, get_or-set_other, Option, Some, None, slice_get, slice_set, sum_by, refl, sym, ap, ◌∙◌, subst, arith}
+use Rattle.std.proofs.Common.{◌≡◌, ℕ, ◌+◌, ◌<◌, ◌≤◌, ◌⊎◌, inl, inr, List, [], ◌∷◌, ◌++◌, map, length, length-set, get_or, get_or-set_same, get_or-set_other, Some, slice_get, slice_set, sum_by, refl, sym, ap, ◌∙◌, subst, arith}
 use Rattle.std.proofs.lemmas.Bool.{cases_eq, cases_lt}
 use Rattle.std.proofs.lemmas.Bool.Decides.{nat_tests}
 use Rattle.std.proofs.lemmas.Option.{slice_get_within, get_or_from_slice_get, slice_get-get_or, slice_get_past, same_Some}
@@ -7,9 +7,7 @@ use Rattle.std.proofs.lemmas.List.Sums.{sum_by-set, sum_by-cons}
 use Rattle.tp_link.specs.declared.links.Link.{Link}
 use Rattle.tp_board.specs.Counting.{times}
 use Rattle.tp_collect.specs.declared.collected.Entry.{Entry}
-use Rattle.tp_collect.specs.declared.collected.Entry.TheVariants as entry
-use Rattle.tp_collect.specs.declared.collected.LostCause.TheVariants as cause
-use Rattle.tp_collect.specs.Collecting.{vacant, is_vacant}
+use Rattle.tp_collect.specs.Collecting.{vacant}
 use Rattle.tp_farm.specs.declared.member.Filed.{Filed}
 use Rattle.tp_farm.specs.declared.member.Filed.TheVariants as filed
 use Rattle.tp_farm.specs.Members.{filed_failed, done_numbers, lost_numbers}

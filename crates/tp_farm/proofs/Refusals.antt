@@ -1,9 +1,9 @@
 -- Why a run has no result.
-use Rattle.std.proofs.Common.{◌≡◌, ◌≢◌, ℕ, zero, suc, ◌+◌, ◌-◌, ◌*◌, ◌<◌, ◌≤◌, ◌⊎◌, inl, inr, min, Bool, true, false, nat_le, if◌then◌else◌, List, [], ◌++◌, length, drop, take, replicate, Option, Some, Result, Ok, Err, IfErr, refl, sym, ap, ◌∙◌, subst, arith, length-append, length-drop}
+use Rattle.std.proofs.Common.{◌≡◌, ℕ, ◌+◌, ◌-◌, ◌*◌, ◌<◌, ◌≤◌, ◌⊎◌, inl, inr, Bool, true, false, if◌then◌else◌, List, ◌++◌, length, take, Some, Result, Ok, Err, IfErr, refl, sym, ap, ◌∙◌, subst, arith, length-append, length-drop}
 use Rattle.std.proofs.lemmas.Bool.{cases_eq}
 use Rattle.std.proofs.lemmas.Bool.Decides.{nat_tests}
 use Rattle.std.proofs.lemmas.List.{take_all}
-use Rattle.tp_link.specs.Device.{DeviceState, Answer, failures, plain_send, plain_receive, after_send, after_receive, MayAnswer}
+use Rattle.tp_link.specs.Device.{DeviceState, Answer, plain_send, plain_receive, MayAnswer}
 use Rattle.tp_link.specs.declared.device.DeviceFault.{DeviceFault}
 use Rattle.tp_link.specs.declared.device.DeviceFault.TheVariants.{Closed, Full, Short, Failed}
 use Rattle.tp_link.specs.declared.links.Link.{Link}
@@ -11,19 +11,19 @@ use Rattle.tp_link.specs.declared.links.Link.TheVariants.{Source, Sink, Trace}
 use Rattle.tp_image.specs.Image.{ImageValue}
 use Rattle.tp_step.specs.State.{State}
 use Rattle.tp_step.specs.Steps.{step, steps, Reaches}
-use Rattle.tp_step.specs.Runs.{start, Run, RunsAlone, HasExchanged}
+use Rattle.tp_step.specs.Runs.{start, HasExchanged}
 use Rattle.tp_step.proofs.StepLemmas.{steps_add, ends_in}
 use Rattle.tp_step.proofs.SentLemmas.{reached_exchanged}
 use Rattle.tp_machine.specs.declared.outcome.Outcome.{Outcome}
 use Rattle.tp_machine.specs.declared.outcome.RunFault.{RunFault}
 use Rattle.tp_machine.specs.declared.outcome.RunFault.TheVariants as fault
-use Rattle.tp_machine.specs.Devices.{Devices, packet_of, Took, Gave, HaveBecome}
-use Rattle.tp_machine.specs.Answers.{HasCome, RefusedReceive, RefusedSend, RefusedAt, Refused, Answered}
+use Rattle.tp_machine.specs.Devices.{Devices, packet_of}
+use Rattle.tp_machine.specs.Answers.{HasCome, Refused, Answered}
 use Rattle.tp_machine.proofs.DeviceLemmas.{packet_held}
 use Rattle.tp_farm.specs.Settings.{SameSettings}
 use Rattle.tp_farm.specs.Losses.{HasCause, MayLose, TracesMore, most_trace}
 use Rattle.tp_farm.specs.Stages.{IsReady, HasTraced}
-use Rattle.tp_farm.specs.Handled.{HasReason, SticksOn, GoesOn}
+use Rattle.tp_farm.specs.Handled.{HasReason}
 
 -- ---- what a refusal tells of a device
 

@@ -1,10 +1,8 @@
 -- The batch that the members come to.
-use Rattle.std.proofs.Common.{◌≡◌, ℕ, ◌<◌, List, [], ◌++◌, map, length, replicate, None, refl, sym, ap, ◌∙◌, subst, arith}
+use Rattle.std.proofs.Common.{◌≡◌, ℕ, ◌<◌, List, [], ◌++◌, map, length, replicate, None, sym, ap, ◌∙◌, subst}
 use Rattle.std.specs.List.{All, AllZip}
 use Rattle.tp_link.specs.Device.{DeviceState}
 use Rattle.tp_link.specs.declared.links.Links.{Links}
-use Rattle.tp_machine.specs.Devices.{Devices}
-use Rattle.tp_board.specs.declared.view.View.{View}
 use Rattle.tp_board.specs.declared.answer.Ledger.{Ledger}
 use Rattle.tp_board.specs.Boards.{SeatView, views_of, IsSeatOf}
 use Rattle.tp_board.specs.Ledgers.{Balances}

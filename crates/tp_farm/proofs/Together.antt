@@ -6,7 +6,6 @@ use Rattle.tp_link.specs.Device.{DeviceState}
 use Rattle.tp_link.specs.declared.links.Links.{Links}
 use Rattle.tp_machine.specs.Devices.{Devices}
 use Rattle.tp_board.specs.Boards.{SeatView, views_of, IsSeatOf}
-use Rattle.tp_collect.specs.Collected.{Batch}
 use Rattle.tp_farm.specs.declared.job.Job.{Job}
 use Rattle.tp_farm.specs.declared.member.Filed.{Filed}
 use Rattle.tp_farm.specs.declared.member.Filed.TheVariants as filed
@@ -14,9 +13,9 @@ use Rattle.tp_farm.specs.declared.worker.Returned.{Returned}
 use Rattle.tp_farm.specs.Stages.{of_links}
 use Rattle.tp_farm.specs.Members.{IsFiled}
 use Rattle.tp_farm.specs.Working.{Work, work_on, HasWorked}
-use Rattle.tp_farm.specs.Gathering.{fault_of_end, all_filed, IsOfBatch}
+use Rattle.tp_farm.specs.Gathering.{fault_of_end, IsOfBatch}
 use Rattle.tp_farm.specs.Apart.{EndsAsItSays, kept_of}
-use Rattle.tp_farm.proofs.Settling.{Member, AllDidWell, views, everything}
+use Rattle.tp_farm.proofs.Settling.{Member, AllDidWell, views}
 
 module _ {D : Type 0} (state : D → DeviceState) where
   pub members_of : List (Links D) → List (Returned SeatView Filed D) → List Member

@@ -1,5 +1,5 @@
 -- A member's seat, and what is left of the member.
-use Rattle.std.specs.Prelude.{◌≡◌, ℕ, Bool}
+use Rattle.std.specs.Prelude.{Bool}
 use Rattle.tp_board.specs.Boards.{SeatView}
 use Rattle.tp_board.specs.Sources.{progress_of}
 use Rattle.tp_farm.specs.declared.job.Job.{Job}

@@ -1,11 +1,10 @@
 -- A batch that was run.
-use Rattle.std.specs.Prelude.{◌≡◌, ℕ, ◌+◌, ◌*◌, Bool, false, List, map, sum_by, Some, slice_get, Result, Err}
+use Rattle.std.specs.Prelude.{◌≡◌, ℕ, ◌+◌, Bool, false, List, sum_by, Some, slice_get}
 use Rattle.std.specs.List.{AllZip}
 use Rattle.tp_link.specs.Device.{DeviceState}
 use Rattle.tp_link.specs.declared.links.Link.{Link}
 use Rattle.tp_link.specs.declared.links.Link.TheVariants.{Source, Sink, Trace}
 use Rattle.tp_link.specs.declared.links.LinkFault.{LinkFault}
-use Rattle.tp_link.specs.declared.links.Links.{Links}
 use Rattle.tp_machine.specs.Devices.{Devices}
 use Rattle.tp_collect.specs.declared.collected.Entry.{Entry}
 use Rattle.tp_collect.specs.declared.collected.Entry.TheVariants as entry

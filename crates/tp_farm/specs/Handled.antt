@@ -1,8 +1,7 @@
 -- What the handling of a packet answers.
-use Rattle.std.specs.Prelude.{◌≡◌, ℕ, ◌*◌, false, List, Result, Ok, Err, Some}
+use Rattle.std.specs.Prelude.{◌≡◌, ℕ, false, List, Result, Ok, Err, Some}
 use Rattle.tp_link.specs.declared.device.DeviceFault.{DeviceFault}
 use Rattle.tp_link.specs.declared.links.Link.{Link}
-use Rattle.tp_link.specs.declared.links.LinkFault.{LinkFault}
 use Rattle.tp_image.specs.Image.{ImageValue}
 use Rattle.tp_step.specs.State.{State}
 use Rattle.tp_step.specs.Steps.{steps, Reaches, IsStuck}

@@ -1,5 +1,5 @@
 -- Jobs as contracts see them.
-use Rattle.std.specs.Prelude.{◌≡◌, ℕ, ◌*◌, List, map, length, All}
+use Rattle.std.specs.Prelude.{◌≡◌, ◌*◌, map, length, All}
 use Rattle.tp_collect.specs.Collected.{Batch}
 use Rattle.tp_farm.specs.declared.job.Job.{Job}
 

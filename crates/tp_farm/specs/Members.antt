@@ -1,8 +1,7 @@
 -- What a member does with its packets: what it files, and how it ends.
-use Rattle.std.specs.Prelude.{◌≡◌, ℕ, ◌<◌, ◌⊎◌, Bool, true, false, List, [], ◌∷◌, length, sum_by, Option, Some, None, slice_get, All}
+use Rattle.std.specs.Prelude.{◌≡◌, ℕ, ◌<◌, ◌⊎◌, Bool, true, false, List, [], ◌∷◌, length, sum_by, Some, None, slice_get, All}
 use Rattle.tp_link.specs.declared.links.Link.{Link}
 use Rattle.tp_link.specs.declared.links.LinkFault.{LinkFault}
-use Rattle.tp_image.specs.Image.{ImageValue}
 use Rattle.tp_machine.specs.Devices.{Devices}
 use Rattle.tp_board.specs.Sources.{Progress}
 use Rattle.tp_collect.specs.Collected.{Batch, IsResult}

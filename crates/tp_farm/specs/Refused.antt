@@ -1,5 +1,5 @@
 -- Why a batch gives nothing.
-use Rattle.std.specs.Prelude.{◌≡◌, ◌≢◌, ℕ, ◌*◌, ◌==◌, Bool, not, ◌||◌, nat_lt, if◌then◌else◌, List, length, position, Option, Some, None, Result, Ok, Err}
+use Rattle.std.specs.Prelude.{ℕ, ◌*◌, ◌==◌, not, ◌||◌, nat_lt, if◌then◌else◌, length, position, Option, Some}
 use Rattle.std.specs.Option.{option_map}
 use Rattle.tp_collect.specs.Collected.{Batch}
 use Rattle.tp_farm.specs.declared.fault.FarmFault.{FarmFault}

@@ -1,5 +1,5 @@
 -- A member between two packets.
-use Rattle.std.specs.Prelude.{◌≡◌, ℕ, ◌+◌, Bool, false, List, [], length, Option, None}
+use Rattle.std.specs.Prelude.{◌≡◌, ◌+◌, false, [], length, None}
 use Rattle.tp_board.specs.Sources.{Progress}
 
 -- a hand that has done nothing

@@ -124,12 +124,12 @@ fn settle<D: LinkDevice, G: Gate>(
 ///
 /// G1, G2 and G3 are tested first, in this order. Where a thread cannot be started no further one is, and the members that
 /// were started go on until they end. A member with a fault of its own stops the batch first.
-pub fn run_batch<R: Threads + Wait + Sync, D: LinkDevice + Send, G: Gate>(
+pub fn run_batch<'j, R: Threads + Wait + Sync, D: LinkDevice + Send, G: Gate>(
     rt: &R,
     alloc: Global,
-    job: &Job<'_>,
+    job: &'j Job<'j>,
     links: Vec<Links<D>>,
-    gate: &G,
+    gate: &'j G,
 ) -> Result<Batch<D>, FarmFault>
     ensures batch { IfOk result (λ b. IsBatch (batch_of job.now) (G.open_for_good gate.now) (map (of_links D.state) links.items) (map (of_links D.state) b.links.items) b.collected) }
     ensures begins { OnOk result (job_fault (length links.items) (batch_of job.now) ≡ None) }
@@ -148,8 +148,8 @@ pub fn run_batch<R: Threads + Wait + Sync, D: LinkDevice + Send, G: Gate>(
     let source = BoardSource::new(board, job.packets);
     let before = Snapshot::of(&links);
     let shop = Shop {
-        job,
-        gate,
+        job: &*job,
+        gate: &*gate,
         source: &source,
     };
     let returned = run_members(rt, alloc, &shop, seats, links)?;

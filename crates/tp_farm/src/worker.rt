@@ -57,7 +57,10 @@ pub(crate) fn work_as<D: LinkDevice, G: Gate>(
     };
     let end = work(rt, shop.job, shop.gate, shop.source, &mut member);
     let Member {
-        hand, links, filed, ..
+        hand,
+        links,
+        filed,
+        ..
     } = member;
     Returned {
         hand,

@@ -1,5 +1,5 @@
-use Rattle.std.proofs.Common.{◌≡◌, None, arith, rules, sym, ◌∙◌, subst}
-use Rattle.std.proofs.lemmas.List.Elements.{All-head, All-rest, All-cons, All-nil}
+use Rattle.std.proofs.Common.{◌≡◌, None, arith, sym, ◌∙◌, subst}
+use Rattle.std.proofs.lemmas.List.Elements.{All-head, All-rest, All-cons}
 use Rattle.std.specs.List.{All}
 use Rattle.tp_farm.specs.Gathering.{fault_of_end}
 use Rattle.tp_board.specs.Sources.{progress_of}

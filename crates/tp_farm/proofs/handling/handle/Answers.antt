@@ -1,4 +1,4 @@
-use Rattle.std.proofs.Common.{◌≡◌, sym, ◌∙◌}
+use Rattle.std.proofs.Common.{sym, ◌∙◌}
 use Rattle.tp_step.proofs.SentLemmas.{result_length}
 use Rattle.tp_farm.proofs.handling.handle.Goals as goal
 

@@ -1,4 +1,4 @@
-use Rattle.std.proofs.Common.{◌≡◌, ◌<◌, arith, ap}
+use Rattle.std.proofs.Common.{arith}
 use Rattle.tp_farm.proofs.Refusals.{long_trace}
 use Rattle.tp_farm.proofs.handling.trace_held.Goals as goal
 

@@ -1,4 +1,4 @@
-use Rattle.std.proofs.Common.{◌≡◌, Err, subst}
+use Rattle.std.proofs.Common.{Err, subst}
 use Rattle.tp_machine.specs.declared.outcome.RunFault.{RunFault}
 use Rattle.tp_collect.specs.DoneValue.{DoneValue}
 use Rattle.tp_farm.specs.Settings.{Rises}

@@ -1,4 +1,4 @@
-use Rattle.std.proofs.Common.{arith, rules, sym, ◌∙◌}
+use Rattle.std.proofs.Common.{arith}
 use Rattle.std.proofs.lemmas.List.Elements.{All-pop}
 use Rattle.tp_farm.specs.Working.{IsFresh}
 use Rattle.tp_farm.proofs.Starting.{one_started}

@@ -1,0 +1,41 @@
+use Rattle.std.proofs.Common.{◌≡◌, length, map, IfOk, sym, ap, ◌∙◌, subst, arith}
+use Rattle.std.proofs.lemmas.Slice.Zip.{AllZip-long}
+use Rattle.tp_farm.specs.Jobs.{batch_of}
+use Rattle.tp_farm.specs.Stages.{of_links}
+use Rattle.tp_farm.specs.Refused.{job_fault}
+use Rattle.tp_farm.specs.Batches.{IsBatch}
+use Rattle.tp_farm.specs.Rooms.{HasRoom}
+use Rattle.tp_farm.proofs.Beginning.{begun, on_ok}
+use Rattle.tp_farm.proofs.batch.run_batch.Goals as goal
+
+pub run_members-requires-clause-set : goal.run_members-requires-clause-set
+run_members-requires-clause-set g c κs within = record {
+  packets = ap (λ s. s.packets) c.new-source.ensures;
+  whole = (begun c.len.result (batch_of c.args.job.now) (sym c.job_fault.ensures ∙ c.in_default.is)).whole;
+}
+
+pub settle-requires-clause-members : goal.settle-requires-clause-members
+settle-requires-clause-members g c κs within =
+    let long = AllZip-long _ _ _ c.in_ok-returned.ensures.worked in
+    let same = ap (λ b. b.members) (c.into_board-board.ensures ∙ ap (λ s. s.board) c.new-source.ensures) in
+    omega (arith, same, ap (λ b. b.members) c.in-Ok.ensures.board, long, c.in_ok-returned.returned.ok.0, c.args.links.ok.0, c.len-3.ensures)
+
+pub settle-requires-clause-some : goal.settle-requires-clause-some
+settle-requires-clause-some g c κs within =
+    let long = AllZip-long _ _ _ c.in_ok-returned.ensures.worked in
+    let some = (begun c.len.result (batch_of c.args.job.now) (sym c.job_fault.ensures ∙ c.in_default.is)).some in
+    omega (arith, some, long, c.in_ok-returned.returned.ok.0, c.args.links.ok.0, c.len.ensures)
+
+pub settle-requires-clause-room : goal.settle-requires-clause-room
+settle-requires-clause-room g c κs within =
+    let long = AllZip-long _ _ _ c.in_ok-returned.ensures.worked in
+    subst (λ n. HasRoom n c.in_ok-room.room) (omega (arith, long, c.in_ok-returned.returned.ok.0, c.args.links.ok.0, c.len-2.ensures)) c.in_ok-room.ensures
+
+pub returns-clause-batch : goal.returns-clause-batch
+returns-clause-batch g c =
+    subst (λ v. IfOk c.settle.result (λ b. IsBatch (batch_of c.args.job.now) (g.G.Gate.open_for_good c.args.gate.now) (map (of_links g.D.LinkDevice.state) v.items) (map (of_links g.D.LinkDevice.state) b.links.items) b.collected)) c.of-before.ensures c.settle.ensures.batch
+
+pub returns-clause-begins : goal.returns-clause-begins
+returns-clause-begins g c =
+    let long : length c.args.links.items ≡ c.len.result = omega (arith, c.args.links.ok.0, c.len.ensures) in
+    on_ok _ c.settle.result (ap (λ n. job_fault n (batch_of c.args.job.now)) long ∙ sym c.job_fault.ensures ∙ c.in_default.is)
