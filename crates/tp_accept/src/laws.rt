@@ -96,6 +96,11 @@ pub fn acceptable_workers_never_go_wrong()
     ensures { (image : ImageValue) (budget : ℕ) → IsAcceptable image budget → NeverGoesWrong image budget }
 {}
 
+/// So the worker of an accepted image never goes wrong within its budget.
+pub fn accepted_workers_never_go_wrong(accepted: &Accepted)
+    ensures { NeverGoesWrong accepted.now.image accepted.now.budget }
+{}
+
 /// The bounds of small workers, as they are worked out by hand.
 #[tactic(auto, unfolding(crate::proofs::Computing::by_steps))]
 pub fn bounds_of_small_workers()
