@@ -6,3 +6,5 @@ pub mod ExchangeLemmas
 pub mod TurnLemmas
 pub mod StartLemmas
 pub mod RunLemmas
+pub mod HeldPacket
+pub mod NeverWrong
