@@ -92,12 +92,12 @@ pub fn no_walk_is_longer_than_the_budget(accepted: &Accepted)
 
 /// The worker of an acceptable image never goes wrong: each packet's run ends within the budget, by stopp, with a result of
 /// the length that the image states, and no state on the way is stuck.
-pub fn acceptable_workers_never_go_wrong()
+pub fn acceptable_code_never_goes_wrong()
     ensures { (image : ImageValue) (budget : ℕ) → IsAcceptable image budget → NeverGoesWrong image budget }
 {}
 
 /// So the worker of an accepted image never goes wrong within its budget.
-pub fn accepted_workers_never_go_wrong(accepted: &Accepted)
+pub fn accepted_code_never_goes_wrong(accepted: &Accepted)
     ensures { NeverGoesWrong accepted.now.image accepted.now.budget }
 {}
 

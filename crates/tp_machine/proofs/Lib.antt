@@ -7,4 +7,6 @@ pub mod TurnLemmas
 pub mod StartLemmas
 pub mod RunLemmas
 pub mod HeldPacket
-pub mod NeverWrong
+pub mod InTime
+pub mod StaysSent
+pub mod PromiseKept

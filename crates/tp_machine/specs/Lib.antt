@@ -1,5 +1,6 @@
 pub mod Devices
 pub mod Answers
+pub mod Promise
 pub mod Phases
 pub mod Meaning
 pub use Rattle.tp_step.specs.State
