@@ -11,7 +11,6 @@ use Rattle.tp_decode.specs.Cutting.{Cut, IsCutting, cutting}
 use Rattle.tp_decode.proofs.Verdicts.{is_cutting}
 use Rattle.tp_flow.specs.declared.fault.FlowFault.{FlowFault}
 use Rattle.tp_flow.specs.FlowFaults.{first_flow_fault}
-use Rattle.tp_state.specs.declared.fault.StateCode.{StateCode}
 use Rattle.tp_state.specs.declared.fault.StateFault.{StateFault}
 use Rattle.tp_state.specs.declared.fault.StateFault.TheVariants as state_fault
 use Rattle.tp_check.specs.Tables.{Table}

@@ -10,3 +10,5 @@ pub mod CostEquations
 pub mod WalkBound
 pub mod Computing
 pub mod AnswerLemmas
+pub mod RunEnds
+pub mod NeverWrong

@@ -8,6 +8,7 @@ pub mod Workers
 pub mod Refusals
 pub mod Verdict
 pub mod Acceptance
+pub mod Ending
 pub use Rattle.tp_decode.specs.Cutting
 pub use Rattle.tp_image.specs.Image
 pub use Rattle.tp_image.specs.Text
@@ -16,3 +17,5 @@ pub use Rattle.tp_flow.specs.RowRules
 pub use Rattle.tp_flow.specs.NestKept
 pub use Rattle.tp_check.specs.Tables
 pub use Rattle.tp_check.specs.EdgesRespect
+pub use Rattle.tp_step.specs.Runs
+pub use Rattle.tp_step.specs.Steps

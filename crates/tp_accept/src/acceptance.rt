@@ -3,6 +3,7 @@
 ghost use Rattle.std.specs.Prelude.{◌≡◌, ◌≢◌, IfOk, IfErr, Ok, Err};
 ghost use Rattle.tp_image.specs.Text.{IsTextOf};
 ghost use Rattle.tp_accept.specs.Verdict.{allowed, IsAnswer};
+ghost use Rattle.tp_accept.specs.Ending.{NeverGoesWrong};
 ghost use Rattle.tp_accept.specs.declared.refusal.Refusal.TheVariants as refusal;
 
 use crate::accepted::Accepted;
@@ -15,10 +16,12 @@ use tp_flow::check_flow;
 use tp_image::read_image;
 
 /// The verdict on a text: the image that it spells, if it may be run, or the first refusal. The bytes are judged first, then
-/// the cutting of the code, its flow, its states and its bound.
+/// the cutting of the code, its flow, its states and its bound. Of an image that may be run, each packet's run ends within the
+/// budget, and never goes wrong.
 pub fn accept(alloc: Global, text: Vec<u8>) -> Result<Accepted, Refusal>
     ensures image { IfOk result (λ accepted. IsTextOf text.items accepted.image) }
     ensures allowed { IfOk result (λ accepted. IsAnswer text.items (Ok (allowed accepted.image accepted.budget))) }
+    ensures ends { IfOk result (λ accepted. NeverGoesWrong accepted.image accepted.budget) }
     ensures refused { IfErr result (λ e. e ≢ refusal.Memory → IsAnswer text.items (Err e)) }
 {
     let image = read_image(alloc, &text)?;

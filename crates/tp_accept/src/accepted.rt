@@ -5,6 +5,7 @@ ghost use Rattle.tp_decode.specs.Cutting.{Cut, IsCutting};
 ghost use Rattle.tp_accept.specs.Bound.{bound};
 ghost use Rattle.tp_accept.specs.Limits.{most_budget};
 ghost use Rattle.tp_accept.specs.Acceptance.{IsAcceptable};
+ghost use Rattle.tp_accept.specs.Ending.{NeverGoesWrong};
 
 use tp_image::Image;
 
@@ -21,11 +22,12 @@ pub struct Accepted {
 }
 
 impl Accepted {
-    /// The bound on the instruction bytes of a run.
+    /// The bound on the instruction bytes of a run: each packet's run ends within it, and never goes wrong.
     pub fn budget(&self) -> u32
         ensures value { result ≡ self.now.budget }
         ensures bound { (cuts : List Cut) → IsCutting self.now.image.code cuts → result ≡ bound self.now.image.loops cuts }
         ensures within { result ≤ most_budget }
+        ensures ends { NeverGoesWrong self.now.image result }
     {
         self.budget
     }

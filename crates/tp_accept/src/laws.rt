@@ -14,6 +14,8 @@ ghost use Rattle.tp_accept.specs.Equations.{AreCosts};
 ghost use Rattle.tp_accept.specs.Measure.{Counts, measure, AreCountsAfter, HasTurns};
 ghost use Rattle.tp_accept.specs.Walks.{Walk};
 ghost use Rattle.tp_accept.specs.Verdict.{Answer, IsAnswer};
+ghost use Rattle.tp_accept.specs.Acceptance.{IsAcceptable};
+ghost use Rattle.tp_accept.specs.Ending.{NeverGoesWrong};
 ghost use Rattle.tp_accept.specs.Workers.{bound_of_bytes, measure_of_bytes, two_and_three, row, increment, sum_to, ten, ten_thousand, loop_in_a_loop, outer_and_inner, early_exit, two_ways, neighbours};
 
 use crate::accepted::Accepted;
@@ -86,6 +88,17 @@ pub fn no_walk_is_longer()
 pub fn no_walk_is_longer_than_the_budget(accepted: &Accepted)
     ensures { (cuts : List Cut) → IsCutting accepted.now.image.code cuts → (counts : Counts) (n : ℕ) →
         Walk accepted.now.image.loops cuts 0 counts n → n ≤ accepted.now.budget }
+{}
+
+/// The worker of an acceptable image never goes wrong: each packet's run ends within the budget, by stopp, with a result of
+/// the length that the image states, and no state on the way is stuck.
+pub fn acceptable_code_never_goes_wrong()
+    ensures { (image : ImageValue) (budget : ℕ) → IsAcceptable image budget → NeverGoesWrong image budget }
+{}
+
+/// So the worker of an accepted image never goes wrong within its budget.
+pub fn accepted_code_never_goes_wrong(accepted: &Accepted)
+    ensures { NeverGoesWrong accepted.now.image accepted.now.budget }
 {}
 
 /// The bounds of small workers, as they are worked out by hand.

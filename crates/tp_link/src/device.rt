@@ -7,7 +7,7 @@
 //! proves them of each impl. So the author keeps these rules, and a caller needs no others:
 //!
 //! - The room and whether the device can fail are settled when it is made. It never holds more
-//!   bytes than its room.
+//!   bytes than its room. To contracts its bytes are numbers, each below 256, as `held` says.
 //! - `send` and `receive` refuse in this order: a failure ([`DeviceFault::Failed`]), a closed
 //!   device ([`DeviceFault::Closed`]), and then bytes above the room ([`DeviceFault::Full`]) or
 //!   fewer bytes held than asked for ([`DeviceFault::Short`]). Else they succeed.
@@ -58,7 +58,7 @@
 //!     ..
 //! }
 //! ```
-ghost use Rattle.std.specs.Prelude.{◌≡◌, ◌≤◌, length};
+ghost use Rattle.std.specs.Prelude.{◌≡◌, ◌≤◌, ◌<◌, length, All};
 ghost use Rattle.tp_link.specs.Device.{DeviceState, after_send, after_receive, after_close, received, MayAnswerSend, MayAnswerReceive};
 
 use thiserror::Error;
@@ -99,7 +99,8 @@ pub trait LinkDevice: Drop {
     /// The number of bytes held.
     fn held(&self) -> usize
         ensures count { result ≡ length (state self.now).held }
-        ensures within { result ≤ (state self.now).room };
+        ensures within { result ≤ (state self.now).room }
+        ensures bytes { All (λ byte. byte < 256) (state self.now).held };
 
     /// The most bytes that it can hold, the same for as long as it lives.
     fn room(&self) -> usize

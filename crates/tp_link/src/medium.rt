@@ -1,4 +1,4 @@
-ghost use Rattle.std.specs.Prelude.{◌≡◌, ◌≤◌, length, IfOk, false};
+ghost use Rattle.std.specs.Prelude.{◌≡◌, ◌≤◌, ◌<◌, length, All, IfOk, false};
 ghost use Rattle.tp_link.specs.Device.{plain_send, plain_receive, held_after_send, held_after_receive, received};
 ghost use Rattle.tp_link.specs.Medium.{empty_medium, with_bytes, wired, unwired, faultless_device};
 
@@ -61,8 +61,10 @@ impl Medium {
     pub(crate) fn held(&self) -> usize
         ensures count { result ≡ length self.now.bytes }
         ensures within { result ≤ self.now.room }
+        ensures bytes { All (λ byte. byte < 256) self.now.bytes }
     {
-        self.bytes.len()
+        let bytes = self.bytes.as_slice();
+        bytes.len()
     }
 
     pub(crate) fn room(&self) -> usize

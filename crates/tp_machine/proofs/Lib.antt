@@ -6,3 +6,7 @@ pub mod ExchangeLemmas
 pub mod TurnLemmas
 pub mod StartLemmas
 pub mod RunLemmas
+pub mod HeldPacket
+pub mod InTime
+pub mod StaysSent
+pub mod PromiseKept

@@ -1,5 +1,6 @@
 pub mod Devices
 pub mod Answers
+pub mod Promise
 pub mod Phases
 pub mod Meaning
 pub use Rattle.tp_step.specs.State
@@ -7,3 +8,4 @@ pub use Rattle.tp_step.specs.Steps
 pub use Rattle.tp_step.specs.Runs
 pub use Rattle.tp_image.specs.Image
 pub use Rattle.tp_link.specs.Device
+pub use Rattle.tp_accept.specs.Ending

@@ -1,11 +1,15 @@
 //! What follows from the answer of a run.
 
-ghost use Rattle.std.specs.Prelude.{ℕ};
+ghost use Rattle.std.specs.Prelude.{ℕ, ◌<◌, All, Result};
 ghost use Rattle.tp_image.specs.Image.{ImageValue};
 ghost use Rattle.tp_step.specs.Runs.{RunsAlone};
 ghost use Rattle.tp_machine.specs.declared.outcome.Outcome.{Outcome};
 ghost use Rattle.tp_machine.specs.Devices.{Devices, packet_of};
-ghost use Rattle.tp_machine.specs.Answers.{Ended};
+ghost use Rattle.tp_machine.specs.declared.outcome.RunFault.{RunFault};
+ghost use Rattle.tp_machine.specs.Answers.{Ended, Answered};
+ghost use Rattle.tp_machine.specs.Promise.{KeepsPromise};
+
+use tp_accept::Accepted;
 
 /// A run that has ended is the run alone of the packet that the source held: its result is what the sink took, and its
 /// trace what the trace took.
@@ -13,4 +17,15 @@ pub fn an_ended_run_is_the_run_alone()
     ensures { (image : ImageValue) (limit : ℕ) (before after : Devices) (outcome : Outcome) (run : Ended image limit before after outcome) →
         RunsAlone image (packet_of image before.source) record
         { result = run.state.sent; error = outcome.error; steps = outcome.steps; trace = run.state.traced } }
+{}
+
+/// Accepted code never goes wrong. Let an image be accepted, with its budget. Let devices be as before, the source holding
+/// bytes, each below 256 as `held` tells, and let a run on a machine have given this answer. Then the packet's run alone ends
+/// by stopp, within the budget, its result has the length that the image states, and no state on the way is stuck. The answer
+/// is the outcome of that run, or a device's refusal. Where the devices are open, the source holds a whole packet, sink and
+/// trace have the room, and none can fail, it is the outcome.
+pub fn accepted_code_never_goes_wrong(accepted: &Accepted)
+    ensures { (before after : Devices) (answer : Result Outcome RunFault) → All (λ byte. byte < 256) before.source.held →
+        Answered accepted.now.image accepted.now.budget before after answer →
+        KeepsPromise accepted.now.image accepted.now.budget before answer }
 {}

@@ -63,7 +63,10 @@ impl LinkDevice for Latch {
     }
 
     fn held(&self) -> usize {
-        if self.byte.is_some() { 1 } else { 0 }
+        match self.byte {
+            Some(_byte) => 1,
+            None => 0,
+        }
     }
 
     fn room(&self) -> usize {

@@ -4,6 +4,7 @@ use Rattle.std.proofs.Math.Nat.{ℕ_set}
 use Rattle.std.specs.Coded.{le_prop}
 use Rattle.tp_accept.specs.Bound.{bound}
 use Rattle.tp_accept.proofs.AnswerLemmas.{one_cutting}
+use Rattle.tp_accept.proofs.NeverWrong.{never_goes_wrong_of}
 use Rattle.tp_accept.proofs.accepted.Accepted.budget.Goals as goal
 
 pub returns-clause-bound : goal.returns-clause-bound
@@ -13,3 +14,6 @@ returns-clause-bound c =
 
 pub returns-clause-within : goal.returns-clause-within
 returns-clause-within c = ∥∥₁_elim c.args.self.now.acceptable le_prop (λ a. a.within)
+
+pub returns-clause-ends : goal.returns-clause-ends
+returns-clause-ends c = never_goes_wrong_of c.args.self.now.image c.args.self.now.budget c.args.self.now.acceptable

@@ -1,0 +1,8 @@
+use Rattle.tp_accept.proofs.NeverWrong.{never_goes_wrong_of}
+use Rattle.tp_machine.proofs.PromiseKept.{keeps_promise}
+use Rattle.tp_machine.proofs.laws.accepted_code_never_goes_wrong.Goals as goal
+
+pub returns : goal.returns
+returns c = λ before after answer.
+    keeps_promise c.args.accepted.now.image c.args.accepted.now.budget before after answer
+    (never_goes_wrong_of c.args.accepted.now.image c.args.accepted.now.budget c.args.accepted.now.acceptable)
