@@ -1,6 +1,8 @@
 mod PassLemmas
 mod RespectLemmas
 mod Heights
+mod WordEnds
+mod RuleSound
 mod TableSteps
 mod Places
 mod Entering
@@ -8,3 +10,4 @@ mod Taking
 mod Moving
 mod Passing
 mod Verdict
+mod Ending

@@ -1,0 +1,360 @@
+-- The passes come to a verdict: each of them refuses, leaves the table as it is, or leaves fewer changes to be made.
+use Rattle.std.proofs.Common.{◌≡◌, ℕ, zero, suc, ◌-◌, ◌^◌, ◌<◌, ◌≤◌, ◌⊎◌, inl, inr, ◌==◌, nat_eq, if◌then◌else◌, Bool, true, false, IsTrue, ℤ, pos, FitsSigned, w32, List, [], ◌∷◌, map, replicate, length, length-append, length-set, slice_get, slice_set, slice_index_or, Option, Some, None, Result, Ok, Err, refl, sym, ap, ◌∙◌, subst, arith}
+use Rattle.std.specs.Prelude.{IfOk, All}
+use Rattle.std.specs.List.{AllByRecursion, flat_map}
+use Rattle.std.specs.Ordering.{int_eq}
+use mathlib.Core.Path.{fun_ext}
+use Rattle.std.proofs.lemmas.Bool.{cases_eq}
+use Rattle.std.proofs.lemmas.Bool.Decides.{nat_tests}
+use Rattle.std.proofs.lemmas.Int.{ints, clamps}
+use Rattle.std.proofs.lemmas.Option.{same_Some}
+use Rattle.std.proofs.lemmas.List.{set-get_or, length-map, length-replicate}
+use Rattle.std.proofs.lemmas.List.Concat.{flat_map-cons}
+use Rattle.std.proofs.lemmas.List.Elements.{All-nil, All-cons, All-map, All-append, All-replicate}
+use Rattle.tp_decode.specs.Words.{signed}
+use Rattle.tp_decode.specs.declared.placed.Placed.{Placed}
+use Rattle.tp_decode.specs.Cutting.{Cut, IsSpelled, code_of, placed_from, starts_from}
+use Rattle.tp_image.specs.declared.image.Version.{Version}
+use Rattle.tp_image.specs.declared.image.Version.TheVariants.{One, Two}
+use Rattle.tp_image.specs.Image.{ImageValue, InRange, most_initial}
+use Rattle.tp_image.specs.Limits.{most_workspace}
+use Rattle.tp_flow.specs.declared.edge.Edge.{Edge}
+use Rattle.tp_flow.specs.NestKept.{KeepsNest}
+use Rattle.tp_flow.specs.NestRanges.{ranges}
+use Rattle.tp_flow.specs.Edges.{target}
+use Rattle.tp_flow.specs.RowRules.{is_start}
+use Rattle.tp_state.specs.declared.kind.Kind.{Kind}
+use Rattle.tp_state.specs.declared.kind.Kind.TheVariants as kind
+use Rattle.tp_state.specs.declared.cell.Cell.{Cell}
+use Rattle.tp_state.specs.declared.cell.Cell.TheVariants as cell
+use Rattle.tp_state.specs.declared.state.State.{State}
+use Rattle.tp_state.specs.declared.fault.StateCode.{StateCode}
+use Rattle.tp_state.specs.declared.fault.StateFault.{StateFault}
+use Rattle.tp_state.specs.Answer.{◌>>=◌}
+use Rattle.tp_state.specs.Kinds.{HasWordEnds}
+use Rattle.tp_state.specs.Order.{join_kinds, join_cells, joined_cells, join}
+use Rattle.tp_state.specs.Entry.{entry}
+use Rattle.tp_state.specs.After.{after}
+use Rattle.tp_state.proofs.CodeLemmas.{spelling_of, operand_fits}
+use Rattle.tp_check.specs.Tables.{Table, table_of, asked}
+use Rattle.tp_check.specs.Passes.{enter, go_along, placed, along, from, edges_of, pass, passes, first_table, IsVerdict}
+use Rattle.tp_check.specs.UnderWay.{IsStateAt, HasGrown, MayBeTaken, state_height, table_height}
+use Rattle.tp_check.proofs.Heights.{HasWords, Sinks, state_sinks, state_light, table_sinks}
+use Rattle.tp_check.proofs.TableSteps.{table_at, table_set}
+use Rattle.tp_check.proofs.Places.{last_above, no_last, StandsAt, stands_at}
+use Rattle.tp_check.proofs.Entering.{Becomes, Entered, entered, elsewhere, there, grows, first_grown}
+use Rattle.tp_check.proofs.Taking.{along_none, along_some, enter_none, arrives_at}
+use Rattle.tp_check.proofs.Moving.{along_append}
+use Rattle.tp_check.proofs.Passing.{may_be_taken}
+use Rattle.tp_check.proofs.WordEnds.{small_fits, no_overflow, IsWordCell}
+use Rattle.tp_check.proofs.RuleSound.{IsSound, LoadsWord, after_sound}
+
+-- ---- numbers of joins are words
+
+int_join : (a b c d : ℤ) → HasWordEnds (kind.Int a b) → HasWordEnds (kind.Int c d) → HasWordEnds (join_kinds (kind.Int a b) (kind.Int c d))
+int_join a b c d (a_fits, b_fits) (c_fits, d_fits) = (grind (arith, ints, clamps), grind (arith, ints, clamps))
+
+kinds_joined : (k l : Kind) → HasWordEnds k → HasWordEnds l → HasWordEnds (join_kinds k l)
+kinds_joined (kind.Int a b) (kind.Int c d) f g = int_join a b c d f g
+kinds_joined (kind.Ptr p q) (kind.Ptr r s) (p_lt, q_lt) (r_lt, s_lt) = (omega arith, omega arith)
+kinds_joined (kind.BytePtr p q) (kind.BytePtr r s) (p_lt, q_lt) (r_lt, s_lt) = (omega arith, omega arith)
+kinds_joined kind.Undef l f g = tt
+kinds_joined (kind.Int a b) kind.Undef f g = tt
+kinds_joined (kind.Int a b) (kind.Ptr r s) f g = tt
+kinds_joined (kind.Int a b) (kind.BytePtr r s) f g = tt
+kinds_joined (kind.Ptr p q) kind.Undef f g = tt
+kinds_joined (kind.Ptr p q) (kind.Int c d) f g = tt
+kinds_joined (kind.Ptr p q) (kind.BytePtr r s) f g = tt
+kinds_joined (kind.BytePtr p q) kind.Undef f g = tt
+kinds_joined (kind.BytePtr p q) (kind.Int c d) f g = tt
+kinds_joined (kind.BytePtr p q) (kind.Ptr r s) f g = tt
+
+known_joined : (n : ℤ) (p : Bool) → FitsSigned w32 n → IsWordCell (if p then cell.Known n else cell.Any)
+known_joined n true f = f
+known_joined n false f = tt
+
+live_joined : (make : ℕ → Cell) (l : ℕ) (p : Bool) → IsWordCell (make l) → IsWordCell (if p then make l else cell.Undef)
+live_joined make l true f = f
+live_joined make l false f = tt
+
+cells_joined : (c d : Cell) → IsWordCell c → IsWordCell (join_cells c d)
+cells_joined (cell.Known n) (cell.Known m) f = known_joined n (int_eq n m) f
+cells_joined (cell.Known n) cell.Any f = tt
+cells_joined (cell.Known n) cell.Undef f = tt
+cells_joined (cell.Known n) (cell.Index k) f = tt
+cells_joined (cell.Known n) (cell.Count k) f = tt
+cells_joined cell.Any (cell.Known m) f = tt
+cells_joined cell.Any cell.Any f = tt
+cells_joined cell.Any cell.Undef f = tt
+cells_joined cell.Any (cell.Index k) f = tt
+cells_joined cell.Any (cell.Count k) f = tt
+cells_joined cell.Undef d f = tt
+cells_joined (cell.Index l) (cell.Index k) f = live_joined cell.Index l (l == k) tt
+cells_joined (cell.Index l) cell.Undef f = tt
+cells_joined (cell.Index l) cell.Any f = tt
+cells_joined (cell.Index l) (cell.Known m) f = tt
+cells_joined (cell.Index l) (cell.Count k) f = tt
+cells_joined (cell.Count l) (cell.Count k) f = live_joined cell.Count l (l == k) tt
+cells_joined (cell.Count l) cell.Undef f = tt
+cells_joined (cell.Count l) cell.Any f = tt
+cells_joined (cell.Count l) (cell.Known m) f = tt
+cells_joined (cell.Count l) (cell.Index k) f = tt
+
+all_joined : (cs ds : List Cell) → All IsWordCell cs → All IsWordCell (joined_cells cs ds)
+all_joined [] ds f = All-nil IsWordCell
+all_joined (c ∷ cs) [] f = All-nil IsWordCell
+all_joined (c ∷ cs) (d ∷ ds) f =
+    All-cons IsWordCell (join_cells c d) (joined_cells cs ds) (cells_joined c d (f 0 c (omega arith))) (all_joined cs ds (λ i e lt. f (suc i) e (omega (arith, lt))))
+
+words_joined : (t s : State) → HasWords t → HasWords s → HasWords (join t s)
+words_joined t s f g = record { a = kinds_joined t.a s.a f.a g.a; b = kinds_joined t.b s.b f.b g.b; c = kinds_joined t.c s.c f.c g.c }
+
+-- ---- tables in a list, whose states are sound
+
+pub record IsKept (image : ImageValue) (places : ℕ) (states : List (Option State)) : Type 0 where
+  pub grown : HasGrown image (table_of states)
+  pub sound : (at : ℕ) (s : State) → table_of states at ≡ Some s → IsSound image s
+  pub sized : length states ≡ places
+
+-- a table that is as before, or has fewer changes left
+pub record Leads (image : ImageValue) (places : ℕ) (states : List (Option State)) (table : Table) : Type 0 where
+  pub new : List (Option State)
+  pub is : table ≡ table_of new
+  pub kept : IsKept image places new
+  pub sinks : Sinks (table_height image) states new
+
+module _ (image : ImageValue) (places : ℕ) where
+  stays : (states : List (Option State)) → IsKept image places states → Leads image places states (table_of states)
+  stays states kept = record { new = states; is = refl; kept = kept; sinks = inl refl }
+
+  both_sink : (first then_ last : List (Option State)) → Sinks (table_height image) first then_ → Sinks (table_height image) then_ last → Sinks (table_height image) first last
+  both_sink first then_ last (inl e) (inl f) = inl (f ∙ e)
+  both_sink first then_ last (inl e) (inr less) = inr (rw e at less)
+  both_sink first then_ last (inr less) (inl f) = inr (rw f less)
+  both_sink first then_ last (inr less) (inr fewer) = inr (omega (arith, less, fewer))
+
+  -- one step after another
+  in_turn : (states : List (Option State)) (r : Result Table StateFault) (f : Table → Result Table StateFault) → IfOk r (Leads image places states)
+      → ((new : List (Option State)) → IsKept image places new → IfOk (f (table_of new)) (Leads image places new)) → IfOk (r >>= f) (Leads image places states)
+  in_turn states (Err e) f l go = tt
+  in_turn states (Ok table) f l go = onward (f table) (subst (λ t. IfOk (f t) (Leads image places l.new)) (sym l.is) (go l.new l.kept))
+    where
+      onward : (r : Result Table StateFault) → IfOk r (Leads image places l.new) → IfOk r (Leads image places states)
+      onward (Err e) m = tt
+      onward (Ok t) m = record { new = m.new; is = m.is; kept = m.kept; sinks = both_sink states l.new m.new l.sinks m.sinks }
+
+  -- ---- a state comes to an address
+
+  module _ (states : List (Option State)) (kept : IsKept image places states) (to : ℕ) (inside : to < length states) (s : State) (fits : IsStateAt image to s) (sound : IsSound image s) where
+    module _ (new : Table) (e : Entered (table_of states) to s new) where
+      new_states : List (Option State)
+      new_states = slice_set states to (Some e.state)
+
+      made : new ≡ table_of (slice_set states to (Some e.state))
+      made = e.is ∙ sym (table_set states to e.state inside)
+
+      grown : HasGrown image new
+      grown = grows image (table_of states) to s kept.grown fits new e
+
+      words_there : (o : Option State) → table_of states to ≡ o → Becomes o s e.state → HasWords e.state × All IsWordCell e.state.cells
+      words_there None is same = rw same (sound.words, sound.cells)
+      words_there (Some u) is (wptr, phase, same) =
+          let before = kept.sound to u is in
+          rw same (words_joined u s before.words sound.words, all_joined u.cells s.cells before.cells)
+
+      sound_at : (at : ℕ) (t : State) → new at ≡ Some t → IsSound image t
+      sound_at at t is = by_place (cases_eq at to)
+        where
+          by_place : (at ≡ to) ⊎ (at ≡ to → ⊥) → IsSound image t
+          by_place (inl same) =
+              let here : e.state ≡ t = same_Some _ _ (sym (there (table_of states) to s new e) ∙ sym (ap new same) ∙ is) in
+              let words = words_there (table_of states to) refl e.becomes in
+              record { placed = (grown.states at t is).placed; words = subst HasWords here words.0; cells = subst (λ u. All IsWordCell u.cells) here words.1 }
+          by_place (inr other) = kept.sound at t (sym (elsewhere (table_of states) to s new at e other) ∙ is)
+
+      sinks_there : (o : Option State) → table_of states to ≡ o → Becomes o s e.state → Sinks (table_height image) states (slice_set states to (Some e.state))
+      sinks_there None is same =
+          let none : slice_index_or states to None ≡ None = sym (table_at states to inside) ∙ is in
+          inr (table_sinks image states to (Some e.state) inside (rw (none, same) (state_light image s sound.words sound.placed.sized)))
+      sinks_there (Some u) is (wptr, phase, same) = by_sink (state_sinks u s sound.words (sound.placed.sized ∙ sym (kept.sound to u is).placed.sized))
+        where
+          there_is : slice_index_or states to None ≡ Some u
+          there_is = sym (table_at states to inside) ∙ is
+
+          by_sink : Sinks state_height u (join u s) → Sinks (table_height image) states (slice_set states to (Some e.state))
+          by_sink (inl stays) = inl (ap (λ o. slice_set states to o) (ap Some (same ∙ stays) ∙ sym there_is) ∙ set-get_or states to None)
+          by_sink (inr less) = inr (table_sinks image states to (Some e.state) inside (rw (there_is, same) less))
+
+      leads : Leads image places states new
+      leads = record {
+        new = slice_set states to (Some e.state);
+        is = made;
+        kept = record {
+          grown = subst (HasGrown image) made grown;
+          sound = λ at t is. sound_at at t (ap (λ (table : Table). table at) made ∙ is);
+          sized = length-set states to (Some e.state) ∙ kept.sized;
+        };
+        sinks = sinks_there (table_of states to) refl e.becomes;
+      }
+
+    comes : IfOk (enter (Some to) s (table_of states)) (Leads image places states)
+    comes = by_answer (enter (Some to) s (table_of states)) refl
+      where
+        by_answer : (r : Result Table StateFault) → enter (Some to) s (table_of states) ≡ r → IfOk r (Leads image places states)
+        by_answer (Err e) is = tt
+        by_answer (Ok new) is = leads new (entered (table_of states) to s new is)
+
+-- ---- edges
+
+-- an instruction that may be taken, and loads a word
+pub record IsReady (image : ImageValue) (places : ℕ) (p : Placed) : Type 0 where
+  pub may : MayBeTaken image places p
+  pub loads : LoadsWord p.instr
+
+small_workspace : (image : ImageValue) → InRange image → image.workspace ≤ 512
+small_workspace image range = by_version image.version range.workspace.1
+  where
+    by_version : (v : Version) → image.workspace ≤ most_workspace v → image.workspace ≤ 512
+    by_version One le = omega (arith, le)
+    by_version Two le = omega (arith, le)
+
+module _ (image : ImageValue) (cuts : List Cut) (range : InRange image) (spelled : AllByRecursion IsSpelled cuts) (nest : KeepsNest image.loops image.workspace cuts) (places : ℕ) where
+  module _ (p : Placed) (ready : IsReady image places p) where
+    edge_leads : (edge : Edge) (states : List (Option State)) → IsKept image places states → IfOk (go_along image p edge (table_of states p.at) (table_of states)) (Leads image places states)
+    edge_leads edge states kept = by_state (table_of states p.at) refl
+      where
+        goes : Result Table StateFault → Type 0
+        goes r = IfOk r (Leads image places states)
+
+        by_target : (s v : State) → table_of states p.at ≡ Some s → after image p.at p.next p.instr edge s ≡ Ok v → IsSound image v → (o : Option ℕ) → target (ranges image.loops) p.at p.next p.instr edge ≡ o
+            → IfOk (enter o v (table_of states)) (Leads image places states)
+        by_target s v here is sound None leads = subst (λ r. IfOk r (Leads image places states)) (sym (enter_none v (table_of states))) (stays image places states kept)
+        by_target s v here is sound (Some to) leads =
+            let inside : to < length states = (let lt = ready.may.targets edge to leads in omega (arith, lt, kept.sized)) in
+            comes image places states kept to inside v (arrives_at image p edge places to (table_of states) s v ready.may kept.grown here is sound.placed leads) sound
+
+        by_outcome : (s : State) → table_of states p.at ≡ Some s → (r : Result State StateCode) → after image p.at p.next p.instr edge s ≡ r → IfOk r (IsSound image)
+            → IfOk (placed p.at r >>= (λ t. enter (target (ranges image.loops) p.at p.next p.instr edge) t (table_of states))) (Leads image places states)
+        by_outcome s here (Err code) is sound = tt
+        by_outcome s here (Ok v) is sound = by_target s v here is sound (target (ranges image.loops) p.at p.next p.instr edge) refl
+
+        by_state : (o : Option State) → table_of states p.at ≡ o → IfOk (go_along image p edge (table_of states p.at) (table_of states)) (Leads image places states)
+        by_state None here = subst (λ r. IfOk r (Leads image places states)) (sym (along_none image p edge (table_of states) (table_of states p.at) here)) (stays image places states kept)
+        by_state (Some s) here =
+            let sound = after_sound image (small_workspace image range) range.rows nest.good p.at p.next p.instr edge s ready.loads (kept.sound p.at s here) in
+            subst (λ r. IfOk r (Leads image places states)) (sym (along_some image p edge (table_of states) (table_of states p.at) s (after image p.at p.next p.instr edge s) here refl))
+            (by_outcome s here (after image p.at p.next p.instr edge s) refl sound)
+
+    ways_lead : (ways : List Edge) (states : List (Option State)) → IsKept image places states → IfOk (along image (from p ways) (table_of states)) (Leads image places states)
+    ways_lead [] states kept = stays image places states kept
+    ways_lead (edge ∷ ways) states kept =
+        in_turn image places states (go_along image p edge (table_of states p.at) (table_of states)) (along image (from p ways)) (edge_leads edge states kept) (ways_lead ways)
+
+  all_lead : (ps : List Placed) → ((i : ℕ) (p : Placed) → slice_get ps i ≡ Some p → IsReady image places p) → (states : List (Option State)) → IsKept image places states
+      → IfOk (along image (flat_map edges_of ps) (table_of states)) (Leads image places states)
+  all_lead [] ready states kept = stays image places states kept
+  all_lead (p ∷ ps) ready states kept =
+      subst (λ r. IfOk r (Leads image places states)) (sym (ap (λ es. along image es (table_of states)) (flat_map-cons edges_of p ps) ∙ along_append image (edges_of p) (flat_map edges_of ps) (table_of states)))
+      (in_turn image places states (along image (edges_of p) (table_of states)) (along image (flat_map edges_of ps)) (ways_lead p (ready 0 p refl) (asked p.instr) states kept) (all_lead ps (λ i q is. ready (suc i) q is)))
+
+  module _ (inside : (at : ℕ) → IsTrue (is_start cuts at) → at < places) where
+    ready_at : (i : ℕ) (p : Placed) → slice_get (placed_from 0 cuts) i ≡ Some p → IsReady image places p
+    ready_at i p is =
+        let stands = stands_at cuts i p nest.spelled is in
+        record { may = may_be_taken image cuts places p nest inside stands; loads = subst (λ q. LoadsWord q.instr) (sym stands.is) (loads p stands) }
+      where
+        loads : (p : Placed) (stands : StandsAt cuts p) → LoadsWord stands.cut.instr
+        loads p stands = no_overflow _ (operand_fits stands.cut (spelling_of (code_of cuts) cuts p.at stands.cut (record { joined = refl; each = spelled }) stands.there))
+
+    pass_leads : (states : List (Option State)) → IsKept image places states → IfOk (pass image cuts (table_of states)) (Leads image places states)
+    pass_leads states kept = all_lead (placed_from 0 cuts) ready_at states kept
+
+    -- ---- the passes end
+
+    -- a pass refuses, leaves the table as it is, or there are fewer changes left
+    one_more : (states : List (Option State)) → IsKept image places states → (number : ℕ) → passes image cuts number ≡ Ok (table_of states)
+        → ((l : List (Option State)) → IsKept image places l → passes image cuts (suc number) ≡ Ok (table_of l) → table_height image l < table_height image states → (verdict : Result Table StateFault) × IsVerdict image cuts verdict)
+        → (verdict : Result Table StateFault) × IsVerdict image cuts verdict
+    one_more states kept number comes go = by_answer (pass image cuts (table_of states)) refl (pass_leads states kept)
+      where
+        comes_on : passes image cuts (suc number) ≡ pass image cuts (table_of states)
+        comes_on = ap (λ r. r >>= pass image cuts) comes
+
+        by_sink : (new : List (Option State)) → IsKept image places new → pass image cuts (table_of states) ≡ Ok (table_of new) → Sinks (table_height image) states new → (verdict : Result Table StateFault) × IsVerdict image cuts verdict
+        by_sink new kept is (inl same) = (Ok (table_of states), record { number = number; comes = comes; stays = is ∙ ap (λ states. Ok (table_of states)) same })
+        by_sink new kept is (inr fewer) = go new kept (comes_on ∙ is) fewer
+
+        by_answer : (r : Result Table StateFault) → pass image cuts (table_of states) ≡ r → IfOk r (Leads image places states) → (verdict : Result Table StateFault) × IsVerdict image cuts verdict
+        by_answer (Err e) is l = (Err e, record { number = suc number; comes = comes_on ∙ is; stays = refl })
+        by_answer (Ok table) is l = by_sink l.new l.kept (is ∙ ap Ok l.is) l.sinks
+
+    ends : (n : ℕ) (states : List (Option State)) → IsKept image places states → (number : ℕ) → passes image cuts number ≡ Ok (table_of states) → table_height image states < n
+        → (verdict : Result Table StateFault) × IsVerdict image cuts verdict
+    ends zero states kept number comes less = absurd (omega (arith, less))
+    ends (suc n) states kept number comes less = one_more states kept number comes λ new kept comes fewer. ends n new kept (suc number) comes (omega (arith, less, fewer))
+
+-- ---- the first table
+
+initial_few : (image : ImageValue) → InRange image → length image.initial ≤ image.workspace
+initial_few image range = by_version image.version range.initial
+  where
+    by_version : (v : Version) → length image.initial ≤ most_initial v image.workspace → length image.initial ≤ image.workspace
+    by_version One le = omega (arith, le)
+    by_version Two le = le
+
+signed_fits : (v : ℕ) → v < 2 ^ 32 → FitsSigned w32 (signed v)
+signed_fits v lt = grind (arith, ints)
+
+entry_sound : (image : ImageValue) → InRange image → IsSound image (entry image)
+entry_sound image range = record {
+  placed = record { roomy = range.start_least; inside = range.start_most; sized = sized };
+  words = record { a = tt; b = tt; c = tt };
+  cells = All-append IsWordCell _ _ (All-map IsWordCell (λ word. cell.Known (signed word)) image.initial (λ i d lt. signed_fits _ (range.words i d lt))) (All-replicate IsWordCell (image.workspace - length image.initial) (cell.Known (pos 0)) (small_fits 0 (omega arith)));
+}
+  where
+    sized : length (entry image).cells ≡ image.workspace
+    sized =
+        let few = initial_few image range in
+        length-append (map (λ word. cell.Known (signed word)) image.initial) (replicate (image.workspace - length image.initial) (cell.Known (pos 0)))
+        ∙ omega (arith, few, length-map image.initial (λ word. cell.Known (signed word)), length-replicate (image.workspace - length image.initial) (cell.Known (pos 0)))
+
+no_state : (n x : ℕ) → table_of (replicate n None) x ≡ None
+no_state zero x = refl
+no_state (suc n) zero = refl
+no_state (suc n) (suc x) = no_state n x
+
+first_is : (image : ImageValue) (n : ℕ) → table_of (Some (entry image) ∷ replicate n None) ≡ first_table image
+first_is image n = fun_ext λ x. at x
+  where
+    at : (x : ℕ) → table_of (Some (entry image) ∷ replicate n None) x ≡ first_table image x
+    at zero = refl
+    at (suc x) = let other : nat_eq (suc x) 0 ≡ false = grind (arith, nat_tests) in rw other (no_state n x)
+
+module _ (image : ImageValue) (cuts : List Cut) (range : InRange image) (spelled : AllByRecursion IsSpelled cuts) (nest : KeepsNest image.loops image.workspace cuts) where
+  first_kept : (n : ℕ) → IsKept image (suc n) (Some (entry image) ∷ replicate n None)
+  first_kept n = record { grown = grown; sound = λ at s is. sound at s is (cases_eq at 0); sized = sized }
+    where
+      grown : HasGrown image (table_of (Some (entry image) ∷ replicate n None))
+      grown = first_grown image _ nest.begins (entry_sound image range).placed (first_is image n)
+
+      sound : (at : ℕ) (s : State) → table_of (Some (entry image) ∷ replicate n None) at ≡ Some s → (at ≡ 0) ⊎ (at ≡ 0 → ⊥) → IsSound image s
+      sound at s is (inl same) =
+          let here : entry image ≡ s = same_Some _ _ (sym (ap (table_of (Some (entry image) ∷ replicate n None)) same) ∙ is) in
+          subst (IsSound image) here (entry_sound image range)
+      sound at s is (inr other) =
+          let no : (at == 0) ≡ false = grind (arith, nat_tests) in
+          absurd (let none : None ≡ Some s = sym (ap (λ (table : Table). table at) (first_is image n) ∙ ap (λ b. if b then Some (entry image) else None) no) ∙ is in cc)
+
+      sized : length (Some (entry image) ∷ replicate n None) ≡ suc n
+      sized = omega (arith, length-replicate {A = Option State} n None)
+
+  from_places : (n : ℕ) → ((at : ℕ) → IsTrue (is_start cuts at) → at < suc n) → (verdict : Result Table StateFault) × IsVerdict image cuts verdict
+  from_places n inside =
+      ends image cuts range spelled nest (suc n) inside (suc (table_height image (Some (entry image) ∷ replicate n None))) (Some (entry image) ∷ replicate n None) (first_kept n) 0 (ap Ok (sym (first_is image n))) (omega arith)
+
+  pub a_verdict : (verdict : Result Table StateFault) × IsVerdict image cuts verdict
+  a_verdict = by_last (slice_get (starts_from 0 cuts) (length (starts_from 0 cuts) - 1)) refl
+    where
+      by_last : (o : Option ℕ) → slice_get (starts_from 0 cuts) (length (starts_from 0 cuts) - 1) ≡ o → (verdict : Result Table StateFault) × IsVerdict image cuts verdict
+      by_last (Some last) is = from_places last λ at starts. (let le = last_above 0 cuts at last (sym is) starts in omega (arith, le))
+      by_last None is = from_places 0 λ at starts. absurd (no_last 0 cuts at (sym is) starts)
