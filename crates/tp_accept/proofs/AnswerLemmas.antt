@@ -15,7 +15,7 @@ use Rattle.tp_state.specs.declared.fault.StateCode.{StateCode}
 use Rattle.tp_state.specs.declared.fault.StateFault.{StateFault}
 use Rattle.tp_state.specs.declared.fault.StateFault.TheVariants as state_fault
 use Rattle.tp_check.specs.Tables.{Table}
-use Rattle.tp_check.specs.Passes.{IsVerdict}
+use Rattle.tp_check.specs.Passes.{IsVerdict, IsRefusalOf}
 use Rattle.tp_accept.specs.declared.refusal.Refusal.TheVariants.{Memory}
 use Rattle.tp_accept.specs.Refusals.{of_state}
 use Rattle.tp_accept.specs.Verdict.{Answer, answer_on, IsStateAnswer, IsFlowAnswer, IsCutAnswer, IsImageAnswer, IsTextAnswer, IsAnswer}
@@ -43,9 +43,9 @@ state_answer text image cuts answer no_fault spelled cut flows is =
 
 -- a refusal of the passes, unless memory ran out
 pub refused_states : (text : List ℕ) (image : ImageValue) (cuts : List Cut) (fault : StateFault) → first_fault text ≡ None → IsTextOf text image → cutting image.code ≡ Ok cuts → first_flow_fault image cuts ≡ None →
-    ((code : StateCode) (place : ℕ) → fault ≡ state_fault.Refused code place → IsVerdict image cuts (Err fault)) → of_state fault ≢ Memory → IsAnswer text (Err (of_state fault))
+    IsRefusalOf image cuts fault → of_state fault ≢ Memory → IsAnswer text (Err (of_state fault))
 refused_states text image cuts (state_fault.Refused code place) none spelled cut flows says some =
-    state_answer text image cuts _ none spelled cut flows record { verdict = Err (state_fault.Refused code place); passes = says code place refl; answers = refl }
+    state_answer text image cuts _ none spelled cut flows record { verdict = Err (state_fault.Refused code place); passes = says; answers = refl }
 refused_states text image cuts state_fault.Memory none spelled cut flows says some = absurd (some refl)
 
 -- ---- one text has one answer, since the passes have one verdict

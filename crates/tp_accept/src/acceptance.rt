@@ -15,7 +15,7 @@ use tp_flow::check_flow;
 use tp_image::read_image;
 
 /// The verdict on a text: the image that it spells, if it may be run, or the first refusal. The bytes are judged first, then
-/// the cutting of the code, its flow, its states and its bound. The table of states is kept no longer than it is checked.
+/// the cutting of the code, its flow, its states and its bound.
 pub fn accept(alloc: Global, text: Vec<u8>) -> Result<Accepted, Refusal>
     ensures image { IfOk result (λ accepted. IsTextOf text.items accepted.image) }
     ensures allowed { IfOk result (λ accepted. IsAnswer text.items (Ok (allowed accepted.image accepted.budget))) }
@@ -24,7 +24,8 @@ pub fn accept(alloc: Global, text: Vec<u8>) -> Result<Accepted, Refusal>
     let image = read_image(alloc, &text)?;
     let listing = decode(alloc, &image.code)?;
     let nest = check_flow(&image, &listing)?;
-    let _table = check_states(alloc, &image, &listing, &nest)?;
+    let table = check_states(alloc, &image, &listing, &nest)?;
+    drop(table);
     let budget = budget(alloc, &image, &listing)?;
     Ok(Accepted { image, budget })
 }

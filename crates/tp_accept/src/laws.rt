@@ -16,6 +16,7 @@ ghost use Rattle.tp_accept.specs.Walks.{Walk};
 ghost use Rattle.tp_accept.specs.Verdict.{Answer, IsAnswer};
 ghost use Rattle.tp_accept.specs.Workers.{bound_of_bytes, measure_of_bytes, two_and_three, row, increment, sum_to, ten, ten_thousand, loop_in_a_loop, outer_and_inner, early_exit, two_ways, neighbours};
 
+use crate::accepted::Accepted;
 use tp_check::laws::passes_have_one_verdict;
 
 /// One text has one answer: it is not both allowed and refused, nor allowed or refused in two ways.
@@ -79,6 +80,12 @@ pub fn measure_goes_down()
 pub fn no_walk_is_longer()
     ensures { (rows : List LoopRow) (workspace : ℕ) (code : List Cut) → KeepsNest rows workspace code →
         IsTrue (is_start code 0) → (counts : Counts) (n : ℕ) → Walk rows code 0 counts n → n ≤ bound rows code }
+{}
+
+/// No way through the code of an accepted image executes more bytes than its budget.
+pub fn no_walk_is_longer_than_the_budget(accepted: &Accepted)
+    ensures { (cuts : List Cut) → IsCutting accepted.now.image.code cuts → (counts : Counts) (n : ℕ) →
+        Walk accepted.now.image.loops cuts 0 counts n → n ≤ accepted.now.budget }
 {}
 
 /// The bounds of small workers, as they are worked out by hand.

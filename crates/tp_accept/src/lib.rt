@@ -16,6 +16,3 @@ mod refusal;
 pub use acceptance::accept;
 pub use accepted::Accepted;
 pub use refusal::{Refusal, RefusalCode};
-
-#[cfg(test)]
-mod tests;

@@ -1,2 +1,10 @@
 mod PassLemmas
 mod RespectLemmas
+mod Heights
+mod TableSteps
+mod Places
+mod Entering
+mod Taking
+mod Moving
+mod Passing
+mod Verdict

@@ -10,7 +10,7 @@ use Rattle.tp_image.specs.Image.{ImageValue}
 use Rattle.tp_state.specs.declared.state.State.{State}
 use Rattle.tp_state.specs.declared.fault.StateCode.{StateCode}
 use Rattle.tp_state.specs.declared.fault.StateFault.{StateFault}
-use Rattle.tp_state.specs.declared.fault.StateFault.TheVariants.{Refused}
+use Rattle.tp_state.specs.declared.fault.StateFault.TheVariants.{Refused, Memory}
 use Rattle.tp_state.specs.Answer.{◌>>=◌}
 use Rattle.tp_state.specs.Order.{meeting}
 use Rattle.tp_state.specs.Entry.{entry}
@@ -45,9 +45,16 @@ go_along image p edge (Some s) table = do
 
 -- ---- one pass
 
--- the edges of a code: by rising address, and those of an instruction in their order
+-- edges of an instruction, and all that it is asked on, in their order
+abbrev pub from : Placed → List Edge → List (Placed × Edge)
+from p ways = map (λ edge. (p, edge)) ways
+
+abbrev pub edges_of : Placed → List (Placed × Edge)
+edges_of p = from p (asked p.instr)
+
+-- the edges of a code: by rising address
 abbrev pub edges_in : List Cut → List (Placed × Edge)
-edges_in cuts = flat_map (λ p. map (λ edge. (p, edge)) (asked p.instr)) (placed_from 0 cuts)
+edges_in cuts = flat_map edges_of (placed_from 0 cuts)
 
 -- one edge after another
 abbrev pub along : ImageValue → List (Placed × Edge) → Table → Result Table StateFault
@@ -76,3 +83,8 @@ pub record IsVerdict (image : ImageValue) (cuts : List Cut) (verdict : Result Ta
   pub number : ℕ
   pub comes : passes image cuts number ≡ verdict
   pub stays : (verdict >>= pass image cuts) ≡ verdict
+
+-- a fault is the passes' refusal, or a want of memory
+abbrev pub IsRefusalOf : ImageValue → List Cut → StateFault → Type 0
+IsRefusalOf image cuts (Refused code place) = IsVerdict image cuts (Err (Refused code place))
+IsRefusalOf image cuts Memory = Unit {0}

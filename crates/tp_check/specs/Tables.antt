@@ -1,14 +1,10 @@
 -- Tables: what is known before the instructions.
-use Rattle.std.specs.Prelude.{◌≡◌, ℕ, ◌==◌, if◌then◌else◌, List, [], ◌∷◌, Option, Some, None, slice_get}
+use Rattle.std.specs.Prelude.{◌≡◌, ℕ, ◌==◌, if◌then◌else◌, List, Option, Some, None, slice_get}
 use Rattle.std.specs.Option.{option_and_then}
-use Rattle.tp_decode.specs.declared.instr.Instr.{Instr}
-use Rattle.tp_decode.specs.declared.instr.Instr.TheVariants.{Stopp}
-use Rattle.tp_flow.specs.declared.edge.Edge.{Edge}
-use Rattle.tp_flow.specs.declared.edge.Edge.TheVariants.{Next}
-use Rattle.tp_flow.specs.Edges.{edges}
 use Rattle.tp_image.specs.Image.{ImageValue}
 use Rattle.tp_state.specs.declared.state.State.{State}
 use Rattle.tp_state.specs.Conditions.{IsPlaced}
+pub use Rattle.tp_state.specs.After.{asked}
 
 -- some addresses have a state
 abbrev pub Table : Type 0
@@ -24,11 +20,6 @@ with_state to t table at = if at == to then Some t else table at
 -- its states are those of an image's worker
 abbrev pub HasPlacedStates : ImageValue → Table → Type 0
 HasPlacedStates image table = (at : ℕ) (s : State) → table at ≡ Some s → IsPlaced image s
-
--- the edges that an instruction's rule is asked on: its own, and of stopp, which has none and is asked all the same, Next
-abbrev pub asked : Instr → List Edge
-asked Stopp = Next ∷ []
-asked instr = edges instr
 
 -- a table by its states in a list, one for each address or none
 abbrev pub table_of : List (Option State) → Table

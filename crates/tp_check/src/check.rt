@@ -127,7 +127,7 @@ fn has_above(image: &Image, table: &Table, at: usize, state: &State) -> bool
 }
 
 /// The edges that an instruction's rule is asked on.
-fn asked(instr: Instr) -> &'static [Edge]
+pub(crate) fn asked(instr: Instr) -> &'static [Edge]
     ensures { result.now ≡ asked instr }
 {
     match instr {

@@ -6,9 +6,12 @@
 
 mod check;
 pub mod laws;
-mod stub;
+mod passes;
 mod table;
 
 pub use check::every_edge_respects;
-pub use stub::check_states;
+pub use passes::check_states;
 pub use table::Table;
+
+#[cfg(test)]
+mod tests;

@@ -1,11 +1,16 @@
 //! Tables.
 
-ghost use Rattle.std.specs.Prelude.{◌≡◌, length};
+ghost use Rattle.std.specs.Prelude.{◌≡◌, ◌<◌, ℕ, Some, length, IfOk, IfSome};
 ghost use Rattle.std.specs.Option.{option_copied};
-ghost use Rattle.tp_check.specs.Tables.{table_of};
+ghost use Rattle.tp_state.specs.Conditions.{IsPlaced};
+ghost use Rattle.tp_check.specs.Tables.{table_of, HasPlacedStates};
+ghost use Rattle.tp_check.specs.Passes.{enter, first_table, met, placed};
+ghost use Rattle.tp_check.specs.UnderWay.{Gives, GivesState, MovesState, MovesTable};
 
+use std::alloc::{AllocError, Global};
 use std::marker::Model;
-use tp_state::State;
+use tp_image::Image;
+use tp_state::{State, StateFault};
 
 /// What is known before the instructions of a code: a contract sees the state of each address that has one.
 #[derive(Drop)]
@@ -24,6 +29,38 @@ impl Model for Table {
 }
 
 impl Table {
+    /// The first instruction alone has a state, of so many addresses.
+    pub(crate) fn first(alloc: Global, image: &Image, places: usize) -> Result<Table, AllocError>
+        requires { 0 < places }
+        ensures sized { IfOk result (λ table. length table ≡ places) }
+        ensures value { IfOk result (λ table. table_of table ≡ first_table image.now) }
+    {
+        let mut states = Vec::with_capacity(alloc, places)?;
+        let first = State::entry(alloc, image)?;
+        states.push(Some(first))?;
+        for _place in 1..places {
+            states.push(None)?;
+        }
+        Ok(Table { states })
+    }
+
+    /// A state comes to an address. It answers whether anything changed there.
+    pub(crate) fn enter(
+        &mut self,
+        alloc: Global,
+        image: &Image,
+        to: usize,
+        state: &State,
+    ) -> Result<bool, StateFault>
+        requires inside { to < length self.old }
+        requires placed { HasPlacedStates image.now (table_of self.old) }
+        requires state { IsPlaced image.now state.now }
+        ensures gives { Gives result (table_of self.new) (enter (Some to) state.now (table_of self.old)) }
+        ensures moves { IfOk result (λ moved. MovesTable image.now moved self.old self.new) }
+    {
+        meet(&mut self.states[to], alloc, image, to, state)
+    }
+
     /// How many addresses there may be states at.
     pub(crate) fn len(&self) -> usize
         ensures { result ≡ length self.now }
@@ -38,6 +75,32 @@ impl Table {
         match self.states.get(addr) {
             Some(state) => state.as_ref(),
             None => None,
+        }
+    }
+}
+
+/// A state comes to an address, where another may stand already. It answers whether anything changed.
+fn meet(
+    there: &mut Option<State>,
+    alloc: Global,
+    image: &Image,
+    to: usize,
+    state: &State,
+) -> Result<bool, StateFault>
+    requires placed { IfSome there.old (IsPlaced image.now) }
+    requires state { IsPlaced image.now state.now }
+    ensures gives { GivesState result there.new (placed to (met there.old state.now)) }
+    ensures moves { IfOk result (λ moved. MovesState image.now moved there.old there.new) }
+{
+    state.has_word_ends();
+    match there {
+        Some(met) => match met.join(state) {
+            Ok(moved) => Ok(moved),
+            Err(code) => Err(StateFault::Refused { code, place: to }),
+        },
+        None => {
+            *there = Some(state.copy_of(alloc)?);
+            Ok(true)
         }
     }
 }

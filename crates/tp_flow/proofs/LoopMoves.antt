@@ -25,7 +25,7 @@ use Rattle.tp_flow.proofs.FlowSpelled.{some_bytes}
 -- ---- places in lists
 
 -- what stands at the place that is found
-found_passes : {X : Type 0} (p : X → Bool) (xs : List X) (l : ℕ) (x : X) → slice_get xs l ≡ Some x → position p xs ≡ Some l → p x ≡ true
+pub found_passes : {X : Type 0} (p : X → Bool) (xs : List X) (l : ℕ) (x : X) → slice_get xs l ≡ Some x → position p xs ≡ Some l → p x ≡ true
 found_passes p xs l x is e = ap p (sym (get_or_from_slice_get xs l x x is)) ∙ (position-Some p xs l x e).1
 
 -- the one that passes is found
@@ -86,7 +86,7 @@ past : (r : LoopRange) (a n x : ℕ) → r.lend ≡ a → 0 < n → a + n ≡ x 
 past r a n x here some there = grind (arith, nat_tests)
 
 -- those that differ pairwise in something that two of them share are one
-one_of : {X : Type 0} (f : X → ℕ) (xs : List X) (l k : ℕ) (x y : X) → AllPairs (λ a b. f a ≢ f b) xs → slice_get xs l ≡ Some x → slice_get xs k ≡ Some y → f x ≡ f y → l ≡ k
+pub one_of : {X : Type 0} (f : X → ℕ) (xs : List X) (l k : ℕ) (x y : X) → AllPairs (λ a b. f a ≢ f b) xs → slice_get xs l ≡ Some x → slice_get xs k ≡ Some y → f x ≡ f y → l ≡ k
 one_of f xs l k x y differ at_l at_k same = by_order (nat_lt l k) refl (nat_lt k l) refl
   where
     clash : (i j : ℕ) → i < j → j < length xs → f (get_or xs i x) ≡ f (get_or xs j x) → ⊥

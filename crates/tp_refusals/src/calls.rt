@@ -7,11 +7,14 @@ use std::alloc::Global;
 use std::sync::Wait;
 use tp_accept::{Refusal, accept};
 use tp_board::{Board, BoardFault, Core, Event, Reply};
+use tp_check::check_states;
 use tp_collect::Collector;
 use tp_decode::{DecodeFault, Instr, Listing, decode};
+use tp_flow::check_flow;
 use tp_image::{Image, ImageFault, read_image, upgrade, write_image};
 use tp_link::{LinkDevice, Medium, OwnedWire, Wire};
 use tp_session::{ServeFault, serve};
+use tp_state::{Cell, StateFault};
 
 /// Makes every call, and counts the answers.
 pub fn all(rt: &impl Wait, alloc: Global) -> Tally {
@@ -19,6 +22,7 @@ pub fn all(rt: &impl Wait, alloc: Global) -> Tally {
     tally.add(served(rt, alloc));
     listings(alloc, &mut tally);
     images(alloc, &mut tally);
+    tally.add(verified(alloc));
     tally.add(accepted(alloc));
     devices(alloc, &mut tally);
     core(alloc, &mut tally);
@@ -130,6 +134,36 @@ fn accepted(alloc: Global) -> Answer {
     match accept(alloc, text) {
         Ok(accepted) => same_if(accepted.budget() == 16 && accepted.code().len() == 16),
         Err(Refusal::Memory) => Answer::Memory,
+        Err(_) => Answer::Other,
+    }
+}
+
+/// A worker that stores 1 or 2 in word 9, by two ways that meet at 13, and sends it.
+const WORKER: &[u8] = b"TPW1\x16\x00\x0C\x00\x08\x00\x01\x00\x01\x00\x00\x00\
+    \x10\x24\xF2\x54\x44\xF7\x70\xA3\x41\xD1\x02\x42\xD1\x71\xD0\x10\x24\xF2\x44\xFB\x21\xF5";
+
+/// The verifier's table of a worker.
+fn verified(alloc: Global) -> Answer {
+    let image = match read_image(alloc, WORKER) {
+        Ok(image) => image,
+        Err(ImageFault::Memory) => return Answer::Memory,
+        Err(_) => return Answer::Other,
+    };
+    let listing = match decode(alloc, &image.code) {
+        Ok(listing) => listing,
+        Err(DecodeFault::Memory) => return Answer::Memory,
+        Err(_) => return Answer::Other,
+    };
+    let Ok(nest) = check_flow(&image, &listing) else {
+        return Answer::Other;
+    };
+    match check_states(alloc, &image, &listing, &nest) {
+        Ok(table) => same_if(
+            table
+                .at(13)
+                .is_some_and(|state| state.cells.get(9) == Cell::Any),
+        ),
+        Err(StateFault::Memory) => Answer::Memory,
         Err(_) => Answer::Other,
     }
 }

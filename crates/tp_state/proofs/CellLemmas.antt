@@ -96,7 +96,7 @@ changes_all old new f x y n h room from = ext_get_or Undef new _ (h.long ∙ sym
         here ∙ sym (cell_at-with_cells_in old x these i fits low (omega (arith, high, long)) ∙ there ∙ ap f (cell_at-cells_from old y n (i - x) lt))
 
 -- words behind the workspace take nothing
-cut_short : (cells : List Cell) (x n : ℕ) → length cells < x + n → cells_from cells x (length cells - x) ≡ cells_from cells x n
+pub cut_short : (cells : List Cell) (x n : ℕ) → length cells < x + n → cells_from cells x (length cells - x) ≡ cells_from cells x n
 unfolding cells_from
 cut_short cells x n beyond =
     let all_left : length (drop x cells) ≤ length cells - x = omega (arith, length-drop x cells) in

@@ -116,12 +116,12 @@ module _ (z : ℤ) where
   effect_stays image Sum s e h = search (bind (StandsAt z))
   effect_stays image Mul s e h = search (bind (StandsAt z))
 
-some_is : (o : Option ℕ) → IsSome o → (to : ℕ) × (o ≡ Some to)
+pub some_is : (o : Option ℕ) → IsSome o → (to : ℕ) × (o ≡ Some to)
 some_is None is = absurd cc
 some_is (Some to) is = (to, refl)
 
 -- a number that is an address
-address_is : (z : ℤ) (to : ℕ) → address z ≡ Some to → z ≡ pos to
+pub address_is : (z : ℤ) (to : ℕ) → address z ≡ Some to → z ≡ pos to
 address_is (pos n) to e = by_test (nat_lt n (2 ^ 64)) e
   where
     by_test : (b : Bool) → (if b then Some n else None) ≡ Some to → pos n ≡ pos to

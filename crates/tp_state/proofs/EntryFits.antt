@@ -1,5 +1,5 @@
 -- The start of a run fits the first state.
-use Rattle.std.proofs.Common.{◌≡◌, ◌⊎◌, inl, inr, ℕ, ◌+◌, ◌-◌, zero, suc, ◌/◌, ◌%◌, ◌<◌, ◌≤◌, ◌^◌, Bool, true, false, pos, List, length, map, replicate, slice_index_or, Option, Some, None, All, refl, sym, [], ◌∷◌, nat_le, nat_lt, ◌&&◌, if◌then◌else◌, get_or, ap, ◌∙◌, subst, arith, length-append}
+use Rattle.std.proofs.Common.{◌≡◌, ◌⊎◌, inl, inr, ℕ, ◌+◌, ◌-◌, ◌*◌, zero, suc, ◌/◌, ◌%◌, ◌<◌, ◌≤◌, ◌^◌, Bool, true, false, pos, List, length, map, replicate, slice_index_or, Option, Some, None, All, refl, sym, [], ◌∷◌, nat_le, nat_lt, ◌&&◌, if◌then◌else◌, get_or, ap, ◌∙◌, subst, arith, length-append}
 use Rattle.std.proofs.lemmas.Int.{ints}
 use Rattle.std.proofs.lemmas.Bool.{cases_lt}
 use Rattle.std.proofs.lemmas.Option.{same_Some}
@@ -92,7 +92,7 @@ low_bytes : (i k n : ℕ) → All (λ byte. byte < 256) (bytes_low_first i k n)
 low_bytes i zero n = All-nil (λ byte. byte < 256)
 low_bytes i (suc k) n = All-cons (λ byte. byte < 256) (byte_at i n) (bytes_low_first (suc i) k n) (byte_small i n) (low_bytes (suc i) k n)
 
-word_bytes : (n : ℕ) → All (λ byte. byte < 256) (to_le_bytes w32 n)
+pub word_bytes : (n : ℕ) → All (λ byte. byte < 256) (to_le_bytes w32 n)
 word_bytes n = low_bytes 0 4 n
 
 all_bytes : (words : List ℕ) → All (λ byte. byte < 256) (flat_map (to_le_bytes w32) words)
@@ -131,16 +131,17 @@ free_first image fits x = by_place (cases_lt x image.workspace)
     by_place (inl lt) = ap is_free (first_cell image fits x lt)
     by_place (inr past) = ap is_free (get_or_past (first_cells image) x Undef (omega (arith, length-first_cells image fits, past)))
 
-pub start_fits : (image : ImageValue) (packet : List ℕ) → InRange image → All (λ byte. byte < 256) packet → IsOutside (ranges image.loops) 0 → Fits image 0 (entry image) (start image packet)
+pub start_fits : (image : ImageValue) (packet : List ℕ) → InRange image → 4 * image.packet ≤ length packet → All (λ byte. byte < 256) packet → IsOutside (ranges image.loops) 0 → Fits image 0 (entry image) (start image packet)
 unfolding start
-start_fits image packet range small outside =
+start_fits image packet range long small outside =
     let fits = few image.version (length image.initial) image.workspace range.initial in
     record {
-      place = record { iptr = refl; oreg = refl; wptr = refl; roomy = range.start_least; inside = range.start_most };
+      place = record { running = refl; iptr = refl; oreg = refl; wptr = refl; roomy = range.start_least; inside = range.start_most };
       phase = refl;
       registers = record { a = tt; b = tt; c = tt };
       words = entry_words image packet range;
       bytes = record { memory = entry_bytes image packet; packet = small };
+      packet = λ before. long;
       loops = record {
         live = λ l row is row_is. absurd (true_false (sym is ∙ outside l));
         only = λ x live. absurd (true_false (sym (free_first image fits x) ∙ live));

@@ -105,5 +105,6 @@ fits_above image around at t u s h f = record {
     word = λ x lt. cell_fits_above image.loops (cell_at t.cells x) (cell_at u.cells x) (word_at s.memory (word_address x)) (h.cells x) (f.words.word x lt);
   };
   bytes = f.bytes;
+  packet = f.packet;
   loops = loops_fit_above image.loops around t.cells u.cells s.memory h.cells f.loops;
 }

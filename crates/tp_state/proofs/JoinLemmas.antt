@@ -1,7 +1,7 @@
 -- Joins, cell by cell.
 use Rattle.std.proofs.Common.{◌≡◌, ◌≢◌, ℕ, ◌+◌, ◌<◌, ◌≤◌, ◌⊎◌, inl, inr, Bool, true, false, ◌||◌, List, length, slice_set, length-set, get_or-set_same, get_or-set_other, refl, sym, ap, ◌∙◌, arith}
 use Rattle.std.proofs.lemmas.Bool.{cases_lt, cases_eq}
-use Rattle.std.proofs.lemmas.List.{ext_get_or, get_or-map, length-map}
+use Rattle.std.proofs.lemmas.List.{ext_get_or, get_or-map, length-map, set-get_or}
 use Rattle.std.proofs.lemmas.Slice.Zip.{length-zip, get_or-zip}
 use Rattle.std.proofs.Math.ListN.{get_or-eq_default}
 use Rattle.std.specs.List.{zip}
@@ -83,6 +83,10 @@ joins_same old others new n changed h is = record {
     inside : (i : ℕ) → i < n + 1 → (i ≡ n) ⊎ (i ≡ n → ⊥) → cell_at new i ≡ join_cells (cell_at old i) (cell_at others i)
     inside i lt (inl same) = rw same (is ∙ ap (λ d. join_cells d (cell_at others n)) (h.outside n (omega arith)))
     inside i lt (inr other) = h.inside i (omega (arith, lt, other))
+
+-- one more, which is written as it was
+pub joins_none_more : (old others new : List Cell) (n : ℕ) (changed : Bool) (c : Cell) → JoinsTo old others new n changed → n < length old → c ≡ join_cells (cell_at new n) (cell_at others n) → c ≡ cell_at new n → JoinsTo old others (slice_set new n c) (n + 1) changed
+joins_none_more old others new n changed c h room is stays = rw (ap (slice_set new n) stays ∙ set-get_or new n Undef) (joins_same old others new n changed h (sym stays ∙ is))
 
 pub joins_all : (old others new : List Cell) (n : ℕ) (changed : Bool) → JoinsTo old others new n changed → length old ≤ n → length others ≡ length old → new ≡ joined_cells old others
 joins_all old others new n changed h end long = ext_get_or Undef new _ (h.long ∙ sym (length-joined old others long)) (λ i lt. h.inside i (omega (arith, lt, h.long, end)) ∙ sym (cell_at-joined old others i long))

@@ -1,5 +1,5 @@
 -- Cells that are replaced, and the live control words among them.
-use Rattle.std.proofs.Common.{◌≡◌, ℕ, ◌+◌, ◌-◌, ◌<◌, ◌≤◌, ◌⊎◌, inl, inr, Bool, true, false, List, map, replicate, length, min, slice_set, length-set, get_or-set_same, get_or-set_other, refl, sym, ap, ◌∙◌, subst, arith}
+use Rattle.std.proofs.Common.{◌≡◌, ℕ, ◌+◌, ◌-◌, ◌<◌, ◌≤◌, ◌⊎◌, inl, inr, true, false, List, map, replicate, length, min, slice_set, length-set, get_or-set_same, get_or-set_other, refl, sym, ap, ◌∙◌, subst, arith}
 use Rattle.std.proofs.lemmas.Bool.{cases_lt, cases_eq}
 use Rattle.std.proofs.lemmas.List.{get_or-map, length-map, length-replicate, get_or-replicate, get_or_past}
 use Rattle.std.proofs.lemmas.List.Folds.{list_all_at}
@@ -7,9 +7,7 @@ use Rattle.tp_state.specs.declared.cell.Cell.{Cell}
 use Rattle.tp_state.specs.declared.cell.Cell.TheVariants as cell
 use Rattle.tp_state.specs.CellRules.{cell_at, cells_from, with_cells, is_free, are_free, blurred, copied}
 use Rattle.tp_state.proofs.CellLemmas.{cell_at-with_cells_in, cell_at-with_cells_out, length-cells_from, cell_at-cells_from, blurred_part}
-
-pub true_false : {P : Type 0} → ◌≡◌ {A = Bool} true false → P
-true_false e = cc
+use Rattle.tp_state.proofs.Passing.{true_false}
 
 pub free_or_live : (c : Cell) → (is_free c ≡ true) ⊎ (is_free c ≡ false)
 free_or_live cell.Undef = inl refl
@@ -89,7 +87,7 @@ pub replicate_keeps : (cells : List Cell) (x n : ℕ) (c : Cell) → is_free c �
 replicate_keeps cells x n c free room was =
     cells_keep cells x n (replicate n c) (length-replicate n c) room was (λ i lt. ap is_free (get_or-replicate n i c cell.Undef lt) ∙ free)
 
-copied_free : (c : Cell) → is_free (copied c) ≡ true
+pub copied_free : (c : Cell) → is_free (copied c) ≡ true
 copied_free cell.Undef = refl
 copied_free cell.Any = refl
 copied_free (cell.Known n) = refl
@@ -112,7 +110,7 @@ blurred_live (cell.Known n) e = absurd (true_false e)
 blurred_live (cell.Index l) e = refl
 blurred_live (cell.Count l) e = refl
 
-blurred_free : (c : Cell) → is_free c ≡ true → is_free (blurred c) ≡ true
+pub blurred_free : (c : Cell) → is_free c ≡ true → is_free (blurred c) ≡ true
 blurred_free cell.Undef e = refl
 blurred_free cell.Any e = refl
 blurred_free (cell.Known n) e = refl

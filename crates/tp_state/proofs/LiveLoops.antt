@@ -13,7 +13,8 @@ use Rattle.tp_state.specs.Order.{cells_agree, join_cells, joined_cells}
 use Rattle.tp_state.specs.Live.{IsInBlock, NamesLoop, LiveWordsAre}
 use Rattle.tp_state.proofs.JoinLemmas.{cell_at-joined}
 use Rattle.tp_state.proofs.StateOrder.{join_live}
-use Rattle.tp_state.proofs.LiveCells.{true_false, free_or_live, elsewhere, KeepsLive}
+use Rattle.tp_state.proofs.Passing.{true_false}
+use Rattle.tp_state.proofs.LiveCells.{free_or_live, elsewhere, KeepsLive}
 
 -- ---- a block among others
 
@@ -97,21 +98,21 @@ is_inside cells x known = by_place (cases_lt x (length cells))
     by_place (inl room) = room
     by_place (inr past) = absurd (known (get_or_past cells x cell.Undef past))
 
-live_room : (cells : List Cell) (x : ℕ) → is_free (cell_at cells x) ≡ false → x < length cells
+pub live_room : (cells : List Cell) (x : ℕ) → is_free (cell_at cells x) ≡ false → x < length cells
 live_room cells x live = is_inside cells x λ e. true_false (sym (ap is_free e) ∙ live)
 
 -- ---- membership
 
-kept_other : (around : ℕ → Bool) (l k : ℕ) → without (Some l) around k ≡ true → (around k ≡ true) × (k ≡ l → ⊥)
+pub kept_other : (around : ℕ → Bool) (l k : ℕ) → without (Some l) around k ≡ true → (around k ≡ true) × (k ≡ l → ⊥)
 kept_other around l k is =
     let parts = and_parts (around k) (not (k == l)) is in
     (parts.0, λ e. true_false (sym parts.1 ∙ not_from_true (k == l) ((Decides-eqb k l).1 e)))
 
-stays_other : (around : ℕ → Bool) (l k : ℕ) → around k ≡ true → (k ≡ l → ⊥) → without (Some l) around k ≡ true
+pub stays_other : (around : ℕ → Bool) (l k : ℕ) → around k ≡ true → (k ≡ l → ⊥) → without (Some l) around k ≡ true
 stays_other around l k is differ =
     and_from (around k) (not (k == l)) is (not_from_false (k == l) (false_from_ne_true (k == l) (λ e. differ ((Decides-eqb k l).0 e))))
 
-was_other : (around : ℕ → Bool) (l k : ℕ) → along_with (Some l) around k ≡ true → (k ≡ l → ⊥) → around k ≡ true
+pub was_other : (around : ℕ → Bool) (l k : ℕ) → along_with (Some l) around k ≡ true → (k ≡ l → ⊥) → around k ≡ true
 was_other around l k is differ = by_case (or_cases (around k) (k == l) is)
   where
     by_case : (around k ≡ true) ⊎ ((k == l) ≡ true) → around k ≡ true

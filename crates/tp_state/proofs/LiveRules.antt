@@ -3,7 +3,6 @@ use Rattle.std.proofs.Common.{◌≡◌, ℕ, ◌+◌, ◌-◌, ◌<◌, ◌≤�
 use Rattle.std.proofs.lemmas.Bool.{cases_lt}
 use Rattle.std.proofs.lemmas.Bool.Decides.{nat_tests, Decides-eqb}
 use Rattle.std.proofs.lemmas.List.{get_or_past}
-use Rattle.std.specs.Ordering.{int_eq}
 use Rattle.tp_decode.specs.declared.instr.Instr.{Instr}
 use Rattle.tp_decode.specs.declared.instr.Instr.TheVariants.{Jump, Ldlp, Ldnl, Ldc, Ldnlp, Ldl, Adc, Cj, Ajw, Eqc, Stl, Stnl, Rev, Lb, Bsub, Diff, Add, Input, Prod, Gt, Wsub, Output, Sub, Seterr, Csub0, Stopp, Rem, Lend, Div, BitNot, BitXor, Sb, Shr, Shl, Mint, BitAnd, MoveBytes, BitOr, Sum, Mul}
 use Rattle.tp_image.specs.declared.image.LoopRow.{LoopRow}
@@ -11,7 +10,6 @@ use Rattle.tp_image.specs.Image.{ImageValue}
 use Rattle.tp_flow.specs.declared.edge.Edge.{Edge}
 use Rattle.tp_flow.specs.declared.edge.Edge.TheVariants.{Next, Taken, Back, Out}
 use Rattle.tp_state.specs.declared.kind.Kind.{Kind}
-use Rattle.tp_state.specs.declared.kind.Kind.TheVariants as kind
 use Rattle.tp_state.specs.declared.cell.Cell.{Cell}
 use Rattle.tp_state.specs.declared.cell.Cell.TheVariants as cell
 use Rattle.tp_state.specs.declared.state.State.{State}
@@ -23,6 +21,7 @@ use Rattle.tp_state.specs.CellRules.{cell_at, cells_from, with_cells, is_free, a
 use Rattle.tp_state.specs.Rules.{rule, pop, pop_two, words_of_bytes, with_word, with_blurred, between, descheduled, message_in, moved, leaving}
 use Rattle.tp_state.proofs.CellLemmas.{length-with_cells}
 use Rattle.std.proofs.lemmas.List.{length-replicate}
+use Rattle.tp_state.proofs.KindLemmas.{written_free}
 use Rattle.tp_state.proofs.LiveCells.{free_or_live, live_out, KeepsLive, keeps_all, keeps_both, set_keeps, replicate_keeps, copies_keep, blurs_keep}
 
 -- ---- chains of tests
@@ -61,16 +60,6 @@ module _ (P : State → Type 0) where
 -- the live words of a state's successor
 abbrev Keeps : State → State → Type 0
 Keeps t u = KeepsLive t.cells u.cells
-
-written_free : (k : Kind) → is_free (written k) ≡ true
-written_free kind.Undef = refl
-written_free (kind.Int low high) = by_test (int_eq low high)
-  where
-    by_test : (b : Bool) → is_free (if b then cell.Known low else cell.Any) ≡ true
-    by_test true = refl
-    by_test false = refl
-written_free (kind.Ptr p q) = refl
-written_free (kind.BytePtr p q) = refl
 
 word_keeps : (x : ℕ) (k : Kind) (t : State) → is_free (cell_at t.cells x) ≡ true → Keeps t (with_word x k t)
 word_keeps x k t free = set_keeps t.cells x (written k) free (written_free k)

@@ -1,5 +1,5 @@
 -- The live control words after an instruction.
-use Rattle.std.proofs.Common.{◌≡◌, ℕ, ◌+◌, ◌<◌, ◌≤◌, ◌⊎◌, inl, inr, Bool, true, false, ◌&&◌, if◌then◌else◌, pos, ℤ, ◌-ℤ◌, List, length, slice_get, Option, Some, None, Result, Ok, Err, IfOk, zero, suc, ◌-◌, [], ◌∷◌, map, replicate, All, refl, sym, ap, ◌∙◌, subst, arith}
+use Rattle.std.proofs.Common.{◌≡◌, ℕ, ◌+◌, ◌<◌, ◌≤◌, ◌⊎◌, inl, inr, Bool, true, false, ◌&&◌, if◌then◌else◌, pos, ℤ, ◌-ℤ◌, List, length, slice_get, Option, Some, None, Result, Ok, IfOk, zero, suc, ◌-◌, [], ◌∷◌, map, replicate, All, refl, sym, ap, ◌∙◌, subst, arith}
 use Rattle.std.specs.Option.{option_and_then}
 use Rattle.std.proofs.lemmas.Bool.{cases_lt, and_parts}
 use Rattle.std.proofs.lemmas.List.Elements.{All-nil, All-cons, All-append}
@@ -20,37 +20,17 @@ use Rattle.tp_state.specs.declared.cell.Cell.{Cell}
 use Rattle.tp_state.specs.declared.cell.Cell.TheVariants as cell
 use Rattle.tp_state.specs.declared.state.State.{State}
 use Rattle.tp_state.specs.declared.fault.StateCode.TheVariants.{S5}
-use Rattle.tp_state.specs.Answer.{◌>>=◌, ◌>>◌, unless, found}
+use Rattle.tp_state.specs.Answer.{found}
 use Rattle.tp_state.specs.Conditions.{IsPlaced}
 use Rattle.tp_state.specs.Kinds.{known, number, pointer, points_at, is_exactly}
 use Rattle.tp_state.specs.CellRules.{cell_at, is_free}
 use Rattle.tp_state.specs.Rules.{rule, descheduled, row_ended_at, with_block}
 use Rattle.tp_state.specs.After.{after, entering, is_known}
 use Rattle.tp_state.specs.Live.{LiveWordsAre}
-use Rattle.tp_state.proofs.LiveCells.{true_false, KeepsLive}
+use Rattle.tp_state.proofs.Passing.{true_false, through, past, held, found_is, same_Ok}
+use Rattle.tp_state.proofs.LiveCells.{KeepsLive}
 use Rattle.tp_state.proofs.LiveRules.{Stays, rule_keeps, descheduled_keeps}
 use Rattle.tp_state.proofs.LiveLoops.{is_inside, live_kept, live_alike, live_left, live_entered}
-
--- ---- what a chain of tests that refused nothing passed through
-
-pub through : {A B E P : Type 0} (r : Result A E) (f : A → Result B E) (y : B) → (r >>= f) ≡ Ok y → ((x : A) → r ≡ Ok x → f x ≡ Ok y → P) → P
-through (Ok x) f y e go = go x refl e
-through (Err x) f y e go = cc
-
-pub past : {A B E P : Type 0} (r : Result A E) (q : Result B E) (y : B) → (r >> q) ≡ Ok y → (q ≡ Ok y → P) → P
-past (Ok x) q y e go = go e
-past (Err x) q y e go = cc
-
-pub held : {B E P : Type 0} (c : E) (b : Bool) (r : Result B E) (y : B) → (unless c b >> r) ≡ Ok y → (b ≡ true → r ≡ Ok y → P) → P
-held c true r y e go = go refl e
-held c false r y e go = cc
-
-pub found_is : {A E : Type 0} (c : E) (o : Option A) (x : A) → found c o ≡ Ok x → o ≡ Some x
-found_is c (Some y) x e = cc
-found_is c None x e = cc
-
-pub same_Ok : {A E : Type 0} (x y : A) → ◌≡◌ {A = Result A E} (Ok x) (Ok y) → x ≡ y
-same_Ok x y e = cc
 
 if_ok : {A E : Type 0} (P : A → Type 0) (r : Result A E) (x : A) → r ≡ Ok x → IfOk r P → P x
 if_ok P r x e h = subst (λ r. IfOk r P) e h

@@ -1,13 +1,15 @@
 -- What is known after an instruction on one of its edges: its own rule, and then entering.
-use Rattle.std.specs.Prelude.{ℕ, ◌+◌, Bool, false, ◌&&◌, pos, ℤ, List, slice_get, Option, Some, None, Result, Ok}
+use Rattle.std.specs.Prelude.{ℕ, ◌+◌, Bool, false, ◌&&◌, pos, ℤ, List, [], ◌∷◌, slice_get, Option, Some, None, Result, Ok}
 use Rattle.std.specs.Ordering.{int_eq}
 use Rattle.std.specs.Option.{option_and_then}
 use Rattle.tp_decode.specs.declared.instr.Instr.{Instr}
+use Rattle.tp_decode.specs.declared.instr.Instr.TheVariants.{Stopp}
 use Rattle.tp_image.specs.declared.image.LoopRow.{LoopRow}
 use Rattle.tp_image.specs.Image.{ImageValue}
 use Rattle.tp_flow.specs.declared.edge.Edge.{Edge}
+use Rattle.tp_flow.specs.declared.edge.Edge.TheVariants.{Next}
 use Rattle.tp_flow.specs.NestRanges.{ranges}
-use Rattle.tp_flow.specs.Edges.{target}
+use Rattle.tp_flow.specs.Edges.{edges, target}
 use Rattle.tp_flow.specs.LoopsAround.{entered_by}
 use Rattle.tp_state.specs.declared.cell.Cell.{Cell}
 use Rattle.tp_state.specs.declared.cell.Cell.TheVariants.{Known, Index, Count}
@@ -40,3 +42,8 @@ unfoldable pub after : ImageValue → (at next : ℕ) → Instr → Edge → Sta
 after image at next instr edge t = do
   t ← rule image at next instr edge t
   entering image.loops (entered_at image at next instr edge) t
+
+-- the edges that an instruction's rule is asked on: its own, and of stopp, which has none and is asked all the same, Next
+abbrev pub asked : Instr → List Edge
+asked Stopp = Next ∷ []
+asked instr = edges instr

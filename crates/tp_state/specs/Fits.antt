@@ -59,6 +59,10 @@ pub record AreBytes (s : Machine) : Type 0 where
   pub memory : (a byte : ℕ) → s.memory a ≡ Some byte → byte < 256
   pub packet : All (λ byte. byte < 256) s.to_come
 
+-- before a worker has its packet, all of it is still to come
+abbrev pub HasPacket : ImageValue → Machine → Type 0
+HasPacket image s = s.phase ≡ 0 → 4 * image.packet ≤ length s.to_come
+
 -- ---- loops
 
 -- the block of the loop of row l is live: its cells name the row, and index and count add up to the declared sum
@@ -80,6 +84,7 @@ pub record LoopsFit (rows : List LoopRow) (around : ℕ → Bool) (cells : List 
 
 -- Iptr is at an address, between instructions, and Wptr is the word that is known, with five words below it
 pub record StandsAt (image : ImageValue) (at x : ℕ) (s : Machine) : Type 0 where
+  pub running : s.stopped ≡ false
   pub iptr : s.iptr ≡ pos at
   pub oreg : s.oreg ≡ 0
   pub wptr : s.wptr ≡ word_address x
@@ -93,9 +98,10 @@ pub record FitsAmong (image : ImageValue) (around : ℕ → Bool) (at : ℕ) (t 
   pub registers : RegistersFit image t s
   pub words : WordsFit image.loops image.workspace t.cells s.memory
   pub bytes : AreBytes s
+  pub packet : HasPacket image s
   pub loops : LoopsFit image.loops around t.cells s.memory
 
--- The machine's state fits what is known at an address: Iptr, Wptr and the phase agree, registers, words and bytes fit, and
--- the live control words are those of the loops around the address.
+-- The machine's state fits what is known at an address: it is running, Iptr, Wptr and the phase agree, registers, words and
+-- bytes fit, the packet that it waits for is there, and the live control words are those of the loops around the address.
 abbrev pub Fits : ImageValue → (at : ℕ) → State → Machine → Type 0
 Fits image at t s = FitsAmong image (is_around (ranges image.loops) at) at t s

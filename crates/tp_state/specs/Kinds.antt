@@ -1,7 +1,7 @@
 -- What is known of a register, and of what is made of registers.
-use Rattle.std.specs.Prelude.{ℕ, ◌*◌, ◌==◌, Bool, false, ◌&&◌, nat_lt, if◌then◌else◌, ℤ, pos, negsuc, Result, Ok, Err}
+use Rattle.std.specs.Prelude.{ℕ, ◌*◌, ◌^◌, ◌<◌, ◌==◌, Bool, false, ◌&&◌, nat_lt, if◌then◌else◌, ℤ, pos, negsuc, Result, Ok, Err, FitsSigned}
 use Rattle.std.specs.Ordering.{int_eq}
-use Rattle.std.specs.Int.{int_min, int_max}
+use Rattle.std.specs.Int.{w32, int_min, int_max}
 use Rattle.tp_image.specs.Image.{ImageValue}
 use Rattle.tp_step.specs.Numbers.{least_integer, greatest_integer, overflows}
 use Rattle.tp_state.specs.declared.kind.Kind.{Kind}
@@ -27,6 +27,13 @@ is_exactly n kind = false
 abbrev pub points_at : ℕ → Kind → Bool
 points_at x (Ptr p q) = (p == x) && (q == x)
 points_at x kind = false
+
+-- the ends of a range are words
+abbrev pub HasWordEnds : Kind → Type 0
+HasWordEnds Undef = Unit {0}
+HasWordEnds (Int low high) = FitsSigned w32 low × FitsSigned w32 high
+HasWordEnds (Ptr p q) = (p < 2 ^ 32) × (q < 2 ^ 32)
+HasWordEnds (BytePtr p q) = (p < 2 ^ 32) × (q < 2 ^ 32)
 
 -- ---- what a rule asks of a register
 

@@ -5,9 +5,9 @@ pub mod CellRules
 pub mod Conditions
 pub mod Rules
 pub mod After
-pub mod Samples
 pub mod Live
 pub mod Fits
+pub mod GoesOn
 pub mod Order
 pub mod Entry
 pub mod StateCodes

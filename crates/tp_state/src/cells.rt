@@ -5,7 +5,7 @@ ghost use Rattle.tp_state.specs.CellRules.{cell_at, cells_from, with_cells, are_
 ghost use Rattle.tp_decode.specs.Words.{signed};
 ghost use Rattle.tp_state.specs.declared.cell.Cell.TheVariants.{Known};
 ghost use Rattle.tp_state.specs.Rules.{are_apart};
-ghost use Rattle.tp_state.specs.Order.{cell_below, joined_cells, TellsChange};
+ghost use Rattle.tp_state.specs.Order.{cell_below, join_cells, joined_cells, TellsChange};
 ghost use Rattle.tp_state.specs.Entry.{first_cells};
 
 use crate::cell::Cell;
@@ -61,6 +61,14 @@ impl Cells {
     {
         let cells = Vec::from_slice(alloc, &self.cells)?;
         Ok(Cells { cells })
+    }
+
+    /// It takes the other's value, of as many words.
+    pub(crate) fn set_to(&mut self, others: &Cells)
+        requires { length others.now ≡ length self.old }
+        ensures { self.new ≡ others.now }
+    {
+        self.cells.copy_from_slice(&others.cells);
     }
 
     /// What holds of both, word by word. It answers whether anything changed.
@@ -176,12 +184,24 @@ fn join_all(cells: &mut [Cell], others: &[Cell]) -> bool
 {
     let mut changed = false;
     for i in 0..cells.len() {
-        let joined = cells[i].join(others[i]);
-        if joined != cells[i] {
-            cells[i] = joined;
+        if join_cell(&mut cells[i], others[i]) {
             changed = true;
         }
     }
+    changed
+}
+
+/// What holds of both, of one word. It answers whether it changed. Most words are alike, so this is asked first.
+fn join_cell(cell: &mut Cell, other: Cell) -> bool
+    ensures value { cell.new ≡ join_cells cell.old other }
+    ensures changed { TellsChange result cell.old cell.new }
+{
+    if *cell == other {
+        return false;
+    }
+    let joined = cell.join(other);
+    let changed = joined != *cell;
+    *cell = joined;
     changed
 }
 

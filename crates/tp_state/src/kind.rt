@@ -2,7 +2,7 @@
 
 ghost use Rattle.std.specs.Prelude.{◌≡◌, ◌<◌, ◌^◌, IfOk};
 ghost use Rattle.tp_state.specs.Order.{kind_below, join_kinds};
-ghost use Rattle.tp_state.specs.Kinds.{known, number, pointer, one_word, byte_pointer, is_exactly, points_at};
+ghost use Rattle.tp_state.specs.Kinds.{known, number, pointer, one_word, byte_pointer, is_exactly, points_at, HasWordEnds};
 
 use crate::cell::Cell;
 use crate::fault::StateCode;
@@ -109,6 +109,18 @@ impl Kind {
         match self {
             Kind::Ptr(first, last) => first == x && last == x,
             _ => false,
+        }
+    }
+
+    /// A law: the ends of its range are words.
+    pub(crate) fn has_word_ends(self)
+        ensures { HasWordEnds self }
+    {
+        match self {
+            Kind::Undef => {}
+            Kind::Int(_low, _high) => {}
+            Kind::Ptr(_first, _last) => {}
+            Kind::BytePtr(_first, _last) => {}
         }
     }
 

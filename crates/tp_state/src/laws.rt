@@ -10,13 +10,9 @@ ghost use Rattle.tp_step.specs.Effects.{effect};
 ghost use Rattle.tp_state.specs.EdgesTaken.{KnowsItsHead, IsAlongAnEdge};
 
 pub mod fits;
+pub mod going;
 pub mod live;
-pub mod messages;
-pub mod numbers;
 pub mod order;
-pub mod refusals;
-pub mod registers;
-pub mod words;
 
 /// Control goes along edges. Where no rule of flow is broken at an instruction, and Iptr stands behind it, its effect
 /// leads to the target of one of its edges or stops; a lend's, where Areg is the distance back to the head of its loop.

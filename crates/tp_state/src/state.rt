@@ -7,6 +7,7 @@ ghost use Rattle.tp_state.specs.Order.{IsBelow, join, join_kinds, meeting, Tells
 ghost use Rattle.tp_state.specs.Entry.{entry};
 ghost use Rattle.tp_state.specs.Rules.{push, pop, pop_two, set_areg, give, no_registers, one_number, two_numbers, local, below_wptr, given_way, descheduled};
 ghost use Rattle.tp_state.specs.CellRules.{are_free};
+ghost use Rattle.tp_state.specs.Kinds.{HasWordEnds};
 
 use crate::cell::Cell;
 use crate::cells::Cells;
@@ -66,6 +67,30 @@ impl State {
             phase: self.phase,
             cells,
         })
+    }
+
+    /// It takes the other's value, of a workspace as large. It takes no memory.
+    pub fn set_to(&mut self, other: &State)
+        requires { length other.now.cells ≡ length self.old.cells }
+        ensures { self.new ≡ other.now }
+    {
+        self.wptr = other.wptr;
+        self.a = other.a;
+        self.b = other.b;
+        self.c = other.c;
+        self.phase = other.phase;
+        self.cells.set_to(&other.cells);
+    }
+
+    /// A law: the ends of its registers' ranges are words.
+    pub fn has_word_ends(&self)
+        ensures a { HasWordEnds self.now.a }
+        ensures b { HasWordEnds self.now.b }
+        ensures c { HasWordEnds self.now.c }
+    {
+        self.a.has_word_ends();
+        self.b.has_word_ends();
+        self.c.has_word_ends();
     }
 
     /// What holds of both states, where they may meet: the state itself takes it. It answers whether anything changed;

@@ -1,6 +1,6 @@
 //! Laws of what fits.
 
-ghost use Rattle.std.specs.Prelude.{ℕ, ◌<◌, List, All};
+ghost use Rattle.std.specs.Prelude.{ℕ, ◌*◌, ◌<◌, ◌≤◌, List, length, All};
 ghost use Rattle.tp_image.specs.Image.{ImageValue, InRange};
 ghost use Rattle.tp_flow.specs.NestRanges.{ranges};
 ghost use Rattle.tp_flow.specs.LoopsAround.{IsOutside};
@@ -16,8 +16,9 @@ pub fn what_fits_fits_above()
     ensures { (image : ImageValue) (at : ℕ) (t u : State) (s : Machine) → IsBelow t u → Fits image at t s → Fits image at u s }
 {}
 
-/// The start of a packet's run fits the first state at address 0, where no loop is around it.
+/// The start of a packet's run fits the first state at address 0, where the packet has its length and no loop is around
+/// the first instruction.
 pub fn start_fits_the_first_state()
-    ensures { (image : ImageValue) (packet : List ℕ) → InRange image → All (λ byte. byte < 256) packet →
-        IsOutside (ranges image.loops) 0 → Fits image 0 (entry image) (start image packet) }
+    ensures { (image : ImageValue) (packet : List ℕ) → InRange image → 4 * image.packet ≤ length packet →
+        All (λ byte. byte < 256) packet → IsOutside (ranges image.loops) 0 → Fits image 0 (entry image) (start image packet) }
 {}

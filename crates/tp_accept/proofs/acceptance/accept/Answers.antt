@@ -4,9 +4,9 @@ use Rattle.tp_image.specs.Faults.{first_fault}
 use Rattle.tp_accept.proofs.AnswerLemmas.{no_fault, refused_states}
 use Rattle.tp_accept.proofs.acceptance.accept.Goals as goal
 
-pub returns-in_err-_table-clause-refused : goal.returns-in_err-_table-clause-refused
-returns-in_err-_table-clause-refused c =
-    let p = err_from_is_err_and c.from_residual-in_err-_table.result c.from_residual-in_err-_table.ensures.1 in
+pub returns-in_err-table-clause-refused : goal.returns-in_err-table-clause-refused
+returns-in_err-table-clause-refused c =
+    let p = err_from_is_err_and c.from_residual-in_err-table.result c.from_residual-in_err-table.ensures.1 in
     let none : first_fault c.args.text.items ≡ None = no_fault c.args.text.items c.in_ok-image.image (search rules) in
     rw (p.1, p.2)
-    (refused_states c.args.text.items c.in_ok-image.image c.in_ok-listing.listing c.in_err-_table.field-0.0 none (search rules) (search rules) (search rules) (search rules))
+    (refused_states c.args.text.items c.in_ok-image.image c.in_ok-listing.listing c.in_err-table.field-0.0 none (search rules) (search rules) (search rules) (search rules))

@@ -1,18 +1,15 @@
-use Rattle.std.proofs.Common.{arith, rules, ◌≡◌, sym, ◌∙◌}
-use Rattle.tp_state.specs.CellRules.{cell_at}
-use Rattle.tp_state.proofs.JoinLemmas.{joins_one, joins_same, joins_all}
+use Rattle.std.proofs.Common.{arith}
+use Rattle.tp_state.proofs.JoinLemmas.{joins_one, joins_none_more, joins_all}
 use Rattle.tp_state.proofs.cells.join_all.Goals as goal
-use Rattle.tp_state.proofs.cells.join_all.Goals.{then-ne, else-ne}
+use Rattle.tp_state.proofs.cells.join_all.Goals.{then-join_cell, else-join_cell}
 
 pub loop-i-preserved : goal.loop-i-preserved
 loop-i-preserved c =
-    elim c.if-ne.branch [
-      | then-ne w ↦
-          let moves : c.join-joined.result ≡ cell_at c.loop-i.cells c.loop-i.i → ⊥ = search rules in
-          rw (w.cells-is, w.changed-is) (joins_one _ _ _ _ _ _ c.loop-i.invariant c.loop-i-test.true c.join-joined.ensures moves)
-      | else-ne w ↦
-          let stays : c.join-joined.result ≡ cell_at c.loop-i.cells c.loop-i.i = search rules in
-          rw (w.cells-is, w.changed-is) (joins_same _ _ _ _ _ c.loop-i.invariant (sym stays ∙ c.join-joined.ensures))
+    elim c.if-join_cell.branch [
+      | then-join_cell w ↦
+          rw w.changed-is (joins_one _ _ _ _ _ _ c.loop-i.invariant c.loop-i-test.true c.join_cell.ensures.value (c.join_cell.ensures.changed.moves w.if-join_cell.true))
+      | else-join_cell w ↦
+          rw w.changed-is (joins_none_more _ _ _ _ _ _ c.loop-i.invariant c.loop-i-test.true c.join_cell.ensures.value (c.join_cell.ensures.changed.stays w.if-join_cell.false))
     ]
 
 pub returns-clause-value : goal.returns-clause-value

@@ -1,0 +1,21 @@
+#!/bin/sh
+# How long check_states takes, beside check_flow of the same image in the same run: the increment, a straight code of 8,000
+# bytes, 4,000 conditional jumps, and codes made to keep the passes going: a loop that moves the words of its workspace on
+# by one place, the same in three others, and sixteen such loops one behind the other. Then the program's peak of memory.
+# Ends with status 1 where an image takes more than 8 seconds or the program more than 64 MiB.
+cd "$(dirname "$0")/../crates/tp_check_bench" && rt run >/dev/null || exit 1
+exec python3 - <<'PY'
+import re, resource, subprocess, sys
+
+MOST_MICROSECONDS = 8_000_000
+MOST_KIB = 64 * 1024
+
+told = subprocess.run(["out/tp_check_bench", "time"], stdout=subprocess.PIPE, text=True, check=True).stdout
+peak = resource.getrusage(resource.RUSAGE_CHILDREN).ru_maxrss
+print(told + f"peak {peak} KiB")
+slowest = max(int(n) for n in re.findall(r": (\d+) microseconds", told))
+if slowest > MOST_MICROSECONDS:
+    sys.exit("an image takes too long")
+if peak > MOST_KIB:
+    sys.exit("too much memory")
+PY

@@ -1,0 +1,42 @@
+//! The increment with each of its bytes set to each value: what is accepted runs within its budget.
+
+use crate::images::INCREMENT;
+use crate::runs::run_packet;
+use crate::texts::changed;
+use std::test::Fail;
+use tp_accept::accept;
+use tp_machine::Machine;
+
+#[test]
+fn runs_what_is_accepted(rt: HostRuntime) -> Result<(), Fail> {
+    let mut machine = Machine::new();
+    let mut accepted_count = 0u32;
+    let mut refused_count = 0u32;
+    for at in 0..INCREMENT.len() {
+        for byte in 0..=255u8 {
+            let text = changed(rt.alloc(), INCREMENT, at, &[byte])?;
+            let Ok(accepted) = accept(rt.alloc(), text) else {
+                refused_count = refused_count.saturating_add(1);
+                continue;
+            };
+            accepted_count = accepted_count.saturating_add(1);
+            let packet = vec![in rt.alloc(); 0u8; accepted.packet_bytes()]?;
+            let (answered, media) = run_packet(
+                rt.alloc(),
+                &mut machine,
+                &accepted,
+                packet.as_slice(),
+            )?;
+            let outcome = answered?;
+            assert!(rt;
+                outcome.steps <= accepted.budget(),
+                "byte {at} set to {byte}"
+            );
+            assert_eq!(rt; media.sink.bytes().len(), accepted.result_bytes());
+        }
+    }
+    // at each of the 32 places one value is the increment's own
+    assert!(rt; accepted_count >= 32);
+    assert_eq!(rt; accepted_count.saturating_add(refused_count), 8_192);
+    Ok(())
+}

@@ -1,0 +1,13 @@
+//! Texts that are accepted or refused, and runs of the accepted ones, worked out by hand. There is no code here but tests.
+#![tactic(auto)]
+
+#[cfg(test)]
+mod answers;
+#[cfg(test)]
+mod changed;
+#[cfg(test)]
+mod images;
+#[cfg(test)]
+mod runs;
+#[cfg(test)]
+mod texts;

@@ -1,0 +1,190 @@
+//! Tables and refusals of whole workers.
+
+ghost use Rattle.std.specs.Prelude.{◌<◌};
+
+use super::*;
+use std::process::Abort;
+use tp_decode::decode;
+use tp_flow::check_flow;
+use tp_image::read_image;
+use tp_state::{Cell, Kind, StateCode, StateFault};
+
+/// Adds one to its packet.
+const INCREMENT: [u8; 32] = *b"TPW1\
+    \x10\x00\x0C\x00\x08\x00\x01\x00\x01\x00\x00\x00\
+    \x10\x24\xF2\x54\x44\xF7\x70\x81\xD0\x10\x24\xF2\x44\xFB\x21\xF5";
+
+/// Adds the numbers from 0 to 9,999, in a loop from 15 to 21 with its block in words 10 and 11.
+const SUM_IN_A_LOOP: &[u8] = b"TPW1\
+    \x1E\x00\x10\x00\x08\x00\x01\x00\x01\x00\x01\x00\
+    \x0F\x00\x15\x00\x0A\x00\x10\x27\x00\x00\x00\x00\
+    \x10\x24\xF2\x54\x44\xF7\x40\xD1\x40\xD2\x22\x27\x21\x40\xD3\
+    \x71\x72\xF5\xD1\x12\x48\x22\xF1\x11\x24\xF2\x44\xFB\x21\xF5";
+
+/// Adds after a jump, when one operand alone is loaded.
+const READS_AFTER_JUMP: &[u8] = b"TPW1\
+    \x11\x00\x0C\x00\x08\x00\x01\x00\x01\x00\x00\x00\
+    \x10\x24\xF2\x54\x44\xF7\x00\x70\xF5\xD0\x10\x24\xF2\x44\xFB\x21\xF5";
+
+/// Asks for a packet of eight bytes, when it is one word.
+const LONG_PACKET: &[u8] = b"TPW1\
+    \x10\x00\x0C\x00\x08\x00\x01\x00\x01\x00\x00\x00\
+    \x10\x24\xF2\x54\x48\xF7\x70\x81\xD0\x10\x24\xF2\x44\xFB\x21\xF5";
+
+/// Sends its result twice.
+const SENDS_TWICE: &[u8] = b"TPW1\
+    \x12\x00\x0C\x00\x08\x00\x01\x00\x01\x00\x00\x00\
+    \x10\x24\xF2\x54\x44\xF7\x10\x24\xF2\x44\xFB\x10\x24\xF2\x44\xFB\x21\xF5";
+
+/// Loads from as many words on as its packet says.
+const WILD_SUBSCRIPT: &[u8] = b"TPW1\
+    \x12\x00\x14\x00\x08\x00\x01\x00\x01\x00\x00\x00\
+    \x10\x24\xF2\x54\x44\xF7\x70\x12\xFA\x30\xD0\x10\x24\xF2\x44\xFB\x21\xF5";
+
+/// The same, with the packet's number masked to 0 to 7.
+const MASKED_SUBSCRIPT: &[u8] = b"TPW1\
+    \x15\x00\x14\x00\x08\x00\x01\x00\x01\x00\x00\x00\
+    \x10\x24\xF2\x54\x44\xF7\x70\x47\x24\xF6\x12\xFA\x30\xD0\x10\x24\xF2\x44\xFB\x21\xF5";
+
+/// Loads a word that in has made undefined.
+const READS_BELOW: &[u8] = b"TPW1\
+    \x10\x00\x0C\x00\x08\x00\x01\x00\x01\x00\x00\x00\
+    \x10\x24\xF2\x54\x44\xF7\x60\x7F\xD0\x10\x24\xF2\x44\xFB\x21\xF5";
+
+/// Stores into the count of the loop that it is in.
+const STORES_THE_COUNT: &[u8] = b"TPW1\
+    \x1B\x00\x10\x00\x08\x00\x01\x00\x01\x00\x01\x00\
+    \x0C\x00\x12\x00\x0A\x00\x0A\x00\x00\x00\x00\x00\
+    \x10\x24\xF2\x54\x44\xF7\x40\xD1\x40\xD2\x4A\xD3\
+    \x71\x72\xF5\xD3\x12\x48\x22\xF1\x11\x24\xF2\x44\xFB\x21\xF5";
+
+/// Sends a word of its own by way of move, in version 1.
+const MOVES_IN_VERSION_1: &[u8] = b"TPW1\
+    \x13\x00\x10\x00\x08\x00\x01\x00\x01\x00\x00\x00\
+    \x10\x24\xF2\x54\x44\xF7\x60\x18\x10\x44\x24\xFA\x10\x24\xF2\x44\xFB\x21\xF5";
+
+/// Moves a word to its own place, in version 2.
+const MOVES_IN_PLACE: &[u8] = b"TPW2\
+    \x12\x00\x10\x00\x08\x00\x01\x00\x01\x00\x00\x00\x00\x00\
+    \x10\x24\xF2\x54\x44\xF7\x10\x10\x44\x24\xFA\x10\x24\xF2\x44\xFB\x21\xF5";
+
+/// Shifts its packet by as much as the packet says.
+const WILD_SHIFT: &[u8] = b"TPW1\
+    \x12\x00\x0C\x00\x08\x00\x01\x00\x01\x00\x00\x00\
+    \x10\x24\xF2\x54\x44\xF7\x70\x70\x24\xF1\xD0\x10\x24\xF2\x44\xFB\x21\xF5";
+
+/// Stores 1 or 2 in word 9, by two ways that meet at 13.
+const TWO_WAYS: &[u8] = b"TPW1\
+    \x16\x00\x0C\x00\x08\x00\x01\x00\x01\x00\x00\x00\
+    \x10\x24\xF2\x54\x44\xF7\x70\xA3\x41\xD1\x02\x42\xD1\x71\xD0\
+    \x10\x24\xF2\x44\xFB\x21\xF5";
+
+/// What the passes come to.
+fn verdict(rt: &(impl Abort + AllocGlobal), bytes: &[u8]) -> Result<Table, StateFault> {
+    let image = read_image(rt.alloc(), bytes).expect(rt, "an image");
+    let listing = decode(rt.alloc(), &image.code).expect(rt, "a listing");
+    let nest = check_flow(&image, &listing).expect(rt, "a nest");
+    check_states(rt.alloc(), &image, &listing, &nest)
+}
+
+/// The increment with another byte in its code.
+fn increment_with(at: usize, byte: u8) -> [u8; 32]
+    requires { at < 16 }
+{
+    let mut bytes = INCREMENT;
+    bytes[16 + at] = byte;
+    bytes
+}
+
+/// A refusal with its code and place.
+fn refused(code: StateCode, place: usize) -> Option<StateFault> {
+    Some(StateFault::Refused { code, place })
+}
+
+#[test]
+fn refuses_with_code_and_place(rt: HostRuntime) {
+    assert_eq!(rt;
+        verdict(&rt, READS_AFTER_JUMP).err(),
+        refused(StateCode::S1, 8)
+    );
+    assert_eq!(rt; verdict(&rt, LONG_PACKET).err(), refused(StateCode::S7, 5));
+    assert_eq!(rt; verdict(&rt, SENDS_TWICE).err(), refused(StateCode::S9, 15));
+    assert_eq!(rt;
+        verdict(&rt, WILD_SUBSCRIPT).err(),
+        refused(StateCode::S3, 8)
+    );
+    assert_eq!(rt; verdict(&rt, READS_BELOW).err(), refused(StateCode::S4, 6));
+    assert_eq!(rt;
+        verdict(&rt, STORES_THE_COUNT).err(),
+        refused(StateCode::S5, 15)
+    );
+    assert_eq!(rt;
+        verdict(&rt, MOVES_IN_VERSION_1).err(),
+        refused(StateCode::S11, 10)
+    );
+    assert_eq!(rt;
+        verdict(&rt, MOVES_IN_PLACE).err(),
+        refused(StateCode::S3, 9)
+    );
+    assert_eq!(rt; verdict(&rt, WILD_SHIFT).err(), refused(StateCode::S10, 8));
+}
+
+#[test]
+fn refuses_changes_of_one_byte(rt: HostRuntime) {
+    assert_eq!(rt;
+        verdict(&rt, &increment_with(0, 0xB8)).err(),
+        refused(StateCode::S6, 0)
+    );
+    assert_eq!(rt;
+        verdict(&rt, &increment_with(0, 0x40)).err(),
+        refused(StateCode::S2, 5)
+    );
+    assert_eq!(rt;
+        verdict(&rt, &increment_with(3, 0x53)).err(),
+        refused(StateCode::S8, 5)
+    );
+}
+
+#[test]
+fn finds_tables(rt: HostRuntime) {
+    assert!(rt; verdict(&rt, &INCREMENT).is_ok());
+    assert!(rt; verdict(&rt, MASKED_SUBSCRIPT).is_ok());
+    let table = verdict(&rt, TWO_WAYS).expect(&rt, "a table");
+    let meeting = table.at(13).expect(&rt, "a state");
+    assert_eq!(rt; meeting.cells.get(9), Cell::Any);
+    assert!(rt; table.at(14).is_some());
+    assert!(rt; table.at(1).is_some() && table.at(2).is_none() && table.at(22).is_none());
+}
+
+#[test]
+fn knows_what_a_loop_leaves(rt: HostRuntime) {
+    let table = verdict(&rt, SUM_IN_A_LOOP).expect(&rt, "a table");
+    let head = table.at(15).expect(&rt, "a state at the head");
+    assert_eq!(rt; (head.wptr, head.phase, head.a), (8, 1, Kind::Undef));
+    assert_eq!(rt;
+        (head.cells.get(2), head.cells.get(3)),
+        (Cell::Known(0), Cell::Undef)
+    );
+    assert_eq!(rt;
+        (head.cells.get(8), head.cells.get(9)),
+        (Cell::Any, Cell::Any)
+    );
+    assert_eq!(rt;
+        (head.cells.get(10), head.cells.get(11)),
+        (Cell::Index(0), Cell::Count(0))
+    );
+    let sum = table.at(17).expect(&rt, "a state before the sum");
+    assert_eq!(rt;
+        (sum.a, sum.b),
+        (Kind::Int(0, 9999), Kind::Int(i32::MIN, i32::MAX))
+    );
+    let lend = table.at(21).expect(&rt, "a state before the lend");
+    assert_eq!(rt; (lend.a, lend.b), (Kind::Int(8, 8), Kind::Ptr(10, 10)));
+    let behind = table.at(23).expect(&rt, "a state behind the loop");
+    assert_eq!(rt;
+        (behind.cells.get(10), behind.cells.get(11)),
+        (Cell::Undef, Cell::Undef)
+    );
+    let end = table.at(28).expect(&rt, "a state at the end");
+    assert_eq!(rt; (end.phase, end.cells.get(9)), (2, Cell::Any));
+}

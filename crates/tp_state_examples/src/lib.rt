@@ -1,0 +1,17 @@
+//! What is known after an instruction, computed on the rules: some 350 cases that were worked out by hand from the
+//! instruction table and the rules of the verifier, never by a program. Nothing stands on this crate.
+//!
+//! | instructions | cases |
+//! |---|---|
+//! | adc, eqc, not, mint, add, sum, sub, diff, prod, mul, div, rem, and, or, xor, shl, shr, gt, csub0 | [`numbers`] |
+//! | ldc, ldlp, ldnlp, cj, ajw, seterr, stopp, rev, bsub, wsub | [`registers`] |
+//! | ldl, ldnl, stl, stnl, lb, sb, move | [`words`] |
+//! | in, out, j and lend, and the loops that edges enter and leave | [`messages`] |
+//! | small codes, at the instruction that is refused | [`refusals`] |
+#![tactic(auto)]
+
+pub mod messages;
+pub mod numbers;
+pub mod refusals;
+pub mod registers;
+pub mod words;
