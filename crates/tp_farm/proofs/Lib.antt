@@ -9,3 +9,4 @@ pub mod Origins
 pub mod Beginning
 pub mod Settling
 pub mod Together
+pub mod Settled

@@ -1,7 +1,9 @@
 //! Batches.
 
-ghost use Rattle.std.specs.Prelude.{◌≡◌, ◌==◌, ◌<◌, not, None, Some, Err, map, position, replicate, IfSome, IfOk, IfErr, OnOk, length, vec_len};
+ghost use Rattle.std.specs.Prelude.{◌≡◌, ◌==◌, ◌<◌, not, None, Some, Err, All, map, position, replicate, IfSome, IfOk, IfErr, OnOk, length, vec_len};
 ghost use Rattle.std.specs.List.{AllZip};
+ghost use Rattle.tp_board.specs.Boards.{IsSeatOf, views_of};
+ghost use Rattle.tp_board.specs.Ledgers.{Balances};
 ghost use Rattle.tp_collect.specs.Collecting.{vacant};
 ghost use Rattle.tp_farm.specs.Jobs.{batch_of};
 ghost use Rattle.tp_farm.specs.Stages.{of_links};
@@ -20,7 +22,7 @@ use std::alloc::{AllocError, Global};
 use std::snapshot::Snapshot;
 use std::sync::Wait;
 use std::thread::Threads;
-use tp_board::{Board, BoardSource, MAX_MEMBERS, MAX_PACKETS, Packet, Seat};
+use tp_board::{Board, BoardSource, Ledger, MAX_MEMBERS, MAX_PACKETS, Packet, Seat};
 use tp_collect::{Collected, Collector};
 use tp_link::{LinkDevice, Links};
 
@@ -76,6 +78,18 @@ impl<D: Drop> Room<D> {
     }
 }
 
+/// Closes a board whose seats are all here.
+fn close_board(board: Board, seats: Vec<Seat>) -> Ledger
+    requires own { All (IsSeatOf board) seats.items }
+    requires all { length seats.items ≡ board.members }
+    ensures { Balances board.packets (views_of seats.items) result }
+{
+    match board.close(seats) {
+        Ok(ledger) => ledger,
+        Err(_) => unreachable!(),
+    }
+}
+
 /// Makes one batch of what the members give back: the board is closed, which accounts for each number once, and all that
 /// was filed is gathered. The first fault of a member is the answer.
 fn settle<D: LinkDevice, G: Gate>(
@@ -97,9 +111,7 @@ fn settle<D: LinkDevice, G: Gate>(
     ensures err { IfErr result (EndsWithout (batch_of job.now) job.now.image.now.budget) }
 {
     take_seats(job, returned, &mut room.seats, &mut room.kept)?;
-    if board.close(room.seats).is_err() {
-        unreachable!()
-    }
+    let _ledger = close_board(board, room.seats);
     gather_all(&mut collector, room.kept, &mut room.links);
     Ok(Batch {
         collected: collector.finish(),

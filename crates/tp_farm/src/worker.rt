@@ -26,6 +26,7 @@ pub(crate) struct Returned<H, F, D> {
 pub(crate) type Back<D> = Returned<Seat, Filed, D>;
 
 /// What all members work with.
+#[derive(Drop)]
 pub(crate) struct Shop<'j, G> {
     pub(crate) job: &'j Job<'j>,
     pub(crate) gate: &'j G,
