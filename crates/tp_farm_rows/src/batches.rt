@@ -1,0 +1,193 @@
+//! Batches to run, and what they come to.
+
+use std::alloc::{AllocError, Global};
+use std::sync::Wait;
+use std::test::Fail;
+use std::thread::Threads;
+use tp_accept::accept;
+use tp_board::Packet;
+use tp_collect::{Collected, Done, Entry, LostCause};
+use tp_farm::{Gate, Job, run_batch};
+use tp_link::{DeviceFault, FaultyWire, Link, LinkDevice, LinkFault, Links, Medium, Wire};
+
+/// The number of the batches here.
+pub const BATCH: u64 = 7;
+
+/// What became of a packet, its result as one word.
+#[derive(Clone, Copy, Debug, PartialEq, Eq)]
+pub enum Told {
+    Done(u32),
+    Lost(Link, DeviceFault),
+    Stopped,
+}
+
+fn word(bytes: &[u8]) -> u32 {
+    match bytes {
+        [a, b, c, d] => u32::from_le_bytes([*a, *b, *c, *d]),
+        _ => 0,
+    }
+}
+
+pub fn of_entry(entry: &Entry) -> Told {
+    match entry {
+        Entry::Done(done) => Told::Done(word(done.result.as_slice())),
+        Entry::Lost(LostCause::Link(LinkFault { link, code })) => Told::Lost(*link, *code),
+        Entry::Lost(LostCause::Stopped) => Told::Stopped,
+    }
+}
+
+pub fn all_told(alloc: Global, collected: &Collected) -> Result<Vec<Told>, AllocError> {
+    let mut all = Vec::new(alloc);
+    for entry in collected.entries.iter() {
+        all.push(of_entry(entry))?;
+    }
+    Ok(all)
+}
+
+/// A packet of each of these words.
+pub fn packets(alloc: Global, words: &[u32]) -> Result<Vec<Packet>, Fail> {
+    let mut all = Vec::new(alloc);
+    for word in words {
+        let mut packet = Packet::new();
+        packet.try_extend_from_slice(&word.to_le_bytes())?;
+        all.push(packet)?;
+    }
+    Ok(all)
+}
+
+/// So many words in a row, from 0.
+pub fn count_up(alloc: Global, count: u32) -> Result<Vec<u32>, AllocError> {
+    let mut words = Vec::new(alloc);
+    for word in 0..count {
+        words.push(word)?;
+    }
+    Ok(words)
+}
+
+/// What becomes of packets of one word each, when an image's worker runs on them.
+pub fn run_on<R: Threads + Wait + Sync, D: LinkDevice + Send, G: Gate>(
+    rt: &R,
+    alloc: Global,
+    image: &[u8],
+    words: &[u32],
+    links: Vec<Links<D>>,
+    gate: &G,
+) -> Result<Collected, Fail> {
+    let image = accept(alloc, Vec::from_slice(alloc, image)?)?;
+    let packets = packets(alloc, words)?;
+    let job = Job {
+        batch: BATCH,
+        image: &image,
+        packets: &packets,
+    };
+    let batch = run_batch(rt, alloc, &job, links, gate)?;
+    Ok(batch.collected)
+}
+
+/// The media of one member's devices.
+#[derive(Drop)]
+pub struct Media {
+    pub source: Medium,
+    pub sink: Medium,
+    pub trace: Medium,
+}
+
+impl Media {
+    /// Each with room for 256 bytes.
+    pub fn new(alloc: Global) -> Result<Media, AllocError> {
+        Media::with_rooms(alloc, [256; 3])
+    }
+
+    /// With rooms for so many bytes in source, sink and trace.
+    pub fn with_rooms(alloc: Global, rooms: [usize; 3]) -> Result<Media, AllocError> {
+        Ok(Media {
+            source: Medium::new(alloc, rooms[0])?,
+            sink: Medium::new(alloc, rooms[1])?,
+            trace: Medium::new(alloc, rooms[2])?,
+        })
+    }
+
+    /// The media of so many members.
+    pub fn of_members(alloc: Global, members: usize) -> Result<Vec<Media>, AllocError> {
+        let mut all = Vec::new(alloc);
+        for _ in 0..members {
+            all.push(Media::new(alloc)?)?;
+        }
+        Ok(all)
+    }
+
+    /// Wires to these media.
+    pub fn wires(&mut self) -> Links<Wire<'_>> {
+        Links {
+            source: Wire::new(&mut self.source),
+            sink: Wire::new(&mut self.sink),
+            trace: Wire::new(&mut self.trace),
+        }
+    }
+
+    /// Wires that fail in their calls of these numbers, in source, sink and trace.
+    pub fn failing(&mut self, calls: [u64; 3]) -> Links<FaultyWire<'_>> {
+        Links {
+            source: FaultyWire::new(&mut self.source, calls[0]),
+            sink: FaultyWire::new(&mut self.sink, calls[1]),
+            trace: FaultyWire::new(&mut self.trace, calls[2]),
+        }
+    }
+
+    /// All three devices have ended.
+    pub fn ended(&self) -> bool {
+        self.source.ended() && self.sink.ended() && self.trace.ended()
+    }
+}
+
+/// Boxes of wires that borrow the media, a member for each.
+pub fn boxed(alloc: Global, media: &mut [Media]) -> Result<Vec<Links<Box<Wire<'_>>>>, AllocError> {
+    let mut all = Vec::new(alloc);
+    for one in media.iter_mut() {
+        let Links {
+            source,
+            sink,
+            trace,
+        } = one.wires();
+        all.push(Links {
+            source: Box::new(alloc, source)?,
+            sink: Box::new(alloc, sink)?,
+            trace: Box::new(alloc, trace)?,
+        })?;
+    }
+    Ok(all)
+}
+
+/// A list of one.
+pub fn alone<T: Drop>(alloc: Global, one: T) -> Result<Vec<T>, AllocError> {
+    let mut all = Vec::new(alloc);
+    all.push(one)?;
+    Ok(all)
+}
+
+fn same_result(left: &Done, right: &Done) -> bool {
+    left.batch == right.batch
+        && left.packet == right.packet
+        && left.result.as_slice() == right.result.as_slice()
+        && left.error == right.error
+        && left.steps == right.steps
+        && left.trace.as_slice() == right.trace.as_slice()
+}
+
+fn same_entry(left: &Entry, right: &Entry) -> bool {
+    match (left, right) {
+        (Entry::Done(left), Entry::Done(right)) => same_result(left, right),
+        (Entry::Lost(left), Entry::Lost(right)) => left == right,
+        _ => false,
+    }
+}
+
+/// Two batches have equal entries, each field of them.
+pub fn same(left: &Collected, right: &Collected) -> bool {
+    left.entries.len() == right.entries.len()
+        && left
+            .entries
+            .iter()
+            .zip(right.entries.iter())
+            .all(|(left, right)| same_entry(left, right))
+}

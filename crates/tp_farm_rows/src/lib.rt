@@ -1,0 +1,18 @@
+//! Batches that were worked out by hand: packets, devices that fail or are closed, gates, and what becomes of each
+//! packet. There is no code here but tests.
+#![tactic(auto)]
+
+#[cfg(test)]
+mod batches;
+#[cfg(test)]
+mod failing;
+#[cfg(test)]
+mod images;
+#[cfg(test)]
+mod members;
+#[cfg(test)]
+mod refusing;
+#[cfg(test)]
+mod stopping;
+#[cfg(test)]
+mod tracing;
