@@ -114,7 +114,7 @@ module _ (image : ImageValue) (budget : ℕ) (a : IsAcceptable image budget) whe
       turns : has_edge cut.instr g.edge ≡ true → g.edge ≡ Back → HasTurns image.loops at (turns_of s)
       turns has back row row_in ends =
           let lend : cut.instr ≡ Lend = back_lends cut.instr (ap (has_edge cut.instr) (sym back) ∙ has) in
-          more_turns (turns_in s.memory row) (sym back ∙ g.by_turns lend row row_in ends)
+          more_turns (turns_in s.memory row) (sym back ∙ g.follows lend row row_in ends)
 
   -- from a state that fits the table's
   ends_from : (n at : ℕ) (t : State) (s : Machine) → is_start a.cuts at ≡ true → a.table at ≡ Some t → Fits image at t s → measure image.loops a.cuts at 0 (turns_of s) ≤ n → Ends image (measure image.loops a.cuts at 0 (turns_of s)) s
