@@ -1,8 +1,9 @@
 //! How many images a second are accepted, beside decoding the same code: the increment, straight codes without a branch and
 //! with 4,000 of them, and a code that makes the passes go on for long.
 //!
-//! With no argument each image is accepted once, the last one in a small form, and its code bytes and budget are printed,
-//! which are the same at every run. With the argument `time` each is accepted many times, and the rates are printed.
+//! With no argument each image is accepted once, the last one in a small form, and its code bytes, its budget and the passes
+//! over its states are printed, which are the same at every run. With the argument `time` each is accepted many times, and the
+//! rates are printed.
 #![tactic(auto)]
 
 mod texts;
@@ -13,7 +14,9 @@ use std::env;
 use std::rt::Runtime;
 use std::time::{Duration, Instant};
 use tp_accept::accept;
+use tp_check::{Effort, check_states_counting};
 use tp_decode::decode;
+use tp_flow::check_flow;
 use tp_image::{Image, read_image};
 
 /// How far a word is moved on in the last image, once and timed.
@@ -47,7 +50,7 @@ fn main(rt: HostRuntime) -> Result<()> {
     )
 }
 
-/// Accepts an image, and prints its code bytes and its budget, or the rate of many rounds.
+/// Accepts an image, and prints its code bytes, its budget and its passes, or the rate of many rounds.
 fn told<R: Runtime<A = Global>>(
     rt: &R,
     name: &str,
@@ -57,19 +60,33 @@ fn told<R: Runtime<A = Global>>(
 ) -> Result<()> {
     let image = read_image(rt.alloc(), text.as_slice())?;
     let bytes = image.code.len();
+    let passes = passes_over(rt.alloc(), &image)?;
     if !timed {
         let budget = accept_rounds(rt, text, 1)?.counted;
-        println!(rt; "{name}: {bytes} code bytes, budget {budget}")?;
+        println!(rt; "{name}: {bytes} code bytes, budget {budget}, {passes} passes")?;
         return Ok(());
     }
     let decoding = nanos_a_round(decode_rounds(rt, &image, rounds)?, rounds);
     let acceptance = nanos_a_round(accept_rounds(rt, text, rounds)?, rounds);
-    let rate = 1_000_000_000 / acceptance.max(1);
+    let thousandths = 1_000_000_000_000 / acceptance.max(1);
+    let (rate, part) = (thousandths / 1000, thousandths % 1000);
     let times = acceptance / decoding.max(1);
+    let each = times / passes.max(1);
     println!(rt;
-        "{name}: {bytes} code bytes, {acceptance} ns, {rate} a second, {times} times as long as decoding ({decoding} ns)"
+        "{name}: {bytes} code bytes, {passes} passes, {acceptance} ns, {rate}.{part:03} a second, {times} times as long as decoding ({decoding} ns), {each} times a pass"
     )?;
     Ok(())
+}
+
+/// How many passes are made over the states of an image. `accept` does not tell, so they are made once more.
+fn passes_over(alloc: Global, image: &Image) -> Result<u64> {
+    let listing = decode(alloc, &image.code).map_err(|fault| anyhow!("{fault}"))?;
+    let nest = check_flow(image, &listing).map_err(|fault| anyhow!("{fault}"))?;
+    let mut effort = Effort::default();
+    check_states_counting(alloc, image, &listing, &nest, &mut effort).map_err(|fault| anyhow!(
+        "{fault}"
+    ))?;
+    Ok(effort.passes)
 }
 
 fn nanos_a_round(run: Run, rounds: u32) -> u64 {

@@ -4,7 +4,7 @@ use anyhow::Result;
 use std::alloc::Global;
 
 /// Adds one to its packet.
-pub const INCREMENT: &[u8] = b"TPW1\x10\0\x0C\0\x08\0\x01\0\x01\0\0\0\
+pub(crate) const INCREMENT: &[u8] = b"TPW1\x10\0\x0C\0\x08\0\x01\0\x01\0\0\0\
     \x10\x24\xF2\x54\x44\xF7\x70\x81\xD0\x10\x24\xF2\x44\xFB\x21\xF5";
 
 /// ldlp 0, mint, ldnlp 4, ldc 4, in
@@ -28,12 +28,12 @@ fn repeated(alloc: Global, piece: &[u8], times: u16, code_bytes: u16) -> Result<
 }
 
 /// A straight code of 1,801 bytes: ldl 0, stl 0, 894 times.
-pub fn straight(alloc: Global) -> Result<Vec<u8>> {
+pub(crate) fn straight(alloc: Global) -> Result<Vec<u8>> {
     repeated(alloc, b"\x70\xD0", 894, 1_801)
 }
 
 /// 8,013 bytes, with a cj that goes on where it stands, 4,000 times.
-pub fn jumps(alloc: Global) -> Result<Vec<u8>> {
+pub(crate) fn jumps(alloc: Global) -> Result<Vec<u8>> {
     repeated(alloc, b"\x40\xA0", 4_000, 8_013)
 }
 
@@ -60,7 +60,7 @@ fn with_local(code: &mut Vec<u8>, function: u8, local: u16) -> Result<()> {
 
 /// A loop of two turns that moves each of its first locals to the next one, the last first, and is filled up by `ldc 0`,
 /// `cj 0` to 8,192 bytes. What is known of the packet in local 0 comes one local further at each pass.
-pub fn moved_on(alloc: Global, way: u16) -> Result<Vec<u8>> {
+pub(crate) fn moved_on(alloc: Global, way: u16) -> Result<Vec<u8>> {
     let body = ALL_BYTES - BEFORE - END_BYTES - SENDS.len() as u16;
     let next = BEFORE + body + END_BYTES;
     let mut text = Vec::from_slice(alloc, b"TPW2")?;

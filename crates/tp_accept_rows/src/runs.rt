@@ -10,15 +10,15 @@ use tp_machine::{Machine, Outcome, RunFault};
 
 /// The media of three wires.
 #[derive(Drop)]
-pub struct Media {
-    pub source: Medium,
-    pub sink: Medium,
-    pub trace: Medium,
+pub(crate) struct Media {
+    pub(crate) source: Medium,
+    pub(crate) sink: Medium,
+    pub(crate) trace: Medium,
 }
 
 impl Media {
     /// Each with room for 256 bytes.
-    pub fn new(alloc: Global) -> Result<Media, AllocError> {
+    pub(crate) fn new(alloc: Global) -> Result<Media, AllocError> {
         Ok(Media {
             source: Medium::new(alloc, 256)?,
             sink: Medium::new(alloc, 256)?,
@@ -28,7 +28,7 @@ impl Media {
 }
 
 /// What a run of a packet answers, and what the media hold after it.
-pub fn run_packet(
+pub(crate) fn run_packet(
     alloc: Global,
     machine: &mut Machine,
     accepted: &Accepted,

@@ -8,7 +8,7 @@ use tp_accept::accept;
 const HEADER_BYTES: usize = 16;
 
 /// A text with bytes at a place replaced by others.
-pub fn changed(alloc: Global, text: &[u8], at: usize, bytes: &[u8]) -> Result<Vec<u8>, AllocError> {
+pub(crate) fn changed(alloc: Global, text: &[u8], at: usize, bytes: &[u8]) -> Result<Vec<u8>, AllocError> {
     let mut copy = Vec::from_slice(alloc, text)?;
     for (i, byte) in bytes.iter().enumerate() {
         if let Some(place) = copy.get_mut(at.saturating_add(i)) {
@@ -19,7 +19,7 @@ pub fn changed(alloc: Global, text: &[u8], at: usize, bytes: &[u8]) -> Result<Ve
 }
 
 /// The increment's header, with the length of a short code, and the code.
-pub fn with_code(alloc: Global, code: &[u8]) -> Result<Vec<u8>, AllocError> {
+pub(crate) fn with_code(alloc: Global, code: &[u8]) -> Result<Vec<u8>, AllocError> {
     let header = INCREMENT.get(..HEADER_BYTES).unwrap_or(&[]);
     let length = u8::try_from(code.len()).unwrap_or(0);
     let mut text = changed(alloc, header, 4, &[length])?;
@@ -28,7 +28,7 @@ pub fn with_code(alloc: Global, code: &[u8]) -> Result<Vec<u8>, AllocError> {
 }
 
 /// A code that receives a packet, then has a number of times `ldc 0`, `cj 0`, and sends its packet, behind a header.
-pub fn many_jumps(alloc: Global, header: &[u8], times: usize) -> Result<Vec<u8>, AllocError> {
+pub(crate) fn many_jumps(alloc: Global, header: &[u8], times: usize) -> Result<Vec<u8>, AllocError> {
     let mut text = Vec::from_slice(alloc, header)?;
     text.extend_from_slice(b"\x10\x24\xF2\x54\x44\xF7")?;
     for _ in 0..times {
@@ -39,13 +39,13 @@ pub fn many_jumps(alloc: Global, header: &[u8], times: usize) -> Result<Vec<u8>,
 }
 
 /// The header of 900 jumps: 1,813 code bytes.
-pub const NINE_HUNDRED: &[u8] = b"TPW1\x15\x07\x0C\0\x08\0\x01\0\x01\0\0\0";
+pub(crate) const NINE_HUNDRED: &[u8] = b"TPW1\x15\x07\x0C\0\x08\0\x01\0\x01\0\0\0";
 
 /// The header of 4,000 jumps: 8,013 code bytes.
-pub const FOUR_THOUSAND: &[u8] = b"TPW2\x4D\x1F\x0C\0\x08\0\x01\0\x01\0\0\0\0\0";
+pub(crate) const FOUR_THOUSAND: &[u8] = b"TPW2\x4D\x1F\x0C\0\x08\0\x01\0\x01\0\0\0\0\0";
 
 /// What is answered to a text: YES with the code bytes and the budget, or NO with the refusal as it prints.
-pub fn answer(alloc: Global, text: &[u8]) -> Result<String, AllocError> {
+pub(crate) fn answer(alloc: Global, text: &[u8]) -> Result<String, AllocError> {
     match accept(alloc, Vec::from_slice(alloc, text)?) {
         Ok(accepted) => {
             let bytes = accepted.code().len();

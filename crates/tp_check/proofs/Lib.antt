@@ -7,6 +7,7 @@ mod TableSteps
 mod Places
 mod Entering
 mod Taking
+mod Counting
 mod Moving
 mod Passing
 mod Verdict

@@ -1,10 +1,10 @@
 -- One pass, instruction by instruction.
-use Rattle.std.proofs.Common.{◌≡◌, ◌≢◌, ℕ, suc, ◌+◌, ◌<◌, ◌≤◌, ◌⊎◌, inl, inr, Bool, true, false, IsTrue, List, [], ◌∷◌, length, slice_get, Option, Some, None, Ok, Err, refl, sym, ap, ◌∙◌, subst, rules, arith, drop, add-one, drop-cons, get_or}
+use Rattle.std.proofs.Common.{◌≡◌, ◌≢◌, ℕ, suc, ◌+◌, ◌-◌, ◌^◌, ◌<◌, ◌≤◌, ◌⊎◌, inl, inr, Bool, true, false, IsTrue, List, [], ◌∷◌, length, slice_get, Option, Some, None, Ok, Err, refl, sym, ap, ◌∙◌, subst, rules, arith, drop, add-one, drop-cons, get_or, length-append, if◌then◌else◌}
 use Rattle.std.specs.Prelude.{All}
 use Rattle.std.specs.List.{flat_map}
 use Rattle.std.proofs.lemmas.Bool.{cases_eq}
 use Rattle.std.proofs.lemmas.Option.{same_Some, slice_get_within, get_or_from_slice_get}
-use Rattle.std.proofs.lemmas.List.{drop_all}
+use Rattle.std.proofs.lemmas.List.{drop_all, length-map}
 use Rattle.std.proofs.lemmas.List.Concat.{flat_map-cons}
 use Rattle.std.specs.Option.{is_some}
 use Rattle.tp_decode.specs.declared.instr.Instr.{Instr}
@@ -22,9 +22,11 @@ use Rattle.tp_state.specs.declared.fault.StateFault.TheVariants.{Refused, Memory
 use Rattle.tp_state.specs.Answer.{◌>>=◌}
 use Rattle.tp_check.specs.declared.passes.Passes.{Passes}
 use Rattle.tp_check.specs.Tables.{Table, table_of, asked}
-use Rattle.tp_check.specs.Passes.{along, edges_of, pass}
-use Rattle.tp_check.specs.UnderWay.{IsUnderWay, MayBeTaken, IsTaken, AreTaken, Gives, Moves, has_changed}
+use Rattle.tp_check.specs.Passes.{along, edges_of, edges_in, pass}
+use Rattle.tp_check.specs.Counts.{known}
+use Rattle.tp_check.specs.UnderWay.{IsUnderWay, MayBeTaken, IsTaken, AreTaken, Gives, Moves, has_changed, Adds, AddsAtMost, Leaves, HasCounted}
 use Rattle.tp_check.proofs.Places.{StandsAt, number_of}
+use Rattle.tp_check.proofs.Counting.{counts_step}
 use Rattle.tp_check.proofs.Moving.{along_append, moves_none, moves_more, moves_no_more}
 
 -- ---- an instruction of the code
@@ -47,9 +49,21 @@ pub record Passed (image : ImageValue) (cuts : List Cut) (first now : Passes) (m
   pub taken : AreTaken image cuts now
   pub moves : Moves image moved first now
   pub rest : moved ≡ false → (k : ℕ) (p : Placed) → k < i → slice_get (placed_from 0 cuts) k ≡ Some p → has_changed now p.at ≡ false
+  pub counts : HasCounted cuts now
+  pub most : now.outcomes + length (flat_map edges_of (drop i (placed_from 0 cuts))) ≤ first.outcomes + length (edges_in cuts)
+  pub fits : first.outcomes ≤ 2 ^ 64 - 1 → now.outcomes ≤ 2 ^ 64 - 1
 
-pub passed_none : (image : ImageValue) (cuts : List Cut) (first : Passes) → IsUnderWay image first → AreTaken image cuts first → Passed image cuts first first false 0
-passed_none image cuts first way taken = record { way = way; gives = refl; taken = taken; moves = moves_none image first; rest = λ e k p lt. absurd (omega (arith, lt)) }
+pub passed_none : (image : ImageValue) (cuts : List Cut) (first : Passes) → IsUnderWay image first → AreTaken image cuts first → HasCounted cuts first → Passed image cuts first first false 0
+passed_none image cuts first way taken counts = record {
+  way = way;
+  gives = refl;
+  taken = taken;
+  moves = moves_none image first;
+  rest = λ e k p lt. absurd (omega (arith, lt));
+  counts = counts;
+  most = omega arith;
+  fits = λ le. le;
+}
 
 -- what an instruction's turn has left
 pub record TakenOnce (image : ImageValue) (p : Placed) (now new : Passes) (moved : Bool) : Type 0 where
@@ -59,6 +73,9 @@ pub record TakenOnce (image : ImageValue) (p : Placed) (now new : Passes) (moved
   pub taken : All (IsTaken image new p.at p.next p.instr) (asked p.instr)
   pub moves : Moves image moved now new
   pub rest : moved ≡ false → has_changed new p.at ≡ false
+  pub leaves : Leaves p.at now new
+  pub counts : Adds now.outcomes (if has_changed now p.at then known (table_of now.table p.at) (length (asked p.instr)) else 0) new.outcomes
+  pub most : AddsAtMost now.outcomes (length (asked p.instr)) new.outcomes
 
 module _ (image : ImageValue) (cuts : List Cut) (i : ℕ) (p : Placed) (is : slice_get (placed_from 0 cuts) i ≡ Some p) where
   next_one : drop i (placed_from 0 cuts) ≡ p ∷ drop (i + 1) (placed_from 0 cuts)
@@ -67,7 +84,16 @@ module _ (image : ImageValue) (cuts : List Cut) (i : ℕ) (p : Placed) (is : sli
   next_edges : (table : Table) → along image (flat_map edges_of (drop i (placed_from 0 cuts))) table ≡ (along image (edges_of p) table >>= along image (flat_map edges_of (drop (i + 1) (placed_from 0 cuts))))
   next_edges table = ap (λ ps. along image (flat_map edges_of ps) table) next_one ∙ ap (λ es. along image es table) (flat_map-cons edges_of p (drop (i + 1) (placed_from 0 cuts))) ∙ along_append image (edges_of p) _ table
 
+  edges_left : length (flat_map edges_of (drop i (placed_from 0 cuts))) ≡ length (asked p.instr) + length (flat_map edges_of (drop (i + 1) (placed_from 0 cuts)))
+  edges_left =
+      ap (λ ps. length (flat_map edges_of ps)) next_one ∙ ap length (flat_map-cons edges_of p (drop (i + 1) (placed_from 0 cuts)))
+      ∙ length-append (edges_of p) (flat_map edges_of (drop (i + 1) (placed_from 0 cuts))) ∙ ap (λ n. n + length (flat_map edges_of (drop (i + 1) (placed_from 0 cuts)))) (length-map (asked p.instr) (λ edge. (p, edge)))
+
   module _ (first now : Passes) (moved : Bool) (passed : Passed image cuts first now moved i) where
+    -- and no more than all of a pass is counted before it
+    pub most_stops : (new : ℕ) → AddsAtMost now.outcomes (length (asked p.instr)) new → AddsAtMost first.outcomes (length (edges_in cuts)) new
+    most_stops new adds = record { most = omega (arith, adds.most, passed.most, edges_left); fits = λ le. adds.fits (passed.fits le) }
+
     -- a refusal there is that of the pass
     pub passed_stops : (e : StateFault) (new : Passes) → Gives {X = Bool} (Err e) (table_of new.table) (along image (edges_of p) (table_of now.table)) → Gives {X = Bool} (Err e) (table_of new.table) (pass image cuts (table_of first.table))
     passed_stops (Refused code place) new gives = passed.gives ∙ next_edges (table_of now.table) ∙ ap (λ r. r >>= along image (flat_map edges_of (drop (i + 1) (placed_from 0 cuts)))) gives
@@ -96,6 +122,12 @@ module _ (image : ImageValue) (cuts : List Cut) (i : ℕ) (p : Placed) (is : sli
               subst (λ q. has_changed new q.at ≡ false) one (once.rest e')
           by_place (inr other) = once.moves.rests e' q.at (passed.rest e k q (omega (arith, lt, other)) there)
 
+      counts_on : HasCounted cuts new
+      counts_on = counts_step cuts p now new stands once.leaves once.moves.table.sized passed.counts once.counts
+
+      most_on : new.outcomes + length (flat_map edges_of (drop (i + 1) (placed_from 0 cuts))) ≤ first.outcomes + length (edges_in cuts)
+      most_on = omega (arith, once.most.most, passed.most, edges_left)
+
     -- a turn that changes the table
     pub passed_more : (new : Passes) → StandsAt cuts p → TakenOnce image p now new true → Passed image cuts first new true (i + 1)
     passed_more new stands once = record {
@@ -104,6 +136,9 @@ module _ (image : ImageValue) (cuts : List Cut) (i : ℕ) (p : Placed) (is : sli
       taken = still_taken new true stands once;
       moves = moves_more image first now new moved passed.moves once.moves;
       rest = λ e. absurd (cc);
+      counts = counts_on new true stands once;
+      most = most_on new true stands once;
+      fits = λ le. once.most.fits (passed.fits le);
     }
 
     -- and one that does not
@@ -114,9 +149,15 @@ module _ (image : ImageValue) (cuts : List Cut) (i : ℕ) (p : Placed) (is : sli
       taken = still_taken new false stands once;
       moves = moves_no_more image first now new moved passed.moves once.moves;
       rest = λ e. rest_on new false stands once e refl;
+      counts = counts_on new false stands once;
+      most = most_on new false stands once;
+      fits = λ le. once.most.fits (passed.fits le);
     }
 
 -- ---- after all of them
+
+pub most_all : (image : ImageValue) (cuts : List Cut) (first now : Passes) (moved : Bool) (i : ℕ) → Passed image cuts first now moved i → AddsAtMost first.outcomes (length (edges_in cuts)) now.outcomes
+most_all image cuts first now moved i passed = record { most = omega (arith, passed.most); fits = passed.fits }
 
 module _ (image : ImageValue) (cuts : List Cut) (first now : Passes) (moved : Bool) (i : ℕ) (end : length cuts ≤ i) (passed : Passed image cuts first now moved i) where
   pub passed_all : pass image cuts (table_of first.table) ≡ Ok (table_of now.table)

@@ -1,6 +1,7 @@
 -- What taking an edge does to the passes under way.
 use Rattle.std.proofs.Common.{◌≡◌, ℕ, suc, ◌<◌, ◌⊎◌, inl, inr, [], ◌∷◌, Bool, true, false, List, length, slice_set, slice_index_or, Option, Some, None, Result, Ok, Err, refl, sym, ap, ◌∙◌, subst, rules, arith, length-set, get_or-set_same, get_or-set_other}
 use Rattle.std.specs.Prelude.{OnOk, IfOk, All}
+use Rattle.std.specs.Option.{is_some}
 use Rattle.std.proofs.lemmas.Bool.{cases_eq}
 use Rattle.std.proofs.lemmas.Option.{same_Some}
 use Rattle.tp_decode.specs.declared.instr.Instr.{Instr}
@@ -20,8 +21,8 @@ use Rattle.tp_check.specs.declared.passes.Passes.{Passes}
 use Rattle.tp_check.specs.Tables.{Table, table_of, asked}
 use Rattle.tp_check.specs.EdgesRespect.{HasAbove, Respects}
 use Rattle.tp_check.specs.Passes.{enter, go_along, placed, along, from, edges_of}
-use Rattle.tp_check.specs.UnderWay.{IsStateAt, HasGrown, IsUnderWay, MayBeTaken, has_changed, marked, IsTaken, Gives, Moves}
-use Rattle.tp_check.proofs.Entering.{Entered, entered, elsewhere, comes_below, grows, still_respects, enters_below}
+use Rattle.tp_check.specs.UnderWay.{IsStateAt, HasGrown, IsUnderWay, MayBeTaken, has_changed, marked, IsTaken, Gives, Moves, IsAsBefore, Leaves}
+use Rattle.tp_check.proofs.Entering.{Entered, entered, elsewhere, there, comes_below, grows, still_respects, enters_below}
 use Rattle.tp_check.proofs.Moving.{along_on}
 
 -- ---- the definition's answers
@@ -50,11 +51,6 @@ pub record Arrives (old new : Passes) (to : ℕ) (v : State) (moved : Bool) : Ty
   pub stays : moved ≡ false → new.table ≡ old.table
   pub sized : length new.table ≡ length old.table
   pub outcome : new.outcome ≡ v
-
--- nothing is known of an address that is not marked but what was known
-pub record IsAsBefore (old new : Passes) (x : ℕ) : Type 0 where
-  pub rests : has_changed old x ≡ false
-  pub same : table_of new.table x ≡ table_of old.table x
 
 module _ (image : ImageValue) (old new : Passes) (to : ℕ) (v : State) (moved : Bool) (way : IsUnderWay image old) (inside : to < length old.table) (fits : IsStateAt image to v) (a : Arrives old new to v moved) where
   enters : Entered (table_of old.table) to v (table_of new.table)
@@ -94,6 +90,14 @@ module _ (image : ImageValue) (old new : Passes) (to : ℕ) (v : State) (moved :
   stays_taken at next instr edge taken rests s is =
       let before = unmarked at rests in
       still_respects image (table_of old.table) to v way.grown fits (table_of new.table) enters at next instr s edge (taken before.rests s (sym before.same ∙ is))
+
+  -- what comes from an address that has a state leaves it one
+  pub leaves : (at : ℕ) (s : State) → table_of old.table at ≡ Some s → Leaves at old new
+  leaves at s here = record { others = λ x other rests. unmarked x rests; kept = at_place (cases_eq at to) }
+    where
+      at_place : (at ≡ to) ⊎ (at ≡ to → ⊥) → is_some (table_of new.table at) ≡ is_some (table_of old.table at)
+      at_place (inl same) = ap is_some (ap (table_of new.table) same ∙ there (table_of old.table) to v (table_of new.table) enters) ∙ sym (ap is_some here)
+      at_place (inr other) = ap is_some (elsewhere (table_of old.table) to v (table_of new.table) at enters other)
 
   -- and the edge itself need not
   pub is_taken : (at next : ℕ) (instr : Instr) (edge : Edge) (s : State) → table_of old.table at ≡ Some s → after image at next instr edge s ≡ Ok v → target (ranges image.loops) at next instr edge ≡ Some to → IsTaken image new at next instr edge

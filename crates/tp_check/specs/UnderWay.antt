@@ -1,5 +1,6 @@
 -- What holds while the passes are made.
-use Rattle.std.specs.Prelude.{◌≡◌, ℕ, ◌+◌, ◌*◌, ◌-◌, ◌^◌, ◌<◌, Bool, true, false, if◌then◌else◌, ℤ, pos, negsuc, ◌+ℤ◌, ◌-ℤ◌, List, length, sum_by, slice_index_or, slice_set, All, Option, Some, None, Result, Ok, Err, IsTrue}
+use Rattle.std.specs.Prelude.{◌≡◌, ℕ, ◌+◌, ◌*◌, ◌-◌, ◌^◌, ◌<◌, Bool, true, false, if◌then◌else◌, ℤ, pos, negsuc, ◌+ℤ◌, ◌-ℤ◌, List, length, sum_by, slice_index_or, slice_set, All, Option, Some, None, Result, Ok, Err, IsTrue, ◌≤◌, ◌≢◌}
+use Rattle.std.specs.Option.{is_some}
 use Rattle.tp_decode.specs.declared.instr.Instr.{Instr}
 use Rattle.tp_decode.specs.declared.placed.Placed.{Placed}
 use Rattle.tp_decode.specs.Cutting.{Cut, cut_at}
@@ -23,6 +24,7 @@ use Rattle.tp_state.specs.Live.{LiveWordsAre}
 use Rattle.tp_check.specs.declared.passes.Passes.{Passes}
 use Rattle.tp_check.specs.Tables.{Table, table_of, asked}
 use Rattle.tp_check.specs.EdgesRespect.{HasAbove, Respects}
+use Rattle.tp_check.specs.Counts.{counted, known, asked_on, sum_below}
 
 -- ---- what a table keeps
 
@@ -132,3 +134,35 @@ pub record MovesTable (image : ImageValue) (moved : Bool) (old new : List (Optio
 pub record Moves (image : ImageValue) (moved : Bool) (old new : Passes) : Type 0 where
   pub table : MovesTable image moved old.table new.table
   pub rests : moved ≡ false → (at : ℕ) → has_changed old at ≡ false → has_changed new at ≡ false
+
+-- ---- what is counted
+
+-- at most so much was added to a count, and it is one of 64 bits if it was
+pub record AddsAtMost (old more new : ℕ) : Type 0 where
+  pub most : new ≤ old + more
+  pub fits : old ≤ 2 ^ 64 - 1 → new ≤ 2 ^ 64 - 1
+
+-- so much was added, or the count stands at the greatest
+pub record Adds (old more new : ℕ) : Type 0 where
+  pub at_most : AddsAtMost old more new
+  pub at_least : counted (old + more) ≤ new
+
+-- nothing is known of an address that is not marked but what was known
+pub record IsAsBefore (old new : Passes) (x : ℕ) : Type 0 where
+  pub rests : has_changed old x ≡ false
+  pub same : table_of new.table x ≡ table_of old.table x
+
+-- what a step from an address leaves: all others that are not marked are as before, and itself has a state if it had one
+pub record Leaves (at : ℕ) (old new : Passes) : Type 0 where
+  pub others : (x : ℕ) → x ≢ at → has_changed new x ≡ false → IsAsBefore old new x
+  pub kept : is_some (table_of new.table at) ≡ is_some (table_of old.table at)
+
+-- an address whose edges need not be taken has had an outcome on each
+abbrev pub settled : List Cut → Passes → ℕ → ℕ
+settled cuts p x = if has_changed p x then 0 else known (table_of p.table x) (asked_on (cut_at cuts x))
+
+unfoldable pub all_settled : List Cut → Passes → ℕ
+all_settled cuts p = sum_below (settled cuts p) (length p.table)
+
+abbrev pub HasCounted : List Cut → Passes → Type 0
+HasCounted cuts p = counted (all_settled cuts p) ≤ p.outcomes

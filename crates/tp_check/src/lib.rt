@@ -5,12 +5,14 @@
 #![tactic(auto)]
 
 mod check;
+mod effort;
 pub mod laws;
 mod passes;
 mod table;
 
 pub use check::every_edge_respects;
-pub use passes::check_states;
+pub use effort::Effort;
+pub use passes::{check_states, check_states_counting};
 pub use table::Table;
 
 #[cfg(test)]

@@ -1,6 +1,6 @@
 //! The passes: a table is made edge by edge until a pass changes nothing.
 
-ghost use Rattle.std.specs.Prelude.{◌≡◌, ◌≢◌, ◌<◌, ℕ, true, false, length, All, Some, Ok, IfOk, IfErr, OnOk, IsTrue};
+ghost use Rattle.std.specs.Prelude.{◌≡◌, ◌≢◌, ◌<◌, ◌≤◌, ◌+◌, ◌*◌, if◌then◌else◌, ℕ, true, false, length, All, Some, Ok, IfOk, IfErr, OnOk, IsTrue};
 ghost use Rattle.tp_decode.specs.declared.instr.Instr.{Instr as AnInstr};
 ghost use Rattle.tp_flow.specs.declared.edge.Edge.{Edge as AnEdge};
 ghost use Rattle.tp_flow.specs.NestRanges.{ranges};
@@ -8,10 +8,12 @@ ghost use Rattle.tp_flow.specs.NestKept.{KeepsNest};
 ghost use Rattle.tp_flow.specs.RowRules.{is_start};
 ghost use Rattle.tp_check.specs.Tables.{table_of, asked, HasPlacedStates};
 ghost use Rattle.tp_check.specs.EdgesRespect.{EveryEdgeRespects};
-ghost use Rattle.tp_check.specs.Passes.{IsVerdict, first_table, enter, go_along, along, edges_of, pass, IsRefusalOf};
-ghost use Rattle.tp_check.specs.UnderWay.{IsUnderWay, HasPlaces, MayBeTaken, IsTaken, AreTaken, Gives, Moves, has_changed, marked};
+ghost use Rattle.tp_check.specs.Passes.{IsVerdict, first_table, enter, go_along, along, edges_of, edges_in, pass, IsRefusalOf};
+ghost use Rattle.tp_check.specs.Counts.{counted, known, edges_from, TellsPasses};
+ghost use Rattle.tp_check.specs.UnderWay.{IsUnderWay, HasPlaces, MayBeTaken, IsTaken, AreTaken, Gives, Moves, has_changed, marked, Adds, AddsAtMost, Leaves, HasCounted};
 
 use crate::check::{asked, every_edge_respects};
+use crate::effort::Effort;
 use crate::table::Table;
 use std::alloc::{AllocError, Global};
 use tp_decode::{Listing, Placed};
@@ -20,8 +22,7 @@ use tp_image::Image;
 use tp_state::{State, StateFault};
 
 /// The table that the passes come to, of an image whose flow has passed: every edge respects it. Refused is the first
-/// refusal of the passes, Memory that a growth was refused. That the last check fails is proved not to happen; what is
-/// promised of the table rests on it, and on nothing that the passes do.
+/// refusal of the passes, Memory that a growth was refused.
 pub fn check_states(
     alloc: Global,
     image: &Image,
@@ -35,10 +36,37 @@ pub fn check_states(
     ensures placed { IfOk result (λ table. HasPlacedStates image.now (table_of table)) }
     ensures refused { IfErr result (IsRefusalOf image.now listing.now) }
 {
+    check_states_counting(alloc, image, listing, nest, &mut Effort::default())
+}
+
+/// As `check_states`; and whatever the answer is, `effort` is then what the passes have taken up to it, whatever it was
+/// before. The check of every edge, which comes after the passes, is not counted. That this check fails is proved not to
+/// happen; what is promised of the table rests on it, and on nothing that the passes do.
+pub fn check_states_counting(
+    alloc: Global,
+    image: &Image,
+    listing: &Listing,
+    nest: &Nest,
+    effort: &mut Effort,
+) -> Result<Table, StateFault>
+    requires kept { KeepsNest image.now.loops image.now.workspace listing.now }
+    requires nest { nest.now ≡ ranges image.now.loops }
+    ensures verdict { IfOk result (λ table. IsVerdict image.now listing.now (Ok (table_of table))) }
+    ensures respected { IfOk result (λ table. EveryEdgeRespects image.now listing.now (table_of table)) }
+    ensures placed { IfOk result (λ table. HasPlacedStates image.now (table_of table)) }
+    ensures refused { IfErr result (IsRefusalOf image.now listing.now) }
+    ensures passes { TellsPasses image.now listing.now result effort.new.passes }
+    ensures outcomes_least { IfOk result (λ table. counted (edges_from listing.now table) ≤ effort.new.outcomes) }
+    ensures outcomes_most { effort.new.outcomes ≤ effort.new.passes * length (edges_in listing.now) }
+{
+    *effort = Effort::default();
     let mut passes = Passes::begin(alloc, image, listing)?;
     let mut moved = true;
     while moved {
-        moved = passes.pass(alloc, image, listing, nest)?;
+        effort.passes = effort.passes.saturating_add(1);
+        let answer = passes.pass(alloc, image, listing, nest);
+        effort.outcomes = passes.outcomes;
+        moved = answer?;
     }
     let table = passes.table;
     if !every_edge_respects(alloc, image, listing, nest, &table)? {
@@ -55,6 +83,8 @@ struct Passes {
     changed: Vec<bool>,
     /// What is known after the edge that is being taken.
     outcome: State,
+    /// How many outcomes were worked out.
+    outcomes: u64,
 }
 
 impl Passes {
@@ -65,6 +95,8 @@ impl Passes {
         ensures places { IfOk result (λ p. HasPlaces listing.now p) }
         ensures way { IfOk result (IsUnderWay image.now) }
         ensures taken { IfOk result (AreTaken image.now listing.now) }
+        ensures none { IfOk result (λ p. p.outcomes ≡ 0) }
+        ensures counts { IfOk result (HasCounted listing.now) }
     {
         let places = places_of(listing);
         let table = Table::first(alloc, image, places)?;
@@ -74,6 +106,7 @@ impl Passes {
             table,
             changed,
             outcome,
+            outcomes: 0,
         })
     }
 
@@ -90,11 +123,14 @@ impl Passes {
         requires places { HasPlaces listing.now self.old }
         requires way { IsUnderWay image.now self.old }
         requires taken { AreTaken image.now listing.now self.old }
+        requires counts { HasCounted listing.now self.old }
         ensures gives { Gives result (table_of self.new.table) (pass image.now listing.now (table_of self.old.table)) }
         ensures way { OnOk result (IsUnderWay image.now self.new) }
         ensures taken { OnOk result (AreTaken image.now listing.now self.new) }
         ensures moves { IfOk result (λ moved. Moves image.now moved self.old self.new) }
         ensures rest { IfOk result (λ moved. moved ≡ false → (at : ℕ) → IsTrue (is_start listing.now at) → has_changed self.new at ≡ false) }
+        ensures counts { OnOk result (HasCounted listing.now self.new) }
+        ensures most { AddsAtMost self.old.outcomes (length (edges_in listing.now)) self.new.outcomes }
     {
         let mut moved = false;
         for i in 0..listing.len() {
@@ -127,6 +163,9 @@ impl Passes {
         ensures taken { OnOk result (All (IsTaken image.now self.new place.at place.next place.instr) (asked place.instr)) }
         ensures moves { IfOk result (λ moved. Moves image.now moved self.old self.new) }
         ensures rest { IfOk result (λ moved. moved ≡ false → has_changed self.new place.at ≡ false) }
+        ensures leaves { OnOk result (Leaves place.at self.old self.new) }
+        ensures counts { OnOk result (Adds self.old.outcomes (if has_changed self.old place.at then known (table_of self.old.table place.at) (length (asked place.instr)) else 0) self.new.outcomes) }
+        ensures most { AddsAtMost self.old.outcomes (length (asked place.instr)) self.new.outcomes }
     {
         if !self.changed[place.at] {
             return Ok(false);
@@ -152,6 +191,9 @@ impl Passes {
             IsTaken image.now self.old at next instr edge → IsTaken image.now self.new at next instr edge) }
         ensures taken { OnOk result (All (IsTaken image.now self.new place.at place.next place.instr) (asked place.instr)) }
         ensures moves { IfOk result (λ moved. Moves image.now moved self.old self.new) }
+        ensures leaves { OnOk result (Leaves place.at self.old self.new) }
+        ensures counts { OnOk result (Adds self.old.outcomes (known (table_of self.old.table place.at) (length (asked place.instr))) self.new.outcomes) }
+        ensures most { AddsAtMost self.old.outcomes (length (asked place.instr)) self.new.outcomes }
     {
         let ways = asked(place.instr);
         let mut moved = false;
@@ -181,11 +223,14 @@ impl Passes {
             IsTaken image.now self.old at next instr edge → IsTaken image.now self.new at next instr edge) }
         ensures taken { OnOk result (IsTaken image.now self.new place.at place.next place.instr edge) }
         ensures moves { IfOk result (λ moved. Moves image.now moved self.old self.new) }
+        ensures leaves { OnOk result (Leaves place.at self.old self.new) }
+        ensures counts { Adds self.old.outcomes (known (table_of self.old.table place.at) 1) self.new.outcomes }
     {
         let Some(state) = self.table.at(place.at) else {
             return Ok(false);
         };
         self.outcome.set_to(state);
+        self.outcomes = self.outcomes.saturating_add(1);
         let Placed { at, instr, next } = place;
         if let Err(code) = self.outcome.go_on(at, next, instr, edge, image, nest) {
             return Err(StateFault::Refused { code, place: at });
@@ -204,6 +249,7 @@ impl Passes {
         ensures outcome { OnOk result (self.new.outcome ≡ self.old.outcome) }
         ensures moves { IfOk result (λ moved. Moves image.now moved self.old self.new) }
         ensures marks { IfOk result (λ moved. self.new.changed.items ≡ marked moved to self.old.changed.items) }
+        ensures outcomes { self.new.outcomes ≡ self.old.outcomes }
     {
         let moved = self.table.enter(alloc, image, to, &self.outcome)?;
         if moved {

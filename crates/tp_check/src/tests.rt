@@ -79,12 +79,29 @@ const TWO_WAYS: &[u8] = b"TPW1\
     \x10\x24\xF2\x54\x44\xF7\x70\xA3\x41\xD1\x02\x42\xD1\x71\xD0\
     \x10\x24\xF2\x44\xFB\x21\xF5";
 
+/// Loads by a number that is 0 in the first turn of a loop from 12 to 19, and the packet's in the later ones.
+const WILD_IN_LATER_TURNS: &[u8] = b"TPW1\
+    \x1C\x00\x10\x00\x08\x00\x01\x00\x01\x00\x01\x00\
+    \x0C\x00\x13\x00\x0A\x00\x0A\x00\x00\x00\x00\x00\
+    \x10\x24\xF2\x54\x44\xF7\x40\xD1\x40\xD2\x4A\xD3\
+    \x71\x10\xFA\x30\xD1\x12\x49\x22\xF1\x11\x24\xF2\x44\xFB\x21\xF5";
+
 /// What the passes come to.
 fn verdict(rt: &(impl Abort + AllocGlobal), bytes: &[u8]) -> Result<Table, StateFault> {
     let image = read_image(rt.alloc(), bytes).expect(rt, "an image");
     let listing = decode(rt.alloc(), &image.code).expect(rt, "a listing");
     let nest = check_flow(&image, &listing).expect(rt, "a nest");
     check_states(rt.alloc(), &image, &listing, &nest)
+}
+
+/// The refusal, if there is one, and what the passes take up to there or to the end.
+fn counted(rt: &(impl Abort + AllocGlobal), bytes: &[u8]) -> (Option<StateFault>, u64, u64) {
+    let image = read_image(rt.alloc(), bytes).expect(rt, "an image");
+    let listing = decode(rt.alloc(), &image.code).expect(rt, "a listing");
+    let nest = check_flow(&image, &listing).expect(rt, "a nest");
+    let mut effort = Effort::default();
+    let answer = check_states_counting(rt.alloc(), &image, &listing, &nest, &mut effort);
+    (answer.err(), effort.passes, effort.outcomes)
 }
 
 /// The increment with another byte in its code.
@@ -187,4 +204,31 @@ fn knows_what_a_loop_leaves(rt: HostRuntime) {
     );
     let end = table.at(28).expect(&rt, "a state at the end");
     assert_eq!(rt; (end.phase, end.cells.get(9)), (2, Cell::Any));
+}
+
+/// A pass that makes the states has an outcome for each instruction, and one more for a cj and for a lend; a last pass sees
+/// that nothing changes, and has none.
+#[test]
+fn counts_passes_and_outcomes(rt: HostRuntime) {
+    // 13 instructions, one behind the other, stopp with them
+    assert_eq!(rt; counted(&rt, &INCREMENT), (None, 2, 13));
+    // 19 instructions with a cj; its ways meet before what follows is taken
+    assert_eq!(rt; counted(&rt, TWO_WAYS), (None, 2, 19 + 1));
+    // 23 instructions with a lend; then the sum is a number that is not known, from 15 to 18, and stored as before
+    assert_eq!(rt; counted(&rt, SUM_IN_A_LOOP), (None, 3, 23 + 1 + 4));
+}
+
+/// A refused outcome is the last that is counted.
+#[test]
+fn counts_up_to_a_refusal(rt: HostRuntime) {
+    // 8 instructions up to the add
+    assert_eq!(rt;
+        counted(&rt, READS_AFTER_JUMP),
+        (refused(StateCode::S1, 8), 1, 8)
+    );
+    // 24 instructions with a lend, and then those at 12, 13 and 14 again
+    assert_eq!(rt;
+        counted(&rt, WILD_IN_LATER_TURNS),
+        (refused(StateCode::S3, 14), 2, 24 + 1 + 3)
+    );
 }

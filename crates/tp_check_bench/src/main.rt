@@ -1,8 +1,9 @@
-//! How long the verifier's passes take, beside `check_flow` of the same image in the same run: over small and straight
-//! codes, and over codes that are made to keep the passes going.
+//! What the verifier's passes take, beside `check_flow` of the same image in the same run: over small and straight codes, and
+//! over codes that are made to keep the passes going.
 //!
-//! With no argument the small and straight codes are judged once, and how many instructions have a state is printed, which
-//! is the same at every run. With the argument `time` all are judged, and the times are printed.
+//! With no argument the small and straight codes are judged once, and what is printed is the same at every run: how many
+//! instructions have a state, how many passes were made, and how many outcomes were worked out. With the argument `time` all
+//! are judged, and the times are printed with these counts.
 #![tactic(auto)]
 
 mod sample;
@@ -11,12 +12,12 @@ ghost use Rattle.tp_decode.specs.Cutting.{IsCutting};
 
 use anyhow::{Result, anyhow, bail};
 use std::alloc::Global;
-use std::env;
 use std::rt::Runtime;
 use std::time::Instant;
-use tp_check::{Table, check_states};
-use tp_decode::{Listing, decode};
-use tp_flow::check_flow;
+use std::{env, fmt};
+use tp_check::{Effort, Table, check_states_counting};
+use tp_decode::{Instr, Listing, decode};
+use tp_flow::{check_flow, edges};
 use tp_image::{Image, read_image};
 
 /// How often check_flow is timed: it is quick.
@@ -48,20 +49,34 @@ fn told<R: Runtime<A = Global>>(rt: &R, name: &str, bytes: &[u8], is_timed: bool
     if is_timed {
         return timed(rt, name, &image, &listing);
     }
-    let (instructions, states) = judged(rt.alloc(), &image, &listing)?;
-    println!(rt; "{name}: {instructions} instructions, {states} of them have a state")?;
+    let Found { states, effort } = judged(rt.alloc(), &image, &listing)?;
+    let instructions = listing.len();
+    let Effort { passes, outcomes } = effort;
+    println!(rt;
+        "{name}: {instructions} instructions, {states} of them have a state, {passes} passes, {outcomes} outcomes"
+    )?;
     Ok(())
 }
 
-/// How many instructions there are, and how many have a state.
-fn judged(alloc: Global, image: &Image, listing: &Listing) -> Result<(usize, usize)>
+/// How many instructions have a state, and what finding this took.
+#[derive(Clone, Copy)]
+struct Found {
+    states: usize,
+    effort: Effort,
+}
+
+fn judged(alloc: Global, image: &Image, listing: &Listing) -> Result<Found>
     requires { IsCutting image.now.code listing.now }
 {
     let Ok(nest) = check_flow(image, listing) else {
         bail!("no nest");
     };
-    let table = check_states(alloc, image, listing, &nest).map_err(|fault| anyhow!("{fault}"))?;
-    Ok((listing.len(), states_in(&table, listing)))
+    let mut effort = Effort::default();
+    let table = check_states_counting(alloc, image, listing, &nest, &mut effort).map_err(
+        |fault| anyhow!("{fault}"),
+    )?;
+    let states = states_in(&table, listing);
+    Ok(Found { states, effort })
 }
 
 /// How many instructions have a state.
@@ -73,7 +88,45 @@ fn states_in(table: &Table, listing: &Listing) -> usize {
         .count()
 }
 
-/// Prints the times of both checks, and their ratio.
+/// How many edges a code's instructions are asked on.
+fn edges_asked(listing: &Listing) -> u64 {
+    let mut asked = 0u64;
+    for i in 0..listing.len() {
+        if let Some(place) = listing.get(i) {
+            let ways = match place.instr {
+                Instr::Stopp => 1,
+                instr => edges(instr).len() as u64,
+            };
+            asked = asked.saturating_add(ways);
+        }
+    }
+    asked
+}
+
+/// How many times as long as another a time is, to three places.
+#[derive(Clone, Copy)]
+struct Ratio {
+    whole: u128,
+    thousandths: u128,
+}
+
+impl Ratio {
+    fn of(time: u128, other: u128) -> Ratio {
+        let other = other.max(1);
+        Ratio {
+            whole: time / other,
+            thousandths: (time % other).saturating_mul(1000) / other,
+        }
+    }
+}
+
+impl fmt::Display for Ratio {
+    fn fmt<W: fmt::Write>(&self, f: &mut fmt::Formatter<W>) -> fmt::Result {
+        write!(f, "{}.{:03}", self.whole, self.thousandths)
+    }
+}
+
+/// Prints the time, the passes and the outcomes, each beside the time of `check_flow`.
 fn timed<R: Runtime<A = Global>>(rt: &R, name: &str, image: &Image, listing: &Listing) -> Result<()>
     requires { IsCutting image.now.code listing.now }
 {
@@ -83,10 +136,17 @@ fn timed<R: Runtime<A = Global>>(rt: &R, name: &str, image: &Image, listing: &Li
     }
     let flow = start.elapsed(rt)?.as_nanos() / u128::from(FLOW_ROUNDS);
     let start = Instant::now(rt)?;
-    judged(rt.alloc(), image, listing)?;
+    let Found { effort, .. } = judged(rt.alloc(), image, listing)?;
     let both = start.elapsed(rt)?.as_nanos();
     let micros = both / 1000;
+    let Effort { passes, outcomes } = effort;
     let ratio = both / flow.max(1);
-    println!(rt; "{name}: {micros} microseconds, {ratio} times check_flow")?;
+    let pass = Ratio::of(both / u128::from(passes.max(1)), flow);
+    let outcome = Ratio::of(both / u128::from(outcomes.max(1)), flow);
+    let edges = edges_asked(listing);
+    let each = outcomes / edges.max(1);
+    println!(rt;
+        "{name}: {micros} microseconds, {ratio} times check_flow; {passes} passes, each {pass} times; {outcomes} outcomes, each {outcome} times; {edges} edges, {each} outcomes on each"
+    )?;
     Ok(())
 }

@@ -5,7 +5,7 @@ use std::alloc::Global;
 use tp_prefix::encode;
 
 /// Adds one to its packet.
-pub const INCREMENT: [u8; 32] = [
+pub(crate) const INCREMENT: [u8; 32] = [
     0x54, 0x50, 0x57, 0x31, 0x10, 0x00, 0x0C, 0x00, 0x08, 0x00, 0x01, 0x00, 0x01, 0x00, 0x00, 0x00,
     0x10, 0x24, 0xF2, 0x54, 0x44, 0xF7, 0x70, 0x81, 0xD0, 0x10, 0x24, 0xF2, 0x44, 0xFB, 0x21, 0xF5,
 ];
@@ -42,7 +42,7 @@ const LDL: u8 = 7;
 const STL: u8 = 13;
 
 /// A code of 8,000 bytes without jumps: ldl 0, stl 0 over and over.
-pub fn straight(alloc: Global) -> Result<Vec<u8>> {
+pub(crate) fn straight(alloc: Global) -> Result<Vec<u8>> {
     let mut code = Vec::from_slice(alloc, &TAKE)?;
     code.push(0x40)?;
     for _ in 0..3993 {
@@ -53,7 +53,7 @@ pub fn straight(alloc: Global) -> Result<Vec<u8>> {
 }
 
 /// 4,000 conditional jumps.
-pub fn jumps(alloc: Global) -> Result<Vec<u8>> {
+pub(crate) fn jumps(alloc: Global) -> Result<Vec<u8>> {
     let mut code = Vec::from_slice(alloc, &TAKE)?;
     for _ in 0..4000 {
         code.extend_from_slice(&JUMP)?;
@@ -64,7 +64,7 @@ pub fn jumps(alloc: Global) -> Result<Vec<u8>> {
 
 /// Loops one behind the other, each in as many others as wanted, at most 16 in all: their bodies move the words of the
 /// workspace on by one place, so each pass knows less of one word more; and conditional jumps fill the code.
-pub fn moving(alloc: Global, in_a_row: u16, nested: u16) -> Result<Vec<u8>> {
+pub(crate) fn moving(alloc: Global, in_a_row: u16, nested: u16) -> Result<Vec<u8>> {
     let mut code = Vec::from_slice(alloc, &TAKE)?;
     let mut rows = Vec::new(alloc);
     let each = MOVED / i32::from(in_a_row.max(1));

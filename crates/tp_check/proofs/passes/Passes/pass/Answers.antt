@@ -3,12 +3,12 @@ use Rattle.tp_check.specs.UnderWay.{Moves}
 use Rattle.tp_check.specs.Tables.{table_of}
 use Rattle.tp_check.proofs.Moving.{handed_on}
 use Rattle.tp_check.proofs.Places.{stands_at}
-use Rattle.tp_check.proofs.Passing.{no_instruction, may_be_taken, taken_at, passed_none, passed_more, passed_same, passed_stops, passed_all, all_rest}
+use Rattle.tp_check.proofs.Passing.{no_instruction, may_be_taken, taken_at, passed_none, passed_more, passed_same, passed_stops, most_stops, passed_all, most_all, all_rest}
 use Rattle.tp_check.proofs.passes.Passes.pass.Goals as goal
 use Rattle.tp_check.proofs.passes.Passes.pass.Goals.{in-Some+in_ok-take+then-branch, in-Some+in_ok-take+else-branch, in_default}
 
 pub loop-i-init : goal.loop-i-init
-loop-i-init c = passed_none c.args.image.now c.args.listing.now c.args.self.now c.requires.way c.requires.taken
+loop-i-init c = passed_none c.args.image.now c.args.listing.now c.args.self.now c.requires.way c.requires.taken c.requires.counts
 
 pub take-requires-clause-place : goal.take-requires-clause-place
 take-requires-clause-place c =
@@ -38,6 +38,9 @@ loop-i-preserved c =
             taken = w.in_ok-take.ensures.taken;
             moves = subst (λ b. Moves c.args.image.now b c.loop-i.self w.take.new.self) w.if-branch.true w.in_ok-take.ensures.moves;
             rest = λ e. absurd cc;
+            leaves = w.in_ok-take.ensures.leaves;
+            counts = w.in_ok-take.ensures.counts;
+            most = w.take.ensures.most;
           })))
       | in-Some+in_ok-take+else-branch w ↦ (rw (w.self-is, w.moved-is)
           (passed_same c.args.image.now c.args.listing.now c.loop-i.i w.in-Some.place (sym w.in-Some.ensures) c.args.self.now c.loop-i.self c.loop-i.moved c.loop-i.invariant w.take.new.self
@@ -49,6 +52,9 @@ loop-i-preserved c =
             taken = w.in_ok-take.ensures.taken;
             moves = subst (λ b. Moves c.args.image.now b c.loop-i.self w.take.new.self) w.if-branch.false w.in_ok-take.ensures.moves;
             rest = λ e. w.in_ok-take.ensures.rest w.if-branch.false;
+            leaves = w.in_ok-take.ensures.leaves;
+            counts = w.in_ok-take.ensures.counts;
+            most = w.take.ensures.most;
           })))
       | in_default w ↦ absurd (no_instruction c.args.listing.now c.loop-i.i (let e = c.len-i-end.ensures in let f = c.loop-i-test.true in omega (arith, e, f)) (sym w.in_default.ensures))
     ]
@@ -58,3 +64,10 @@ returns-clause-gives c = passed_all c.args.image.now c.args.listing.now c.args.s
 
 pub returns-clause-rest : goal.returns-clause-rest
 returns-clause-rest c = all_rest c.args.image.now c.args.listing.now c.args.self.now c.loop-i.self c.loop-i.moved c.loop-i.i (let e = c.len-i-end.ensures in let f = c.loop-i-test.false in omega (arith, e, f)) c.loop-i.invariant
+
+pub returns-in_err-take-clause-most : goal.returns-in_err-take-clause-most
+returns-in_err-take-clause-most c =
+    most_stops c.args.image.now c.args.listing.now c.loop-i.i c.in-Some.place (sym c.in-Some.ensures) c.args.self.now c.loop-i.self c.loop-i.moved c.loop-i.invariant _ c.take.ensures.most
+
+pub returns-clause-most : goal.returns-clause-most
+returns-clause-most c = most_all c.args.image.now c.args.listing.now c.args.self.now c.loop-i.self c.loop-i.moved c.loop-i.i c.loop-i.invariant
