@@ -3,6 +3,7 @@ pub mod Answers
 pub mod Promise
 pub mod Phases
 pub mod Meaning
+pub mod Resuming
 pub use Rattle.tp_step.specs.State
 pub use Rattle.tp_step.specs.Steps
 pub use Rattle.tp_step.specs.Runs

@@ -2,8 +2,8 @@
 
 ghost use Rattle.std.specs.Prelude.{◌≡◌, ◌%◌};
 
-/// The most bytes of a workspace.
-pub(crate) const WORKSPACE_BYTES: usize = 2048;
+/// The most bytes of a workspace, which are those that a machine keeps.
+pub const WORKSPACE_BYTES: usize = 2048;
 
 /// A machine with a workspace of 512 words in itself, and a tag beside each register and byte of the workspace: whether
 /// it is defined.

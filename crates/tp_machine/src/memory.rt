@@ -1,4 +1,4 @@
-//! The workspace.
+//! The workspace. Where an image has fewer words than a machine keeps, those behind them are undefined at its start.
 
 ghost use Rattle.std.specs.Prelude.{◌≡◌, ℕ, ◌+◌, ◌-◌, ◌≤◌, ◌<◌, length, MatchOption, Some, None, IsTrue};
 ghost use Rattle.tp_step.specs.Memory.{word_at, with_bytes, undefined, bytes_at};
@@ -13,7 +13,7 @@ impl Machine {
 
     /// The byte at an address of the workspace, if it is defined.
     #[tactic(auto, unfolding(crate::specs::Meaning::memory_of))]
-    pub(crate) fn cell(&self, a: u32) -> Option<u8>
+    pub fn cell(&self, a: u32) -> Option<u8>
         requires low { mem_start ≤ a }
         requires high { a < mem_start + 2048 }
         ensures { result ≡ memory_of self.now.defined self.now.bytes a }
@@ -55,7 +55,7 @@ impl Machine {
     }
 
     /// Puts bytes into the workspace, from an address on.
-    pub(crate) fn put(&mut self, a: u32, bytes: &[u8])
+    pub fn put(&mut self, a: u32, bytes: &[u8])
         requires low { mem_start ≤ a }
         requires high { a + length bytes.now ≤ mem_start + 2048 }
         ensures rest { self.new ≡ record self.old { bytes = self.new.bytes; defined = self.new.defined } }
@@ -81,7 +81,7 @@ impl Machine {
     }
 
     /// Makes n bytes undefined, from an address of the workspace on.
-    pub(crate) fn undefine(&mut self, a: u32, n: usize)
+    pub fn undefine(&mut self, a: u32, n: usize)
         requires low { mem_start ≤ a }
         requires high { a + n ≤ mem_start + 2048 }
         ensures rest { self.new ≡ record self.old { defined = self.new.defined } }

@@ -8,7 +8,7 @@ ghost use Rattle.tp_step.specs.Effects.{has_move};
 use tp_image::Image;
 
 /// The address of workspace word 0 (IMS T414 data sheet, memory map: MemStart).
-pub(crate) const MEM_START: u32 = 0x8000_0048;
+pub const MEM_START: u32 = 0x8000_0048;
 
 /// Whether n bytes from an address on lie in the workspace.
 #[inline]

@@ -1,4 +1,4 @@
-//! Runs over wires that borrow and over trait objects. The whole workers of tp_step_runs run on the machine there.
+//! Runs over wires that borrow and over trait objects. The runs of tp_step_runs are made on the machine in tp_machine_rows.
 
 mod samples;
 

@@ -1,3 +1,4 @@
 pub mod Samples
 pub mod Trials
+pub mod Rows
 pub mod Table

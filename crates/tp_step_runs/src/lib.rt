@@ -1,9 +1,13 @@
-//! Runs that are computed on the step relation: the state that a few bytes lead to from a given one, or that they are
-//! stuck there. Nothing stands on this crate.
+//! Runs that are computed on the step relation. Nothing stands on this crate but the tests that make the same runs on a
+//! machine (`tp_machine_rows`).
 //!
-//! What each run leads to was worked out by hand from the instruction table (`docs/INSTRUCTIONS.md`), never by a program.
+//! A short run begins at a given state and executes a few bytes: it leads to another state, or is stuck. A whole worker
+//! runs from its start to its end. What each run comes to was worked out by hand from the instruction table
+//! (`docs/INSTRUCTIONS.md`), never by a program. All of them stand in [`table`]: the contracts say that the definitions
+//! give what stands there, and the tests compare with it a machine's answers, and every part of its state.
 //!
-//! Each row of the table has a function named after it, whose runs would come out otherwise if its clause were another:
+//! Each row of the instruction table has a function named after it, whose runs would come out otherwise if its clause were
+//! another:
 //!
 //! | rows | runs |
 //! |---|---|
@@ -18,6 +22,7 @@
 //! | pfix, nfix, bytes that are no instruction, Iptr outside the code | [`prefixes`] |
 //! | whole workers | [`table`] |
 //! | a worker that is stuck, the state at the start | [`samples`] |
+//! | what a short run says | [`rows`] |
 //!
 //! Each way to be stuck has runs too, which differ in one thing from a state that is not:
 //!
@@ -46,7 +51,6 @@ pub mod locals;
 pub mod messages;
 pub mod moves;
 pub mod prefixes;
+pub mod rows;
 pub mod samples;
 pub mod table;
-#[cfg(test)]
-mod tests;

@@ -3,100 +3,151 @@
 //! Wptr is `80000068`, at word 8, so the locals from -8 to 7 are the sixteen words from `80000048` to `80000084`.
 #![tactic(auto, unfolding(crate::proofs::Computing::by_steps))]
 
-ghost use Rattle.std.specs.Prelude.{[], ◌∷◌};
-ghost use Rattle.tp_step_runs.specs.Trials.{Leads, Sticks, bare, one, two, three, without_areg, holding, lacking, lacking_byte, local_0, filled};
+ghost use Rattle.tp_step_runs.specs.Rows.{AreSo};
+
+use crate::rows::Expected::{Leads, Sticks};
+use crate::rows::Setting::{
+    Filled, Holding, Lacking, LackingByte, One, Three, Two, WithoutAreg, Wptr,
+};
+use crate::rows::{Row, Worker, rows, worker};
 
 /// ldc (`4n`): what is on the stack goes down by one place.
-pub fn ldc()
-    ensures push { Leads (0x4F ∷ []) (three 1 2 3) (three 15 1 2) }
-    ensures minus_one { Leads (0x60 ∷ 0x4F ∷ []) bare (one 0xFFFFFFFF) }
-    ensures greatest { Leads (0x27 ∷ 0x2F ∷ 0x2F ∷ 0x2F ∷ 0x2F ∷ 0x2F ∷ 0x2F ∷ 0x4F ∷ []) bare (one 0x7FFFFFFF) }
-    ensures least { Leads (0x27 ∷ 0x2F ∷ 0x2F ∷ 0x2F ∷ 0x2F ∷ 0x2F ∷ 0x6F ∷ 0x40 ∷ []) bare (one 0x80000000) }
-{}
+pub fn ldc() -> &'static [Row]
+    ensures { AreSo result.now }
+{
+    const ROWS: &[Row] = rows! {
+        push: [0x4F], [Three(1, 2, 3)] => Leads(&[Three(15, 1, 2)]);
+        minus_one: [0x60, 0x4F], [] => Leads(&[One(0xFFFFFFFF)]);
+        greatest: [0x27, 0x2F, 0x2F, 0x2F, 0x2F, 0x2F, 0x2F, 0x4F], [] => Leads(&[One(0x7FFFFFFF)]);
+        least: [0x27, 0x2F, 0x2F, 0x2F, 0x2F, 0x2F, 0x6F, 0x40], [] => Leads(&[One(0x80000000)]);
+    };
+    ROWS
+}
 
 /// mint (`24 F2`).
-pub fn mint()
-    ensures push { Leads (0x24 ∷ 0xF2 ∷ []) (three 1 2 3) (three 0x80000000 1 2) }
-    ensures bare { Leads (0x24 ∷ 0xF2 ∷ []) bare (one 0x80000000) }
-    ensures twice { Leads (0x24 ∷ 0xF2 ∷ 0x24 ∷ 0xF2 ∷ []) bare (two 0x80000000 0x80000000) }
-{}
+pub fn mint() -> &'static [Row]
+    ensures { AreSo result.now }
+{
+    const ROWS: &[Row] = rows! {
+        push: [0x24, 0xF2], [Three(1, 2, 3)] => Leads(&[Three(0x80000000, 1, 2)]);
+        bare: [0x24, 0xF2], [] => Leads(&[One(0x80000000)]);
+        twice: [0x24, 0xF2, 0x24, 0xF2], [] => Leads(&[Two(0x80000000, 0x80000000)]);
+    };
+    ROWS
+}
 
 /// ldlp (`1n`): an address is computed, in the workspace or not; by 2^30 words it comes round to itself.
-pub fn ldlp()
-    ensures above { Leads (0x11 ∷ []) (three 1 2 3) (three 0x8000006C 1 2) }
-    ensures below { Leads (0x60 ∷ 0x1F ∷ []) bare (one 0x80000064) }
-    ensures outside { Leads (0x1F ∷ []) bare (one 0x800000A4) }
-    ensures around { Leads (0x24 ∷ 0x20 ∷ 0x20 ∷ 0x20 ∷ 0x20 ∷ 0x20 ∷ 0x20 ∷ 0x11 ∷ []) bare (one 0x8000006C) }
-{}
+pub fn ldlp() -> &'static [Row]
+    ensures { AreSo result.now }
+{
+    const ROWS: &[Row] = rows! {
+        above: [0x11], [Three(1, 2, 3)] => Leads(&[Three(0x8000006C, 1, 2)]);
+        below: [0x60, 0x1F], [] => Leads(&[One(0x80000064)]);
+        outside: [0x1F], [] => Leads(&[One(0x800000A4)]);
+        around: [0x24, 0x20, 0x20, 0x20, 0x20, 0x20, 0x20, 0x11], [] => Leads(&[One(0x8000006C)]);
+    };
+    ROWS
+}
 
 /// ldl (`7n`): the local's word is pushed; there is none at local 8 nor -9, nor where a byte is undefined. Local 2^30 + 1
 /// is local 1.
-pub fn ldl()
-    ensures first { Leads (0x70 ∷ []) (local_0 0x44332211 (three 1 2 3))
-        (local_0 0x44332211 (three 0x44332211 1 2)) }
-    ensures highest { Leads (0x77 ∷ []) (holding 15 (5 ∷ []) bare) (holding 15 (5 ∷ []) (one 5)) }
-    ensures lowest { Leads (0x60 ∷ 0x78 ∷ []) (holding 0 (5 ∷ []) bare) (holding 0 (5 ∷ []) (one 5)) }
-    ensures above { Sticks (0x78 ∷ []) (filled bare) }
-    ensures below { Sticks (0x60 ∷ 0x77 ∷ []) (filled bare) }
-    ensures undefined { Sticks (0x70 ∷ []) (lacking 8 1 bare) }
-    ensures undefined_top_byte { Sticks (0x70 ∷ []) (lacking_byte 0x8000006B bare) }
-    ensures around { Leads (0x24 ∷ 0x20 ∷ 0x20 ∷ 0x20 ∷ 0x20 ∷ 0x20 ∷ 0x20 ∷ 0x71 ∷ []) (holding 9 (5 ∷ []) bare)
-        (holding 9 (5 ∷ []) (one 5)) }
-{}
+pub fn ldl() -> &'static [Row]
+    ensures { AreSo result.now }
+{
+    const ROWS: &[Row] = rows! {
+        first: [0x70], [Three(1, 2, 3), Holding(8, &[0x44332211])]
+            => Leads(&[Three(0x44332211, 1, 2), Holding(8, &[0x44332211])]);
+        highest: [0x77], [Holding(15, &[5])] => Leads(&[One(5), Holding(15, &[5])]);
+        lowest: [0x60, 0x78], [Holding(0, &[5])] => Leads(&[One(5), Holding(0, &[5])]);
+        above: [0x78], [Filled] => Sticks;
+        below: [0x60, 0x77], [Filled] => Sticks;
+        undefined: [0x70], [Lacking(8, 1)] => Sticks;
+        undefined_top_byte: [0x70], [LackingByte(0x8000006B)] => Sticks;
+        around: [0x24, 0x20, 0x20, 0x20, 0x20, 0x20, 0x20, 0x71], [Holding(9, &[5])]
+            => Leads(&[One(5), Holding(9, &[5])]);
+    };
+    ROWS
+}
 
 /// stl (`Dn`): the local takes Areg, which is popped.
-pub fn stl()
-    ensures first { Leads (0xD0 ∷ []) (three 7 8 9) (holding 8 (7 ∷ []) (two 8 9)) }
-    ensures highest { Leads (0xD7 ∷ []) (three 7 8 9) (holding 15 (7 ∷ []) (two 8 9)) }
-    ensures loads_back { Leads (0xD1 ∷ 0x71 ∷ []) (one 0x12345678)
-        (holding 9 (0x12345678 ∷ []) (one 0x12345678)) }
-    ensures above { Sticks (0xD8 ∷ []) (one 7) }
-    ensures undefined { Sticks (0xD0 ∷ []) (without_areg 8 9) }
-{}
+pub fn stl() -> &'static [Row]
+    ensures { AreSo result.now }
+{
+    const ROWS: &[Row] = rows! {
+        first: [0xD0], [Three(7, 8, 9)] => Leads(&[Two(8, 9), Holding(8, &[7])]);
+        highest: [0xD7], [Three(7, 8, 9)] => Leads(&[Two(8, 9), Holding(15, &[7])]);
+        loads_back: [0xD1, 0x71], [One(0x12345678)] => Leads(&[One(0x12345678), Holding(9, &[0x12345678])]);
+        above: [0xD8], [One(7)] => Sticks;
+        undefined: [0xD0], [WithoutAreg(8, 9)] => Sticks;
+    };
+    ROWS
+}
 
 /// ldnl (`3n`): Areg takes the word n words on; the rest of the stack stays.
-pub fn ldnl()
-    ensures on { Leads (0x32 ∷ []) (holding 10 (5 ∷ []) (three 0x80000068 6 7))
-        (holding 10 (5 ∷ []) (three 5 6 7)) }
-    ensures back { Leads (0x60 ∷ 0x3F ∷ []) (holding 7 (5 ∷ []) (three 0x80000068 6 7))
-        (holding 7 (5 ∷ []) (three 5 6 7)) }
-    ensures misaligned { Sticks (0x30 ∷ []) (three 0x80000069 6 7) }
-    ensures outside { Sticks (0x38 ∷ []) (filled (three 0x80000068 6 7)) }
-    ensures undefined { Sticks (0x32 ∷ []) (lacking 10 1 (one 0x80000068)) }
-{}
+pub fn ldnl() -> &'static [Row]
+    ensures { AreSo result.now }
+{
+    const ROWS: &[Row] = rows! {
+        on: [0x32], [Three(0x80000068, 6, 7), Holding(10, &[5])] => Leads(&[Three(5, 6, 7), Holding(10, &[5])]);
+        back: [0x60, 0x3F], [Three(0x80000068, 6, 7), Holding(7, &[5])] => Leads(&[Three(5, 6, 7), Holding(7, &[5])]);
+        misaligned: [0x30], [Three(0x80000069, 6, 7)] => Sticks;
+        outside: [0x38], [Three(0x80000068, 6, 7), Filled] => Sticks;
+        undefined: [0x32], [One(0x80000068), Lacking(10, 1)] => Sticks;
+    };
+    ROWS
+}
 
 /// stnl (`En`): the word n words on from Areg takes Breg; Areg takes Creg, and that is all that is left.
-pub fn stnl()
-    ensures on { Leads (0xE1 ∷ []) (three 0x80000068 5 6) (holding 9 (5 ∷ []) (one 6)) }
-    ensures defines { Leads (0xE1 ∷ []) (lacking 9 1 (three 0x80000068 5 6))
-        (holding 9 (5 ∷ []) (lacking 9 1 (one 6))) }
-    ensures misaligned { Sticks (0xE1 ∷ []) (three 0x8000006A 5 6) }
-    ensures outside { Sticks (0xE0 ∷ []) (three 0x80000088 5 6) }
-    ensures undefined { Sticks (0xE0 ∷ []) (one 0x80000068) }
-{}
+pub fn stnl() -> &'static [Row]
+    ensures { AreSo result.now }
+{
+    const ROWS: &[Row] = rows! {
+        on: [0xE1], [Three(0x80000068, 5, 6)] => Leads(&[One(6), Holding(9, &[5])]);
+        defines: [0xE1], [Three(0x80000068, 5, 6), Lacking(9, 1)]
+            => Leads(&[One(6), Lacking(9, 1), Holding(9, &[5])]);
+        misaligned: [0xE1], [Three(0x8000006A, 5, 6)] => Sticks;
+        outside: [0xE0], [Three(0x80000088, 5, 6)] => Sticks;
+        undefined: [0xE0], [One(0x80000068)] => Sticks;
+    };
+    ROWS
+}
 
 /// ldnlp (`5n`): an address is computed, wrapped; the rest of the stack stays.
-pub fn ldnlp()
-    ensures on { Leads (0x53 ∷ []) (three 0x80000068 6 7) (three 0x80000074 6 7) }
-    ensures around { Leads (0x51 ∷ []) (three 0xFFFFFFFC 6 7) (three 0 6 7) }
-    ensures back { Leads (0x60 ∷ 0x5F ∷ []) (three 0 6 7) (three 0xFFFFFFFC 6 7) }
-    ensures undefined { Sticks (0x53 ∷ []) (without_areg 6 7) }
-{}
+pub fn ldnlp() -> &'static [Row]
+    ensures { AreSo result.now }
+{
+    const ROWS: &[Row] = rows! {
+        on: [0x53], [Three(0x80000068, 6, 7)] => Leads(&[Three(0x80000074, 6, 7)]);
+        around: [0x51], [Three(0xFFFFFFFC, 6, 7)] => Leads(&[Three(0, 6, 7)]);
+        back: [0x60, 0x5F], [Three(0, 6, 7)] => Leads(&[Three(0xFFFFFFFC, 6, 7)]);
+        undefined: [0x53], [WithoutAreg(6, 7)] => Sticks;
+    };
+    ROWS
+}
 
 /// ajw (`Bn`): Wptr moves, in the workspace or not; the locals move with it.
-pub fn ajw()
-    ensures on { Leads (0xB1 ∷ []) (three 1 2 3) (record (three 1 2 3) { wptr = 0x8000006C }) }
-    ensures back { Leads (0x60 ∷ 0xBF ∷ []) bare (record bare { wptr = 0x80000064 }) }
-    ensures outside { Leads (0xBF ∷ []) bare (record bare { wptr = 0x800000A4 }) }
-    ensures locals_move { Leads (0xB1 ∷ 0x71 ∷ []) (holding 10 (5 ∷ []) bare)
-        (record (holding 10 (5 ∷ []) (one 5)) { wptr = 0x8000006C }) }
-    ensures no_local { Sticks (0xBF ∷ 0x70 ∷ []) (filled bare) }
-{}
+pub fn ajw() -> &'static [Row]
+    ensures { AreSo result.now }
+{
+    const ROWS: &[Row] = rows! {
+        on: [0xB1], [Three(1, 2, 3)] => Leads(&[Three(1, 2, 3), Wptr(0x8000006C)]);
+        back: [0x60, 0xBF], [] => Leads(&[Wptr(0x80000064)]);
+        outside: [0xBF], [] => Leads(&[Wptr(0x800000A4)]);
+        locals_move: [0xB1, 0x71], [Holding(10, &[5])] => Leads(&[One(5), Holding(10, &[5]), Wptr(0x8000006C)]);
+        no_local: [0xBF, 0x70], [Filled] => Sticks;
+    };
+    ROWS
+}
 
 /// rev (`F0`).
-pub fn rev()
-    ensures swap { Leads (0xF0 ∷ []) (three 1 2 3) (three 2 1 3) }
-    ensures swap_two { Leads (0xF0 ∷ []) (two 1 2) (two 2 1) }
-    ensures undefined { Sticks (0xF0 ∷ []) (one 1) }
-    ensures undefined_areg { Sticks (0xF0 ∷ []) (without_areg 2 3) }
-{}
+pub fn rev() -> &'static [Row]
+    ensures { AreSo result.now }
+{
+    const ROWS: &[Row] = rows! {
+        swap: [0xF0], [Three(1, 2, 3)] => Leads(&[Three(2, 1, 3)]);
+        swap_two: [0xF0], [Two(1, 2)] => Leads(&[Two(2, 1)]);
+        undefined: [0xF0], [One(1)] => Sticks;
+        undefined_areg: [0xF0], [WithoutAreg(2, 3)] => Sticks;
+    };
+    ROWS
+}

@@ -1,68 +1,80 @@
 //! Runs of the message instructions. The worker's packet and its result have four bytes each, where nothing else is said.
 #![tactic(auto, unfolding(crate::proofs::Computing::by_steps))]
 
-ghost use Rattle.std.specs.Prelude.{◌≡◌, pos, Some, [], ◌∷◌, replicate};
-ghost use Rattle.tp_step_runs.specs.Trials.{Leads, LeadsIn, Sticks, SticksIn, trial, roomy_trial, bare, two, three, holding, lacking, given_way, seen_after, coming, in_phase, local_0, filled};
+ghost use Rattle.tp_step_runs.specs.Rows.{AreSo};
+
+use crate::rows::Expected::{LacksPacket, Leads, Shows, Sticks};
+use crate::rows::Setting::{
+    AfterPacket, AfterResult, Coming, Filled, GivenWay, Holding, Lacking, Sent, Three, Traced, Two,
+};
+use crate::rows::{Row, Worker, rows, worker};
 
 /// in (`F7`): the packet, which is written before the five words below Wptr become undefined.
-pub fn input()
-    ensures packet { Leads (0xF7 ∷ []) (coming (1 ∷ 2 ∷ 3 ∷ 4 ∷ 5 ∷ []) (three 4 0x80000010 0x80000068))
-        (in_phase 1 (coming (5 ∷ []) (given_way (local_0 0x04030201 bare)))) }
-    ensures unaligned { seen_after 1 (0xF7 ∷ []) (8 ∷ 9 ∷ [])
-        (coming (1 ∷ 2 ∷ 3 ∷ 4 ∷ []) (three 4 0x80000010 0x80000069))
-        ≡ Some (pos 1, Some 0x03020100 ∷ Some 0x04 ∷ []) }
-    ensures below_wptr { Leads (0xF7 ∷ []) (coming (1 ∷ 2 ∷ 3 ∷ 4 ∷ []) (three 4 0x80000010 0x80000064))
-        (in_phase 1 (coming [] (given_way bare))) }
-    ensures channel { Sticks (0xF7 ∷ []) (coming (1 ∷ 2 ∷ 3 ∷ 4 ∷ []) (three 4 0x80000014 0x80000068)) }
-    ensures length { Sticks (0xF7 ∷ [])
-        (coming (1 ∷ 2 ∷ 3 ∷ 4 ∷ 5 ∷ 6 ∷ 7 ∷ 8 ∷ []) (three 8 0x80000010 0x80000068)) }
-    ensures phase { Sticks (0xF7 ∷ [])
-        (in_phase 1 (coming (1 ∷ 2 ∷ 3 ∷ 4 ∷ []) (three 4 0x80000010 0x80000068))) }
-    ensures after_the_result { Sticks (0xF7 ∷ [])
-        (in_phase 2 (coming (1 ∷ 2 ∷ 3 ∷ 4 ∷ []) (three 4 0x80000010 0x80000068))) }
-    ensures two_words { LeadsIn (record (trial (0xF7 ∷ [])) { packet = 2 })
-        (coming (1 ∷ 0 ∷ 0 ∷ 0 ∷ 2 ∷ 0 ∷ 0 ∷ 0 ∷ []) (three 8 0x80000010 0x80000068))
-        (in_phase 1 (coming [] (given_way (holding 8 (1 ∷ 2 ∷ []) bare)))) }
-    ensures one_of_two_words { SticksIn (record (trial (0xF7 ∷ [])) { packet = 2 })
-        (coming (1 ∷ 0 ∷ 0 ∷ 0 ∷ 2 ∷ 0 ∷ 0 ∷ 0 ∷ []) (three 4 0x80000010 0x80000068)) }
-    ensures missing { Sticks (0xF7 ∷ []) (coming (1 ∷ 2 ∷ 3 ∷ []) (three 4 0x80000010 0x80000068)) }
-    ensures outside { Sticks (0xF7 ∷ []) (coming (1 ∷ 2 ∷ 3 ∷ 4 ∷ []) (three 4 0x80000010 0x80000085)) }
-    ensures undefined { Sticks (0xF7 ∷ []) (coming (1 ∷ 2 ∷ 3 ∷ 4 ∷ []) (two 4 0x80000010)) }
-{}
+pub fn input() -> &'static [Row]
+    ensures { AreSo result.now }
+{
+    const ROWS: &[Row] = rows! {
+        packet: [0xF7], [Three(4, 0x80000010, 0x80000068), Coming(&[1, 2, 3, 4, 5])]
+            => Leads(&[Holding(8, &[0x04030201]), GivenWay, Coming(&[5]), AfterPacket]);
+        unaligned: [0xF7], [Three(4, 0x80000010, 0x80000069), Coming(&[1, 2, 3, 4])]
+            => Shows(1, 1, &[(8, Some(0x03020100)), (9, Some(0x04))]);
+        below_wptr: [0xF7], [Three(4, 0x80000010, 0x80000064), Coming(&[1, 2, 3, 4])]
+            => Leads(&[GivenWay, Coming(&[]), AfterPacket]);
+        channel: [0xF7], [Three(4, 0x80000014, 0x80000068), Coming(&[1, 2, 3, 4])] => Sticks;
+        length: [0xF7], [Three(8, 0x80000010, 0x80000068), Coming(&[1, 2, 3, 4, 5, 6, 7, 8])] => Sticks;
+        phase: [0xF7], [Three(4, 0x80000010, 0x80000068), Coming(&[1, 2, 3, 4]), AfterPacket] => Sticks;
+        after_the_result: [0xF7], [Three(4, 0x80000010, 0x80000068), Coming(&[1, 2, 3, 4]), AfterResult] => Sticks;
+        two_words in TwoWordPacket: [0xF7], [Three(8, 0x80000010, 0x80000068), Coming(&[1, 0, 0, 0, 2, 0, 0, 0])]
+            => Leads(&[Holding(8, &[1, 2]), GivenWay, Coming(&[]), AfterPacket]);
+        one_of_two_words in TwoWordPacket: [0xF7],
+            [Three(4, 0x80000010, 0x80000068), Coming(&[1, 0, 0, 0, 2, 0, 0, 0])]
+            => Sticks;
+        missing: [0xF7], [Three(4, 0x80000010, 0x80000068), Coming(&[1, 2, 3])] => LacksPacket;
+        outside: [0xF7], [Three(4, 0x80000010, 0x80000085), Coming(&[1, 2, 3, 4])] => Sticks;
+        undefined: [0xF7], [Two(4, 0x80000010), Coming(&[1, 2, 3, 4])] => Sticks;
+    };
+    ROWS
+}
 
 /// out (`FB`) on link 0: the result, which is read after the five words below Wptr have become undefined.
-pub fn output_result()
-    ensures result { Leads (0xFB ∷ []) (in_phase 1 (local_0 0x04030201 (three 4 0x80000000 0x80000068)))
-        (record (in_phase 2 (given_way (local_0 0x04030201 bare))) { sent = 1 ∷ 2 ∷ 3 ∷ 4 ∷ [] }) }
-    ensures unaligned { Leads (0xFB ∷ []) (in_phase 1 (local_0 0x04030201 (three 4 0x80000000 0x80000069)))
-        (record (in_phase 2 (given_way (local_0 0x04030201 bare))) { sent = 2 ∷ 3 ∷ 4 ∷ 0 ∷ [] }) }
-    ensures below_wptr { Sticks (0xFB ∷ []) (in_phase 1 (three 4 0x80000000 0x80000064)) }
-    ensures undefined_byte { Sticks (0xFB ∷ []) (in_phase 1 (lacking 8 1 (three 4 0x80000000 0x80000068))) }
-    ensures channel { Sticks (0xFB ∷ []) (in_phase 1 (three 4 0x80000008 0x80000068)) }
-    ensures length { Sticks (0xFB ∷ []) (in_phase 1 (three 8 0x80000000 0x80000068)) }
-    ensures two_words { LeadsIn (record (trial (0xFB ∷ [])) { result = 2 })
-        (in_phase 1 (holding 8 (1 ∷ 2 ∷ []) (three 8 0x80000000 0x80000068)))
-        (record (in_phase 2 (given_way (holding 8 (1 ∷ 2 ∷ []) bare))) { sent = 1 ∷ 0 ∷ 0 ∷ 0 ∷ 2 ∷ 0 ∷ 0 ∷ 0 ∷ [] }) }
-    ensures one_of_two_words { SticksIn (record (trial (0xFB ∷ [])) { result = 2 })
-        (in_phase 1 (three 4 0x80000000 0x80000068)) }
-    ensures before_the_packet { Sticks (0xFB ∷ []) (three 4 0x80000000 0x80000068) }
-    ensures twice { Sticks (0xFB ∷ []) (in_phase 2 (three 4 0x80000000 0x80000068)) }
-    ensures outside { Sticks (0xFB ∷ []) (in_phase 1 (filled (three 4 0x80000000 0x80000085))) }
-{}
+pub fn output_result() -> &'static [Row]
+    ensures { AreSo result.now }
+{
+    const ROWS: &[Row] = rows! {
+        result: [0xFB], [Three(4, 0x80000000, 0x80000068), Holding(8, &[0x04030201]), AfterPacket]
+            => Leads(&[Holding(8, &[0x04030201]), GivenWay, AfterResult, Sent(&[1, 2, 3, 4])]);
+        unaligned: [0xFB], [Three(4, 0x80000000, 0x80000069), Holding(8, &[0x04030201]), AfterPacket]
+            => Leads(&[Holding(8, &[0x04030201]), GivenWay, AfterResult, Sent(&[2, 3, 4, 0])]);
+        below_wptr: [0xFB], [Three(4, 0x80000000, 0x80000064), AfterPacket] => Sticks;
+        undefined_byte: [0xFB], [Three(4, 0x80000000, 0x80000068), Lacking(8, 1), AfterPacket] => Sticks;
+        channel: [0xFB], [Three(4, 0x80000008, 0x80000068), AfterPacket] => Sticks;
+        length: [0xFB], [Three(8, 0x80000000, 0x80000068), AfterPacket] => Sticks;
+        two_words in TwoWordResult: [0xFB], [Three(8, 0x80000000, 0x80000068), Holding(8, &[1, 2]), AfterPacket]
+            => Leads(&[Holding(8, &[1, 2]), GivenWay, AfterResult, Sent(&[1, 0, 0, 0, 2, 0, 0, 0])]);
+        one_of_two_words in TwoWordResult: [0xFB], [Three(4, 0x80000000, 0x80000068), AfterPacket] => Sticks;
+        before_the_packet: [0xFB], [Three(4, 0x80000000, 0x80000068)] => Sticks;
+        twice: [0xFB], [Three(4, 0x80000000, 0x80000068), AfterResult] => Sticks;
+        outside: [0xFB], [Three(4, 0x80000000, 0x80000085), Filled, AfterPacket] => Sticks;
+    };
+    ROWS
+}
 
 /// out (`FB`) on link 1: trace messages, in any phase, one behind the other.
-pub fn output_trace()
-    ensures before_the_packet { Leads (0xFB ∷ []) (local_0 0x04030201 (three 8 0x80000004 0x80000068))
-        (record (given_way (local_0 0x04030201 bare)) { traced = 1 ∷ 2 ∷ 3 ∷ 4 ∷ 0 ∷ 0 ∷ 0 ∷ 0 ∷ [] }) }
-    ensures after_the_result { Leads (0xFB ∷ []) (in_phase 2 (three 4 0x80000004 0x80000068))
-        (record (in_phase 2 (given_way bare)) { traced = 0 ∷ 0 ∷ 0 ∷ 0 ∷ [] }) }
-    ensures second { Leads (0xFB ∷ []) (record (three 4 0x80000004 0x80000068) { traced = 9 ∷ [] })
-        (record (given_way bare) { traced = 9 ∷ 0 ∷ 0 ∷ 0 ∷ 0 ∷ [] }) }
-    ensures longest { LeadsIn (roomy_trial 80 (0xFB ∷ []))
-        (holding 8 (replicate 72 0) (three 256 0x80000004 0x80000068))
-        (record (given_way (holding 8 (replicate 72 0) bare)) { traced = replicate 256 0 }) }
-    ensures too_long { SticksIn (roomy_trial 80 (0xFB ∷ []))
-        (holding 8 (replicate 72 0) (three 260 0x80000004 0x80000068)) }
-    ensures nothing { Sticks (0xFB ∷ []) (three 0 0x80000004 0x80000068) }
-    ensures odd { Sticks (0xFB ∷ []) (three 6 0x80000004 0x80000068) }
-{}
+pub fn output_trace() -> &'static [Row]
+    ensures { AreSo result.now }
+{
+    const ROWS: &[Row] = rows! {
+        before_the_packet: [0xFB], [Three(8, 0x80000004, 0x80000068), Holding(8, &[0x04030201])]
+            => Leads(&[Holding(8, &[0x04030201]), GivenWay, Traced(&[1, 2, 3, 4, 0, 0, 0, 0])]);
+        after_the_result: [0xFB], [Three(4, 0x80000004, 0x80000068), AfterResult]
+            => Leads(&[GivenWay, AfterResult, Traced(&[0, 0, 0, 0])]);
+        second: [0xFB], [Three(4, 0x80000004, 0x80000068), Traced(&[9])]
+            => Leads(&[GivenWay, Traced(&[9, 0, 0, 0, 0])]);
+        longest in Roomy: [0xFB], [Three(256, 0x80000004, 0x80000068), Holding(8, &[0; 72])]
+            => Leads(&[Holding(8, &[0; 72]), GivenWay, Traced(&[0; 256])]);
+        too_long in Roomy: [0xFB], [Three(260, 0x80000004, 0x80000068), Holding(8, &[0; 72])] => Sticks;
+        nothing: [0xFB], [Three(0, 0x80000004, 0x80000068)] => Sticks;
+        odd: [0xFB], [Three(6, 0x80000004, 0x80000068)] => Sticks;
+    };
+    ROWS
+}

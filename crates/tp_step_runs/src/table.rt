@@ -1,10 +1,15 @@
-//! Small workers as image bytes, and what their runs give: worked out by hand from the instruction table.
+//! The table of all runs: short ones, and small workers as image bytes with what their runs give. All of it was worked out
+//! by hand from the instruction table.
 //!
-//! The contract of each function says that its sample is so by the definitions. A test runs them all on the machine.
+//! The contracts say that it is so by the definitions. The tests of `tp_machine_rows` make all of these runs on the machine.
 #![tactic(auto, unfolding(crate::proofs::Computing::by_steps))]
 
+ghost use Rattle.tp_step_runs.specs.Rows.{AllAreSo};
 ghost use Rattle.tp_step_runs.specs.Samples.{increment, sum_to_ten, loop_once, early_exit, jumps_into_spelling, two_ways, picks_a_word, traces, moves_a_word};
 ghost use Rattle.tp_step_runs.specs.Table.{Says};
+
+use crate::rows::Group;
+use crate::{arithmetic, bits, bytes, comparisons, control, locals, messages, moves, prefixes};
 
 /// A worker's image, a packet, and what the run of the packet alone gives.
 #[derive(Clone, Copy)]
@@ -270,5 +275,58 @@ pub fn samples() -> [Sample; 13] {
         word_picked(),
         trace_sent(),
         word_moved(),
+    ]
+}
+
+/// The short runs, by instruction.
+pub fn short_runs() -> [Group; 45]
+    ensures { AllAreSo result }
+{
+    [
+        Group("adc", arithmetic::adc()),
+        Group("add", arithmetic::add()),
+        Group("sub", arithmetic::sub()),
+        Group("mul", arithmetic::mul()),
+        Group("sum", arithmetic::sum()),
+        Group("diff", arithmetic::diff()),
+        Group("prod", arithmetic::prod()),
+        Group("div", arithmetic::div()),
+        Group("rem", arithmetic::rem()),
+        Group("gt", comparisons::gt()),
+        Group("eqc", comparisons::eqc()),
+        Group("csub0", comparisons::csub0()),
+        Group("bit_and", bits::bit_and()),
+        Group("bit_or", bits::bit_or()),
+        Group("bit_xor", bits::bit_xor()),
+        Group("bit_not", bits::bit_not()),
+        Group("shl", bits::shl()),
+        Group("shr", bits::shr()),
+        Group("ldc", locals::ldc()),
+        Group("mint", locals::mint()),
+        Group("ldlp", locals::ldlp()),
+        Group("ldl", locals::ldl()),
+        Group("stl", locals::stl()),
+        Group("ldnl", locals::ldnl()),
+        Group("stnl", locals::stnl()),
+        Group("ldnlp", locals::ldnlp()),
+        Group("ajw", locals::ajw()),
+        Group("rev", locals::rev()),
+        Group("lb", bytes::lb()),
+        Group("sb", bytes::sb()),
+        Group("bsub", bytes::bsub()),
+        Group("wsub", bytes::wsub()),
+        Group("j", control::j()),
+        Group("cj", control::cj()),
+        Group("lend", control::lend()),
+        Group("seterr", control::seterr()),
+        Group("stopp", control::stopp()),
+        Group("input", messages::input()),
+        Group("output_result", messages::output_result()),
+        Group("output_trace", messages::output_trace()),
+        Group("move_bytes", moves::move_bytes()),
+        Group("no_move", moves::no_move()),
+        Group("prefixes", prefixes::prefixes()),
+        Group("no_instruction", prefixes::no_instruction()),
+        Group("no_byte", prefixes::no_byte()),
     ]
 }
