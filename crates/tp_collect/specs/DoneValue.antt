@@ -1,5 +1,5 @@
 -- What a result says, and of which run it is the result.
-use Rattle.std.specs.Prelude.{ℕ, Bool, List}
+use Rattle.std.specs.Prelude.{ℕ, ◌≤◌, Bool, List, length}
 use Rattle.tp_image.specs.Image.{ImageValue}
 use Rattle.tp_step.specs.Runs.{Run, RunsAlone}
 
@@ -17,6 +17,11 @@ pub record DoneValue : Type 0 where
 abbrev pub run_of_done : DoneValue → Run
 run_of_done done = record { result = done.result; error = done.error; steps = done.steps; trace = done.trace }
 
--- it is what the run of the packet alone gives
-abbrev pub IsAlone : DoneValue → Type 0
-IsAlone done = RunsAlone done.image done.bytes (run_of_done done)
+-- the most bytes of a packet's trace
+abbrev pub most_trace : ℕ
+most_trace = 256
+
+-- it is what the run of the packet alone gives, whose trace is no longer than it may be
+pub record IsAlone (done : DoneValue) : Type 0 where
+  pub run : RunsAlone done.image done.bytes (run_of_done done)
+  pub short : length done.trace ≤ most_trace

@@ -4,12 +4,6 @@
 #[cfg(test)]
 mod collecting;
 #[cfg(test)]
-mod lines;
-#[cfg(test)]
-mod names;
-#[cfg(test)]
 mod sizes;
 #[cfg(test)]
 mod spellings;
-#[cfg(test)]
-mod streams;

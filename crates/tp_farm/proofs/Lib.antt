@@ -10,3 +10,4 @@ pub mod Beginning
 pub mod Settling
 pub mod Together
 pub mod Settled
+pub mod Promising

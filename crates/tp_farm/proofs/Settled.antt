@@ -41,7 +41,7 @@ module _ {D : Type 0} (state : D → DeviceState) (work : Work) (bs : List (Link
       ms : List Member
       ms = members_of state bs rs
 
-      all_well : AllDidWell work.batch work.budget work.open_for_good ms
+      all_well : AllDidWell work.batch work.open_for_good ms
       unfolding ms
       all_well = did_well state work bs rs worked well
 
@@ -59,7 +59,7 @@ module _ {D : Type 0} (state : D → DeviceState) (work : Work) (bs : List (Link
       pub vacant_at_first : FindVacant c.entries (all_filed (map (λ k. k.filed.items) new))
       vacant_at_first =
           subst (λ fs. FindVacant c.entries fs) (sym filed_same)
-          (subst (λ es. FindVacant es (everything ms)) (sym entries_is) (all_vacant work.batch work.budget work.open_for_good n l ms all_well balances sized))
+          (subst (λ es. FindVacant es (everything ms)) (sym entries_is) (all_vacant work.batch work.open_for_good n l ms all_well balances sized))
 
       module _ (c' : Collection) (filed : c' ≡ record c { entries = filed_in c.entries (all_filed (map (λ k. k.filed.items) new)) }) (entries : List Entry) (finished : entries ≡ c'.entries) (collected : IsCollected c'.batch entries) (any : 0 < length rs) (links0 links1 : List (Links D)) (no_links : links0 ≡ []) (links : links1 ≡ links0 ++ map (λ k. k.links) new) where
         entries_filed : entries ≡ filed_in (replicate n vacant) (everything ms)
@@ -78,7 +78,7 @@ module _ {D : Type 0} (state : D → DeviceState) (work : Work) (bs : List (Link
         pub is_batch : IsBatch work.batch work.open_for_good (map (of_links state) bs) (map (of_links state) links1) entries
         unfolding ms
         is_batch =
-            let it = settled work.batch work.budget work.open_for_good n l ms all_well balances sized entries entries_filed (subst (λ b. IsCollected b entries) batch_same collected) some_members in
+            let it = settled work.batch work.open_for_good n l ms all_well balances sized entries entries_filed (subst (λ b. IsCollected b entries) batch_same collected) some_members in
             subst (λ xs. IsBatch work.batch work.open_for_good (map (of_links state) bs) (map (of_links state) xs) entries) (sym links_is)
             (subst (λ xs. IsBatch work.batch work.open_for_good (map (of_links state) bs) xs entries) (after_is state work bs rs worked)
             (subst (λ xs. IsBatch work.batch work.open_for_good xs (map (λ m. m.after) ms) entries) (before_is state work bs rs worked) it))

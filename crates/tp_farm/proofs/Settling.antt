@@ -45,14 +45,14 @@ pub record Member : Type 0 where
   pub end : End
 
 -- it has done its work, and no fault ended it
-pub record DidWell (batch : Batch) (budget : ℕ) (open_for_good : Bool) (m : Member) : Type 0 where
+pub record DidWell (batch : Batch) (open_for_good : Bool) (m : Member) : Type 0 where
   pub accounts : KeepsAccounts batch m.before m.after (progress_of m.view) m.filed
-  pub ends : EndsBy batch budget open_for_good (progress_of m.view) m.end
+  pub ends : EndsBy batch open_for_good (progress_of m.view) m.end
   pub well : fault_of_end m.end ≡ None
 
-abbrev pub AllDidWell : Batch → ℕ → Bool → List Member → Type 0
-AllDidWell batch budget o [] = Unit {0}
-AllDidWell batch budget o (m ∷ ms) = DidWell batch budget o m × AllDidWell batch budget o ms
+abbrev pub AllDidWell : Batch → Bool → List Member → Type 0
+AllDidWell batch o [] = Unit {0}
+AllDidWell batch o (m ∷ ms) = DidWell batch o m × AllDidWell batch o ms
 
 abbrev pub views : List Member → List View
 views ms = map (λ m. m.view) ms
@@ -60,14 +60,14 @@ views ms = map (λ m. m.view) ms
 abbrev pub everything : List Member → List Filed
 everything ms = all_filed (map (λ m. m.filed) ms)
 
-module _ (batch : Batch) (budget : ℕ) (o : Bool) where
+module _ (batch : Batch) (o : Bool) where
   -- ---- numbers
 
   numbers-append : (xs ys : List Filed) → numbers (xs ++ ys) ≡ numbers xs ++ numbers ys
   numbers-append xs ys = map-append number_of xs ys
 
   -- the numbers that are filed are those that the seats finished and abandoned
-  filed_numbers : (x : ℕ) (ms : List Member) → AllDidWell batch budget o ms → times x (numbers (everything ms)) ≡ times x (all_finished (views ms)) + times x (all_abandoned (views ms))
+  filed_numbers : (x : ℕ) (ms : List Member) → AllDidWell batch o ms → times x (numbers (everything ms)) ≡ times x (all_finished (views ms)) + times x (all_abandoned (views ms))
   filed_numbers x [] h = refl
   filed_numbers x (m ∷ ms) h =
       omega (
@@ -84,7 +84,7 @@ module _ (batch : Batch) (budget : ℕ) (o : Bool) where
 
   -- ---- devices
 
-  same_all : (ms : List Member) → AllDidWell batch budget o ms → AllZip SameSettings (map (λ m. m.before) ms) (map (λ m. m.after) ms)
+  same_all : (ms : List Member) → AllDidWell batch o ms → AllZip SameSettings (map (λ m. m.before) ms) (map (λ m. m.after) ms)
   same_all [] h = tt
   same_all (m ∷ ms) h = (h.0.accounts.settings, same_all ms h.1)
 
@@ -93,7 +93,7 @@ module _ (batch : Batch) (budget : ℕ) (o : Bool) where
   rises_at Sink m h = h.rises.sink
   rises_at Trace m h = h.rises.trace
 
-  failed_all : (which : Link) (ms : List Member) → AllDidWell batch budget o ms → failures_at which (map (λ m. m.after) ms) ≡ failures_at which (map (λ m. m.before) ms) + sum_by (filed_failed which) (everything ms)
+  failed_all : (which : Link) (ms : List Member) → AllDidWell batch o ms → failures_at which (map (λ m. m.after) ms) ≡ failures_at which (map (λ m. m.before) ms) + sum_by (filed_failed which) (everything ms)
   failed_all which [] h = refl
   failed_all which (m ∷ ms) h =
       omega (
@@ -117,7 +117,7 @@ module _ (batch : Batch) (budget : ℕ) (o : Bool) where
   lost_at members i devices (filed.Lost number fault) at h = record { packet = h.packet; is = h.is; member = i; devices = devices; there = at; cause = h.cause }
 
   -- of members of whom some others stand before
-  lost_from : (members : List Devices) (n : ℕ) (ms : List Member) → ((i : ℕ) (m : Member) → slice_get ms i ≡ Some m → slice_get members (n + i) ≡ Some m.before) → AllDidWell batch budget o ms → All (HasLost members) (everything ms)
+  lost_from : (members : List Devices) (n : ℕ) (ms : List Member) → ((i : ℕ) (m : Member) → slice_get ms i ≡ Some m → slice_get members (n + i) ≡ Some m.before) → AllDidWell batch o ms → All (HasLost members) (everything ms)
   lost_from members n [] at h = All-nil (HasLost members)
   lost_from members n (m ∷ ms) at h =
       All-append (HasLost members) m.filed (everything ms)
@@ -129,7 +129,7 @@ module _ (batch : Batch) (budget : ℕ) (o : Bool) where
   before_at (u ∷ ms) zero m is = ap (λ o. option_map (λ m. m.before) o) is
   before_at (u ∷ ms) (suc i) m is = before_at ms i m is
 
-  lost_all : (ms : List Member) → AllDidWell batch budget o ms → All (HasLost (map (λ m. m.before) ms)) (everything ms)
+  lost_all : (ms : List Member) → AllDidWell batch o ms → All (HasLost (map (λ m. m.before) ms)) (everything ms)
   lost_all ms h = lost_from (map (λ m. m.before) ms) 0 ms (λ i m is. subst (λ k. slice_get (map (λ m. m.before) ms) k ≡ Some m.before) (omega arith) (before_at ms i m is)) h
 
   none_of : (which : Link) (k : ℕ) → sum_by (tells_failure which) (replicate k vacant) ≡ 0
@@ -138,7 +138,7 @@ module _ (batch : Batch) (budget : ℕ) (o : Bool) where
 
   -- ---- the entries
 
-  module _ (n : ℕ) (l : Ledger) (ms : List Member) (h : AllDidWell batch budget o ms) (b : Balances n (views ms) l) (sized : n ≡ length batch.packets) where
+  module _ (n : ℕ) (l : Ledger) (ms : List Member) (h : AllDidWell batch o ms) (b : Balances n (views ms) l) (sized : n ≡ length batch.packets) where
     -- each number is filed once at most, and it was drawn
     few : (x : ℕ) → times x (numbers (everything ms)) + times x (all_in_hand (views ms)) ≡ once_below x l.drawn
     few x =
@@ -221,10 +221,10 @@ module _ (batch : Batch) (budget : ℕ) (o : Bool) where
           true_false : {X : Type 0} → ◌≡◌ {A = Bool} true false → X
           true_false e = cc
 
-      none_called : (m : Member) → DidWell batch budget o m → m.view.stop_callers ≡ 0
+      none_called : (m : Member) → DidWell batch o m → m.view.stop_callers ≡ 0
       none_called m d = by_end m.end d.well d.ends
         where
-          by_end : (e : End) → fault_of_end e ≡ None → EndsBy batch budget o (progress_of m.view) e → m.view.stop_callers ≡ 0
+          by_end : (e : End) → fault_of_end e ≡ None → EndsBy batch o (progress_of m.view) e → m.view.stop_callers ≡ 0
           by_end end.Drained well (hand, called, ended) = no_stop _ m.view.stop_callers refl called
           by_end end.Stopped well (hand, inl (called, seen)) = no_stop _ m.view.stop_callers refl called
           by_end end.Stopped well (hand, inr closed) = not_closed closed
@@ -232,7 +232,7 @@ module _ (batch : Batch) (budget : ℕ) (o : Bool) where
           by_end end.Stuck well e = cc
           by_end end.Limit well e = cc
 
-      none_calls : (us : List Member) → AllDidWell batch budget o us → total (λ v. v.stop_callers) (views us) ≡ 0
+      none_calls : (us : List Member) → AllDidWell batch o us → total (λ v. v.stop_callers) (views us) ≡ 0
       none_calls [] d = refl
       none_calls (u ∷ us) d = omega (arith, none_called u d.0, none_calls us d.1)
 
@@ -240,26 +240,26 @@ module _ (batch : Batch) (budget : ℕ) (o : Bool) where
       not_stopped is = omega (arith, b.stopped.0 is, none_calls ms h)
 
       -- a member has nothing in hand
-      empty_hand : (m : Member) → DidWell batch budget o m → m.view.hand ≡ []
+      empty_hand : (m : Member) → DidWell batch o m → m.view.hand ≡ []
       empty_hand m d = by_end m.end d.well d.ends
         where
           none_left : (hand : List ℕ) → first_of hand ≡ None → hand ≡ []
           none_left [] e = refl
           none_left (x ∷ hand) e = cc
 
-          by_end : (e : End) → fault_of_end e ≡ None → EndsBy batch budget o (progress_of m.view) e → m.view.hand ≡ []
+          by_end : (e : End) → fault_of_end e ≡ None → EndsBy batch o (progress_of m.view) e → m.view.hand ≡ []
           by_end end.Drained well e = none_left m.view.hand e.0
           by_end end.Stopped well e = none_left m.view.hand e.0
           by_end end.Memory well e = cc
           by_end end.Stuck well e = cc
           by_end end.Limit well e = cc
 
-      empty_hands : (us : List Member) → AllDidWell batch budget o us → all_in_hand (views us) ≡ []
+      empty_hands : (us : List Member) → AllDidWell batch o us → all_in_hand (views us) ≡ []
       empty_hands [] d = refl
       empty_hands (u ∷ us) d = rw (empty_hand u d.0) (empty_hands us d.1)
 
       -- and a member ends where there are no more packets
-      first_drained : (m : Member) (us : List Member) → ms ≡ m ∷ us → DidWell batch budget o m → l.drawn ≡ n
+      first_drained : (m : Member) (us : List Member) → ms ≡ m ∷ us → DidWell batch o m → l.drawn ≡ n
       first_drained m us is d = by_end m.end d.well d.ends
         where
           seen_there : get_elem? (views ms) 0 ≡ some m.view
@@ -274,7 +274,7 @@ module _ (batch : Batch) (budget : ℕ) (o : Bool) where
           was_true : (k : ℕ) → nat_lt 0 k ≡ true → 0 < k
           was_true k e = grind (arith, nat_tests, e)
 
-          by_end : (e : End) → fault_of_end e ≡ None → EndsBy batch budget o (progress_of m.view) e → l.drawn ≡ n
+          by_end : (e : End) → fault_of_end e ≡ None → EndsBy batch o (progress_of m.view) e → l.drawn ≡ n
           by_end end.Drained well (hand, called, inl ended) = b.ended (omega (arith, was_true m.view.ended ended, ended_somewhere))
           by_end end.Drained well (hand, called, inr all) = omega (arith, all, drawn_some, b.drawn, b.within, sized)
           by_end end.Stopped well (hand, inl (called, seen)) = absurd (not_stopped (b.stop_seen 0 m.view seen_there (was_true m.view.seen.stop seen)))
@@ -283,7 +283,7 @@ module _ (batch : Batch) (budget : ℕ) (o : Bool) where
           by_end end.Stuck well e = cc
           by_end end.Limit well e = cc
 
-      all_drawn_up : (us : List Member) → ms ≡ us → AllDidWell batch budget o us → 0 < length us → l.drawn ≡ n
+      all_drawn_up : (us : List Member) → ms ≡ us → AllDidWell batch o us → 0 < length us → l.drawn ≡ n
       all_drawn_up [] is d any = absurd (omega (arith, any))
       all_drawn_up (m ∷ us) is d any = first_drained m us is d.0
 

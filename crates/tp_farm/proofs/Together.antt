@@ -27,7 +27,7 @@ module _ {D : Type 0} (state : D → DeviceState) where
     abbrev Worked : List (Links D) → List (Returned SeatView Filed D) → Type 0
     Worked bs rs = AllZip (HasWorked state work) bs rs
 
-    pub did_well : (bs : List (Links D)) (rs : List (Returned SeatView Filed D)) → Worked bs rs → All (λ r. fault_of_end r.end ≡ None) rs → AllDidWell work.batch work.budget work.open_for_good (members_of bs rs)
+    pub did_well : (bs : List (Links D)) (rs : List (Returned SeatView Filed D)) → Worked bs rs → All (λ r. fault_of_end r.end ≡ None) rs → AllDidWell work.batch work.open_for_good (members_of bs rs)
     unfolding members_of
     did_well [] rs h well = tt
     did_well (b ∷ bs) [] h well = absurd h

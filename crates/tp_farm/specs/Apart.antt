@@ -15,4 +15,4 @@ kept_of r = record { links = r.links; filed = r.filed }
 -- a member of a job has ended as it says
 pub record EndsAsItSays (job : Job) {D : Type 0} (r : Returned SeatView Filed D) : Type 0 where
   pub open_for_good : Bool
-  pub ends : EndsBy (batch_of job) job.image.now.budget open_for_good (progress_of r.hand.view) r.end
+  pub ends : EndsBy (batch_of job) open_for_good (progress_of r.hand.view) r.end

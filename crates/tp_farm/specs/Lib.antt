@@ -11,5 +11,6 @@ pub mod Gathering
 pub mod Apart
 pub mod Batches
 pub mod Rooms
+pub mod Promised
 pub use Rattle.tp_machine.specs.Devices
 pub use Rattle.tp_collect.specs.Collected

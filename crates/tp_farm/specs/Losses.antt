@@ -1,5 +1,5 @@
 -- Why a packet may be lost.
-use Rattle.std.specs.Prelude.{◌≡◌, ℕ, ◌*◌, ◌<◌, min, false, List, length}
+use Rattle.std.specs.Prelude.{◌≡◌, ℕ, ◌*◌, ◌<◌, min, true, false, List, length}
 use Rattle.tp_link.specs.Device.{DeviceState}
 use Rattle.tp_link.specs.declared.device.DeviceFault.{DeviceFault}
 use Rattle.tp_link.specs.declared.device.DeviceFault.TheVariants.{Closed, Full, Short, Failed}
@@ -10,10 +10,7 @@ use Rattle.tp_step.specs.State.{State}
 use Rattle.tp_step.specs.Steps.{Reaches}
 use Rattle.tp_step.specs.Runs.{start}
 use Rattle.tp_machine.specs.Devices.{Devices}
-
--- the most bytes of a packet's trace
-abbrev pub most_trace : ℕ
-most_trace = 256
+use Rattle.tp_collect.specs.DoneValue.{most_trace}
 
 -- on its way from a packet's start a worker sends more bytes on link 1 than a trace may have, or than there is room for
 pub record TracesMore (image : ImageValue) (packet : List ℕ) (room : ℕ) : Type 0 where
@@ -21,10 +18,10 @@ pub record TracesMore (image : ImageValue) (packet : List ℕ) (room : ℕ) : Ty
   pub way : Reaches image (start image packet) state
   pub more : min most_trace room < length state.traced
 
--- a device's refusal has a cause: it failed, and its count of faults tells so; it is closed; it lacks room. It never holds
--- fewer bytes than are asked for.
+-- a device's refusal has a cause: it can fail (how often devices failed is told by their counts of faults); it is closed; it
+-- lacks room. It never holds fewer bytes than are asked for.
 abbrev pub HasCause : DeviceState → (lacks_room : Type 0) → DeviceFault → Type 0
-HasCause device lacks_room Failed = Unit {0}
+HasCause device lacks_room Failed = device.fallible ≡ true
 HasCause device lacks_room Closed = device.opened ≡ false
 HasCause device lacks_room Full = lacks_room
 HasCause device lacks_room Short = ⊥

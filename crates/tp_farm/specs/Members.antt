@@ -11,7 +11,6 @@ use Rattle.tp_farm.specs.declared.member.End.{End}
 use Rattle.tp_farm.specs.declared.member.End.TheVariants as end
 use Rattle.tp_farm.specs.Settings.{SameSettings, Rises, failed_by}
 use Rattle.tp_farm.specs.Losses.{MayLose}
-use Rattle.tp_farm.specs.Handled.{SticksOn, GoesOn}
 
 -- ---- what is filed
 
@@ -52,20 +51,13 @@ pub record KeepsAccounts (batch : Batch) (before now : Devices) (p : Progress) (
 
 -- ---- how a member ends
 
--- of some packet of the batch this is so
-pub record SomePacket (batch : Batch) (P : List ℕ → Type 0) : Type 0 where
-  pub number : ℕ
-  pub packet : List ℕ
-  pub is : slice_get batch.packets number ≡ Some packet
-  pub does : P packet
-
 -- With nothing in hand, a member ends where there are no more packets, or where the source was stopped; it stops the source
--- itself only by its gate, or by a fault.
-abbrev pub EndsBy : Batch → (budget : ℕ) → (open_for_good : Bool) → Progress → End → Type 0
-EndsBy batch budget open_for_good p end.Drained =
+-- itself only by its gate, or where memory was refused. No worker of an accepted image is stuck or goes past its budget.
+abbrev pub EndsBy : Batch → (open_for_good : Bool) → Progress → End → Type 0
+EndsBy batch open_for_good p end.Drained =
     (p.in_hand ≡ None) × (p.stop_called ≡ false) × ((p.ended ≡ true) ⊎ (length batch.packets < length p.taken))
-EndsBy batch budget open_for_good p end.Stopped =
+EndsBy batch open_for_good p end.Stopped =
     (p.in_hand ≡ None) × (((p.stop_called ≡ false) × (p.stop_seen ≡ true)) ⊎ (open_for_good ≡ false))
-EndsBy batch budget open_for_good p end.Memory = Unit {0}
-EndsBy batch budget open_for_good p end.Stuck = SomePacket batch (SticksOn batch.image)
-EndsBy batch budget open_for_good p end.Limit = SomePacket batch (λ packet. GoesOn batch.image packet budget)
+EndsBy batch open_for_good p end.Memory = Unit {0}
+EndsBy batch open_for_good p end.Stuck = ⊥
+EndsBy batch open_for_good p end.Limit = ⊥

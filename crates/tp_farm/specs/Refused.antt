@@ -3,9 +3,7 @@ use Rattle.std.specs.Prelude.{ℕ, ◌*◌, ◌==◌, not, ◌||◌, nat_lt, if�
 use Rattle.std.specs.Option.{option_map}
 use Rattle.tp_collect.specs.Collected.{Batch}
 use Rattle.tp_farm.specs.declared.fault.FarmFault.{FarmFault}
-use Rattle.tp_farm.specs.declared.fault.FarmFault.TheVariants.{Members, Packets, Length, Thread, Stuck, Limit, Memory}
-use Rattle.tp_farm.specs.Handled.{SticksOn, GoesOn}
-use Rattle.tp_farm.specs.Members.{SomePacket}
+use Rattle.tp_farm.specs.declared.fault.FarmFault.TheVariants.{Members, Packets, Length, Thread, Memory}
 
 -- the most members, and the most packets
 abbrev pub most_members : ℕ
@@ -25,16 +23,9 @@ job_fault members batch =
     else if nat_lt most_packets (length batch.packets) then Some Packets
     else option_map Length (first_other batch)
 
--- what the machine it runs on refused: G4, memory
+-- why a batch that has begun gives nothing: what it runs on refused a thread (G4) or memory. Neither G5 nor G6 comes, since
+-- no worker of an accepted image is stuck or goes past its budget.
 abbrev pub IsFromOutside : FarmFault → Type 0
 IsFromOutside Thread = Unit {0}
 IsFromOutside Memory = Unit {0}
 IsFromOutside fault = ⊥
-
--- why a batch that has begun gives nothing: G5 where a worker is stuck, and G6 where one has not ended within its budget
-abbrev pub EndsWithout : Batch → (budget : ℕ) → FarmFault → Type 0
-EndsWithout batch budget Thread = Unit {0}
-EndsWithout batch budget Memory = Unit {0}
-EndsWithout batch budget Stuck = SomePacket batch (SticksOn batch.image)
-EndsWithout batch budget Limit = SomePacket batch (λ packet. GoesOn batch.image packet budget)
-EndsWithout batch budget fault = ⊥

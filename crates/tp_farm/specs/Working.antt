@@ -1,5 +1,5 @@
 -- What a member's thread gives back.
-use Rattle.std.specs.Prelude.{◌≡◌, ℕ, Bool}
+use Rattle.std.specs.Prelude.{◌≡◌, Bool}
 use Rattle.tp_link.specs.Device.{DeviceState}
 use Rattle.tp_link.specs.declared.links.Links.{Links}
 use Rattle.tp_board.specs.Boards.{BoardView, SeatView, IsSeatOf}
@@ -14,17 +14,15 @@ use Rattle.tp_farm.specs.Turns.{no_progress}
 use Rattle.tp_farm.specs.Stages.{of_links}
 use Rattle.tp_farm.specs.Members.{KeepsAccounts, EndsBy}
 
--- what all members work on: the batch, the budget of its image, whether its gate is open for good, and the board
+-- what all members work on: the batch, whether its gate is open for good, and the board
 pub record Work : Type 0 where
   pub batch : Batch
-  pub budget : ℕ
   pub open_for_good : Bool
   pub board : BoardView
 
 abbrev pub work_on : {G : Type 0} → (G → Bool) → Job → G → BoardView → Work
 work_on open_for_good job gate board = record {
   batch = batch_of job;
-  budget = job.image.now.budget;
   open_for_good = open_for_good gate;
   board = board;
 }
@@ -47,4 +45,4 @@ pub record IsFresh (board : BoardView) (seat : SeatView) : Type 0 where
 pub record HasWorked {D : Type 0} (state : D → DeviceState) (work : Work) (before : Links D) (r : Returned SeatView Filed D) : Type 0 where
   pub own : IsSeatOf work.board r.hand
   pub accounts : KeepsAccounts work.batch (of_links state before) (of_links state r.links) (progress_of r.hand.view) r.filed.items
-  pub ends : EndsBy work.batch work.budget work.open_for_good (progress_of r.hand.view) r.end
+  pub ends : EndsBy work.batch work.open_for_good (progress_of r.hand.view) r.end

@@ -8,7 +8,7 @@ ghost use Rattle.tp_collect.specs.Collecting.{vacant};
 ghost use Rattle.tp_farm.specs.Jobs.{batch_of};
 ghost use Rattle.tp_farm.specs.Stages.{of_links};
 ghost use Rattle.tp_farm.specs.Working.{HasWorked, work_on};
-ghost use Rattle.tp_farm.specs.Refused.{job_fault, EndsWithout};
+ghost use Rattle.tp_farm.specs.Refused.{job_fault, IsFromOutside};
 ghost use Rattle.tp_farm.specs.Batches.{IsBatch};
 ghost use Rattle.tp_farm.specs.Rooms.{HasRoom};
 
@@ -108,7 +108,7 @@ fn settle<D: LinkDevice, G: Gate>(
     requires collector { collector ≡ record { batch = batch_of job.now; entries = replicate board.packets vacant } }
     requires room { HasRoom (vec_len returned) room }
     ensures batch { IfOk result (λ b. IsBatch (batch_of job.now) (G.open_for_good _gate.now) (map (of_links D.state) _before.value.items) (map (of_links D.state) b.links.items) b.collected) }
-    ensures err { IfErr result (EndsWithout (batch_of job.now) job.now.image.now.budget) }
+    ensures err { IfErr result IsFromOutside }
 {
     take_seats(job, returned, &mut room.seats, &mut room.kept)?;
     let _ledger = close_board(board, room.seats);
@@ -123,7 +123,7 @@ fn settle<D: LinkDevice, G: Gate>(
 /// in the order given; where there is a fault they are dropped. It may wait.
 ///
 /// G1, G2 and G3 are tested first, in this order. Where a thread cannot be started no further one is, and the members that
-/// were started go on until they end. A member with a fault of its own stops the batch first.
+/// were started go on until they end. A member to which memory was refused stops the batch first. Neither G5 nor G6 comes.
 pub fn run_batch<'j, R: Threads + Wait + Sync, D: LinkDevice + Send, G: Gate>(
     rt: &R,
     alloc: Global,
@@ -134,7 +134,7 @@ pub fn run_batch<'j, R: Threads + Wait + Sync, D: LinkDevice + Send, G: Gate>(
     ensures batch { IfOk result (λ b. IsBatch (batch_of job.now) (G.open_for_good gate.now) (map (of_links D.state) links.items) (map (of_links D.state) b.links.items) b.collected) }
     ensures begins { OnOk result (job_fault (length links.items) (batch_of job.now) ≡ None) }
     ensures refused { IfSome (job_fault (length links.items) (batch_of job.now)) (λ fault. result ≡ Err fault) }
-    ensures err { job_fault (length links.items) (batch_of job.now) ≡ None → IfErr result (EndsWithout (batch_of job.now) job.now.image.now.budget) }
+    ensures err { job_fault (length links.items) (batch_of job.now) ≡ None → IfErr result IsFromOutside }
 {
     if let Some(fault) = job_fault(job, links.len()) {
         return Err(fault);

@@ -6,7 +6,7 @@ ghost use Rattle.tp_collect.specs.Collected.{Batch};
 ghost use Rattle.tp_collect.specs.Collecting.{vacant};
 ghost use Rattle.tp_farm.specs.Jobs.{batch_of};
 ghost use Rattle.tp_farm.specs.Members.{EndsBy};
-ghost use Rattle.tp_farm.specs.Refused.{EndsWithout};
+ghost use Rattle.tp_farm.specs.Refused.{IsFromOutside};
 ghost use Rattle.tp_farm.specs.Gathering.{number_of, entry_of, IsOfBatch, filed_in, FindVacant, all_filed, fault_of_end};
 ghost use Rattle.tp_farm.specs.Apart.{EndsAsItSays, kept_of};
 
@@ -50,7 +50,7 @@ pub(crate) fn take_seats<D: LinkDevice>(
     ensures seats { OnOk result (seats.new.items ≡ seats.old.items ++ map (λ r. r.hand) returned.items) }
     ensures kept { OnOk result (kept.new.items ≡ kept.old.items ++ map kept_of returned.items) }
     ensures well { OnOk result (All (λ r. fault_of_end r.end ≡ None) returned.items) }
-    ensures err { IfErr result (EndsWithout (batch_of _job.now) _job.now.image.now.budget) }
+    ensures err { IfErr result IsFromOutside }
 {
     for one in returned {
         if let Some(fault) = fault_of_end(one.end) {

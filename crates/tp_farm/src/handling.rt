@@ -5,7 +5,7 @@ ghost use Rattle.tp_link.specs.Device.{failures};
 ghost use Rattle.tp_machine.specs.Devices.{devices};
 ghost use Rattle.tp_collect.specs.Collected.{IsResult};
 ghost use Rattle.tp_farm.specs.Settings.{SameDevice, SameSettings, Rises, failures_of};
-ghost use Rattle.tp_farm.specs.Losses.{HasCause, most_trace};
+ghost use Rattle.tp_farm.specs.Losses.{HasCause};
 ghost use Rattle.tp_farm.specs.Stages.{of_links, IsReady, HasGiven, HasTraced};
 ghost use Rattle.tp_farm.specs.Jobs.{batch_of};
 ghost use Rattle.tp_farm.specs.Handled.{on_link, HasReason, failed_in};
@@ -56,7 +56,7 @@ fn prepare<D: LinkDevice>(
     ensures settings { SameSettings (of_links D.state links.old) (of_links D.state links.new) }
     ensures rises { Rises (of_links D.state links.old) (of_links D.state links.new) (λ which. failed_in which result) }
     ensures ready { OnOk result (IsReady packet.now.items (of_links D.state links.new)) }
-    ensures reason { IfErr result (HasReason _accepted.now.image _accepted.now.budget packet.now.items (of_links D.state links.old)) }
+    ensures reason { IfErr result (HasReason _accepted.now.image packet.now.items (of_links D.state links.old)) }
 {
     of_link(Link::Source, empty(&mut links.source))?;
     of_link(Link::Sink, empty(&mut links.sink))?;
@@ -76,7 +76,7 @@ fn run_on<D: LinkDevice>(
     ensures settings { SameSettings (of_links D.state links.old) (of_links D.state links.new) }
     ensures rises { Rises (of_links D.state links.old) (of_links D.state links.new) (λ which. failed_in which result) }
     ensures given { IfOk result (λ outcome. HasGiven accepted.now.image _packet.now.items outcome (of_links D.state links.new)) }
-    ensures reason { IfErr result (HasReason accepted.now.image accepted.now.budget _packet.now.items (of_links D.state links.old)) }
+    ensures reason { IfErr result (HasReason accepted.now.image _packet.now.items (of_links D.state links.old)) }
 {
     machine.run(accepted, links)
 }
@@ -107,7 +107,7 @@ fn trace_held<D: LinkDevice>(
     ensures settings { SameSettings (of_links D.state links.old) (of_links D.state links.new) }
     ensures rises { Rises (of_links D.state links.old) (of_links D.state links.new) (λ which. failed_in which result) }
     ensures bytes { IfOk result (λ bytes. bytes.items ≡ (D.state links.old.trace).held) }
-    ensures reason { IfErr result (HasReason _accepted.now.image _accepted.now.budget _packet.now.items (of_links D.state links.old)) }
+    ensures reason { IfErr result (HasReason _accepted.now.image _packet.now.items (of_links D.state links.old)) }
 {
     let n = links.trace.held();
     if n > MOST_RECEIVED {
@@ -135,7 +135,7 @@ pub(crate) fn handle<D: LinkDevice>(
     ensures settings { SameSettings (of_links D.state links.old) (of_links D.state links.new) }
     ensures rises { Rises (of_links D.state links.old) (of_links D.state links.new) (λ which. failed_in which result) }
     ensures done { IfOk result (IsResult (batch_of job.now) number) }
-    ensures reason { IfErr result (HasReason job.now.image.now.image job.now.image.now.budget packet.now.items (of_links D.state links.old)) }
+    ensures reason { IfErr result (HasReason job.now.image.now.image packet.now.items (of_links D.state links.old)) }
 {
     prepare(job.image, packet, links)?;
     let outcome = run_on(machine, job.image, packet, links)?;

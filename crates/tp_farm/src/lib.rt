@@ -7,6 +7,7 @@ mod gate;
 mod gathering;
 mod handling;
 mod job;
+pub mod laws;
 mod member;
 mod members;
 mod worker;

@@ -34,9 +34,9 @@ pub(crate) enum End {
     Stopped,
     /// Memory was refused.
     Memory,
-    /// A worker was stuck.
+    /// A worker was stuck: never, of an accepted image.
     Stuck,
-    /// A worker did not end within its budget.
+    /// A worker did not end within its budget: never, of an accepted image.
     Limit,
 }
 
@@ -73,7 +73,7 @@ fn file_packet<W: WorkSource, D: LinkDevice, G: Gate>(
     ensures entry { member.new.entry.value ≡ member.old.entry.value }
     ensures accounts { KeepsAccounts (batch_of job.now) (of_links D.state member.new.entry.value) (of_links D.state member.new.links) (W.progress member.new.hand) member.new.filed.items }
     ensures going { result ≡ None → HasPutDown (W.progress member.old.hand) (W.progress member.new.hand) }
-    ensures end { IfSome result (EndsBy (batch_of job.now) job.now.image.now.budget (G.open_for_good gate.now) (W.progress member.new.hand)) }
+    ensures end { IfSome result (EndsBy (batch_of job.now) (G.open_for_good gate.now) (W.progress member.new.hand)) }
 {
     gate.claimed(member.number, number);
     match handle(&mut member.machine, job, number, packet, &mut member.links) {
@@ -117,7 +117,7 @@ fn take_turn<W: WorkSource, D: LinkDevice, G: Gate>(
     ensures entry { member.new.entry.value ≡ member.old.entry.value }
     ensures accounts { KeepsAccounts (batch_of job.now) (of_links D.state member.new.entry.value) (of_links D.state member.new.links) (W.progress member.new.hand) member.new.filed.items }
     ensures going { result ≡ None → HasTaken (W.progress member.old.hand) (W.progress member.new.hand) }
-    ensures end { IfSome result (EndsBy (batch_of job.now) job.now.image.now.budget (G.open_for_good gate.now) (W.progress member.new.hand)) }
+    ensures end { IfSome result (EndsBy (batch_of job.now) (G.open_for_good gate.now) (W.progress member.new.hand)) }
 {
     if member.filed.reserve(1).is_err() {
         source.stop(&mut member.hand);
@@ -151,7 +151,7 @@ pub(crate) fn work<W: WorkSource, D: LinkDevice, G: Gate>(
     ensures own { W.is_own source.now member.new.hand }
     ensures entry { member.new.entry.value ≡ member.old.entry.value }
     ensures accounts { KeepsAccounts (batch_of job.now) (of_links D.state member.new.entry.value) (of_links D.state member.new.links) (W.progress member.new.hand) member.new.filed.items }
-    ensures end { EndsBy (batch_of job.now) job.now.image.now.budget (G.open_for_good gate.now) (W.progress member.new.hand) result }
+    ensures end { EndsBy (batch_of job.now) (G.open_for_good gate.now) (W.progress member.new.hand) result }
 {
     for _ in 0..job.packets.len() + 1 {
         if let Some(end) = take_turn(rt, job, gate, source, member) {

@@ -24,7 +24,7 @@ use workers::Worker;
 const TIMED_PACKETS: u32 = 1024;
 
 /// How often each rate is taken; the best is printed.
-const TIMES: u32 = 3;
+const TIMES: u32 = 12;
 
 const MEMBERS: [u32; 3] = [1, 2, 4];
 

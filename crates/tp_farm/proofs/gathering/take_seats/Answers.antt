@@ -3,6 +3,7 @@ use Rattle.std.proofs.lemmas.List.Elements.{All-head, All-rest, All-cons}
 use Rattle.std.specs.List.{All}
 use Rattle.tp_farm.specs.Gathering.{fault_of_end}
 use Rattle.tp_board.specs.Sources.{progress_of}
+use Rattle.tp_farm.specs.Jobs.{batch_of}
 use Rattle.tp_farm.specs.Apart.{EndsAsItSays, kept_of}
 use Rattle.tp_farm.proofs.Filing.{moved}
 use Rattle.tp_farm.proofs.Ending.{fault_reason}
@@ -26,7 +27,7 @@ pub returns-in-Some-fault_of_end-clause-err : goal.returns-in-Some-fault_of_end-
 returns-in-Some-fault_of_end-clause-err g c =
     let was = c.loop-one.invariant in let step = c.in-Some.ensures.steps in
     let says = All-head (EndsAsItSays c.args._job.now) c.in-Some.one _ (subst (All (EndsAsItSays c.args._job.now)) step.0 was.2) in
-    fault_reason _ _ says.open_for_good (progress_of c.in-Some.one.hand.view) _ c.in-Some-fault_of_end.fault (sym c.fault_of_end.ensures ∙ c.in-Some-fault_of_end.is) says.ends
+    fault_reason (batch_of c.args._job.now) says.open_for_good (progress_of c.in-Some.one.hand.view) _ c.in-Some-fault_of_end.fault (sym c.fault_of_end.ensures ∙ c.in-Some-fault_of_end.is) says.ends
 
 pub returns-clause-well : goal.returns-clause-well
 returns-clause-well g c =

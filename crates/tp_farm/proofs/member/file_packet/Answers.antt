@@ -17,16 +17,14 @@ pub returns-in-Err-Link-clause-accounts : goal.returns-in-Err-Link-clause-accoun
 returns-in-Err-Link-clause-accounts g c =
     let put = went _ (g.W.WorkSource.progress c.args.member.now.hand) _ c.abandon.result c.requires.in_hand c.abandon.ensures.ok c.abandon.ensures.empty in
     let rises = subst (λ (e : RunFault). Rises (of_links g.D.LinkDevice.state c.args.member.now.links) (of_links g.D.LinkDevice.state c.handle.new.links) (λ which. failed_in {A = DoneValue} which (Err e))) c.in-Err-Link.field-0-is c.in-Err-Link.ensures.rises in
-    let reason = subst (HasReason c.args.job.now.image.now.image c.args.job.now.image.now.budget c.args.packet.now.items (of_links g.D.LinkDevice.state c.args.member.now.links)) c.in-Err-Link.field-0-is c.in-Err-Link.ensures.reason in
+    let reason = subst (HasReason c.args.job.now.image.now.image c.args.packet.now.items (of_links g.D.LinkDevice.state c.args.member.now.links)) c.in-Err-Link.field-0-is c.in-Err-Link.ensures.reason in
     rw c.push_reserved-in-Err-Link.ensures.items
     (accounts_lost _ _ _ _ _ _ _ c.requires.accounts c.in-Err-Link.ensures.settings c.args.number put.0 c.args.packet.now.items _ rises c.requires.packet reason c.requires.in_hand put.1)
 
 pub returns-in-Err-Stuck-clause-end : goal.returns-in-Err-Stuck-clause-end
 returns-in-Err-Stuck-clause-end g c =
-    let reason = subst (HasReason c.args.job.now.image.now.image c.args.job.now.image.now.budget c.args.packet.now.items (of_links g.D.LinkDevice.state c.args.member.now.links)) c.in-Err-Stuck.field-0-is c.in-Err-Stuck.ensures.reason in
-    record { number = c.args.number; packet = c.args.packet.now.items; is = c.requires.packet; does = reason }
+    absurd (subst (HasReason c.args.job.now.image.now.image c.args.packet.now.items (of_links g.D.LinkDevice.state c.args.member.now.links)) c.in-Err-Stuck.field-0-is c.in-Err-Stuck.ensures.reason)
 
 pub returns-in-Err-Limit-clause-end : goal.returns-in-Err-Limit-clause-end
 returns-in-Err-Limit-clause-end g c =
-    let reason = subst (HasReason c.args.job.now.image.now.image c.args.job.now.image.now.budget c.args.packet.now.items (of_links g.D.LinkDevice.state c.args.member.now.links)) c.in-Err-Limit.field-0-is c.in-Err-Limit.ensures.reason in
-    record { number = c.args.number; packet = c.args.packet.now.items; is = c.requires.packet; does = reason }
+    absurd (subst (HasReason c.args.job.now.image.now.image c.args.packet.now.items (of_links g.D.LinkDevice.state c.args.member.now.links)) c.in-Err-Limit.field-0-is c.in-Err-Limit.ensures.reason)
