@@ -1,63 +1,56 @@
 //! The program, from its words and streams to its status.
 
-use crate::command_line::{Request, asked_for};
+use crate::command_line::options;
 use crate::ending::Ending;
+use crate::members::serve_members;
+use crate::words::words_of;
 use std::alloc::Global;
 use std::env::Env;
 use std::io::{Read, Write};
 use std::process::ExitCode;
 use std::sync::Wait;
-use tp_session::{ServeFault, serve};
-
-/// What `--help` writes.
-const HELP: &str = "\
-usage: farmd [--help | --version]
-Reads lines on standard input and writes an answer to each on standard output.
-`LIST <hex>` lists code. docs/PROTOCOL.md says what lines there are.
-";
-
-/// What `--version` writes.
-const VERSION: &str = "farmd 0.1\n";
-
-/// Writes a text, and flushes it.
-fn tell<W: Write>(writer: &mut W, text: &str) -> Result<(), Ending> {
-    match writer
-        .write_all(text.as_bytes())
-        .and_then(|()| writer.flush())
-    {
-        Ok(()) => Ok(()),
-        Err(_) => Err(Ending::Fault(ServeFault::Write)),
-    }
-}
+use std::thread::Threads;
+use tp_session::ServeFault;
 
 /// Does what the words ask for.
-fn perform<R: Read, W: Write>(
-    rt: &impl Wait,
+fn perform<T: Threads + Wait + Sync, R: Read, W: Write>(
+    rt: &T,
     words: &impl Env,
     alloc: Global,
     reader: &mut R,
     writer: &mut W,
 ) -> Result<(), Ending> {
-    match asked_for(words, alloc)? {
-        Request::Serve => serve(rt, alloc, reader, writer).map_err(Ending::Fault),
-        Request::Help => tell(writer, HELP),
-        Request::Version => tell(writer, VERSION),
+    let words = words_of(words, alloc)?;
+    let asked = options(alloc, &words)?;
+    serve_members(rt, alloc, reader, writer, asked)?;
+    Ok(())
+}
+
+/// Writes the text that a command line asks for, and flushes it.
+fn show<W: Write>(writer: &mut W, text: &clap::Error) -> Result<(), Ending> {
+    match write!(writer, "{text}").and_then(|()| writer.flush()) {
+        Ok(()) => Ok(()),
+        Err(_) => Err(Ending::Fault(ServeFault::Write)),
     }
 }
 
-/// Does what the words ask for. Where that ends early, writes why to `errors`, in one line.
-pub fn run<R: Read, W: Write, E: Write>(
-    rt: &impl Wait,
+/// Does what the words ask for. Where that ends early, writes why to `errors`.
+pub fn run<T: Threads + Wait + Sync, R: Read, W: Write, E: Write>(
+    rt: &T,
     words: &impl Env,
     alloc: Global,
     reader: &mut R,
     writer: &mut W,
     errors: &mut E,
 ) -> ExitCode {
-    match perform(rt, words, alloc, reader, writer) {
+    let ended = match perform(rt, words, alloc, reader, writer) {
+        Err(Ending::Shown(text)) => show(writer, &text),
+        ended => ended,
+    };
+    match ended {
         Ok(()) => ExitCode::SUCCESS,
         Err(ending) => {
-            let _ = writeln!(errors, "{ending}");
+            let _ = write!(errors, "{ending}");
             ExitCode::from(ending.status())
         }
     }

@@ -1,7 +1,10 @@
 //! Each way in which the program ends: its status, and what it writes.
 
+use crate::chosen::Options;
+use crate::command_line::options;
 use crate::ending::Ending;
 use crate::program::run;
+use clap::error::ErrorKind as Kind;
 use std::env::{Env, FillError};
 use std::io;
 use std::io::{ErrorKind, Read, Write};
@@ -54,7 +57,12 @@ impl Write for Broken {
     }
 }
 
-const USAGE: &str = "usage: farmd [--help | --version]\n";
+/// A worker that sends its packet as a trace message and then as its result, and a run of one packet.
+const RUN: &str = "\
+a IMAGE 5450573113000C0008000100010000001024F25444F71024F25144FB1024F244FB21F5
+a PACKET 0A000000
+a RUN
+";
 
 #[test]
 fn serves_to_the_end(rt: HostRuntime) {
@@ -111,16 +119,24 @@ fn tells_a_failed_write(rt: HostRuntime) {
     }
 }
 
+/// The words, and the first line of why they are refused.
 #[test]
-fn refuses_unknown_words(rt: HostRuntime) {
-    let unknown = [
-        ["farmd", "--members", "4"].as_slice(),
-        ["farmd", "-h"].as_slice(),
-        ["farmd", ""].as_slice(),
-        ["farmd", "--help", "--help"].as_slice(),
-        ["farmd", "--version", "now"].as_slice(),
+fn refuses_words(rt: HostRuntime) {
+    let refused = [
+        (
+            ["farmd", "--members", "0"].as_slice(),
+            "error: invalid value '0' for '--members <N>': 0 is not in 1..=64\n",
+        ),
+        (
+            ["farmd", "LIST"].as_slice(),
+            "error: unexpected argument 'LIST' found\n",
+        ),
+        (
+            ["farmd", ""].as_slice(),
+            "error: unexpected argument '' found\n",
+        ),
     ];
-    for words in unknown {
+    for (words, told) in refused {
         let (mut output, mut errors) = (Vec::new(rt.alloc()), Vec::new(rt.alloc()));
         let mut input = b"LIST 604F\n".as_slice();
         let status = run(
@@ -133,13 +149,21 @@ fn refuses_unknown_words(rt: HostRuntime) {
         );
         assert_eq!(rt; status, ExitCode::from(2));
         assert!(rt; output.is_empty());
-        assert!(rt; errors.as_slice() == USAGE.as_bytes());
+        assert!(rt; errors.starts_with(told.as_bytes()));
+        assert!(rt; errors.ends_with(b"\n\nFor more information, try '--help'.\n".as_slice()));
     }
 }
 
 #[test]
 fn answers_help_and_version(rt: HostRuntime) {
-    for (word, answer) in [("--help", USAGE), ("--version", "farmd 0.1\n")] {
+    let shown = [
+        (
+            "--help",
+            "A processor farm whose every promise is proved\n\nUsage: farmd [OPTIONS]\n\nOptions:\n      --members <N>  ",
+        ),
+        ("--version", "farmd 0.1\n"),
+    ];
+    for (word, answer) in shown {
         let (mut output, mut errors) = (Vec::new(rt.alloc()), Vec::new(rt.alloc()));
         let status = run(
             &rt,
@@ -155,18 +179,109 @@ fn answers_help_and_version(rt: HostRuntime) {
     }
 }
 
-/// The line and the status of each ending.
+/// The number of members changes no answer, and the trace is told where it is asked for.
+#[test]
+fn serves_as_asked(rt: HostRuntime) {
+    let cases = [
+        (["farmd"].as_slice(), "R 0 0 19 0a000000\nDONE 1\n"),
+        (
+            ["farmd", "--members", "1"].as_slice(),
+            "R 0 0 19 0a000000\nDONE 1\n",
+        ),
+        (
+            ["farmd", "--members=64", "--trace"].as_slice(),
+            "R 0 0 19 0a000000\nT 0 0a000000\nDONE 1\n",
+        ),
+    ];
+    for (words, told) in cases {
+        let (mut output, mut errors) = (Vec::new(rt.alloc()), Vec::new(rt.alloc()));
+        let mut input = RUN.as_bytes();
+        let status = run(
+            &rt,
+            &Words(words),
+            rt.alloc(),
+            &mut input,
+            &mut output,
+            &mut errors,
+        );
+        assert_eq!(rt; status, ExitCode::SUCCESS);
+        assert!(rt; output.starts_with(b"YES 19 19\nKEPT 0\n".as_slice()));
+        assert!(rt; output.ends_with(told.as_bytes()));
+        assert!(rt; errors.is_empty());
+    }
+}
+
+/// The text and the status of each ending.
 #[test]
 fn endings(rt: HostRuntime) -> Result<(), Fail> {
     let endings = [
-        (Ending::Usage, 2, "usage: farmd [--help | --version]"),
-        (Ending::Fault(ServeFault::Read), 1, "farmd: read"),
-        (Ending::Fault(ServeFault::Write), 1, "farmd: write"),
-        (Ending::Fault(ServeFault::Memory), 1, "farmd: memory"),
+        (
+            Ending::NotText,
+            2,
+            "error: a word of the command line is not UTF-8\n",
+        ),
+        (Ending::Fault(ServeFault::Read), 1, "farmd: read\n"),
+        (Ending::Fault(ServeFault::Write), 1, "farmd: write\n"),
+        (Ending::Fault(ServeFault::Memory), 1, "farmd: memory\n"),
+        (Ending::Fault(ServeFault::Thread), 1, "farmd: thread\n"),
+        (Ending::Fault(ServeFault::Stuck), 1, "farmd: stuck\n"),
+        (Ending::Fault(ServeFault::Limit), 1, "farmd: limit\n"),
     ];
-    for (ending, status, line) in endings {
-        assert_eq!(rt; ending.status(), status);
-        assert_eq!(rt; format!(in rt.alloc(); "{ending}")?.as_str(), line);
+    for (ending, status, text) in &endings {
+        assert_eq!(rt; ending.status(), *status);
+        assert_eq!(rt; format!(in rt.alloc(); "{ending}")?.as_str(), *text);
     }
     Ok(())
+}
+
+/// The number of members and the flag that words ask for.
+#[test]
+fn reads_options(rt: HostRuntime) -> Result<(), Fail> {
+    let cases = [
+        (["farmd"].as_slice(), 4, false),
+        (["./farmd"].as_slice(), 4, false),
+        (["farmd", "--members", "1"].as_slice(), 1, false),
+        (["farmd", "--members", "64"].as_slice(), 64, false),
+        (["farmd", "--members=7"].as_slice(), 7, false),
+        (["farmd", "--trace"].as_slice(), 4, true),
+        (["farmd", "--members", "2", "--trace"].as_slice(), 2, true),
+        (["farmd", "--trace", "--members=3"].as_slice(), 3, true),
+    ];
+    for (words, members, trace) in cases {
+        let asked = options(rt.alloc(), words)?;
+        assert_eq!(rt; asked, Options { members, trace });
+    }
+    Ok(())
+}
+
+/// The kind of error that words come to.
+#[test]
+fn tells_kinds(rt: HostRuntime) {
+    let cases = [
+        (
+            ["farmd", "--members", "0"].as_slice(),
+            Kind::ValueValidation,
+        ),
+        (["farmd", "--members=65"].as_slice(), Kind::ValueValidation),
+        (
+            ["farmd", "--members=four"].as_slice(),
+            Kind::ValueValidation,
+        ),
+        (["farmd", "--members"].as_slice(), Kind::InvalidValue),
+        (["farmd", "--member", "4"].as_slice(), Kind::UnknownArgument),
+        (["farmd", "LIST"].as_slice(), Kind::UnknownArgument),
+        (
+            ["farmd", "--trace", "--trace"].as_slice(),
+            Kind::ArgumentConflict,
+        ),
+        (["farmd", "--help"].as_slice(), Kind::DisplayHelp),
+        (["farmd", "-h"].as_slice(), Kind::DisplayHelp),
+        (["farmd", "--version"].as_slice(), Kind::DisplayVersion),
+    ];
+    for (words, kind) in cases {
+        match options(rt.alloc(), words) {
+            Ok(_) => assert!(rt; false),
+            Err(error) => assert_eq!(rt; error.kind(), kind),
+        }
+    }
 }

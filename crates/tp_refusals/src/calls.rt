@@ -1,10 +1,12 @@
 //! The calls.
 
 use crate::answer::{Answer, Tally, same_if};
+use crate::batch::batch;
 use crate::page::Page;
 use arrayvec::ArrayVec;
-use std::alloc::Global;
+use std::alloc::{AllocError, Global};
 use std::sync::Wait;
+use std::thread::Threads;
 use tp_accept::{Refusal, accept};
 use tp_board::{Board, BoardFault, Core, Event, Reply};
 use tp_check::check_states;
@@ -12,12 +14,12 @@ use tp_collect::Collector;
 use tp_decode::{DecodeFault, Instr, Listing, decode};
 use tp_flow::check_flow;
 use tp_image::{Image, ImageFault, read_image, upgrade, write_image};
-use tp_link::{LinkDevice, Medium, OwnedWire, Wire};
-use tp_session::{ServeFault, serve};
+use tp_link::{LinkDevice, Links, Medium, OwnedWire, Wire};
+use tp_session::{Farm, ServeFault, serve};
 use tp_state::{Cell, StateFault};
 
 /// Makes every call, and counts the answers.
-pub fn all(rt: &impl Wait, alloc: Global) -> Tally {
+pub fn all<R: Threads + Wait + Sync>(rt: &R, alloc: Global) -> Tally {
     let mut tally = Tally::new();
     tally.add(served(rt, alloc));
     listings(alloc, &mut tally);
@@ -27,27 +29,66 @@ pub fn all(rt: &impl Wait, alloc: Global) -> Tally {
     devices(alloc, &mut tally);
     core(alloc, &mut tally);
     tally.add(board(alloc));
+    tally.add(batch(rt, alloc));
     tally
 }
 
-const INPUT: &[u8] = b"LIST 604F\nHELLO\nLIST 24F2616F40\nLIST 41F3\nLIST 2222";
+const INPUT: &[u8] = b"LIST 604F\nHELLO\nLIST 24F2616F40\nLIST 41F3\nLIST 2222\n\
+    a IMAGE 5450573110000C0008000100010000001024F25444F77081D01024F244FB21F5\n\
+    a PACKET 01000000\na PACKET FFFFFF7F\na PACKET 01000000\na RUN\na RUN";
 
 const OUTPUT: &[u8] =
-    b"0 604f ldc -1\nDONE 1\nNO E1 2\n0 24f2 mint\n2 616f40 ldc 256 least 212040\nDONE 2\nNO D3 1\nNO D1 0\n";
+    b"0 604f ldc -1\nDONE 1\nNO E1 2\n0 24f2 mint\n2 616f40 ldc 256 least 212040\nDONE 2\nNO D3 1\nNO D1 0\n\
+    YES 16 16\nKEPT 0\nKEPT 1\nKEPT 2\n\
+    R 0 0 16 02000000\nR 1 1 16 00000080\nR 2 0 16 02000000\nDONE 3\nDONE 0\n";
 
 /// How much of the output is written before each line.
-const BEFORE: [usize; 5] = [0, 21, 29, 78, 86];
+const BEFORE: [usize; 11] = [0, 21, 29, 78, 86, 94, 104, 111, 118, 125, 186];
 
-/// Serving. After Memory the answers to some of the first lines are written, each of them whole.
-fn served(rt: &impl Wait, alloc: Global) -> Answer {
+/// A farm of one member.
+fn farm<'a>(
+    alloc: Global,
+    source: &'a mut Medium,
+    sink: &'a mut Medium,
+    trace: &'a mut Medium,
+) -> Result<Farm<Wire<'a>>, AllocError> {
+    let mut links = Vec::new(alloc);
+    links.push(Links {
+        source: Wire::new(source),
+        sink: Wire::new(sink),
+        trace: Wire::new(trace),
+    })?;
+    Ok(Farm::new(links, false))
+}
+
+/// Serving, over a farm of one member.
+fn served<T: Threads + Wait + Sync>(rt: &T, alloc: Global) -> Answer {
+    let Ok(mut source) = Medium::new(alloc, 256) else {
+        return Answer::Memory;
+    };
+    let Ok(mut sink) = Medium::new(alloc, 256) else {
+        return Answer::Memory;
+    };
+    let Ok(mut trace) = Medium::new(alloc, 256) else {
+        return Answer::Memory;
+    };
+    match farm(alloc, &mut source, &mut sink, &mut trace) {
+        Ok(farm) => served_on(rt, alloc, farm),
+        Err(_) => Answer::Memory,
+    }
+}
+
+/// Serving. After Memory, and where a thread was refused for it, the answers to some of the first lines are written, each
+/// of them whole.
+fn served_on<T: Threads + Wait + Sync>(rt: &T, alloc: Global, farm: Farm<Wire<'_>>) -> Answer {
     let mut reader = INPUT;
     let mut page = Page::new();
-    let result = serve(rt, alloc, &mut reader, &mut page);
+    let result = serve(rt, alloc, &mut reader, &mut page, farm);
     let written = page.written();
     match result {
         Ok(()) => same_if(written == OUTPUT),
-        Err(ServeFault::Memory) if OUTPUT.starts_with(written) && BEFORE.contains(&written.len()) =>
-            Answer::Memory,
+        Err(ServeFault::Memory | ServeFault::Thread)
+            if OUTPUT.starts_with(written) && BEFORE.contains(&written.len()) => Answer::Memory,
         Err(_) => Answer::Other,
     }
 }
@@ -123,7 +164,7 @@ fn collected(alloc: Global, image: &Image) -> Answer {
 }
 
 /// A worker that adds one to a number: its image has 16 code bytes, and its budget is 16.
-const INCREMENT: &[u8] = b"TPW1\x10\x00\x0C\x00\x08\x00\x01\x00\x01\x00\x00\x00\
+pub(crate) const INCREMENT: &[u8] = b"TPW1\x10\x00\x0C\x00\x08\x00\x01\x00\x01\x00\x00\x00\
     \x10\x24\xF2\x54\x44\xF7\x70\x81\xD0\x10\x24\xF2\x44\xFB\x21\xF5";
 
 /// Accepting an image.

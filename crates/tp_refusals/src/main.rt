@@ -7,6 +7,7 @@
 #![tactic(auto)]
 
 mod answer;
+mod batch;
 mod calls;
 mod page;
 

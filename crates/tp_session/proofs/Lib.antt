@@ -1,6 +1,8 @@
-pub mod Texts
 pub mod KnownBytes
-pub mod AnswerLemmas
-pub mod StandLemmas
 pub mod LineLemmas
+pub mod StandLemmas
+pub mod ReadingLemmas
 pub mod ServeLemmas
+pub mod RunLemmas
+pub mod ServiceLemmas
+pub mod OneAnswer

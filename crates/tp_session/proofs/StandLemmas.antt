@@ -1,124 +1,124 @@
--- Reading on from a stand.
-use Rattle.std.proofs.Common.{◌≡◌, ◌≢◌, ℕ, zero, suc, ◌+◌, ◌≤◌, ◌<◌, nat_lt, nat_eq, true, false, List, [], ◌∷◌, ◌++◌, length, take, drop, Option, Result, Ok, Err, OnOk, OnErr, IfErr, refl, ap, sym, ◌∙◌, arith, append_assoc, length-append, get_or, drop-cons, add-one, subst}
-use Rattle.std.specs.Io.KnownBytes.{Appends}
-use Rattle.std.proofs.lemmas.Bool.Decides.{nat_tests}
-use Rattle.std.proofs.lemmas.List.{append-nil, take-append-drop, take-append-le, length-take}
-use Rattle.tp_session.specs.declared.fault.ServeFault.{ServeFault}
-use Rattle.tp_session.specs.declared.fault.ServeFault.TheVariants.{Read, Write, Memory}
-use Rattle.tp_session.specs.declared.progress.Progress.{Progress}
-use Rattle.tp_session.specs.Input.{line_feed}
-use Rattle.tp_session.specs.Served.{most_line, answer}
-use Rattle.tp_session.specs.Stand.{Stand, after_byte, told_at, after, told, told_at_end, Keeps, Fed, Finished}
-use Rattle.tp_session.proofs.KnownBytes.{appends_none, appends_more, appends_same, appends_front}
-use Rattle.tp_session.proofs.AnswerLemmas.{take_all}
+-- From one stand to the next.
+use Rattle.std.proofs.Common.{◌≡◌, ◌≢◌, ℕ, ◌<◌, Bool, true, false, List, [], ◌∷◌, ◌++◌, length, refl, ap, sym, subst, ◌∙◌, arith, append_assoc}
+use Rattle.std.specs.List.{filter}
+use Rattle.std.proofs.lemmas.List.{append-nil}
+use Rattle.tp_requests.specs.Lines.{Line, line_feed, lines_of, ended_lines}
+use Rattle.tp_answers.specs.Answers.{Standing, Answers}
+use Rattle.tp_session.specs.Served.{asked_in, next_number, AreAnswers, nothing_open, AreTold}
+use Rattle.tp_session.specs.Stand.{Stand, number_after, IsPlain, Stands, Begins}
+use Rattle.tp_session.proofs.LineLemmas.{plain_more, lines_plain, lines_none, lines_ended, ended_plain, filter-append}
 
-pub after-append : (s : Stand) (xs ys : List ℕ) → after s (xs ++ ys) ≡ after (after s xs) ys
-unfolding after
-after-append s [] ys = refl
-after-append s (x ∷ xs) ys = after-append (after_byte s x) xs ys
+-- ---- the answers to one line more
 
-pub told-append : (s : Stand) (xs ys : List ℕ) → told s (xs ++ ys) ≡ told s xs ++ told (after s xs) ys
-unfolding after told
-told-append s [] ys = refl
-told-append s (x ∷ xs) ys = ap (λ t. told_at s x ++ t) (told-append (after_byte s x) xs ys) ∙ sym (append_assoc (told_at s x) (told (after_byte s x) xs) (told (after (after_byte s x) xs) ys))
+pub answers_more : (trace : Bool) (number : ℕ) (before : Standing) (lines : List Line) (told : List ℕ) (between : Standing) (line : Line) (here : List ℕ) (after : Standing)
+    → AreAnswers trace number before lines told between → Answers trace (number_after number lines) (asked_in line) between here after → AreAnswers trace number before (lines ++ line ∷ []) (told ++ here) after
+answers_more trace number before [] told between line here after all one =
+    (here, [], after, subst (λ s. Answers trace number (asked_in line) s here after) all.1 one, (refl, refl), ap (λ l. l ++ here) all.0 ∙ sym (append-nil here))
+answers_more trace number before (first ∷ lines) told between line here after (front, rest, next, answer, others, is) one =
+    (front, rest ++ here, next, answer, answers_more trace (next_number number) next lines rest between line here after others one, ap (λ l. l ++ here) is ∙ append_assoc front rest here)
 
-pub after_one : (s : Stand) (b : ℕ) → after s (b ∷ []) ≡ after_byte s b
-unfolding after
-after_one s b = refl
+pub number_more : (number : ℕ) (lines : List Line) (line : Line) → number_after number (lines ++ line ∷ []) ≡ next_number (number_after number lines)
+number_more number [] line = refl
+number_more number (first ∷ lines) line = number_more (next_number number) lines line
 
-pub told_one : (s : Stand) (b : ℕ) → told s (b ∷ []) ≡ told_at s b
-unfolding told
-told_one s b = append-nil (told_at s b)
+-- ---- stands
 
--- a line feed tells the answer, and another byte nothing
-pub told_line : (s : Stand) → told s (line_feed ∷ []) ≡ answer s.number record { bytes = s.line; ended = true }
-told_line s = told_one s line_feed
+pub start : Stand
+start = record { taken = []; lines = []; line = []; told = []; standing = nothing_open }
 
-pub told_nothing : (s : Stand) (b : ℕ) → b ≢ line_feed → told s (b ∷ []) ≡ []
-told_nothing s b other =
-    let test : nat_eq b line_feed ≡ false = grind (arith, nat_tests) in
-    told_one s b ∙ rw test refl
+pub start_line : start.line ≡ []
+unfolding start
+start_line = refl
 
-pub after_other : (s : Stand) (b : ℕ) → b ≢ line_feed → after_byte s b ≡ record s { line = s.line ++ b ∷ [] }
-after_other s b other =
-    let test : nat_eq b line_feed ≡ false = grind (arith, nat_tests) in
-    rw test refl
+pub start_lines : start.lines ≡ []
+unfolding start
+start_lines = refl
 
--- memory ran out before anything was written
-pub fed_nothing : (s : Stand) (bytes : List ℕ) (c : Option (List ℕ)) → Fed s bytes c c (Err Memory)
-unfolding told
-fed_nothing s bytes c = (0, appends_none c)
+pub start_taken : start.taken ≡ []
+unfolding start
+start_taken = refl
 
--- one byte more of a line that is kept whole, and of one that is too long
-pub keeps_more : (p q : Progress) (s : Stand) (b : ℕ) → Keeps p s → length p.line.items < most_line → q.number ≡ p.number → q.line.items ≡ p.line.items ++ b ∷ [] → q.long ≡ p.long → b ≢ line_feed → Keeps q (after_byte s b)
-keeps_more p q s b keeps room number line long other =
-    let few : length s.line < most_line = omega (arith, length-take most_line s.line, ap length keeps.line) in
-    let one : length (s.line ++ b ∷ []) ≡ length s.line + 1 = length-append s.line (b ∷ []) in
-    let whole : p.line.items ≡ s.line = keeps.line ∙ take_all most_line s.line (omega arith) in
-    let test : nat_lt most_line (length s.line) ≡ false = grind (arith, nat_tests) in
-    let test' : nat_lt most_line (length (s.line ++ b ∷ [])) ≡ false = grind (arith, nat_tests) in
-    rw (after_other s b other) record {
-      number = number ∙ keeps.number;
-      line = line ∙ ap (λ l. l ++ b ∷ []) whole ∙ sym (take_all most_line (s.line ++ b ∷ []) (omega arith));
-      long = long ∙ keeps.long ∙ test ∙ sym test';
-    }
+pub start_told : start.told ≡ []
+unfolding start
+start_told = refl
 
-pub keeps_front : (p q : Progress) (s : Stand) (b : ℕ) → Keeps p s → most_line ≤ length p.line.items → q.number ≡ p.number → q.line.items ≡ p.line.items → q.long ≡ true → b ≢ line_feed → Keeps q (after_byte s b)
-keeps_front p q s b keeps full number line long other =
-    let many : most_line ≤ length s.line = omega (arith, length-take most_line s.line, ap length keeps.line) in
-    let one : length (s.line ++ b ∷ []) ≡ length s.line + 1 = length-append s.line (b ∷ []) in
-    let test : nat_lt most_line (length (s.line ++ b ∷ [])) ≡ true = grind (arith, nat_tests) in
-    rw (after_other s b other) record {
-      number = number ∙ keeps.number;
-      line = line ∙ keeps.line ∙ sym (take-append-le most_line s.line (b ∷ []) many);
-      long = long ∙ sym test;
-    }
+pub start_standing : start.standing ≡ nothing_open
+unfolding start
+start_standing = refl
 
--- an error after some bytes
-pub fed_more : (s : Stand) (bytes rest : List ℕ) (b : ℕ) (c c' c'' : Option (List ℕ)) (e : ServeFault) → Appends c c' (told s bytes) → Fed (after s bytes) (b ∷ []) c' c'' (Err e) → Fed s (bytes ++ b ∷ rest) c c'' (Err e)
-fed_more s bytes rest b c c' c'' Read wrote fed = absurd fed
-fed_more s bytes rest b c c' c'' Write wrote fed =
-    let t = told (after s bytes) (b ∷ []) in
-    let all : told s (bytes ++ b ∷ rest) ≡ (told s bytes ++ take fed.0 t) ++ (drop fed.0 t ++ told (after (after s bytes) (b ∷ [])) rest) =
-    told-append s bytes (b ∷ rest) ∙ ap (λ l. told s bytes ++ l) (told-append (after s bytes) (b ∷ []) rest ∙ ap (λ l. l ++ told (after (after s bytes) (b ∷ [])) rest) (sym (take-append-drop fed.0 t)) ∙ append_assoc (take fed.0 t) (drop fed.0 t) _)
-    ∙ sym (append_assoc (told s bytes) (take fed.0 t) _) in
-    appends_front c c'' (told s bytes ++ take fed.0 t) _ (told s (bytes ++ b ∷ rest)) all (appends_more c c' c'' (told s bytes) (take fed.0 t) wrote fed.1)
-fed_more s bytes rest b c c' c'' Memory wrote fed = by_case fed.0 fed.1
+pub starts : (trace : Bool) → Stands trace start
+unfolding start
+starts trace = record { ended = refl; goes = λ more. refl; plain = refl; answered = (refl, refl) }
+
+-- one byte more of a line
+abbrev pub with_byte : Stand → ℕ → Stand
+with_byte s b = record s { taken = s.taken ++ b ∷ []; line = s.line ++ b ∷ [] }
+
+pub stands_more : (trace : Bool) (s : Stand) (b : ℕ) → Stands trace s → b ≢ line_feed → Stands trace (with_byte s b)
+stands_more trace s b stands other = record {
+  ended = stands.ended;
+  goes = λ more. ap lines_of (append_assoc s.taken (b ∷ []) more) ∙ stands.goes (b ∷ more) ∙ ap (λ l. s.lines ++ lines_of l) (sym (append_assoc s.line (b ∷ []) more));
+  plain = plain_more s.line b stands.plain other;
+  answered = stands.answered;
+}
+
+-- the line that is being read, by a line feed or by the end of the input
+abbrev pub line_now : Stand → Bool → Line
+line_now s ended = record { bytes = s.line; ended = ended }
+
+-- the lines with the one that is being read
+abbrev pub lines_now : Stand → Bool → List Line
+lines_now s ended = s.lines ++ line_now s ended ∷ []
+
+-- behind its line feed
+abbrev pub with_line : Stand → List ℕ → Standing → Stand
+with_line s here after = record { taken = s.taken ++ line_feed ∷ []; lines = lines_now s true; line = []; told = s.told ++ here; standing = after }
+
+-- whatever follows
+pub begins_line : (trace : Bool) (s : Stand) → Stands trace s → Begins (s.taken ++ line_feed ∷ []) (lines_now s true)
+begins_line trace s stands = record {
+  rest = lines_of;
+  is = λ more.
+      ap lines_of (append_assoc s.taken (line_feed ∷ []) more) ∙ stands.goes (line_feed ∷ more) ∙ ap (λ l. s.lines ++ l) (lines_ended s.line more stands.plain)
+      ∙ sym (append_assoc s.lines (line_now s true ∷ []) (lines_of more));
+}
+
+pub stands_line : (trace : Bool) (s : Stand) (here : List ℕ) (after : Standing) → Stands trace s → Answers trace (number_after 1 s.lines) (asked_in (line_now s true)) s.standing here after → Stands trace (with_line s here after)
+unfolding begins_line
+stands_line trace s here after stands answer = record {
+  ended = filter-append (λ line. line.ended) s.lines (line_now s true ∷ []) ∙ ap (λ l. l ++ line_now s true ∷ []) stands.ended;
+  goes = (begins_line trace s stands).is;
+  plain = refl;
+  answered = answers_more trace 1 nothing_open s.lines s.told s.standing (line_now s true) here after stands.answered answer;
+}
+
+-- the lines that the taken bytes end
+pub ended_so_far : (trace : Bool) (s : Stand) → Stands trace s → ended_lines s.taken ≡ s.lines
+ended_so_far trace s stands =
+    ap ended_lines (sym (append-nil s.taken)) ∙ ap (filter (λ line. line.ended)) (stands.goes []) ∙ filter-append (λ line. line.ended) s.lines (lines_of (s.line ++ []))
+    ∙ ap (λ l. filter (λ line. line.ended) s.lines ++ ended_lines l) (append-nil s.line) ∙ ap (λ l. filter (λ line. line.ended) s.lines ++ l) (ended_plain s.line stands.plain)
+    ∙ append-nil (filter (λ line. line.ended) s.lines) ∙ stands.ended
+
+pub told_ended : (trace : Bool) (s : Stand) → Stands trace s → AreTold trace (ended_lines s.taken) s.told
+told_ended trace s stands = (s.standing, rw (ended_so_far trace s stands) stands.answered)
+
+-- all lines, where nothing is left
+pub lines_whole : (trace : Bool) (s : Stand) → Stands trace s → s.line ≡ [] → lines_of s.taken ≡ s.lines
+lines_whole trace s stands none =
+    ap lines_of (sym (append-nil s.taken)) ∙ stands.goes [] ∙ ap (λ l. s.lines ++ lines_of (l ++ [])) none ∙ ap (λ l. s.lines ++ l) lines_none ∙ append-nil s.lines
+
+pub told_whole : (trace : Bool) (s : Stand) → Stands trace s → s.line ≡ [] → AreTold trace (lines_of s.taken) s.told
+told_whole trace s stands none = (s.standing, rw (lines_whole trace s stands none) stands.answered)
+
+-- all lines, where a rest is left
+pub lines_rest : (trace : Bool) (s : Stand) → Stands trace s → 0 < length s.line → lines_of s.taken ≡ lines_now s false
+lines_rest trace s stands some =
+    ap lines_of (sym (append-nil s.taken)) ∙ stands.goes [] ∙ ap (λ l. s.lines ++ lines_of l) (append-nil s.line) ∙ ap (λ l. s.lines ++ l) (by_line s.line some stands.plain)
   where
-    joined : (n : ℕ) (some : List ℕ) → told s bytes ++ told (after s bytes) some ≡ told s (bytes ++ some)
-    joined n some = sym (told-append s bytes some)
+    by_line : (line : List ℕ) → 0 < length line → IsPlain line → lines_of line ≡ record { bytes = line; ended = false } ∷ []
+    by_line [] some plain = absurd (omega (arith, some))
+    by_line (b ∷ line) some plain = lines_plain b line plain
 
-    front : (xs ys : List ℕ) → take (length xs) (xs ++ ys) ≡ xs
-    front xs ys = take-append-le (length xs) xs ys (omega arith) ∙ take_all (length xs) xs (omega arith)
-
-    by_case : (n : ℕ) → Appends c' c'' (told (after s bytes) (take n (b ∷ []))) → (n : ℕ) × Appends c c'' (told s (take n (bytes ++ b ∷ rest)))
-    by_case zero h =
-        (length bytes, appends_same c c'' _ _ (joined 0 [] ∙ ap (told s) (append-nil bytes ∙ sym (front bytes (b ∷ rest)))) (appends_more c c' c'' (told s bytes) (told (after s bytes) []) wrote h))
-    by_case (suc n) h =
-        let split : bytes ++ b ∷ rest ≡ (bytes ++ b ∷ []) ++ rest = sym (append_assoc bytes (b ∷ []) rest) in
-        let one : take (suc n) (b ∷ []) ≡ b ∷ [] = ap (λ l. b ∷ l) (take_all n [] (omega arith)) in
-        (length (bytes ++ b ∷ []), appends_same c c'' _ _ (ap (λ l. told s bytes ++ told (after s bytes) l) one ∙ joined 1 (b ∷ []) ∙ ap (told s) (sym (ap (take (length (bytes ++ b ∷ []))) split ∙ front (bytes ++ b ∷ []) rest))) (appends_more c c' c'' (told s bytes) _ wrote h))
-
--- what writing an answer has done
-pub fed_by : (s : Stand) (bytes text : List ℕ) (c c' : Option (List ℕ)) → told s bytes ≡ text → (n : ℕ) × Appends c c' (take n text) → Fed s bytes c c' (Err Write)
-fed_by s bytes text c c' e wrote = (wrote.0, appends_same c c' _ _ (ap (take wrote.0) (sym e)) wrote.1)
-
-pub finished_by : (s : Stand) (text : List ℕ) (c c' : Option (List ℕ)) (r : Result (Unit {0}) ServeFault) → told_at_end s ≡ text → OnOk r (Appends c c' text) → OnErr r ((n : ℕ) × Appends c c' (take n text)) → IfErr r (λ e. e ≡ Write) → Finished s c c' r
-finished_by s text c c' (Ok u) e ok err fault = appends_same c c' _ _ (sym e) ok
-finished_by s text c c' (Err Read) e ok err fault = cc
-finished_by s text c c' (Err Write) e ok err fault = (err.0, appends_same c c' _ _ (ap (take err.0) (sym e)) err.1)
-finished_by s text c c' (Err Memory) e ok err fault = cc
-
--- what is left at the end
-pub told_rest : (s : Stand) → 0 < length s.line → told_at_end s ≡ answer s.number record { bytes = s.line; ended = false }
-told_rest s some =
-    let test : nat_eq (length s.line) 0 ≡ false = grind (arith, nat_tests) in rw test refl
-
-pub kept_some : (p : Progress) (s : Stand) → Keeps p s → 0 < length p.line.items → 0 < length s.line
-kept_some p s keeps some = omega (arith, length-take most_line s.line, ap length keeps.line)
-
-pub split_at : (xs : List ℕ) (i : ℕ) → i < length xs → xs ≡ take i xs ++ get_or xs i 0 ∷ drop (i + 1) xs
-split_at xs i h = sym (take-append-drop i xs) ∙ ap (λ l. take i xs ++ l) (drop-cons xs i 0 h ∙ ap (λ n. get_or xs i 0 ∷ drop n xs) (sym (add-one i)))
-
-pub fed_same : (s : Stand) (xs ys : List ℕ) (c c' : Option (List ℕ)) (r : Result (Unit {0}) ServeFault) → xs ≡ ys → Fed s ys c c' r → Fed s xs c c' r
-fed_same s xs ys c c' r e fed = let P : List ℕ → Type 0 = λ l. Fed s l c c' r in subst P (sym e) fed
+pub told_rest : (trace : Bool) (s : Stand) (here : List ℕ) (after : Standing) → Stands trace s → 0 < length s.line → Answers trace (number_after 1 s.lines) (asked_in (line_now s false)) s.standing here after → AreTold trace (lines_of s.taken) (s.told ++ here)
+told_rest trace s here after stands some answer =
+    (after, rw (lines_rest trace s stands some) (answers_more trace 1 nothing_open s.lines s.told s.standing (line_now s false) here after stands.answered answer))

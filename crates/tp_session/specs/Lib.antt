@@ -1,5 +1,7 @@
-pub mod Input
 pub mod Served
+pub mod Fitness
+pub mod Standing
 pub mod Stand
-pub use Rattle.tp_decode.specs.Cutting
-pub use Rattle.tp_decode.specs.Lines
+pub use Rattle.tp_answers.specs.Sessions
+pub use Rattle.tp_answers.specs.Told
+pub use Rattle.tp_answers.specs.Answers

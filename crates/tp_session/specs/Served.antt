@@ -1,17 +1,11 @@
 -- What is written for an input.
-use Rattle.std.specs.Prelude.{ℕ, ◌+◌, ◌-◌, ◌^◌, ◌≤◌, min, nat_lt, nat_eq, if◌then◌else◌, List, [], ◌∷◌, ◌++◌, length, take, drop, codes, Option, Some, None, Result, Ok, Err}
-use Rattle.std.specs.List.{flat_map, starts_with}
-use Rattle.std.specs.Fmt.{decimal}
+use Rattle.std.specs.Prelude.{◌≡◌, ℕ, ◌+◌, ◌-◌, ◌^◌, ◌≤◌, min, nat_lt, if◌then◌else◌, Bool, List, [], ◌∷◌, ◌++◌, length, take, Option, Some, None, Result, Ok, Err}
 use Rattle.std.specs.Io.KnownBytes.{Appends, Consumes, IsAtEnd}
-use Rattle.hex.specs.Hex.{decode_of}
-use Rattle.tp_decode.specs.declared.fault.DecodeFault.{DecodeFault}
-use Rattle.tp_decode.specs.declared.fault.DecodeFault.TheVariants.{Refused, Memory}
-use Rattle.tp_decode.specs.Codes.{decode_code_text}
-use Rattle.tp_decode.specs.Cutting.{Cut, cutting}
-use Rattle.tp_decode.specs.Lines.{lines_from}
+use Rattle.tp_requests.specs.Lines.{Line, lines_of, ended_lines, said_in}
+use Rattle.tp_requests.specs.Requests.{Asked, asked_by}
 use Rattle.tp_session.specs.declared.fault.ServeFault.{ServeFault}
 use Rattle.tp_session.specs.declared.fault.ServeFault.TheVariants as fault
-use Rattle.tp_session.specs.Input.{Line, lines_of, ended_lines, said_in, line_feed}
+use Rattle.tp_answers.specs.Answers.{Standing, Answers}
 
 -- the most bytes of a line before its line feed
 abbrev pub most_line : ℕ
@@ -21,66 +15,54 @@ most_line = 32768
 abbrev pub most_read : ℕ
 most_read = 4096
 
--- a text as a line
-abbrev pub written : List ℕ → List ℕ
-written text = text ++ line_feed ∷ []
-
--- NO, a code and a place
-abbrev pub refusal : List ℕ → ℕ → List ℕ
-refusal code place = written (codes "NO " ++ code ++ codes " " ++ decimal place)
-
-abbrev pub bytes_if_ok : {E : Type 0} → Result (List ℕ) E → Option (List ℕ)
-bytes_if_ok (Ok bytes) = Some bytes
-bytes_if_ok (Err e) = None
-
--- the bytes of two or more hexadecimal digits of either case, an even number
-abbrev pub hex_bytes : List ℕ → Option (List ℕ)
-hex_bytes [] = None
-hex_bytes (digit ∷ digits) = bytes_if_ok (decode_of (digit ∷ digits))
-
--- LIST and a code in hexadecimal: the code that is to be listed
-abbrev pub list_request : List ℕ → Option (List ℕ)
-list_request line = if starts_with nat_eq line (codes "LIST ") then hex_bytes (drop 5 line) else None
-
--- a line for each instruction, and their number; or the refusal of the code
-unfoldable pub listing_answer : Result (List Cut) DecodeFault → List ℕ
-listing_answer (Ok cuts) = flat_map written (lines_from 0 cuts) ++ written (codes "DONE " ++ decimal (length cuts))
-listing_answer (Err (Refused code place)) = refusal (decode_code_text code) place
-listing_answer (Err Memory) = []
-
--- the answer to a request, or E1 with the number of the line
-abbrev pub answer_to : ℕ → Option (List ℕ) → List ℕ
-answer_to number (Some code) = listing_answer (cutting code)
-answer_to number None = refusal (codes "E1") number
-
--- the answer to a line
-unfoldable pub answer : ℕ → Line → List ℕ
-answer number line =
-    if nat_lt most_line (length line.bytes) then refusal (codes "E1") number
-    else answer_to number (list_request (said_in line))
+-- what a line asks for; one that is too long asks for nothing
+abbrev pub asked_in : Line → Option Asked
+asked_in line = if nat_lt most_line (length line.bytes) then None else asked_by (said_in line)
 
 -- lines are numbered from 1; at 2 ^ 64 - 1 the number stays
 abbrev pub next_number : ℕ → ℕ
 next_number number = min (number + 1) (2 ^ 64 - 1)
 
 -- the answers to lines, the first of which has a number
-unfoldable pub answers_from : ℕ → List Line → List ℕ
-answers_from number [] = []
-answers_from number (line ∷ lines) = answer number line ++ answers_from (next_number number) lines
+abbrev pub AreAnswers : Bool → ℕ → Standing → List Line → List ℕ → Standing → Type 0
+AreAnswers trace number before [] told after = (told ≡ []) × (after ≡ before)
+AreAnswers trace number before (line ∷ lines) told after =
+    (here : List ℕ) × (rest : List ℕ) × (between : Standing) × Answers trace number (asked_in line) before here between
+    × AreAnswers trace (next_number number) between lines rest after × (told ≡ here ++ rest)
+
+-- at first no session is open
+abbrev pub nothing_open : Standing
+nothing_open = record { sessions = []; batches = 0 }
+
+-- what is told for the first lines of an input
+abbrev pub AreTold : Bool → List Line → List ℕ → Type 0
+AreTold trace lines told = (after : Standing) × AreAnswers trace 1 nothing_open lines told after
 
 -- what is written for an input
-abbrev pub served : List ℕ → List ℕ
-served input = answers_from 1 (lines_of input)
+abbrev pub IsServed : Bool → List ℕ → List ℕ → Type 0
+IsServed trace input told = AreTold trace (lines_of input) told
+
+-- the answers to the whole lines before the byte at which a growth or a thread was refused; that byte is among those that
+-- were read last, or the end of the input
+pub record IsServedBefore (trace : Bool) (input : List ℕ) (left old new : Option (List ℕ)) : Type 0 where
+  pub before : List ℕ
+  pub rest : List ℕ
+  pub read : Consumes (Some input) left (before ++ rest)
+  pub last : length rest ≤ most_read
+  pub told : List ℕ
+  pub served : AreTold trace (ended_lines before) told
+  pub wrote : Appends old new told
 
 -- What serving has done with an input, of which some is left, and with a writer's bytes. Ok: all is read, and what is
--- served is written. Read: the answers to the whole lines that were read. Memory: those to the whole lines before the
--- byte at which a growth was refused; that byte is among those that were read last, or the end of the input. Write: some
--- of the first bytes.
-abbrev pub Serves : List ℕ → Option (List ℕ) → Option (List ℕ) → Option (List ℕ) → Result (Unit {0}) ServeFault → Type 0
-Serves input left old new (Ok _) = IsAtEnd left × Appends old new (served input)
-Serves input left old new (Err fault.Read) =
-    (taken : List ℕ) × Consumes (Some input) left taken × Appends old new (answers_from 1 (ended_lines taken))
-Serves input left old new (Err fault.Memory) =
-    (before : List ℕ) × (rest : List ℕ) × Consumes (Some input) left (before ++ rest) × (length rest ≤ most_read)
-    × Appends old new (answers_from 1 (ended_lines before))
-Serves input left old new (Err fault.Write) = (n : ℕ) × Appends old new (take n (served input))
+-- served is written. Read: the answers to the whole lines that were read. Memory, Thread: those to the whole lines before.
+-- Write: some of the first bytes of the answers to the first lines. A worker is never stuck, and always ends.
+abbrev pub Serves : Bool → List ℕ → Option (List ℕ) → Option (List ℕ) → Option (List ℕ) → Result (Unit {0}) ServeFault → Type 0
+Serves trace input left old new (Ok _) = (told : List ℕ) × IsAtEnd left × IsServed trace input told × Appends old new told
+Serves trace input left old new (Err fault.Read) =
+    (taken : List ℕ) × (told : List ℕ) × Consumes (Some input) left taken × AreTold trace (ended_lines taken) told × Appends old new told
+Serves trace input left old new (Err fault.Memory) = IsServedBefore trace input left old new
+Serves trace input left old new (Err fault.Thread) = IsServedBefore trace input left old new
+Serves trace input left old new (Err fault.Write) =
+    (lines : ℕ) × (n : ℕ) × (told : List ℕ) × AreTold trace (take lines (lines_of input)) told × Appends old new (take n told)
+Serves trace input left old new (Err fault.Stuck) = ⊥
+Serves trace input left old new (Err fault.Limit) = ⊥

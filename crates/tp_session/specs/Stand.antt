@@ -1,59 +1,102 @@
 -- Where the reading of an input stands: between two of its bytes.
-use Rattle.std.specs.Prelude.{◌≡◌, ℕ, nat_lt, ◌==◌, true, false, if◌then◌else◌, List, [], ◌∷◌, ◌++◌, length, take, Option, Result, Ok, Err}
+use Rattle.std.specs.Prelude.{◌≡◌, ℕ, nat_lt, nat_eq, not, Bool, true, List, [], ◌∷◌, ◌++◌, length, take, Option}
+use Rattle.std.specs.List.{list_all, filter}
 use Rattle.std.specs.Io.KnownBytes.{Appends}
+use Rattle.tp_link.specs.Device.{DeviceState}
+use Rattle.tp_requests.specs.Lines.{Line, line_feed, lines_of, ended_lines}
 use Rattle.tp_session.specs.declared.fault.ServeFault.{ServeFault}
-use Rattle.tp_session.specs.declared.fault.ServeFault.TheVariants.{Read, Write, Memory}
+use Rattle.tp_session.specs.declared.fault.ServeFault.TheVariants.{Read, Write, Memory, Thread, Stuck, Limit}
 use Rattle.tp_session.specs.declared.progress.Progress.{Progress}
-use Rattle.tp_session.specs.Input.{line_feed}
-use Rattle.tp_session.specs.Served.{most_line, answer, next_number}
+use Rattle.tp_session.specs.declared.service.Service.{Service}
+use Rattle.tp_answers.specs.Answers.{Standing}
+use Rattle.tp_session.specs.Served.{most_line, next_number, AreAnswers, nothing_open, AreTold}
+use Rattle.tp_session.specs.Fitness.{AreFit}
+use Rattle.tp_session.specs.Standing.{standing_of}
 
--- the number of the line that is being read, and what has come of it
+-- the bytes that were taken, the lines that they end and what has come of the next line; what was told for these lines, and
+-- where that leaves serving
 pub record Stand : Type 0 where
-  pub number : ℕ
+  pub taken : List ℕ
+  pub lines : List Line
   pub line : List ℕ
+  pub told : List ℕ
+  pub standing : Standing
 
-abbrev pub beginning : Stand
-beginning = record { number = 1; line = [] }
+-- the number of the line that follows these, the first of which has a number
+abbrev pub number_after : ℕ → List Line → ℕ
+number_after number [] = number
+number_after number (line ∷ lines) = number_after (next_number number) lines
 
--- one byte more
-abbrev pub after_byte : Stand → ℕ → Stand
-after_byte s b =
-    if b == line_feed then record { number = next_number s.number; line = [] }
-    else record s { line = s.line ++ b ∷ [] }
+-- no line feed among the bytes
+abbrev pub IsPlain : List ℕ → Type 0
+IsPlain bytes = list_all (λ b. not (nat_eq b line_feed)) bytes ≡ true
 
-abbrev pub told_at : Stand → ℕ → List ℕ
-told_at s b = if b == line_feed then answer s.number record { bytes = s.line; ended = true } else []
-
--- after some bytes more, and what was written for them
-unfoldable pub after : Stand → List ℕ → Stand
-after s [] = s
-after s (b ∷ bytes) = after (after_byte s b) bytes
-
-unfoldable pub told : Stand → List ℕ → List ℕ
-told s [] = []
-told s (b ∷ bytes) = told_at s b ++ told (after_byte s b) bytes
-
--- what is written at the end of the input for what is left
-abbrev pub told_at_end : Stand → List ℕ
-told_at_end s = if length s.line == 0 then [] else answer s.number record { bytes = s.line; ended = false }
+-- it is so, whatever follows
+pub record Stands (trace : Bool) (s : Stand) : Type 0 where
+  pub ended : filter (λ line. line.ended) s.lines ≡ s.lines
+  pub goes : (more : List ℕ) → lines_of (s.taken ++ more) ≡ s.lines ++ lines_of (s.line ++ more)
+  pub plain : IsPlain s.line
+  pub answered : AreAnswers trace 1 nothing_open s.lines s.told s.standing
 
 -- The progress that is kept: of a line that is too long, its first bytes.
-pub record Keeps (p : Progress) (s : Stand) : Type 0 where
-  pub number : p.number ≡ s.number
-  pub line : p.line.items ≡ take most_line s.line
-  pub long : p.long ≡ nat_lt most_line (length s.line)
+pub record Keeps (p : Progress) (number : ℕ) (line : List ℕ) : Type 0 where
+  pub number_is : p.number ≡ number
+  pub line_is : p.line.items ≡ take most_line line
+  pub long_is : p.long ≡ nat_lt most_line (length line)
 
--- what bytes of an input, read from a stand on, have written: the answers to the lines that they end; at an error
--- those before some of the bytes, or a beginning of them
-abbrev pub Fed : Stand → List ℕ → Option (List ℕ) → Option (List ℕ) → Result (Unit {0}) ServeFault → Type 0
-Fed s bytes old new (Ok _) = Appends old new (told s bytes)
-Fed s bytes old new (Err Memory) = (n : ℕ) × Appends old new (told s (take n bytes))
-Fed s bytes old new (Err Write) = (n : ℕ) × Appends old new (take n (told s bytes))
-Fed s bytes old new (Err Read) = ⊥
+-- What is kept, and what was written since a beginning, is that of a stand.
+pub record IsAt {D : Type 0} (state : D → DeviceState) (trace : Bool) (begun : Option (List ℕ)) (p : Progress) (service : Service D) (now : Option (List ℕ)) (s : Stand) : Type 0 where
+  pub stands : Stands trace s
+  pub keeps : Keeps p (number_after 1 s.lines) s.line
+  pub standing : standing_of service ≡ s.standing
+  pub trace_is : service.trace ≡ trace
+  pub fit : AreFit state service.links.items
+  pub wrote : Appends begun now s.told
 
--- what the end of an input has written
-abbrev pub Finished : Stand → Option (List ℕ) → Option (List ℕ) → Result (Unit {0}) ServeFault → Type 0
-Finished s old new (Ok _) = Appends old new (told_at_end s)
-Finished s old new (Err Memory) = Appends old new []
-Finished s old new (Err Write) = (n : ℕ) × Appends old new (take n (told_at_end s))
-Finished s old new (Err Read) = ⊥
+-- the answers to the lines that some bytes end are written
+pub record HasToldEnded (trace : Bool) (taken : List ℕ) (begun now : Option (List ℕ)) : Type 0 where
+  pub told : List ℕ
+  pub is : AreTold trace (ended_lines taken) told
+  pub wrote : Appends begun now told
+
+-- lines that an input begins with, whatever follows
+pub record Begins (taken : List ℕ) (lines : List Line) : Type 0 where
+  pub rest : List ℕ → List Line
+  pub is : (more : List ℕ) → lines_of (taken ++ more) ≡ lines ++ rest more
+
+-- some of the first bytes of the answers to first lines are written
+pub record HasToldSome (trace : Bool) (lines : List Line) (begun now : Option (List ℕ)) : Type 0 where
+  pub told : List ℕ
+  pub is : AreTold trace lines told
+  pub some : ℕ
+  pub wrote : Appends begun now (take some told)
+
+-- why serving ends among bytes that follow those taken, and what it has written
+abbrev pub Fails : Bool → (taken bytes : List ℕ) → (begun now : Option (List ℕ)) → ServeFault → Type 0
+Fails trace taken bytes begun now Memory = (n : ℕ) × HasToldEnded trace (taken ++ take n bytes) begun now
+Fails trace taken bytes begun now Thread = (n : ℕ) × HasToldEnded trace (taken ++ take n bytes) begun now
+Fails trace taken bytes begun now Write = (lines : List Line) × Begins (taken ++ bytes) lines × HasToldSome trace lines begun now
+Fails trace taken bytes begun now Read = ⊥
+Fails trace taken bytes begun now Stuck = ⊥
+Fails trace taken bytes begun now Limit = ⊥
+
+-- and at the end of the input
+abbrev pub FailsAtEnd : Bool → (input : List ℕ) → (begun now : Option (List ℕ)) → ServeFault → Type 0
+FailsAtEnd trace input begun now Memory = HasToldEnded trace input begun now
+FailsAtEnd trace input begun now Thread = HasToldEnded trace input begun now
+FailsAtEnd trace input begun now Write = HasToldSome trace (lines_of input) begun now
+FailsAtEnd trace input begun now Read = ⊥
+FailsAtEnd trace input begun now Stuck = ⊥
+FailsAtEnd trace input begun now Limit = ⊥
+
+-- the end of the input is answered
+pub record HasToldAll (trace : Bool) (input : List ℕ) (begun now : Option (List ℕ)) : Type 0 where
+  pub told : List ℕ
+  pub is : AreTold trace (lines_of input) told
+  pub wrote : Appends begun now told
+
+-- one stand further, by these bytes
+pub record GoesOn {D : Type 0} (state : D → DeviceState) (trace : Bool) (begun : Option (List ℕ)) (p : Progress) (service : Service D) (now : Option (List ℕ)) (taken : List ℕ) : Type 0 where
+  pub stand : Stand
+  pub taken_is : stand.taken ≡ taken
+  pub is : IsAt state trace begun p service now stand

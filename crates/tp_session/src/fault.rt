@@ -5,7 +5,7 @@ ghost use Rattle.tp_session.specs.declared.fault.ServeFault.TheVariants.{Memory}
 use std::alloc::{AllocError, AllocFailed};
 use thiserror::Error;
 
-/// Why serving ended before the end of its input.
+/// Why serving ended before the end of its input. The sessions are gone, and the links are dropped.
 #[derive(Clone, Copy, Debug, PartialEq, Eq, Error)]
 pub enum ServeFault {
     /// The reader failed. The answers of all whole lines before are written.
@@ -17,6 +17,15 @@ pub enum ServeFault {
     /// A growth was refused. The answers of the lines before the one that wanted it are written.
     #[error("memory")]
     Memory,
+    /// A member's thread could not be started. The answers of the lines before the one that wanted it are written.
+    #[error("thread")]
+    Thread,
+    /// A worker was stuck. It never is.
+    #[error("stuck")]
+    Stuck,
+    /// A worker did not end within its budget. It always does.
+    #[error("limit")]
+    Limit,
 }
 
 impl From<AllocError> for ServeFault {

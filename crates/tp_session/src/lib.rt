@@ -1,15 +1,19 @@
 //! Lines in, answers out.
 //!
-//! A session reads an input line by line and writes an answer to each line. What is written is a function of what is
-//! read: `served`.
+//! A service reads an input line by line and writes an answer to each line. Lines open sessions, give them packets and run
+//! these on a farm. What is written for what is read is said in `specs/Served.antt`, line by line in `specs/Answers.antt`.
 #![tactic(auto)]
 
-mod answers;
+mod farm;
 mod fault;
+pub mod laws;
 mod progress;
 mod reading;
+mod running;
+mod service;
 mod serving;
 
+pub use farm::Farm;
 pub use fault::ServeFault;
 pub use serving::serve;
 

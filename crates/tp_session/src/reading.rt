@@ -1,21 +1,28 @@
 //! Reading lines byte by byte, and answering each.
 
-ghost use Rattle.std.specs.Prelude.{◌≡◌, ℕ, [], ◌∷◌, OnOk, OnErr, IfOk, IfErr, string_bytes, take};
+ghost use Rattle.std.specs.Prelude.{◌≡◌, ℕ, Bool, List, Option, Some, [], ◌∷◌, ◌++◌, OnOk, OnErr, IfOk, IfErr, take};
 ghost use Rattle.std.specs.Io.KnownBytes.{Appends};
-ghost use Rattle.tp_session.specs.Input.{line_feed};
-ghost use Rattle.tp_session.specs.Served.{answer};
-ghost use Rattle.tp_session.specs.Stand.{Stand, beginning, after_byte, after, Keeps, Fed, Finished};
+ghost use Rattle.tp_requests.specs.Lines.{without_return};
+ghost use Rattle.tp_answers.specs.Answers.{Answers};
+ghost use Rattle.tp_session.specs.Served.{asked_in};
+ghost use Rattle.tp_session.specs.Fitness.{AreFit, HasMembers};
+ghost use Rattle.tp_session.specs.Standing.{standing_of, StaysOn, IsWant};
+ghost use Rattle.tp_session.specs.Stand.{Stand, Keeps, IsAt, GoesOn, Fails, FailsAtEnd, HasToldAll};
 
 use crate::MAX_LINE;
-use crate::answers::{answer_to, refusal, without_return};
 use crate::fault::ServeFault;
 use crate::progress::Progress;
-use std::alloc::{AllocError, Global};
+use crate::service::Service;
+use std::alloc::Global;
 use std::io::Write;
+use std::sync::Wait;
+use std::thread::Threads;
+use tp_answers::refusal;
+use tp_link::LinkDevice;
 
 /// The beginning of an input.
 pub(crate) fn begin(alloc: Global) -> Progress
-    ensures { Keeps result beginning }
+    ensures { Keeps result 1 [] }
 {
     Progress {
         number: 1,
@@ -24,17 +31,37 @@ pub(crate) fn begin(alloc: Global) -> Progress
     }
 }
 
+/// The line without a carriage return at its end.
+fn without_return(line: &[u8]) -> &[u8]
+    ensures { result.now ≡ without_return line.now }
+{
+    match line.last() {
+        Some(b'\r') => &line[..line.len() - 1],
+        _ => line,
+    }
+}
+
 /// The answer to the line that is being read, which a line feed has ended or the end of the input.
-fn answer(alloc: Global, progress: &Progress, ended: bool) -> Result<String, AllocError>
-    ensures { (s : Stand) → Keeps progress.now s →
-        IfOk result (λ text. string_bytes text ≡ answer s.number record { bytes = s.line; ended = ended }) }
+fn answer<R: Threads + Wait + Sync, D: LinkDevice + Send>(
+    service: &mut Service<D>,
+    rt: &R,
+    alloc: Global,
+    progress: &Progress,
+    ended: bool,
+) -> Result<Vec<u8>, ServeFault>
+    requires { HasMembers service.old.links.items }
+    ensures told { AreFit D.state service.old.links.items → (number : ℕ) (line : List ℕ) → Keeps progress.now number line → IfOk result (λ told.
+        Answers service.old.trace number (asked_in record { bytes = line; ended = ended }) (standing_of service.old) told.items (standing_of service.new)) }
+    ensures stays { OnOk result (StaysOn D.state service.old service.new) }
+    ensures want { IfErr result IsWant }
 {
     if progress.long {
-        refusal(alloc, "E1", progress.number)
-    } else if ended {
-        answer_to(alloc, progress.number, without_return(&progress.line))
+        return Ok(refusal(alloc, "E1", progress.number)?.into_bytes());
+    }
+    if ended {
+        service.answer_line(rt, alloc, progress.number, without_return(&progress.line))
     } else {
-        answer_to(alloc, progress.number, &progress.line)
+        service.answer_line(rt, alloc, progress.number, &progress.line)
     }
 }
 
@@ -59,17 +86,22 @@ fn write_whole<W: Write>(writer: &mut W, text: &[u8]) -> Result<(), ServeFault>
 }
 
 /// Answers the line that is being read, which a line feed has ended, and begins the next.
-fn end_line<W: Write>(
+fn end_line<R: Threads + Wait + Sync, D: LinkDevice + Send, W: Write>(
     progress: &mut Progress,
+    service: &mut Service<D>,
+    rt: &R,
     alloc: Global,
     writer: &mut W,
 ) -> Result<(), ServeFault>
-    ensures fed { (s : Stand) → Keeps progress.old s →
-        Fed s (line_feed ∷ []) (W.contents writer.old) (W.contents writer.new) result }
-    ensures kept { (s : Stand) → Keeps progress.old s → OnOk result (Keeps progress.new (after_byte s line_feed)) }
+    requires { HasMembers service.old.links.items }
+    ensures ok { (trace : Bool) (begun : Option (List ℕ)) (s : Stand) → IsAt D.state trace begun progress.old service.old (W.contents writer.old) s →
+        OnOk result (GoesOn D.state trace begun progress.new service.new (W.contents writer.new) (s.taken ++ 10 ∷ [])) }
+    ensures err { (trace : Bool) (begun : Option (List ℕ)) (s : Stand) → IsAt D.state trace begun progress.old service.old (W.contents writer.old) s →
+        IfErr result (Fails trace s.taken (10 ∷ []) begun (W.contents writer.new)) }
+    ensures members { OnOk result (HasMembers service.new.links.items) }
 {
-    let text = answer(alloc, progress, true)?;
-    write_whole(writer, text.as_bytes())?;
+    let text = answer(service, rt, alloc, progress, true)?;
+    write_whole(writer, &text)?;
     progress.line.clear();
     progress.long = false;
     progress.number = progress.number.saturating_add(1);
@@ -77,18 +109,23 @@ fn end_line<W: Write>(
 }
 
 /// Takes a byte of the input, and answers the line that it ends.
-fn take_byte<W: Write>(
+fn take_byte<R: Threads + Wait + Sync, D: LinkDevice + Send, W: Write>(
     progress: &mut Progress,
+    service: &mut Service<D>,
+    rt: &R,
     alloc: Global,
     writer: &mut W,
     byte: u8,
 ) -> Result<(), ServeFault>
-    ensures fed { (s : Stand) → Keeps progress.old s →
-        Fed s (byte ∷ []) (W.contents writer.old) (W.contents writer.new) result }
-    ensures kept { (s : Stand) → Keeps progress.old s → OnOk result (Keeps progress.new (after_byte s byte)) }
+    requires { HasMembers service.old.links.items }
+    ensures ok { (trace : Bool) (begun : Option (List ℕ)) (s : Stand) → IsAt D.state trace begun progress.old service.old (W.contents writer.old) s →
+        OnOk result (GoesOn D.state trace begun progress.new service.new (W.contents writer.new) (s.taken ++ byte ∷ [])) }
+    ensures err { (trace : Bool) (begun : Option (List ℕ)) (s : Stand) → IsAt D.state trace begun progress.old service.old (W.contents writer.old) s →
+        IfErr result (Fails trace s.taken (byte ∷ []) begun (W.contents writer.new)) }
+    ensures members { OnOk result (HasMembers service.new.links.items) }
 {
     if byte == b'\n' {
-        return end_line(progress, alloc, writer);
+        return end_line(progress, service, rt, alloc, writer);
     }
     if progress.line.len() < MAX_LINE {
         progress.line.push(byte)?;
@@ -99,34 +136,44 @@ fn take_byte<W: Write>(
 }
 
 /// Takes some bytes of the input, and answers the lines that they end.
-pub(crate) fn feed<W: Write>(
+pub(crate) fn feed<R: Threads + Wait + Sync, D: LinkDevice + Send, W: Write>(
     progress: &mut Progress,
+    service: &mut Service<D>,
+    rt: &R,
     alloc: Global,
     writer: &mut W,
     bytes: &[u8],
 ) -> Result<(), ServeFault>
-    ensures fed { (s : Stand) → Keeps progress.old s →
-        Fed s bytes.now (W.contents writer.old) (W.contents writer.new) result }
-    ensures kept { (s : Stand) → Keeps progress.old s → OnOk result (Keeps progress.new (after s bytes.now)) }
+    requires { HasMembers service.old.links.items }
+    ensures ok { (trace : Bool) (begun : Option (List ℕ)) (s : Stand) → IsAt D.state trace begun progress.old service.old (W.contents writer.old) s →
+        OnOk result (GoesOn D.state trace begun progress.new service.new (W.contents writer.new) (s.taken ++ bytes.now)) }
+    ensures err { (trace : Bool) (begun : Option (List ℕ)) (s : Stand) → IsAt D.state trace begun progress.old service.old (W.contents writer.old) s →
+        IfErr result (Fails trace s.taken bytes.now begun (W.contents writer.new)) }
+    ensures members { OnOk result (HasMembers service.new.links.items) }
 {
     for byte in bytes {
-        take_byte(progress, alloc, writer, *byte)?;
+        take_byte(progress, service, rt, alloc, writer, *byte)?;
     }
     Ok(())
 }
 
 /// Answers what is left at the end of the input.
-pub(crate) fn finish<W: Write>(
+pub(crate) fn finish<R: Threads + Wait + Sync, D: LinkDevice + Send, W: Write>(
     progress: &Progress,
+    service: &mut Service<D>,
+    rt: &R,
     alloc: Global,
     writer: &mut W,
 ) -> Result<(), ServeFault>
-    ensures { (s : Stand) → Keeps progress.now s →
-        Finished s (W.contents writer.old) (W.contents writer.new) result }
+    requires { HasMembers service.old.links.items }
+    ensures ok { (trace : Bool) (begun : Option (List ℕ)) (s : Stand) → IsAt D.state trace begun progress.now service.old (W.contents writer.old) s →
+        OnOk result (HasToldAll trace s.taken begun (W.contents writer.new)) }
+    ensures err { (trace : Bool) (begun : Option (List ℕ)) (s : Stand) → IsAt D.state trace begun progress.now service.old (W.contents writer.old) s →
+        IfErr result (FailsAtEnd trace s.taken begun (W.contents writer.new)) }
 {
     if progress.line.is_empty() {
         return Ok(());
     }
-    let text = answer(alloc, progress, false)?;
-    write_whole(writer, text.as_bytes())
+    let text = answer(service, rt, alloc, progress, false)?;
+    write_whole(writer, &text)
 }

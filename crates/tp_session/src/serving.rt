@@ -2,12 +2,18 @@
 
 ghost use Rattle.std.specs.Prelude.{IfSome};
 ghost use Rattle.tp_session.specs.Served.{Serves};
+ghost use Rattle.tp_session.specs.Fitness.{AreFit};
 
+use crate::farm::Farm;
 use crate::fault::ServeFault;
 use crate::reading::{begin, feed, finish};
+use crate::service::Service;
 use std::alloc::Global;
 use std::io::{Read, Write};
 use std::sync::Wait;
+use std::thread::Threads;
+use tp_answers::Sessions;
+use tp_link::LinkDevice;
 
 /// The most bytes that one call of the reader is asked for.
 const READ_SIZE: usize = 4096;
@@ -15,17 +21,25 @@ const READ_SIZE: usize = 4096;
 /// Answers each line of an input, until the reader ends or fails.
 ///
 /// A line is the bytes up to a line feed; a carriage return just before it is dropped, and a rest at the end of the
-/// input that is not empty is a line. The answer to a line is built whole, then written and flushed. Where a growth was
-/// refused, or the reader or the writer fails, serving ends with that fault.
-pub fn serve<R: Read, W: Write>(
-    rt: &impl Wait,
+/// input that is not empty is a line. The answer to a line is built whole, then written and flushed. Where a growth or a
+/// thread is refused, or the reader or the writer fails, serving ends with that fault. It waits for its members while
+/// packets are run.
+pub fn serve<T: Threads + Wait + Sync, D: LinkDevice + Send, R: Read, W: Write>(
+    rt: &T,
     alloc: Global,
     reader: &mut R,
     writer: &mut W,
+    farm: Farm<D>,
 ) -> Result<(), ServeFault>
-    ensures { IfSome (R.remaining reader.old) (λ input.
-        Serves input (R.remaining reader.new) (W.contents writer.old) (W.contents writer.new) result) }
+    ensures { AreFit D.state farm.links.items → IfSome (R.remaining reader.old) (λ input.
+        Serves farm.trace input (R.remaining reader.new) (W.contents writer.old) (W.contents writer.new) result) }
 {
+    let mut service = Service {
+        sessions: Sessions::new(alloc),
+        links: farm.links,
+        trace: farm.trace,
+        batches: 0,
+    };
     let mut progress = begin(alloc);
     let mut buffer = [0; READ_SIZE];
     for _ in rt.forever() {
@@ -33,9 +47,16 @@ pub fn serve<R: Read, W: Write>(
             return Err(ServeFault::Read);
         };
         if count == 0 {
-            return finish(&progress, alloc, writer);
+            return finish(&progress, &mut service, rt, alloc, writer);
         }
-        feed(&mut progress, alloc, writer, &buffer[..count])?;
+        feed(
+            &mut progress,
+            &mut service,
+            rt,
+            alloc,
+            writer,
+            &buffer[..count],
+        )?;
     }
     unreachable!()
 }

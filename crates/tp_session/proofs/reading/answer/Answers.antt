@@ -1,22 +1,17 @@
-use Rattle.std.proofs.Common.{◌≡◌, codes, string_bytes, ap, sym, ◌∙◌}
-use Rattle.tp_session.specs.Input.{Line, without_return}
-use Rattle.tp_session.specs.Served.{refusal}
-use Rattle.tp_session.proofs.Texts.{told}
-use Rattle.tp_session.proofs.AnswerLemmas.{answer_long, answered_whole, answered_rest, kept_whole}
+use Rattle.std.proofs.Common.{ap, ◌∙◌}
+use Rattle.std.proofs.lemmas.Result.{IfOk-weaker}
+use Rattle.tp_requests.specs.Lines.{without_return}
+use Rattle.tp_session.proofs.ReadingLemmas.{kept_whole, said_whole, said_rest, answered_now}
 use Rattle.tp_session.proofs.reading.answer.Goals as goal
 
-pub returns-then-progress : goal.returns-then-progress
-returns-then-progress c s keeps =
-    let line : Line = record { bytes = s.line; ended = c.args.ended } in
-    told string_bytes c.refusal.result _ _ c.refusal.ensures (ap (refusal (codes "E1")) keeps.number ∙ sym (answer_long s.number line (sym keeps.long ∙ c.if-progress.true)))
+pub returns-then-ended-clause-told : goal.returns-then-ended-clause-told
+returns-then-ended-clause-told g c fit number line keeps =
+    let whole = kept_whole c.args.progress.now number line keeps c.if-progress.false in
+    let says = c.without_return.ensures ∙ ap without_return (c.deref.ensures.value ∙ whole.0) ∙ said_whole line c.args.ended c.if-ended.true in
+    IfOk-weaker c.answer_line.result _ _ (λ told answer. answered_now _ c.args.progress.now number line c.without_return.result.now c.args.ended _ told.items _ keeps whole.1 says answer) (c.answer_line.ensures.told fit)
 
-pub returns-then-ended : goal.returns-then-ended
-returns-then-ended c s keeps =
-    let whole = kept_whole c.args.progress.now s keeps c.if-progress.false in
-    let says : c.without_return.result.now ≡ without_return s.line = c.without_return.ensures ∙ ap without_return (c.deref.ensures.value ∙ whole.0) in
-    told string_bytes c.answer_to.result _ _ c.answer_to.ensures (answered_whole c.args.progress.now s c.args.ended _ keeps whole.1 says c.if-ended.true)
-
-pub returns-else-ended : goal.returns-else-ended
-returns-else-ended c s keeps =
-    let whole = kept_whole c.args.progress.now s keeps c.if-progress.false in
-    told string_bytes c.answer_to-else-ended.result _ _ c.answer_to-else-ended.ensures (answered_rest c.args.progress.now s c.args.ended _ keeps whole.1 (c.deref-else-ended.ensures.value ∙ whole.0) c.if-ended.false)
+pub returns-else-ended-clause-told : goal.returns-else-ended-clause-told
+returns-else-ended-clause-told g c fit number line keeps =
+    let whole = kept_whole c.args.progress.now number line keeps c.if-progress.false in
+    let says = c.deref-else-ended.ensures.value ∙ whole.0 ∙ said_rest line c.args.ended c.if-ended.false in
+    IfOk-weaker c.answer_line-else-ended.result _ _ (λ told answer. answered_now _ c.args.progress.now number line c.deref-else-ended.result.now c.args.ended _ told.items _ keeps whole.1 says answer) (c.answer_line-else-ended.ensures.told fit)

@@ -1,35 +1,32 @@
-use Rattle.std.proofs.Common.{◌≡◌, ◌++◌, ◌∷◌, [], ◌+◌, take, drop, get_or, Err, sym, ap, ◌∙◌}
+use Rattle.std.proofs.Common.{◌≡◌, ◌++◌, ◌∷◌, [], ◌+◌, take, drop, get_or, sym, ap, ◌∙◌, append_assoc, arith}
 use Rattle.std.proofs.lemmas.Result.{err_from_is_err_and}
 use Rattle.std.proofs.lemmas.List.{take_more}
-use Rattle.tp_session.specs.Stand.{after, told}
-use Rattle.tp_session.proofs.KnownBytes.{appends_none, appends_more, appends_same}
-use Rattle.tp_session.proofs.StandLemmas.{fed_more, after-append, told-append, after_one, split_at, fed_same}
+use Rattle.tp_session.proofs.LineLemmas.{split_at, take_all}
+use Rattle.tp_session.proofs.ReadingLemmas.{goes_same, fails_more}
 use Rattle.tp_session.proofs.reading.feed.Goals as goal
 
-pub loop-byte-init : goal.loop-byte-init
-unfolding after told
-loop-byte-init g c s keeps = (keeps, appends_none _)
-
-pub returns-in_err-take_byte-clause-fed : goal.returns-in_err-take_byte-clause-fed
-returns-in_err-take_byte-clause-fed g c s keeps =
+pub returns-in_err-take_byte-clause-err : goal.returns-in_err-take_byte-clause-err
+returns-in_err-take_byte-clause-err g c trace begun s at =
     let bytes = c.args.bytes.now in
     let i = c.loop-byte.byte-index in
-    let front = take i bytes in
-    let so_far = c.loop-byte.invariant s keeps in
+    let so_far = c.loop-byte.invariant.goes trace begun s at in
     let p = err_from_is_err_and c.from_residual.result c.from_residual.ensures.1 in
-    let fed = fed_more s front (drop (i + 1) bytes) (get_or bytes i 0) _ _ _ _ so_far.1 (c.in_err-take_byte.ensures.fed (after s front) so_far.0) in
-    rw (p.1, p.2) (fed_same s bytes _ (g.W.Write.contents c.args.writer.now) (g.W.Write.contents c.take_byte.new.writer) (Err c.in_err-take_byte.field-0.0) (split_at bytes i c.loop-byte-test.true) fed)
+    rw (p.1, p.2) (fails_more trace s.taken so_far.stand.taken (take i bytes) (drop (i + 1) bytes) bytes (get_or bytes i 0) begun _ _ so_far.taken_is (split_at bytes i c.loop-byte-test.true) (c.in_err-take_byte.ensures.err trace begun so_far.stand so_far.is))
 
 pub loop-byte-preserved : goal.loop-byte-preserved
-loop-byte-preserved g c s keeps =
+loop-byte-preserved g c = record {
+  members = c.in_ok-take_byte.ensures.members;
+  goes = λ trace begun s at.
+      let bytes = c.args.bytes.now in
+      let i = c.loop-byte.byte-index in
+      let so_far = c.loop-byte.invariant.goes trace begun s at in
+      let more : take (i + 1) bytes ≡ take i bytes ++ get_or bytes i 0 ∷ [] = take_more bytes i 0 c.loop-byte-test.true in
+      goes_same _ trace begun _ _ _ _ _ (ap (λ l. l ++ get_or bytes i 0 ∷ []) so_far.taken_is ∙ append_assoc s.taken (take i bytes) (get_or bytes i 0 ∷ []) ∙ ap (λ l. s.taken ++ l) (sym more))
+      (c.in_ok-take_byte.ensures.ok trace begun so_far.stand so_far.is);
+}
+
+pub returns-clause-ok : goal.returns-clause-ok
+returns-clause-ok g c trace begun s at =
     let bytes = c.args.bytes.now in
-    let i = c.loop-byte.byte-index in
-    let front = take i bytes in
-    let b = get_or bytes i 0 in
-    let so_far = c.loop-byte.invariant s keeps in
-    let more : take (i + 1) bytes ≡ front ++ b ∷ [] = take_more bytes i 0 c.loop-byte-test.true in
-    let stands : after s (take (i + 1) bytes) ≡ after (after s front) (b ∷ []) = ap (after s) more ∙ after-append s front (b ∷ []) in
-    let tells : told s (take (i + 1) bytes) ≡ told s front ++ told (after s front) (b ∷ []) = ap (told s) more ∙ told-append s front (b ∷ []) in (
-      rw (stands, after_one) (c.in_ok-take_byte.ensures.kept (after s front) so_far.0),
-      appends_same _ _ _ _ (sym tells) (appends_more _ _ _ _ _ so_far.1 (c.in_ok-take_byte.ensures.fed (after s front) so_far.0)),
-    )
+    let all : take c.loop-byte.byte-index bytes ≡ bytes = take_all c.loop-byte.byte-index bytes (omega (arith, c.loop-byte-test.false)) in
+    goes_same _ trace begun _ _ _ _ _ (ap (λ l. s.taken ++ l) all) (c.loop-byte.invariant.goes trace begun s at)

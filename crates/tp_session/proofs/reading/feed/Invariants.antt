@@ -1,9 +1,12 @@
-use Rattle.std.proofs.Common.{take}
-use Rattle.std.specs.Io.KnownBytes.{Appends}
-use Rattle.tp_session.specs.Stand.{Stand, after, told, Keeps}
+use Rattle.std.proofs.Common.{◌++◌, ℕ, Bool, List, Option, take}
+use Rattle.tp_session.specs.Fitness.{HasMembers}
+use Rattle.tp_session.specs.Stand.{Stand, IsAt, GoesOn}
 use Rattle.tp_session.proofs.reading.feed.Given as goal
 
 -- the lines that the bytes so far end are answered
 abbrev pub invariant-loop-byte : goal.invariant-loop-byte
-invariant-loop-byte g l = (s : Stand) → Keeps l.fn.progress s →
-    Keeps l.progress (after s (take l.byte-index l.bytes)) × Appends (g.W.Write.contents l.fn.writer) (g.W.Write.contents l.writer) (told s (take l.byte-index l.bytes))
+invariant-loop-byte g l = record {
+  members : HasMembers l.service.links.items;
+  goes : (trace : Bool) (begun : Option (List ℕ)) (s : Stand) → IsAt g.D.LinkDevice.state trace begun l.fn.progress l.fn.service (g.W.Write.contents l.fn.writer) s →
+      GoesOn g.D.LinkDevice.state trace begun l.progress l.service (g.W.Write.contents l.writer) (s.taken ++ take l.byte-index l.bytes);
+}

@@ -1,0 +1,5 @@
+pub mod Texts
+pub mod Places
+pub mod SessionLemmas
+pub mod AnswerLemmas
+pub mod EntryLemmas

@@ -1,0 +1,84 @@
+-- Texts in parts.
+use Rattle.std.proofs.Common.{Fits, get_or, nat_lt, ◌≡◌, ℕ, zero, suc, ◌+◌, List, [], ◌∷◌, ◌++◌, length, take, Some, Result, Ok, Err, IfOk, refl, ap, sym, ◌∙◌, arith, append_assoc, slice_get, codes, add-one, nat_eq, Bool, true, false}
+use Rattle.std.specs.List.{flat_map, list_all}
+use Rattle.std.proofs.lemmas.List.{append-nil}
+use Rattle.std.proofs.lemmas.Option.{same_Some}
+use Rattle.std.proofs.lemmas.Bool.Decides.{nat_tests}
+use Rattle.tp_decode.specs.Cutting.{Cut, starts_from}
+use Rattle.tp_decode.specs.Lines.{lines_from}
+use Rattle.hex.specs.Hex.{encode_lower}
+use Rattle.std.specs.Fmt.{decimal}
+use Rattle.std.specs.Int.{from_bool, w8}
+use Rattle.tp_step.specs.Runs.{Run}
+use Rattle.tp_answers.specs.Told.{written, kept_line, flag, result_line, trace_text, trace_line, done_line}
+
+-- a text that is said to have bytes has bytes that equal them
+pub told : {S E : Type 0} (bytes : S → List ℕ) (r : Result S E) (x y : List ℕ) → IfOk r (λ s. bytes s ≡ x) → x ≡ y → IfOk r (λ s. bytes s ≡ y)
+told bytes (Ok s) x y h e = h ∙ e
+told bytes (Err e') x y h e = tt
+
+pub regrouped : (a b c d e : List ℕ) → a ++ (b ++ (c ++ (d ++ e))) ≡ (((a ++ b) ++ c) ++ d) ++ e
+regrouped a b c d e = simp append_assoc
+
+pub as_many_lines : (at : ℕ) (cuts : List Cut) → length (lines_from at cuts) ≡ length cuts
+as_many_lines at [] = refl
+as_many_lines at (cut ∷ cuts) = ap suc (as_many_lines (at + length cut.bytes) cuts)
+
+pub as_many_starts : (at : ℕ) (cuts : List Cut) → length (starts_from at cuts) ≡ length cuts
+as_many_starts at [] = refl
+as_many_starts at (cut ∷ cuts) = ap suc (as_many_starts (at + length cut.bytes) cuts)
+
+-- one line more
+pub line_more : (lines : List (List ℕ)) (i : ℕ) (line : List ℕ) → slice_get lines i ≡ Some line → flat_map written (take (i + 1) lines) ≡ flat_map written (take i lines) ++ line ++ codes "\n"
+line_more lines i line e = ap (λ n. flat_map written (take n lines)) (add-one i) ∙ by_recursion lines i line e
+  where
+    by_recursion : (lines : List (List ℕ)) (i : ℕ) (line : List ℕ) → slice_get lines i ≡ Some line → flat_map written (take (suc i) lines) ≡ flat_map written (take i lines) ++ line ++ codes "\n"
+    by_recursion [] i line e = cc
+    by_recursion (l ∷ lines) zero line e = append-nil (written l) ∙ ap written (same_Some l line e)
+    by_recursion (l ∷ lines) (suc i) line e =
+        ap (λ xs. written l ++ xs) (by_recursion lines i line e) ∙ simp append_assoc
+
+pub kept_told : (n : ℕ) → codes "KEPT " ++ (decimal n ++ codes "\n") ≡ kept_line n
+kept_told n = sym (append_assoc (codes "KEPT ") (decimal n) (codes "\n"))
+
+pub done_told : (n : ℕ) → codes "DONE " ++ (decimal n ++ codes "\n") ≡ done_line n
+done_told n = sym (append_assoc (codes "DONE ") (decimal n) (codes "\n"))
+
+pub flag_is : (b : Bool) → from_bool b ≡ flag b
+flag_is true = refl
+flag_is false = refl
+
+regrouped_more : (a b c d e f g h i : List ℕ) → a ++ (b ++ (c ++ (d ++ (e ++ (f ++ (g ++ (h ++ i))))))) ≡ (((((((a ++ b) ++ c) ++ d) ++ e) ++ f) ++ g) ++ h) ++ i
+regrouped_more a b c d e f g h i = simp append_assoc
+
+pub result_told : (n : ℕ) (run : Run) (f : ℕ) (bytes : List ℕ) → f ≡ flag run.error → bytes ≡ encode_lower run.result → codes "R " ++ (decimal n ++ (codes " " ++ (decimal f ++ (codes " " ++ (decimal run.steps ++ (codes " " ++ (bytes ++ codes "\n"))))))) ≡ result_line n run
+result_told n run f bytes e b =
+    regrouped_more (codes "R ") (decimal n) (codes " ") (decimal f) (codes " ") (decimal run.steps) (codes " ") bytes (codes "\n")
+    ∙ ap (λ f. written (codes "R " ++ decimal n ++ codes " " ++ decimal f ++ codes " " ++ decimal run.steps ++ codes " " ++ bytes)) e
+    ∙ ap (λ bytes. written (codes "R " ++ decimal n ++ codes " " ++ decimal (flag run.error) ++ codes " " ++ decimal run.steps ++ codes " " ++ bytes)) b
+
+text_of_none : (trace : List ℕ) → true ≡ nat_eq (length trace) 0 → trace_text trace ≡ codes "-"
+text_of_none [] e = refl
+text_of_none (b ∷ trace) e = absurd (grind (arith, nat_tests, e))
+
+text_of_some : (trace : List ℕ) → false ≡ nat_eq (length trace) 0 → trace_text trace ≡ encode_lower trace
+text_of_some [] e = cc
+text_of_some (b ∷ trace) e = refl
+
+pub no_trace_told : (n : ℕ) (run : Run) → true ≡ nat_eq (length run.trace) 0 → codes "T " ++ (decimal n ++ codes " -\n") ≡ trace_line n run
+no_trace_told n run none =
+    let split : codes " -\n" ≡ codes " " ++ (codes "-" ++ codes "\n") = refl in
+    ap (λ end. codes "T " ++ (decimal n ++ end)) split ∙ regrouped (codes "T ") (decimal n) (codes " ") (codes "-") (codes "\n")
+    ∙ sym (ap (λ text. written (codes "T " ++ decimal n ++ codes " " ++ text)) (text_of_none run.trace none))
+
+pub trace_told : (n : ℕ) (run : Run) (bytes : List ℕ) → false ≡ nat_eq (length run.trace) 0 → bytes ≡ encode_lower run.trace → codes "T " ++ (decimal n ++ (codes " " ++ (bytes ++ codes "\n"))) ≡ trace_line n run
+trace_told n run bytes some is =
+    regrouped (codes "T ") (decimal n) (codes " ") bytes (codes "\n") ∙ ap (λ text. written (codes "T " ++ decimal n ++ codes " " ++ text)) (is ∙ sym (text_of_some run.trace some))
+
+-- numbers that are bytes
+pub all_bytes : (xs : List ℕ) → ((i : ℕ) → Fits w8 (get_or xs i 0)) → list_all (λ b. nat_lt b 256) xs ≡ true
+all_bytes [] fit = refl
+all_bytes (x ∷ xs) fit =
+    let fits : Fits w8 x = fit zero in
+    let test : nat_lt x 256 ≡ true = grind (arith, nat_tests, fits) in
+    rw test (all_bytes xs (λ i. fit (suc i)))

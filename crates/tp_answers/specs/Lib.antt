@@ -1,0 +1,12 @@
+pub mod Sessions
+pub mod Told
+pub mod Answers
+pub mod Open
+pub mod Entries
+pub use Rattle.tp_requests.specs.Lines
+pub use Rattle.tp_requests.specs.Fields
+pub use Rattle.tp_requests.specs.Requests
+pub use Rattle.tp_decode.specs.Cutting
+pub use Rattle.tp_decode.specs.Lines as ListingLines
+pub use Rattle.tp_step.specs.Runs
+pub use Rattle.tp_accept.specs.Verdict

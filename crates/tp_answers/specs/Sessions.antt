@@ -1,0 +1,43 @@
+-- The sessions that are open.
+use Rattle.std.specs.Prelude.{ℕ, Bool, if◌then◌else◌, List, [], ◌∷◌, ◌++◌, Option, Some, None}
+use Rattle.tp_image.specs.Image.{ImageValue}
+use Rattle.tp_requests.specs.Fields.{is_text}
+
+-- the most sessions that are open at a time, and the most packets that one keeps
+abbrev pub most_sessions : ℕ
+most_sessions = 64
+
+abbrev pub most_packets : ℕ
+most_packets = 1024
+
+-- a session: its name, the image that its packets are for, and the packets that it keeps, in order of number
+pub record Session : Type 0 where
+  pub name : List ℕ
+  pub image : ImageValue
+  pub packets : List (List ℕ)
+
+abbrev pub is_of : List ℕ → Session → Bool
+is_of name s = is_text name s.name
+
+-- the session of a name
+abbrev pub named : List ℕ → List Session → Option Session
+named name [] = None
+named name (s ∷ sessions) = if is_of name s then Some s else named name sessions
+
+-- a session in the place of the one of its name, or else behind all others
+abbrev pub with_session : Session → List Session → List Session
+with_session new [] = new ∷ []
+with_session new (s ∷ sessions) = if is_of new.name s then new ∷ sessions else s ∷ with_session new sessions
+
+-- without the session of a name; the others keep their order
+abbrev pub without_session : List ℕ → List Session → List Session
+without_session name [] = []
+without_session name (s ∷ sessions) = if is_of name s then sessions else s ∷ without_session name sessions
+
+-- the session keeps one packet more
+abbrev pub with_packet : Session → List ℕ → Session
+with_packet s packet = record s { packets = s.packets ++ packet ∷ [] }
+
+-- it forgets them all
+abbrev pub without_packets : Session → Session
+without_packets s = record s { packets = [] }

@@ -1,0 +1,51 @@
+//! One session.
+
+ghost use Rattle.std.specs.Prelude.{◌≡◌, ◌==◌, ◌+◌, ◌*◌, ◌≤◌, ◌<◌, [], ◌∷◌, ◌++◌, ◌&&◌, nat_lt, length, vec_len, IsTrue, OnOk};
+ghost use Rattle.std.specs.List.{list_all};
+
+use std::alloc::{AllocError, Global};
+use tp_accept::Accepted;
+use tp_board::Packet;
+
+/// What a session keeps: the image, and the packets that are to be run on it.
+#[derive(Drop)]
+pub struct Kept {
+    pub image: Accepted,
+    /// In order of number, from 0.
+    pub packets: Vec<Packet>,
+    ghost few: { vec_len packets ≤ 1024 },
+    ghost whole: { IsTrue (list_all (λ p. length p.items == 4 * image.image.packet && list_all (λ b. nat_lt b 256) p.items) packets.items) },
+}
+
+impl Kept {
+    /// A session that keeps no packet yet.
+    pub fn new(alloc: Global, image: Accepted) -> Kept
+        ensures image { result.image ≡ image }
+        ensures packets { result.packets.items ≡ [] }
+    {
+        Kept {
+            image,
+            packets: Vec::new(alloc),
+        }
+    }
+
+    /// Keeps one packet more.
+    pub fn keep(&mut self, packet: Packet) -> Result<(), AllocError>
+        requires few { vec_len self.old.packets < 1024 }
+        requires whole { length packet.items ≡ 4 * self.old.image.image.packet }
+        requires bytes { IsTrue (list_all (λ b. nat_lt b 256) packet.items) }
+        ensures image { self.new.image ≡ self.old.image }
+        ensures packets { OnOk result (self.new.packets.items ≡ self.old.packets.items ++ packet ∷ []) }
+    {
+        self.packets.push(packet)?;
+        Ok(())
+    }
+
+    /// Forgets its packets.
+    pub fn forget(&mut self)
+        ensures image { self.new.image ≡ self.old.image }
+        ensures packets { self.new.packets.items ≡ [] }
+    {
+        self.packets.clear();
+    }
+}

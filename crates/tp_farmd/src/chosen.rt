@@ -1,0 +1,10 @@
+//! What a command line may choose.
+
+/// What a command line asks of the program.
+#[derive(Clone, Copy, Debug, PartialEq, Eq)]
+pub struct Options {
+    /// How many members run a batch, 1 to 64.
+    pub members: usize,
+    /// Whether each result is followed by its trace.
+    pub trace: bool,
+}

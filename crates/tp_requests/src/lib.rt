@@ -1,0 +1,10 @@
+//! What a line of a session asks for.
+//!
+//! A line has two or three fields, with one space between any two. What the fields may be, and what they ask for, is said in
+//! `specs/Requests.antt`; how an input falls into lines, in `specs/Lines.antt`.
+#![tactic(auto)]
+
+mod fields;
+mod request;
+
+pub use request::{Name, Request, read_request};

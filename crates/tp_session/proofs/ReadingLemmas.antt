@@ -1,0 +1,204 @@
+-- What reading has told.
+use Rattle.std.proofs.Common.{◌≡◌, ◌≢◌, ℕ, ◌+◌, ◌≤◌, ◌<◌, nat_lt, nat_eq, Bool, true, false, List, [], ◌∷◌, ◌++◌, length, take, drop, Option, Result, Ok, Err, OnOk, OnErr, IfErr, refl, ap, sym, subst, ◌∙◌, arith, append_assoc, length-append}
+use Rattle.std.specs.Io.KnownBytes.{Appends}
+use Rattle.std.proofs.lemmas.Bool.Decides.{nat_tests}
+use Rattle.std.proofs.lemmas.List.{append-nil, take-append-drop, take-append-le, length-take}
+use Rattle.std.proofs.Math.Seq.{take-append_seam}
+use Rattle.tp_link.specs.Device.{DeviceState}
+use Rattle.tp_requests.specs.Lines.{line_feed, lines_of, ended_lines, without_return, said_in}
+use Rattle.tp_requests.specs.Requests.{asked_by}
+use Rattle.tp_answers.specs.Answers.{Standing, Answers}
+use Rattle.tp_session.specs.declared.fault.ServeFault.{ServeFault}
+use Rattle.tp_session.specs.declared.fault.ServeFault.TheVariants.{Read, Write, Memory, Thread, Stuck, Limit}
+use Rattle.tp_session.specs.declared.progress.Progress.{Progress}
+use Rattle.tp_session.specs.declared.service.Service.{Service}
+use Rattle.tp_session.specs.Served.{most_line, asked_in, next_number, nothing_open, AreTold}
+use Rattle.tp_session.specs.Standing.{standing_of, StaysOn, IsWant}
+use Rattle.tp_session.specs.Stand.{Stand, number_after, Keeps, IsAt, HasToldEnded, Fails, FailsAtEnd, HasToldAll, GoesOn}
+use Rattle.tp_session.proofs.KnownBytes.{appends_more, appends_same, appends_front}
+use Rattle.tp_session.proofs.LineLemmas.{take_all}
+use Rattle.tp_session.proofs.StandLemmas.{answers_more, number_more, with_byte, stands_more, line_now, lines_now, with_line, begins_line, stands_line, told_ended, told_whole, told_rest}
+
+-- ---- a line that is kept whole, or in part
+
+pub kept_whole : (p : Progress) (number : ℕ) (line : List ℕ) → Keeps p number line → p.long ≡ false → (p.line.items ≡ line) × (nat_lt most_line (length line) ≡ false)
+kept_whole p number line keeps short =
+    let test : nat_lt most_line (length line) ≡ false = sym keeps.long_is ∙ short in
+    (keeps.line_is ∙ take_all most_line line (grind (arith, nat_tests)), test)
+
+pub said_whole : (line : List ℕ) (ended : Bool) → ended ≡ true → without_return line ≡ said_in record { bytes = line; ended = ended }
+said_whole line ended e = rw e refl
+
+pub said_rest : (line : List ℕ) (ended : Bool) → ended ≡ false → line ≡ said_in record { bytes = line; ended = ended }
+said_rest line ended e = rw e refl
+
+pub answered_now : (trace : Bool) (p : Progress) (number : ℕ) (line says : List ℕ) (ended : Bool) (before : Standing) (told : List ℕ) (after : Standing) → Keeps p number line → nat_lt most_line (length line) ≡ false
+    → says ≡ said_in record { bytes = line; ended = ended } → Answers trace p.number (asked_by says) before told after → Answers trace number (asked_in record { bytes = line; ended = ended }) before told after
+answered_now trace p number line says ended before told after keeps short is answer =
+    let numbered = subst (λ n. Answers trace n (asked_by says) before told after) keeps.number_is answer in
+    let said = subst (λ l. Answers trace number (asked_by l) before told after) is numbered in
+    rw short said
+
+-- one byte more of a line that is kept whole, and of one that is too long
+pub keeps_more : (p q : Progress) (number : ℕ) (line : List ℕ) (b : ℕ) → Keeps p number line → length p.line.items < most_line → q.number ≡ p.number → q.line.items ≡ p.line.items ++ b ∷ [] → q.long ≡ p.long → Keeps q number (line ++ b ∷ [])
+keeps_more p q number line b keeps room number_is line_is long_is =
+    let few : length line < most_line = omega (arith, length-take most_line line, ap length keeps.line_is) in
+    let one : length (line ++ b ∷ []) ≡ length line + 1 = length-append line (b ∷ []) in
+    let whole : p.line.items ≡ line = keeps.line_is ∙ take_all most_line line (omega arith) in
+    let test : nat_lt most_line (length line) ≡ false = grind (arith, nat_tests) in
+    let test' : nat_lt most_line (length (line ++ b ∷ [])) ≡ false = grind (arith, nat_tests) in
+    record {
+      number_is = number_is ∙ keeps.number_is;
+      line_is = line_is ∙ ap (λ l. l ++ b ∷ []) whole ∙ sym (take_all most_line (line ++ b ∷ []) (omega arith));
+      long_is = long_is ∙ keeps.long_is ∙ test ∙ sym test';
+    }
+
+pub keeps_front : (p q : Progress) (number : ℕ) (line : List ℕ) (b : ℕ) → Keeps p number line → most_line ≤ length p.line.items → q.number ≡ p.number → q.line.items ≡ p.line.items → q.long ≡ true → Keeps q number (line ++ b ∷ [])
+keeps_front p q number line b keeps full number_is line_is long_is =
+    let many : most_line ≤ length line = omega (arith, length-take most_line line, ap length keeps.line_is) in
+    let one : length (line ++ b ∷ []) ≡ length line + 1 = length-append line (b ∷ []) in
+    let test : nat_lt most_line (length (line ++ b ∷ [])) ≡ true = grind (arith, nat_tests) in
+    record {
+      number_is = number_is ∙ keeps.number_is;
+      line_is = line_is ∙ keeps.line_is ∙ sym (take-append-le most_line line (b ∷ []) many);
+      long_is = long_is ∙ sym test;
+    }
+
+pub nothing_left : (line kept : List ℕ) (n : ℕ) → kept ≡ take most_line line → n ≡ length kept → true ≡ nat_eq n 0 → line ≡ []
+nothing_left [] kept n is long none = refl
+nothing_left (b ∷ line) kept n is long none =
+    let nothing : n ≡ 0 = grind (arith, nat_tests, none) in
+    absurd (omega (arith, nothing, long, ap length is, length-take most_line (b ∷ line)))
+
+pub something_left : (line kept : List ℕ) (n : ℕ) → kept ≡ take most_line line → n ≡ length kept → false ≡ nat_eq n 0 → 0 < length line
+something_left line kept n is long some =
+    let other : n ≢ 0 = grind (arith, nat_tests, some) in
+    omega (arith, other, long, ap length is, length-take most_line line)
+
+-- ---- from one stand to the next
+
+module _ {D : Type 0} (state : D → DeviceState) (trace : Bool) (begun now : Option (List ℕ)) (p : Progress) (service : Service D) (s : Stand) (at : IsAt state trace begun p service now s) where
+  -- the answer to the line that is being read
+  pub answer_at : (ended : Bool) (here : List ℕ) (after : Standing) → Answers service.trace (number_after 1 s.lines) (asked_in (line_now s ended)) (standing_of service) here after
+      → Answers trace (number_after 1 s.lines) (asked_in (line_now s ended)) s.standing here after
+  answer_at ended here after answer =
+      subst (λ b. Answers trace (number_after 1 s.lines) (asked_in (line_now s ended)) b here after) at.standing
+      (subst (λ t. Answers t (number_after 1 s.lines) (asked_in (line_now s ended)) (standing_of service) here after) at.trace_is answer)
+
+  has_told : (taken : List ℕ) → taken ≡ s.taken → HasToldEnded trace taken begun now
+  has_told taken is = record { told = s.told; is = subst (λ l. AreTold trace (ended_lines l) s.told) (sym is) (told_ended trace s at.stands); wrote = at.wrote }
+
+  -- what was wanted was refused before anything was written
+  pub fails_wanting : (bytes : List ℕ) (e : ServeFault) → IsWant e → Fails trace s.taken bytes begun now e
+  fails_wanting bytes Memory want = (0, has_told (s.taken ++ []) (append-nil s.taken))
+  fails_wanting bytes Thread want = (0, has_told (s.taken ++ []) (append-nil s.taken))
+  fails_wanting bytes Read want = absurd want
+  fails_wanting bytes Write want = absurd want
+  fails_wanting bytes Stuck want = absurd want
+  fails_wanting bytes Limit want = absurd want
+
+  pub wanting_at_end : (e : ServeFault) → IsWant e → FailsAtEnd trace s.taken begun now e
+  wanting_at_end Memory want = has_told s.taken refl
+  wanting_at_end Thread want = has_told s.taken refl
+  wanting_at_end Read want = absurd want
+  wanting_at_end Write want = absurd want
+  wanting_at_end Stuck want = absurd want
+  wanting_at_end Limit want = absurd want
+
+  some_written : (now' : Option (List ℕ)) (here : List ℕ) (n : ℕ) → Appends now now' (take n here) → (m : ℕ) × Appends begun now' (take m (s.told ++ here))
+  some_written now' here n wrote =
+      let all : s.told ++ here ≡ (s.told ++ take n here) ++ drop n here = ap (λ l. s.told ++ l) (sym (take-append-drop n here)) ∙ sym (append_assoc s.told (take n here) (drop n here)) in
+      appends_front begun now' (s.told ++ take n here) (drop n here) (s.told ++ here) all (appends_more begun now now' s.told (take n here) at.wrote wrote)
+
+  -- the answer could not be written
+  pub fails_writing : (now' : Option (List ℕ)) (here : List ℕ) (after : Standing) → Answers trace (number_after 1 s.lines) (asked_in (line_now s true)) s.standing here after → (n : ℕ) × Appends now now' (take n here)
+      → Fails trace s.taken (line_feed ∷ []) begun now' Write
+  fails_writing now' here after answer wrote =
+      let some = some_written now' here wrote.0 wrote.1 in
+      (lines_now s true, begins_line trace s at.stands, record { told = s.told ++ here; is = (after, answers_more trace 1 nothing_open s.lines s.told s.standing (line_now s true) here after at.stands.answered answer); some = some.0; wrote = some.1 })
+
+  pub goes_line : (q : Progress) (service' : Service D) (now' : Option (List ℕ)) (here : List ℕ) → Answers trace (number_after 1 s.lines) (asked_in (line_now s true)) s.standing here (standing_of service')
+      → StaysOn state service service' → Appends now now' here → q.number ≡ next_number p.number → q.line.items ≡ [] → q.long ≡ false → GoesOn state trace begun q service' now' (s.taken ++ line_feed ∷ [])
+  goes_line q service' now' here answer stays wrote number_is line_is long_is = record {
+    stand = with_line s here (standing_of service');
+    taken_is = refl;
+    is = record {
+      stands = stands_line trace s here (standing_of service') at.stands answer;
+      keeps = record { number_is = number_is ∙ ap next_number at.keeps.number_is ∙ sym (number_more 1 s.lines (line_now s true)); line_is = line_is; long_is = long_is };
+      standing = refl;
+      trace_is = stays.trace ∙ at.trace_is;
+      fit = stays.fit at.fit;
+      wrote = appends_more begun now now' s.told here at.wrote wrote;
+    };
+  }
+
+  pub goes_byte : (q : Progress) (b : ℕ) → b ≢ line_feed → Keeps q (number_after 1 s.lines) (s.line ++ b ∷ []) → GoesOn state trace begun q service now (s.taken ++ b ∷ [])
+  goes_byte q b other keeps = record {
+    stand = with_byte s b;
+    taken_is = refl;
+    is = record { stands = stands_more trace s b at.stands other; keeps = keeps; standing = at.standing; trace_is = at.trace_is; fit = at.fit; wrote = at.wrote };
+  }
+
+  -- the end of the input
+  pub told_nothing_more : s.line ≡ [] → HasToldAll trace s.taken begun now
+  told_nothing_more none = record { told = s.told; is = told_whole trace s at.stands none; wrote = at.wrote }
+
+  module _ (some : 0 < length s.line) (here : List ℕ) (after : Standing) (answer : Answers trace (number_after 1 s.lines) (asked_in (line_now s false)) s.standing here after) (now' : Option (List ℕ)) {U : Type 0} (r : Result U ServeFault) where
+    pub told_last : OnOk r (Appends now now' here) → OnOk r (HasToldAll trace s.taken begun now')
+    told_last wrote = by_result r wrote
+      where
+        by_result : (r : Result U ServeFault) → OnOk r (Appends now now' here) → OnOk r (HasToldAll trace s.taken begun now')
+        by_result (Ok u) h = record { told = s.told ++ here; is = told_rest trace s here after at.stands some answer; wrote = appends_more begun now now' s.told here at.wrote h }
+        by_result (Err e) h = tt
+
+    pub fails_last : OnErr r ((n : ℕ) × Appends now now' (take n here)) → IfErr r (λ e. e ≡ Write) → IfErr r (FailsAtEnd trace s.taken begun now')
+    fails_last wrote fault = by_result r wrote fault
+      where
+        by_result : (r : Result U ServeFault) → OnErr r ((n : ℕ) × Appends now now' (take n here)) → IfErr r (λ e. e ≡ Write) → IfErr r (FailsAtEnd trace s.taken begun now')
+        by_result (Ok u) h f = tt
+        by_result (Err e) h f =
+            let written = some_written now' here h.0 h.1 in
+            rw f record { told = s.told ++ here; is = (told_rest trace s here after at.stands some answer); some = written.0; wrote = written.1 }
+
+-- ---- some bytes
+
+pub goes_same : {D : Type 0} (state : D → DeviceState) (trace : Bool) (begun now : Option (List ℕ)) (p : Progress) (service : Service D) (xs ys : List ℕ) → xs ≡ ys → GoesOn state trace begun p service now xs → GoesOn state trace begun p service now ys
+goes_same state trace begun now p service xs ys e goes = record { stand = goes.stand; taken_is = goes.taken_is ∙ e; is = goes.is }
+
+pub goes_nowhere : {D : Type 0} (state : D → DeviceState) (trace : Bool) (begun now : Option (List ℕ)) (p : Progress) (service : Service D) (s : Stand) → IsAt state trace begun p service now s → GoesOn state trace begun p service now (s.taken ++ [])
+goes_nowhere state trace begun now p service s at = record { stand = s; taken_is = sym (append-nil s.taken); is = at }
+
+before_more : (trace : Bool) (first taken front rest bytes : List ℕ) (b : ℕ) (begun now : Option (List ℕ)) → taken ≡ first ++ front → bytes ≡ front ++ b ∷ rest
+    → (n : ℕ) × HasToldEnded trace (taken ++ take n (b ∷ [])) begun now → (n : ℕ) × HasToldEnded trace (first ++ take n bytes) begun now
+before_more trace first taken front rest bytes b begun now is split (n, told) =
+    let xs = front ++ take n (b ∷ []) in
+    let all : bytes ≡ xs ++ (drop n (b ∷ []) ++ rest) =
+    split ∙ ap (λ l. front ++ (l ++ rest)) (sym (take-append-drop n (b ∷ []))) ∙ ap (λ l. front ++ l) (append_assoc (take n (b ∷ [])) (drop n (b ∷ [])) rest)
+    ∙ sym (append_assoc front (take n (b ∷ [])) (drop n (b ∷ []) ++ rest)) in
+    let same : taken ++ take n (b ∷ []) ≡ first ++ take (length xs) bytes =
+    ap (λ l. l ++ take n (b ∷ [])) is ∙ append_assoc first front (take n (b ∷ []))
+    ∙ ap (λ l. first ++ l) (sym (ap (take (length xs)) all ∙ take-append_seam xs (drop n (b ∷ []) ++ rest))) in
+    (length xs, subst (λ l. HasToldEnded trace l begun now) same told)
+
+-- an error at a byte behind some others
+pub fails_more : (trace : Bool) (first taken front rest bytes : List ℕ) (b : ℕ) (begun now : Option (List ℕ)) (e : ServeFault) → taken ≡ first ++ front → bytes ≡ front ++ b ∷ rest → Fails trace taken (b ∷ []) begun now e → Fails trace first bytes begun now e
+fails_more trace first taken front rest bytes b begun now Read is split fails = absurd fails
+fails_more trace first taken front rest bytes b begun now Stuck is split fails = absurd fails
+fails_more trace first taken front rest bytes b begun now Limit is split fails = absurd fails
+fails_more trace first taken front rest bytes b begun now Write is split fails = (
+  fails.0,
+  record {
+    rest = λ more. fails.1.rest (rest ++ more);
+    is = λ more.
+        ap lines_of (
+        ap (λ l. (first ++ l) ++ more) split ∙ append_assoc first (front ++ b ∷ rest) more ∙ ap (λ l. first ++ l) (append_assoc front (b ∷ rest) more)
+        ∙ sym (append_assoc first front (b ∷ rest ++ more)) ∙ ap (λ l. l ++ (b ∷ rest ++ more)) (sym is) ∙ sym (append_assoc taken (b ∷ []) (rest ++ more))
+        ) ∙ fails.1.is (rest ++ more);
+  },
+  fails.2,
+)
+fails_more trace first taken front rest bytes b begun now Memory is split fails = before_more trace first taken front rest bytes b begun now is split fails
+fails_more trace first taken front rest bytes b begun now Thread is split fails = before_more trace first taken front rest bytes b begun now is split fails
+
+pub some_of : (now now' : Option (List ℕ)) (xs ys : List ℕ) → xs ≡ ys → (n : ℕ) × Appends now now' (take n xs) → (n : ℕ) × Appends now now' (take n ys)
+some_of now now' xs ys e (n, wrote) = (n, appends_same now now' (take n xs) (take n ys) (ap (take n) e) wrote)

@@ -1,0 +1,35 @@
+use Rattle.std.proofs.Common.{◌≡◌, ◌++◌, codes, string_bytes, map, ap, ◌∙◌}
+use Rattle.std.specs.Fmt.{decimal}
+use Rattle.tp_answers.specs.Told.{done_line}
+use Rattle.tp_answers.specs.Entries.{entries_told}
+use Rattle.tp_answers.specs.Open.{session_of}
+use Rattle.tp_answers.proofs.Texts.{done_told}
+use Rattle.tp_answers.proofs.EntryLemmas.{answers_all}
+use Rattle.tp_session.proofs.RunLemmas.{may_begin, whole_packets, kept_whole, kept_few, kept_count, of_kept}
+use Rattle.tp_session.proofs.running.run_session.Goals as goal
+
+pub run_packets-requires-clause-begins : goal.run_packets-requires-clause-begins
+run_packets-requires-clause-begins g c κs within =
+    let kept = c.args.kept.now in
+    may_begin _ record { number = c.args.batch; image = kept.image.image; packets = map (λ p. p.items) c.deref.result.now } c.requires.members.least c.requires.members.most (kept_few kept c.deref.result.now c.deref.ensures.value) (kept_whole kept c.deref.result.now c.deref.ensures.value)
+
+pub run_packets-requires-clause-packets : goal.run_packets-requires-clause-packets
+run_packets-requires-clause-packets g c κs within =
+    let kept = c.args.kept.now in
+    whole_packets kept.image.image _ (kept_whole kept c.deref.result.now c.deref.ensures.value)
+
+pub returns-clause-run : goal.returns-clause-run
+returns-clause-run g c fit name =
+    let kept = c.args.kept.now in
+    let s = session_of name kept in
+    let collected = c.in_ok-collected.collected in
+    let answers = entries_told c.args.trace 0 collected in
+    let text : string_bytes c.in_ok-text.text ≡ answers = c.in_ok-text.ensures ∙ ap (entries_told c.args.trace 0) (c.deref-2.ensures.value ∙ c.collected.view_is) in
+    let done : string_bytes c.in_ok-format.field-0 ≡ codes "DONE " ++ (decimal c.len-count.result ++ codes "\n") = c.in_ok-format.ensures.ok in
+    record {
+      answers = answers;
+      each = answers_all c.args.trace s.image 0 s.packets collected (of_kept kept c.deref.result.now collected c.deref.ensures.value (c.in_ok-collected.ensures.outcomes fit));
+      told_is =
+          c.in_ok-push_str.ensures.bytes ∙ ap (λ l. l ++ c.as_str.result.now) text
+          ∙ ap (λ l. answers ++ l) (c.as_str.ensures.value ∙ done ∙ done_told c.len-count.result ∙ ap done_line (kept_count kept c.len-count.result c.len-count.ensures));
+    }

@@ -1,0 +1,30 @@
+-- Where serving stands, as it is kept.
+use Rattle.std.specs.Prelude.{◌≡◌, ◌≤◌, length}
+use Rattle.tp_link.specs.Device.{DeviceState}
+use Rattle.tp_session.specs.declared.fault.ServeFault.{ServeFault}
+use Rattle.tp_session.specs.declared.fault.ServeFault.TheVariants.{Memory, Thread}
+use Rattle.tp_session.specs.declared.service.Service.{Service}
+use Rattle.tp_requests.specs.Requests.{Asked, ToList}
+use Rattle.tp_answers.specs.Answers.{Standing, standing}
+use Rattle.tp_answers.specs.Open.{sessions_of}
+use Rattle.tp_session.specs.Fitness.{AreFit, HasMembers}
+
+abbrev pub standing_of : {D : Type 0} → Service D → Standing
+standing_of service = standing (sessions_of service.sessions) service.batches
+
+-- the members are as many as may be, their devices are as fit as they were, and traces are told as before
+pub record StaysOn {D : Type 0} (state : D → DeviceState) (before after : Service D) : Type 0 where
+  pub members : HasMembers after.links.items
+  pub fit : AreFit state before.links.items → AreFit state after.links.items
+  pub trace : after.trace ≡ before.trace
+
+-- a growth or a thread was refused
+abbrev pub IsWant : ServeFault → Type 0
+IsWant Memory = Unit {0}
+IsWant Thread = Unit {0}
+IsWant fault = ⊥
+
+-- a code that is to be listed has no more bytes than may be
+abbrev pub IsListable : Asked → Type 0
+IsListable (ToList code) = length code ≤ 65535
+IsListable other = Unit {0}

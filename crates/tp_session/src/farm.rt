@@ -1,0 +1,29 @@
+//! What serving is lent.
+
+ghost use Rattle.std.specs.Prelude.{◌≡◌, ◌≤◌, vec_len};
+
+use tp_link::Links;
+
+/// The links of 1 to 64 members that run packets, and whether the traces of packets are told.
+#[derive(Drop)]
+pub struct Farm<D> {
+    pub(crate) links: Vec<Links<D>>,
+    pub(crate) trace: bool,
+    ghost least: { 1 ≤ vec_len links },
+    ghost most: { vec_len links ≤ 64 },
+}
+
+impl<D> Farm<D> {
+    /// A farm of a member for each of the links, of which there are 1 to 64. With `trace`, each result is followed by the
+    /// bytes that its worker sent on link 1.
+    ///
+    /// What [`serve`](crate::serve) promises, it promises for devices that are open, cannot fail and have room for 256 bytes.
+    pub fn new(links: Vec<Links<D>>, trace: bool) -> Farm<D>
+        requires least { 1 ≤ vec_len links }
+        requires most { vec_len links ≤ 64 }
+        ensures links { result.links ≡ links }
+        ensures trace { result.trace ≡ trace }
+    {
+        Farm { links, trace }
+    }
+}

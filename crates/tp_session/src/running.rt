@@ -1,0 +1,89 @@
+//! Running the packets of a session.
+
+ghost use Rattle.std.specs.Prelude.{◌≡◌, ◌≤◌, ℕ, List, IfOk, IfErr, OnOk, None, string_bytes, length};
+ghost use Rattle.tp_farm.specs.Jobs.{batch_of};
+ghost use Rattle.tp_farm.specs.Refused.{job_fault, IsFromOutside};
+ghost use Rattle.tp_farm.specs.Promised.{ArePackets};
+ghost use Rattle.tp_answers.specs.Answers.{IsRun};
+ghost use Rattle.tp_answers.specs.Open.{session_of};
+ghost use Rattle.tp_answers.specs.Entries.{AreOutcomes};
+ghost use Rattle.tp_session.specs.Fitness.{AreFit, HasMembers};
+ghost use Rattle.tp_session.specs.Standing.{IsWant};
+
+use crate::fault::ServeFault;
+use std::alloc::Global;
+use std::mem;
+use std::sync::Wait;
+use std::thread::Threads;
+use tp_answers::{Kept, entries_text};
+use tp_collect::Collected;
+use tp_farm::laws::long_traces_alone_are_lost;
+use tp_farm::{FarmFault, Job, OpenGate, run_batch};
+use tp_link::{LinkDevice, Links};
+
+/// Why a batch that has begun gives nothing, as serving tells it.
+fn fault_of(fault: FarmFault) -> ServeFault
+    requires { IsFromOutside fault }
+    ensures thread { fault ≡ FarmFault.Thread → result ≡ ServeFault.Thread }
+    ensures memory { fault ≡ FarmFault.Memory → result ≡ ServeFault.Memory }
+    ensures want { IsWant result }
+{
+    match fault {
+        FarmFault::Thread => ServeFault::Thread,
+        FarmFault::Memory => ServeFault::Memory,
+        _ => unreachable!(),
+    }
+}
+
+/// Runs the packets of a job on the members. The links come back.
+fn run_packets<R: Threads + Wait + Sync, D: LinkDevice + Send>(
+    rt: &R,
+    alloc: Global,
+    links: &mut Vec<Links<D>>,
+    job: &Job<'_>,
+) -> Result<Collected, ServeFault>
+    requires members { HasMembers links.old.items }
+    requires begins { job_fault (length links.old.items) (batch_of job.now) ≡ None }
+    requires packets { ArePackets (batch_of job.now) }
+    ensures outcomes { AreFit D.state links.old.items → IfOk result (AreOutcomes (batch_of job.now).image (batch_of job.now).packets) }
+    ensures members { OnOk result (HasMembers links.new.items) }
+    ensures fit { AreFit D.state links.old.items → OnOk result (AreFit D.state links.new.items) }
+    ensures want { IfErr result IsWant }
+{
+    let lent = mem::replace(links, Vec::new(alloc));
+    long_traces_alone_are_lost(job);
+    match run_batch(rt, alloc, job, lent, &OpenGate) {
+        Ok(batch) => {
+            *links = batch.links;
+            Ok(batch.collected)
+        }
+        Err(fault) => Err(fault_of(fault)),
+    }
+}
+
+/// Runs the packets of a session, and tells what became of each.
+pub(crate) fn run_session<R: Threads + Wait + Sync, D: LinkDevice + Send>(
+    rt: &R,
+    alloc: Global,
+    links: &mut Vec<Links<D>>,
+    batch: u64,
+    trace: bool,
+    kept: &Kept,
+) -> Result<String, ServeFault>
+    requires members { HasMembers links.old.items }
+    ensures run { AreFit D.state links.old.items → (name : List ℕ) → IfOk result (λ told. IsRun trace (session_of name kept.now) (string_bytes told)) }
+    ensures members { OnOk result (HasMembers links.new.items) }
+    ensures fit { AreFit D.state links.old.items → OnOk result (AreFit D.state links.new.items) }
+    ensures want { IfErr result IsWant }
+{
+    let job = Job {
+        batch,
+        image: &kept.image,
+        packets: &kept.packets,
+    };
+    let collected = run_packets(rt, alloc, links, &job)?;
+    let mut text = entries_text(alloc, trace, &collected.entries)?;
+    let count = kept.packets.len();
+    text.push_str(format!(in alloc; "DONE {count}\n")?.as_str())?;
+    Ok(text)
+}

@@ -1,0 +1,157 @@
+//! The service: what is kept between two lines, and the answer to each.
+
+ghost use Rattle.std.specs.Prelude.{◌≡◌, ◌≤◌, ◌<◌, ◌++◌, Some, length, slice_get, slice_set, IfOk, IfErr, OnOk, string_bytes};
+ghost use Rattle.tp_requests.specs.Requests.{asked, asked_by};
+ghost use Rattle.tp_answers.specs.Sessions.{Session, named, without_packets};
+ghost use Rattle.tp_answers.specs.Told.{of_line};
+ghost use Rattle.tp_answers.specs.Answers.{Answers, AnswersRun, AreRunAndForgotten, IsRun, batches_more};
+ghost use Rattle.tp_session.specs.Served.{most_line};
+ghost use Rattle.tp_answers.specs.Open.{sessions_of};
+ghost use Rattle.tp_session.specs.Fitness.{AreFit, HasMembers};
+ghost use Rattle.tp_session.specs.Standing.{standing_of, StaysOn, IsWant, IsListable};
+
+use crate::fault::ServeFault;
+use crate::running::run_session;
+use std::alloc::{AllocError, Global};
+use std::sync::Wait;
+use std::thread::Threads;
+use tp_answers::{Sessions, close, keep, list, open, refusal};
+use tp_link::{LinkDevice, Links};
+use tp_requests::{Name, Request, read_request};
+
+/// What is kept between two lines.
+#[derive(Drop)]
+pub(crate) struct Service<D> {
+    pub(crate) sessions: Sessions,
+    pub(crate) links: Vec<Links<D>>,
+    pub(crate) trace: bool,
+    /// The number of the next batch.
+    pub(crate) batches: u64,
+}
+
+/// Tells that what follows is of the session of this name.
+fn tell_name(text: &mut Vec<u8>, name: &Name) -> Result<(), AllocError>
+    ensures { OnOk result (text.new.items ≡ text.old.items ++ of_line name.now.items) }
+{
+    text.extend_from_slice(b"OF ")?;
+    text.extend_from_slice(name.as_slice())?;
+    text.push(b'\n')?;
+    Ok(())
+}
+
+impl<D: LinkDevice + Send> Service<D> {
+    /// Runs the packets of the session at a place, which are forgotten.
+    fn run_at<R: Threads + Wait + Sync>(
+        &mut self,
+        rt: &R,
+        alloc: Global,
+        index: usize,
+    ) -> Result<String, ServeFault>
+        requires there { index < length (sessions_of self.old.sessions) }
+        requires members { HasMembers self.old.links.items }
+        ensures run { AreFit D.state self.old.links.items → (s : Session) → slice_get (sessions_of self.old.sessions) index ≡ Some s →
+            IfOk result (λ told. IsRun self.old.trace s (string_bytes told)) }
+        ensures forgotten { (s : Session) → slice_get (sessions_of self.old.sessions) index ≡ Some s →
+            OnOk result (sessions_of self.new.sessions ≡ slice_set (sessions_of self.old.sessions) index (without_packets s)) }
+        ensures counted { OnOk result (self.new.batches ≡ batches_more 1 self.old.batches) }
+        ensures stays { OnOk result (StaysOn D.state self.old self.new) }
+        ensures want { IfErr result IsWant }
+    {
+        let kept = self.sessions.at(index);
+        let text = run_session(rt, alloc, &mut self.links, self.batches, self.trace, kept)?;
+        self.sessions.forget(index);
+        self.batches = self.batches.wrapping_add(1);
+        Ok(text)
+    }
+
+    /// Runs the packets of a session.
+    fn run<R: Threads + Wait + Sync>(
+        &mut self,
+        rt: &R,
+        alloc: Global,
+        number: u64,
+        name: &Name,
+    ) -> Result<String, ServeFault>
+        requires { HasMembers self.old.links.items }
+        ensures told { AreFit D.state self.old.links.items → IfOk result (λ told.
+            AnswersRun (named name.now.items (sessions_of self.old.sessions)) self.old.trace number (standing_of self.old) (string_bytes told) (standing_of self.new)) }
+        ensures stays { OnOk result (StaysOn D.state self.old self.new) }
+        ensures want { IfErr result IsWant }
+    {
+        match self.sessions.find(name) {
+            Some(index) => self.run_at(rt, alloc, index),
+            None => Ok(refusal(alloc, "P2", number)?),
+        }
+    }
+
+    /// Runs the packets of all sessions, in the order in which they were opened.
+    fn run_all<R: Threads + Wait + Sync>(
+        &mut self,
+        rt: &R,
+        alloc: Global,
+    ) -> Result<Vec<u8>, ServeFault>
+        requires { HasMembers self.old.links.items }
+        ensures told { AreFit D.state self.old.links.items → IfOk result (λ told.
+            AreRunAndForgotten self.old.trace (standing_of self.old) told.items (standing_of self.new)) }
+        ensures stays { OnOk result (StaysOn D.state self.old self.new) }
+        ensures want { IfErr result IsWant }
+    {
+        let count = self.sessions.len();
+        let mut text = Vec::new(alloc);
+        for index in 0..count {
+            tell_name(&mut text, self.sessions.name_at(index))?;
+            let run = self.run_at(rt, alloc, index)?;
+            text.extend_from_slice(run.as_bytes())?;
+        }
+        let all = format!(in alloc; "ALL {count}\n")?;
+        text.extend_from_slice(all.as_bytes())?;
+        Ok(text)
+    }
+
+    /// The answer to a request.
+    fn answer<R: Threads + Wait + Sync>(
+        &mut self,
+        rt: &R,
+        alloc: Global,
+        number: u64,
+        request: Request,
+    ) -> Result<Vec<u8>, ServeFault>
+        requires members { HasMembers self.old.links.items }
+        requires listed { IsListable (asked request) }
+        ensures told { AreFit D.state self.old.links.items → IfOk result (λ told.
+            Answers self.old.trace number (Some (asked request)) (standing_of self.old) told.items (standing_of self.new)) }
+        ensures stays { OnOk result (StaysOn D.state self.old self.new) }
+        ensures want { IfErr result IsWant }
+    {
+        let text = match request {
+            Request::List(code) => list(alloc, &code)?,
+            Request::Image(name, text) => open(&mut self.sessions, alloc, number, name, text)?,
+            Request::Packet(name, bytes) => keep(&mut self.sessions, alloc, number, &name, &bytes)?,
+            Request::Run(name) => self.run(rt, alloc, number, &name)?,
+            Request::RunAll => return self.run_all(rt, alloc),
+            Request::Close(name) => close(&mut self.sessions, alloc, number, &name)?,
+        };
+        Ok(text.into_bytes())
+    }
+
+    /// The answer to what a line says.
+    pub(crate) fn answer_line<R: Threads + Wait + Sync>(
+        &mut self,
+        rt: &R,
+        alloc: Global,
+        number: u64,
+        line: &[u8],
+    ) -> Result<Vec<u8>, ServeFault>
+        requires members { HasMembers self.old.links.items }
+        requires short { length line.now ≤ most_line }
+        ensures told { AreFit D.state self.old.links.items → IfOk result (λ told.
+            Answers self.old.trace number (asked_by line.now) (standing_of self.old) told.items (standing_of self.new)) }
+        ensures stays { OnOk result (StaysOn D.state self.old self.new) }
+        ensures want { IfErr result IsWant }
+    {
+        match read_request(alloc, line)? {
+            Some(request) => self.answer(rt, alloc, number, request),
+            None => Ok(refusal(alloc, "E1", number)?.into_bytes()),
+        }
+    }
+}

@@ -1,0 +1,100 @@
+//! Listings, and lines of any length.
+
+use crate::farms::served;
+use std::alloc::{AllocError, Global};
+use std::test::Fail;
+
+/// Pairs of an input and what is written for it.
+const LISTINGS: [(&str, &str); 18] = [
+    ("LIST 604F\n", "0 604f ldc -1\nDONE 1\n"),
+    ("LIST 2222\n", "NO D1 0\n"),
+    ("LIST 202020202020202041\n", "NO D2 0\n"),
+    (
+        "LIST 204124F2\n",
+        "0 2041 ldc 1 least 41\n2 24f2 mint\nDONE 2\n",
+    ),
+    (
+        "LIST 272F2F2F2F2F6F40\n",
+        "0 272f2f2f2f2f6f40 ldc -2147483648\nDONE 1\n",
+    ),
+    ("LIST 616F40\n", "0 616f40 ldc 256 least 212040\nDONE 1\n"),
+    ("LIST 41F3\n", "NO D3 1\n"),
+    ("LIST 24FA\n", "0 24fa move\nDONE 1\n"),
+    ("HELLO\n", "NO E1 1\n"),
+    ("", ""),
+    ("LIST 4\n\nlist 41\n", "NO E1 1\nNO E1 2\nNO E1 3\n"),
+    ("LIST 24F2\r\n", "0 24f2 mint\nDONE 1\n"),
+    ("LIST 41", "0 41 ldc 1\nDONE 1\n"),
+    ("LIST 41\r", "NO E1 1\n"),
+    ("\r", "NO E1 1\n"),
+    ("LIST \nLIST\nLIST  41\n", "NO E1 1\nNO E1 2\nNO E1 3\n"),
+    (
+        "LIST 4g\nLIST 0aF1\n",
+        "NO E1 1\n0 0a j 10\n1 f1 lb\nDONE 2\n",
+    ),
+    ("LIST 41 \n LIST 41\n", "NO E1 1\nNO E1 2\n"),
+];
+
+#[test]
+fn listings(rt: HostRuntime) -> Result<(), Fail> {
+    for (input, output) in LISTINGS.iter() {
+        let written = served(&rt, rt.alloc(), 1, false, input.as_bytes())?;
+        assert!(rt; written.as_slice() == output.as_bytes(), "{input}");
+    }
+    Ok(())
+}
+
+/// A line of so many instructions `ldc 1`, and what ends it.
+fn long_line(alloc: Global, instructions: usize, end: &[u8]) -> Result<Vec<u8>, AllocError> {
+    let mut line = Vec::from_slice(alloc, b"LIST ")?;
+    for _ in 0..instructions {
+        line.extend_from_slice(b"41")?;
+    }
+    line.extend_from_slice(end)?;
+    Ok(line)
+}
+
+#[test]
+fn the_longest_line(rt: HostRuntime) -> Result<(), Fail> {
+    let mut input = long_line(rt.alloc(), 16_381, b"\r\n")?;
+    assert_eq!(rt; input.len(), 32_769);
+    input.extend_from_slice(b"LIST 604F\n")?;
+    let written = served(&rt, rt.alloc(), 1, false, &input)?;
+    let mut lines = 0usize;
+    for byte in &written {
+        if *byte == b'\n' {
+            lines = lines.saturating_add(1);
+        }
+    }
+    assert_eq!(rt; lines, 16_384);
+    assert!(rt; written.starts_with(b"0 41 ldc 1\n1 41 ldc 1\n"));
+    assert!(rt; written.ends_with(b"\n16380 41 ldc 1\nDONE 16381\n0 604f ldc -1\nDONE 1\n"));
+    Ok(())
+}
+
+#[test]
+fn a_line_too_long(rt: HostRuntime) -> Result<(), Fail> {
+    let mut input = long_line(rt.alloc(), 16_382, b"\n")?;
+    assert_eq!(rt; input.len(), 32_770);
+    input.extend_from_slice(b"LIST 604F\n")?;
+    let written = served(&rt, rt.alloc(), 1, false, &input)?;
+    assert!(rt; written.as_slice() == b"NO E1 1\n0 604f ldc -1\nDONE 1\n".as_slice());
+    Ok(())
+}
+
+/// An input of 3,000 lines, each second of which is refused.
+#[test]
+fn many_lines(rt: HostRuntime) -> Result<(), Fail> {
+    let mut input = Vec::new(rt.alloc());
+    let mut output = String::new(rt.alloc());
+    for pair in 1..1_501u32 {
+        input.extend_from_slice(b"LIST 604F\nHELLO\n")?;
+        let refused = pair.saturating_mul(2);
+        output.push_str(format!(in rt.alloc();
+            "0 604f ldc -1\nDONE 1\nNO E1 {refused}\n"
+        )?.as_str())?;
+    }
+    let written = served(&rt, rt.alloc(), 1, false, &input)?;
+    assert!(rt; written.as_slice() == output.as_bytes());
+    Ok(())
+}

@@ -1,0 +1,61 @@
+//! Every instruction by its name, as the Compiler Writer's Guide spells it.
+
+use crate::farms::served;
+use std::test::Fail;
+
+/// Each instruction of the table: its code, and what is listed for it.
+const NAMES: [(&str, &str); 40] = [
+    ("07", "j 7"),
+    ("11", "ldlp 1"),
+    ("32", "ldnl 2"),
+    ("43", "ldc 3"),
+    ("54", "ldnlp 4"),
+    ("75", "ldl 5"),
+    ("86", "adc 6"),
+    ("a7", "cj 7"),
+    ("b8", "ajw 8"),
+    ("c9", "eqc 9"),
+    ("da", "stl 10"),
+    ("eb", "stnl 11"),
+    ("f0", "rev"),
+    ("f1", "lb"),
+    ("f2", "bsub"),
+    ("f4", "diff"),
+    ("f5", "add"),
+    ("f7", "in"),
+    ("f8", "prod"),
+    ("f9", "gt"),
+    ("fa", "wsub"),
+    ("fb", "out"),
+    ("fc", "sub"),
+    ("21f0", "seterr"),
+    ("21f3", "csub0"),
+    ("21f5", "stopp"),
+    ("21ff", "rem"),
+    ("22f1", "lend"),
+    ("22fc", "div"),
+    ("23f2", "not"),
+    ("23f3", "xor"),
+    ("23fb", "sb"),
+    ("24f0", "shr"),
+    ("24f1", "shl"),
+    ("24f2", "mint"),
+    ("24f6", "and"),
+    ("24fa", "move"),
+    ("24fb", "or"),
+    ("25f2", "sum"),
+    ("25f3", "mul"),
+];
+
+#[test]
+fn every_name(rt: HostRuntime) -> Result<(), Fail> {
+    let mut input = Vec::new(rt.alloc());
+    let mut output = String::new(rt.alloc());
+    for (code, text) in NAMES.iter() {
+        input.extend_from_slice(format!(in rt.alloc(); "LIST {code}\n")?.as_bytes())?;
+        output.push_str(format!(in rt.alloc(); "0 {code} {text}\nDONE 1\n")?.as_str())?;
+    }
+    let written = served(&rt, rt.alloc(), 1, false, &input)?;
+    assert!(rt; written.as_slice() == output.as_bytes());
+    Ok(())
+}

@@ -1,0 +1,244 @@
+//! Readers and writers that give and take little at a time, or fail.
+
+use crate::farms::{serve_on, served};
+use std::io;
+use std::io::{ErrorKind, Read, Write};
+use std::test::Fail;
+use tp_session::ServeFault;
+
+/// Gives one byte a call, and fails in call number `failing`, counted from 1; never where that is 0.
+#[derive(Drop)]
+struct Trickle<'a> {
+    rest: &'a [u8],
+    calls: usize,
+    failing: usize,
+}
+
+impl Read for Trickle<'_> {
+    fn read(&mut self, buf: &mut [u8]) -> io::Result<usize> {
+        self.calls = self.calls.saturating_add(1);
+        if self.calls == self.failing {
+            return Err(io::Error::from(ErrorKind::BrokenPipe));
+        }
+        match (self.rest, buf) {
+            ([first, rest @ ..], [into, ..]) => {
+                *into = *first;
+                self.rest = rest;
+                Ok(1)
+            }
+            _ => Ok(0),
+        }
+    }
+}
+
+/// Takes one byte a call, and in call number `failing` of write or flush fails.
+#[derive(Drop)]
+struct Narrow {
+    taken: Vec<u8>,
+    calls: usize,
+    failing: usize,
+}
+
+impl Narrow {
+    fn fails(&mut self) -> bool {
+        self.calls = self.calls.saturating_add(1);
+        self.calls == self.failing
+    }
+}
+
+impl Write for Narrow {
+    fn write(&mut self, buf: &[u8]) -> io::Result<usize> {
+        if self.fails() {
+            return Err(io::Error::from(ErrorKind::BrokenPipe));
+        }
+        match buf {
+            [] => Ok(0),
+            [first, ..] => {
+                self.taken.push(*first)?;
+                Ok(1)
+            }
+        }
+    }
+
+    fn flush(&mut self) -> io::Result<()> {
+        if self.fails() {
+            Err(io::Error::from(ErrorKind::BrokenPipe))
+        } else {
+            Ok(())
+        }
+    }
+}
+
+/// Takes all that it is given, and remembers how much that was at each flush.
+#[derive(Drop)]
+struct Flushed {
+    taken: Vec<u8>,
+    flushes: Vec<usize>,
+}
+
+impl Write for Flushed {
+    fn write(&mut self, buf: &[u8]) -> io::Result<usize> {
+        self.taken.extend_from_slice(buf)?;
+        Ok(buf.len())
+    }
+
+    fn flush(&mut self) -> io::Result<()> {
+        self.flushes.push(self.taken.len())?;
+        Ok(())
+    }
+}
+
+const INPUT: &[u8] = b"LIST 604F\nHELLO\nLIST 24F2\r\nLIST 41F3";
+
+const OUTPUT: &[u8] = b"0 604f ldc -1\nDONE 1\nNO E1 2\n0 24f2 mint\nDONE 1\nNO D3 1\n";
+
+#[test]
+fn a_byte_at_a_time(rt: HostRuntime) -> Result<(), Fail> {
+    let mut reader = Trickle {
+        rest: INPUT,
+        calls: 0,
+        failing: 0,
+    };
+    let mut writer = Narrow {
+        taken: Vec::new(rt.alloc()),
+        calls: 0,
+        failing: 0,
+    };
+    serve_on(&rt, rt.alloc(), 1, false, &mut reader, &mut writer)?;
+    assert!(rt; writer.taken.as_slice() == OUTPUT);
+    assert!(rt; served(&rt, rt.alloc(), 1, false, INPUT)?.as_slice() == OUTPUT);
+    Ok(())
+}
+
+#[test]
+fn each_answer_is_flushed(rt: HostRuntime) -> Result<(), Fail> {
+    let mut reader = INPUT;
+    let mut writer = Flushed {
+        taken: Vec::new(rt.alloc()),
+        flushes: Vec::new(rt.alloc()),
+    };
+    serve_on(&rt, rt.alloc(), 1, false, &mut reader, &mut writer)?;
+    assert!(rt; writer.taken.as_slice() == OUTPUT);
+    assert_eq!(rt; writer.flushes.as_slice(), [21, 29, 48, 56].as_slice());
+    Ok(())
+}
+
+/// How much of the output is written once so much of the input was read.
+fn written_after(read: usize) -> usize {
+    if read < 10 {
+        0
+    } else if read < 16 {
+        21
+    } else if read < 27 {
+        29
+    } else {
+        48
+    }
+}
+
+#[test]
+fn each_read_fails(rt: HostRuntime) {
+    for failing in 1..38 {
+        let mut reader = Trickle {
+            rest: INPUT,
+            calls: 0,
+            failing,
+        };
+        let mut writer = Vec::new(rt.alloc());
+        let result = serve_on(&rt, rt.alloc(), 1, false, &mut reader, &mut writer);
+        assert_eq!(rt; result, Err(ServeFault::Read));
+        let wanted = OUTPUT.get(..written_after(failing - 1)).unwrap_or(OUTPUT);
+        assert!(rt; writer.as_slice() == wanted, "{failing}");
+    }
+}
+
+#[test]
+fn each_write_fails(rt: HostRuntime) {
+    for failing in 1..61 {
+        let mut reader = INPUT;
+        let mut writer = Narrow {
+            taken: Vec::new(rt.alloc()),
+            calls: 0,
+            failing,
+        };
+        let result = serve_on(&rt, rt.alloc(), 1, false, &mut reader, &mut writer);
+        assert_eq!(rt; result, Err(ServeFault::Write));
+        assert!(rt; OUTPUT.starts_with(writer.taken.as_slice()), "{failing}");
+    }
+}
+
+const SESSION: &[u8] = b"a IMAGE 5450573110000C0008000100010000001024F25444F77081D01024F244FB21F5\n\
+    a PACKET 01000000\na PACKET FFFFFF7F\na PACKET 01000000\na RUN\na RUN\n";
+
+const TOLD: &[u8] = b"YES 16 16\nKEPT 0\nKEPT 1\nKEPT 2\n\
+    R 0 0 16 02000000\nR 1 1 16 00000080\nR 2 0 16 02000000\nDONE 3\nDONE 0\n";
+
+/// How much is told before each line, and how many bytes the lines before it have.
+const STEPS: [(usize, usize); 7] = [
+    (0, 0),
+    (73, 10),
+    (91, 17),
+    (109, 24),
+    (127, 31),
+    (133, 92),
+    (139, 99),
+];
+
+fn told_after(read: usize) -> usize {
+    let mut told = 0;
+    for (lines, bytes) in STEPS.iter() {
+        if *lines <= read {
+            told = *bytes;
+        }
+    }
+    told
+}
+
+#[test]
+fn a_session_a_byte_at_a_time(rt: HostRuntime) -> Result<(), Fail> {
+    let mut reader = Trickle {
+        rest: SESSION,
+        calls: 0,
+        failing: 0,
+    };
+    let mut writer = Narrow {
+        taken: Vec::new(rt.alloc()),
+        calls: 0,
+        failing: 0,
+    };
+    serve_on(&rt, rt.alloc(), 4, false, &mut reader, &mut writer)?;
+    assert!(rt; writer.taken.as_slice() == TOLD);
+    Ok(())
+}
+
+#[test]
+fn each_read_of_a_session_fails(rt: HostRuntime) {
+    for failing in 1..141 {
+        let mut reader = Trickle {
+            rest: SESSION,
+            calls: 0,
+            failing,
+        };
+        let mut writer = Vec::new(rt.alloc());
+        let result = serve_on(&rt, rt.alloc(), 1, false, &mut reader, &mut writer);
+        assert_eq!(rt; result, Err(ServeFault::Read));
+        let wanted = TOLD.get(..told_after(failing - 1)).unwrap_or(TOLD);
+        assert!(rt; writer.as_slice() == wanted, "{failing}");
+    }
+}
+
+/// 99 bytes and 6 flushes.
+#[test]
+fn each_write_of_a_session_fails(rt: HostRuntime) {
+    for failing in 1..106 {
+        let mut reader = SESSION;
+        let mut writer = Narrow {
+            taken: Vec::new(rt.alloc()),
+            calls: 0,
+            failing,
+        };
+        let result = serve_on(&rt, rt.alloc(), 1, false, &mut reader, &mut writer);
+        assert_eq!(rt; result, Err(ServeFault::Write));
+        assert!(rt; TOLD.starts_with(writer.taken.as_slice()), "{failing}");
+    }
+}
