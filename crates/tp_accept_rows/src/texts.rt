@@ -8,7 +8,12 @@ use tp_accept::accept;
 const HEADER_BYTES: usize = 16;
 
 /// A text with bytes at a place replaced by others.
-pub(crate) fn changed(alloc: Global, text: &[u8], at: usize, bytes: &[u8]) -> Result<Vec<u8>, AllocError> {
+pub(crate) fn changed(
+    alloc: Global,
+    text: &[u8],
+    at: usize,
+    bytes: &[u8],
+) -> Result<Vec<u8>, AllocError> {
     let mut copy = Vec::from_slice(alloc, text)?;
     for (i, byte) in bytes.iter().enumerate() {
         if let Some(place) = copy.get_mut(at.saturating_add(i)) {
@@ -28,7 +33,11 @@ pub(crate) fn with_code(alloc: Global, code: &[u8]) -> Result<Vec<u8>, AllocErro
 }
 
 /// A code that receives a packet, then has a number of times `ldc 0`, `cj 0`, and sends its packet, behind a header.
-pub(crate) fn many_jumps(alloc: Global, header: &[u8], times: usize) -> Result<Vec<u8>, AllocError> {
+pub(crate) fn many_jumps(
+    alloc: Global,
+    header: &[u8],
+    times: usize,
+) -> Result<Vec<u8>, AllocError> {
     let mut text = Vec::from_slice(alloc, header)?;
     text.extend_from_slice(b"\x10\x24\xF2\x54\x44\xF7")?;
     for _ in 0..times {
