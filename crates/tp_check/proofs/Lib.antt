@@ -4,11 +4,13 @@ mod Heights
 mod WordEnds
 mod RuleSound
 mod TableSteps
+mod Falling
 mod Places
 mod Entering
 mod Taking
 mod Counting
 mod Moving
+mod Turning
 mod Passing
 mod Verdict
 mod Ending

@@ -4,6 +4,7 @@ use Rattle.tp_check.specs.Passes.{along, from}
 use Rattle.tp_check.specs.UnderWay.{Moves, IsTaken}
 use Rattle.tp_check.proofs.Moving.{moves_none, moves_more, moves_no_more, way_on, way_more}
 use Rattle.tp_check.proofs.Counting.{leaves_none, leaves_more, counts_none, counts_on, counts_most, counts_inside}
+use Rattle.tp_check.proofs.Falling.{falls_none, falls_more}
 use Rattle.tp_check.proofs.passes.Passes.take_edges.Goals as goal
 use Rattle.tp_check.proofs.passes.Passes.take_edges.Goals.{then-branch, else-branch}
 
@@ -18,6 +19,7 @@ loop-edge-init c = record {
   leaves = leaves_none c.args.place.at c.args.self.now;
   counts = counts_none (table_of c.args.self.now.table c.args.place.at) c.args.self.now.outcomes;
   inside = omega arith;
+  falls = λ x. falls_none c.args.image.now c.args.self.now x;
 }
 
 pub loop-edge-preserved : goal.loop-edge-preserved
@@ -31,6 +33,7 @@ loop-edge-preserved c = record {
   leaves = leaves_more c.args.place.at c.args.self.now c.loop-edge.self c.take_edge.new.self c.loop-edge.invariant.leaves c.in_ok-take_edge.ensures.leaves;
   counts = counts_on (table_of c.args.self.now.table c.args.place.at) (table_of c.loop-edge.self.table c.args.place.at) c.loop-edge.edge-index _ _ _ c.loop-edge.invariant.leaves.kept c.loop-edge.invariant.counts c.take_edge.ensures.counts;
   inside = let lt = c.loop-edge-test.true in omega (arith, lt);
+  falls = λ x. falls_more c.args.image.now c.args.self.now c.loop-edge.self c.take_edge.new.self x (c.loop-edge.invariant.falls x) (c.in_ok-take_edge.ensures.falls x);
 }
   where
     moves : Moves c.args.image.now c.if-branch.moved c.args.self.now c.take_edge.new.self

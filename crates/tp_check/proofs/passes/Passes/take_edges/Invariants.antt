@@ -4,7 +4,7 @@ use Rattle.tp_flow.specs.declared.edge.Edge.{Edge}
 use Rattle.tp_check.specs.Tables.{table_of, asked}
 use Rattle.tp_check.specs.Passes.{along, from, edges_of}
 use Rattle.tp_check.specs.Counts.{known}
-use Rattle.tp_check.specs.UnderWay.{IsUnderWay, IsTaken, Moves, Adds, Leaves}
+use Rattle.tp_check.specs.UnderWay.{IsUnderWay, IsTaken, Moves, Adds, Leaves, Falls}
 use Rattle.tp_check.proofs.passes.Passes.take_edges.Given as goal
 
 abbrev pub invariant-loop-edge : goal.invariant-loop-edge
@@ -18,4 +18,5 @@ invariant-loop-edge l = record {
   leaves : Leaves l.place.at l.initial.self l.self;
   counts : Adds l.initial.self.outcomes (known (table_of l.initial.self.table l.place.at) l.edge-index) l.self.outcomes;
   inside : l.edge-index ≤ length l.ways;
+  falls : (x : ℕ) → Falls l.image l.initial.self l.self x;
 }
