@@ -11,6 +11,8 @@ mod Taking
 mod Counting
 mod Moving
 mod Turning
+mod Stopping
 mod Passing
 mod Verdict
 mod Ending
+mod OneCount

@@ -27,14 +27,14 @@ use Rattle.tp_check.proofs.Falling.{since_falls}
 pub adds_none : (n : ℕ) → Adds n 0 n
 adds_none n = record { at_most = record { most = omega arith; fits = λ le. le }; at_least = omega arith }
 
-adds_more : (a m b n c : ℕ) → Adds a m b → Adds b n c → Adds a (m + n) c
+pub adds_more : (a m b n c : ℕ) → Adds a m b → Adds b n c → Adds a (m + n) c
 adds_more a m b n c g h = record {
   at_most = record { most = omega (arith, g.at_most.most, h.at_most.most); fits = λ le. h.at_most.fits (g.at_most.fits le) };
   at_least = omega (arith, g.at_least, h.at_least);
 }
 
 -- what was added to a count of so many
-counted_adds : (total n a b : ℕ) → a ≡ counted total → Adds a n b → b ≡ counted (total + n)
+pub counted_adds : (total n a b : ℕ) → a ≡ counted total → Adds a n b → b ≡ counted (total + n)
 counted_adds total n a b is adds =
     let most = adds.at_most.most in
     let least = adds.at_least in

@@ -16,9 +16,10 @@ use Rattle.tp_check.specs.EdgesRespect.{EveryEdgeRespects}
 use Rattle.tp_check.specs.declared.effort.Effort.{Effort}
 use Rattle.tp_check.specs.Passes.{first_table, edges_in, pass, passes, IsVerdict, IsRefusalOf}
 use Rattle.tp_check.specs.Counts.{counted, edges_from, ArePassesMade, TellsPasses, TellsOutcomes}
-use Rattle.tp_check.specs.UnderWay.{IsUnderWay, HasPlaces, AreTaken, Gives, Moves, table_height, has_changed, AddsAtMost, HasCounted, TurnsOver}
+use Rattle.tp_check.specs.UnderWay.{IsUnderWay, HasPlaces, AreTaken, Gives, Moves, table_height, has_changed, AddsAtMost, HasCounted, TurnsOver, StopsOver}
 use Rattle.tp_check.proofs.Falling.{same_states}
 use Rattle.tp_check.proofs.Counting.{counted_more, most_more, settled_all}
+use Rattle.tp_check.proofs.Stopping.{stopped_had}
 use Rattle.tp_check.proofs.Turning.{HasHad, more_had}
 
 -- between two passes; whether the last one changed the table
@@ -151,10 +152,17 @@ module _ (image : ImageValue) (cuts : List Cut) (old : Passes) (moved : Bool) (b
   is_refusal Memory table gives = tt
 
   -- and so many passes were made to it
+  made_up_to : moved ≡ true → (fault : StateFault) → pass image cuts (table_of old.table) ≡ Err fault → ArePassesMade image cuts (Err fault) (suc before.number)
+  made_up_to is fault gives = record { before = before.number; and_one = refl; change = change_before is; table = table_of old.table; comes = before.comes; answers = gives; stays = tt }
+
   pub tells_refusal : moved ≡ true → (e : StateFault) (table : Table) (count : ℕ) → count ≡ counted (suc before.number) → Gives {X = Bool} (Err e) table (pass image cuts (table_of old.table)) → TellsPasses image cuts (Err e) count
-  tells_refusal is (Refused code place) table count counts gives =
-      (suc before.number, record { before = before.number; and_one = refl; change = change_before is; table = table_of old.table; comes = before.comes; answers = gives; stays = tt }, counts)
+  tells_refusal is (Refused code place) table count counts gives = (suc before.number, made_up_to is (Refused code place) gives, counts)
   tells_refusal is Memory table count counts gives = tt
+
+  -- and so many outcomes had
+  pub outcomes_refusal : moved ≡ true → (e : StateFault) (new : Passes) → HasHad image cuts old before.number → StopsOver image cuts old new e → Gives {X = Bool} (Err e) (table_of new.table) (pass image cuts (table_of old.table)) → TellsOutcomes image cuts (Err e) new.outcomes
+  outcomes_refusal is (Refused code place) new had stops gives = stopped_had image cuts old new before.number (Refused code place) before.comes stops had (made_up_to is (Refused code place) gives)
+  outcomes_refusal is Memory new had stops gives = tt
 
 -- after the last pass
 module _ (image : ImageValue) (cuts : List Cut) (p : Passes) (last : IsBetween image cuts p false) where
@@ -170,7 +178,7 @@ module _ (image : ImageValue) (cuts : List Cut) (p : Passes) (last : IsBetween i
   pub tells_verdict : (count : ℕ) → count ≡ counted last.number → TellsPasses image cuts (Ok p.table) count
   tells_verdict count counts = (last.number, made_is (last.last refl), counts)
 
-  pub tells_outcomes : (count : ℕ) → count ≡ p.outcomes → HasHad image cuts p last.number → TellsOutcomes image cuts (table_of p.table) count
+  pub tells_outcomes : (count : ℕ) → count ≡ p.outcomes → HasHad image cuts p last.number → TellsOutcomes image cuts (Ok p.table) count
   tells_outcomes count is had = record { made = last.number; passes = made_is (last.last refl); total = had.total; outcomes = had.outcomes; counts = is ∙ had.counts }
 
   -- an outcome at least on each edge
@@ -188,3 +196,7 @@ refusal_handed_on image cuts (Err x) e is refusal = rw is refusal
 pub tells_handed_on : (image : ImageValue) (cuts : List Cut) (r : Result (List (Option State)) StateFault) (e : StateFault) (count : ℕ) → IsErrAnd r (λ x. x ≡ e) → TellsPasses image cuts (Err e) count → TellsPasses image cuts r count
 tells_handed_on image cuts (Ok x) e count is tells = absurd (search rules)
 tells_handed_on image cuts (Err x) e count is tells = rw is tells
+
+pub outcomes_handed_on : (image : ImageValue) (cuts : List Cut) (r : Result (List (Option State)) StateFault) (e : StateFault) (count : ℕ) → IsErrAnd r (λ x. x ≡ e) → TellsOutcomes image cuts (Err e) count → TellsOutcomes image cuts r count
+outcomes_handed_on image cuts (Ok x) e count is tells = absurd (search rules)
+outcomes_handed_on image cuts (Err x) e count is tells = rw is tells

@@ -95,10 +95,48 @@ IsTurnIn image cuts k i outcomes = IsTurn (seen image cuts k i) (seen image cuts
 abbrev pub AreOutcomes : ImageValue → List Cut → (made total : ℕ) → Type 0
 AreOutcomes image cuts made total = IsSum (λ k. IsSum (IsTurnIn image cuts k) (length cuts)) made total
 
+-- Of the edges of an instruction so many are taken: the last of them refuses.
+pub record Refuses (image : ImageValue) (p : Placed) (table : Table) (fault : StateFault) (edges : ℕ) : Type 0 where
+  pub before : ℕ
+  pub and_one : edges ≡ suc before
+  pub on : Table
+  pub goes : along image (take before (edges_of p)) table ≡ Ok on
+  pub refuses : along image (take edges (edges_of p)) table ≡ Err fault
+
+-- The outcomes up to a refusal are those of so many whole passes, those of the turns before that of the instruction that
+-- refuses, and one on each of its edges up to the one that does.
+pub record AreOutcomesUpTo (image : ImageValue) (cuts : List Cut) (fault : StateFault) (whole total : ℕ) : Type 0 where
+  pub early : ℕ
+  pub in_passes : AreOutcomes image cuts whole early
+  pub i : ℕ
+  pub turns : ℕ
+  pub in_turns : IsSum (IsTurnIn image cuts whole) i turns
+  pub instruction : Placed
+  pub there : slice_get (placed_from 0 cuts) i ≡ Some instruction
+  pub table : Table
+  pub comes : (passes image cuts whole >>= come_to image cuts i) ≡ Ok table
+  pub edges : ℕ
+  pub refuses : Refuses image instruction table fault edges
+  pub sum : total ≡ early + (turns + edges)
+
 -- a count is that of the outcomes of the passes that come to a table
-pub record TellsOutcomes (image : ImageValue) (cuts : List Cut) (table : Table) (count : ℕ) : Type 0 where
+pub record AreCountedTo (image : ImageValue) (cuts : List Cut) (table : Table) (count : ℕ) : Type 0 where
   pub made : ℕ
   pub passes : ArePassesMade image cuts (Ok table) made
   pub total : ℕ
   pub outcomes : AreOutcomes image cuts made total
   pub counts : count ≡ counted total
+
+-- or to a refusal
+pub record AreCountedUpTo (image : ImageValue) (cuts : List Cut) (fault : StateFault) (count : ℕ) : Type 0 where
+  pub whole : ℕ
+  pub passes : ArePassesMade image cuts (Err fault) (suc whole)
+  pub total : ℕ
+  pub outcomes : AreOutcomesUpTo image cuts fault whole total
+  pub counts : count ≡ counted total
+
+-- a count is that of the outcomes to an answer, unless that is a want of memory
+abbrev pub TellsOutcomes : ImageValue → List Cut → Result (List (Option State)) StateFault → ℕ → Type 0
+TellsOutcomes image cuts (Ok states) count = AreCountedTo image cuts (table_of states) count
+TellsOutcomes image cuts (Err (Refused code place)) count = AreCountedUpTo image cuts (Refused code place) count
+TellsOutcomes image cuts (Err Memory) count = Unit {0}

@@ -24,7 +24,7 @@ use Rattle.tp_state.specs.Live.{LiveWordsAre}
 use Rattle.tp_check.specs.declared.passes.Passes.{Passes}
 use Rattle.tp_check.specs.Tables.{Table, table_of, asked}
 use Rattle.tp_check.specs.EdgesRespect.{HasAbove, Respects}
-use Rattle.tp_check.specs.Counts.{counted, known, asked_on, sum_below, IsSum, IsTurn, come_to, state_before}
+use Rattle.tp_check.specs.Counts.{counted, known, asked_on, sum_below, IsSum, IsTurn, come_to, state_before, Refuses}
 
 -- ---- what a table keeps
 
@@ -198,3 +198,25 @@ pub record HasTurned (image : ImageValue) (cuts : List Cut) (last : ℕ → Opti
 
 abbrev pub TurnsOver : ImageValue → List Cut → (old new : Passes) → Type 0
 TurnsOver image cuts old new = (last : ℕ → Option State) → TellsLast image cuts last old → HasTurned image cuts last old new
+
+-- a refusal on an edge of an instruction, with the outcomes on those up to it
+abbrev pub Stops : ImageValue → Placed → (old new : Passes) → StateFault → Type 0
+Stops image p old new (Refused code place) = (edges : ℕ) × Refuses image p (table_of old.table) (Refused code place) edges × Adds old.outcomes edges new.outcomes
+Stops image p old new Memory = Unit {0}
+
+-- a pass that has stopped at an instruction, with the outcomes of the turns before
+pub record HasStopped (image : ImageValue) (cuts : List Cut) (last : ℕ → Option State) (old new : Passes) (fault : StateFault) : Type 0 where
+  pub i : ℕ
+  pub more : ℕ
+  pub turns : IsSum (λ j. IsTurn (last j) (at_turn image cuts (table_of old.table) j) (asked_on (slice_get cuts j))) i more
+  pub instruction : Placed
+  pub there : slice_get (placed_from 0 cuts) i ≡ Some instruction
+  pub table : Table
+  pub comes : come_to image cuts i (table_of old.table) ≡ Ok table
+  pub edges : ℕ
+  pub refuses : Refuses image instruction table fault edges
+  pub adds : Adds old.outcomes (more + edges) new.outcomes
+
+abbrev pub StopsOver : ImageValue → List Cut → (old new : Passes) → StateFault → Type 0
+StopsOver image cuts old new (Refused code place) = (last : ℕ → Option State) → TellsLast image cuts last old → HasStopped image cuts last old new (Refused code place)
+StopsOver image cuts old new Memory = Unit {0}

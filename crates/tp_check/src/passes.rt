@@ -10,7 +10,7 @@ ghost use Rattle.tp_check.specs.Tables.{table_of, asked, HasPlacedStates};
 ghost use Rattle.tp_check.specs.EdgesRespect.{EveryEdgeRespects};
 ghost use Rattle.tp_check.specs.Passes.{IsVerdict, first_table, enter, go_along, along, edges_of, edges_in, pass, IsRefusalOf};
 ghost use Rattle.tp_check.specs.Counts.{counted, known, edges_from, TellsPasses, TellsOutcomes};
-ghost use Rattle.tp_check.specs.UnderWay.{IsUnderWay, HasPlaces, MayBeTaken, IsTaken, AreTaken, Gives, Moves, has_changed, marked, Adds, AddsAtMost, Leaves, HasCounted, Falls, Since, TurnsOver};
+ghost use Rattle.tp_check.specs.UnderWay.{IsUnderWay, HasPlaces, MayBeTaken, IsTaken, AreTaken, Gives, Moves, has_changed, marked, Adds, AddsAtMost, Leaves, HasCounted, Falls, Since, TurnsOver, Stops, StopsOver};
 
 use crate::check::{asked, every_edge_respects};
 use crate::effort::Effort;
@@ -56,7 +56,7 @@ pub fn check_states_counting(
     ensures placed { IfOk result (λ table. HasPlacedStates image.now (table_of table)) }
     ensures refused { IfErr result (IsRefusalOf image.now listing.now) }
     ensures passes { TellsPasses image.now listing.now result effort.new.passes }
-    ensures outcomes { IfOk result (λ table. TellsOutcomes image.now listing.now (table_of table) effort.new.outcomes) }
+    ensures outcomes { TellsOutcomes image.now listing.now result effort.new.outcomes }
     ensures outcomes_least { IfOk result (λ table. counted (edges_from listing.now table) ≤ effort.new.outcomes) }
     ensures outcomes_most { effort.new.outcomes ≤ effort.new.passes * length (edges_in listing.now) }
 {
@@ -134,6 +134,7 @@ impl Passes {
         ensures counts { OnOk result (HasCounted listing.now self.new) }
         ensures most { AddsAtMost self.old.outcomes (length (edges_in listing.now)) self.new.outcomes }
         ensures turns { OnOk result (TurnsOver image.now listing.now self.old self.new) }
+        ensures stops { IfErr result (StopsOver image.now listing.now self.old self.new) }
     {
         let mut moved = false;
         for i in 0..listing.len() {
@@ -171,6 +172,7 @@ impl Passes {
         ensures most { AddsAtMost self.old.outcomes (length (asked place.instr)) self.new.outcomes }
         ensures falls { OnOk result ((x : ℕ) → x ≢ place.at → Falls image.now self.old self.new x) }
         ensures since { OnOk result (Since image.now (has_changed self.new place.at) (table_of self.old.table place.at) (table_of self.new.table place.at)) }
+        ensures stops { IfErr result (Stops image.now place self.old self.new) }
     {
         if !self.changed[place.at] {
             return Ok(false);
@@ -200,6 +202,7 @@ impl Passes {
         ensures counts { OnOk result (Adds self.old.outcomes (known (table_of self.old.table place.at) (length (asked place.instr))) self.new.outcomes) }
         ensures most { AddsAtMost self.old.outcomes (length (asked place.instr)) self.new.outcomes }
         ensures falls { OnOk result ((x : ℕ) → Falls image.now self.old self.new x) }
+        ensures stops { IfErr result (Stops image.now place self.old self.new) }
     {
         let ways = asked(place.instr);
         let mut moved = false;

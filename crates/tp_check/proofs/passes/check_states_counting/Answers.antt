@@ -1,6 +1,6 @@
 use Rattle.std.proofs.Common.{subst}
 use Rattle.tp_check.specs.Tables.{table_of}
-use Rattle.tp_check.proofs.Verdict.{one_more, most_counted, more_counted, is_refusal, refusal_handed_on, tells_refusal, tells_handed_on, outcomes_least, tells_outcomes, IsCounting, none_counted, IsBetween}
+use Rattle.tp_check.proofs.Verdict.{one_more, most_counted, more_counted, is_refusal, refusal_handed_on, tells_refusal, tells_handed_on, outcomes_least, tells_outcomes, outcomes_refusal, outcomes_handed_on, IsCounting, none_counted, IsBetween}
 use Rattle.tp_check.proofs.Counting.{counted_more}
 use Rattle.tp_check.proofs.Turning.{none_had}
 use Rattle.tp_check.proofs.passes.check_states_counting.Goals as goal
@@ -48,3 +48,8 @@ pub returns-clause-outcomes : goal.returns-clause-outcomes
 returns-clause-outcomes c =
     let counting = subst (λ b. IsCounting c.args.image.now c.args.listing.now c.loop-moved.passes b c.loop-moved.effort) c.loop-moved-test.false c.loop-moved.invariant in
     tells_outcomes c.args.image.now c.args.listing.now c.loop-moved.passes counting.between c.loop-moved.effort.outcomes counting.outcomes counting.had
+
+pub returns-in_err-moved-clause-outcomes : goal.returns-in_err-moved-clause-outcomes
+returns-in_err-moved-clause-outcomes c =
+    outcomes_handed_on c.args.image.now c.args.listing.now c.from_residual-in_err-moved.result c.in_err-moved.field-0.0 c.pass-answer.new.self.outcomes c.from_residual-in_err-moved.ensures.1
+    (outcomes_refusal c.args.image.now c.args.listing.now c.loop-moved.passes c.loop-moved.moved c.loop-moved.invariant.between c.loop-moved-test.true c.in_err-moved.field-0.0 c.pass-answer.new.self c.loop-moved.invariant.had c.in_err-moved.ensures.stops c.in_err-moved.ensures.gives)

@@ -1,9 +1,10 @@
 use Rattle.std.proofs.Common.{sym, subst, arith}
-use Rattle.tp_check.specs.UnderWay.{Moves}
+use Rattle.tp_check.specs.UnderWay.{Moves, StopsOver}
 use Rattle.tp_check.specs.Tables.{table_of}
 use Rattle.tp_check.proofs.Moving.{handed_on}
 use Rattle.tp_check.proofs.Places.{stands_at}
 use Rattle.tp_check.proofs.Passing.{no_instruction, may_be_taken, taken_at, passed_none, passed_more, passed_same, passed_stops, most_stops, passed_all, most_all, all_rest}
+use Rattle.tp_check.proofs.Stopping.{stops_handed_on, stops_over}
 use Rattle.tp_check.proofs.Turning.{turns_over}
 use Rattle.tp_decode.proofs.NumberLemmas.{length-placed}
 use Rattle.tp_check.proofs.passes.Passes.pass.Goals as goal
@@ -81,3 +82,8 @@ returns-clause-most c = most_all c.args.image.now c.args.listing.now c.args.self
 pub returns-clause-turns : goal.returns-clause-turns
 returns-clause-turns c =
     turns_over c.args.image.now c.args.listing.now c.args.self.now c.loop-i.self c.loop-i.i (let e = c.len-i-end.ensures in let f = c.loop-i-test.false in let g = c.loop-i.invariant.inside in omega (arith, e, f, g)) (length-placed 0 c.args.listing.now) c.loop-i.invariant.turned
+
+pub returns-in_err-take-clause-stops : goal.returns-in_err-take-clause-stops
+returns-in_err-take-clause-stops c =
+    stops_handed_on c.from_residual.result c.in_err-take.field-0.0 (StopsOver c.args.image.now c.args.listing.now c.args.self.now c.take.new.self) c.from_residual.ensures.1
+    (stops_over c.args.image.now c.args.listing.now c.loop-i.i c.in-Some.place c.args.self.now c.loop-i.self c.take.new.self c.in_err-take.field-0.0 (sym c.in-Some.ensures) c.loop-i.invariant.come c.loop-i.invariant.turned c.in_err-take.ensures.stops)
