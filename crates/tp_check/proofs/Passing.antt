@@ -142,7 +142,7 @@ module _ (image : ImageValue) (cuts : List Cut) (i : ℕ) (p : Placed) (is : sli
       most_on = omega (arith, once.most.most, passed.most, edges_left)
 
       turned_more : AllByRecursion (λ c. 0 < length c.bytes) cuts → (last : ℕ → Option State) → TellsLast image cuts last first → Turned image cuts last first new (i + 1)
-      turned_more spelled last tells = turned_on image cuts spelled i p is first now new passed.come last (passed.turned last tells) once.falls once.since once.counts
+      turned_more spelled last tells = turned_on image cuts i p is spelled first now new passed.come last (passed.turned last tells) once.falls once.since once.counts
 
     -- a turn that changes the table
     pub passed_more : (new : Passes) → AllByRecursion (λ c. 0 < length c.bytes) cuts → StandsAt cuts p → TakenOnce image p now new true → Passed image cuts first new true (i + 1)
@@ -156,7 +156,7 @@ module _ (image : ImageValue) (cuts : List Cut) (i : ℕ) (p : Placed) (is : sli
       most = most_on new true stands once;
       fits = λ le. once.most.fits (passed.fits le);
       inside = inside_on;
-      come = come_on image cuts spelled i p is first now new passed.come once.gives;
+      come = come_on image cuts i p is spelled first now new passed.come once.gives;
       turned = turned_more new true stands once spelled;
     }
 
@@ -172,7 +172,7 @@ module _ (image : ImageValue) (cuts : List Cut) (i : ℕ) (p : Placed) (is : sli
       most = most_on new false stands once;
       fits = λ le. once.most.fits (passed.fits le);
       inside = inside_on;
-      come = come_on image cuts spelled i p is first now new passed.come once.gives;
+      come = come_on image cuts i p is spelled first now new passed.come once.gives;
       turned = turned_more new false stands once spelled;
     }
 

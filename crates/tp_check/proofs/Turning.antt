@@ -71,8 +71,8 @@ turned_none image cuts last first tells = record {
   coming = λ j q le there. tells j q there;
 }
 
-module _ (image : ImageValue) (cuts : List Cut) (spelled : AllByRecursion (λ c. 0 < length c.bytes) cuts) (i : ℕ) (p : Placed) (is : slice_get (placed_from 0 cuts) i ≡ Some p) where
-  next_come : (table : Table) → come_to image cuts (i + 1) table ≡ (come_to image cuts i table >>= along image (edges_of p))
+module _ (image : ImageValue) (cuts : List Cut) (i : ℕ) (p : Placed) (is : slice_get (placed_from 0 cuts) i ≡ Some p) where
+  pub next_come : (table : Table) → come_to image cuts (i + 1) table ≡ (come_to image cuts i table >>= along image (edges_of p))
   next_come table =
       ap (λ ps. along image (flat_map edges_of ps) table) (take_more (placed_from 0 cuts) i p (slice_get_within (placed_from 0 cuts) i p is) ∙ ap (λ q. take i (placed_from 0 cuts) ++ q ∷ []) (get_or_from_slice_get (placed_from 0 cuts) i p p is))
       ∙ ap (λ es. along image es table) (flat_map-append edges_of (take i (placed_from 0 cuts)) (p ∷ []) ∙ ap (λ es. flat_map edges_of (take i (placed_from 0 cuts)) ++ es) (flat_map-cons edges_of p [] ∙ append-nil (edges_of p)))
@@ -81,7 +81,7 @@ module _ (image : ImageValue) (cuts : List Cut) (spelled : AllByRecursion (λ c.
   edges_are : asked_on (slice_get cuts i) ≡ length (asked p.instr)
   edges_are = let place = place_is 0 cuts i p is in ap asked_on place.is_cut ∙ sym (ap (λ q. length (asked q.instr)) place.is)
 
-  module _ (first now new : Passes) (come : come_to image cuts i (table_of first.table) ≡ Ok (table_of now.table)) where
+  module _ (spelled : AllByRecursion (λ c. 0 < length c.bytes) cuts) (first now new : Passes) (come : come_to image cuts i (table_of first.table) ≡ Ok (table_of now.table)) where
     turn_at : at_turn image cuts (table_of first.table) i ≡ table_of now.table p.at
     turn_at = ap (λ o. state_before o (come_to image cuts i (table_of first.table))) is ∙ ap (state_before (Some p)) come
 
