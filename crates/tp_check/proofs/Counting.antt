@@ -132,7 +132,7 @@ module _ (cuts : List Cut) (p : Placed) (old new : Passes) (stands : StandsAt cu
 
 -- ---- at first
 
-all_true : (n x : ℕ) → x < n → slice_index_or (replicate n true) x false ≡ true
+pub all_true : (n x : ℕ) → x < n → slice_index_or (replicate n true) x false ≡ true
 all_true zero x lt = absurd (omega (arith, lt))
 all_true (suc n) zero lt = refl
 all_true (suc n) (suc x) lt = all_true n x (omega (arith, lt))

@@ -4,11 +4,15 @@ mod Heights
 mod WordEnds
 mod RuleSound
 mod TableSteps
+mod Falling
 mod Places
 mod Entering
 mod Taking
 mod Counting
 mod Moving
+mod Turning
+mod Stopping
 mod Passing
 mod Verdict
 mod Ending
+mod OneCount

@@ -1,7 +1,7 @@
 -- One pass, instruction by instruction.
 use Rattle.std.proofs.Common.{◌≡◌, ◌≢◌, ℕ, suc, ◌+◌, ◌-◌, ◌^◌, ◌<◌, ◌≤◌, ◌⊎◌, inl, inr, Bool, true, false, IsTrue, List, [], ◌∷◌, length, slice_get, Option, Some, None, Ok, Err, refl, sym, ap, ◌∙◌, subst, rules, arith, drop, add-one, drop-cons, get_or, length-append, if◌then◌else◌}
 use Rattle.std.specs.Prelude.{All}
-use Rattle.std.specs.List.{flat_map}
+use Rattle.std.specs.List.{flat_map, AllByRecursion}
 use Rattle.std.proofs.lemmas.Bool.{cases_eq}
 use Rattle.std.proofs.lemmas.Option.{same_Some, slice_get_within, get_or_from_slice_get}
 use Rattle.std.proofs.lemmas.List.{drop_all, length-map}
@@ -17,16 +17,18 @@ use Rattle.tp_flow.specs.RowRules.{is_start}
 use Rattle.tp_flow.proofs.FlowFirst.{is_there}
 use Rattle.tp_flow.proofs.LoopMoves.{keeps_around}
 use Rattle.tp_image.specs.Image.{ImageValue}
+use Rattle.tp_state.specs.declared.state.State.{State}
 use Rattle.tp_state.specs.declared.fault.StateFault.{StateFault}
 use Rattle.tp_state.specs.declared.fault.StateFault.TheVariants.{Refused, Memory}
 use Rattle.tp_state.specs.Answer.{◌>>=◌}
 use Rattle.tp_check.specs.declared.passes.Passes.{Passes}
 use Rattle.tp_check.specs.Tables.{Table, table_of, asked}
 use Rattle.tp_check.specs.Passes.{along, edges_of, edges_in, pass}
-use Rattle.tp_check.specs.Counts.{known}
-use Rattle.tp_check.specs.UnderWay.{IsUnderWay, MayBeTaken, IsTaken, AreTaken, Gives, Moves, has_changed, Adds, AddsAtMost, Leaves, HasCounted}
+use Rattle.tp_check.specs.Counts.{known, come_to}
+use Rattle.tp_check.specs.UnderWay.{IsUnderWay, MayBeTaken, IsTaken, AreTaken, Gives, Moves, has_changed, Adds, AddsAtMost, Leaves, HasCounted, Falls, Since, TellsLast}
 use Rattle.tp_check.proofs.Places.{StandsAt, number_of}
 use Rattle.tp_check.proofs.Counting.{counts_step}
+use Rattle.tp_check.proofs.Turning.{Turned, turned_none, come_on, turned_on}
 use Rattle.tp_check.proofs.Moving.{along_append, moves_none, moves_more, moves_no_more}
 
 -- ---- an instruction of the code
@@ -52,6 +54,9 @@ pub record Passed (image : ImageValue) (cuts : List Cut) (first now : Passes) (m
   pub counts : HasCounted cuts now
   pub most : now.outcomes + length (flat_map edges_of (drop i (placed_from 0 cuts))) ≤ first.outcomes + length (edges_in cuts)
   pub fits : first.outcomes ≤ 2 ^ 64 - 1 → now.outcomes ≤ 2 ^ 64 - 1
+  pub inside : i ≤ length cuts
+  pub come : come_to image cuts i (table_of first.table) ≡ Ok (table_of now.table)
+  pub turned : (last : ℕ → Option State) → TellsLast image cuts last first → Turned image cuts last first now i
 
 pub passed_none : (image : ImageValue) (cuts : List Cut) (first : Passes) → IsUnderWay image first → AreTaken image cuts first → HasCounted cuts first → Passed image cuts first first false 0
 passed_none image cuts first way taken counts = record {
@@ -63,6 +68,9 @@ passed_none image cuts first way taken counts = record {
   counts = counts;
   most = omega arith;
   fits = λ le. le;
+  inside = omega arith;
+  come = refl;
+  turned = λ last tells. turned_none image cuts last first tells;
 }
 
 -- what an instruction's turn has left
@@ -76,6 +84,8 @@ pub record TakenOnce (image : ImageValue) (p : Placed) (now new : Passes) (moved
   pub leaves : Leaves p.at now new
   pub counts : Adds now.outcomes (if has_changed now p.at then known (table_of now.table p.at) (length (asked p.instr)) else 0) new.outcomes
   pub most : AddsAtMost now.outcomes (length (asked p.instr)) new.outcomes
+  pub falls : (x : ℕ) → x ≢ p.at → Falls image now new x
+  pub since : Since image (has_changed new p.at) (table_of now.table p.at) (table_of new.table p.at)
 
 module _ (image : ImageValue) (cuts : List Cut) (i : ℕ) (p : Placed) (is : slice_get (placed_from 0 cuts) i ≡ Some p) where
   next_one : drop i (placed_from 0 cuts) ≡ p ∷ drop (i + 1) (placed_from 0 cuts)
@@ -83,6 +93,9 @@ module _ (image : ImageValue) (cuts : List Cut) (i : ℕ) (p : Placed) (is : sli
 
   next_edges : (table : Table) → along image (flat_map edges_of (drop i (placed_from 0 cuts))) table ≡ (along image (edges_of p) table >>= along image (flat_map edges_of (drop (i + 1) (placed_from 0 cuts))))
   next_edges table = ap (λ ps. along image (flat_map edges_of ps) table) next_one ∙ ap (λ es. along image es table) (flat_map-cons edges_of p (drop (i + 1) (placed_from 0 cuts))) ∙ along_append image (edges_of p) _ table
+
+  inside_on : i + 1 ≤ length cuts
+  inside_on = let within = slice_get_within (placed_from 0 cuts) i p is in omega (arith, within, length-placed 0 cuts)
 
   edges_left : length (flat_map edges_of (drop i (placed_from 0 cuts))) ≡ length (asked p.instr) + length (flat_map edges_of (drop (i + 1) (placed_from 0 cuts)))
   edges_left =
@@ -128,9 +141,12 @@ module _ (image : ImageValue) (cuts : List Cut) (i : ℕ) (p : Placed) (is : sli
       most_on : new.outcomes + length (flat_map edges_of (drop (i + 1) (placed_from 0 cuts))) ≤ first.outcomes + length (edges_in cuts)
       most_on = omega (arith, once.most.most, passed.most, edges_left)
 
+      turned_more : AllByRecursion (λ c. 0 < length c.bytes) cuts → (last : ℕ → Option State) → TellsLast image cuts last first → Turned image cuts last first new (i + 1)
+      turned_more spelled last tells = turned_on image cuts i p is spelled first now new passed.come last (passed.turned last tells) once.falls once.since once.counts
+
     -- a turn that changes the table
-    pub passed_more : (new : Passes) → StandsAt cuts p → TakenOnce image p now new true → Passed image cuts first new true (i + 1)
-    passed_more new stands once = record {
+    pub passed_more : (new : Passes) → AllByRecursion (λ c. 0 < length c.bytes) cuts → StandsAt cuts p → TakenOnce image p now new true → Passed image cuts first new true (i + 1)
+    passed_more new spelled stands once = record {
       way = once.way;
       gives = gives_on new true stands once;
       taken = still_taken new true stands once;
@@ -139,11 +155,14 @@ module _ (image : ImageValue) (cuts : List Cut) (i : ℕ) (p : Placed) (is : sli
       counts = counts_on new true stands once;
       most = most_on new true stands once;
       fits = λ le. once.most.fits (passed.fits le);
+      inside = inside_on;
+      come = come_on image cuts i p is spelled first now new passed.come once.gives;
+      turned = turned_more new true stands once spelled;
     }
 
     -- and one that does not
-    pub passed_same : (new : Passes) → StandsAt cuts p → TakenOnce image p now new false → Passed image cuts first new moved (i + 1)
-    passed_same new stands once = record {
+    pub passed_same : (new : Passes) → AllByRecursion (λ c. 0 < length c.bytes) cuts → StandsAt cuts p → TakenOnce image p now new false → Passed image cuts first new moved (i + 1)
+    passed_same new spelled stands once = record {
       way = once.way;
       gives = gives_on new false stands once;
       taken = still_taken new false stands once;
@@ -152,6 +171,9 @@ module _ (image : ImageValue) (cuts : List Cut) (i : ℕ) (p : Placed) (is : sli
       counts = counts_on new false stands once;
       most = most_on new false stands once;
       fits = λ le. once.most.fits (passed.fits le);
+      inside = inside_on;
+      come = come_on image cuts i p is spelled first now new passed.come once.gives;
+      turned = turned_more new false stands once spelled;
     }
 
 -- ---- after all of them

@@ -42,13 +42,13 @@ no_last from (c ∷ []) to is starts = cc
 no_last from (c ∷ d ∷ cuts) to is starts = no_last (from + length c.bytes) (d ∷ cuts) 0 (is ∙ last_later from (from + length c.bytes) (starts_from (from + length c.bytes + length d.bytes) cuts)) refl
 
 -- instruction i stands at its start
-record IsPlacedAt (from : ℕ) (cuts : List Cut) (i : ℕ) (p : Placed) : Type 0 where
-  cut : Cut
-  is_cut : slice_get cuts i ≡ Some cut
-  starts : slice_get (starts_from from cuts) i ≡ Some p.at
-  is : p ≡ placed p.at cut
+pub record IsPlacedAt (from : ℕ) (cuts : List Cut) (i : ℕ) (p : Placed) : Type 0 where
+  pub cut : Cut
+  pub is_cut : slice_get cuts i ≡ Some cut
+  pub starts : slice_get (starts_from from cuts) i ≡ Some p.at
+  pub is : p ≡ placed p.at cut
 
-place_is : (from : ℕ) (cuts : List Cut) (i : ℕ) (p : Placed) → slice_get (placed_from from cuts) i ≡ Some p → IsPlacedAt from cuts i p
+pub place_is : (from : ℕ) (cuts : List Cut) (i : ℕ) (p : Placed) → slice_get (placed_from from cuts) i ≡ Some p → IsPlacedAt from cuts i p
 place_is from [] i p is = absurd cc
 place_is from (c ∷ cuts) zero p is =
     let same : placed from c ≡ p = same_Some _ _ is in
@@ -75,3 +75,21 @@ number_of cuts at cut is = by_number (index_from 0 cuts at) (place_by_number cut
     by_number : (o : Option ℕ) → option_and_then (slice_get (placed_from 0 cuts)) o ≡ Some (placed at cut) → (i : ℕ) × (slice_get (placed_from 0 cuts) i ≡ Some (placed at cut))
     by_number None e = absurd cc
     by_number (Some i) e = (i, e)
+
+-- ---- one behind another
+
+place_from : (from : ℕ) (cuts : List Cut) (i : ℕ) (p : Placed) → slice_get (placed_from from cuts) i ≡ Some p → from ≤ p.at
+place_from from [] i p is = absurd cc
+place_from from (c ∷ cuts) zero p is = let same = ap (λ q. q.at) (same_Some (placed from c) p is) in omega (arith, same)
+place_from from (c ∷ cuts) (suc i) p is = let later = place_from (from + length c.bytes) cuts i p is in omega (arith, later)
+
+-- a later instruction stands at a higher address
+pub places_rise : (from : ℕ) (cuts : List Cut) (j i : ℕ) (q p : Placed) → AllByRecursion (λ c. 0 < length c.bytes) cuts → j < i → slice_get (placed_from from cuts) j ≡ Some q → slice_get (placed_from from cuts) i ≡ Some p → q.at < p.at
+places_rise from [] j i q p spelled lt there is = absurd cc
+places_rise from (c ∷ cuts) j zero q p spelled lt there is = absurd (omega (arith, lt))
+places_rise from (c ∷ cuts) zero (suc i) q p spelled lt there is =
+    let same = ap (λ q. q.at) (same_Some (placed from c) q there) in
+    let later = place_from (from + length c.bytes) cuts i p is in
+    let some = spelled.0 in
+    omega (arith, same, later, some)
+places_rise from (c ∷ cuts) (suc j) (suc i) q p spelled lt there is = places_rise (from + length c.bytes) cuts j i q p spelled.1 (omega (arith, lt)) there is

@@ -1,5 +1,5 @@
 -- The run of the passes and its verdict.
-use Rattle.std.proofs.Common.{◌≡◌, ◌≢◌, ℕ, suc, ◌+◌, ◌-◌, ◌*◌, ◌^◌, ◌<◌, ◌≤◌, ◌⊎◌, inl, inr, min, Bool, true, false, IsTrue, List, [], ◌∷◌, length, Option, Result, Ok, Err, refl, sym, ap, ◌∙◌, subst, rules, arith}
+use Rattle.std.proofs.Common.{◌≡◌, ◌≢◌, ℕ, suc, ◌+◌, ◌-◌, ◌*◌, ◌^◌, ◌<◌, ◌≤◌, ◌⊎◌, inl, inr, min, Bool, true, false, IsTrue, List, length, Option, Result, Ok, Err, refl, sym, ap, ◌∙◌, subst, rules, arith}
 use Rattle.std.specs.Prelude.{IsErrAnd, IfErr}
 use Rattle.std.specs.Option.{is_some}
 use Rattle.std.proofs.lemmas.Bool.{cases_eq}
@@ -15,10 +15,12 @@ use Rattle.tp_check.specs.Tables.{Table, table_of, HasPlacedStates}
 use Rattle.tp_check.specs.EdgesRespect.{EveryEdgeRespects}
 use Rattle.tp_check.specs.declared.effort.Effort.{Effort}
 use Rattle.tp_check.specs.Passes.{first_table, edges_in, pass, passes, IsVerdict, IsRefusalOf}
-use Rattle.tp_check.specs.Counts.{counted, edges_from, TellsPasses}
-use Rattle.tp_check.specs.UnderWay.{IsUnderWay, HasPlaces, AreTaken, Gives, Moves, table_height, has_changed, AddsAtMost, HasCounted}
-use Rattle.tp_check.proofs.TableSteps.{table_at}
+use Rattle.tp_check.specs.Counts.{counted, edges_from, ArePassesMade, TellsPasses, TellsOutcomes}
+use Rattle.tp_check.specs.UnderWay.{IsUnderWay, HasPlaces, AreTaken, Gives, Moves, table_height, has_changed, AddsAtMost, HasCounted, TurnsOver, StopsOver}
+use Rattle.tp_check.proofs.Falling.{same_states}
 use Rattle.tp_check.proofs.Counting.{counted_more, most_more, settled_all}
+use Rattle.tp_check.proofs.Stopping.{stopped_had}
+use Rattle.tp_check.proofs.Turning.{HasHad, more_had}
 
 -- between two passes; whether the last one changed the table
 pub record IsBetween (image : ImageValue) (cuts : List Cut) (p : Passes) (moved : Bool) : Type 0 where
@@ -40,6 +42,7 @@ pub record IsCounting (image : ImageValue) (cuts : List Cut) (p : Passes) (moved
   pub outcomes : effort.outcomes ≡ p.outcomes
   pub most : effort.outcomes ≤ effort.passes * length (edges_in cuts)
   pub fits : effort.outcomes ≤ 2 ^ 64 - 1
+  pub had : HasHad image cuts p between.number
 
 -- no more than all edges a pass
 pub most_counted : (image : ImageValue) (cuts : List Cut) (old new : Passes) (moved : Bool) (effort : Effort) (made : ℕ) → IsCounting image cuts old moved effort → made ≡ min (effort.passes + 1) (2 ^ 64 - 1) → AddsAtMost old.outcomes (length (edges_in cuts)) new.outcomes
@@ -48,8 +51,8 @@ most_counted image cuts old new moved effort made before made_is adds =
     most_more before.between.number effort.passes made effort.outcomes new.outcomes (length (edges_in cuts)) made_is before.passes before.most before.fits (subst (λ n. AddsAtMost n (length (edges_in cuts)) new.outcomes) (sym before.outcomes) adds)
 
 -- before the first pass
-pub none_counted : (image : ImageValue) (cuts : List Cut) (p : Passes) (effort : Effort) → effort.passes ≡ 0 → effort.outcomes ≡ 0 → table_of p.table ≡ first_table image → HasPlaces cuts p → IsUnderWay image p → AreTaken image cuts p → p.outcomes ≡ 0 → HasCounted cuts p → IsCounting image cuts p true effort
-none_counted image cuts p effort no_passes no_outcomes table places way taken none counts = record {
+pub none_counted : (image : ImageValue) (cuts : List Cut) (p : Passes) (effort : Effort) → effort.passes ≡ 0 → effort.outcomes ≡ 0 → table_of p.table ≡ first_table image → HasPlaces cuts p → IsUnderWay image p → AreTaken image cuts p → p.outcomes ≡ 0 → HasCounted cuts p → HasHad image cuts p 0 → IsCounting image cuts p true effort
+none_counted image cuts p effort no_passes no_outcomes table places way taken none counts had = record {
   between = record {
     places = places;
     way = way;
@@ -66,12 +69,13 @@ none_counted image cuts p effort no_passes no_outcomes table places way taken no
   outcomes = no_outcomes ∙ sym none;
   most = omega (arith, no_outcomes);
   fits = omega (arith, no_outcomes);
+  had = had;
 }
 
 -- one pass more
-pub more_counted : (image : ImageValue) (cuts : List Cut) (old new : Passes) (moved m : Bool) (effort : Effort) (made : ℕ) → IsCounting image cuts old moved effort → made ≡ min (effort.passes + 1) (2 ^ 64 - 1) → AddsAtMost old.outcomes (length (edges_in cuts)) new.outcomes
+pub more_counted : (image : ImageValue) (cuts : List Cut) (old new : Passes) (moved m : Bool) (effort : Effort) (made : ℕ) → IsCounting image cuts old moved effort → made ≡ min (effort.passes + 1) (2 ^ 64 - 1) → AddsAtMost old.outcomes (length (edges_in cuts)) new.outcomes → TurnsOver image cuts old new
     → ((before : IsBetween image cuts old moved) → (after : IsBetween image cuts new m) × (after.number ≡ suc before.number)) → IsCounting image cuts new m (record { passes = made; outcomes = new.outcomes })
-more_counted image cuts old new moved m effort made before made_is adds goes =
+more_counted image cuts old new moved m effort made before made_is adds turns goes =
     let after = goes before.between in
     record {
       between = after.0;
@@ -79,6 +83,7 @@ more_counted image cuts old new moved m effort made before made_is adds goes =
       outcomes = refl;
       most = most_counted image cuts old new moved effort made before made_is adds;
       fits = adds.fits (subst (λ n. n ≤ 2 ^ 64 - 1) before.outcomes before.fits);
+      had = subst (HasHad image cuts new) (sym after.1) (more_had image cuts old new before.between.number before.between.comes turns before.had);
     }
 
 -- the passes that are left, and the one that sees that nothing changes
@@ -87,14 +92,6 @@ left_of image true p = 1 + table_height image p.table
 left_of image false p = table_height image p.table
 
 -- a pass that changed its table left another
-same_states : (xs ys : List (Option State)) → length xs ≡ length ys → ((x : ℕ) → table_of xs x ≡ table_of ys x) → xs ≡ ys
-same_states [] [] long same = refl
-same_states [] (y ∷ ys) long same = absurd (omega (arith, long))
-same_states (x ∷ xs) [] long same = absurd (omega (arith, long))
-same_states (x ∷ xs) (y ∷ ys) long same =
-    let first : x ≡ y = sym (table_at (x ∷ xs) 0 (omega arith)) ∙ same 0 ∙ table_at (y ∷ ys) 0 (omega arith) in
-    rw (first, same_states xs ys (omega (arith, long)) (λ i. same (suc i))) refl
-
 has_moved : (image : ImageValue) (old new : Passes) → Moves image true old new → table_of new.table ≢ table_of old.table
 has_moved image old new moves e =
     let same = ap (table_height image) (same_states new.table old.table moves.table.sized (λ x. ap (λ (table : Table). table x) e)) in
@@ -155,10 +152,17 @@ module _ (image : ImageValue) (cuts : List Cut) (old : Passes) (moved : Bool) (b
   is_refusal Memory table gives = tt
 
   -- and so many passes were made to it
+  made_up_to : moved ≡ true → (fault : StateFault) → pass image cuts (table_of old.table) ≡ Err fault → ArePassesMade image cuts (Err fault) (suc before.number)
+  made_up_to is fault gives = record { before = before.number; and_one = refl; change = change_before is; table = table_of old.table; comes = before.comes; answers = gives; stays = tt }
+
   pub tells_refusal : moved ≡ true → (e : StateFault) (table : Table) (count : ℕ) → count ≡ counted (suc before.number) → Gives {X = Bool} (Err e) table (pass image cuts (table_of old.table)) → TellsPasses image cuts (Err e) count
-  tells_refusal is (Refused code place) table count counts gives =
-      (suc before.number, record { before = before.number; and_one = refl; change = change_before is; table = table_of old.table; comes = before.comes; answers = gives; stays = tt }, counts)
+  tells_refusal is (Refused code place) table count counts gives = (suc before.number, made_up_to is (Refused code place) gives, counts)
   tells_refusal is Memory table count counts gives = tt
+
+  -- and so many outcomes had
+  pub outcomes_refusal : moved ≡ true → (e : StateFault) (new : Passes) → HasHad image cuts old before.number → StopsOver image cuts old new e → Gives {X = Bool} (Err e) (table_of new.table) (pass image cuts (table_of old.table)) → TellsOutcomes image cuts (Err e) new.outcomes
+  outcomes_refusal is (Refused code place) new had stops gives = stopped_had image cuts old new before.number (Refused code place) before.comes stops had (made_up_to is (Refused code place) gives)
+  outcomes_refusal is Memory new had stops gives = tt
 
 -- after the last pass
 module _ (image : ImageValue) (cuts : List Cut) (p : Passes) (last : IsBetween image cuts p false) where
@@ -168,12 +172,14 @@ module _ (image : ImageValue) (cuts : List Cut) (p : Passes) (last : IsBetween i
   pub placed_states : HasPlacedStates image (table_of p.table)
   placed_states at s is = (last.way.grown.states at s is).placed
 
+  made_is : (before : ℕ) × (last.number ≡ suc before) × (passes image cuts before ≡ Ok (table_of p.table)) → ArePassesMade image cuts (Ok (table_of p.table)) last.number
+  made_is (before, and_one, comes) = record { before = before; and_one = and_one; change = λ k lt. last.change k (omega (arith, lt, and_one)) (λ _. omega (arith, lt, and_one)); table = table_of p.table; comes = comes; answers = last.stays refl; stays = refl }
+
   pub tells_verdict : (count : ℕ) → count ≡ counted last.number → TellsPasses image cuts (Ok p.table) count
-  tells_verdict count counts = by_last (last.last refl)
-    where
-      by_last : (before : ℕ) × (last.number ≡ suc before) × (passes image cuts before ≡ Ok (table_of p.table)) → TellsPasses image cuts (Ok p.table) count
-      by_last (before, and_one, comes) =
-          (last.number, record { before = before; and_one = and_one; change = λ k lt. last.change k (omega (arith, lt, and_one)) (λ _. omega (arith, lt, and_one)); table = table_of p.table; comes = comes; answers = last.stays refl; stays = refl }, counts)
+  tells_verdict count counts = (last.number, made_is (last.last refl), counts)
+
+  pub tells_outcomes : (count : ℕ) → count ≡ p.outcomes → HasHad image cuts p last.number → TellsOutcomes image cuts (Ok p.table) count
+  tells_outcomes count is had = record { made = last.number; passes = made_is (last.last refl); total = had.total; outcomes = had.outcomes; counts = is ∙ had.counts }
 
   -- an outcome at least on each edge
   pub outcomes_least : (count : ℕ) → count ≡ p.outcomes → counted (edges_from cuts p.table) ≤ count
@@ -190,3 +196,7 @@ refusal_handed_on image cuts (Err x) e is refusal = rw is refusal
 pub tells_handed_on : (image : ImageValue) (cuts : List Cut) (r : Result (List (Option State)) StateFault) (e : StateFault) (count : ℕ) → IsErrAnd r (λ x. x ≡ e) → TellsPasses image cuts (Err e) count → TellsPasses image cuts r count
 tells_handed_on image cuts (Ok x) e count is tells = absurd (search rules)
 tells_handed_on image cuts (Err x) e count is tells = rw is tells
+
+pub outcomes_handed_on : (image : ImageValue) (cuts : List Cut) (r : Result (List (Option State)) StateFault) (e : StateFault) (count : ℕ) → IsErrAnd r (λ x. x ≡ e) → TellsOutcomes image cuts (Err e) count → TellsOutcomes image cuts r count
+outcomes_handed_on image cuts (Ok x) e count is tells = absurd (search rules)
+outcomes_handed_on image cuts (Err x) e count is tells = rw is tells

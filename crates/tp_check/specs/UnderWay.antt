@@ -1,9 +1,9 @@
 -- What holds while the passes are made.
-use Rattle.std.specs.Prelude.{◌≡◌, ℕ, ◌+◌, ◌*◌, ◌-◌, ◌^◌, ◌<◌, Bool, true, false, if◌then◌else◌, ℤ, pos, negsuc, ◌+ℤ◌, ◌-ℤ◌, List, length, sum_by, slice_index_or, slice_set, All, Option, Some, None, Result, Ok, Err, IsTrue, ◌≤◌, ◌≢◌}
+use Rattle.std.specs.Prelude.{◌≡◌, ℕ, ◌+◌, ◌*◌, ◌-◌, ◌^◌, ◌<◌, Bool, true, false, if◌then◌else◌, ℤ, pos, negsuc, ◌+ℤ◌, ◌-ℤ◌, ◌⊎◌, List, length, sum_by, slice_get, slice_index_or, slice_set, All, Option, Some, None, Result, Ok, Err, IsTrue, ◌≤◌, ◌≢◌}
 use Rattle.std.specs.Option.{is_some}
 use Rattle.tp_decode.specs.declared.instr.Instr.{Instr}
 use Rattle.tp_decode.specs.declared.placed.Placed.{Placed}
-use Rattle.tp_decode.specs.Cutting.{Cut, cut_at}
+use Rattle.tp_decode.specs.Cutting.{Cut, cut_at, placed_from}
 use Rattle.tp_flow.specs.declared.edge.Edge.{Edge}
 use Rattle.tp_flow.specs.NestRanges.{ranges}
 use Rattle.tp_flow.specs.LoopsAround.{is_around}
@@ -24,7 +24,7 @@ use Rattle.tp_state.specs.Live.{LiveWordsAre}
 use Rattle.tp_check.specs.declared.passes.Passes.{Passes}
 use Rattle.tp_check.specs.Tables.{Table, table_of, asked}
 use Rattle.tp_check.specs.EdgesRespect.{HasAbove, Respects}
-use Rattle.tp_check.specs.Counts.{counted, known, asked_on, sum_below}
+use Rattle.tp_check.specs.Counts.{counted, known, asked_on, sum_below, IsSum, IsTurn, come_to, state_before, Refuses}
 
 -- ---- what a table keeps
 
@@ -166,3 +166,57 @@ all_settled cuts p = sum_below (settled cuts p) (length p.table)
 
 abbrev pub HasCounted : List Cut → Passes → Type 0
 HasCounted cuts p = counted (all_settled cuts p) ≤ p.outcomes
+
+-- ---- what is known at the turns
+
+-- a step leaves an address as it was, or marks it where fewer changes are left to it
+abbrev pub Falls : ImageValue → (old new : Passes) → ℕ → Type 0
+Falls image old new x =
+    ((has_changed new x ≡ has_changed old x) × (table_of new.table x ≡ table_of old.table x))
+    ⊎ ((has_changed new x ≡ true) × (height image (table_of new.table x) < height image (table_of old.table x)))
+
+-- what is known at an address since it was that: the same where it is not marked, another where it is, if there was any
+abbrev pub Since : ImageValue → Bool → (before now : Option State) → Type 0
+Since image false before now = now ≡ before
+Since image true before now = (before ≡ None) ⊎ (height image now < height image before)
+
+-- the flags tell what has changed since each instruction's last turn
+abbrev pub TellsLast : ImageValue → List Cut → (last : ℕ → Option State) → Passes → Type 0
+TellsLast image cuts last p =
+    (i : ℕ) (q : Placed) → slice_get (placed_from 0 cuts) i ≡ Some q → Since image (has_changed p q.at) (last i) (table_of p.table q.at)
+
+-- what is known before instruction i at its turn in a pass over a table
+abbrev pub at_turn : ImageValue → List Cut → Table → ℕ → Option State
+at_turn image cuts table i = state_before (slice_get (placed_from 0 cuts) i) (come_to image cuts i table)
+
+-- a pass whose turns have had their outcomes, and whose flags tell of the next
+pub record HasTurned (image : ImageValue) (cuts : List Cut) (last : ℕ → Option State) (old new : Passes) : Type 0 where
+  pub more : ℕ
+  pub turns : IsSum (λ i. IsTurn (last i) (at_turn image cuts (table_of old.table) i) (asked_on (slice_get cuts i))) (length cuts) more
+  pub adds : Adds old.outcomes more new.outcomes
+  pub tells : TellsLast image cuts (at_turn image cuts (table_of old.table)) new
+
+abbrev pub TurnsOver : ImageValue → List Cut → (old new : Passes) → Type 0
+TurnsOver image cuts old new = (last : ℕ → Option State) → TellsLast image cuts last old → HasTurned image cuts last old new
+
+-- a refusal on an edge of an instruction, with the outcomes on those up to it
+abbrev pub Stops : ImageValue → Placed → (old new : Passes) → StateFault → Type 0
+Stops image p old new (Refused code place) = (edges : ℕ) × Refuses image p (table_of old.table) (Refused code place) edges × Adds old.outcomes edges new.outcomes
+Stops image p old new Memory = Unit {0}
+
+-- a pass that has stopped at an instruction, with the outcomes of the turns before
+pub record HasStopped (image : ImageValue) (cuts : List Cut) (last : ℕ → Option State) (old new : Passes) (fault : StateFault) : Type 0 where
+  pub i : ℕ
+  pub more : ℕ
+  pub turns : IsSum (λ j. IsTurn (last j) (at_turn image cuts (table_of old.table) j) (asked_on (slice_get cuts j))) i more
+  pub instruction : Placed
+  pub there : slice_get (placed_from 0 cuts) i ≡ Some instruction
+  pub table : Table
+  pub comes : come_to image cuts i (table_of old.table) ≡ Ok table
+  pub edges : ℕ
+  pub refuses : Refuses image instruction table fault edges
+  pub adds : Adds old.outcomes (more + edges) new.outcomes
+
+abbrev pub StopsOver : ImageValue → List Cut → (old new : Passes) → StateFault → Type 0
+StopsOver image cuts old new (Refused code place) = (last : ℕ → Option State) → TellsLast image cuts last old → HasStopped image cuts last old new (Refused code place)
+StopsOver image cuts old new Memory = Unit {0}

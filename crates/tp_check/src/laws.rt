@@ -8,7 +8,7 @@ ghost use Rattle.tp_image.specs.Image.{ImageValue, InRange};
 ghost use Rattle.tp_state.specs.declared.fault.StateFault.{StateFault};
 ghost use Rattle.tp_check.specs.Tables.{Table};
 ghost use Rattle.tp_check.specs.Passes.{IsVerdict};
-ghost use Rattle.tp_check.specs.Counts.{ArePassesMade};
+ghost use Rattle.tp_check.specs.Counts.{ArePassesMade, AreOutcomes, AreOutcomesUpTo};
 
 /// The passes have at most one verdict: they do not both refuse and find a table, nor refuse in two ways, nor find two
 /// tables.
@@ -28,4 +28,12 @@ pub fn passes_have_a_verdict()
 pub fn passes_are_made_in_one_number()
     ensures { (image : ImageValue) (cuts : List Cut) (verdict other : Result Table StateFault) (made also : ℕ) →
         ArePassesMade image cuts verdict made → ArePassesMade image cuts other also → made ≡ also }
+{}
+
+/// The outcomes of so many passes are one number alone, and so are those up to a refusal.
+pub fn outcomes_are_one_number()
+    ensures passes { (image : ImageValue) (cuts : List Cut) (made total other : ℕ) →
+        AreOutcomes image cuts made total → AreOutcomes image cuts made other → total ≡ other }
+    ensures refusal { (image : ImageValue) (cuts : List Cut) (fault : StateFault) (whole total other : ℕ) →
+        AreOutcomesUpTo image cuts fault whole total → AreOutcomesUpTo image cuts fault whole other → total ≡ other }
 {}

@@ -9,8 +9,8 @@ ghost use Rattle.tp_flow.specs.RowRules.{is_start};
 ghost use Rattle.tp_check.specs.Tables.{table_of, asked, HasPlacedStates};
 ghost use Rattle.tp_check.specs.EdgesRespect.{EveryEdgeRespects};
 ghost use Rattle.tp_check.specs.Passes.{IsVerdict, first_table, enter, go_along, along, edges_of, edges_in, pass, IsRefusalOf};
-ghost use Rattle.tp_check.specs.Counts.{counted, known, edges_from, TellsPasses};
-ghost use Rattle.tp_check.specs.UnderWay.{IsUnderWay, HasPlaces, MayBeTaken, IsTaken, AreTaken, Gives, Moves, has_changed, marked, Adds, AddsAtMost, Leaves, HasCounted};
+ghost use Rattle.tp_check.specs.Counts.{counted, known, edges_from, TellsPasses, TellsOutcomes};
+ghost use Rattle.tp_check.specs.UnderWay.{IsUnderWay, HasPlaces, MayBeTaken, IsTaken, AreTaken, Gives, Moves, has_changed, marked, Adds, AddsAtMost, Leaves, HasCounted, Falls, Since, TurnsOver, Stops, StopsOver};
 
 use crate::check::{asked, every_edge_respects};
 use crate::effort::Effort;
@@ -56,6 +56,7 @@ pub fn check_states_counting(
     ensures placed { IfOk result (λ table. HasPlacedStates image.now (table_of table)) }
     ensures refused { IfErr result (IsRefusalOf image.now listing.now) }
     ensures passes { TellsPasses image.now listing.now result effort.new.passes }
+    ensures outcomes { TellsOutcomes image.now listing.now result effort.new.outcomes }
     ensures outcomes_least { IfOk result (λ table. counted (edges_from listing.now table) ≤ effort.new.outcomes) }
     ensures outcomes_most { effort.new.outcomes ≤ effort.new.passes * length (edges_in listing.now) }
 {
@@ -97,6 +98,7 @@ impl Passes {
         ensures taken { IfOk result (AreTaken image.now listing.now) }
         ensures none { IfOk result (λ p. p.outcomes ≡ 0) }
         ensures counts { IfOk result (HasCounted listing.now) }
+        ensures marked { IfOk result (λ p. (at : ℕ) → at < length p.table → has_changed p at ≡ true) }
     {
         let places = places_of(listing);
         let table = Table::first(alloc, image, places)?;
@@ -131,6 +133,8 @@ impl Passes {
         ensures rest { IfOk result (λ moved. moved ≡ false → (at : ℕ) → IsTrue (is_start listing.now at) → has_changed self.new at ≡ false) }
         ensures counts { OnOk result (HasCounted listing.now self.new) }
         ensures most { AddsAtMost self.old.outcomes (length (edges_in listing.now)) self.new.outcomes }
+        ensures turns { OnOk result (TurnsOver image.now listing.now self.old self.new) }
+        ensures stops { IfErr result (StopsOver image.now listing.now self.old self.new) }
     {
         let mut moved = false;
         for i in 0..listing.len() {
@@ -166,6 +170,9 @@ impl Passes {
         ensures leaves { OnOk result (Leaves place.at self.old self.new) }
         ensures counts { OnOk result (Adds self.old.outcomes (if has_changed self.old place.at then known (table_of self.old.table place.at) (length (asked place.instr)) else 0) self.new.outcomes) }
         ensures most { AddsAtMost self.old.outcomes (length (asked place.instr)) self.new.outcomes }
+        ensures falls { OnOk result ((x : ℕ) → x ≢ place.at → Falls image.now self.old self.new x) }
+        ensures since { OnOk result (Since image.now (has_changed self.new place.at) (table_of self.old.table place.at) (table_of self.new.table place.at)) }
+        ensures stops { IfErr result (Stops image.now place self.old self.new) }
     {
         if !self.changed[place.at] {
             return Ok(false);
@@ -194,6 +201,8 @@ impl Passes {
         ensures leaves { OnOk result (Leaves place.at self.old self.new) }
         ensures counts { OnOk result (Adds self.old.outcomes (known (table_of self.old.table place.at) (length (asked place.instr))) self.new.outcomes) }
         ensures most { AddsAtMost self.old.outcomes (length (asked place.instr)) self.new.outcomes }
+        ensures falls { OnOk result ((x : ℕ) → Falls image.now self.old self.new x) }
+        ensures stops { IfErr result (Stops image.now place self.old self.new) }
     {
         let ways = asked(place.instr);
         let mut moved = false;
@@ -225,6 +234,7 @@ impl Passes {
         ensures moves { IfOk result (λ moved. Moves image.now moved self.old self.new) }
         ensures leaves { OnOk result (Leaves place.at self.old self.new) }
         ensures counts { Adds self.old.outcomes (known (table_of self.old.table place.at) 1) self.new.outcomes }
+        ensures falls { OnOk result ((x : ℕ) → Falls image.now self.old self.new x) }
     {
         let Some(state) = self.table.at(place.at) else {
             return Ok(false);

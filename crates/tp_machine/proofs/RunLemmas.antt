@@ -18,7 +18,7 @@ use Rattle.tp_machine.specs.Devices.{Devices, Gave, packet_of}
 use Rattle.tp_machine.specs.Answers.{start_of, HasCome, Ended, AnsweredFrom, Answered, RanAlone}
 use Rattle.tp_machine.specs.Phases.{is_stopped}
 use Rattle.tp_machine.specs.Meaning.{state_of, Turned}
-use Rattle.tp_machine.specs.Resuming.{nothing_sent, Stands, Resumed}
+use Rattle.tp_machine.specs.Resuming.{nothing_sent, Stands, StandsAfter, Resumed, LeftStanding}
 use Rattle.tp_machine.proofs.DeviceLemmas.{packet_length, gave_none, took_none}
 use Rattle.tp_machine.proofs.TurnLemmas.{not_stopped}
 
@@ -119,6 +119,10 @@ module _ (image : ImageValue) (first : State) (before : Devices) where
 pub from_the_start : (image : ImageValue) (limit : ℕ) (before after : Devices) (m m' : Machine) (later : Phase) (answer : Result Outcome RunFault) → ((packet : List ℕ) → state_of m (record { phase = BeforePacket; to_come = packet; sent = []; traced = [] }) ≡ start image packet) → Resumed image (state_of m (nothing_sent image BeforePacket before.source)) limit before after m' later answer → Answered image limit before after answer
 from_the_start image limit before after m m' later answer starts resumed =
     subst (λ first. AnsweredFrom image first limit before after answer) (starts (packet_of image before.source)) resumed.0
+
+pub left_standing : (image : ImageValue) (limit : ℕ) (before after : Devices) (m m' : Machine) (later : Phase) (answer : Result Outcome RunFault) → ((packet : List ℕ) → state_of m (record { phase = BeforePacket; to_come = packet; sent = []; traced = [] }) ≡ start image packet) → Resumed image (state_of m (nothing_sent image BeforePacket before.source)) limit before after m' later answer → LeftStanding image limit before after m' answer
+left_standing image limit before after m m' later answer starts resumed =
+    (later, subst (λ first. StandsAfter image first limit before after m' later answer) (starts (packet_of image before.source)) resumed.1)
 
 -- a run that has ended is the run alone
 pub ended_alone : (image : ImageValue) (limit : ℕ) (before after : Devices) (outcome : Outcome) (run : Ended image (start_of image before) limit before after outcome) → RunsAlone image (packet_of image before.source) (record { result = run.state.sent; error = outcome.error; steps = outcome.steps; trace = run.state.traced })

@@ -10,7 +10,7 @@ use Rattle.tp_machine.specs.declared.outcome.RunFault.{RunFault}
 use Rattle.tp_machine.specs.declared.outcome.RunFault.TheVariants as fault
 use Rattle.tp_machine.specs.declared.phase.Phase.{Phase}
 use Rattle.tp_machine.specs.Devices.{Devices, packet_of}
-use Rattle.tp_machine.specs.Answers.{AnsweredFrom}
+use Rattle.tp_machine.specs.Answers.{AnsweredFrom, start_of}
 use Rattle.tp_machine.specs.Meaning.{Messages, state_of, Standing}
 
 -- in this phase, with the packet to come that the source holds; what was sent before is not counted
@@ -34,3 +34,7 @@ StandsAfter image first limit before after m phase (Err fault.Limit) = Stands im
 abbrev pub Resumed : ImageValue → State → (limit : ℕ) → (before after : Devices) → Machine → Phase → Result Outcome RunFault → Type 0
 Resumed image first limit before after m phase answer =
     AnsweredFrom image first limit before after answer × StandsAfter image first limit before after m phase answer
+
+-- a run from a packet's start leaves the machine where its steps have led, in some phase
+abbrev pub LeftStanding : ImageValue → (limit : ℕ) → (before after : Devices) → Machine → Result Outcome RunFault → Type 0
+LeftStanding image limit before after m answer = (phase : Phase) × StandsAfter image (start_of image before) limit before after m phase answer

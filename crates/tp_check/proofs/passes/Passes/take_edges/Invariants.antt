@@ -1,10 +1,10 @@
-use Rattle.std.proofs.Common.{◌≡◌, ℕ, ◌<◌, ◌≤◌, length, drop, slice_index_or}
+use Rattle.std.proofs.Common.{◌≡◌, ℕ, ◌<◌, ◌≤◌, length, take, drop, slice_index_or, Ok}
 use Rattle.tp_decode.specs.declared.instr.Instr.{Instr}
 use Rattle.tp_flow.specs.declared.edge.Edge.{Edge}
 use Rattle.tp_check.specs.Tables.{table_of, asked}
 use Rattle.tp_check.specs.Passes.{along, from, edges_of}
 use Rattle.tp_check.specs.Counts.{known}
-use Rattle.tp_check.specs.UnderWay.{IsUnderWay, IsTaken, Moves, Adds, Leaves}
+use Rattle.tp_check.specs.UnderWay.{IsUnderWay, IsTaken, Moves, Adds, Leaves, Falls}
 use Rattle.tp_check.proofs.passes.Passes.take_edges.Given as goal
 
 abbrev pub invariant-loop-edge : goal.invariant-loop-edge
@@ -18,4 +18,6 @@ invariant-loop-edge l = record {
   leaves : Leaves l.place.at l.initial.self l.self;
   counts : Adds l.initial.self.outcomes (known (table_of l.initial.self.table l.place.at) l.edge-index) l.self.outcomes;
   inside : l.edge-index ≤ length l.ways;
+  goes : along l.image (take l.edge-index (from l.place l.ways)) (table_of l.initial.self.table) ≡ Ok (table_of l.self.table);
+  falls : (x : ℕ) → Falls l.image l.initial.self l.self x;
 }
