@@ -1,2 +1,4 @@
 mod Reading
 mod Asked
+mod Fitting
+mod Unserved
