@@ -6,12 +6,12 @@ ghost use Rattle.tp_session.specs.Fitness.{AreFit, IsFit};
 ghost use Rattle.tp_session.specs.Served.{Serves};
 ghost use Rattle.tp_farmd.specs.Media.{HaveRoom};
 
-use crate::chosen::Options;
 use std::alloc::{AllocError, Global};
 use std::io::{Read, Write};
 use std::sync::Wait;
 use std::thread::Threads;
 use tp_link::{Links, Medium, Wire};
+use tp_options::Options;
 use tp_session::{Farm, ServeFault, serve};
 
 /// The room of a medium: the longest packet, result or trace, in bytes.
