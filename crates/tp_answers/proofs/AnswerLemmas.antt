@@ -9,7 +9,7 @@ use Rattle.tp_accept.specs.Refusals.{refusal_code_text}
 use Rattle.tp_accept.specs.Verdict.{IsAnswer, allowed}
 use Rattle.tp_answers.specs.Sessions.{Session, most_packets, with_session, without_session, with_packet}
 use Rattle.tp_answers.specs.Told.{refusal, yes_line, kept_line, gone_line}
-use Rattle.tp_answers.specs.Answers.{Standing, AnswersImage, packet_refusal, AnswersPacket, AnswersDrop}
+use Rattle.tp_answers.specs.Answers.{Standing, IsJudged, AnswersImage, packet_refusal, AnswersPacket, AnswersDrop}
 
 -- ---- why a packet is not kept
 
@@ -66,17 +66,20 @@ module _ {S E : Type 0} (bytes : S → List ℕ) (r : Result S E) where
   pub image_full : (full : Bool) (number : ℕ) (name text : List ℕ) (before : Standing) → full ≡ true → IfOk r (λ t. bytes t ≡ refusal (codes "E2") number) → IfOk r (λ t. AnswersImage full number name text before (bytes t) before)
   image_full full number name text before is told = rw is (refused (codes "E2") number before told)
 
-  pub image_refused : (full : Bool) (number : ℕ) (name text : List ℕ) (before : Standing) (code : RefusalCode) (place : ℕ) → full ≡ false → IsAnswer text (Err (Refused code place)) → IfOk r (λ t. bytes t ≡ refusal (refusal_code_text code) place) → IfOk r (λ t. AnswersImage full number name text before (bytes t) before)
-  image_refused full number name text before code place is answer told = rw is (by_result r told)
+  pub image_judged : (full : Bool) (number : ℕ) (name text : List ℕ) (before after : Standing) → full ≡ false → IfOk r (λ t. IsJudged name text before (bytes t) after) → IfOk r (λ t. AnswersImage full number name text before (bytes t) after)
+  image_judged full number name text before after is judged = rw is judged
+
+  pub image_refused : (name text : List ℕ) (before : Standing) (code : RefusalCode) (place : ℕ) → IsAnswer text (Err (Refused code place)) → IfOk r (λ t. bytes t ≡ refusal (refusal_code_text code) place) → IfOk r (λ t. IsJudged name text before (bytes t) before)
+  image_refused name text before code place answer told = by_result r told
     where
-      by_result : (r : Result S E) → IfOk r (λ t. bytes t ≡ refusal (refusal_code_text code) place) → IfOk r (λ t. AnswersImage false number name text before (bytes t) before)
+      by_result : (r : Result S E) → IfOk r (λ t. bytes t ≡ refusal (refusal_code_text code) place) → IfOk r (λ t. IsJudged name text before (bytes t) before)
       by_result (Ok t) h = record { verdict = Err (Refused code place); is = answer; answers = (h, refl) }
       by_result (Err e) h = tt
 
-pub image_opened : (full : Bool) (number : ℕ) (name text : List ℕ) (before after : Standing) (image : ImageValue) (budget : ℕ) (told : List ℕ) → full ≡ false → IsAnswer text (Ok (allowed image budget)) → IsTextOf text image → told ≡ yes_line (allowed image budget)
-    → after ≡ record before { sessions = with_session record { name = name; image = image; packets = [] } before.sessions } → AnswersImage full number name text before told after
-image_opened full number name text before after image budget told is answer spelled line changed =
-    rw is record { verdict = Ok (allowed image budget); is = answer; answers = record { image = image; spelled = spelled; told_is = line; opened = changed } }
+pub image_opened : (name text : List ℕ) (before after : Standing) (image : ImageValue) (budget : ℕ) (told : List ℕ) → IsAnswer text (Ok (allowed image budget)) → IsTextOf text image → told ≡ yes_line (allowed image budget)
+    → after ≡ record before { sessions = with_session record { name = name; image = image; packets = [] } before.sessions } → IsJudged name text before told after
+image_opened name text before after image budget told answer spelled line changed =
+    record { verdict = Ok (allowed image budget); is = answer; answers = record { image = image; spelled = spelled; told_is = line; opened = changed } }
 
 pub same_refusal : (code code' : RefusalCode) (place place' : ℕ) → code ≡ code' → place ≡ place' → refusal (refusal_code_text code) place ≡ refusal (refusal_code_text code') place'
 same_refusal code code' place place' e e' = ap (λ c. refusal (refusal_code_text c) place) e ∙ ap (refusal (refusal_code_text code')) e'

@@ -8,7 +8,7 @@ ghost use Rattle.tp_accept.specs.Refusals.{refusal_code_text};
 ghost use Rattle.tp_accept.specs.Verdict.{allowed};
 ghost use Rattle.tp_answers.specs.Sessions.{named};
 ghost use Rattle.tp_answers.specs.Told.{written, refusal, listing_answer, yes_line};
-ghost use Rattle.tp_answers.specs.Answers.{is_full, AnswersImage, AnswersPacket, AnswersDrop, standing};
+ghost use Rattle.tp_answers.specs.Answers.{is_full, IsJudged, AnswersImage, AnswersPacket, AnswersDrop, standing};
 ghost use Rattle.tp_answers.specs.Open.{sessions_of};
 
 use crate::session::Kept;
@@ -92,7 +92,29 @@ fn is_full(sessions: &Sessions, name: &Name) -> bool
     }
 }
 
+/// Judges the text of an image. An image that may be run opens a session, or replaces the image of the session of this name.
+fn judge(
+    sessions: &mut Sessions,
+    alloc: Global,
+    name: Name,
+    text: Vec<u8>,
+) -> Result<String, AllocError>
+    ensures { (batches : ℕ) → IfOk result (λ told. IsJudged name.items text.items
+        (standing (sessions_of sessions.old) batches) (string_bytes told) (standing (sessions_of sessions.new) batches)) }
+{
+    match accept(alloc, text) {
+        Ok(image) => {
+            let answer = yes_line(alloc, &image)?;
+            sessions.put(name, Kept::new(alloc, image))?;
+            Ok(answer)
+        }
+        Err(Refusal::Refused { code, place }) => refused(alloc, code, place),
+        Err(Refusal::Memory) => Err(AllocError),
+    }
+}
+
 /// Opens a session with the image of a text, or replaces the image of the session of this name.
+#[tactic(auto, using(crate::proofs::AnswerLemmas::image_full))]
 pub fn open(
     sessions: &mut Sessions,
     alloc: Global,
@@ -106,15 +128,7 @@ pub fn open(
     if is_full(sessions, &name) {
         return refusal(alloc, "E2", number);
     }
-    match accept(alloc, text) {
-        Ok(image) => {
-            let answer = yes_line(alloc, &image)?;
-            sessions.put(name, Kept::new(alloc, image))?;
-            Ok(answer)
-        }
-        Err(Refusal::Refused { code, place }) => refused(alloc, code, place),
-        Err(Refusal::Memory) => Err(AllocError),
-    }
+    judge(sessions, alloc, name, text)
 }
 
 /// The packet of some bytes.

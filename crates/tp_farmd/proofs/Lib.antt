@@ -1,2 +1,2 @@
-mod Reading
-mod Asked
+mod Fitting
+mod Unserved

@@ -5,8 +5,6 @@
 //! its reason there, and status 2.
 #![tactic(auto)]
 
-mod chosen;
-mod command_line;
 mod ending;
 mod members;
 mod program;

@@ -1,6 +1,5 @@
 //! The program, from its words and streams to its status.
 
-use crate::command_line::options;
 use crate::ending::Ending;
 use crate::members::serve_members;
 use crate::words::words_of;
@@ -10,6 +9,7 @@ use std::io::{Read, Write};
 use std::process::ExitCode;
 use std::sync::Wait;
 use std::thread::Threads;
+use tp_options::options;
 use tp_session::ServeFault;
 
 /// Does what the words ask for.

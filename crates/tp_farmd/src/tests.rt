@@ -1,10 +1,7 @@
 //! Each way in which the program ends: its status, and what it writes.
 
-use crate::chosen::Options;
-use crate::command_line::options;
 use crate::ending::Ending;
 use crate::program::run;
-use clap::error::ErrorKind as Kind;
 use std::env::{Env, FillError};
 use std::io;
 use std::io::{ErrorKind, Read, Write};
@@ -232,56 +229,4 @@ fn endings(rt: HostRuntime) -> Result<(), Fail> {
         assert_eq!(rt; format!(in rt.alloc(); "{ending}")?.as_str(), *text);
     }
     Ok(())
-}
-
-/// The number of members and the flag that words ask for.
-#[test]
-fn reads_options(rt: HostRuntime) -> Result<(), Fail> {
-    let cases = [
-        (["farmd"].as_slice(), 4, false),
-        (["./farmd"].as_slice(), 4, false),
-        (["farmd", "--members", "1"].as_slice(), 1, false),
-        (["farmd", "--members", "64"].as_slice(), 64, false),
-        (["farmd", "--members=7"].as_slice(), 7, false),
-        (["farmd", "--trace"].as_slice(), 4, true),
-        (["farmd", "--members", "2", "--trace"].as_slice(), 2, true),
-        (["farmd", "--trace", "--members=3"].as_slice(), 3, true),
-    ];
-    for (words, members, trace) in cases {
-        let asked = options(rt.alloc(), words)?;
-        assert_eq!(rt; asked, Options { members, trace });
-    }
-    Ok(())
-}
-
-/// The kind of error that words come to.
-#[test]
-fn tells_kinds(rt: HostRuntime) {
-    let cases = [
-        (
-            ["farmd", "--members", "0"].as_slice(),
-            Kind::ValueValidation,
-        ),
-        (["farmd", "--members=65"].as_slice(), Kind::ValueValidation),
-        (
-            ["farmd", "--members=four"].as_slice(),
-            Kind::ValueValidation,
-        ),
-        (["farmd", "--members"].as_slice(), Kind::InvalidValue),
-        (["farmd", "--member", "4"].as_slice(), Kind::UnknownArgument),
-        (["farmd", "LIST"].as_slice(), Kind::UnknownArgument),
-        (
-            ["farmd", "--trace", "--trace"].as_slice(),
-            Kind::ArgumentConflict,
-        ),
-        (["farmd", "--help"].as_slice(), Kind::DisplayHelp),
-        (["farmd", "-h"].as_slice(), Kind::DisplayHelp),
-        (["farmd", "--version"].as_slice(), Kind::DisplayVersion),
-    ];
-    for (words, kind) in cases {
-        match options(rt.alloc(), words) {
-            Ok(_) => assert!(rt; false),
-            Err(error) => assert_eq!(rt; error.kind(), kind),
-        }
-    }
 }

@@ -1,0 +1,16 @@
+use Rattle.std.proofs.Common.{subst, sym}
+use Rattle.tp_link.specs.Wire.{device_of}
+use Rattle.tp_session.specs.Fitness.{AreFit}
+use Rattle.tp_farmd.proofs.Unserved.{unserved}
+use Rattle.tp_farmd.proofs.members.serve_members.Goals as goal
+
+pub returns-in_err-media : goal.returns-in_err-media
+returns-in_err-media g c = unserved c.args.asked.trace (g.R.Read.remaining c.args.reader.now) (g.W.Write.contents c.args.writer.now) c.from_residual.result c.from_residual.ensures.1
+
+pub returns-in_err-links : goal.returns-in_err-links
+returns-in_err-links g c = unserved c.args.asked.trace (g.R.Read.remaining c.args.reader.now) (g.W.Write.contents c.args.writer.now) c.from_residual-in_err-links.result c.from_residual-in_err-links.ensures.1
+
+pub returns : goal.returns
+returns g c =
+    let fit = subst (λ v. AreFit (λ b. device_of b.value) v.items) (sym c.new.ensures.links) c.in_ok-links.ensures.fit in
+    rw (sym c.new.ensures.trace) (c.serve.ensures fit)

@@ -1,0 +1,57 @@
+//! Command lines, and what they ask for.
+
+use crate::{Options, options};
+use clap::error::ErrorKind as Kind;
+use std::test::Fail;
+
+/// The number of members and the flag that words ask for.
+#[test]
+fn reads_options(rt: HostRuntime) -> Result<(), Fail> {
+    let cases = [
+        (["farmd"].as_slice(), 4, false),
+        (["./farmd"].as_slice(), 4, false),
+        (["farmd", "--members", "1"].as_slice(), 1, false),
+        (["farmd", "--members", "64"].as_slice(), 64, false),
+        (["farmd", "--members=7"].as_slice(), 7, false),
+        (["farmd", "--trace"].as_slice(), 4, true),
+        (["farmd", "--members", "2", "--trace"].as_slice(), 2, true),
+        (["farmd", "--trace", "--members=3"].as_slice(), 3, true),
+    ];
+    for (words, members, trace) in cases {
+        let asked = options(rt.alloc(), words)?;
+        assert_eq!(rt; asked, Options { members, trace });
+    }
+    Ok(())
+}
+
+/// The kind of error that words come to.
+#[test]
+fn tells_kinds(rt: HostRuntime) {
+    let cases = [
+        (
+            ["farmd", "--members", "0"].as_slice(),
+            Kind::ValueValidation,
+        ),
+        (["farmd", "--members=65"].as_slice(), Kind::ValueValidation),
+        (
+            ["farmd", "--members=four"].as_slice(),
+            Kind::ValueValidation,
+        ),
+        (["farmd", "--members"].as_slice(), Kind::InvalidValue),
+        (["farmd", "--member", "4"].as_slice(), Kind::UnknownArgument),
+        (["farmd", "LIST"].as_slice(), Kind::UnknownArgument),
+        (
+            ["farmd", "--trace", "--trace"].as_slice(),
+            Kind::ArgumentConflict,
+        ),
+        (["farmd", "--help"].as_slice(), Kind::DisplayHelp),
+        (["farmd", "-h"].as_slice(), Kind::DisplayHelp),
+        (["farmd", "--version"].as_slice(), Kind::DisplayVersion),
+    ];
+    for (words, kind) in cases {
+        match options(rt.alloc(), words) {
+            Ok(_) => assert!(rt; false),
+            Err(error) => assert_eq!(rt; error.kind(), kind),
+        }
+    }
+}
