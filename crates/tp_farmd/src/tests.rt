@@ -116,6 +116,116 @@ fn tells_a_failed_write(rt: HostRuntime) {
     }
 }
 
+/// Gives a line a call, and fails in one call, counted from 1.
+#[derive(Drop)]
+struct ByLine<'a> {
+    lines: &'a [&'a [u8]],
+    calls: usize,
+    failing: usize,
+}
+
+impl Read for ByLine<'_> {
+    fn read(&mut self, buf: &mut [u8]) -> io::Result<usize> {
+        self.calls = self.calls.saturating_add(1);
+        if self.calls == self.failing {
+            return Err(io::Error::from(ErrorKind::BrokenPipe));
+        }
+        match self.lines {
+            [line, rest @ ..] if line.len() <= buf.len() => {
+                buf[..line.len()].copy_from_slice(line);
+                self.lines = rest;
+                Ok(line.len())
+            }
+            _ => Ok(0),
+        }
+    }
+}
+
+/// Takes what it is given, and fails in one call of write or flush, counted from 1.
+#[derive(Drop)]
+struct Taking {
+    taken: Vec<u8>,
+    calls: usize,
+    failing: usize,
+}
+
+impl Taking {
+    fn fails(&mut self) -> bool {
+        self.calls = self.calls.saturating_add(1);
+        self.calls == self.failing
+    }
+}
+
+impl Write for Taking {
+    fn write(&mut self, buf: &[u8]) -> io::Result<usize> {
+        if self.fails() {
+            return Err(io::Error::from(ErrorKind::BrokenPipe));
+        }
+        self.taken.extend_from_slice(buf)?;
+        Ok(buf.len())
+    }
+
+    fn flush(&mut self) -> io::Result<()> {
+        if self.fails() {
+            Err(io::Error::from(ErrorKind::BrokenPipe))
+        } else {
+            Ok(())
+        }
+    }
+}
+
+/// A run of one packet, whose worker adds one to it, and its answers: of 10, 7 and 25 bytes.
+const LINES: [&[u8]; 3] = [
+    b"a IMAGE 5450573110000C0008000100010000001024F25444F77081D01024F244FB21F5\n",
+    b"a PACKET 01000000\n",
+    b"a RUN\n",
+];
+
+const ANSWERS: &[u8] = b"YES 16 16\nKEPT 0\nR 0 0 16 02000000\nDONE 1\n";
+
+/// Each read and each write fails in turn: the call that fails, the first bytes of the answers that are out, and what is told.
+#[test]
+fn tells_each_failed_call(rt: HostRuntime) {
+    let cases = [
+        (1, 0, 0, "farmd: read\n"),
+        (2, 0, 10, "farmd: read\n"),
+        (3, 0, 17, "farmd: read\n"),
+        (4, 0, 42, "farmd: read\n"),
+        (0, 1, 0, "farmd: write\n"),
+        (0, 2, 10, "farmd: write\n"),
+        (0, 3, 10, "farmd: write\n"),
+        (0, 4, 17, "farmd: write\n"),
+        (0, 5, 17, "farmd: write\n"),
+        (0, 6, 42, "farmd: write\n"),
+        (5, 7, 42, ""),
+    ];
+    for (read, write, out, told) in cases {
+        let mut errors = Vec::new(rt.alloc());
+        let mut input = ByLine {
+            lines: &LINES,
+            calls: 0,
+            failing: read,
+        };
+        let mut output = Taking {
+            taken: Vec::new(rt.alloc()),
+            calls: 0,
+            failing: write,
+        };
+        let status = run(
+            &rt,
+            &Words(&["farmd"]),
+            rt.alloc(),
+            &mut input,
+            &mut output,
+            &mut errors,
+        );
+        assert_eq!(rt; status, ExitCode::from(u8::from(!told.is_empty())));
+        assert_eq!(rt; output.taken.len(), out);
+        assert!(rt; ANSWERS.starts_with(output.taken.as_slice()));
+        assert!(rt; errors.as_slice() == told.as_bytes());
+    }
+}
+
 /// The words, and the first line of why they are refused.
 #[test]
 fn refuses_words(rt: HostRuntime) {
