@@ -12,13 +12,10 @@ use Rattle.tp_step.specs.Runs.{start, Run, RunsAlone}
 use Rattle.tp_accept.specs.declared.refusal.Refusal.TheVariants.{Refused, Memory}
 use Rattle.tp_accept.specs.Refusals.{refusal_code_text}
 use Rattle.tp_accept.specs.Verdict.{Answer, IsAnswer}
+use Rattle.tp_collect.specs.DoneValue.{most_trace}
 use Rattle.tp_requests.specs.Requests.{Asked, ToList, ToOpen, ToKeep, ToRun, ToRunAll, ToDrop}
 use Rattle.tp_answers.specs.Sessions.{Session, most_sessions, most_packets, named, with_session, without_session, with_packet, without_packets}
 use Rattle.tp_answers.specs.Told.{refusal, listing_answer, yes_line, kept_line, gone_line, run_lines, lost_line, done_line, of_line, all_line}
-
--- the most bytes of a packet's trace
-abbrev pub most_trace : ℕ
-most_trace = 256
 
 -- Where serving stands between two lines: the open sessions, in the order in which they were opened, and the number of the
 -- next batch.

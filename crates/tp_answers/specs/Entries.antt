@@ -2,11 +2,11 @@
 use Rattle.std.specs.Prelude.{ℕ, ◌+◌, ◌≤◌, Bool, List, [], ◌∷◌, ◌++◌, length}
 use Rattle.tp_image.specs.Image.{ImageValue}
 use Rattle.tp_step.specs.Runs.{RunsAlone}
-use Rattle.tp_collect.specs.DoneValue.{run_of_done}
+use Rattle.tp_collect.specs.DoneValue.{run_of_done, most_trace}
 use Rattle.tp_collect.specs.declared.collected.Entry.{Entry}
 use Rattle.tp_collect.specs.declared.collected.Entry.TheVariants as entry
 use Rattle.tp_answers.specs.Told.{run_lines, lost_line}
-use Rattle.tp_answers.specs.Answers.{TracesTooMuch, most_trace}
+use Rattle.tp_answers.specs.Answers.{TracesTooMuch}
 
 abbrev pub entry_told : Bool → ℕ → Entry → List ℕ
 entry_told trace n (entry.Done done) = run_lines trace n (run_of_done done)

@@ -24,7 +24,8 @@ use Rattle.tp_collect.specs.declared.collected.LostCause.TheVariants as cause
 use Rattle.tp_farm.specs.Settings.{SameSettings}
 use Rattle.tp_farm.specs.Refused.{job_fault}
 use Rattle.tp_farm.specs.Promised.{TakeAll, ComesTo, LosesLongTracesAlone}
-use Rattle.tp_answers.specs.Answers.{TracesTooMuch, most_trace}
+use Rattle.tp_answers.specs.Answers.{TracesTooMuch}
+use Rattle.tp_collect.specs.DoneValue.{most_trace}
 use Rattle.tp_answers.specs.Entries.{IsOutcome, AreOutcomes}
 use Rattle.tp_session.specs.Fitness.{AreFitOf}
 
