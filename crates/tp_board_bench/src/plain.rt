@@ -17,7 +17,7 @@ struct Words {
 
 /// One thread's share of the words.
 #[derive(Drop)]
-pub struct PlainPlace {
+pub(crate) struct PlainPlace {
     words: Arc<Words, Global>,
 }
 
@@ -44,7 +44,7 @@ impl Place for PlainPlace {
 }
 
 /// For each thread its places, one at each of so many boards' words.
-pub fn places_for(alloc: Global, threads: u32, boards: u32) -> Result<Vec<Vec<PlainPlace>>> {
+pub(crate) fn places_for(alloc: Global, threads: u32, boards: u32) -> Result<Vec<Vec<PlainPlace>>> {
     let mut all = Vec::new(alloc);
     for _ in 0..threads {
         all.push(Vec::new(alloc))?;

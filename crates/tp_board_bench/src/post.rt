@@ -11,14 +11,14 @@ use tp_board::{Board, Claim, MAX_PACKETS, Seat};
 
 /// A seat with its board, which it shares with the other seats' posts.
 #[derive(Drop)]
-pub struct Post {
+pub(crate) struct Post {
     board: Arc<Board, Global>,
     seat: Seat,
     ghost own: { IsSeatOf (arc_value board) seat },
 }
 
 impl Post {
-    pub fn new(board: Arc<Board, Global>, seat: Seat) -> Post
+    pub(crate) fn new(board: Arc<Board, Global>, seat: Seat) -> Post
         requires { IsSeatOf (arc_value board) seat }
         ensures { result.seat ≡ seat }
     {
@@ -46,7 +46,7 @@ impl Place for Post {
 }
 
 /// For each thread its posts, one at each of so many boards.
-pub fn posts_for(alloc: Global, threads: u32, boards: u32) -> Result<Vec<Vec<Post>>> {
+pub(crate) fn posts_for(alloc: Global, threads: u32, boards: u32) -> Result<Vec<Vec<Post>>> {
     let mut all = Vec::new(alloc);
     for _ in 0..threads {
         all.push(Vec::new(alloc))?;

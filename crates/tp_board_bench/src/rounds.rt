@@ -7,27 +7,27 @@ use std::thread::Threads;
 use std::time::{Duration, Instant};
 
 /// A place at one board, for one thread to work at.
-pub trait Place: Drop {
+pub(crate) trait Place: Drop {
     /// Claims and finishes until there is no more: how many were finished.
     fn work(&mut self) -> u64;
 }
 
 /// Packets that were finished, and how long it took.
 #[derive(Clone, Copy)]
-pub struct Run {
-    pub finished: u64,
+pub(crate) struct Run {
+    pub(crate) finished: u64,
     took: Duration,
 }
 
 impl Run {
-    pub fn packets_a_second(&self) -> u64 {
+    pub(crate) fn packets_a_second(&self) -> u64 {
         let micros = u64::try_from(self.took.as_micros()).unwrap_or(u64::MAX);
         self.finished.saturating_mul(1_000_000) / micros.max(1)
     }
 }
 
 /// A thread for each list of places, which it works at in order.
-pub fn work_off<R: Runtime<A = Global> + Threads + Sync, P: Place + Send>(
+pub(crate) fn work_off<R: Runtime<A = Global> + Threads + Sync, P: Place + Send>(
     rt: &R,
     places: Vec<Vec<P>>,
 ) -> Result<Run> {
