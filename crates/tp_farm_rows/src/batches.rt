@@ -11,11 +11,11 @@ use tp_farm::{Gate, Job, run_batch};
 use tp_link::{DeviceFault, FaultyWire, Link, LinkDevice, LinkFault, Links, Medium, Wire};
 
 /// The number of the batches here.
-pub const BATCH: u64 = 7;
+pub(crate) const BATCH: u64 = 7;
 
 /// What became of a packet, its result as one word.
 #[derive(Clone, Copy, Debug, PartialEq, Eq)]
-pub enum Told {
+pub(crate) enum Told {
     Done(u32),
     Lost(Link, DeviceFault),
     Stopped,
@@ -28,7 +28,7 @@ fn word(bytes: &[u8]) -> u32 {
     }
 }
 
-pub fn of_entry(entry: &Entry) -> Told {
+pub(crate) fn of_entry(entry: &Entry) -> Told {
     match entry {
         Entry::Done(done) => Told::Done(word(done.result.as_slice())),
         Entry::Lost(LostCause::Link(LinkFault { link, code })) => Told::Lost(*link, *code),
@@ -36,7 +36,7 @@ pub fn of_entry(entry: &Entry) -> Told {
     }
 }
 
-pub fn all_told(alloc: Global, collected: &Collected) -> Result<Vec<Told>, AllocError> {
+pub(crate) fn all_told(alloc: Global, collected: &Collected) -> Result<Vec<Told>, AllocError> {
     let mut all = Vec::new(alloc);
     for entry in collected.entries.iter() {
         all.push(of_entry(entry))?;
@@ -45,7 +45,7 @@ pub fn all_told(alloc: Global, collected: &Collected) -> Result<Vec<Told>, Alloc
 }
 
 /// A packet of each of these words.
-pub fn packets(alloc: Global, words: &[u32]) -> Result<Vec<Packet>, Fail> {
+pub(crate) fn packets(alloc: Global, words: &[u32]) -> Result<Vec<Packet>, Fail> {
     let mut all = Vec::new(alloc);
     for word in words {
         let mut packet = Packet::new();
@@ -56,7 +56,7 @@ pub fn packets(alloc: Global, words: &[u32]) -> Result<Vec<Packet>, Fail> {
 }
 
 /// So many words in a row, from 0.
-pub fn count_up(alloc: Global, count: u32) -> Result<Vec<u32>, AllocError> {
+pub(crate) fn count_up(alloc: Global, count: u32) -> Result<Vec<u32>, AllocError> {
     let mut words = Vec::new(alloc);
     for word in 0..count {
         words.push(word)?;
@@ -65,7 +65,7 @@ pub fn count_up(alloc: Global, count: u32) -> Result<Vec<u32>, AllocError> {
 }
 
 /// What becomes of packets of one word each, when an image's worker runs on them.
-pub fn run_on<R: Threads + Wait + Sync, D: LinkDevice + Send, G: Gate>(
+pub(crate) fn run_on<R: Threads + Wait + Sync, D: LinkDevice + Send, G: Gate>(
     rt: &R,
     alloc: Global,
     image: &[u8],
@@ -86,20 +86,20 @@ pub fn run_on<R: Threads + Wait + Sync, D: LinkDevice + Send, G: Gate>(
 
 /// The media of one member's devices.
 #[derive(Drop)]
-pub struct Media {
-    pub source: Medium,
-    pub sink: Medium,
-    pub trace: Medium,
+pub(crate) struct Media {
+    pub(crate) source: Medium,
+    pub(crate) sink: Medium,
+    pub(crate) trace: Medium,
 }
 
 impl Media {
     /// Each with room for 256 bytes.
-    pub fn new(alloc: Global) -> Result<Media, AllocError> {
+    pub(crate) fn new(alloc: Global) -> Result<Media, AllocError> {
         Media::with_rooms(alloc, [256; 3])
     }
 
     /// With rooms for so many bytes in source, sink and trace.
-    pub fn with_rooms(alloc: Global, rooms: [usize; 3]) -> Result<Media, AllocError> {
+    pub(crate) fn with_rooms(alloc: Global, rooms: [usize; 3]) -> Result<Media, AllocError> {
         Ok(Media {
             source: Medium::new(alloc, rooms[0])?,
             sink: Medium::new(alloc, rooms[1])?,
@@ -108,7 +108,7 @@ impl Media {
     }
 
     /// The media of so many members.
-    pub fn of_members(alloc: Global, members: usize) -> Result<Vec<Media>, AllocError> {
+    pub(crate) fn of_members(alloc: Global, members: usize) -> Result<Vec<Media>, AllocError> {
         let mut all = Vec::new(alloc);
         for _ in 0..members {
             all.push(Media::new(alloc)?)?;
@@ -117,7 +117,7 @@ impl Media {
     }
 
     /// Wires to these media.
-    pub fn wires(&mut self) -> Links<Wire<'_>> {
+    pub(crate) fn wires(&mut self) -> Links<Wire<'_>> {
         Links {
             source: Wire::new(&mut self.source),
             sink: Wire::new(&mut self.sink),
@@ -126,7 +126,7 @@ impl Media {
     }
 
     /// Wires that fail in their calls of these numbers, in source, sink and trace.
-    pub fn failing(&mut self, calls: [u64; 3]) -> Links<FaultyWire<'_>> {
+    pub(crate) fn failing(&mut self, calls: [u64; 3]) -> Links<FaultyWire<'_>> {
         Links {
             source: FaultyWire::new(&mut self.source, calls[0]),
             sink: FaultyWire::new(&mut self.sink, calls[1]),
@@ -135,13 +135,16 @@ impl Media {
     }
 
     /// All three devices have ended.
-    pub fn ended(&self) -> bool {
+    pub(crate) fn ended(&self) -> bool {
         self.source.ended() && self.sink.ended() && self.trace.ended()
     }
 }
 
 /// Boxes of wires that borrow the media, a member for each.
-pub fn boxed(alloc: Global, media: &mut [Media]) -> Result<Vec<Links<Box<Wire<'_>>>>, AllocError> {
+pub(crate) fn boxed(
+    alloc: Global,
+    media: &mut [Media],
+) -> Result<Vec<Links<Box<Wire<'_>>>>, AllocError> {
     let mut all = Vec::new(alloc);
     for one in media.iter_mut() {
         let Links {
@@ -159,7 +162,7 @@ pub fn boxed(alloc: Global, media: &mut [Media]) -> Result<Vec<Links<Box<Wire<'_
 }
 
 /// A list of one.
-pub fn alone<T: Drop>(alloc: Global, one: T) -> Result<Vec<T>, AllocError> {
+pub(crate) fn alone<T: Drop>(alloc: Global, one: T) -> Result<Vec<T>, AllocError> {
     let mut all = Vec::new(alloc);
     all.push(one)?;
     Ok(all)
@@ -183,7 +186,7 @@ fn same_entry(left: &Entry, right: &Entry) -> bool {
 }
 
 /// Two batches have equal entries, each field of them.
-pub fn same(left: &Collected, right: &Collected) -> bool {
+pub(crate) fn same(left: &Collected, right: &Collected) -> bool {
     left.entries.len() == right.entries.len()
         && left
             .entries

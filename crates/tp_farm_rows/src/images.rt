@@ -1,15 +1,15 @@
 //! Images, by what they do.
 
 /// Adds one to its packet, in 16 steps.
-pub const INCREMENT: &[u8] = b"TPW1\x10\0\x0C\0\x08\0\x01\0\x01\0\0\0\
+pub(crate) const INCREMENT: &[u8] = b"TPW1\x10\0\x0C\0\x08\0\x01\0\x01\0\0\0\
     \x10\x24\xF2\x54\x44\xF7\x70\x81\xD0\x10\x24\xF2\x44\xFB\x21\xF5";
 
 /// Sends its packet as its trace and as its result, in 19 steps.
-pub const TRACES_ITS_PACKET: &[u8] = b"TPW1\x13\0\x0C\0\x08\0\x01\0\x01\0\0\0\
+pub(crate) const TRACES_ITS_PACKET: &[u8] = b"TPW1\x13\0\x0C\0\x08\0\x01\0\x01\0\0\0\
     \x10\x24\xF2\x54\x44\xF7\x10\x24\xF2\x51\x44\xFB\x10\x24\xF2\x44\xFB\x21\xF5";
 
 /// Sends its packet 65 times as its trace, which makes 260 bytes, and then as its result.
-pub const TRACES_65_TIMES: &[u8] = b"TPW1\x1C\0\x10\0\x08\0\x01\0\x01\0\x01\0\
+pub(crate) const TRACES_65_TIMES: &[u8] = b"TPW1\x1C\0\x10\0\x08\0\x01\0\x01\0\x01\0\
     \x0B\0\x13\0\x0A\0\x41\0\0\0\0\0\
     \x10\x24\xF2\x54\x44\xF7\x40\xD2\x24\x41\xD3\x10\x24\xF2\x51\x44\xFB\
     \x12\x4A\x22\xF1\x10\x24\xF2\x44\xFB\x21\xF5";
