@@ -14,8 +14,6 @@ pub mod laws;
 mod rule;
 mod seat;
 mod source;
-#[cfg(test)]
-mod tests;
 mod view;
 
 pub use answer::{BoardFault, Claim, Ledger, MAX_MEMBERS, MAX_PACKETS};

@@ -1,5 +1,5 @@
 use Rattle.tp_board.specs.Boards.{IsSeatOf}
-use Rattle.tp_board.proofs.tests.worked.Given as goal
+use Rattle.tp_board_rows.proofs.threads.worked.Given as goal
 
 abbrev pub invariant-loop : goal.invariant-loop
 invariant-loop l = IsSeatOf l.board l.seat

@@ -1,0 +1,12 @@
+//! Lists of events, boards, threads and sources of packets with the answers that were worked out by hand. There is no code
+//! here but tests.
+#![tactic(auto)]
+
+#[cfg(test)]
+mod boards;
+#[cfg(test)]
+mod events;
+#[cfg(test)]
+mod sources;
+#[cfg(test)]
+mod threads;
