@@ -2,7 +2,6 @@
 use Rattle.std.specs.Prelude.{ℕ, false, List, [], ◌∷◌}
 use Rattle.tp_image.specs.declared.image.Version.TheVariants.{One}
 use Rattle.tp_image.specs.Image.{ImageValue}
-use Rattle.tp_step.specs.Runs.{Run}
 use Rattle.tp_collect.specs.DoneValue.{DoneValue}
 
 -- adds one to its packet: ldlp 0; mint; ldnlp 4; ldc 4; in; ldl 0; adc 1; stl 0; ldlp 0; mint; ldc 4; out; stopp

@@ -3,6 +3,7 @@
 ghost use Rattle.std.specs.Prelude.{◌≡◌, [], ◌∷◌, map};
 ghost use Rattle.tp_conformance.specs.Workers.{increment, incremented, one};
 
+use crate::samples::INCREMENT;
 use arrayvec::ArrayVec;
 use std::process::Abort;
 use tp_collect::limits::MESSAGE_BYTES;
@@ -11,10 +12,6 @@ use tp_image::{Image, read_image};
 use tp_link::{DeviceFault, Link, LinkFault};
 
 type Message = ArrayVec<u8, MESSAGE_BYTES>;
-
-const INCREMENT: &[u8] = b"TPW1\
-    \x10\x00\x0C\x00\x08\x00\x01\x00\x01\x00\x00\x00\
-    \x10\x24\xF2\x54\x44\xF7\x70\x81\xD0\x10\x24\xF2\x44\xFB\x21\xF5";
 
 const REFUSED: LinkFault = LinkFault {
     link: Link::Sink,

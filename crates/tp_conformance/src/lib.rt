@@ -1,9 +1,19 @@
-//! Worked examples, and tests that cross crates. There is no code here but tests.
+//! Worked examples, images, wires and their ends, and tests that cross crates. There is no code here but tests.
 #![tactic(auto)]
 
 #[cfg(test)]
 mod collecting;
 #[cfg(test)]
+mod ends;
+#[cfg(test)]
+mod images;
+#[cfg(test)]
+mod latch;
+#[cfg(test)]
+mod samples;
+#[cfg(test)]
 mod sizes;
 #[cfg(test)]
 mod spellings;
+#[cfg(test)]
+mod wires;

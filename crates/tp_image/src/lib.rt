@@ -16,6 +16,3 @@ pub use image::{Image, LoopRow, Version};
 pub use read::read_image;
 pub use upgrading::upgrade;
 pub use write::write_image;
-
-#[cfg(test)]
-mod tests;

@@ -17,8 +17,6 @@ pub mod laws;
 mod links;
 mod medium;
 mod owned;
-#[cfg(test)]
-mod tests;
 mod trait_object;
 mod wire;
 

@@ -1,4 +1,4 @@
-use Rattle.std.proofs.Common.{refl, ◌≡◌, false, []}
+use Rattle.std.proofs.Common.{refl, false, []}
 use Rattle.tp_step.specs.Runs.{RunsAlone}
 use Rattle.tp_conformance.specs.Workers.{increment, one, two}
 use Rattle.tp_conformance.proofs.Computing.{by_steps}

@@ -1,9 +1,8 @@
-mod ends;
-mod latch;
+//! Wires and faulty wires, an author's own device, and the texts of their faults.
 
-use crate::{DeviceFault, FaultyWire, Link, LinkDevice, LinkFault, Medium, OwnedWire, Wire};
-use latch::Latch;
+use crate::latch::Latch;
 use std::test::Fail;
+use tp_link::{DeviceFault, FaultyWire, Link, LinkDevice, LinkFault, Medium, OwnedWire, Wire};
 
 #[test]
 fn a_wire_answers_in_order(rt: HostRuntime) -> Result<(), Fail> {

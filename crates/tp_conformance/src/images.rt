@@ -1,12 +1,10 @@
 //! Images and refusals worked out by hand, and each call once with ample memory.
 
-mod samples;
-
-use super::*;
-use samples::*;
+use crate::samples::*;
 use std::alloc::{AllocError, Global};
 use std::process::Abort;
 use std::test::Fail;
+use tp_image::{ImageCode, ImageFault, LoopRow, read_image, upgrade, write_image};
 
 /// The bytes with others from a place on.
 fn changed(

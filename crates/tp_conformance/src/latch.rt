@@ -1,5 +1,6 @@
-//! An example of a device, such as an author outside this crate would write it.
-use crate::{DeviceFault, LinkDevice};
+//! An example of a device, such as an author outside `tp_link` would write it.
+
+use tp_link::{DeviceFault, LinkDevice};
 
 /// A device that holds one byte at most. While it is jammed it fails in each call, until it can
 /// count no more failures.

@@ -3,10 +3,10 @@ ghost use Rattle.std.specs.Prelude.{◌≡◌};
 ghost use Rattle.tp_link.specs.Device.{held_after_send, plain_send};
 ghost use Rattle.tp_link.specs.Medium.{with_bytes, wired, unwired, faultless_device};
 
-use crate::{DeviceFault, EndedMedium, FaultyWire, LinkDevice, Links, Medium, OwnedWire, Wire};
 use std::alloc::{AllocError, Global};
 use std::process::Abort;
 use std::test::Fail;
+use tp_link::{DeviceFault, EndedMedium, FaultyWire, LinkDevice, Links, Medium, OwnedWire, Wire};
 
 /// Sends over a wire that has ended at the return. That the medium then has its end mark and its
 /// bytes is proved from the wire's contracts alone.
