@@ -14,6 +14,3 @@ pub use check::every_edge_respects;
 pub use effort::Effort;
 pub use passes::{check_states, check_states_counting};
 pub use table::Table;
-
-#[cfg(test)]
-mod tests;

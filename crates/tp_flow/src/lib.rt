@@ -17,6 +17,3 @@ pub use fault::{FlowCode, FlowFault};
 pub use flow::check_flow;
 pub use nest::Nest;
 pub use range::LoopRange;
-
-#[cfg(test)]
-mod tests;

@@ -33,6 +33,3 @@ pub use outcome::{Outcome, RunFault};
 pub use phase::Phase;
 pub use places::MEM_START;
 pub use registers::Registers;
-
-#[cfg(test)]
-mod tests;

@@ -1,11 +1,15 @@
-//! The runs of `tp_step_runs`'s table on the machine, which is to give what the definitions give. There is no code here but
-//! tests.
+//! The runs of `tp_step_runs`'s table on the machine, which is to give what the definitions give; and runs that end in a
+//! fault, or over other devices. There is no code here but tests.
 #![tactic(auto)]
 
+#[cfg(test)]
+mod faults;
 #[cfg(test)]
 mod media;
 #[cfg(test)]
 mod place;
+#[cfg(test)]
+mod runs;
 #[cfg(test)]
 mod short;
 #[cfg(test)]

@@ -5,21 +5,27 @@ use tp_link::{Links, Medium, Wire};
 
 /// The media of three wires.
 #[derive(Drop)]
-pub struct Media {
-    pub source: Medium,
-    pub sink: Medium,
-    pub trace: Medium,
+pub(crate) struct Media {
+    pub(crate) source: Medium,
+    pub(crate) sink: Medium,
+    pub(crate) trace: Medium,
 }
 
-pub fn make_media(alloc: Global) -> Result<Media, AllocError> {
+/// With room enough.
+pub(crate) fn make_media(alloc: Global) -> Result<Media, AllocError> {
+    media_with_sink_room(alloc, 256)
+}
+
+/// The same, but for the room of the sink.
+pub(crate) fn media_with_sink_room(alloc: Global, sink_room: usize) -> Result<Media, AllocError> {
     Ok(Media {
         source: Medium::new(alloc, 256)?,
-        sink: Medium::new(alloc, 256)?,
+        sink: Medium::new(alloc, sink_room)?,
         trace: Medium::new(alloc, 512)?,
     })
 }
 
-pub fn wires(media: &mut Media) -> Links<Wire<'_>> {
+pub(crate) fn wires(media: &mut Media) -> Links<Wire<'_>> {
     Links {
         source: Wire::new(&mut media.source),
         sink: Wire::new(&mut media.sink),

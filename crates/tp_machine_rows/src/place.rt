@@ -16,16 +16,16 @@ const START_WORD: u32 = 8;
 /// All of a state but its memory: the registers, how far the worker is, and the bytes of its messages, those to come on
 /// link 0 and those that were sent on links 0 and 1.
 #[derive(Clone, Copy)]
-pub struct Place {
-    pub registers: Registers,
-    pub phase: Phase,
-    pub coming: &'static [u8],
-    pub sent: &'static [u8],
-    pub traced: &'static [u8],
+pub(crate) struct Place {
+    pub(crate) registers: Registers,
+    pub(crate) phase: Phase,
+    pub(crate) coming: &'static [u8],
+    pub(crate) sent: &'static [u8],
+    pub(crate) traced: &'static [u8],
 }
 
 /// The bare state with Iptr here, and with these settings.
-pub fn place_of(iptr: i64, settings: &[Setting]) -> Place {
+pub(crate) fn place_of(iptr: i64, settings: &[Setting]) -> Place {
     let mut place = Place {
         registers: Registers {
             iptr,
@@ -77,7 +77,7 @@ fn set_stack(place: &mut Place, areg: Option<u32>, breg: Option<u32>, creg: Opti
 }
 
 /// A machine with these registers, whose workspace is that of the bare state with these settings.
-pub fn machine_of(registers: Registers, settings: &[Setting]) -> Result<Machine, Fail> {
+pub(crate) fn machine_of(registers: Registers, settings: &[Setting]) -> Result<Machine, Fail> {
     let mut machine = Machine::new();
     if registers.oreg % 16 != 0 {
         return Err(Fail::new("Oreg is no multiple of 16"));
@@ -144,7 +144,7 @@ fn lack_byte(machine: &mut Machine, address: u32) -> Result<(), Fail> {
 }
 
 /// The first address of a workspace at which two machines differ.
-pub fn first_difference(one: &Machine, other: &Machine) -> Option<u32> {
+pub(crate) fn first_difference(one: &Machine, other: &Machine) -> Option<u32> {
     for byte in 0..4 * WORDS {
         let address = MEM_START + byte;
         if one.cell(address) != other.cell(address) {
@@ -155,7 +155,7 @@ pub fn first_difference(one: &Machine, other: &Machine) -> Option<u32> {
 }
 
 /// A workspace word, if all of its bytes are defined.
-pub fn word(machine: &Machine, number: u32) -> Option<u32> {
+pub(crate) fn word(machine: &Machine, number: u32) -> Option<u32> {
     if number >= WORDS {
         return None;
     }

@@ -1,35 +1,13 @@
 //! Whole workers, from their start.
 
-use crate::media::{Media, make_media, wires};
-use std::alloc::Global;
+use crate::media::{make_media, wires};
+use crate::runs::run;
+use std::process::Abort;
 use std::test::Fail;
 use tp_image::read_image;
-use tp_link::LinkDevice;
+use tp_link::{LinkDevice, Links, Medium, OwnedWire};
 use tp_machine::{MEM_START, Machine, Outcome, Registers, RunFault};
-use tp_step_runs::table::{INCREMENT, MOVES_A_WORD, READS_AFTER_JUMP, samples};
-
-/// What a run answers, and what the three media hold after it.
-#[derive(Drop)]
-struct Seen {
-    answer: Result<Outcome, RunFault>,
-    media: Media,
-}
-
-fn run(
-    alloc: Global,
-    machine: &mut Machine,
-    image: &[u8],
-    packet: &[u8],
-    limit: u32,
-) -> Result<Seen, Fail> {
-    let image = read_image(alloc, image)?;
-    let mut media = make_media(alloc)?;
-    let mut links = wires(&mut media);
-    links.source.send(packet)?;
-    let answer = machine.run_image(&image, &mut links, limit);
-    drop(links);
-    Ok(Seen { answer, media })
-}
+use tp_step_runs::table::{INCREMENT, MOVES_A_WORD, READS_AFTER_JUMP, TRACES, samples};
 
 /// One after another on one machine.
 #[test]
@@ -60,12 +38,24 @@ fn samples_on_the_machine(rt: HostRuntime) -> Result<(), Fail> {
     Ok(())
 }
 
+/// The worker that reads after j is stuck at its add, and has sent nothing.
+fn assert_stuck(
+    rt: &(impl Abort + AllocGlobal),
+    machine: &mut Machine,
+    packet: &[u8],
+) -> Result<(), Fail> {
+    let seen = run(rt.alloc(), machine, READS_AFTER_JUMP, packet, 100)?;
+    assert_eq!(rt; seen.answer, Err(RunFault::Stuck(8)));
+    assert_eq!(rt; seen.media.sink.bytes().len(), 0);
+    Ok(())
+}
+
 #[test]
 fn stuck_after_jump_on_the_machine(rt: HostRuntime) -> Result<(), Fail> {
     let mut machine = Machine::new();
     for packet in [[0, 0, 0, 0], [1, 2, 3, 4], [255, 255, 255, 255]] {
-        let seen = run(rt.alloc(), &mut machine, READS_AFTER_JUMP, &packet, 100)?;
-        assert_eq!(rt; seen.answer, Err(RunFault::Stuck(8)));
+        assert_stuck(&rt, &mut Machine::new(), &packet)?;
+        assert_stuck(&rt, &mut machine, &packet)?;
     }
     Ok(())
 }
@@ -104,5 +94,68 @@ fn starts_on_the_machine(rt: HostRuntime) -> Result<(), Fail> {
     for (word, cell) in words {
         assert_eq!(rt; machine.cell(MEM_START + 4 * word), cell, "word {word}");
     }
+    Ok(())
+}
+
+#[test]
+fn nothing_is_left_over_between_packets(rt: HostRuntime) -> Result<(), Fail> {
+    let image = read_image(rt.alloc(), INCREMENT)?;
+    let moves = read_image(rt.alloc(), MOVES_A_WORD)?;
+    let mut media = make_media(rt.alloc())?;
+    let mut links = wires(&mut media);
+    let mut machine = Machine::new();
+    links.source.send(&[1, 0, 0, 0, 0xff, 0xff, 0xff, 0x7f])?;
+    links.source.send(&[1, 0, 0, 0, 1, 0, 0, 0])?;
+    let plain = Ok(Outcome {
+        error: false,
+        steps: 16,
+    });
+    assert_eq!(rt; machine.run_image(&image, &mut links, 100), plain);
+    let over = Ok(Outcome {
+        error: true,
+        steps: 16,
+    });
+    assert_eq!(rt; machine.run_image(&image, &mut links, 100), over);
+    assert_eq!(rt; machine.run_image(&image, &mut links, 100), plain);
+    let moved = Ok(Outcome {
+        error: false,
+        steps: 19,
+    });
+    assert_eq!(rt; machine.run_image(&moves, &mut links, 100), moved);
+    let mut results = [0; 16];
+    links.sink.receive(&mut results)?;
+    let wanted = [2, 0, 0, 0, 0, 0, 0, 0x80, 2, 0, 0, 0, 42, 0, 0, 0];
+    assert_eq!(rt; results, wanted);
+    Ok(())
+}
+
+#[test]
+fn runs_over_trait_objects(rt: HostRuntime) -> Result<(), Fail> {
+    let alloc = rt.alloc();
+    let image = read_image(alloc, TRACES)?;
+    let (first, _) = OwnedWire::new(alloc, Medium::new(alloc, 4)?)?;
+    let (second, results) = OwnedWire::new(alloc, Medium::new(alloc, 4)?)?;
+    let (third, traces) = OwnedWire::new(alloc, Medium::new(alloc, 4)?)?;
+    let mut source: Box<dyn LinkDevice + Send> = Box::new(alloc, first)?;
+    let sink: Box<dyn LinkDevice + Send> = Box::new(alloc, second)?;
+    let trace: Box<dyn LinkDevice + Send> = Box::new(alloc, third)?;
+    source.send(&[10, 0, 0, 0])?;
+    let mut links = Links {
+        source,
+        sink,
+        trace,
+    };
+    let answer = Machine::new().run_image(&image, &mut links, 100);
+    assert_eq!(rt;
+        answer,
+        Ok(Outcome {
+            error: false,
+            steps: 19
+        })
+    );
+    drop(links);
+    let sent = results.get().map(|medium| medium.bytes().len());
+    let traced = traces.get().map(|medium| medium.bytes().len());
+    assert_eq!(rt; (sent, traced), (Some(4), Some(4)));
     Ok(())
 }

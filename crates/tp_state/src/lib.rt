@@ -21,6 +21,3 @@ pub use fault::{StateCode, StateFault};
 pub use kind::Kind;
 pub use outcome::after;
 pub use state::State;
-
-#[cfg(test)]
-mod tests;

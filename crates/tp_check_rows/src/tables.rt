@@ -1,103 +1,25 @@
-//! Tables and refusals of whole workers.
+//! Tables and refusals of whole workers, and what the passes take.
 
 ghost use Rattle.std.specs.Prelude.{◌<◌};
 
-use super::*;
+use crate::images::*;
+use crate::reading::read;
+use crate::states::refused;
 use std::process::Abort;
-use tp_decode::decode;
+use tp_check::{Effort, Table, check_states, check_states_counting};
 use tp_flow::check_flow;
-use tp_image::read_image;
 use tp_state::{Cell, Kind, StateCode, StateFault};
-
-/// Adds one to its packet.
-const INCREMENT: [u8; 32] = *b"TPW1\
-    \x10\x00\x0C\x00\x08\x00\x01\x00\x01\x00\x00\x00\
-    \x10\x24\xF2\x54\x44\xF7\x70\x81\xD0\x10\x24\xF2\x44\xFB\x21\xF5";
-
-/// Adds the numbers from 0 to 9,999, in a loop from 15 to 21 with its block in words 10 and 11.
-const SUM_IN_A_LOOP: &[u8] = b"TPW1\
-    \x1E\x00\x10\x00\x08\x00\x01\x00\x01\x00\x01\x00\
-    \x0F\x00\x15\x00\x0A\x00\x10\x27\x00\x00\x00\x00\
-    \x10\x24\xF2\x54\x44\xF7\x40\xD1\x40\xD2\x22\x27\x21\x40\xD3\
-    \x71\x72\xF5\xD1\x12\x48\x22\xF1\x11\x24\xF2\x44\xFB\x21\xF5";
-
-/// Adds after a jump, when one operand alone is loaded.
-const READS_AFTER_JUMP: &[u8] = b"TPW1\
-    \x11\x00\x0C\x00\x08\x00\x01\x00\x01\x00\x00\x00\
-    \x10\x24\xF2\x54\x44\xF7\x00\x70\xF5\xD0\x10\x24\xF2\x44\xFB\x21\xF5";
-
-/// Asks for a packet of eight bytes, when it is one word.
-const LONG_PACKET: &[u8] = b"TPW1\
-    \x10\x00\x0C\x00\x08\x00\x01\x00\x01\x00\x00\x00\
-    \x10\x24\xF2\x54\x48\xF7\x70\x81\xD0\x10\x24\xF2\x44\xFB\x21\xF5";
-
-/// Sends its result twice.
-const SENDS_TWICE: &[u8] = b"TPW1\
-    \x12\x00\x0C\x00\x08\x00\x01\x00\x01\x00\x00\x00\
-    \x10\x24\xF2\x54\x44\xF7\x10\x24\xF2\x44\xFB\x10\x24\xF2\x44\xFB\x21\xF5";
-
-/// Loads from as many words on as its packet says.
-const WILD_SUBSCRIPT: &[u8] = b"TPW1\
-    \x12\x00\x14\x00\x08\x00\x01\x00\x01\x00\x00\x00\
-    \x10\x24\xF2\x54\x44\xF7\x70\x12\xFA\x30\xD0\x10\x24\xF2\x44\xFB\x21\xF5";
-
-/// The same, with the packet's number masked to 0 to 7.
-const MASKED_SUBSCRIPT: &[u8] = b"TPW1\
-    \x15\x00\x14\x00\x08\x00\x01\x00\x01\x00\x00\x00\
-    \x10\x24\xF2\x54\x44\xF7\x70\x47\x24\xF6\x12\xFA\x30\xD0\x10\x24\xF2\x44\xFB\x21\xF5";
-
-/// Loads a word that in has made undefined.
-const READS_BELOW: &[u8] = b"TPW1\
-    \x10\x00\x0C\x00\x08\x00\x01\x00\x01\x00\x00\x00\
-    \x10\x24\xF2\x54\x44\xF7\x60\x7F\xD0\x10\x24\xF2\x44\xFB\x21\xF5";
-
-/// Stores into the count of the loop that it is in.
-const STORES_THE_COUNT: &[u8] = b"TPW1\
-    \x1B\x00\x10\x00\x08\x00\x01\x00\x01\x00\x01\x00\
-    \x0C\x00\x12\x00\x0A\x00\x0A\x00\x00\x00\x00\x00\
-    \x10\x24\xF2\x54\x44\xF7\x40\xD1\x40\xD2\x4A\xD3\
-    \x71\x72\xF5\xD3\x12\x48\x22\xF1\x11\x24\xF2\x44\xFB\x21\xF5";
-
-/// Sends a word of its own by way of move, in version 1.
-const MOVES_IN_VERSION_1: &[u8] = b"TPW1\
-    \x13\x00\x10\x00\x08\x00\x01\x00\x01\x00\x00\x00\
-    \x10\x24\xF2\x54\x44\xF7\x60\x18\x10\x44\x24\xFA\x10\x24\xF2\x44\xFB\x21\xF5";
-
-/// Moves a word to its own place, in version 2.
-const MOVES_IN_PLACE: &[u8] = b"TPW2\
-    \x12\x00\x10\x00\x08\x00\x01\x00\x01\x00\x00\x00\x00\x00\
-    \x10\x24\xF2\x54\x44\xF7\x10\x10\x44\x24\xFA\x10\x24\xF2\x44\xFB\x21\xF5";
-
-/// Shifts its packet by as much as the packet says.
-const WILD_SHIFT: &[u8] = b"TPW1\
-    \x12\x00\x0C\x00\x08\x00\x01\x00\x01\x00\x00\x00\
-    \x10\x24\xF2\x54\x44\xF7\x70\x70\x24\xF1\xD0\x10\x24\xF2\x44\xFB\x21\xF5";
-
-/// Stores 1 or 2 in word 9, by two ways that meet at 13.
-const TWO_WAYS: &[u8] = b"TPW1\
-    \x16\x00\x0C\x00\x08\x00\x01\x00\x01\x00\x00\x00\
-    \x10\x24\xF2\x54\x44\xF7\x70\xA3\x41\xD1\x02\x42\xD1\x71\xD0\
-    \x10\x24\xF2\x44\xFB\x21\xF5";
-
-/// Loads by a number that is 0 in the first turn of a loop from 12 to 19, and the packet's in the later ones.
-const WILD_IN_LATER_TURNS: &[u8] = b"TPW1\
-    \x1C\x00\x10\x00\x08\x00\x01\x00\x01\x00\x01\x00\
-    \x0C\x00\x13\x00\x0A\x00\x0A\x00\x00\x00\x00\x00\
-    \x10\x24\xF2\x54\x44\xF7\x40\xD1\x40\xD2\x4A\xD3\
-    \x71\x10\xFA\x30\xD1\x12\x49\x22\xF1\x11\x24\xF2\x44\xFB\x21\xF5";
 
 /// What the passes come to.
 fn verdict(rt: &(impl Abort + AllocGlobal), bytes: &[u8]) -> Result<Table, StateFault> {
-    let image = read_image(rt.alloc(), bytes).expect(rt, "an image");
-    let listing = decode(rt.alloc(), &image.code).expect(rt, "a listing");
+    let (image, listing) = read(rt, bytes);
     let nest = check_flow(&image, &listing).expect(rt, "a nest");
     check_states(rt.alloc(), &image, &listing, &nest)
 }
 
 /// The refusal, if there is one, and what the passes take up to there or to the end.
 fn counted(rt: &(impl Abort + AllocGlobal), bytes: &[u8]) -> (Option<StateFault>, u64, u64) {
-    let image = read_image(rt.alloc(), bytes).expect(rt, "an image");
-    let listing = decode(rt.alloc(), &image.code).expect(rt, "a listing");
+    let (image, listing) = read(rt, bytes);
     let nest = check_flow(&image, &listing).expect(rt, "a nest");
     let mut effort = Effort::default();
     let answer = check_states_counting(rt.alloc(), &image, &listing, &nest, &mut effort);
@@ -111,11 +33,6 @@ fn increment_with(at: usize, byte: u8) -> [u8; 32]
     let mut bytes = INCREMENT;
     bytes[16 + at] = byte;
     bytes
-}
-
-/// A refusal with its code and place.
-fn refused(code: StateCode, place: usize) -> Option<StateFault> {
-    Some(StateFault::Refused { code, place })
 }
 
 #[test]
@@ -175,7 +92,7 @@ fn finds_tables(rt: HostRuntime) {
 
 #[test]
 fn knows_what_a_loop_leaves(rt: HostRuntime) {
-    let table = verdict(&rt, SUM_IN_A_LOOP).expect(&rt, "a table");
+    let table = verdict(&rt, SUM_TO_TEN_THOUSAND).expect(&rt, "a table");
     let head = table.at(15).expect(&rt, "a state at the head");
     assert_eq!(rt; (head.wptr, head.phase, head.a), (8, 1, Kind::Undef));
     assert_eq!(rt;
@@ -215,7 +132,7 @@ fn counts_passes_and_outcomes(rt: HostRuntime) {
     // 19 instructions with a cj; its ways meet before what follows is taken
     assert_eq!(rt; counted(&rt, TWO_WAYS), (None, 2, 19 + 1));
     // 23 instructions with a lend; then the sum is a number that is not known, from 15 to 18, and stored as before
-    assert_eq!(rt; counted(&rt, SUM_IN_A_LOOP), (None, 3, 23 + 1 + 4));
+    assert_eq!(rt; counted(&rt, SUM_TO_TEN_THOUSAND), (None, 3, 23 + 1 + 4));
 }
 
 /// A refused outcome is the last that is counted.

@@ -1,14 +1,12 @@
 //! Codes judged by hand, and each call of a nest once.
 
-mod samples;
-
-use super::*;
-use samples::*;
+use crate::images::*;
+use crate::reading::read;
 use std::alloc::{AllocError, Global};
 use std::process::Abort;
 use std::test::Fail;
-use tp_decode::{Instr, decode};
-use tp_image::read_image;
+use tp_decode::Instr;
+use tp_flow::{Edge, FlowCode, FlowFault, LoopRange, Nest, check_flow, edges};
 
 /// Head, lend, control word, count and start.
 type Fields = (u16, u16, u16, u16, i32);
@@ -36,8 +34,7 @@ fn image_bytes(alloc: Global, rows: &[Fields], code: &[u8]) -> Result<Vec<u8>, A
 
 /// The judgement of an image's code.
 fn judged(rt: &(impl Abort + AllocGlobal), bytes: &[u8]) -> Result<Nest, FlowFault> {
-    let image = read_image(rt.alloc(), bytes).expect(rt, "an image");
-    let listing = decode(rt.alloc(), &image.code).expect(rt, "a listing");
+    let (image, listing) = read(rt, bytes);
     check_flow(&image, &listing)
 }
 
