@@ -2,11 +2,14 @@
 
 use crate::ending::Ending;
 use crate::program::run;
+use std::alloc::Global;
 use std::env::{Env, FillError};
 use std::io;
 use std::io::{ErrorKind, Read, Write};
 use std::process::ExitCode;
+use std::sync::Wait;
 use std::test::Fail;
+use std::thread::Threads;
 use tp_session::ServeFault;
 
 /// The words of a command line.
@@ -54,6 +57,26 @@ impl Write for Broken {
     }
 }
 
+/// What the program ended with, and what it wrote to standard error.
+#[derive(Drop)]
+struct Ended {
+    status: ExitCode,
+    errors: Vec<u8>,
+}
+
+/// Runs the program on a command line, a reader and a writer.
+fn ran<T: Threads + Wait + Sync, R: Read, W: Write>(
+    rt: &T,
+    alloc: Global,
+    words: &[&str],
+    input: &mut R,
+    output: &mut W,
+) -> Ended {
+    let mut errors = Vec::new(alloc);
+    let status = run(rt, &Words(words), alloc, input, output, &mut errors);
+    Ended { status, errors }
+}
+
 /// A worker that sends its packet as a trace message and then as its result, and a run of one packet.
 const RUN: &str = "\
 a IMAGE 5450573113000C0008000100010000001024F25444F71024F25144FB1024F244FB21F5
@@ -63,35 +86,21 @@ a RUN
 
 #[test]
 fn serves_to_the_end(rt: HostRuntime) {
-    let (mut output, mut errors) = (Vec::new(rt.alloc()), Vec::new(rt.alloc()));
+    let mut output = Vec::new(rt.alloc());
     let mut input = b"LIST 604F\nHELLO\n".as_slice();
-    let status = run(
-        &rt,
-        &Words(&["farmd"]),
-        rt.alloc(),
-        &mut input,
-        &mut output,
-        &mut errors,
-    );
-    assert_eq!(rt; status, ExitCode::SUCCESS);
+    let ended = ran(&rt, rt.alloc(), &["farmd"], &mut input, &mut output);
+    assert_eq!(rt; ended.status, ExitCode::SUCCESS);
     assert!(rt; output.as_slice() == b"0 604f ldc -1\nDONE 1\nNO E1 2\n".as_slice());
-    assert!(rt; errors.is_empty());
+    assert!(rt; ended.errors.is_empty());
 }
 
 #[test]
 fn tells_a_failed_read(rt: HostRuntime) {
-    let (mut output, mut errors) = (Vec::new(rt.alloc()), Vec::new(rt.alloc()));
-    let status = run(
-        &rt,
-        &Words(&["farmd"]),
-        rt.alloc(),
-        &mut Broken,
-        &mut output,
-        &mut errors,
-    );
-    assert_eq!(rt; status, ExitCode::from(1));
+    let mut output = Vec::new(rt.alloc());
+    let ended = ran(&rt, rt.alloc(), &["farmd"], &mut Broken, &mut output);
+    assert_eq!(rt; ended.status, ExitCode::from(1));
     assert!(rt; output.is_empty());
-    assert!(rt; errors.as_slice() == b"farmd: read\n".as_slice());
+    assert!(rt; ended.errors.as_slice() == b"farmd: read\n".as_slice());
 }
 
 #[test]
@@ -101,18 +110,10 @@ fn tells_a_failed_write(rt: HostRuntime) {
         ["farmd", "--help"].as_slice(),
         ["farmd", "--version"].as_slice(),
     ] {
-        let mut errors = Vec::new(rt.alloc());
         let mut input = b"LIST 604F\n".as_slice();
-        let status = run(
-            &rt,
-            &Words(words),
-            rt.alloc(),
-            &mut input,
-            &mut Broken,
-            &mut errors,
-        );
-        assert_eq!(rt; status, ExitCode::from(1));
-        assert!(rt; errors.as_slice() == b"farmd: write\n".as_slice());
+        let ended = ran(&rt, rt.alloc(), words, &mut input, &mut Broken);
+        assert_eq!(rt; ended.status, ExitCode::from(1));
+        assert!(rt; ended.errors.as_slice() == b"farmd: write\n".as_slice());
     }
 }
 
@@ -200,7 +201,6 @@ fn tells_each_failed_call(rt: HostRuntime) {
         (5, 7, 42, ""),
     ];
     for (read, write, out, told) in cases {
-        let mut errors = Vec::new(rt.alloc());
         let mut input = ByLine {
             lines: &LINES,
             calls: 0,
@@ -211,18 +211,11 @@ fn tells_each_failed_call(rt: HostRuntime) {
             calls: 0,
             failing: write,
         };
-        let status = run(
-            &rt,
-            &Words(&["farmd"]),
-            rt.alloc(),
-            &mut input,
-            &mut output,
-            &mut errors,
-        );
-        assert_eq!(rt; status, ExitCode::from(u8::from(!told.is_empty())));
+        let ended = ran(&rt, rt.alloc(), &["farmd"], &mut input, &mut output);
+        assert_eq!(rt; ended.status, ExitCode::from(u8::from(!told.is_empty())));
         assert_eq!(rt; output.taken.len(), out);
         assert!(rt; ANSWERS.starts_with(output.taken.as_slice()));
-        assert!(rt; errors.as_slice() == told.as_bytes());
+        assert!(rt; ended.errors.as_slice() == told.as_bytes());
     }
 }
 
@@ -244,20 +237,17 @@ fn refuses_words(rt: HostRuntime) {
         ),
     ];
     for (words, told) in refused {
-        let (mut output, mut errors) = (Vec::new(rt.alloc()), Vec::new(rt.alloc()));
+        let mut output = Vec::new(rt.alloc());
         let mut input = b"LIST 604F\n".as_slice();
-        let status = run(
-            &rt,
-            &Words(words),
-            rt.alloc(),
-            &mut input,
-            &mut output,
-            &mut errors,
-        );
-        assert_eq!(rt; status, ExitCode::from(2));
+        let ended = ran(&rt, rt.alloc(), words, &mut input, &mut output);
+        assert_eq!(rt; ended.status, ExitCode::from(2));
         assert!(rt; output.is_empty());
-        assert!(rt; errors.starts_with(told.as_bytes()));
-        assert!(rt; errors.ends_with(b"\n\nFor more information, try '--help'.\n".as_slice()));
+        assert!(rt; ended.errors.starts_with(told.as_bytes()));
+        assert!(rt;
+            ended
+                .errors
+                .ends_with(b"\n\nFor more information, try '--help'.\n".as_slice())
+        );
     }
 }
 
@@ -271,18 +261,11 @@ fn answers_help_and_version(rt: HostRuntime) {
         ("--version", "farmd 0.1\n"),
     ];
     for (word, answer) in shown {
-        let (mut output, mut errors) = (Vec::new(rt.alloc()), Vec::new(rt.alloc()));
-        let status = run(
-            &rt,
-            &Words(&["farmd", word]),
-            rt.alloc(),
-            &mut Broken,
-            &mut output,
-            &mut errors,
-        );
-        assert_eq!(rt; status, ExitCode::SUCCESS);
+        let mut output = Vec::new(rt.alloc());
+        let ended = ran(&rt, rt.alloc(), &["farmd", word], &mut Broken, &mut output);
+        assert_eq!(rt; ended.status, ExitCode::SUCCESS);
         assert!(rt; output.starts_with(answer.as_bytes()));
-        assert!(rt; errors.is_empty());
+        assert!(rt; ended.errors.is_empty());
     }
 }
 
@@ -301,20 +284,13 @@ fn serves_as_asked(rt: HostRuntime) {
         ),
     ];
     for (words, told) in cases {
-        let (mut output, mut errors) = (Vec::new(rt.alloc()), Vec::new(rt.alloc()));
+        let mut output = Vec::new(rt.alloc());
         let mut input = RUN.as_bytes();
-        let status = run(
-            &rt,
-            &Words(words),
-            rt.alloc(),
-            &mut input,
-            &mut output,
-            &mut errors,
-        );
-        assert_eq!(rt; status, ExitCode::SUCCESS);
+        let ended = ran(&rt, rt.alloc(), words, &mut input, &mut output);
+        assert_eq!(rt; ended.status, ExitCode::SUCCESS);
         assert!(rt; output.starts_with(b"YES 19 19\nKEPT 0\n".as_slice()));
         assert!(rt; output.ends_with(told.as_bytes()));
-        assert!(rt; errors.is_empty());
+        assert!(rt; ended.errors.is_empty());
     }
 }
 
