@@ -1,5 +1,6 @@
 //! Batches to run, and what they come to.
 
+use crate::images::INCREMENT;
 use std::alloc::{AllocError, Global};
 use std::sync::Wait;
 use std::test::Fail;
@@ -7,8 +8,9 @@ use std::thread::Threads;
 use tp_accept::accept;
 use tp_board::Packet;
 use tp_collect::{Collected, Done, Entry, LostCause};
-use tp_farm::{Gate, Job, run_batch};
-use tp_link::{DeviceFault, FaultyWire, Link, LinkDevice, LinkFault, Links, Medium, Wire};
+use tp_farm::{Batch, Gate, Job, run_batch};
+use tp_link::{DeviceFault, FaultyWire, Link, LinkDevice, LinkFault, Links};
+use tp_members::{Media, boxed, media_of};
 
 /// The number of the batches here.
 pub(crate) const BATCH: u64 = 7;
@@ -64,7 +66,26 @@ pub(crate) fn count_up(alloc: Global, count: u32) -> Result<Vec<u32>, AllocError
     Ok(words)
 }
 
-/// What becomes of packets of one word each, when an image's worker runs on them.
+/// The batch of packets of one word each, when an image's worker runs on them.
+pub(crate) fn batch_on<R: Threads + Wait + Sync, D: LinkDevice + Send, G: Gate>(
+    rt: &R,
+    alloc: Global,
+    image: &[u8],
+    words: &[u32],
+    links: Vec<Links<D>>,
+    gate: &G,
+) -> Result<Batch<D>, Fail> {
+    let image = accept(alloc, Vec::from_slice(alloc, image)?)?;
+    let packets = packets(alloc, words)?;
+    let job = Job {
+        batch: BATCH,
+        image: &image,
+        packets: &packets,
+    };
+    Ok(run_batch(rt, alloc, &job, links, gate)?)
+}
+
+/// What becomes of these packets.
 pub(crate) fn run_on<R: Threads + Wait + Sync, D: LinkDevice + Send, G: Gate>(
     rt: &R,
     alloc: Global,
@@ -73,92 +94,51 @@ pub(crate) fn run_on<R: Threads + Wait + Sync, D: LinkDevice + Send, G: Gate>(
     links: Vec<Links<D>>,
     gate: &G,
 ) -> Result<Collected, Fail> {
-    let image = accept(alloc, Vec::from_slice(alloc, image)?)?;
-    let packets = packets(alloc, words)?;
-    let job = Job {
-        batch: BATCH,
-        image: &image,
-        packets: &packets,
-    };
-    let batch = run_batch(rt, alloc, &job, links, gate)?;
-    Ok(batch.collected)
+    Ok(batch_on(rt, alloc, image, words, links, gate)?.collected)
 }
 
-/// The media of one member's devices.
-#[derive(Drop)]
-pub(crate) struct Media {
-    pub(crate) source: Medium,
-    pub(crate) sink: Medium,
-    pub(crate) trace: Medium,
-}
-
-impl Media {
-    /// Each with room for 256 bytes.
-    pub(crate) fn new(alloc: Global) -> Result<Media, AllocError> {
-        Media::with_rooms(alloc, [256; 3])
-    }
-
-    /// With rooms for so many bytes in source, sink and trace.
-    pub(crate) fn with_rooms(alloc: Global, rooms: [usize; 3]) -> Result<Media, AllocError> {
-        Ok(Media {
-            source: Medium::new(alloc, rooms[0])?,
-            sink: Medium::new(alloc, rooms[1])?,
-            trace: Medium::new(alloc, rooms[2])?,
-        })
-    }
-
-    /// The media of so many members.
-    pub(crate) fn of_members(alloc: Global, members: usize) -> Result<Vec<Media>, AllocError> {
-        let mut all = Vec::new(alloc);
-        for _ in 0..members {
-            all.push(Media::new(alloc)?)?;
-        }
-        Ok(all)
-    }
-
-    /// Wires to these media.
-    pub(crate) fn wires(&mut self) -> Links<Wire<'_>> {
-        Links {
-            source: Wire::new(&mut self.source),
-            sink: Wire::new(&mut self.sink),
-            trace: Wire::new(&mut self.trace),
-        }
-    }
-
-    /// Wires that fail in their calls of these numbers, in source, sink and trace.
-    pub(crate) fn failing(&mut self, calls: [u64; 3]) -> Links<FaultyWire<'_>> {
-        Links {
-            source: FaultyWire::new(&mut self.source, calls[0]),
-            sink: FaultyWire::new(&mut self.sink, calls[1]),
-            trace: FaultyWire::new(&mut self.trace, calls[2]),
-        }
-    }
-
-    /// All three devices have ended.
-    pub(crate) fn ended(&self) -> bool {
-        self.source.ended() && self.sink.ended() && self.trace.ended()
-    }
-}
-
-/// Boxes of wires that borrow the media, a member for each.
-pub(crate) fn boxed(
+/// What is told of these packets where one member runs them.
+pub(crate) fn told_by_one<R: Threads + Wait + Sync, D: LinkDevice + Send, G: Gate>(
+    rt: &R,
     alloc: Global,
-    media: &mut [Media],
-) -> Result<Vec<Links<Box<Wire<'_>>>>, AllocError> {
-    let mut all = Vec::new(alloc);
-    for one in media.iter_mut() {
-        let Links {
-            source,
-            sink,
-            trace,
-        } = one.wires();
-        all.push(Links {
-            source: Box::new(alloc, source)?,
-            sink: Box::new(alloc, sink)?,
-            trace: Box::new(alloc, trace)?,
-        })?;
+    image: &[u8],
+    words: &[u32],
+    links: Links<D>,
+    gate: &G,
+) -> Result<Vec<Told>, Fail> {
+    let links = alone(alloc, links)?;
+    let collected = run_on(rt, alloc, image, words, links, gate)?;
+    Ok(all_told(alloc, &collected)?)
+}
+
+/// What becomes of the increments of these words, by so many members.
+pub(crate) fn increments_by<R: Threads + Wait + Sync, G: Gate>(
+    rt: &R,
+    alloc: Global,
+    words: &[u32],
+    members: usize,
+    gate: &G,
+) -> Result<Collected, Fail> {
+    let mut media = media_of(alloc, members, ROOM)?;
+    let links = boxed(alloc, &mut media)?;
+    run_on(rt, alloc, INCREMENT, words, links, gate)
+}
+
+/// The room of each medium in bytes, where nothing else is said.
+pub(crate) const ROOM: usize = 256;
+
+/// Wires that fail in their calls of these numbers, in source, sink and trace.
+pub(crate) fn failing(media: &mut Media, calls: [u64; 3]) -> Links<FaultyWire<'_>> {
+    Links {
+        source: FaultyWire::new(&mut media.source, calls[0]),
+        sink: FaultyWire::new(&mut media.sink, calls[1]),
+        trace: FaultyWire::new(&mut media.trace, calls[2]),
     }
-    Ok(all)
+}
+
+/// All three devices have ended.
+pub(crate) fn have_ended(media: &Media) -> bool {
+    media.source.ended() && media.sink.ended() && media.trace.ended()
 }
 
 /// A list of one.

@@ -1,30 +1,48 @@
 //! Members beside one another: the same batch by any number of them, and a batch that only threads can end.
 
-use crate::batches::{Media, Told, all_told, alone, boxed, count_up, run_on, same};
+use crate::batches::{ROOM, Told, all_told, alone, count_up, failing, increments_by, run_on, same};
 use crate::images::*;
+use std::alloc::{AllocError, Global};
+use std::sync::Wait;
 use std::sync::atomic::{AtomicU64, Ordering};
 use std::test::Fail;
-use std::thread;
+use std::thread::{self, Threads};
+use tp_collect::Collected;
 use tp_farm::{Gate, OpenGate};
 use tp_link::{EndedMedium, LinkDevice, Links, Medium, OwnedWire};
+use tp_members::Media;
+
+/// The increments of these words by one member, over faulty wires that never fail.
+fn increments_by_one<R: Threads + Wait + Sync>(
+    rt: &R,
+    alloc: Global,
+    words: &[u32],
+) -> Result<Collected, Fail> {
+    let mut media = Media::new(alloc, ROOM)?;
+    let links = alone(alloc, failing(&mut media, [0; 3]))?;
+    run_on(rt, alloc, INCREMENT, words, links, &OpenGate)
+}
+
+/// Each entry tells its word plus one.
+fn are_one_more(alloc: Global, words: &[u32], collected: &Collected) -> Result<bool, Fail> {
+    let all = all_told(alloc, collected)?;
+    for (one, word) in all.iter().zip(words.iter()) {
+        if *one != Told::Done(word.wrapping_add(1)) {
+            return Ok(false);
+        }
+    }
+    Ok(all.len() == words.len())
+}
 
 /// 1,024 packets by 1, 3 and 64 members come to the same.
 #[test]
 fn members_make_no_difference(rt: HostRuntime) -> Result<(), Fail> {
-    let alloc = rt.alloc();
-    let words = count_up(alloc, 1024)?;
-    let mut media = Media::new(alloc)?;
-    let links = alone(alloc, media.failing([0; 3]))?;
-    let by_one = run_on(&rt, alloc, INCREMENT, &words, links, &OpenGate)?;
-    let all = all_told(alloc, &by_one)?;
-    assert_eq!(rt; all.len(), 1024);
-    for (one, word) in all.iter().zip(words.iter()) {
-        assert_eq!(rt; *one, Told::Done(word.wrapping_add(1)));
-    }
+    let words = count_up(rt.alloc(), 1024)?;
+    let by_one = increments_by_one(&rt, rt.alloc(), &words)?;
+    assert_eq!(rt; by_one.entries.len(), 1024);
+    assert!(rt; are_one_more(rt.alloc(), &words, &by_one)?);
     for members in [3, 64] {
-        let mut media = Media::of_members(alloc, members)?;
-        let links = boxed(alloc, &mut media)?;
-        let by_many = run_on(&rt, alloc, INCREMENT, &words, links, &OpenGate)?;
+        let by_many = increments_by(&rt, rt.alloc(), &words, members, &OpenGate)?;
         assert!(rt; same(&by_one, &by_many), "{members}");
     }
     Ok(())
@@ -79,17 +97,48 @@ impl Gate for Holding {
     }
 }
 
-/// Four members over boxes of any device: the first four packets are held until all four are claimed, and the first
-/// until the other 63 are finished.
-#[test]
-fn members_claim_beside_one_another(rt: HostRuntime) -> Result<(), Fail> {
-    let alloc = rt.alloc();
+impl Holding {
+    /// The first so many numbers of a batch.
+    fn of(members: u64, packets: u64) -> Holding {
+        Holding {
+            members,
+            packets,
+            claims: AtomicU64::new(0),
+            finishes: AtomicU64::new(0),
+            ran_out: AtomicU64::new(0),
+        }
+    }
+}
+
+/// Wires of one member that own their media, whose places are added.
+fn owned_links(alloc: Global, ends: &mut Vec<EndedMedium>) -> Result<Links<OwnedWire>, AllocError> {
+    let (source, source_end) = OwnedWire::new(alloc, Medium::new(alloc, ROOM)?)?;
+    let (sink, sink_end) = OwnedWire::new(alloc, Medium::new(alloc, ROOM)?)?;
+    let (trace, trace_end) = OwnedWire::new(alloc, Medium::new(alloc, ROOM)?)?;
+    ends.push(source_end)?;
+    ends.push(sink_end)?;
+    ends.push(trace_end)?;
+    Ok(Links {
+        source,
+        sink,
+        trace,
+    })
+}
+
+/// The increments of 64 packets of 1 by four members, over boxes of any device.
+fn increments_by_any<R: Threads + Wait + Sync>(
+    rt: &R,
+    alloc: Global,
+    gate: &Holding,
+    ends: &mut Vec<EndedMedium>,
+) -> Result<Collected, Fail> {
     let mut members = Vec::new(alloc);
-    let mut ends: Vec<EndedMedium> = Vec::new(alloc);
     for _ in 0..4u8 {
-        let (source, source_end) = OwnedWire::new(alloc, Medium::new(alloc, 256)?)?;
-        let (sink, sink_end) = OwnedWire::new(alloc, Medium::new(alloc, 256)?)?;
-        let (trace, trace_end) = OwnedWire::new(alloc, Medium::new(alloc, 256)?)?;
+        let Links {
+            source,
+            sink,
+            trace,
+        } = owned_links(alloc, ends)?;
         let source: Box<dyn LinkDevice + Send> = Box::new(alloc, source)?;
         let sink: Box<dyn LinkDevice + Send> = Box::new(alloc, sink)?;
         let trace: Box<dyn LinkDevice + Send> = Box::new(alloc, trace)?;
@@ -98,24 +147,23 @@ fn members_claim_beside_one_another(rt: HostRuntime) -> Result<(), Fail> {
             sink,
             trace,
         })?;
-        ends.push(source_end)?;
-        ends.push(sink_end)?;
-        ends.push(trace_end)?;
     }
-    let gate = Holding {
-        members: 4,
-        packets: 64,
-        claims: AtomicU64::new(0),
-        finishes: AtomicU64::new(0),
-        ran_out: AtomicU64::new(0),
-    };
-    let collected = run_on(&rt, alloc, INCREMENT, &[1; 64], members, &gate)?;
-    let all = all_told(alloc, &collected)?;
-    assert_eq!(rt; all.len(), 64);
-    assert!(rt; all.iter().all(|one| *one == Told::Done(2)));
+    run_on(rt, alloc, INCREMENT, &[1; 64], members, gate)
+}
+
+/// Four members: the first four packets are held until all four are claimed, and the first until the other 63 are
+/// finished.
+#[test]
+fn members_claim_beside_one_another(rt: HostRuntime) -> Result<(), Fail> {
+    let mut ends = Vec::new(rt.alloc());
+    let gate = Holding::of(4, 64);
+    let collected = increments_by_any(&rt, rt.alloc(), &gate, &mut ends)?;
+    assert_eq!(rt; collected.entries.len(), 64);
+    assert!(rt; are_one_more(rt.alloc(), &[1; 64], &collected)?);
     assert_eq!(rt; gate.ran_out.load(Ordering::SeqCst), 0);
     assert_eq!(rt; gate.claims.load(Ordering::SeqCst), 64);
     assert_eq!(rt; gate.finishes.load(Ordering::SeqCst), 64);
+    assert_eq!(rt; ends.len(), 12);
     assert!(rt; ends.iter().all(|end| end.get().is_some()));
     Ok(())
 }

@@ -1,46 +1,75 @@
 //! Traces.
 
-use crate::batches::{BATCH, Media, Told, all_told, alone, run_on};
+use crate::batches::{BATCH, ROOM, Told, alone, run_on, told_by_one};
 use crate::images::*;
+use std::alloc::Global;
+use std::sync::Wait;
 use std::test::Fail;
-use tp_collect::Entry;
+use std::thread::Threads;
+use tp_collect::{Collected, Done, Entry};
 use tp_farm::OpenGate;
 use tp_link::{DeviceFault, Link};
+use tp_members::Media;
+
+/// What becomes of packets of two words by one member.
+fn both<R: Threads + Wait + Sync>(
+    rt: &R,
+    alloc: Global,
+    image: &[u8],
+    words: [u32; 2],
+) -> Result<Collected, Fail> {
+    let mut media = Media::new(alloc, ROOM)?;
+    let links = alone(alloc, media.wires())?;
+    run_on(rt, alloc, image, &words, links, &OpenGate)
+}
+
+/// The result is that of this packet, and result and trace are these bytes.
+fn is_traced(done: &Done, packet: u32, bytes: [u8; 4]) -> bool {
+    done.batch == BATCH
+        && done.packet == packet
+        && done.result.as_slice() == bytes.as_slice()
+        && done.trace.as_slice() == bytes.as_slice()
+        && done.steps == 19
+        && !done.error
+}
 
 #[test]
 fn a_trace_is_kept(rt: HostRuntime) -> Result<(), Fail> {
-    let alloc = rt.alloc();
-    let mut media = Media::new(alloc)?;
-    let links = alone(alloc, media.wires())?;
-    let collected = run_on(&rt, alloc, TRACES_ITS_PACKET, &[10, 11], links, &OpenGate)?;
-    assert_eq!(rt; collected.entries.len(), 2);
-    for (number, entry) in (0u8..2).zip(collected.entries.iter()) {
-        let Entry::Done(done) = entry else {
-            assert!(rt; false, "{number} is lost");
-            return Ok(());
-        };
-        let bytes = [10u8.wrapping_add(number), 0, 0, 0];
-        assert_eq!(rt; done.batch, BATCH);
-        assert_eq!(rt; done.packet, u32::from(number));
-        assert_eq!(rt; done.result.as_slice(), bytes.as_slice());
-        assert_eq!(rt; done.trace.as_slice(), bytes.as_slice());
-        assert_eq!(rt; done.steps, 19);
-        assert!(rt; !done.error);
+    let collected = both(&rt, rt.alloc(), TRACES_ITS_PACKET, [10, 11])?;
+    match collected.entries.as_slice() {
+        [Entry::Done(first), Entry::Done(second)] => {
+            assert!(rt; is_traced(first, 0, [10, 0, 0, 0]));
+            assert!(rt; is_traced(second, 1, [11, 0, 0, 0]));
+        }
+        _ => assert!(rt; false, "two results"),
     }
     Ok(())
+}
+
+/// What is told of two packets that are traced 65 times, in a trace with this room.
+fn told_of_long_traces<R: Threads + Wait + Sync>(
+    rt: &R,
+    alloc: Global,
+    room: usize,
+) -> Result<Vec<Told>, Fail> {
+    let mut media = Media::with_rooms(alloc, ROOM, ROOM, room)?;
+    told_by_one(
+        rt,
+        alloc,
+        TRACES_65_TIMES,
+        &[0, 0],
+        media.wires(),
+        &OpenGate,
+    )
 }
 
 /// With room for 256 bytes the 65th message is refused. With room for it, the trace is too long in the end.
 #[test]
 fn a_long_trace_is_lost(rt: HostRuntime) -> Result<(), Fail> {
-    let alloc = rt.alloc();
     let lost = Told::Lost(Link::Trace, DeviceFault::Full);
     for room in [0, 256, 259, 260, 1000] {
-        let mut media = Media::with_rooms(alloc, [256, 256, room])?;
-        let links = alone(alloc, media.wires())?;
-        let collected = run_on(&rt, alloc, TRACES_65_TIMES, &[0, 0], links, &OpenGate)?;
-        let all = all_told(alloc, &collected)?;
-        assert_eq!(rt; all.as_slice(), [lost, lost].as_slice(), "{room}");
+        let all = told_of_long_traces(&rt, rt.alloc(), room)?;
+        assert!(rt; all.as_slice() == [lost, lost].as_slice(), "{room}");
     }
     Ok(())
 }
@@ -48,21 +77,14 @@ fn a_long_trace_is_lost(rt: HostRuntime) -> Result<(), Fail> {
 /// The error flag of each packet is its own.
 #[test]
 fn an_error_flag_is_told(rt: HostRuntime) -> Result<(), Fail> {
-    let alloc = rt.alloc();
-    let mut media = Media::new(alloc)?;
-    let links = alone(alloc, media.wires())?;
-    let collected = run_on(&rt, alloc, INCREMENT, &[0x7FFF_FFFF, 1], links, &OpenGate)?;
-    let all = all_told(alloc, &collected)?;
-    assert_eq!(rt;
-        all.as_slice(),
-        [Told::Done(0x8000_0000), Told::Done(2)].as_slice()
-    );
-    let mut flags = [false, true];
-    for (flag, entry) in flags.iter_mut().zip(collected.entries.iter()) {
-        if let Entry::Done(done) = entry {
-            *flag = done.error;
+    let collected = both(&rt, rt.alloc(), INCREMENT, [0x7FFF_FFFF, 1])?;
+    match collected.entries.as_slice() {
+        [Entry::Done(first), Entry::Done(second)] => {
+            assert!(rt; first.error && !second.error);
+            assert_eq!(rt; first.result.as_slice(), [0, 0, 0, 0x80].as_slice());
+            assert_eq!(rt; second.result.as_slice(), [2, 0, 0, 0].as_slice());
         }
+        _ => assert!(rt; false, "two results"),
     }
-    assert_eq!(rt; flags, [true, false]);
     Ok(())
 }
