@@ -2,30 +2,15 @@
 
 use crate::images::*;
 use crate::texts::{FOUR_THOUSAND, NINE_HUNDRED, many_jumps};
-use std::alloc::{AllocError, Global};
+use std::alloc::Global;
 use std::test::Fail;
 use tp_accept::{Accepted, accept};
-use tp_link::{LinkDevice, Links, Medium, Wire};
+use tp_link::LinkDevice;
 use tp_machine::{Machine, Outcome, RunFault};
+use tp_members::Media;
 
-/// The media of three wires.
-#[derive(Drop)]
-pub(crate) struct Media {
-    pub(crate) source: Medium,
-    pub(crate) sink: Medium,
-    pub(crate) trace: Medium,
-}
-
-impl Media {
-    /// Each with room for 256 bytes.
-    pub(crate) fn new(alloc: Global) -> Result<Media, AllocError> {
-        Ok(Media {
-            source: Medium::new(alloc, 256)?,
-            sink: Medium::new(alloc, 256)?,
-            trace: Medium::new(alloc, 256)?,
-        })
-    }
-}
+/// The room of each medium in bytes.
+const ROOM: usize = 256;
 
 /// What a run of a packet answers, and what the media hold after it.
 pub(crate) fn run_packet(
@@ -34,12 +19,8 @@ pub(crate) fn run_packet(
     accepted: &Accepted,
     packet: &[u8],
 ) -> Result<(Result<Outcome, RunFault>, Media), Fail> {
-    let mut media = Media::new(alloc)?;
-    let mut links = Links {
-        source: Wire::new(&mut media.source),
-        sink: Wire::new(&mut media.sink),
-        trace: Wire::new(&mut media.trace),
-    };
+    let mut media = Media::new(alloc, ROOM)?;
+    let mut links = media.wires();
     links.source.send(packet)?;
     let answered = machine.run(accepted, &mut links);
     drop(links);

@@ -3,41 +3,17 @@
 use crate::answer::{Answer, same_if};
 use crate::calls::INCREMENT;
 use arrayvec::ArrayVec;
-use std::alloc::{AllocError, Global};
+use std::alloc::Global;
 use std::sync::Wait;
 use std::thread::Threads;
 use tp_accept::{Accepted, Refusal, accept};
 use tp_board::Packet;
 use tp_collect::{Collected, Entry};
 use tp_farm::{FarmFault, Job, OpenGate, run_batch};
-use tp_link::{Links, Medium, Wire};
+use tp_members::Media;
 
-/// The media of a member's devices.
-#[derive(Drop)]
-struct Media {
-    source: Medium,
-    sink: Medium,
-    trace: Medium,
-}
-
-impl Media {
-    /// Each with room for 16 bytes.
-    fn new(alloc: Global) -> Result<Media, AllocError> {
-        Ok(Media {
-            source: Medium::new(alloc, 16)?,
-            sink: Medium::new(alloc, 16)?,
-            trace: Medium::new(alloc, 16)?,
-        })
-    }
-
-    fn wires(&mut self) -> Links<Wire<'_>> {
-        Links {
-            source: Wire::new(&mut self.source),
-            sink: Wire::new(&mut self.sink),
-            trace: Wire::new(&mut self.trace),
-        }
-    }
-}
+/// The room of each medium in bytes.
+const ROOM: usize = 16;
 
 /// Running a batch. A thread that cannot be started for want of memory is answered as G4, and counts as memory refused.
 pub fn batch<R: Threads + Wait + Sync>(rt: &R, alloc: Global) -> Answer {
@@ -66,8 +42,8 @@ fn increments<R: Threads + Wait + Sync>(
     alloc: Global,
     image: &Accepted,
 ) -> Result<Collected, FarmFault> {
-    let mut first = Media::new(alloc)?;
-    let mut second = Media::new(alloc)?;
+    let mut first = Media::new(alloc, ROOM)?;
+    let mut second = Media::new(alloc, ROOM)?;
     let mut links = Vec::with_capacity(alloc, 2)?;
     links.push_reserved(first.wires());
     links.push_reserved(second.wires());

@@ -1,57 +1,15 @@
 //! A farm of wires, and what is served on it.
 
-use std::alloc::{AllocError, Global};
+use std::alloc::Global;
 use std::io::{Read, Write};
 use std::sync::Wait;
 use std::test::Fail;
 use std::thread::Threads;
-use tp_link::{Links, Medium, Wire};
+use tp_members::{boxed, media_of};
 use tp_session::{Farm, ServeFault, serve};
 
-/// The media of one member's devices.
-#[derive(Drop)]
-struct Media {
-    source: Medium,
-    sink: Medium,
-    trace: Medium,
-}
-
-impl Media {
-    /// Each with room for 256 bytes.
-    fn new(alloc: Global) -> Result<Media, AllocError> {
-        Ok(Media {
-            source: Medium::new(alloc, 256)?,
-            sink: Medium::new(alloc, 256)?,
-            trace: Medium::new(alloc, 256)?,
-        })
-    }
-
-    fn wires(&mut self) -> Links<Wire<'_>> {
-        Links {
-            source: Wire::new(&mut self.source),
-            sink: Wire::new(&mut self.sink),
-            trace: Wire::new(&mut self.trace),
-        }
-    }
-}
-
-/// Boxes of wires to these media, a member for each.
-fn boxed(alloc: Global, media: &mut [Media]) -> Result<Vec<Links<Box<Wire<'_>>>>, AllocError> {
-    let mut links = Vec::new(alloc);
-    for one in media.iter_mut() {
-        let Links {
-            source,
-            sink,
-            trace,
-        } = one.wires();
-        links.push(Links {
-            source: Box::new(alloc, source)?,
-            sink: Box::new(alloc, sink)?,
-            trace: Box::new(alloc, trace)?,
-        })?;
-    }
-    Ok(links)
-}
+/// The room of each medium in bytes.
+const ROOM: usize = 256;
 
 /// Serves on so many members, of which there are 1 to 64.
 pub fn serve_on<T: Threads + Wait + Sync, R: Read, W: Write>(
@@ -62,10 +20,7 @@ pub fn serve_on<T: Threads + Wait + Sync, R: Read, W: Write>(
     reader: &mut R,
     writer: &mut W,
 ) -> Result<(), ServeFault> {
-    let mut media = Vec::new(alloc);
-    for _ in 0..members {
-        media.push(Media::new(alloc)?)?;
-    }
+    let mut media = media_of(alloc, members, ROOM)?;
     let links = boxed(alloc, &mut media)?;
     if links.is_empty() || links.len() > 64 {
         return Err(ServeFault::Limit);
@@ -94,4 +49,25 @@ pub fn push_line(input: &mut Vec<u8>, parts: &[&str]) -> Result<(), Fail> {
     }
     input.push(b'\n')?;
     Ok(())
+}
+
+/// An input of these lines, of two parts each.
+pub fn input_of(alloc: Global, lines: &[(&str, &str)]) -> Result<Vec<u8>, Fail> {
+    let mut input = Vec::new(alloc);
+    for (head, rest) in lines {
+        push_line(&mut input, &[*head, *rest])?;
+    }
+    Ok(input)
+}
+
+/// Whether this is written for an input, where no traces are told.
+pub fn answers<T: Threads + Wait + Sync>(
+    rt: &T,
+    alloc: Global,
+    members: usize,
+    input: &[u8],
+    wanted: &[u8],
+) -> Result<bool, ServeFault> {
+    let written = served(rt, alloc, members, false, input)?;
+    Ok(written.as_slice() == wanted)
 }

@@ -1,6 +1,6 @@
 //! Listings, and lines of any length.
 
-use crate::farms::served;
+use crate::farms::{answers, served};
 use std::alloc::{AllocError, Global};
 use std::test::Fail;
 
@@ -38,8 +38,8 @@ const LISTINGS: [(&str, &str); 18] = [
 #[test]
 fn listings(rt: HostRuntime) -> Result<(), Fail> {
     for (input, output) in LISTINGS.iter() {
-        let written = served(&rt, rt.alloc(), 1, false, input.as_bytes())?;
-        assert!(rt; written.as_slice() == output.as_bytes(), "{input}");
+        let same = answers(&rt, rt.alloc(), 1, input.as_bytes(), output.as_bytes())?;
+        assert!(rt; same, "{input}");
     }
     Ok(())
 }
@@ -54,19 +54,29 @@ fn long_line(alloc: Global, instructions: usize, end: &[u8]) -> Result<Vec<u8>, 
     Ok(line)
 }
 
-#[test]
-fn the_longest_line(rt: HostRuntime) -> Result<(), Fail> {
-    let mut input = long_line(rt.alloc(), 16_381, b"\r\n")?;
-    assert_eq!(rt; input.len(), 32_769);
+/// Two lines: so many instructions, and one more.
+fn two_listings(alloc: Global, instructions: usize, end: &[u8]) -> Result<Vec<u8>, AllocError> {
+    let mut input = long_line(alloc, instructions, end)?;
     input.extend_from_slice(b"LIST 604F\n")?;
-    let written = served(&rt, rt.alloc(), 1, false, &input)?;
+    Ok(input)
+}
+
+fn count_lines(text: &[u8]) -> usize {
     let mut lines = 0usize;
-    for byte in &written {
+    for byte in text {
         if *byte == b'\n' {
             lines = lines.saturating_add(1);
         }
     }
-    assert_eq!(rt; lines, 16_384);
+    lines
+}
+
+#[test]
+fn the_longest_line(rt: HostRuntime) -> Result<(), Fail> {
+    let input = two_listings(rt.alloc(), 16_381, b"\r\n")?;
+    assert_eq!(rt; input.len(), 32_779);
+    let written = served(&rt, rt.alloc(), 1, false, &input)?;
+    assert_eq!(rt; count_lines(&written), 16_384);
     assert!(rt; written.starts_with(b"0 41 ldc 1\n1 41 ldc 1\n"));
     assert!(rt; written.ends_with(b"\n16380 41 ldc 1\nDONE 16381\n0 604f ldc -1\nDONE 1\n"));
     Ok(())
@@ -74,27 +84,37 @@ fn the_longest_line(rt: HostRuntime) -> Result<(), Fail> {
 
 #[test]
 fn a_line_too_long(rt: HostRuntime) -> Result<(), Fail> {
-    let mut input = long_line(rt.alloc(), 16_382, b"\n")?;
-    assert_eq!(rt; input.len(), 32_770);
-    input.extend_from_slice(b"LIST 604F\n")?;
-    let written = served(&rt, rt.alloc(), 1, false, &input)?;
-    assert!(rt; written.as_slice() == b"NO E1 1\n0 604f ldc -1\nDONE 1\n".as_slice());
+    let input = two_listings(rt.alloc(), 16_382, b"\n")?;
+    assert_eq!(rt; input.len(), 32_780);
+    let wanted = b"NO E1 1\n0 604f ldc -1\nDONE 1\n";
+    assert!(rt; answers(&rt, rt.alloc(), 1, &input, wanted)?);
     Ok(())
+}
+
+/// 1,500 listings, each followed by a line that is refused.
+fn many_listings(alloc: Global) -> Result<Vec<u8>, AllocError> {
+    let mut input = Vec::new(alloc);
+    for _ in 1..1_501u32 {
+        input.extend_from_slice(b"LIST 604F\nHELLO\n")?;
+    }
+    Ok(input)
+}
+
+fn many_answers(alloc: Global) -> Result<String, AllocError> {
+    let mut output = String::new(alloc);
+    for pair in 1..1_501u32 {
+        let refused = pair.saturating_mul(2);
+        let told = format!(in alloc; "0 604f ldc -1\nDONE 1\nNO E1 {refused}\n")?;
+        output.push_str(told.as_str())?;
+    }
+    Ok(output)
 }
 
 /// An input of 3,000 lines, each second of which is refused.
 #[test]
 fn many_lines(rt: HostRuntime) -> Result<(), Fail> {
-    let mut input = Vec::new(rt.alloc());
-    let mut output = String::new(rt.alloc());
-    for pair in 1..1_501u32 {
-        input.extend_from_slice(b"LIST 604F\nHELLO\n")?;
-        let refused = pair.saturating_mul(2);
-        output.push_str(format!(in rt.alloc();
-            "0 604f ldc -1\nDONE 1\nNO E1 {refused}\n"
-        )?.as_str())?;
-    }
-    let written = served(&rt, rt.alloc(), 1, false, &input)?;
-    assert!(rt; written.as_slice() == output.as_bytes());
+    let input = many_listings(rt.alloc())?;
+    let output = many_answers(rt.alloc())?;
+    assert!(rt; answers(&rt, rt.alloc(), 1, &input, output.as_bytes())?);
     Ok(())
 }

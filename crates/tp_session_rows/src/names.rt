@@ -1,6 +1,7 @@
 //! Every instruction by its name, as the Compiler Writer's Guide spells it.
 
-use crate::farms::served;
+use crate::farms::answers;
+use std::alloc::{AllocError, Global};
 use std::test::Fail;
 
 /// Each instruction of the table: its code, and what is listed for it.
@@ -47,15 +48,27 @@ const NAMES: [(&str, &str); 40] = [
     ("25f3", "mul"),
 ];
 
+/// A line that lists each code.
+fn all_codes(alloc: Global) -> Result<Vec<u8>, AllocError> {
+    let mut input = Vec::new(alloc);
+    for (code, _) in NAMES.iter() {
+        input.extend_from_slice(format!(in alloc; "LIST {code}\n")?.as_bytes())?;
+    }
+    Ok(input)
+}
+
+fn all_names(alloc: Global) -> Result<Vec<u8>, AllocError> {
+    let mut output = Vec::new(alloc);
+    for (code, text) in NAMES.iter() {
+        output.extend_from_slice(format!(in alloc; "0 {code} {text}\nDONE 1\n")?.as_bytes())?;
+    }
+    Ok(output)
+}
+
 #[test]
 fn every_name(rt: HostRuntime) -> Result<(), Fail> {
-    let mut input = Vec::new(rt.alloc());
-    let mut output = String::new(rt.alloc());
-    for (code, text) in NAMES.iter() {
-        input.extend_from_slice(format!(in rt.alloc(); "LIST {code}\n")?.as_bytes())?;
-        output.push_str(format!(in rt.alloc(); "0 {code} {text}\nDONE 1\n")?.as_str())?;
-    }
-    let written = served(&rt, rt.alloc(), 1, false, &input)?;
-    assert!(rt; written.as_slice() == output.as_bytes());
+    let input = all_codes(rt.alloc())?;
+    let output = all_names(rt.alloc())?;
+    assert!(rt; answers(&rt, rt.alloc(), 1, &input, &output)?);
     Ok(())
 }

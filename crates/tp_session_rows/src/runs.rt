@@ -1,7 +1,7 @@
 //! Images, and the runs of packets.
 
 use crate::cases::{Case, INCREMENT, RUNS, VERDICTS};
-use crate::farms::{push_line, served};
+use crate::farms::{answers, input_of, push_line, served};
 use std::alloc::Global;
 use std::test::Fail;
 
@@ -32,10 +32,11 @@ fn packets_are_run(rt: HostRuntime) -> Result<(), Fail> {
 #[test]
 fn images_are_judged(rt: HostRuntime) -> Result<(), Fail> {
     for (name, image, answer) in VERDICTS.iter() {
-        let mut input = Vec::new(rt.alloc());
-        push_line(&mut input, &["a IMAGE ", image])?;
-        let written = served(&rt, rt.alloc(), 1, false, &input)?;
-        assert!(rt; written.as_slice() == answer.as_bytes(), "{name}");
+        let input = input_of(rt.alloc(), &[("a IMAGE ", *image)])?;
+        assert!(rt;
+            answers(&rt, rt.alloc(), 1, &input, answer.as_bytes())?,
+            "{name}"
+        );
     }
     Ok(())
 }
@@ -52,50 +53,69 @@ fn long_image(alloc: Global, head: &str, times: usize) -> Result<Vec<u8>, Fail> 
     Ok(input)
 }
 
+/// What a long image begins with, how many pairs of instructions it has, and what is answered.
+const LONG: [(&str, usize, &str); 2] = [
+    (
+        "5450573115070C0008000100010000001024F25444F7",
+        900,
+        "YES 1813 1813\nKEPT 0\nR 0 0 1813 07000000\nDONE 1\n",
+    ),
+    (
+        "545057324D1F0C00080001000100000000001024F25444F7",
+        4000,
+        "YES 8013 8013\nKEPT 0\nR 0 0 8013 07000000\nDONE 1\n",
+    ),
+];
+
 #[test]
 fn long_codes(rt: HostRuntime) -> Result<(), Fail> {
-    let cases = [
-        (
-            "5450573115070C0008000100010000001024F25444F7",
-            900,
-            "YES 1813 1813\nKEPT 0\nR 0 0 1813 07000000\nDONE 1\n",
-        ),
-        (
-            "545057324D1F0C00080001000100000000001024F25444F7",
-            4000,
-            "YES 8013 8013\nKEPT 0\nR 0 0 8013 07000000\nDONE 1\n",
-        ),
-    ];
-    for (head, times, answers) in cases {
-        let input = long_image(rt.alloc(), head, times)?;
-        let written = served(&rt, rt.alloc(), 1, false, &input)?;
-        assert!(rt; written.as_slice() == answers.as_bytes(), "{times}");
+    for (head, times, wanted) in LONG.iter() {
+        let input = long_image(rt.alloc(), head, *times)?;
+        assert!(rt;
+            answers(&rt, rt.alloc(), 1, &input, wanted.as_bytes())?,
+            "{times}"
+        );
     }
     Ok(())
+}
+
+/// A session of 1,024 packets, and its run.
+fn full_batch(alloc: Global) -> Result<Vec<u8>, Fail> {
+    let mut input = input_of(alloc, &[("a IMAGE ", INCREMENT)])?;
+    for _ in 0..1024 {
+        push_line(&mut input, &["a PACKET 01000000"])?;
+    }
+    push_line(&mut input, &["a RUN"])?;
+    Ok(input)
+}
+
+/// 1,024 lines of a number each, between two texts.
+fn push_numbers(alloc: Global, lines: &mut Vec<u8>, before: &str, after: &str) -> Result<(), Fail> {
+    for number in 0u32..1024 {
+        let text = format!(in alloc; "{number}")?;
+        push_line(lines, &[before, text.as_str(), after])?;
+    }
+    Ok(())
+}
+
+fn full_answers(alloc: Global) -> Result<Vec<u8>, Fail> {
+    let mut wanted = Vec::from_slice(alloc, b"YES 16 16\n")?;
+    push_numbers(alloc, &mut wanted, "KEPT ", "")?;
+    push_numbers(alloc, &mut wanted, "R ", " 0 16 02000000")?;
+    push_line(&mut wanted, &["DONE 1024"])?;
+    Ok(wanted)
 }
 
 /// The number of members does not show.
 #[test]
 fn a_full_batch(rt: HostRuntime) -> Result<(), Fail> {
-    let alloc = rt.alloc();
-    let mut input = Vec::new(alloc);
-    push_line(&mut input, &["a IMAGE ", INCREMENT])?;
-    let mut wanted = Vec::new(alloc);
-    push_line(&mut wanted, &["YES 16 16"])?;
-    for number in 0u32..1024 {
-        push_line(&mut input, &["a PACKET 01000000"])?;
-        let line = format!(in alloc; "KEPT {number}")?;
-        push_line(&mut wanted, &[line.as_str()])?;
-    }
-    push_line(&mut input, &["a RUN"])?;
-    for number in 0u32..1024 {
-        let line = format!(in alloc; "R {number} 0 16 02000000")?;
-        push_line(&mut wanted, &[line.as_str()])?;
-    }
-    push_line(&mut wanted, &["DONE 1024"])?;
+    let input = full_batch(rt.alloc())?;
+    let wanted = full_answers(rt.alloc())?;
     for members in [1, 3, 64] {
-        let written = served(&rt, alloc, members, false, &input)?;
-        assert!(rt; written.as_slice() == wanted.as_slice(), "{members}");
+        assert!(rt;
+            answers(&rt, rt.alloc(), members, &input, &wanted)?,
+            "{members}"
+        );
     }
     Ok(())
 }

@@ -1,9 +1,12 @@
 //! Readers and writers that give and take little at a time, or fail.
 
-use crate::farms::{serve_on, served};
+use crate::farms::{answers, serve_on};
+use std::alloc::Global;
 use std::io;
 use std::io::{ErrorKind, Read, Write};
+use std::sync::Wait;
 use std::test::Fail;
+use std::thread::Threads;
 use tp_session::ServeFault;
 
 /// Gives one byte a call, and fails in call number `failing`, counted from 1; never where that is 0.
@@ -92,21 +95,32 @@ const INPUT: &[u8] = b"LIST 604F\nHELLO\nLIST 24F2\r\nLIST 41F3";
 
 const OUTPUT: &[u8] = b"0 604f ldc -1\nDONE 1\nNO E1 2\n0 24f2 mint\nDONE 1\nNO D3 1\n";
 
-#[test]
-fn a_byte_at_a_time(rt: HostRuntime) -> Result<(), Fail> {
+/// What is written for an input that is read and written a byte at a time.
+fn served_by_bytes<T: Threads + Wait + Sync>(
+    rt: &T,
+    alloc: Global,
+    members: usize,
+    input: &[u8],
+) -> Result<Vec<u8>, ServeFault> {
     let mut reader = Trickle {
-        rest: INPUT,
+        rest: input,
         calls: 0,
         failing: 0,
     };
     let mut writer = Narrow {
-        taken: Vec::new(rt.alloc()),
+        taken: Vec::new(alloc),
         calls: 0,
         failing: 0,
     };
-    serve_on(&rt, rt.alloc(), 1, false, &mut reader, &mut writer)?;
-    assert!(rt; writer.taken.as_slice() == OUTPUT);
-    assert!(rt; served(&rt, rt.alloc(), 1, false, INPUT)?.as_slice() == OUTPUT);
+    serve_on(rt, alloc, members, false, &mut reader, &mut writer)?;
+    Ok(writer.taken)
+}
+
+#[test]
+fn a_byte_at_a_time(rt: HostRuntime) -> Result<(), Fail> {
+    let written = served_by_bytes(&rt, rt.alloc(), 1, INPUT)?;
+    assert!(rt; written.as_slice() == OUTPUT);
+    assert!(rt; answers(&rt, rt.alloc(), 1, INPUT, OUTPUT)?);
     Ok(())
 }
 
@@ -136,34 +150,57 @@ fn written_after(read: usize) -> usize {
     }
 }
 
+/// Whether serving an input ends with a read fault and this is written, where this read fails.
+fn read_fails_as<T: Threads + Wait + Sync>(
+    rt: &T,
+    alloc: Global,
+    input: &[u8],
+    failing: usize,
+    wanted: &[u8],
+) -> bool {
+    let mut reader = Trickle {
+        rest: input,
+        calls: 0,
+        failing,
+    };
+    let mut writer = Vec::new(alloc);
+    let result = serve_on(rt, alloc, 1, false, &mut reader, &mut writer);
+    result == Err(ServeFault::Read) && writer.as_slice() == wanted
+}
+
 #[test]
 fn each_read_fails(rt: HostRuntime) {
     for failing in 1..38 {
-        let mut reader = Trickle {
-            rest: INPUT,
-            calls: 0,
-            failing,
-        };
-        let mut writer = Vec::new(rt.alloc());
-        let result = serve_on(&rt, rt.alloc(), 1, false, &mut reader, &mut writer);
-        assert_eq!(rt; result, Err(ServeFault::Read));
         let wanted = OUTPUT.get(..written_after(failing - 1)).unwrap_or(OUTPUT);
-        assert!(rt; writer.as_slice() == wanted, "{failing}");
+        let same = read_fails_as(&rt, rt.alloc(), INPUT, failing, wanted);
+        assert!(rt; same, "{failing}");
     }
+}
+
+/// Whether serving an input ends with a write fault and a beginning of the output is taken, where this write or flush
+/// fails.
+fn write_fails_within<T: Threads + Wait + Sync>(
+    rt: &T,
+    alloc: Global,
+    input: &[u8],
+    failing: usize,
+    output: &[u8],
+) -> bool {
+    let mut reader = input;
+    let mut writer = Narrow {
+        taken: Vec::new(alloc),
+        calls: 0,
+        failing,
+    };
+    let result = serve_on(rt, alloc, 1, false, &mut reader, &mut writer);
+    result == Err(ServeFault::Write) && output.starts_with(writer.taken.as_slice())
 }
 
 #[test]
 fn each_write_fails(rt: HostRuntime) {
     for failing in 1..61 {
-        let mut reader = INPUT;
-        let mut writer = Narrow {
-            taken: Vec::new(rt.alloc()),
-            calls: 0,
-            failing,
-        };
-        let result = serve_on(&rt, rt.alloc(), 1, false, &mut reader, &mut writer);
-        assert_eq!(rt; result, Err(ServeFault::Write));
-        assert!(rt; OUTPUT.starts_with(writer.taken.as_slice()), "{failing}");
+        let same = write_fails_within(&rt, rt.alloc(), INPUT, failing, OUTPUT);
+        assert!(rt; same, "{failing}");
     }
 }
 
@@ -196,34 +233,17 @@ fn told_after(read: usize) -> usize {
 
 #[test]
 fn a_session_a_byte_at_a_time(rt: HostRuntime) -> Result<(), Fail> {
-    let mut reader = Trickle {
-        rest: SESSION,
-        calls: 0,
-        failing: 0,
-    };
-    let mut writer = Narrow {
-        taken: Vec::new(rt.alloc()),
-        calls: 0,
-        failing: 0,
-    };
-    serve_on(&rt, rt.alloc(), 4, false, &mut reader, &mut writer)?;
-    assert!(rt; writer.taken.as_slice() == TOLD);
+    let written = served_by_bytes(&rt, rt.alloc(), 4, SESSION)?;
+    assert!(rt; written.as_slice() == TOLD);
     Ok(())
 }
 
 #[test]
 fn each_read_of_a_session_fails(rt: HostRuntime) {
     for failing in 1..141 {
-        let mut reader = Trickle {
-            rest: SESSION,
-            calls: 0,
-            failing,
-        };
-        let mut writer = Vec::new(rt.alloc());
-        let result = serve_on(&rt, rt.alloc(), 1, false, &mut reader, &mut writer);
-        assert_eq!(rt; result, Err(ServeFault::Read));
         let wanted = TOLD.get(..told_after(failing - 1)).unwrap_or(TOLD);
-        assert!(rt; writer.as_slice() == wanted, "{failing}");
+        let same = read_fails_as(&rt, rt.alloc(), SESSION, failing, wanted);
+        assert!(rt; same, "{failing}");
     }
 }
 
@@ -231,14 +251,7 @@ fn each_read_of_a_session_fails(rt: HostRuntime) {
 #[test]
 fn each_write_of_a_session_fails(rt: HostRuntime) {
     for failing in 1..106 {
-        let mut reader = SESSION;
-        let mut writer = Narrow {
-            taken: Vec::new(rt.alloc()),
-            calls: 0,
-            failing,
-        };
-        let result = serve_on(&rt, rt.alloc(), 1, false, &mut reader, &mut writer);
-        assert_eq!(rt; result, Err(ServeFault::Write));
-        assert!(rt; TOLD.starts_with(writer.taken.as_slice()), "{failing}");
+        let same = write_fails_within(&rt, rt.alloc(), SESSION, failing, TOLD);
+        assert!(rt; same, "{failing}");
     }
 }
