@@ -44,6 +44,17 @@ fn assert_judged(rt: &(impl Abort + AllocGlobal), bytes: &[u8], expected: Refusa
     assert_eq!(rt; judged(rt, bytes).err(), expected);
 }
 
+/// That a code with these loop rows is refused so, or passes.
+fn assert_code_judged(
+    rt: &(impl Abort + AllocGlobal),
+    rows: &[Fields],
+    code: &[u8],
+    expected: Refusal,
+) {
+    let bytes = image_bytes(rt.alloc(), rows, code).expect(rt, "an image");
+    assert_judged(rt, bytes.as_slice(), expected);
+}
+
 #[test]
 fn judges_samples(rt: HostRuntime) {
     let samples: [(&[u8], Refusal); 7] = [
@@ -91,17 +102,15 @@ const SINGLE_ROWS: [(Fields, bool); 18] = [
 ];
 
 #[test]
-fn judges_single_rows(rt: HostRuntime) -> Result<(), Fail> {
+fn judges_single_rows(rt: HostRuntime) {
     for (row, passes) in SINGLE_ROWS {
-        let bytes = image_bytes(rt.alloc(), &[row], SUM_CODE)?;
         let refusal = if passes {
             None
         } else {
             Some((FlowCode::J6, 0))
         };
-        assert_judged(&rt, bytes.as_slice(), refusal);
+        assert_code_judged(&rt, &[row], SUM_CODE, refusal);
     }
-    Ok(())
 }
 
 /// Heads and lends of rows over a code, and its refusal.
@@ -142,17 +151,31 @@ const ROWS_AMONG_OTHERS: [(&[(u16, u16)], &[u8], Refusal); 15] = [
     ),
 ];
 
-#[test]
-fn judges_rows_among_others(rt: HostRuntime) -> Result<(), Fail> {
-    for (ranges, code, expected) in ROWS_AMONG_OTHERS {
-        let mut rows = Vec::new(rt.alloc());
-        for (head, lend) in ranges {
-            rows.push((*head, *lend, 10, 10, 0))?;
-        }
-        let bytes = image_bytes(rt.alloc(), rows.as_slice(), code)?;
-        assert_judged(&rt, bytes.as_slice(), expected);
+/// Rows of ten turns, from these heads to these lends.
+fn rows_over(alloc: Global, ranges: &[(u16, u16)]) -> Result<Vec<Fields>, AllocError> {
+    let mut rows = Vec::new(alloc);
+    for (head, lend) in ranges {
+        rows.push((*head, *lend, 10, 10, 0))?;
     }
-    Ok(())
+    Ok(rows)
+}
+
+/// That a code with such rows is refused so, or passes.
+fn assert_ranges_judged(
+    rt: &(impl Abort + AllocGlobal),
+    ranges: &[(u16, u16)],
+    code: &[u8],
+    expected: Refusal,
+) {
+    let rows = rows_over(rt.alloc(), ranges).expect(rt, "rows");
+    assert_code_judged(rt, rows.as_slice(), code, expected);
+}
+
+#[test]
+fn judges_rows_among_others(rt: HostRuntime) {
+    for (ranges, code, expected) in ROWS_AMONG_OTHERS {
+        assert_ranges_judged(&rt, ranges, code, expected);
+    }
 }
 
 /// Rows and a code, and its refusal.
@@ -215,56 +238,85 @@ const CODES: [(&[Fields], &[u8], Refusal); 19] = [
 ];
 
 #[test]
-fn judges_instructions(rt: HostRuntime) -> Result<(), Fail> {
+fn judges_instructions(rt: HostRuntime) {
     for (rows, code, expected) in CODES {
-        let bytes = image_bytes(rt.alloc(), rows, code)?;
-        assert_judged(&rt, bytes.as_slice(), expected);
+        assert_code_judged(&rt, rows, code, expected);
     }
-    Ok(())
+}
+
+/// The nest of an image's loops.
+fn nest_of(rt: &(impl Abort + AllocGlobal), bytes: &[u8]) -> Nest {
+    judged(rt, bytes).expect(rt, "a nest")
 }
 
 #[test]
-fn answers_of_a_nest(rt: HostRuntime) -> Result<(), Fail> {
-    let nest = judged(&rt, SUM_TO_TEN).map_err(|_| "a nest")?;
-    assert!(rt; nest.contains(0, 12) && nest.contains(0, 18));
-    assert!(rt; !nest.contains(0, 11) && !nest.contains(0, 19) && !nest.contains(1, 12));
+fn knows_what_lies_in_a_loop(rt: HostRuntime) {
+    let nest = nest_of(&rt, SUM_TO_TEN);
+    let inside = [
+        nest.contains(0, 11),
+        nest.contains(0, 12),
+        nest.contains(0, 18),
+        nest.contains(0, 19),
+        nest.contains(1, 12),
+    ];
+    assert_eq!(rt; inside, [false, true, true, false, false]);
     assert_eq!(rt; (nest.lend_row(18), nest.lend_row(12)), (Some(0), None));
-    let lend = [Edge::Next, Edge::Taken, Edge::Back, Edge::Out].map(|edge| nest.target(
-        18,
-        20,
-        Instr::Lend,
-        edge,
-    ));
-    assert_eq!(rt; lend, [None, None, Some(12), Some(20)]);
-    assert_eq!(rt; nest.target(0, 1, Instr::Jump(5), Edge::Taken), Some(6));
-    assert_eq!(rt; nest.target(0, 2, Instr::Jump(-3), Edge::Taken), None);
-    assert_eq!(rt; nest.target(0, 1, Instr::Jump(5), Edge::Next), None);
-    assert_eq!(rt; nest.target(0, 1, Instr::Cj(5), Edge::Next), Some(1));
-    assert_eq!(rt; nest.target(0, 1, Instr::Stopp, Edge::Next), None);
-    Ok(())
 }
 
 #[test]
-fn tells_loops_by_number(rt: HostRuntime) -> Result<(), Fail> {
-    // Loop 0 from 2 to 4 lies in loop 1 from 1 to 7.
+fn leads_along_edges(rt: HostRuntime) {
+    let nest = nest_of(&rt, SUM_TO_TEN);
+    let ways = [
+        (18, 20, Instr::Lend, Edge::Next, None),
+        (18, 20, Instr::Lend, Edge::Taken, None),
+        (18, 20, Instr::Lend, Edge::Back, Some(12)),
+        (18, 20, Instr::Lend, Edge::Out, Some(20)),
+        (0, 1, Instr::Jump(5), Edge::Taken, Some(6)),
+        (0, 2, Instr::Jump(-3), Edge::Taken, None),
+        (0, 1, Instr::Jump(5), Edge::Next, None),
+        (0, 1, Instr::Cj(5), Edge::Next, Some(1)),
+        (0, 1, Instr::Stopp, Edge::Next, None),
+    ];
+    for (at, next, instr, edge, target) in ways {
+        assert_eq!(rt; nest.target(at, next, instr, edge), target);
+    }
+}
+
+/// The nest of a loop from 2 to 4 that lies in one from 1 to 7.
+fn nest_of_two(rt: &(impl Abort + AllocGlobal)) -> Nest {
     let rows = [(2, 4, 10, 10, 0), (1, 7, 12, 10, 0)];
-    let bytes = image_bytes(rt.alloc(), &rows, TWO_LENDS)?;
-    let nest = judged(&rt, bytes.as_slice()).map_err(|_| "a nest")?;
+    let bytes = image_bytes(rt.alloc(), &rows, TWO_LENDS).expect(rt, "an image");
+    nest_of(rt, bytes.as_slice())
+}
+
+#[test]
+fn tells_the_loops_around(rt: HostRuntime) {
+    let nest = nest_of_two(&rt);
     let around: [(usize, &[usize]); 5] = [(0, &[]), (1, &[1]), (3, &[0, 1]), (6, &[1]), (9, &[])];
     for (at, rows) in around {
         assert_eq!(rt; nest.around(at).as_slice(), rows, "at {at}");
     }
-    assert_eq!(rt;
-        (nest.entered(0, 1), nest.entered(1, 2)),
-        (Some(1), Some(0))
-    );
-    assert_eq!(rt; (nest.entered(4, 2), nest.entered(2, 3)), (None, None));
-    assert_eq!(rt; nest.range(1), Some(LoopRange { head: 1, lend: 7 }));
-    assert_eq!(rt; nest.range(2), None);
+}
+
+#[test]
+fn tells_loops_by_number(rt: HostRuntime) {
+    let nest = nest_of_two(&rt);
+    let entered = [
+        nest.entered(0, 1),
+        nest.entered(1, 2),
+        nest.entered(4, 2),
+        nest.entered(2, 3),
+    ];
+    assert_eq!(rt; entered, [Some(1), Some(0), None, None]);
+    let ranges = (nest.range(1), nest.range(2));
+    assert_eq!(rt; ranges, (Some(LoopRange { head: 1, lend: 7 }), None));
+}
+
+#[test]
+fn tells_edges(rt: HostRuntime) {
     assert_eq!(rt; edges(Instr::Cj(0)), [Edge::Next, Edge::Taken].as_slice());
     assert_eq!(rt; edges(Instr::Lend), [Edge::Back, Edge::Out].as_slice());
     assert_eq!(rt; edges(Instr::Stopp).len(), 0);
-    Ok(())
 }
 
 #[test]

@@ -47,31 +47,42 @@ pub(crate) fn refused(code: StateCode, place: usize) -> Option<StateFault> {
     Some(StateFault::Refused { code, place })
 }
 
-#[test]
-fn refuses_small_codes(rt: HostRuntime) {
-    assert_eq!(rt; refusal(&rt, READS_AFTER_JUMP), refused(StateCode::S1, 8));
-    assert_eq!(rt; refusal(&rt, LONG_PACKET), refused(StateCode::S7, 5));
-    assert_eq!(rt; refusal(&rt, SENDS_TWICE), refused(StateCode::S9, 15));
-    assert_eq!(rt; refusal(&rt, WILD_SUBSCRIPT), refused(StateCode::S3, 8));
-    assert_eq!(rt;
-        refusal(&rt, MOVES_IN_VERSION_1),
-        refused(StateCode::S11, 10)
-    );
+/// That a code is refused so on its way, or passes.
+fn assert_first_refusal(
+    rt: &(impl Abort + AllocGlobal),
+    bytes: &[u8],
+    expected: Option<StateFault>,
+) {
+    assert_eq!(rt; refusal(rt, bytes), expected);
 }
 
 #[test]
-fn passes_small_codes(rt: HostRuntime) {
-    assert_eq!(rt; refusal(&rt, MASKED_SUBSCRIPT), None);
-    assert_eq!(rt; refusal(&rt, WITH_A_FIRST_WORD), None);
+fn judges_small_codes(rt: HostRuntime) {
+    let codes: [(&[u8], Option<StateFault>); 7] = [
+        (READS_AFTER_JUMP, refused(StateCode::S1, 8)),
+        (LONG_PACKET, refused(StateCode::S7, 5)),
+        (SENDS_TWICE, refused(StateCode::S9, 15)),
+        (WILD_SUBSCRIPT, refused(StateCode::S3, 8)),
+        (MOVES_IN_VERSION_1, refused(StateCode::S11, 10)),
+        (MASKED_SUBSCRIPT, None),
+        (WITH_A_FIRST_WORD, None),
+    ];
+    for (bytes, expected) in codes {
+        assert_first_refusal(&rt, bytes, expected);
+    }
+}
+
+/// A copy of the state at the start of a worker.
+fn copy_of_the_start(rt: &(impl Abort + AllocGlobal), bytes: &[u8]) -> State {
+    let image = read_image(rt.alloc(), bytes).expect(rt, "an image");
+    let state = State::entry(rt.alloc(), &image).expect(rt, "a state");
+    state.copy_of(rt.alloc()).expect(rt, "a copy")
 }
 
 #[test]
 fn begins_with_the_first_words(rt: HostRuntime) {
-    let image = read_image(rt.alloc(), WITH_A_FIRST_WORD).expect(&rt, "an image");
-    let state = State::entry(rt.alloc(), &image).expect(&rt, "a state");
-    let copy = state.copy_of(rt.alloc()).expect(&rt, "a copy");
-    assert_eq!(rt; copy.wptr, 8);
-    assert_eq!(rt; copy.cells.get(0), Cell::Known(42));
-    assert_eq!(rt; copy.cells.get(15), Cell::Known(0));
-    assert_eq!(rt; copy.cells.get(16), Cell::Undef);
+    let copy = copy_of_the_start(&rt, WITH_A_FIRST_WORD);
+    let cells = (copy.cells.get(0), copy.cells.get(15), copy.cells.get(16));
+    let expected = (Cell::Known(42), Cell::Known(0), Cell::Undef);
+    assert_eq!(rt; (copy.wptr, cells), (8, expected));
 }

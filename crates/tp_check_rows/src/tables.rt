@@ -17,8 +17,11 @@ fn verdict(rt: &(impl Abort + AllocGlobal), bytes: &[u8]) -> Result<Table, State
     check_states(rt.alloc(), &image, &listing, &nest)
 }
 
+/// The refusal, if there is one, the passes and the outcomes.
+type Count = (Option<StateFault>, u64, u64);
+
 /// The refusal, if there is one, and what the passes take up to there or to the end.
-fn counted(rt: &(impl Abort + AllocGlobal), bytes: &[u8]) -> (Option<StateFault>, u64, u64) {
+fn counted(rt: &(impl Abort + AllocGlobal), bytes: &[u8]) -> Count {
     let (image, listing) = read(rt, bytes);
     let nest = check_flow(&image, &listing).expect(rt, "a nest");
     let mut effort = Effort::default();
@@ -35,92 +38,122 @@ fn increment_with(at: usize, byte: u8) -> [u8; 32]
     bytes
 }
 
+/// The refusal of a worker, if the passes refuse it.
+fn refusal(rt: &(impl Abort + AllocGlobal), bytes: &[u8]) -> Option<StateFault> {
+    verdict(rt, bytes).err()
+}
+
+/// That the passes refuse a worker so.
+fn assert_refused(rt: &(impl Abort + AllocGlobal), bytes: &[u8], code: StateCode, place: usize) {
+    assert_eq!(rt; refusal(rt, bytes), refused(code, place));
+}
+
 #[test]
 fn refuses_with_code_and_place(rt: HostRuntime) {
-    assert_eq!(rt;
-        verdict(&rt, READS_AFTER_JUMP).err(),
-        refused(StateCode::S1, 8)
-    );
-    assert_eq!(rt; verdict(&rt, LONG_PACKET).err(), refused(StateCode::S7, 5));
-    assert_eq!(rt; verdict(&rt, SENDS_TWICE).err(), refused(StateCode::S9, 15));
-    assert_eq!(rt;
-        verdict(&rt, WILD_SUBSCRIPT).err(),
-        refused(StateCode::S3, 8)
-    );
-    assert_eq!(rt; verdict(&rt, READS_BELOW).err(), refused(StateCode::S4, 6));
-    assert_eq!(rt;
-        verdict(&rt, STORES_THE_COUNT).err(),
-        refused(StateCode::S5, 15)
-    );
-    assert_eq!(rt;
-        verdict(&rt, MOVES_IN_VERSION_1).err(),
-        refused(StateCode::S11, 10)
-    );
-    assert_eq!(rt;
-        verdict(&rt, MOVES_IN_PLACE).err(),
-        refused(StateCode::S3, 9)
-    );
-    assert_eq!(rt; verdict(&rt, WILD_SHIFT).err(), refused(StateCode::S10, 8));
+    let workers: [(&[u8], StateCode, usize); 9] = [
+        (READS_AFTER_JUMP, StateCode::S1, 8),
+        (LONG_PACKET, StateCode::S7, 5),
+        (SENDS_TWICE, StateCode::S9, 15),
+        (WILD_SUBSCRIPT, StateCode::S3, 8),
+        (READS_BELOW, StateCode::S4, 6),
+        (STORES_THE_COUNT, StateCode::S5, 15),
+        (MOVES_IN_VERSION_1, StateCode::S11, 10),
+        (MOVES_IN_PLACE, StateCode::S3, 9),
+        (WILD_SHIFT, StateCode::S10, 8),
+    ];
+    for (bytes, code, place) in workers {
+        assert_refused(&rt, bytes, code, place);
+    }
 }
 
 #[test]
 fn refuses_changes_of_one_byte(rt: HostRuntime) {
-    assert_eq!(rt;
-        verdict(&rt, &increment_with(0, 0xB8)).err(),
-        refused(StateCode::S6, 0)
-    );
-    assert_eq!(rt;
-        verdict(&rt, &increment_with(0, 0x40)).err(),
-        refused(StateCode::S2, 5)
-    );
-    assert_eq!(rt;
-        verdict(&rt, &increment_with(3, 0x53)).err(),
-        refused(StateCode::S8, 5)
-    );
+    assert_refused(&rt, &increment_with(0, 0xB8), StateCode::S6, 0);
+    assert_refused(&rt, &increment_with(0, 0x40), StateCode::S2, 5);
+    assert_refused(&rt, &increment_with(3, 0x53), StateCode::S8, 5);
 }
 
 #[test]
-fn finds_tables(rt: HostRuntime) {
-    assert!(rt; verdict(&rt, &INCREMENT).is_ok());
-    assert!(rt; verdict(&rt, MASKED_SUBSCRIPT).is_ok());
-    let table = verdict(&rt, TWO_WAYS).expect(&rt, "a table");
-    let meeting = table.at(13).expect(&rt, "a state");
-    assert_eq!(rt; meeting.cells.get(9), Cell::Any);
-    assert!(rt; table.at(14).is_some());
-    assert!(rt; table.at(1).is_some() && table.at(2).is_none() && table.at(22).is_none());
+fn passes_whole_workers(rt: HostRuntime) {
+    assert_eq!(rt; refusal(&rt, &INCREMENT), None);
+    assert_eq!(rt; refusal(&rt, MASKED_SUBSCRIPT), None);
 }
 
+/// A table that the passes find.
+fn found(rt: &(impl Abort + AllocGlobal), bytes: &[u8]) -> Table {
+    verdict(rt, bytes).expect(rt, "a table")
+}
+
+/// That in the state at an address these words are known so.
+fn assert_cells(rt: &impl Abort, table: &Table, at: usize, cells: &[(usize, Cell)]) {
+    let state = table.at(at).expect(rt, "a state");
+    for (word, cell) in cells {
+        assert_eq!(rt; state.cells.get(*word), *cell, "word {word} at {at}");
+    }
+}
+
+#[test]
+fn finds_a_table(rt: HostRuntime) {
+    let table = found(&rt, TWO_WAYS);
+    assert_cells(&rt, &table, 13, &[(9, Cell::Any)]);
+    let known = [
+        table.at(1).is_some(),
+        table.at(2).is_some(),
+        table.at(14).is_some(),
+        table.at(22).is_some(),
+    ];
+    assert_eq!(rt; known, [true, false, true, false]);
+}
+
+/// What a state says but of its cells: Wptr, the phase, Areg and Breg.
+type Registers = (u32, u8, Kind, Kind);
+
+/// That the state at an address says so.
+fn assert_registers(rt: &impl Abort, table: &Table, at: usize, registers: Registers) {
+    let state = table.at(at).expect(rt, "a state");
+    assert_eq!(rt; (state.wptr, state.phase, state.a, state.b), registers);
+}
+
+/// At the head, before the sum, before the lend, and at the end.
+#[test]
+fn knows_the_registers_along_a_loop(rt: HostRuntime) {
+    let table = found(&rt, SUM_TO_TEN_THOUSAND);
+    let states = [
+        (15, (8, 1, Kind::Undef, Kind::Undef)),
+        (
+            17,
+            (8, 1, Kind::Int(0, 9999), Kind::Int(i32::MIN, i32::MAX)),
+        ),
+        (21, (8, 1, Kind::Int(8, 8), Kind::Ptr(10, 10))),
+        (28, (8, 2, Kind::Undef, Kind::Undef)),
+    ];
+    for (at, registers) in states {
+        assert_registers(&rt, &table, at, registers);
+    }
+}
+
+/// What stands in the workspace at the head.
+const CELLS_AT_THE_HEAD: [(usize, Cell); 6] = [
+    (2, Cell::Known(0)),
+    (3, Cell::Undef),
+    (8, Cell::Any),
+    (9, Cell::Any),
+    (10, Cell::Index(0)),
+    (11, Cell::Count(0)),
+];
+
+/// At the head, behind the loop, and at the end.
 #[test]
 fn knows_what_a_loop_leaves(rt: HostRuntime) {
-    let table = verdict(&rt, SUM_TO_TEN_THOUSAND).expect(&rt, "a table");
-    let head = table.at(15).expect(&rt, "a state at the head");
-    assert_eq!(rt; (head.wptr, head.phase, head.a), (8, 1, Kind::Undef));
-    assert_eq!(rt;
-        (head.cells.get(2), head.cells.get(3)),
-        (Cell::Known(0), Cell::Undef)
-    );
-    assert_eq!(rt;
-        (head.cells.get(8), head.cells.get(9)),
-        (Cell::Any, Cell::Any)
-    );
-    assert_eq!(rt;
-        (head.cells.get(10), head.cells.get(11)),
-        (Cell::Index(0), Cell::Count(0))
-    );
-    let sum = table.at(17).expect(&rt, "a state before the sum");
-    assert_eq!(rt;
-        (sum.a, sum.b),
-        (Kind::Int(0, 9999), Kind::Int(i32::MIN, i32::MAX))
-    );
-    let lend = table.at(21).expect(&rt, "a state before the lend");
-    assert_eq!(rt; (lend.a, lend.b), (Kind::Int(8, 8), Kind::Ptr(10, 10)));
-    let behind = table.at(23).expect(&rt, "a state behind the loop");
-    assert_eq!(rt;
-        (behind.cells.get(10), behind.cells.get(11)),
-        (Cell::Undef, Cell::Undef)
-    );
-    let end = table.at(28).expect(&rt, "a state at the end");
-    assert_eq!(rt; (end.phase, end.cells.get(9)), (2, Cell::Any));
+    let table = found(&rt, SUM_TO_TEN_THOUSAND);
+    assert_cells(&rt, &table, 15, &CELLS_AT_THE_HEAD);
+    assert_cells(&rt, &table, 23, &[(10, Cell::Undef), (11, Cell::Undef)]);
+    assert_cells(&rt, &table, 28, &[(9, Cell::Any)]);
+}
+
+/// That the passes take so much.
+fn assert_counted(rt: &(impl Abort + AllocGlobal), bytes: &[u8], expected: Count) {
+    assert_eq!(rt; counted(rt, bytes), expected);
 }
 
 /// A pass that makes the states has an outcome for each instruction, and one more for a cj and for a lend; a last pass sees
@@ -128,24 +161,22 @@ fn knows_what_a_loop_leaves(rt: HostRuntime) {
 #[test]
 fn counts_passes_and_outcomes(rt: HostRuntime) {
     // 13 instructions, one behind the other, stopp with them
-    assert_eq!(rt; counted(&rt, &INCREMENT), (None, 2, 13));
+    assert_counted(&rt, &INCREMENT, (None, 2, 13));
     // 19 instructions with a cj; its ways meet before what follows is taken
-    assert_eq!(rt; counted(&rt, TWO_WAYS), (None, 2, 19 + 1));
+    assert_counted(&rt, TWO_WAYS, (None, 2, 19 + 1));
     // 23 instructions with a lend; then the sum is a number that is not known, from 15 to 18, and stored as before
-    assert_eq!(rt; counted(&rt, SUM_TO_TEN_THOUSAND), (None, 3, 23 + 1 + 4));
+    assert_counted(&rt, SUM_TO_TEN_THOUSAND, (None, 3, 23 + 1 + 4));
 }
 
 /// A refused outcome is the last that is counted.
 #[test]
 fn counts_up_to_a_refusal(rt: HostRuntime) {
     // 8 instructions up to the add
-    assert_eq!(rt;
-        counted(&rt, READS_AFTER_JUMP),
-        (refused(StateCode::S1, 8), 1, 8)
-    );
+    assert_counted(&rt, READS_AFTER_JUMP, (refused(StateCode::S1, 8), 1, 8));
     // 24 instructions with a lend, and then those at 12, 13 and 14 again
-    assert_eq!(rt;
-        counted(&rt, WILD_IN_LATER_TURNS),
-        (refused(StateCode::S3, 14), 2, 24 + 1 + 3)
+    assert_counted(
+        &rt,
+        WILD_IN_LATER_TURNS,
+        (refused(StateCode::S3, 14), 2, 24 + 1 + 3),
     );
 }

@@ -1,111 +1,113 @@
 //! Runs that end in a fault, and what they leave.
 
-use crate::media::{make_media, media_with_sink_room, wires};
-use crate::runs::{run, run_over};
+use crate::media::{Media, make_media, media_with_sink_room, wires};
+use crate::runs::{Answer, Left, Task, assert_left, assert_run, ended, run_over};
+use std::alloc::Global;
 use std::test::Fail;
-use tp_image::read_image;
+use tp_image::{Image, read_image};
 use tp_link::{DeviceFault, FaultyWire, Link, LinkDevice, LinkFault, Links};
-use tp_machine::{Machine, Outcome, RunFault};
+use tp_machine::{Machine, RunFault};
 use tp_step_runs::table::INCREMENT;
+
+/// The increment of a packet, within a limit.
+fn increment(packet: &[u8], limit: u32) -> Task<'_> {
+    Task {
+        image: INCREMENT,
+        packet,
+        limit,
+    }
+}
 
 #[test]
 fn stops_at_the_limit(rt: HostRuntime) -> Result<(), Fail> {
-    let seen = run(
-        rt.alloc(),
-        &mut Machine::new(),
-        INCREMENT,
-        &[1, 0, 0, 0],
-        16,
-    )?;
-    assert_eq!(rt;
-        seen.answer,
-        Ok(Outcome {
-            error: false,
-            steps: 16
-        })
-    );
-    assert_eq!(rt; seen.media.sink.bytes(), [2, 0, 0, 0].as_slice());
-    let cut = run(
-        rt.alloc(),
-        &mut Machine::new(),
-        INCREMENT,
-        &[1, 0, 0, 0],
-        15,
-    )?;
-    assert_eq!(rt; cut.answer, Err(RunFault::Limit));
-    assert_eq!(rt; cut.media.sink.bytes(), [2, 0, 0, 0].as_slice());
+    let left = Left {
+        source: &[],
+        sink: &[2, 0, 0, 0],
+        trace: &[],
+    };
+    for (limit, wanted) in [(16, ended(false, 16)), (15, Err(RunFault::Limit))] {
+        let task = increment(&[1, 0, 0, 0], limit);
+        assert_run(&rt, &mut Machine::new(), task, wanted, left)?;
+    }
     Ok(())
 }
 
 /// A refusal by a device.
-fn refused(link: Link, code: DeviceFault) -> Result<Outcome, RunFault> {
+fn refused(link: Link, code: DeviceFault) -> Answer {
     Err(RunFault::Link(LinkFault { link, code }))
 }
 
 #[test]
 fn a_short_source_keeps_its_bytes(rt: HostRuntime) -> Result<(), Fail> {
-    let seen = run(rt.alloc(), &mut Machine::new(), INCREMENT, &[1, 0, 0], 100)?;
-    assert_eq!(rt; seen.answer, refused(Link::Source, DeviceFault::Short));
-    assert_eq!(rt; seen.media.source.bytes(), [1, 0, 0].as_slice());
-    assert_eq!(rt; seen.media.sink.bytes().len(), 0);
-    Ok(())
+    let left = Left {
+        source: &[1, 0, 0],
+        sink: &[],
+        trace: &[],
+    };
+    let task = increment(&[1, 0, 0], 100);
+    let wanted = refused(Link::Source, DeviceFault::Short);
+    assert_run(&rt, &mut Machine::new(), task, wanted, left)
 }
 
 #[test]
 fn a_full_sink_refuses(rt: HostRuntime) -> Result<(), Fail> {
-    let media = media_with_sink_room(rt.alloc(), 3)?;
-    let seen = run_over(
-        rt.alloc(),
-        media,
-        &mut Machine::new(),
-        INCREMENT,
-        &[1, 0, 0, 0],
-        100,
-    )?;
-    assert_eq!(rt; seen.answer, refused(Link::Sink, DeviceFault::Full));
-    assert_eq!(rt; seen.media.source.bytes().len(), 0);
-    assert_eq!(rt; seen.media.sink.bytes().len(), 0);
+    let mut media = media_with_sink_room(rt.alloc(), 3)?;
+    let task = increment(&[1, 0, 0, 0], 100);
+    let answer = run_over(rt.alloc(), &mut media, &mut Machine::new(), task)?;
+    assert_eq!(rt; answer, refused(Link::Sink, DeviceFault::Full));
+    assert_left(&rt, &media, Left::default());
     Ok(())
+}
+
+/// What a run answers over a closed sink, and how many bytes its source still holds.
+fn run_over_closed_sink(alloc: Global, media: &mut Media) -> Result<(Answer, usize), Fail> {
+    let image = read_image(alloc, INCREMENT)?;
+    let mut links = wires(media);
+    links.source.send(&[1, 0, 0, 0])?;
+    links.sink.close();
+    let answer = Machine::new().run_image(&image, &mut links, 100);
+    Ok((answer, links.source.held()))
 }
 
 #[test]
 fn a_closed_sink_refuses(rt: HostRuntime) -> Result<(), Fail> {
-    let image = read_image(rt.alloc(), INCREMENT)?;
     let mut media = make_media(rt.alloc())?;
-    let mut links = wires(&mut media);
-    let mut machine = Machine::new();
-    links.source.send(&[1, 0, 0, 0])?;
-    links.sink.close();
-    let answer = machine.run_image(&image, &mut links, 100);
-    assert_eq!(rt; answer, refused(Link::Sink, DeviceFault::Closed));
-    assert_eq!(rt; links.source.held(), 0);
+    let seen = run_over_closed_sink(rt.alloc(), &mut media)?;
+    assert_eq!(rt; seen, (refused(Link::Sink, DeviceFault::Closed), 0));
     Ok(())
+}
+
+/// Wires over these media, whose source fails at its second call.
+fn failing_wires(media: &mut Media) -> Links<FaultyWire<'_>> {
+    Links {
+        source: FaultyWire::new(&mut media.source, 2),
+        sink: FaultyWire::new(&mut media.sink, 0),
+        trace: FaultyWire::new(&mut media.trace, 0),
+    }
+}
+
+/// What a run answers over these wires.
+fn run_over_failing(
+    machine: &mut Machine,
+    image: &Image,
+    links: &mut Links<FaultyWire<'_>>,
+) -> Answer {
+    machine.run_image(image, links, 100)
 }
 
 #[test]
 fn a_failing_source_keeps_the_packet(rt: HostRuntime) -> Result<(), Fail> {
     let image = read_image(rt.alloc(), INCREMENT)?;
     let mut media = make_media(rt.alloc())?;
-    let mut links = Links {
-        source: FaultyWire::new(&mut media.source, 2),
-        sink: FaultyWire::new(&mut media.sink, 0),
-        trace: FaultyWire::new(&mut media.trace, 0),
-    };
+    let mut links = failing_wires(&mut media);
     let mut machine = Machine::new();
     links.source.send(&[1, 0, 0, 0])?;
-    let answer = machine.run_image(&image, &mut links, 100);
+    let answer = run_over_failing(&mut machine, &image, &mut links);
     assert_eq!(rt; answer, refused(Link::Source, DeviceFault::Failed));
-    assert_eq!(rt; links.source.held(), 4);
-    assert_eq!(rt; links.source.faults(), 1);
+    assert_eq!(rt; (links.source.held(), links.source.faults()), (4, 1));
     // the same machine, in which a run was cut off, and the same packet
-    let again = machine.run_image(&image, &mut links, 100);
-    assert_eq!(rt;
-        again,
-        Ok(Outcome {
-            error: false,
-            steps: 16
-        })
-    );
+    let again = run_over_failing(&mut machine, &image, &mut links);
+    assert_eq!(rt; again, ended(false, 16));
     Ok(())
 }
 
