@@ -1,7 +1,11 @@
 //! Boards that one thread draws from through two seats, and boards that are refused.
+ghost use Rattle.std.specs.Prelude.{◌≡◌, All, IfSome};
+ghost use Rattle.tp_board.specs.Boards.{IsSeatOf};
 
+use std::alloc::Global;
+use std::process::Abort;
 use std::test::Fail;
-use tp_board::{Board, BoardFault, Claim, CloseFault, Ledger, Shown};
+use tp_board::{Board, BoardFault, Claim, CloseFault, Ledger, Seat, Shown};
 
 #[test]
 fn sizes_refused(rt: HostRuntime) {
@@ -21,32 +25,106 @@ fn sizes_refused(rt: HostRuntime) {
     assert!(rt; Board::new(rt.alloc(), 1024, 64).is_ok());
 }
 
+/// A board of two seats.
+fn board_of_two(alloc: Global, packets: u32) -> Option<(Board, Seat, Seat)>
+    ensures zero { IfSome result (λ r. IsSeatOf r.0 r.1) }
+    ensures one { IfSome result (λ r. IsSeatOf r.0 r.2) }
+{
+    let (board, mut seats) = Board::new(alloc, packets, 2).ok()?;
+    let one = seats.pop()?;
+    let zero = seats.pop()?;
+    Some((board, zero, one))
+}
+
+/// A call of a board, with the answer that is wanted.
+#[derive(Clone, Copy)]
+enum Step {
+    Claim(Claim),
+    Finish(Result<u32, BoardFault>),
+    Abandon(Result<u32, BoardFault>),
+    Look(Shown, u64),
+    Stop,
+}
+
+fn assert_step(rt: &impl Abort, board: &Board, seat: &mut Seat, step: &Step, place: usize)
+    requires { IsSeatOf board.now seat.old }
+    ensures { IsSeatOf board.now seat.new }
+{
+    match step {
+        Step::Claim(claim) => assert_eq!(rt; board.claim(seat), *claim, "step {place}"),
+        Step::Finish(number) => assert_eq!(rt; board.finish(seat), *number, "step {place}"),
+        Step::Abandon(number) => assert_eq!(rt; board.abandon(seat), *number, "step {place}"),
+        Step::Look(what, value) => {
+            assert_eq!(rt; board.look(seat, *what), *value, "step {place}")
+        }
+        Step::Stop => board.stop(seat),
+    }
+}
+
+/// Makes each step with the seat of its number.
+fn assert_steps(
+    rt: &impl Abort,
+    board: &Board,
+    zero: &mut Seat,
+    one: &mut Seat,
+    steps: &[(u8, Step)],
+)
+    requires zero { IsSeatOf board.now zero.old }
+    requires one { IsSeatOf board.now one.old }
+    ensures zero { IsSeatOf board.now zero.new }
+    ensures one { IsSeatOf board.now one.new }
+{
+    for (place, (seat, step)) in steps.iter().enumerate() {
+        match seat {
+            0 => assert_step(rt, board, zero, step, place),
+            _ => assert_step(rt, board, one, step, place),
+        }
+    }
+}
+
+/// Without its second seat the board and the first one come back.
+fn refused_close(alloc: Global, board: Board, zero: Seat) -> Option<(Board, Vec<Seat>)>
+    requires { IsSeatOf board zero }
+    ensures board { IfSome result (λ r. r.0 ≡ board) }
+    ensures seats { IfSome result (λ r. All (IsSeatOf r.0) r.1.items) }
+{
+    let mut seats = Vec::new(alloc);
+    seats.push(zero).ok()?;
+    match board.close(seats) {
+        Ok(_) => None,
+        Err(CloseFault { board, seats }) => Some((board, seats)),
+    }
+}
+
+fn closed(board: Board, mut seats: Vec<Seat>, last: Seat) -> Option<Ledger>
+    requires seats { All (IsSeatOf board) seats.items }
+    requires last { IsSeatOf board last }
+{
+    seats.push(last).ok()?;
+    board.close(seats).ok()
+}
+
+const THREE_PACKETS: [(u8, Step); 13] = [
+    (0, Step::Claim(Claim::Packet(0))),
+    (0, Step::Claim(Claim::Busy(0))),
+    (1, Step::Claim(Claim::Packet(1))),
+    (0, Step::Finish(Ok(0))),
+    (0, Step::Claim(Claim::Packet(2))),
+    (1, Step::Abandon(Ok(1))),
+    (1, Step::Claim(Claim::NoMore)),
+    (1, Step::Finish(Err(BoardFault::EmptyHand))),
+    (1, Step::Abandon(Err(BoardFault::EmptyHand))),
+    (0, Step::Look(Shown::Claimed, 3)),
+    (0, Step::Look(Shown::Done, 1)),
+    (0, Step::Look(Shown::Lost, 1)),
+    (0, Step::Look(Shown::Stop, 0)),
+];
+
 #[test]
 fn board_of_three_packets(rt: HostRuntime) -> Result<(), Fail> {
-    let (board, mut seats) = Board::new(rt.alloc(), 3, 2)?;
-    let mut one = seats.pop().ok_or("no second seat")?;
-    let mut zero = seats.pop().ok_or("no first seat")?;
-    assert_eq!(rt; board.claim(&mut zero), Claim::Packet(0));
-    assert_eq!(rt; board.claim(&mut zero), Claim::Busy(0));
-    assert_eq!(rt; board.claim(&mut one), Claim::Packet(1));
-    assert_eq!(rt; board.finish(&mut zero), Ok(0));
-    assert_eq!(rt; board.claim(&mut zero), Claim::Packet(2));
-    assert_eq!(rt; board.abandon(&mut one), Ok(1));
-    assert_eq!(rt; board.claim(&mut one), Claim::NoMore);
-    assert_eq!(rt; board.finish(&mut one), Err(BoardFault::EmptyHand));
-    assert_eq!(rt; board.abandon(&mut one), Err(BoardFault::EmptyHand));
-    assert_eq!(rt; board.look(&mut zero, Shown::Claimed), 3);
-    assert_eq!(rt; board.look(&mut zero, Shown::Done), 1);
-    assert_eq!(rt; board.look(&mut zero, Shown::Lost), 1);
-    assert_eq!(rt; board.look(&mut zero, Shown::Stop), 0);
-
-    // Without the second seat the board and the first one come back.
-    seats.push(zero)?;
-    let Err(CloseFault { board, mut seats }) = board.close(seats) else {
-        assert!(rt; false, "closed without a seat");
-        return Ok(());
-    };
-    seats.push(one)?;
+    let (board, mut zero, mut one) = board_of_two(rt.alloc(), 3).ok_or("no board")?;
+    assert_steps(&rt, &board, &mut zero, &mut one, &THREE_PACKETS);
+    let (board, seats) = refused_close(rt.alloc(), board, zero).ok_or("closed without a seat")?;
     let wanted = Ledger {
         drawn: 3,
         done: 1,
@@ -54,21 +132,21 @@ fn board_of_three_packets(rt: HostRuntime) -> Result<(), Fail> {
         in_hand: 1,
         stopped: false,
     };
-    assert_eq!(rt; board.close(seats).ok(), Some(wanted));
+    assert_eq!(rt; closed(board, seats, one), Some(wanted));
     Ok(())
 }
 
+const STOPPED: [(u8, Step); 4] = [
+    (0, Step::Stop),
+    (1, Step::Stop),
+    (0, Step::Claim(Claim::Stopped)),
+    (1, Step::Look(Shown::Stop, 1)),
+];
+
 #[test]
 fn stopped_at_once(rt: HostRuntime) -> Result<(), Fail> {
-    let (board, mut seats) = Board::new(rt.alloc(), 100, 2)?;
-    let mut one = seats.pop().ok_or("no second seat")?;
-    let mut zero = seats.pop().ok_or("no first seat")?;
-    board.stop(&mut zero);
-    board.stop(&mut one);
-    assert_eq!(rt; board.claim(&mut zero), Claim::Stopped);
-    assert_eq!(rt; board.look(&mut one, Shown::Stop), 1);
-    seats.push(zero)?;
-    seats.push(one)?;
+    let (board, mut zero, mut one) = board_of_two(rt.alloc(), 100).ok_or("no board")?;
+    assert_steps(&rt, &board, &mut zero, &mut one, &STOPPED);
     let wanted = Ledger {
         drawn: 0,
         done: 0,
@@ -76,6 +154,7 @@ fn stopped_at_once(rt: HostRuntime) -> Result<(), Fail> {
         in_hand: 0,
         stopped: true,
     };
-    assert_eq!(rt; board.close(seats).ok(), Some(wanted));
+    let first = vec![in rt.alloc(); zero]?;
+    assert_eq!(rt; closed(board, first, one), Some(wanted));
     Ok(())
 }

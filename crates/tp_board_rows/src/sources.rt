@@ -1,10 +1,14 @@
 //! Boards as sources of packets.
-ghost use Rattle.std.specs.Prelude.{◌≡◌, None};
+ghost use Rattle.std.specs.Prelude.{◌≡◌, None, IfSome};
+ghost use Rattle.tp_board.specs.Boards.{IsSeatOf};
+ghost use Rattle.tp_board.specs.Views.{first_of};
 
 use arrayvec::ArrayVec;
+use std::alloc::Global;
+use std::process::Abort;
 use std::sync::Wait;
 use std::test::Fail;
-use tp_board::{Board, BoardFault, BoardSource, Ledger, Packet, Work, WorkSource};
+use tp_board::{Board, BoardFault, BoardSource, Ledger, Packet, Seat, Work, WorkSource};
 
 fn packet_of(first: u8) -> Packet {
     let mut packet = ArrayVec::new();
@@ -12,37 +16,64 @@ fn packet_of(first: u8) -> Packet {
     packet
 }
 
-#[test]
-fn source_stopped_after_two(rt: HostRuntime) -> Result<(), Fail> {
-    let packets = [packet_of(1), packet_of(2), packet_of(3)];
-    let (board, mut seats) = Board::new(rt.alloc(), 3, 1)?;
-    let source = BoardSource::new(board, &packets);
-    let mut hand = seats.pop().ok_or("no seat")?;
-    let Work::Packet { number, bytes } = source.next(&rt, &mut hand) else {
-        assert!(rt; false, "no first packet");
-        return Ok(());
-    };
-    assert_eq!(rt; (number, bytes.as_slice()), (0, [1, 0, 0, 0].as_slice()));
-    assert_eq!(rt; source.finish(&mut hand), Ok(0));
-    let Work::Packet { number, bytes } = source.next(&rt, &mut hand) else {
-        assert!(rt; false, "no second packet");
-        return Ok(());
-    };
-    assert_eq!(rt; (number, bytes.as_slice()), (1, [2, 0, 0, 0].as_slice()));
-    assert_eq!(rt; source.finish(&mut hand), Ok(1));
-    assert_eq!(rt; source.finish(&mut hand), Err(BoardFault::EmptyHand));
-    source.stop(&mut hand);
-    assert!(rt; matches!(source.next(&rt, &mut hand), Work::Stopped));
-    seats.push(hand)?;
-    let wanted = Ledger {
-        drawn: 2,
-        done: 2,
-        lost: 0,
-        in_hand: 0,
-        stopped: true,
-    };
-    assert_eq!(rt; source.into_board().close(seats).ok(), Some(wanted));
-    Ok(())
+/// A board of one seat, with nothing in its hand.
+fn board_of_one(alloc: Global, packets: u32) -> Option<(Board, Seat)>
+    ensures packets { IfSome result (λ r. r.0.packets ≡ packets) }
+    ensures own { IfSome result (λ r. IsSeatOf r.0 r.1) }
+    ensures empty { IfSome result (λ r. first_of r.1.view.hand ≡ None) }
+{
+    let (board, mut seats) = Board::new(alloc, packets, 1).ok()?;
+    let seat = seats.pop()?;
+    Some((board, seat))
+}
+
+fn closed(alloc: Global, source: BoardSource, seat: Seat) -> Option<Ledger>
+    requires { IsSeatOf source.board seat }
+{
+    let seats = vec![in alloc; seat].ok()?;
+    source.into_board().close(seats).ok()
+}
+
+// Draws the packet of a number, with its bytes, and finishes it, at any source.
+fn assert_finishes<S: WorkSource, R: Wait + Abort>(
+    rt: &R,
+    source: &S,
+    hand: &mut S::Hand,
+    wanted: (u32, [u8; 4]),
+)
+    requires own { S.is_own source.now hand.old }
+    requires empty { (S.progress hand.old).in_hand ≡ None }
+    ensures own { S.is_own source.now hand.new }
+    ensures empty { (S.progress hand.new).in_hand ≡ None }
+{
+    match source.next(rt, hand) {
+        Work::Packet { number, bytes } => {
+            assert_eq!(rt; (number, bytes.as_slice()), (wanted.0, wanted.1.as_slice()))
+        }
+        _ => panic!(rt; "no packet {}", wanted.0),
+    }
+    assert_eq!(rt; source.finish(hand), Ok(wanted.0));
+}
+
+// Finishes and abandons nothing, at any source.
+fn assert_empty_handed<S: WorkSource>(rt: &impl Abort, source: &S, hand: &mut S::Hand)
+    requires own { S.is_own source.now hand.old }
+    requires empty { (S.progress hand.old).in_hand ≡ None }
+    ensures own { S.is_own source.now hand.new }
+    ensures empty { (S.progress hand.new).in_hand ≡ None }
+{
+    assert_eq!(rt; source.finish(hand), Err(BoardFault::EmptyHand));
+    assert_eq!(rt; source.abandon(hand), Err(BoardFault::EmptyHand));
+}
+
+// Stops, at any source: no packet comes then.
+fn assert_stops<S: WorkSource, R: Wait + Abort>(rt: &R, source: &S, hand: &mut S::Hand)
+    requires own { S.is_own source.now hand.old }
+    requires empty { (S.progress hand.old).in_hand ≡ None }
+    ensures { S.is_own source.now hand.new }
+{
+    source.stop(hand);
+    assert!(rt; matches!(source.next(rt, hand), Work::Stopped));
 }
 
 // Abandons what it is given until there is no more, at any source, and counts.
@@ -64,15 +95,33 @@ fn abandoned<S: WorkSource, R: Wait>(rt: &R, source: &S, hand: &mut S::Hand) -> 
 }
 
 #[test]
+fn source_stopped_after_two(rt: HostRuntime) -> Result<(), Fail> {
+    let packets = [packet_of(1), packet_of(2), packet_of(3)];
+    let (board, mut hand) = board_of_one(rt.alloc(), 3).ok_or("no board")?;
+    let source = BoardSource::new(board, &packets);
+    assert_finishes(&rt, &source, &mut hand, (0, [1, 0, 0, 0]));
+    assert_finishes(&rt, &source, &mut hand, (1, [2, 0, 0, 0]));
+    assert_empty_handed(&rt, &source, &mut hand);
+    assert_stops(&rt, &source, &mut hand);
+    let wanted = Ledger {
+        drawn: 2,
+        done: 2,
+        lost: 0,
+        in_hand: 0,
+        stopped: true,
+    };
+    assert_eq!(rt; closed(rt.alloc(), source, hand), Some(wanted));
+    Ok(())
+}
+
+#[test]
 fn source_of_two_packets(rt: HostRuntime) -> Result<(), Fail> {
     let packets = [packet_of(1), packet_of(2)];
-    let (board, mut seats) = Board::new(rt.alloc(), 2, 1)?;
+    let (board, mut hand) = board_of_one(rt.alloc(), 2).ok_or("no board")?;
     let source = BoardSource::new(board, &packets);
-    let mut hand = seats.pop().ok_or("no seat")?;
-    assert_eq!(rt; source.abandon(&mut hand), Err(BoardFault::EmptyHand));
+    assert_empty_handed(&rt, &source, &mut hand);
     assert_eq!(rt; abandoned(&rt, &source, &mut hand), 2);
     assert!(rt; matches!(source.next(&rt, &mut hand), Work::NoMore));
-    seats.push(hand)?;
     let wanted = Ledger {
         drawn: 2,
         done: 0,
@@ -80,6 +129,6 @@ fn source_of_two_packets(rt: HostRuntime) -> Result<(), Fail> {
         in_hand: 0,
         stopped: false,
     };
-    assert_eq!(rt; source.into_board().close(seats).ok(), Some(wanted));
+    assert_eq!(rt; closed(rt.alloc(), source, hand), Some(wanted));
     Ok(())
 }

@@ -2,6 +2,7 @@
 ghost use Rattle.std.specs.Prelude.{◌≡◌, IfSome};
 ghost use Rattle.tp_board.specs.Boards.{IsSeatOf};
 
+use std::alloc::Global;
 use std::snapshot::Snapshot;
 use std::test::Fail;
 use std::thread;
@@ -73,23 +74,33 @@ fn four_worked<'s, 'e, R: Threads>(
     Some((a.join(rt), b.join(rt), c.join(rt), d.join(rt)))
 }
 
+/// A board of four seats.
+fn board_of_four(alloc: Global, packets: u32) -> Option<(Board, (Seat, Seat, Seat, Seat))>
+    ensures first { IfSome result (λ r. IsSeatOf r.0 r.1.0 × IsSeatOf r.0 r.1.1) }
+    ensures last { IfSome result (λ r. IsSeatOf r.0 r.1.2 × IsSeatOf r.0 r.1.3) }
+{
+    let (board, mut seats) = Board::new(alloc, packets, 4).ok()?;
+    let four = (seats.pop()?, seats.pop()?, seats.pop()?, seats.pop()?);
+    Some((board, four))
+}
+
+fn closed(alloc: Global, board: Board, seats: (Seat, Seat, Seat, Seat)) -> Option<Ledger>
+    requires first { IsSeatOf board seats.0 × IsSeatOf board seats.1 }
+    requires last { IsSeatOf board seats.2 × IsSeatOf board seats.3 }
+{
+    let (a, b, c, d) = seats;
+    let seats = vec![in alloc; a, b, c, d].ok()?;
+    board.close(seats).ok()
+}
+
 #[test]
 fn four_threads(rt: HostRuntime) -> Result<(), Fail> {
-    let (board, mut seats) = Board::new(rt.alloc(), 1000, 4)?;
-    let (Some(a), Some(b), Some(c), Some(d)) = (seats.pop(), seats.pop(), seats.pop(), seats.pop())
-    else {
-        assert!(rt; false, "not four seats");
-        return Ok(());
-    };
+    let (board, seats) = board_of_four(rt.alloc(), 1000).ok_or("no board")?;
     let shared = &board;
     let back = thread::scope(thread::scope_env(), &rt, |scope| {
-        four_worked(&rt, scope, shared, (a, b, c, d))
+        four_worked(&rt, scope, shared, seats)
     });
-    let (a, b, c, d) = back.ok_or("a thread was not started")?;
-    seats.push(a)?;
-    seats.push(b)?;
-    seats.push(c)?;
-    seats.push(d)?;
+    let seats = back.ok_or("a thread was not started")?;
     let wanted = Ledger {
         drawn: 1000,
         done: 1000,
@@ -97,6 +108,6 @@ fn four_threads(rt: HostRuntime) -> Result<(), Fail> {
         in_hand: 0,
         stopped: false,
     };
-    assert_eq!(rt; board.close(seats).ok(), Some(wanted));
+    assert_eq!(rt; closed(rt.alloc(), board, seats), Some(wanted));
     Ok(())
 }

@@ -19,23 +19,49 @@ fn send_and_end(medium: &mut Medium, bytes: &[u8]) -> Result<(), DeviceFault>
     wire.send(bytes)
 }
 
+fn assert_ended(rt: &impl Abort, medium: &Medium, bytes: &[u8]) {
+    assert_eq!(rt; (medium.ended(), medium.bytes()), (true, bytes));
+}
+
+fn assert_landed(rt: &impl Abort, place: &EndedMedium, bytes: &[u8]) {
+    match place.get() {
+        Some(medium) => assert_ended(rt, medium, bytes),
+        None => assert!(rt; false, "the wire has not ended"),
+    }
+}
+
+fn assert_sends<D: LinkDevice>(rt: &impl Abort, device: &mut D, bytes: &[u8]) {
+    assert_eq!(rt; device.send(bytes), Ok(()));
+}
+
+/// Sends, and drops the device.
+fn send_and_drop<D: LinkDevice>(rt: &impl Abort, mut device: D, bytes: &[u8]) {
+    assert_sends(rt, &mut device, bytes);
+    drop(device);
+}
+
+/// Receives a byte and sends it again, and drops the device.
+fn resend_and_drop<D: LinkDevice>(rt: &impl Abort, mut device: D) {
+    let mut byte = [1];
+    assert_eq!(rt; device.receive(&mut byte), Ok(()));
+    assert_sends(rt, &mut device, &byte);
+    drop(device);
+}
+
 #[test]
 fn a_wire_that_has_ended_leaves_its_bytes(rt: HostRuntime) -> Result<(), Fail> {
     let mut medium = Medium::new(rt.alloc(), 4)?;
     assert_eq!(rt; send_and_end(&mut medium, &[1, 2, 3]), Ok(()));
-    assert!(rt; medium.ended());
-    assert_eq!(rt; medium.bytes(), [1, 2, 3].as_slice());
+    assert_ended(&rt, &medium, &[1, 2, 3]);
     Ok(())
 }
 
 #[test]
 fn a_dropped_box_ends_its_wire(rt: HostRuntime) -> Result<(), Fail> {
     let mut medium = Medium::new(rt.alloc(), 4)?;
-    let mut wire = Box::new(rt.alloc(), Wire::new(&mut medium))?;
-    assert_eq!(rt; wire.send(&[1, 2, 3]), Ok(()));
-    drop(wire);
-    assert!(rt; medium.ended());
-    assert_eq!(rt; medium.bytes(), [1, 2, 3].as_slice());
+    let wire = Box::new(rt.alloc(), Wire::new(&mut medium))?;
+    send_and_drop(&rt, wire, &[1, 2, 3]);
+    assert_ended(&rt, &medium, &[1, 2, 3]);
     Ok(())
 }
 
@@ -52,15 +78,11 @@ fn full(alloc: Global, first: u8) -> Result<Vec<u8>, AllocError> {
 fn a_full_medium_ends(rt: HostRuntime) -> Result<(), Fail> {
     let bytes = full(rt.alloc(), 0)?;
     let mut medium = Medium::new(rt.alloc(), 256)?;
-    let mut wire = Box::new(rt.alloc(), Wire::new(&mut medium))?;
-    assert_eq!(rt; wire.send(&bytes), Ok(()));
-    drop(wire);
+    let wire = Box::new(rt.alloc(), Wire::new(&mut medium))?;
+    send_and_drop(&rt, wire, &bytes);
     assert_ended(&rt, &medium, &bytes);
-    let mut wire = Box::new(rt.alloc(), FaultyWire::new(&mut medium, 0))?;
-    let mut first = [1];
-    assert_eq!(rt; wire.receive(&mut first), Ok(()));
-    assert_eq!(rt; wire.send(&first), Ok(()));
-    drop(wire);
+    let faulty = Box::new(rt.alloc(), FaultyWire::new(&mut medium, 0))?;
+    resend_and_drop(&rt, faulty);
     let bytes = full(rt.alloc(), 1)?;
     assert_ended(&rt, &medium, &bytes);
     let (owned, ended) = OwnedWire::new(rt.alloc(), medium)?;
@@ -106,6 +128,15 @@ fn drop_in_order<D: LinkDevice>(links: Links<D>, order: [usize; 3]) {
     }
 }
 
+/// Which of the devices are open.
+fn open<D: LinkDevice>(links: &Links<D>) -> (bool, bool, bool) {
+    (
+        links.source.is_open(),
+        links.sink.is_open(),
+        links.trace.is_open(),
+    )
+}
+
 /// Sends other bytes to each device, shuts them or not, and drops them in an order.
 fn use_and_drop<D: LinkDevice>(
     rt: &impl Abort,
@@ -113,19 +144,14 @@ fn use_and_drop<D: LinkDevice>(
     shut: bool,
     order: [usize; 3],
 ) {
-    assert_eq!(rt; links.source.send(&[1]), Ok(()));
-    assert_eq!(rt; links.sink.send(&[2, 3]), Ok(()));
-    assert_eq!(rt; links.trace.send(&[4, 5, 6]), Ok(()));
+    assert_sends(rt, &mut links.source, &[1]);
+    assert_sends(rt, &mut links.sink, &[2, 3]);
+    assert_sends(rt, &mut links.trace, &[4, 5, 6]);
     if shut {
         links.shut();
-        assert!(rt; !links.source.is_open() && !links.sink.is_open() && !links.trace.is_open());
+        assert_eq!(rt; open(&links), (false, false, false));
     }
     drop_in_order(links, order);
-}
-
-fn assert_ended(rt: &impl Abort, medium: &Medium, bytes: &[u8]) {
-    assert!(rt; medium.ended());
-    assert_eq!(rt; medium.bytes(), bytes);
 }
 
 fn wires<'a>(
@@ -195,11 +221,12 @@ fn faulty_wires_end_in_each_order(rt: HostRuntime) -> Result<(), Fail> {
     Ok(())
 }
 
-fn assert_landed(rt: &impl Abort, place: &EndedMedium, bytes: &[u8]) {
-    match place.get() {
-        Some(medium) => assert_ended(rt, medium, bytes),
-        None => assert!(rt; false, "the wire has not ended"),
-    }
+/// A device in a box, with the place where its medium lands.
+type Boxed = (Box<dyn LinkDevice + Send>, EndedMedium);
+
+fn boxed(alloc: Global) -> Result<Boxed, AllocError> {
+    let (wire, end) = OwnedWire::new(alloc, Medium::new(alloc, 4)?)?;
+    Ok((Box::new(alloc, wire)?, end))
 }
 
 fn owned_media_end(
@@ -208,12 +235,9 @@ fn owned_media_end(
     shut: bool,
     order: [usize; 3],
 ) -> Result<(), AllocError> {
-    let (first, source_end) = OwnedWire::new(alloc, Medium::new(alloc, 4)?)?;
-    let (second, sink_end) = OwnedWire::new(alloc, Medium::new(alloc, 4)?)?;
-    let (third, trace_end) = OwnedWire::new(alloc, Medium::new(alloc, 4)?)?;
-    let source: Box<dyn LinkDevice + Send> = Box::new(alloc, first)?;
-    let sink: Box<dyn LinkDevice + Send> = Box::new(alloc, second)?;
-    let trace: Box<dyn LinkDevice + Send> = Box::new(alloc, third)?;
+    let (source, source_end) = boxed(alloc)?;
+    let (sink, sink_end) = boxed(alloc)?;
+    let (trace, trace_end) = boxed(alloc)?;
     let links = Links {
         source,
         sink,

@@ -4,7 +4,36 @@ use crate::samples::*;
 use std::alloc::{AllocError, Global};
 use std::process::Abort;
 use std::test::Fail;
-use tp_image::{ImageCode, ImageFault, LoopRow, read_image, upgrade, write_image};
+use tp_image::{Image, ImageCode, ImageFault, LoopRow, read_image, upgrade, write_image};
+
+// The calls, with nothing said of what they answer: the tests compare it when they run.
+
+fn read(alloc: Global, bytes: &[u8]) -> Result<Image, ImageFault> {
+    read_image(alloc, bytes)
+}
+
+fn written(alloc: Global, image: &Image) -> Result<Vec<u8>, ImageFault> {
+    write_image(alloc, image)
+}
+
+fn upgraded(alloc: Global, image: &Image) -> Result<Image, ImageFault> {
+    upgrade(alloc, image)
+}
+
+/// How many loop rows, initial words and code bytes there are.
+fn sizes_of(image: &Image) -> (usize, usize, usize) {
+    (image.loops.len(), image.initial.len(), image.code.len())
+}
+
+/// That an image is written as these bytes.
+fn assert_written(
+    rt: &(impl Abort + AllocGlobal),
+    image: &Image,
+    bytes: &[u8],
+) -> Result<(), ImageFault> {
+    assert_eq!(rt; written(rt.alloc(), image)?.as_slice(), bytes);
+    Ok(())
+}
 
 /// The bytes with others from a place on.
 fn changed(
@@ -24,14 +53,16 @@ fn changed(
 
 /// That bytes are refused so.
 fn assert_refused(rt: &(impl Abort + AllocGlobal), bytes: &[u8], code: ImageCode, place: usize) {
-    match read_image(rt.alloc(), bytes) {
+    match read(rt.alloc(), bytes) {
         Ok(_) => panic!(rt; "an image was read, and {code} wanted"),
         Err(fault) => assert_eq!(rt; fault, ImageFault::Refused { code, place }),
     }
 }
 
-/// What a sample says: its version, its workspace words, loop rows, initial words and code bytes.
-const SAMPLES: [(&[u8], u8, u32, usize, usize, usize); 24] = [
+/// A sample, and what it says: its version, its workspace words, loop rows, initial words and code bytes.
+type Sample = (&'static [u8], u8, u32, usize, usize, usize);
+
+const SAMPLES: [Sample; 24] = [
     (INCREMENT, 1, 12, 0, 0, 16),
     (SUM_TO_TEN, 1, 16, 1, 0, 27),
     (ONE_TURN, 1, 16, 1, 0, 27),
@@ -58,22 +89,26 @@ const SAMPLES: [(&[u8], u8, u32, usize, usize, usize); 24] = [
     (OVERLAPPING_COPY, 2, 16, 0, 0, 18),
 ];
 
+fn assert_sample(rt: &(impl Abort + AllocGlobal), sample: Sample) -> Result<(), ImageFault> {
+    let (bytes, version, workspace, loops, initial, code) = sample;
+    let image = read(rt.alloc(), bytes)?;
+    assert_eq!(rt; (image.version(), image.workspace), (version, workspace));
+    assert_eq!(rt; (image.start, image.packet, image.result), (8, 1, 1));
+    assert_eq!(rt; sizes_of(&image), (loops, initial, code));
+    assert_written(rt, &image, bytes)
+}
+
 #[test]
 fn reads_and_writes_samples(rt: HostRuntime) -> Result<(), Fail> {
-    for (bytes, version, workspace, loops, initial, code) in SAMPLES {
-        let image = read_image(rt.alloc(), bytes)?;
-        let sizes = (image.loops.len(), image.initial.len(), image.code.len());
-        assert_eq!(rt; (image.version(), image.workspace), (version, workspace));
-        assert_eq!(rt; (image.start, image.packet, image.result), (8, 1, 1));
-        assert_eq!(rt; sizes, (loops, initial, code));
-        assert_eq!(rt; write_image(rt.alloc(), &image)?.as_slice(), bytes);
+    for sample in SAMPLES {
+        assert_sample(&rt, sample)?;
     }
     Ok(())
 }
 
 #[test]
 fn reads_rows_and_words(rt: HostRuntime) -> Result<(), Fail> {
-    let nested = read_image(rt.alloc(), NESTED)?;
+    let nested = read(rt.alloc(), NESTED)?;
     let outer = LoopRow {
         head: 13,
         lend: 26,
@@ -90,7 +125,7 @@ fn reads_rows_and_words(rt: HostRuntime) -> Result<(), Fail> {
     };
     assert_eq!(rt; nested.loops.as_slice(), [outer, inner].as_slice());
     assert_eq!(rt; nested.code.as_slice(), &NESTED[40..]);
-    let copies = read_image(rt.alloc(), COPIES_INITIAL_WORD)?;
+    let copies = read(rt.alloc(), COPIES_INITIAL_WORD)?;
     assert_eq!(rt; copies.initial.as_slice(), [42].as_slice());
     Ok(())
 }
@@ -98,14 +133,11 @@ fn reads_rows_and_words(rt: HostRuntime) -> Result<(), Fail> {
 #[test]
 fn reads_a_negative_start(rt: HostRuntime) -> Result<(), Fail> {
     let bytes = changed(rt.alloc(), SUM_TO_TEN, 24, b"\xFE\xFF\xFF\xFF")?;
-    let image = read_image(rt.alloc(), &bytes)?;
+    let image = read(rt.alloc(), &bytes)?;
     for row in &image.loops {
         assert_eq!(rt; row.start, -2);
     }
-    assert_eq!(rt;
-        write_image(rt.alloc(), &image)?.as_slice(),
-        bytes.as_slice()
-    );
+    assert_written(&rt, &image, &bytes)?;
     Ok(())
 }
 
@@ -119,7 +151,7 @@ fn refuses_beginnings(rt: HostRuntime) -> Result<(), Fail> {
             assert_refused(&rt, &NESTED_TOO_LONG[..n], ImageCode::F2, n);
         }
     }
-    read_image(rt.alloc(), NESTED_TOO_LONG)?;
+    read(rt.alloc(), NESTED_TOO_LONG)?;
     assert_refused(&rt, &INCREMENT[..16], ImageCode::F2, 16);
     Ok(())
 }
@@ -165,9 +197,9 @@ fn refuses_fields_out_of_range(rt: HostRuntime) -> Result<(), Fail> {
 #[test]
 fn reads_the_largest_fields(rt: HostRuntime) -> Result<(), Fail> {
     let widest = changed(rt.alloc(), INCREMENT_2, 6, b"\x00\x02")?;
-    assert_eq!(rt; read_image(rt.alloc(), &widest)?.workspace, 512);
+    assert_eq!(rt; read(rt.alloc(), &widest)?.workspace, 512);
     let messages = changed(rt.alloc(), INCREMENT, 10, b"\x40\x00\x40\x00")?;
-    assert_eq!(rt; read_image(rt.alloc(), &messages)?.result, 64);
+    assert_eq!(rt; read(rt.alloc(), &messages)?.result, 64);
     Ok(())
 }
 
@@ -192,7 +224,7 @@ fn with_long_code(
 fn reads_long_codes(rt: HostRuntime) -> Result<(), Fail> {
     let alloc = rt.alloc();
     let first = with_long_code(alloc, &INCREMENT[..22], b"\x15\x07", 900, &INCREMENT[25..])?;
-    assert_eq!(rt; read_image(alloc, &first)?.code.len(), 1813);
+    assert_eq!(rt; read(alloc, &first)?.code.len(), 1813);
     let second = with_long_code(
         alloc,
         &INCREMENT_2[..24],
@@ -200,7 +232,7 @@ fn reads_long_codes(rt: HostRuntime) -> Result<(), Fail> {
         4000,
         &INCREMENT_2[27..],
     )?;
-    assert_eq!(rt; read_image(alloc, &second)?.code.len(), 8013);
+    assert_eq!(rt; read(alloc, &second)?.code.len(), 8013);
     Ok(())
 }
 
@@ -223,14 +255,7 @@ fn largest(alloc: Global) -> Result<Vec<u8>, AllocError> {
     Ok(bytes)
 }
 
-#[test]
-fn reads_and_writes_the_largest(rt: HostRuntime) -> Result<(), Fail> {
-    let bytes = largest(rt.alloc())?;
-    assert_eq!(rt; bytes.len(), 10_450);
-    let image = read_image(rt.alloc(), &bytes)?;
-    let sizes = (image.loops.len(), image.initial.len(), image.code.len());
-    assert_eq!(rt; sizes, (16, 512, 8192));
-    assert_eq!(rt; (image.workspace, image.start), (512, 511));
+fn assert_is_the_largest(rt: &impl Abort, image: &Image) {
     let last = LoopRow {
         head: 15,
         lend: 0x0201,
@@ -238,25 +263,32 @@ fn reads_and_writes_the_largest(rt: HostRuntime) -> Result<(), Fail> {
         count: 0x0605,
         start: -16_185_337,
     };
-    assert_eq!(rt; image.loops.last(), Some(&last));
-    assert_eq!(rt; image.initial.last(), Some(&255));
-    assert_eq!(rt; write_image(rt.alloc(), &image)?, bytes);
-    let upgraded = upgrade(rt.alloc(), &image)?;
-    assert_eq!(rt; write_image(rt.alloc(), &upgraded)?, bytes);
+    assert_eq!(rt; sizes_of(image), (16, 512, 8192));
+    assert_eq!(rt; (image.workspace, image.start), (512, 511));
+    assert_eq!(rt;
+        (image.loops.last(), image.initial.last()),
+        (Some(&last), Some(&255))
+    );
+}
+
+#[test]
+fn reads_and_writes_the_largest(rt: HostRuntime) -> Result<(), Fail> {
+    let bytes = largest(rt.alloc())?;
+    assert_eq!(rt; bytes.len(), 10_450);
+    let image = read(rt.alloc(), &bytes)?;
+    assert_is_the_largest(&rt, &image);
+    assert_written(&rt, &image, &bytes)?;
+    assert_written(&rt, &upgraded(rt.alloc(), &image)?, &bytes)?;
     Ok(())
 }
 
 #[test]
 fn upgrades(rt: HostRuntime) -> Result<(), Fail> {
-    let image = upgrade(rt.alloc(), &read_image(rt.alloc(), INCREMENT)?)?;
+    let image = upgraded(rt.alloc(), &read(rt.alloc(), INCREMENT)?)?;
     assert_eq!(rt; image.version(), 2);
-    assert_eq!(rt; write_image(rt.alloc(), &image)?.as_slice(), INCREMENT_2);
-    let copies = read_image(rt.alloc(), COPIES_INITIAL_WORD)?;
-    let same = upgrade(rt.alloc(), &copies)?;
-    assert_eq!(rt;
-        write_image(rt.alloc(), &same)?.as_slice(),
-        COPIES_INITIAL_WORD
-    );
+    assert_written(&rt, &image, INCREMENT_2)?;
+    let copies = read(rt.alloc(), COPIES_INITIAL_WORD)?;
+    assert_written(&rt, &upgraded(rt.alloc(), &copies)?, COPIES_INITIAL_WORD)?;
     Ok(())
 }
 
@@ -278,22 +310,29 @@ fn prints_faults(rt: HostRuntime) -> Result<(), Fail> {
     Ok(())
 }
 
+/// That an image has the one initial word 42, or that memory was refused.
+fn assert_has_42(rt: &impl Abort, answer: &Result<Image, ImageFault>) {
+    match answer {
+        Err(fault) => assert_eq!(rt; *fault, ImageFault::Memory),
+        Ok(image) => assert_eq!(rt; image.initial.as_slice(), [42].as_slice()),
+    }
+}
+
+fn assert_written_or_memory(rt: &(impl Abort + AllocGlobal), image: &Image, bytes: &[u8]) {
+    match written(rt.alloc(), image) {
+        Err(fault) => assert_eq!(rt; fault, ImageFault::Memory),
+        Ok(found) => assert_eq!(rt; found.as_slice(), bytes),
+    }
+}
+
 /// Where an allocation fails, each call answers `Memory` or what it answers with ample memory.
 #[test]
 fn answers_memory_or_the_same(rt: HostRuntime) {
-    match read_image(rt.alloc(), COPIES_INITIAL_WORD) {
-        Err(fault) => assert_eq!(rt; fault, ImageFault::Memory),
-        Ok(image) => {
-            assert_eq!(rt; image.initial.as_slice(), [42].as_slice());
-            match write_image(rt.alloc(), &image) {
-                Err(fault) => assert_eq!(rt; fault, ImageFault::Memory),
-                Ok(bytes) => assert_eq!(rt; bytes.as_slice(), COPIES_INITIAL_WORD),
-            }
-            match upgrade(rt.alloc(), &image) {
-                Err(fault) => assert_eq!(rt; fault, ImageFault::Memory),
-                Ok(same) => assert_eq!(rt; same.initial.as_slice(), [42].as_slice()),
-            }
-        }
+    let answer = read(rt.alloc(), COPIES_INITIAL_WORD);
+    assert_has_42(&rt, &answer);
+    if let Ok(image) = answer {
+        assert_written_or_memory(&rt, &image, COPIES_INITIAL_WORD);
+        assert_has_42(&rt, &upgraded(rt.alloc(), &image));
     }
     assert_refused(&rt, &INCREMENT[..16], ImageCode::F2, 16);
 }

@@ -1,112 +1,158 @@
 //! Wires and faulty wires, an author's own device, and the texts of their faults.
 
 use crate::latch::Latch;
+use std::process::Abort;
 use std::test::Fail;
 use tp_link::{DeviceFault, FaultyWire, Link, LinkDevice, LinkFault, Medium, OwnedWire, Wire};
+
+/// A call of a device, with the answer that is wanted. A receive begins with bytes 9, and what they
+/// are then is wanted too.
+#[derive(Clone, Copy)]
+enum Step<'b> {
+    Send(&'b [u8], Result<(), DeviceFault>),
+    Receive(&'b [u8], Result<(), DeviceFault>),
+    Held(usize),
+    Room(usize),
+    Open(bool),
+    Faults(u64),
+    Close,
+}
+
+fn assert_receives<D: LinkDevice>(
+    rt: &impl Abort,
+    device: &mut D,
+    bytes: &[u8],
+    wanted: Result<(), DeviceFault>,
+) {
+    let mut buffer = [9; 4];
+    let Some(into) = buffer.get_mut(..bytes.len()) else {
+        panic!(rt; "more than four bytes");
+    };
+    let answer = device.receive(into);
+    assert_eq!(rt; (answer, &*into), (wanted, bytes));
+}
+
+fn assert_step<D: LinkDevice>(rt: &impl Abort, device: &mut D, step: &Step, place: usize) {
+    match step {
+        Step::Send(bytes, wanted) => assert_eq!(rt; device.send(bytes), *wanted, "step {place}"),
+        Step::Receive(bytes, wanted) => assert_receives(rt, device, bytes, *wanted),
+        Step::Held(wanted) => assert_eq!(rt; device.held(), *wanted, "step {place}"),
+        Step::Room(wanted) => assert_eq!(rt; device.room(), *wanted, "step {place}"),
+        Step::Open(wanted) => assert_eq!(rt; device.is_open(), *wanted, "step {place}"),
+        Step::Faults(wanted) => assert_eq!(rt; device.faults(), *wanted, "step {place}"),
+        Step::Close => device.close(),
+    }
+}
+
+/// Makes each step, and lets the device go.
+fn assert_steps<D: LinkDevice>(rt: &impl Abort, mut device: D, steps: &[Step]) {
+    for (place, step) in steps.iter().enumerate() {
+        assert_step(rt, &mut device, step, place);
+    }
+}
+
+fn assert_ended(rt: &impl Abort, medium: &Medium, bytes: &[u8]) {
+    assert_eq!(rt; (medium.ended(), medium.bytes()), (true, bytes));
+}
 
 #[test]
 fn a_wire_answers_in_order(rt: HostRuntime) -> Result<(), Fail> {
     let mut medium = Medium::new(rt.alloc(), 4)?;
     assert!(rt; !medium.ended());
-    let mut wire = Wire::new(&mut medium);
-    let mut into = [9, 9];
-    assert!(rt; wire.is_open());
-    assert_eq!(rt; wire.room(), 4);
-    assert_eq!(rt; wire.receive(&mut into), Err(DeviceFault::Short));
-    assert_eq!(rt; wire.send(&[1, 2, 3, 4, 5]), Err(DeviceFault::Full));
-    assert_eq!(rt; wire.send(&[1, 2, 3]), Ok(()));
-    assert_eq!(rt; wire.send(&[4, 5]), Err(DeviceFault::Full));
-    assert_eq!(rt; into.as_slice(), [9, 9].as_slice());
-    assert_eq!(rt; wire.receive(&mut into), Ok(()));
-    assert_eq!(rt; into.as_slice(), [1, 2].as_slice());
-    assert_eq!(rt; wire.held(), 1);
-    wire.close();
-    assert!(rt; !wire.is_open());
-    assert_eq!(rt; wire.send(&[1, 2, 3, 4, 5]), Err(DeviceFault::Closed));
-    assert_eq!(rt; wire.receive(&mut into), Err(DeviceFault::Closed));
-    assert_eq!(rt; wire.faults(), 0);
-    drop(wire);
-    assert!(rt; medium.ended());
-    assert_eq!(rt; medium.bytes(), [3].as_slice());
+    let steps = [
+        Step::Open(true),
+        Step::Room(4),
+        Step::Receive(&[9, 9], Err(DeviceFault::Short)),
+        Step::Send(&[1, 2, 3, 4, 5], Err(DeviceFault::Full)),
+        Step::Send(&[1, 2, 3], Ok(())),
+        Step::Send(&[4, 5], Err(DeviceFault::Full)),
+        Step::Receive(&[1, 2], Ok(())),
+        Step::Held(1),
+        Step::Close,
+        Step::Open(false),
+        Step::Send(&[1, 2, 3, 4, 5], Err(DeviceFault::Closed)),
+        Step::Receive(&[9, 9], Err(DeviceFault::Closed)),
+        Step::Faults(0),
+    ];
+    assert_steps(&rt, Wire::new(&mut medium), &steps);
+    assert_ended(&rt, &medium, &[3]);
     Ok(())
 }
 
 #[test]
 fn a_new_wire_clears_the_end_mark(rt: HostRuntime) -> Result<(), Fail> {
     let mut medium = Medium::new(rt.alloc(), 4)?;
-    let mut wire = Wire::new(&mut medium);
-    assert_eq!(rt; wire.send(&[1, 2]), Ok(()));
-    drop(wire);
-    let mut again = FaultyWire::new(&mut medium, 0);
-    let mut into = [0];
-    assert_eq!(rt; again.receive(&mut into), Ok(()));
-    assert_eq!(rt; into, [1]);
-    drop(again);
+    let send = [Step::Send(&[1, 2], Ok(()))];
+    let receive = [Step::Receive(&[1], Ok(()))];
+    let look = [Step::Held(1), Step::Open(true)];
+    assert_steps(&rt, Wire::new(&mut medium), &send);
+    assert_steps(&rt, FaultyWire::new(&mut medium, 0), &receive);
     let (owned, ended) = OwnedWire::new(rt.alloc(), medium)?;
     assert!(rt; ended.get().is_none());
-    assert_eq!(rt; owned.held(), 1);
-    assert!(rt; owned.is_open());
+    assert_steps(&rt, owned, &look);
     Ok(())
 }
 
 #[test]
 fn a_faulty_wire_fails_in_one_call(rt: HostRuntime) -> Result<(), Fail> {
     let mut medium = Medium::new(rt.alloc(), 256)?;
-    let mut wire = FaultyWire::new(&mut medium, 2);
-    let mut into = [9, 9, 9, 9];
-    assert_eq!(rt; wire.send(&[1, 0, 0, 0]), Ok(()));
-    assert_eq!(rt; wire.faults(), 0);
-    assert_eq!(rt; wire.receive(&mut into), Err(DeviceFault::Failed));
-    assert_eq!(rt; into, [9, 9, 9, 9]);
-    assert_eq!(rt; wire.faults(), 1);
-    assert_eq!(rt; wire.held(), 4);
-    assert_eq!(rt; wire.receive(&mut into), Ok(()));
-    assert_eq!(rt; into, [1, 0, 0, 0]);
-    assert_eq!(rt; wire.send(&into), Ok(()));
-    assert_eq!(rt; wire.faults(), 1);
+    let steps = [
+        Step::Send(&[1, 0, 0, 0], Ok(())),
+        Step::Faults(0),
+        Step::Receive(&[9, 9, 9, 9], Err(DeviceFault::Failed)),
+        Step::Faults(1),
+        Step::Held(4),
+        Step::Receive(&[1, 0, 0, 0], Ok(())),
+        Step::Send(&[1, 0, 0, 0], Ok(())),
+        Step::Faults(1),
+    ];
+    assert_steps(&rt, FaultyWire::new(&mut medium, 2), &steps);
     Ok(())
 }
 
 #[test]
 fn a_faulty_wire_that_never_fails(rt: HostRuntime) -> Result<(), Fail> {
     let mut medium = Medium::new(rt.alloc(), 4)?;
-    let mut wire = FaultyWire::new(&mut medium, 0);
-    for byte in 0..4u8 {
-        assert_eq!(rt; wire.send(&[byte]), Ok(()));
-    }
-    assert_eq!(rt; wire.faults(), 0);
+    let steps = [
+        Step::Send(&[0], Ok(())),
+        Step::Send(&[1], Ok(())),
+        Step::Send(&[2], Ok(())),
+        Step::Send(&[3], Ok(())),
+        Step::Faults(0),
+    ];
+    assert_steps(&rt, FaultyWire::new(&mut medium, 0), &steps);
     Ok(())
 }
 
 #[test]
 fn a_failure_comes_before_a_closed_device(rt: HostRuntime) -> Result<(), Fail> {
     let mut medium = Medium::new(rt.alloc(), 4)?;
-    let mut wire = FaultyWire::new(&mut medium, 1);
-    wire.close();
-    assert_eq!(rt; wire.send(&[1, 2, 3, 4, 5]), Err(DeviceFault::Failed));
-    assert_eq!(rt; wire.send(&[1, 2, 3, 4, 5]), Err(DeviceFault::Closed));
+    let steps = [
+        Step::Close,
+        Step::Send(&[1, 2, 3, 4, 5], Err(DeviceFault::Failed)),
+        Step::Send(&[1, 2, 3, 4, 5], Err(DeviceFault::Closed)),
+    ];
+    assert_steps(&rt, FaultyWire::new(&mut medium, 1), &steps);
     Ok(())
 }
 
 #[test]
 fn the_last_count_of_faults_is_the_end_of_them(rt: HostRuntime) -> Result<(), Fail> {
-    let alloc = rt.alloc();
-    let mut device: Box<dyn LinkDevice + Send> = Box::new(
-        alloc,
-        Latch {
-            byte: Some(7),
-            opened: true,
-            jammed: true,
-            faults: u64::MAX - 1,
-        },
-    )?;
-    let mut into = [0];
-    assert_eq!(rt; device.receive(&mut into), Err(DeviceFault::Failed));
-    assert_eq!(rt; device.faults(), u64::MAX);
-    assert_eq!(rt; device.receive(&mut into), Ok(()));
-    assert_eq!(rt; into, [7]);
-    assert_eq!(rt; device.send(&[8, 9]), Err(DeviceFault::Full));
-    assert_eq!(rt; device.faults(), u64::MAX);
+    let latch = Latch {
+        byte: Some(7),
+        opened: true,
+        jammed: true,
+        faults: u64::MAX - 1,
+    };
+    let device: Box<dyn LinkDevice + Send> = Box::new(rt.alloc(), latch)?;
+    let steps = [
+        Step::Receive(&[9], Err(DeviceFault::Failed)),
+        Step::Faults(u64::MAX),
+        Step::Receive(&[7], Ok(())),
+        Step::Send(&[8, 9], Err(DeviceFault::Full)),
+        Step::Faults(u64::MAX),
+    ];
+    assert_steps(&rt, device, &steps);
     Ok(())
 }
 
