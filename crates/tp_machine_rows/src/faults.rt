@@ -95,19 +95,32 @@ fn run_over_failing(
     machine.run_image(image, links, 100)
 }
 
-#[test]
-fn a_failing_source_keeps_the_packet(rt: HostRuntime) -> Result<(), Fail> {
-    let image = read_image(rt.alloc(), INCREMENT)?;
-    let mut media = make_media(rt.alloc())?;
-    let mut links = failing_wires(&mut media);
+/// What a cut off run leaves at its source: how many bytes, and how many calls that failed.
+type AtSource = (usize, u64);
+
+/// What two runs on one machine answer, of which the source fails in the first, and what that one leaves there.
+fn run_twice_over_failing(
+    alloc: Global,
+    media: &mut Media,
+) -> Result<([Answer; 2], AtSource), Fail> {
+    let image = read_image(alloc, INCREMENT)?;
+    let mut links = failing_wires(media);
     let mut machine = Machine::new();
     links.source.send(&[1, 0, 0, 0])?;
-    let answer = run_over_failing(&mut machine, &image, &mut links);
-    assert_eq!(rt; answer, refused(Link::Source, DeviceFault::Failed));
-    assert_eq!(rt; (links.source.held(), links.source.faults()), (4, 1));
-    // the same machine, in which a run was cut off, and the same packet
+    let cut_off = run_over_failing(&mut machine, &image, &mut links);
+    let at_source = (links.source.held(), links.source.faults());
     let again = run_over_failing(&mut machine, &image, &mut links);
-    assert_eq!(rt; again, ended(false, 16));
+    Ok(([cut_off, again], at_source))
+}
+
+/// The second run is on the same machine, in which a run was cut off, and of the same packet.
+#[test]
+fn a_failing_source_keeps_the_packet(rt: HostRuntime) -> Result<(), Fail> {
+    let mut media = make_media(rt.alloc())?;
+    let (answers, at_source) = run_twice_over_failing(rt.alloc(), &mut media)?;
+    let failed = refused(Link::Source, DeviceFault::Failed);
+    assert_eq!(rt; answers, [failed, ended(false, 16)]);
+    assert_eq!(rt; at_source, (4, 1));
     Ok(())
 }
 

@@ -53,9 +53,12 @@ pub(crate) fn run_over(
 
 /// The media hold this.
 pub(crate) fn assert_left(rt: &impl Abort, media: &Media, left: Left<'_>) {
-    assert_eq!(rt; media.source.bytes(), left.source, "source");
-    assert_eq!(rt; media.sink.bytes(), left.sink, "sink");
-    assert_eq!(rt; media.trace.bytes(), left.trace, "trace");
+    let held = [
+        media.source.bytes(),
+        media.sink.bytes(),
+        media.trace.bytes(),
+    ];
+    assert_eq!(rt; held, [left.source, left.sink, left.trace]);
 }
 
 /// A run over media with room enough gives this answer, and leaves this.

@@ -5,8 +5,8 @@ use crate::place::{Place, first_difference, machine_of, place_of, word};
 use std::alloc::Global;
 use std::process::Abort;
 use std::test::Fail;
-use tp_image::read_image;
-use tp_link::{DeviceFault, Link, LinkDevice, LinkFault};
+use tp_image::{Image, read_image};
+use tp_link::{DeviceFault, Link, LinkDevice, LinkFault, Links, Wire};
 use tp_machine::{Machine, Outcome, Phase, RunFault};
 use tp_step_runs::rows::{Expected, Row, Setting, Worker};
 use tp_step_runs::table::short_runs;
@@ -47,18 +47,29 @@ struct Seen {
     media: Media,
 }
 
+/// The image of a row's worker.
+fn image_of(alloc: Global, row: &Row) -> Result<Image, Fail> {
+    let text = text(alloc, row)?;
+    Ok(read_image(alloc, &text)?)
+}
+
+/// The messages of a place go over the wires.
+fn send_messages(links: &mut Links<Wire<'_>>, place: &Place) -> Result<(), Fail> {
+    links.source.send(place.coming)?;
+    links.sink.send(place.sent)?;
+    links.trace.send(place.traced)?;
+    Ok(())
+}
+
 /// The run of a row, which executes no more than so many bytes.
 fn run(alloc: Global, row: &Row, limit: u32) -> Result<Seen, Fail> {
-    let text = text(alloc, row)?;
-    let image = read_image(alloc, &text)?;
+    let image = image_of(alloc, row)?;
     let from = place_of(0, row.from);
     let mut machine = machine_of(from.registers, row.from)?;
     let mut phase = from.phase;
     let mut media = make_media(alloc)?;
     let mut links = wires(&mut media);
-    links.source.send(from.coming)?;
-    links.sink.send(from.sent)?;
-    links.trace.send(from.traced)?;
+    send_messages(&mut links, &from)?;
     let answer = machine.resume(&image, &mut links, &mut phase, limit);
     drop(links);
     Ok(Seen {
@@ -106,9 +117,20 @@ fn wanted(row: &Row) -> Result<(u32, Result<Outcome, RunFault>), Fail> {
 
 /// The media hold the messages of a place.
 fn compare_messages(rt: &impl Abort, name: &str, seen: &Seen, place: &Place) {
-    assert_eq!(rt; seen.media.source.bytes(), place.coming, "to come: {name}");
-    assert_eq!(rt; seen.media.sink.bytes(), place.sent, "sent: {name}");
-    assert_eq!(rt; seen.media.trace.bytes(), place.traced, "traced: {name}");
+    let media = &seen.media;
+    let held = [
+        media.source.bytes(),
+        media.sink.bytes(),
+        media.trace.bytes(),
+    ];
+    let wanted = [place.coming, place.sent, place.traced];
+    assert_eq!(rt; held, wanted, "to come, sent, traced: {name}");
+}
+
+/// The first address at which the workspace is not as these settings say.
+fn difference(machine: &Machine, settings: &[Setting]) -> Result<Option<u32>, Fail> {
+    let wanted = machine_of(place_of(0, settings).registers, settings)?;
+    Ok(first_difference(machine, &wanted))
 }
 
 /// The machine, its phase and the media are as these settings say, with Iptr here where they say nothing of it.
@@ -120,18 +142,10 @@ fn compare_states(
     settings: &[Setting],
 ) -> Result<(), Fail> {
     let end = place_of(iptr, settings);
-    let wanted = machine_of(end.registers, settings)?;
-    assert_eq!(rt;
-        seen.machine.registers(),
-        end.registers,
-        "registers: {name}"
-    );
-    assert_eq!(rt;
-        first_difference(&seen.machine, &wanted),
-        None,
-        "workspace: {name}"
-    );
-    assert_eq!(rt; seen.phase, end.phase, "phase: {name}");
+    let difference = difference(&seen.machine, settings)?;
+    let left = (seen.machine.registers(), seen.phase, difference);
+    let wanted = (end.registers, end.phase, None);
+    assert_eq!(rt; left, wanted, "registers, phase, workspace: {name}");
     compare_messages(rt, name, seen, &end);
     Ok(())
 }
@@ -151,23 +165,35 @@ fn compare_words(
     }
 }
 
-/// The run of a row answers and leaves what the row says. A run that is stuck moves no message.
+/// A run leaves what its row says. A run that is stuck moves no message.
+fn compare_left(rt: &impl Abort, name: &str, row: &Row, seen: &Seen) -> Result<(), Fail> {
+    match row.expected {
+        Expected::Leads(settings) => compare_states(
+            rt,
+            name,
+            seen,
+            row.code.len() as i64,
+            settings,
+        ),
+        Expected::Sticks | Expected::SticksAtOnce(_) | Expected::LacksPacket => {
+            compare_messages(rt, name, seen, &place_of(0, row.from));
+            Ok(())
+        }
+        Expected::Shows(_, iptr, words) => {
+            compare_words(rt, name, seen, iptr, words);
+            Ok(())
+        }
+        Expected::Ends(_) => Ok(()),
+    }
+}
+
+/// The run of a row answers and leaves what the row says.
 fn compare(rt: &impl Abort, alloc: Global, instruction: &str, row: &Row) -> Result<(), Fail> {
     let name = &format!(in alloc; "{instruction}, {}", row.name)?;
     let (limit, answer) = wanted(row)?;
     let seen = run(alloc, row, limit)?;
     assert_eq!(rt; seen.answer, answer, "{name}");
-    match row.expected {
-        Expected::Leads(settings) => {
-            compare_states(rt, name, &seen, row.code.len() as i64, settings)?;
-        }
-        Expected::Sticks | Expected::SticksAtOnce(_) | Expected::LacksPacket => {
-            compare_messages(rt, name, &seen, &place_of(0, row.from));
-        }
-        Expected::Shows(_, iptr, words) => compare_words(rt, name, &seen, iptr, words),
-        Expected::Ends(_) => {}
-    }
-    Ok(())
+    compare_left(rt, name, row, &seen)
 }
 
 /// The same of all rows of an instruction.

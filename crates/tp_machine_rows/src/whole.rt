@@ -2,7 +2,7 @@
 
 ghost use Rattle.std.specs.Prelude.{◌<◌};
 
-use crate::media::{make_media, wires};
+use crate::media::{Media, make_media, wires};
 use crate::runs::{Answer, Left, Task, assert_run, ended, run};
 use std::alloc::{AllocError, Global};
 use std::process::Abort;
@@ -150,15 +150,29 @@ fn four_answers(image: &Image, last: &Image, links: &mut Links<Wire<'_>>) -> [An
     [first, second, third, run_again(&mut machine, last, links)]
 }
 
-#[test]
-fn nothing_is_left_over_between_packets(rt: HostRuntime) -> Result<(), Fail> {
-    let image = read_image(rt.alloc(), INCREMENT)?;
-    let moves = read_image(rt.alloc(), MOVES_A_WORD)?;
-    let mut media = make_media(rt.alloc())?;
-    let mut links = wires(&mut media);
+/// Four packets, of which the second is the greatest word.
+fn send_four_packets(links: &mut Links<Wire<'_>>) -> Result<(), Fail> {
     links.source.send(&[1, 0, 0, 0, 0xff, 0xff, 0xff, 0x7f])?;
     links.source.send(&[1, 0, 0, 0, 1, 0, 0, 0])?;
+    Ok(())
+}
+
+/// What four runs over these media answer, and the results that their sink receives.
+fn run_four(alloc: Global, media: &mut Media) -> Result<([Answer; 4], [u8; 16]), Fail> {
+    let image = read_image(alloc, INCREMENT)?;
+    let moves = read_image(alloc, MOVES_A_WORD)?;
+    let mut links = wires(media);
+    send_four_packets(&mut links)?;
     let answers = four_answers(&image, &moves, &mut links);
+    let mut results = [0; 16];
+    links.sink.receive(&mut results)?;
+    Ok((answers, results))
+}
+
+#[test]
+fn nothing_is_left_over_between_packets(rt: HostRuntime) -> Result<(), Fail> {
+    let mut media = make_media(rt.alloc())?;
+    let (answers, results) = run_four(rt.alloc(), &mut media)?;
     let wanted = [
         ended(false, 16),
         ended(true, 16),
@@ -166,8 +180,6 @@ fn nothing_is_left_over_between_packets(rt: HostRuntime) -> Result<(), Fail> {
         ended(false, 19),
     ];
     assert_eq!(rt; answers, wanted);
-    let mut results = [0; 16];
-    links.sink.receive(&mut results)?;
     let wanted = [2, 0, 0, 0, 0, 0, 0, 0x80, 2, 0, 0, 0, 42, 0, 0, 0];
     assert_eq!(rt; results, wanted);
     Ok(())
