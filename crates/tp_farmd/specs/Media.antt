@@ -1,6 +1,6 @@
 -- The media of a member's devices.
 use Rattle.std.specs.Prelude.{◌≤◌}
-use Rattle.tp_members.specs.declared.media.Media.{Media}
+use Rattle.tp_media.specs.declared.media.Media.{Media}
 
 -- each has room for the longest packet, result or trace
 pub record HaveRoom (media : Media) : Type 0 where

@@ -1,0 +1,176 @@
+//! Batches to run, and what they come to.
+
+use crate::images::INCREMENT;
+use std::alloc::{AllocError, Global};
+use std::sync::Wait;
+use std::test::Fail;
+use std::thread::Threads;
+use tp_accept::accept;
+use tp_board::Packet;
+use tp_collect::{Collected, Done, Entry, LostCause};
+use tp_farm::{Batch, Gate, Job, run_batch};
+use tp_link::{DeviceFault, FaultyWire, Link, LinkDevice, LinkFault, Links};
+use tp_media::{Media, boxed, media_of};
+
+/// The number of the batches here.
+pub(crate) const BATCH: u64 = 7;
+
+/// What became of a packet, its result as one word.
+#[derive(Clone, Copy, Debug, PartialEq, Eq)]
+pub(crate) enum Told {
+    Done(u32),
+    Lost(Link, DeviceFault),
+    Stopped,
+}
+
+fn word(bytes: &[u8]) -> u32 {
+    match bytes {
+        [a, b, c, d] => u32::from_le_bytes([*a, *b, *c, *d]),
+        _ => 0,
+    }
+}
+
+pub(crate) fn of_entry(entry: &Entry) -> Told {
+    match entry {
+        Entry::Done(done) => Told::Done(word(done.result.as_slice())),
+        Entry::Lost(LostCause::Link(LinkFault { link, code })) => Told::Lost(*link, *code),
+        Entry::Lost(LostCause::Stopped) => Told::Stopped,
+    }
+}
+
+pub(crate) fn all_told(alloc: Global, collected: &Collected) -> Result<Vec<Told>, AllocError> {
+    let mut all = Vec::new(alloc);
+    for entry in collected.entries.iter() {
+        all.push(of_entry(entry))?;
+    }
+    Ok(all)
+}
+
+/// A packet of each of these words.
+pub(crate) fn packets(alloc: Global, words: &[u32]) -> Result<Vec<Packet>, Fail> {
+    let mut all = Vec::new(alloc);
+    for word in words {
+        let mut packet = Packet::new();
+        packet.try_extend_from_slice(&word.to_le_bytes())?;
+        all.push(packet)?;
+    }
+    Ok(all)
+}
+
+/// So many words in a row, from 0.
+pub(crate) fn count_up(alloc: Global, count: u32) -> Result<Vec<u32>, AllocError> {
+    let mut words = Vec::new(alloc);
+    for word in 0..count {
+        words.push(word)?;
+    }
+    Ok(words)
+}
+
+/// The batch of packets of one word each, when an image's worker runs on them.
+pub(crate) fn batch_on<R: Threads + Wait + Sync, D: LinkDevice + Send, G: Gate>(
+    rt: &R,
+    alloc: Global,
+    image: &[u8],
+    words: &[u32],
+    links: Vec<Links<D>>,
+    gate: &G,
+) -> Result<Batch<D>, Fail> {
+    let image = accept(alloc, Vec::from_slice(alloc, image)?)?;
+    let packets = packets(alloc, words)?;
+    let job = Job {
+        batch: BATCH,
+        image: &image,
+        packets: &packets,
+    };
+    Ok(run_batch(rt, alloc, &job, links, gate)?)
+}
+
+/// What becomes of these packets.
+pub(crate) fn run_on<R: Threads + Wait + Sync, D: LinkDevice + Send, G: Gate>(
+    rt: &R,
+    alloc: Global,
+    image: &[u8],
+    words: &[u32],
+    links: Vec<Links<D>>,
+    gate: &G,
+) -> Result<Collected, Fail> {
+    Ok(batch_on(rt, alloc, image, words, links, gate)?.collected)
+}
+
+/// What is told of these packets where one member runs them.
+pub(crate) fn told_by_one<R: Threads + Wait + Sync, D: LinkDevice + Send, G: Gate>(
+    rt: &R,
+    alloc: Global,
+    image: &[u8],
+    words: &[u32],
+    links: Links<D>,
+    gate: &G,
+) -> Result<Vec<Told>, Fail> {
+    let links = alone(alloc, links)?;
+    let collected = run_on(rt, alloc, image, words, links, gate)?;
+    Ok(all_told(alloc, &collected)?)
+}
+
+/// What becomes of the increments of these words, by so many members.
+pub(crate) fn increments_by<R: Threads + Wait + Sync, G: Gate>(
+    rt: &R,
+    alloc: Global,
+    words: &[u32],
+    members: usize,
+    gate: &G,
+) -> Result<Collected, Fail> {
+    let mut media = media_of(alloc, members, ROOM)?;
+    let links = boxed(alloc, &mut media)?;
+    run_on(rt, alloc, INCREMENT, words, links, gate)
+}
+
+/// The room of each medium in bytes, where nothing else is said.
+pub(crate) const ROOM: usize = 256;
+
+/// Wires that fail in their calls of these numbers, in source, sink and trace.
+pub(crate) fn failing(media: &mut Media, calls: [u64; 3]) -> Links<FaultyWire<'_>> {
+    Links {
+        source: FaultyWire::new(&mut media.source, calls[0]),
+        sink: FaultyWire::new(&mut media.sink, calls[1]),
+        trace: FaultyWire::new(&mut media.trace, calls[2]),
+    }
+}
+
+/// All three devices have ended.
+pub(crate) fn have_ended(media: &Media) -> bool {
+    media.source.ended() && media.sink.ended() && media.trace.ended()
+}
+
+/// A list of one.
+pub(crate) fn alone<T: Drop>(alloc: Global, one: T) -> Result<Vec<T>, AllocError> {
+    let mut all = Vec::new(alloc);
+    all.push(one)?;
+    Ok(all)
+}
+
+fn same_result(left: &Done, right: &Done) -> bool {
+    left.batch == right.batch
+        && left.packet == right.packet
+        && left.result.as_slice() == right.result.as_slice()
+        && left.error == right.error
+        && left.steps == right.steps
+        && left.trace.as_slice() == right.trace.as_slice()
+}
+
+fn same_entry(left: &Entry, right: &Entry) -> bool {
+    match (left, right) {
+        (Entry::Done(left), Entry::Done(right)) => same_result(left, right),
+        (Entry::Lost(left), Entry::Lost(right)) => left == right,
+        _ => false,
+    }
+}
+
+/// Two batches have equal entries, each field of them.
+pub(crate) fn same(left: &Collected, right: &Collected) -> bool {
+    left.entries.len() == right.entries.len()
+        && left
+            .entries
+            .iter()
+            .zip(right.entries.iter())
+            .all(|(left, right)| same_entry(left, right))
+}

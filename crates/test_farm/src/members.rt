@@ -1,0 +1,169 @@
+//! Members beside one another: the same batch by any number of them, and a batch that only threads can end.
+
+use crate::batches::{ROOM, Told, all_told, alone, count_up, failing, increments_by, run_on, same};
+use crate::images::*;
+use std::alloc::{AllocError, Global};
+use std::sync::Wait;
+use std::sync::atomic::{AtomicU64, Ordering};
+use std::test::Fail;
+use std::thread::{self, Threads};
+use tp_collect::Collected;
+use tp_farm::{Gate, OpenGate};
+use tp_link::{EndedMedium, LinkDevice, Links, Medium, OwnedWire};
+use tp_media::Media;
+
+/// The increments of these words by one member, over faulty wires that never fail.
+fn increments_by_one<R: Threads + Wait + Sync>(
+    rt: &R,
+    alloc: Global,
+    words: &[u32],
+) -> Result<Collected, Fail> {
+    let mut media = Media::new(alloc, ROOM)?;
+    let links = alone(alloc, failing(&mut media, [0; 3]))?;
+    run_on(rt, alloc, INCREMENT, words, links, &OpenGate)
+}
+
+/// Each entry tells its word plus one.
+fn are_one_more(alloc: Global, words: &[u32], collected: &Collected) -> Result<bool, Fail> {
+    let all = all_told(alloc, collected)?;
+    for (one, word) in all.iter().zip(words.iter()) {
+        if *one != Told::Done(word.wrapping_add(1)) {
+            return Ok(false);
+        }
+    }
+    Ok(all.len() == words.len())
+}
+
+/// 1,024 packets by 1, 3 and 64 members come to the same.
+#[test]
+fn members_make_no_difference(rt: HostRuntime) -> Result<(), Fail> {
+    let words = count_up(rt.alloc(), 1024)?;
+    let by_one = increments_by_one(&rt, rt.alloc(), &words)?;
+    assert_eq!(rt; by_one.entries.len(), 1024);
+    assert!(rt; are_one_more(rt.alloc(), &words, &by_one)?);
+    for members in [3, 64] {
+        let by_many = increments_by(&rt, rt.alloc(), &words, members, &OpenGate)?;
+        assert!(rt; same(&by_one, &by_many), "{members}");
+    }
+    Ok(())
+}
+
+/// How many turns a thread is held for, at most.
+const MOST_TURNS: u64 = 1_000_000;
+
+/// Holds the first numbers until as many are claimed, and number 0 until all others are finished.
+#[derive(Drop)]
+struct Holding {
+    members: u64,
+    packets: u64,
+    claims: AtomicU64,
+    finishes: AtomicU64,
+    ran_out: AtomicU64,
+}
+
+impl Holding {
+    fn hold_until(&self, count: &AtomicU64, wanted: u64) {
+        for _ in 0..MOST_TURNS {
+            if count.load(Ordering::SeqCst) >= wanted {
+                return;
+            }
+            thread::yield_now();
+        }
+        self.ran_out.fetch_add(1, Ordering::SeqCst);
+    }
+}
+
+impl Gate for Holding {
+    ghost use Rattle.std.specs.Prelude.{true};
+
+    ghost open_for_good = { λ _. true };
+
+    fn ask(&self, _member: u32) -> bool {
+        true
+    }
+
+    fn claimed(&self, _member: u32, number: u32) {
+        self.claims.fetch_add(1, Ordering::SeqCst);
+        if u64::from(number) < self.members {
+            self.hold_until(&self.claims, self.members);
+        }
+        if number == 0 {
+            self.hold_until(&self.finishes, self.packets.saturating_sub(1));
+        }
+    }
+
+    fn finished(&self, _member: u32, _number: u32) {
+        self.finishes.fetch_add(1, Ordering::SeqCst);
+    }
+}
+
+impl Holding {
+    /// The first so many numbers of a batch.
+    fn of(members: u64, packets: u64) -> Holding {
+        Holding {
+            members,
+            packets,
+            claims: AtomicU64::new(0),
+            finishes: AtomicU64::new(0),
+            ran_out: AtomicU64::new(0),
+        }
+    }
+}
+
+/// Wires of one member that own their media, whose places are added.
+fn owned_links(alloc: Global, ends: &mut Vec<EndedMedium>) -> Result<Links<OwnedWire>, AllocError> {
+    let (source, source_end) = OwnedWire::new(alloc, Medium::new(alloc, ROOM)?)?;
+    let (sink, sink_end) = OwnedWire::new(alloc, Medium::new(alloc, ROOM)?)?;
+    let (trace, trace_end) = OwnedWire::new(alloc, Medium::new(alloc, ROOM)?)?;
+    ends.push(source_end)?;
+    ends.push(sink_end)?;
+    ends.push(trace_end)?;
+    Ok(Links {
+        source,
+        sink,
+        trace,
+    })
+}
+
+/// The increments of 64 packets of 1 by four members, over boxes of any device.
+fn increments_by_any<R: Threads + Wait + Sync>(
+    rt: &R,
+    alloc: Global,
+    gate: &Holding,
+    ends: &mut Vec<EndedMedium>,
+) -> Result<Collected, Fail> {
+    let mut members = Vec::new(alloc);
+    for _ in 0..4u8 {
+        let Links {
+            source,
+            sink,
+            trace,
+        } = owned_links(alloc, ends)?;
+        let source: Box<dyn LinkDevice + Send> = Box::new(alloc, source)?;
+        let sink: Box<dyn LinkDevice + Send> = Box::new(alloc, sink)?;
+        let trace: Box<dyn LinkDevice + Send> = Box::new(alloc, trace)?;
+        members.push(Links {
+            source,
+            sink,
+            trace,
+        })?;
+    }
+    run_on(rt, alloc, INCREMENT, &[1; 64], members, gate)
+}
+
+/// Four members: the first four packets are held until all four are claimed, and the first until the other 63 are
+/// finished.
+#[test]
+fn members_claim_beside_one_another(rt: HostRuntime) -> Result<(), Fail> {
+    let mut ends = Vec::new(rt.alloc());
+    let gate = Holding::of(4, 64);
+    let collected = increments_by_any(&rt, rt.alloc(), &gate, &mut ends)?;
+    assert_eq!(rt; collected.entries.len(), 64);
+    assert!(rt; are_one_more(rt.alloc(), &[1; 64], &collected)?);
+    assert_eq!(rt; gate.ran_out.load(Ordering::SeqCst), 0);
+    assert_eq!(rt; gate.claims.load(Ordering::SeqCst), 64);
+    assert_eq!(rt; gate.finishes.load(Ordering::SeqCst), 64);
+    assert_eq!(rt; ends.len(), 12);
+    assert!(rt; ends.iter().all(|end| end.get().is_some()));
+    Ok(())
+}

@@ -1,0 +1,120 @@
+//! Batches that do not begin, and one that has nothing to do.
+
+use crate::batches::{ROOM, have_ended, increments_by, packets};
+use crate::images::*;
+use std::alloc::Global;
+use std::sync::Wait;
+use std::test::Fail;
+use std::thread::Threads;
+use tp_accept::accept;
+use tp_board::Packet;
+use tp_farm::{FarmFault, Job, OpenGate, run_batch};
+use tp_media::{Media, boxed, media_of};
+
+/// What a batch of the increment over these media is refused with, if it is.
+fn fault_over<R: Threads + Wait + Sync>(
+    rt: &R,
+    alloc: Global,
+    media: &mut [Media],
+    packets: &[Packet],
+) -> Result<Option<FarmFault>, Fail> {
+    let image = accept(alloc, Vec::from_slice(alloc, INCREMENT)?)?;
+    let job = Job {
+        batch: 0,
+        image: &image,
+        packets,
+    };
+    let links = boxed(alloc, media)?;
+    Ok(run_batch(rt, alloc, &job, links, &OpenGate).err())
+}
+
+/// What it is refused with, with so many members; and that all of their media have ended.
+fn refusal<R: Threads + Wait + Sync>(
+    rt: &R,
+    alloc: Global,
+    members: usize,
+    packets: &[Packet],
+) -> Result<(Option<FarmFault>, bool), Fail> {
+    let mut media = media_of(alloc, members, ROOM)?;
+    let fault = fault_over(rt, alloc, &mut media, packets)?;
+    Ok((fault, media.iter().all(have_ended)))
+}
+
+/// A list of packets of 1, of which these have another length.
+fn with_others(alloc: Global, count: usize, others: &[usize]) -> Result<Vec<Packet>, Fail> {
+    let ones = [1; 1025];
+    let mut all = packets(alloc, ones.get(..count).unwrap_or(&[]))?;
+    for other in others {
+        if let Some(packet) = all.get_mut(*other) {
+            packet.try_push(0)?;
+        }
+    }
+    Ok(all)
+}
+
+/// Members, packets, which of these have another length, and what the batch is refused with.
+const REFUSED: [(usize, usize, &[usize], Option<FarmFault>); 10] = [
+    (0, 1, &[], Some(FarmFault::Members)),
+    (65, 1, &[], Some(FarmFault::Members)),
+    (0, 1025, &[0], Some(FarmFault::Members)),
+    (65, 1025, &[0], Some(FarmFault::Members)),
+    (1, 1025, &[], Some(FarmFault::Packets)),
+    (64, 1025, &[3], Some(FarmFault::Packets)),
+    (2, 1, &[0], Some(FarmFault::Length(0))),
+    (2, 10, &[5, 9], Some(FarmFault::Length(5))),
+    (1, 1024, &[1023], Some(FarmFault::Length(1023))),
+    (1, 1024, &[], None),
+];
+
+#[test]
+fn refuses_in_order(rt: HostRuntime) -> Result<(), Fail> {
+    let alloc = rt.alloc();
+    for (members, count, others, wanted) in REFUSED.iter() {
+        let packets = with_others(alloc, *count, others)?;
+        let (fault, ended) = refusal(&rt, alloc, *members, &packets)?;
+        assert!(rt; fault == *wanted && ended, "{members} {count}");
+    }
+    Ok(())
+}
+
+/// A packet that is too short has another length, too.
+#[test]
+fn refuses_short_packets(rt: HostRuntime) -> Result<(), Fail> {
+    let alloc = rt.alloc();
+    let mut all = packets(alloc, &[1, 1])?;
+    all.push(Packet::new())?;
+    let (fault, ended) = refusal(&rt, alloc, 2, &all)?;
+    assert_eq!(rt; fault, Some(FarmFault::Length(2)));
+    assert!(rt; ended);
+    Ok(())
+}
+
+#[test]
+fn a_batch_may_be_empty(rt: HostRuntime) -> Result<(), Fail> {
+    let alloc = rt.alloc();
+    for members in [1, 64] {
+        let collected = increments_by(&rt, alloc, &[], members, &OpenGate)?;
+        assert_eq!(rt; collected.entries.len(), 0);
+    }
+    Ok(())
+}
+
+/// Each fault, and what is printed of it.
+const PRINTED: [(FarmFault, &str); 7] = [
+    (FarmFault::Members, "G1: not 1 to 64 members"),
+    (FarmFault::Packets, "G2: more than 1024 packets"),
+    (FarmFault::Length(7), "G3: packet 7 has another length"),
+    (FarmFault::Thread, "G4: no thread"),
+    (FarmFault::Stuck, "G5: stuck"),
+    (FarmFault::Limit, "G6: not ended within the budget"),
+    (FarmFault::Memory, "memory"),
+];
+
+#[test]
+fn prints_faults(rt: HostRuntime) -> Result<(), Fail> {
+    for (fault, text) in PRINTED.iter() {
+        let told = format!(in rt.alloc(); "{fault}")?;
+        assert!(rt; told.as_str() == *text, "{text}");
+    }
+    Ok(())
+}

@@ -1,0 +1,90 @@
+//! Traces.
+
+use crate::batches::{BATCH, ROOM, Told, alone, run_on, told_by_one};
+use crate::images::*;
+use std::alloc::Global;
+use std::sync::Wait;
+use std::test::Fail;
+use std::thread::Threads;
+use tp_collect::{Collected, Done, Entry};
+use tp_farm::OpenGate;
+use tp_link::{DeviceFault, Link};
+use tp_media::Media;
+
+/// What becomes of packets of two words by one member.
+fn both<R: Threads + Wait + Sync>(
+    rt: &R,
+    alloc: Global,
+    image: &[u8],
+    words: [u32; 2],
+) -> Result<Collected, Fail> {
+    let mut media = Media::new(alloc, ROOM)?;
+    let links = alone(alloc, media.wires())?;
+    run_on(rt, alloc, image, &words, links, &OpenGate)
+}
+
+/// The result is that of this packet, and result and trace are these bytes.
+fn is_traced(done: &Done, packet: u32, bytes: [u8; 4]) -> bool {
+    done.batch == BATCH
+        && done.packet == packet
+        && done.result.as_slice() == bytes.as_slice()
+        && done.trace.as_slice() == bytes.as_slice()
+        && done.steps == 19
+        && !done.error
+}
+
+#[test]
+fn a_trace_is_kept(rt: HostRuntime) -> Result<(), Fail> {
+    let collected = both(&rt, rt.alloc(), TRACES_ITS_PACKET, [10, 11])?;
+    match collected.entries.as_slice() {
+        [Entry::Done(first), Entry::Done(second)] => {
+            assert!(rt; is_traced(first, 0, [10, 0, 0, 0]));
+            assert!(rt; is_traced(second, 1, [11, 0, 0, 0]));
+        }
+        _ => assert!(rt; false, "two results"),
+    }
+    Ok(())
+}
+
+/// What is told of two packets that are traced 65 times, in a trace with this room.
+fn told_of_long_traces<R: Threads + Wait + Sync>(
+    rt: &R,
+    alloc: Global,
+    room: usize,
+) -> Result<Vec<Told>, Fail> {
+    let mut media = Media::with_rooms(alloc, ROOM, ROOM, room)?;
+    told_by_one(
+        rt,
+        alloc,
+        TRACES_65_TIMES,
+        &[0, 0],
+        media.wires(),
+        &OpenGate,
+    )
+}
+
+/// With room for 256 bytes the 65th message is refused. With room for it, the trace is too long in the end.
+#[test]
+fn a_long_trace_is_lost(rt: HostRuntime) -> Result<(), Fail> {
+    let lost = Told::Lost(Link::Trace, DeviceFault::Full);
+    for room in [0, 256, 259, 260, 1000] {
+        let all = told_of_long_traces(&rt, rt.alloc(), room)?;
+        assert!(rt; all.as_slice() == [lost, lost].as_slice(), "{room}");
+    }
+    Ok(())
+}
+
+/// The error flag of each packet is its own.
+#[test]
+fn an_error_flag_is_told(rt: HostRuntime) -> Result<(), Fail> {
+    let collected = both(&rt, rt.alloc(), INCREMENT, [0x7FFF_FFFF, 1])?;
+    match collected.entries.as_slice() {
+        [Entry::Done(first), Entry::Done(second)] => {
+            assert!(rt; first.error && !second.error);
+            assert_eq!(rt; first.result.as_slice(), [0, 0, 0, 0x80].as_slice());
+            assert_eq!(rt; second.result.as_slice(), [2, 0, 0, 0].as_slice());
+        }
+        _ => assert!(rt; false, "two results"),
+    }
+    Ok(())
+}

@@ -1,5 +1,0 @@
-use Rattle.tp_board.specs.Boards.{IsSeatOf}
-use Rattle.tp_board_rows.proofs.boards.assert_steps.Given as goal
-
-abbrev pub invariant-loop-place : goal.invariant-loop-place
-invariant-loop-place g l = IsSeatOf l.board l.zero × IsSeatOf l.board l.one

@@ -1,5 +1,0 @@
-use Rattle.tp_board.specs.Boards.{IsSeatOf}
-use Rattle.tp_board_rows.proofs.threads.worked.Given as goal
-
-abbrev pub invariant-loop : goal.invariant-loop
-invariant-loop l = IsSeatOf l.board l.seat

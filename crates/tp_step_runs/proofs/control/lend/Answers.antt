@@ -1,8 +1,0 @@
-use Rattle.std.proofs.Common.{rules}
-use Rattle.tp_step_runs.proofs.Computing.{by_steps}
-use Rattle.tp_step_runs.proofs.control.lend.Goals as goal
-
--- row by row, since together they take more steps than one search may
-pub returns : goal.returns
-unfolding by_steps
-returns c = (search rules, (search rules, (search rules, (search rules, (search rules, (search rules, (search rules, (search rules, (search rules, (search rules, (search rules, (search rules, (search rules, (search rules, (search rules, tt)))))))))))))))
