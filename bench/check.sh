@@ -5,14 +5,14 @@
 # one behind the other. Outcomes are also given for each edge, of which there are at most 1 + 1,024 and one for each change of
 # a register. Then the program's peak of memory. Ends with status 1 where an image takes more than 8 seconds or the program
 # more than 64 MiB.
-cd "$(dirname "$0")/../crates/tp_check_bench" && rt run >/dev/null || exit 1
+cd "$(dirname "$0")/../crates/bench" && rt run >/dev/null || exit 1
 python3 - <<'PY'
 import re, resource, subprocess, sys
 
 MOST_MICROSECONDS = 8_000_000
 MOST_KIB = 64 * 1024
 
-told = subprocess.run(["out/tp_check_bench", "time"], stdout=subprocess.PIPE, text=True, check=True).stdout
+told = subprocess.run(["out/bench", "check"], stdout=subprocess.PIPE, text=True, check=True).stdout
 peak = resource.getrusage(resource.RUSAGE_CHILDREN).ru_maxrss
 print(told + f"peak {peak} KiB")
 slowest = max(int(n) for n in re.findall(r": (\d+) microseconds", told))

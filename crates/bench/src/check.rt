@@ -1,0 +1,146 @@
+//! What the verifier's passes take, beside `check_flow` of the same image in the same run: over small and straight codes, and
+//! over codes that are made to keep the passes going.
+//!
+//! The small and straight codes are judged once, and it is printed how many instructions have a state, how many passes were
+//! made, and how many outcomes were worked out; or all are judged, and the times are printed with these counts.
+
+mod sample;
+
+ghost use Rattle.tp_decode.specs.Cutting.{IsCutting};
+
+use anyhow::{Result, anyhow, bail};
+use std::alloc::Global;
+use std::fmt;
+use std::rt::Runtime;
+use std::time::Instant;
+use tp_check::{Effort, Table, check_states_counting};
+use tp_decode::{Instr, Listing, decode};
+use tp_flow::{check_flow, edges};
+use tp_image::{Image, read_image};
+
+/// How often check_flow is timed: it is quick.
+const FLOW_ROUNDS: u32 = 100;
+
+pub(crate) fn measure<R: Runtime<A = Global>>(rt: &R, is_timed: bool) -> Result<()> {
+    let alloc = rt.alloc();
+    told(rt, "increment", &sample::INCREMENT, is_timed)?;
+    told(rt, "straight", &sample::straight(alloc)?, is_timed)?;
+    told(rt, "jumps", &sample::jumps(alloc)?, is_timed)?;
+    if !is_timed {
+        return Ok(());
+    }
+    told(rt, "one loop", &sample::moving(alloc, 1, 1)?, is_timed)?;
+    told(rt, "four nested", &sample::moving(alloc, 1, 4)?, is_timed)?;
+    told(rt, "sixteen", &sample::moving(alloc, 16, 1)?, is_timed)
+}
+
+/// Judges one image, and prints what was found, or how long it took.
+fn told<R: Runtime<A = Global>>(rt: &R, name: &str, bytes: &[u8], is_timed: bool) -> Result<()> {
+    let image = read_image(rt.alloc(), bytes)?;
+    let Ok(listing) = decode(rt.alloc(), &image.code) else {
+        bail!("no listing");
+    };
+    if is_timed {
+        return timed(rt, name, &image, &listing);
+    }
+    let Found { states, effort } = judged(rt.alloc(), &image, &listing)?;
+    let instructions = listing.len();
+    let Effort { passes, outcomes } = effort;
+    println!(rt;
+        "{name}: {instructions} instructions, {states} of them have a state, {passes} passes, {outcomes} outcomes"
+    )?;
+    Ok(())
+}
+
+/// How many instructions have a state, and what finding this took.
+#[derive(Clone, Copy)]
+struct Found {
+    states: usize,
+    effort: Effort,
+}
+
+fn judged(alloc: Global, image: &Image, listing: &Listing) -> Result<Found>
+    requires { IsCutting image.now.code listing.now }
+{
+    let Ok(nest) = check_flow(image, listing) else {
+        bail!("no nest");
+    };
+    let mut effort = Effort::default();
+    let table = check_states_counting(alloc, image, listing, &nest, &mut effort).map_err(
+        |fault| anyhow!("{fault}"),
+    )?;
+    let states = states_in(&table, listing);
+    Ok(Found { states, effort })
+}
+
+/// How many instructions have a state.
+fn states_in(table: &Table, listing: &Listing) -> usize {
+    listing
+        .starts()
+        .iter()
+        .filter(|start| table.at(**start as usize).is_some())
+        .count()
+}
+
+/// How many edges a code's instructions are asked on.
+fn edges_asked(listing: &Listing) -> u64 {
+    let mut asked = 0u64;
+    for i in 0..listing.len() {
+        if let Some(place) = listing.get(i) {
+            let ways = match place.instr {
+                Instr::Stopp => 1,
+                instr => edges(instr).len() as u64,
+            };
+            asked = asked.saturating_add(ways);
+        }
+    }
+    asked
+}
+
+/// How many times as long as another a time is, to three places.
+#[derive(Clone, Copy)]
+struct Ratio {
+    whole: u128,
+    thousandths: u128,
+}
+
+impl Ratio {
+    fn of(time: u128, other: u128) -> Ratio {
+        let other = other.max(1);
+        Ratio {
+            whole: time / other,
+            thousandths: (time % other).saturating_mul(1000) / other,
+        }
+    }
+}
+
+impl fmt::Display for Ratio {
+    fn fmt<W: fmt::Write>(&self, f: &mut fmt::Formatter<W>) -> fmt::Result {
+        write!(f, "{}.{:03}", self.whole, self.thousandths)
+    }
+}
+
+/// Prints the time, the passes and the outcomes, each beside the time of `check_flow`.
+fn timed<R: Runtime<A = Global>>(rt: &R, name: &str, image: &Image, listing: &Listing) -> Result<()>
+    requires { IsCutting image.now.code listing.now }
+{
+    let start = Instant::now(rt)?;
+    for _ in 0..FLOW_ROUNDS {
+        check_flow(image, listing).map_err(|fault| anyhow!("{fault}"))?;
+    }
+    let flow = start.elapsed(rt)?.as_nanos() / u128::from(FLOW_ROUNDS);
+    let start = Instant::now(rt)?;
+    let Found { effort, .. } = judged(rt.alloc(), image, listing)?;
+    let both = start.elapsed(rt)?.as_nanos();
+    let micros = both / 1000;
+    let Effort { passes, outcomes } = effort;
+    let ratio = both / flow.max(1);
+    let pass = Ratio::of(both / u128::from(passes.max(1)), flow);
+    let outcome = Ratio::of(both / u128::from(outcomes.max(1)), flow);
+    let edges = edges_asked(listing);
+    let each = outcomes / edges.max(1);
+    println!(rt;
+        "{name}: {micros} microseconds, {ratio} times check_flow; {passes} passes, each {pass} times; {outcomes} outcomes, each {outcome} times; {edges} edges, {each} outcomes on each"
+    )?;
+    Ok(())
+}
