@@ -1,6 +1,6 @@
 -- Each table of the passes is below every table that each edge respects, and so they refuse only where there is none.
-use Rattle.std.proofs.Common.{◌≡◌, ℕ, zero, suc, ◌==◌, if◌then◌else◌, Bool, true, false, List, [], ◌∷◌, ◌++◌, slice_get, Option, Some, None, Result, Ok, Err, refl, sym, ap, ◌∙◌, subst, arith}
-use Rattle.std.specs.Prelude.{IfOk, All}
+use Rattle.std.proofs.Common.{◌≡◌, ◌≢◌, ℕ, zero, suc, ◌==◌, if◌then◌else◌, Bool, true, false, List, [], ◌∷◌, ◌++◌, slice_get, Option, Some, None, Result, Ok, Err, refl, sym, ap, ◌∙◌, subst, arith}
+use Rattle.std.specs.Prelude.{IfOk, IfErr, All}
 use Rattle.std.specs.List.{AllByRecursion, flat_map}
 use Rattle.std.proofs.lemmas.Bool.Decides.{nat_tests, Decides-eqb}
 use Rattle.std.proofs.lemmas.Option.{same_Some}
@@ -15,13 +15,14 @@ use Rattle.tp_flow.specs.Edges.{target}
 use Rattle.tp_state.specs.declared.state.State.{State}
 use Rattle.tp_state.specs.declared.fault.StateCode.{StateCode}
 use Rattle.tp_state.specs.declared.fault.StateFault.{StateFault}
+use Rattle.tp_state.specs.declared.fault.StateFault.TheVariants as state_fault
 use Rattle.tp_state.specs.Answer.{◌>>=◌}
 use Rattle.tp_state.specs.Order.{join}
 use Rattle.tp_state.specs.Entry.{entry}
 use Rattle.tp_state.specs.After.{after}
 use Rattle.tp_check.specs.Tables.{Table, with_state, no_states, asked}
-use Rattle.tp_check.specs.Passes.{enter, go_along, placed, met, along, from, edges_of, pass, passes, first_table, IsVerdict}
-use Rattle.tp_check.specs.EdgesRespect.{HasAbove, Respects, EveryEdgeRespects}
+use Rattle.tp_check.specs.Passes.{enter, go_along, placed, met, along, from, edges_of, pass, passes, first_table, IsVerdict, IsRefusalOf}
+use Rattle.tp_check.specs.EdgesRespect.{HasAbove, Respects, EveryEdgeRespects, HasNoTable}
 use Rattle.tp_state.specs.Order.{IsBelow, meeting}
 use Rattle.tp_state.proofs.StateOrder.{is_below-trans, is_below-least}
 use Rattle.tp_state.specs.Conditions.{HasGoodLoops}
@@ -174,3 +175,10 @@ module _ (image : ImageValue) (cuts : List Cut) (range : InRange image) (spelled
     where
       differ : (x : Table) (e : StateFault) → ◌≡◌ {A = Result Table StateFault} (Ok x) (Err e) → ⊥
       differ x e is = cc
+
+-- a fault of the passes tells that there is none
+pub none_respected : {X : Type 0} (image : ImageValue) (cuts : List Cut) → InRange image → KeepsNest image.loops image.workspace cuts → AllByRecursion IsSpelled cuts → (r : Result X StateFault) → IfErr r (IsRefusalOf image cuts)
+    → IfErr r (λ e. e ≢ state_fault.Memory → HasNoTable image cuts)
+none_respected image cuts range nest spelled (Ok x) says = tt
+none_respected image cuts range nest spelled (Err (state_fault.Refused code place)) says = λ some table every. no_refusal image cuts range spelled nest table every (state_fault.Refused code place) says
+none_respected image cuts range nest spelled (Err state_fault.Memory) says = λ some table every. some refl

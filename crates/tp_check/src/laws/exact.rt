@@ -9,13 +9,12 @@ ghost use Rattle.tp_state.specs.declared.state.State.{State};
 ghost use Rattle.tp_state.specs.declared.fault.StateFault.{StateFault};
 ghost use Rattle.tp_check.specs.Tables.{Table};
 ghost use Rattle.tp_check.specs.Passes.{IsVerdict};
-ghost use Rattle.tp_check.specs.EdgesRespect.{HasAbove, EveryEdgeRespects};
+ghost use Rattle.tp_check.specs.EdgesRespect.{HasAbove, EveryEdgeRespects, HasNoTable};
 
 /// The passes refuse only where no table exists that every edge respects. Nothing is asked of the states of that table.
 pub fn a_refusal_means_no_table()
-    ensures { (image : ImageValue) (cuts : List Cut) (fault : StateFault) (table : Table) → InRange image →
-        AllByRecursion IsSpelled cuts → KeepsNest image.loops image.workspace cuts →
-        IsVerdict image cuts (Err fault) → ¬ EveryEdgeRespects image cuts table }
+    ensures { (image : ImageValue) (cuts : List Cut) (fault : StateFault) → InRange image → AllByRecursion IsSpelled cuts →
+        KeepsNest image.loops image.workspace cuts → IsVerdict image cuts (Err fault) → HasNoTable image cuts }
 {}
 
 /// The table that the passes come to is below every table that each edge respects.
