@@ -1,113 +1,42 @@
 -- The passes come to a verdict: each of them refuses, leaves the table as it is, or leaves fewer changes to be made.
-use Rattle.std.proofs.Common.{◌≡◌, ℕ, zero, suc, ◌-◌, ◌^◌, ◌<◌, ◌≤◌, ◌⊎◌, inl, inr, ◌==◌, nat_eq, if◌then◌else◌, Bool, true, false, IsTrue, ℤ, pos, FitsSigned, w32, List, [], ◌∷◌, map, replicate, length, length-append, length-set, slice_get, slice_set, slice_index_or, Option, Some, None, Result, Ok, Err, refl, sym, ap, ◌∙◌, subst, arith}
-use Rattle.std.specs.Prelude.{IfOk, All}
+use Rattle.std.proofs.Common.{◌≡◌, ℕ, zero, suc, ◌-◌, ◌<◌, ◌⊎◌, inl, inr, ◌==◌, nat_eq, if◌then◌else◌, false, IsTrue, List, [], ◌∷◌, replicate, length, length-set, slice_get, slice_set, slice_index_or, Option, Some, None, Result, Ok, Err, refl, sym, ap, ◌∙◌, subst, arith}
+use Rattle.std.specs.Prelude.{IfOk}
 use Rattle.std.specs.List.{AllByRecursion, flat_map}
-use Rattle.std.specs.Ordering.{int_eq}
 use mathlib.Core.Path.{fun_ext}
 use Rattle.std.proofs.lemmas.Bool.{cases_eq}
 use Rattle.std.proofs.lemmas.Bool.Decides.{nat_tests}
-use Rattle.std.proofs.lemmas.Int.{ints, clamps}
 use Rattle.std.proofs.lemmas.Option.{same_Some}
-use Rattle.std.proofs.lemmas.List.{set-get_or, length-map, length-replicate}
+use Rattle.std.proofs.lemmas.List.{set-get_or, length-replicate}
 use Rattle.std.proofs.lemmas.List.Concat.{flat_map-cons}
-use Rattle.std.proofs.lemmas.List.Elements.{All-nil, All-cons, All-map, All-append, All-replicate}
-use Rattle.tp_decode.specs.Words.{signed}
 use Rattle.tp_decode.specs.declared.placed.Placed.{Placed}
-use Rattle.tp_decode.specs.Cutting.{Cut, IsSpelled, code_of, placed_from, starts_from}
-use Rattle.tp_image.specs.declared.image.Version.{Version}
-use Rattle.tp_image.specs.declared.image.Version.TheVariants.{One, Two}
-use Rattle.tp_image.specs.Image.{ImageValue, InRange, most_initial}
-use Rattle.tp_image.specs.Limits.{most_workspace}
+use Rattle.tp_decode.specs.Cutting.{Cut, IsSpelled, placed_from, starts_from}
+use Rattle.tp_image.specs.Image.{ImageValue, InRange}
 use Rattle.tp_flow.specs.declared.edge.Edge.{Edge}
 use Rattle.tp_flow.specs.NestKept.{KeepsNest}
 use Rattle.tp_flow.specs.NestRanges.{ranges}
 use Rattle.tp_flow.specs.Edges.{target}
 use Rattle.tp_flow.specs.RowRules.{is_start}
-use Rattle.tp_state.specs.declared.kind.Kind.{Kind}
-use Rattle.tp_state.specs.declared.kind.Kind.TheVariants as kind
-use Rattle.tp_state.specs.declared.cell.Cell.{Cell}
-use Rattle.tp_state.specs.declared.cell.Cell.TheVariants as cell
 use Rattle.tp_state.specs.declared.state.State.{State}
 use Rattle.tp_state.specs.declared.fault.StateCode.{StateCode}
 use Rattle.tp_state.specs.declared.fault.StateFault.{StateFault}
 use Rattle.tp_state.specs.Answer.{◌>>=◌}
-use Rattle.tp_state.specs.Kinds.{HasWordEnds}
-use Rattle.tp_state.specs.Order.{join_kinds, join_cells, joined_cells, join}
+use Rattle.tp_state.specs.Order.{join}
 use Rattle.tp_state.specs.Entry.{entry}
 use Rattle.tp_state.specs.After.{after}
-use Rattle.tp_state.proofs.CodeLemmas.{spelling_of, operand_fits}
 use Rattle.tp_check.specs.Tables.{Table, table_of, asked}
 use Rattle.tp_check.specs.Passes.{enter, go_along, placed, along, from, edges_of, pass, passes, first_table, IsVerdict}
 use Rattle.tp_check.specs.UnderWay.{IsStateAt, HasGrown, MayBeTaken, state_height, table_height}
-use Rattle.tp_check.proofs.Heights.{HasWords, Sinks, state_sinks, state_light, table_sinks}
+use Rattle.tp_check.proofs.Heights.{Sinks, sound_words, state_sinks, state_light, table_sinks}
 use Rattle.tp_check.proofs.TableSteps.{table_at, table_set}
-use Rattle.tp_check.proofs.Places.{last_above, no_last, StandsAt, stands_at}
+use Rattle.tp_check.proofs.Places.{last_above, no_last, stands_at}
 use Rattle.tp_check.proofs.Entering.{Becomes, Entered, entered, elsewhere, there, grows, first_grown}
 use Rattle.tp_check.proofs.Taking.{along_none, along_some, enter_none, arrives_at}
 use Rattle.tp_check.proofs.Moving.{along_append}
 use Rattle.tp_check.proofs.Passing.{may_be_taken}
-use Rattle.tp_check.proofs.WordEnds.{small_fits, no_overflow, IsWordCell}
-use Rattle.tp_check.proofs.RuleSound.{IsSound, LoadsWord, after_sound}
-
--- ---- numbers of joins are words
-
-int_join : (a b c d : ℤ) → HasWordEnds (kind.Int a b) → HasWordEnds (kind.Int c d) → HasWordEnds (join_kinds (kind.Int a b) (kind.Int c d))
-int_join a b c d (a_fits, b_fits) (c_fits, d_fits) = (grind (arith, ints, clamps), grind (arith, ints, clamps))
-
-kinds_joined : (k l : Kind) → HasWordEnds k → HasWordEnds l → HasWordEnds (join_kinds k l)
-kinds_joined (kind.Int a b) (kind.Int c d) f g = int_join a b c d f g
-kinds_joined (kind.Ptr p q) (kind.Ptr r s) (p_lt, q_lt) (r_lt, s_lt) = (omega arith, omega arith)
-kinds_joined (kind.BytePtr p q) (kind.BytePtr r s) (p_lt, q_lt) (r_lt, s_lt) = (omega arith, omega arith)
-kinds_joined kind.Undef l f g = tt
-kinds_joined (kind.Int a b) kind.Undef f g = tt
-kinds_joined (kind.Int a b) (kind.Ptr r s) f g = tt
-kinds_joined (kind.Int a b) (kind.BytePtr r s) f g = tt
-kinds_joined (kind.Ptr p q) kind.Undef f g = tt
-kinds_joined (kind.Ptr p q) (kind.Int c d) f g = tt
-kinds_joined (kind.Ptr p q) (kind.BytePtr r s) f g = tt
-kinds_joined (kind.BytePtr p q) kind.Undef f g = tt
-kinds_joined (kind.BytePtr p q) (kind.Int c d) f g = tt
-kinds_joined (kind.BytePtr p q) (kind.Ptr r s) f g = tt
-
-known_joined : (n : ℤ) (p : Bool) → FitsSigned w32 n → IsWordCell (if p then cell.Known n else cell.Any)
-known_joined n true f = f
-known_joined n false f = tt
-
-live_joined : (make : ℕ → Cell) (l : ℕ) (p : Bool) → IsWordCell (make l) → IsWordCell (if p then make l else cell.Undef)
-live_joined make l true f = f
-live_joined make l false f = tt
-
-cells_joined : (c d : Cell) → IsWordCell c → IsWordCell (join_cells c d)
-cells_joined (cell.Known n) (cell.Known m) f = known_joined n (int_eq n m) f
-cells_joined (cell.Known n) cell.Any f = tt
-cells_joined (cell.Known n) cell.Undef f = tt
-cells_joined (cell.Known n) (cell.Index k) f = tt
-cells_joined (cell.Known n) (cell.Count k) f = tt
-cells_joined cell.Any (cell.Known m) f = tt
-cells_joined cell.Any cell.Any f = tt
-cells_joined cell.Any cell.Undef f = tt
-cells_joined cell.Any (cell.Index k) f = tt
-cells_joined cell.Any (cell.Count k) f = tt
-cells_joined cell.Undef d f = tt
-cells_joined (cell.Index l) (cell.Index k) f = live_joined cell.Index l (l == k) tt
-cells_joined (cell.Index l) cell.Undef f = tt
-cells_joined (cell.Index l) cell.Any f = tt
-cells_joined (cell.Index l) (cell.Known m) f = tt
-cells_joined (cell.Index l) (cell.Count k) f = tt
-cells_joined (cell.Count l) (cell.Count k) f = live_joined cell.Count l (l == k) tt
-cells_joined (cell.Count l) cell.Undef f = tt
-cells_joined (cell.Count l) cell.Any f = tt
-cells_joined (cell.Count l) (cell.Known m) f = tt
-cells_joined (cell.Count l) (cell.Index k) f = tt
-
-all_joined : (cs ds : List Cell) → All IsWordCell cs → All IsWordCell (joined_cells cs ds)
-all_joined [] ds f = All-nil IsWordCell
-all_joined (c ∷ cs) [] f = All-nil IsWordCell
-all_joined (c ∷ cs) (d ∷ ds) f =
-    All-cons IsWordCell (join_cells c d) (joined_cells cs ds) (cells_joined c d (f 0 c (omega arith))) (all_joined cs ds (λ i e lt. f (suc i) e (omega (arith, lt))))
-
-words_joined : (t s : State) → HasWords t → HasWords s → HasWords (join t s)
-words_joined t s f g = record { a = kinds_joined t.a s.a f.a g.a; b = kinds_joined t.b s.b f.b g.b; c = kinds_joined t.c s.c f.c g.c }
+use Rattle.tp_check.proofs.Loading.{loads_word}
+use Rattle.tp_rules.proofs.SoundRules.{after_sound}
+use Rattle.tp_rules.proofs.SoundJoins.{entry_sound, join_sound}
+use Rattle.tp_state.specs.Sound.{IsSound, LoadsWord}
 
 -- ---- tables in a list, whose states are sound
 
@@ -156,11 +85,9 @@ module _ (image : ImageValue) (places : ℕ) where
       grown : HasGrown image new
       grown = grows image (table_of states) to s kept.grown fits new e
 
-      words_there : (o : Option State) → table_of states to ≡ o → Becomes o s e.state → HasWords e.state × All IsWordCell e.state.cells
-      words_there None is same = rw same (sound.words, sound.cells)
-      words_there (Some u) is (wptr, phase, same) =
-          let before = kept.sound to u is in
-          rw same (words_joined u s before.words sound.words, all_joined u.cells s.cells before.cells)
+      sound_there : (o : Option State) → table_of states to ≡ o → Becomes o s e.state → IsSound image e.state
+      sound_there None is same = rw same sound
+      sound_there (Some u) is (wptr, phase, same) = rw same (join_sound image u s (kept.sound to u is) sound)
 
       sound_at : (at : ℕ) (t : State) → new at ≡ Some t → IsSound image t
       sound_at at t is = by_place (cases_eq at to)
@@ -168,15 +95,14 @@ module _ (image : ImageValue) (places : ℕ) where
           by_place : (at ≡ to) ⊎ (at ≡ to → ⊥) → IsSound image t
           by_place (inl same) =
               let here : e.state ≡ t = same_Some _ _ (sym (there (table_of states) to s new e) ∙ sym (ap new same) ∙ is) in
-              let words = words_there (table_of states to) refl e.becomes in
-              record { placed = (grown.states at t is).placed; words = subst HasWords here words.0; cells = subst (λ u. All IsWordCell u.cells) here words.1 }
+              subst (IsSound image) here (sound_there (table_of states to) refl e.becomes)
           by_place (inr other) = kept.sound at t (sym (elsewhere (table_of states) to s new at e other) ∙ is)
 
       sinks_there : (o : Option State) → table_of states to ≡ o → Becomes o s e.state → Sinks (table_height image) states (slice_set states to (Some e.state))
       sinks_there None is same =
           let none : slice_index_or states to None ≡ None = sym (table_at states to inside) ∙ is in
-          inr (table_sinks image states to (Some e.state) inside (rw (none, same) (state_light image s sound.words sound.placed.sized)))
-      sinks_there (Some u) is (wptr, phase, same) = by_sink (state_sinks u s sound.words (sound.placed.sized ∙ sym (kept.sound to u is).placed.sized))
+          inr (table_sinks image states to (Some e.state) inside (rw (none, same) (state_light image s (sound_words image s sound) sound.placed.sized)))
+      sinks_there (Some u) is (wptr, phase, same) = by_sink (state_sinks u s (sound_words image s sound) (sound.placed.sized ∙ sym (kept.sound to u is).placed.sized))
         where
           there_is : slice_index_or states to None ≡ Some u
           there_is = sym (table_at states to inside) ∙ is
@@ -211,13 +137,6 @@ pub record IsReady (image : ImageValue) (places : ℕ) (p : Placed) : Type 0 whe
   pub may : MayBeTaken image places p
   pub loads : LoadsWord p.instr
 
-small_workspace : (image : ImageValue) → InRange image → image.workspace ≤ 512
-small_workspace image range = by_version image.version range.workspace.1
-  where
-    by_version : (v : Version) → image.workspace ≤ most_workspace v → image.workspace ≤ 512
-    by_version One le = omega (arith, le)
-    by_version Two le = omega (arith, le)
-
 module _ (image : ImageValue) (cuts : List Cut) (range : InRange image) (spelled : AllByRecursion IsSpelled cuts) (nest : KeepsNest image.loops image.workspace cuts) (places : ℕ) where
   module _ (p : Placed) (ready : IsReady image places p) where
     edge_leads : (edge : Edge) (states : List (Option State)) → IsKept image places states → IfOk (go_along image p edge (table_of states p.at) (table_of states)) (Leads image places states)
@@ -241,7 +160,7 @@ module _ (image : ImageValue) (cuts : List Cut) (range : InRange image) (spelled
         by_state : (o : Option State) → table_of states p.at ≡ o → IfOk (go_along image p edge (table_of states p.at) (table_of states)) (Leads image places states)
         by_state None here = subst (λ r. IfOk r (Leads image places states)) (sym (along_none image p edge (table_of states) (table_of states p.at) here)) (stays image places states kept)
         by_state (Some s) here =
-            let sound = after_sound image (small_workspace image range) range.rows nest.good p.at p.next p.instr edge s ready.loads (kept.sound p.at s here) in
+            let sound = after_sound image range nest.good p.at p.next p.instr edge s ready.loads (kept.sound p.at s here) in
             subst (λ r. IfOk r (Leads image places states)) (sym (along_some image p edge (table_of states) (table_of states p.at) s (after image p.at p.next p.instr edge s) here refl))
             (by_outcome s here (after image p.at p.next p.instr edge s) refl sound)
 
@@ -261,10 +180,7 @@ module _ (image : ImageValue) (cuts : List Cut) (range : InRange image) (spelled
     ready_at : (i : ℕ) (p : Placed) → slice_get (placed_from 0 cuts) i ≡ Some p → IsReady image places p
     ready_at i p is =
         let stands = stands_at cuts i p nest.spelled is in
-        record { may = may_be_taken image cuts places p nest inside stands; loads = subst (λ q. LoadsWord q.instr) (sym stands.is) (loads p stands) }
-      where
-        loads : (p : Placed) (stands : StandsAt cuts p) → LoadsWord stands.cut.instr
-        loads p stands = no_overflow _ (operand_fits stands.cut (spelling_of (code_of cuts) cuts p.at stands.cut (record { joined = refl; each = spelled }) stands.there))
+        record { may = may_be_taken image cuts places p nest inside stands; loads = loads_word cuts spelled p stands }
 
     pass_leads : (states : List (Option State)) → IsKept image places states → IfOk (pass image cuts (table_of states)) (Leads image places states)
     pass_leads states kept = all_lead (placed_from 0 cuts) ready_at states kept
@@ -294,29 +210,6 @@ module _ (image : ImageValue) (cuts : List Cut) (range : InRange image) (spelled
     ends (suc n) states kept number comes less = one_more states kept number comes λ new kept comes fewer. ends n new kept (suc number) comes (omega (arith, less, fewer))
 
 -- ---- the first table
-
-initial_few : (image : ImageValue) → InRange image → length image.initial ≤ image.workspace
-initial_few image range = by_version image.version range.initial
-  where
-    by_version : (v : Version) → length image.initial ≤ most_initial v image.workspace → length image.initial ≤ image.workspace
-    by_version One le = omega (arith, le)
-    by_version Two le = le
-
-signed_fits : (v : ℕ) → v < 2 ^ 32 → FitsSigned w32 (signed v)
-signed_fits v lt = grind (arith, ints)
-
-entry_sound : (image : ImageValue) → InRange image → IsSound image (entry image)
-entry_sound image range = record {
-  placed = record { roomy = range.start_least; inside = range.start_most; sized = sized };
-  words = record { a = tt; b = tt; c = tt };
-  cells = All-append IsWordCell _ _ (All-map IsWordCell (λ word. cell.Known (signed word)) image.initial (λ i d lt. signed_fits _ (range.words i d lt))) (All-replicate IsWordCell (image.workspace - length image.initial) (cell.Known (pos 0)) (small_fits 0 (omega arith)));
-}
-  where
-    sized : length (entry image).cells ≡ image.workspace
-    sized =
-        let few = initial_few image range in
-        length-append (map (λ word. cell.Known (signed word)) image.initial) (replicate (image.workspace - length image.initial) (cell.Known (pos 0)))
-        ∙ omega (arith, few, length-map image.initial (λ word. cell.Known (signed word)), length-replicate (image.workspace - length image.initial) (cell.Known (pos 0)))
 
 no_state : (n x : ℕ) → table_of (replicate n None) x ≡ None
 no_state zero x = refl

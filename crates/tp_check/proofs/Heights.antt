@@ -13,6 +13,7 @@ use Rattle.tp_state.specs.declared.cell.Cell.{Cell}
 use Rattle.tp_state.specs.declared.cell.Cell.TheVariants.{Undef, Any, Known, Index, Count}
 use Rattle.tp_state.specs.declared.state.State.{State}
 use Rattle.tp_state.specs.Kinds.{HasWordEnds}
+use Rattle.tp_state.specs.Sound.{IsRange, IsSoundKind, IsSound}
 use Rattle.tp_state.specs.Order.{join_kinds, join_cells, joined_cells, join, meeting, TellsChange}
 use Rattle.tp_state.specs.declared.fault.StateCode.{StateCode}
 use Rattle.tp_state.specs.declared.fault.StateCode.TheVariants.{S6, S9}
@@ -187,6 +188,19 @@ pub record HasWords (s : State) : Type 0 where
   pub a : HasWordEnds s.a
   pub b : HasWordEnds s.b
   pub c : HasWordEnds s.c
+
+word_ends : (k : Kind) → IsSoundKind k → HasWordEnds k
+word_ends kind.Undef r = tt
+word_ends (kind.Int a b) r = range_ends a b r
+  where
+    range_ends : (a b : ℤ) → IsRange a b → FitsSigned w32 a × FitsSigned w32 b
+    range_ends a b r = let l = r.least in let o = r.ordered in let g = r.greatest in (grind (arith, ints), grind (arith, ints))
+word_ends (kind.Ptr p q) r = let o = r.ordered in let g = r.greatest in (omega arith, omega arith)
+word_ends (kind.BytePtr p q) r = let o = r.ordered in let g = r.greatest in (omega arith, omega arith)
+
+-- a sound state's are
+pub sound_words : (image : ImageValue) (s : State) → IsSound image s → HasWords s
+sound_words image s sound = record { a = word_ends s.a sound.a; b = word_ends s.b sound.b; c = word_ends s.c sound.c }
 
 same_known : (t : State) (a b c : Kind) (cells : List Cell) → a ≡ t.a → b ≡ t.b → c ≡ t.c → cells ≡ t.cells → record t { a = a; b = b; c = c; cells = cells } ≡ t
 same_known t a b c cells e f g h = rw (e, f, g, h) refl

@@ -1,11 +1,10 @@
 mod PassLemmas
 mod RespectLemmas
 mod Heights
-mod WordEnds
-mod RuleSound
 mod TableSteps
 mod Falling
 mod Places
+mod Loading
 mod Entering
 mod Taking
 mod Counting
@@ -16,3 +15,11 @@ mod Passing
 mod Verdict
 mod Ending
 mod OneCount
+mod Least
+mod Lone
+mod Trails
+mod Carrying
+mod Nests
+mod CarriedPasses
+mod Staying
+mod Respected

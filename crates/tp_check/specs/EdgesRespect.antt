@@ -34,3 +34,7 @@ pub record EveryEdgeRespects (image : ImageValue) (cuts : List Cut) (table : Tab
   -- the first instruction has a state above the first one
   pub begins : HasAbove table 0 (entry image)
   pub each : (at : ℕ) → RespectsFrom image cuts table at
+
+-- no table is such
+abbrev pub HasNoTable : ImageValue → List Cut → Type 0
+HasNoTable image cuts = (table : Table) → ¬ EveryEdgeRespects image cuts table

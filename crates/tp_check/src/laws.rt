@@ -10,6 +10,9 @@ ghost use Rattle.tp_check.specs.Tables.{Table};
 ghost use Rattle.tp_check.specs.Passes.{IsVerdict};
 ghost use Rattle.tp_check.specs.Counts.{ArePassesMade, AreOutcomes, AreOutcomesUpTo};
 
+pub mod carrying;
+pub mod exact;
+
 /// The passes have at most one verdict: they do not both refuse and find a table, nor refuse in two ways, nor find two
 /// tables.
 pub fn passes_have_one_verdict()

@@ -1,13 +1,17 @@
 //! The passes: a table is made edge by edge until a pass changes nothing.
 
 ghost use Rattle.std.specs.Prelude.{◌≡◌, ◌≢◌, ◌<◌, ◌≤◌, ◌+◌, ◌*◌, if◌then◌else◌, ℕ, true, false, length, All, Some, Ok, IfOk, IfErr, OnOk, IsTrue};
+ghost use Rattle.std.specs.List.{AllByRecursion};
+ghost use Rattle.tp_decode.specs.Cutting.{IsSpelled};
 ghost use Rattle.tp_decode.specs.declared.instr.Instr.{Instr as AnInstr};
 ghost use Rattle.tp_flow.specs.declared.edge.Edge.{Edge as AnEdge};
 ghost use Rattle.tp_flow.specs.NestRanges.{ranges};
 ghost use Rattle.tp_flow.specs.NestKept.{KeepsNest};
 ghost use Rattle.tp_flow.specs.RowRules.{is_start};
+ghost use Rattle.tp_image.specs.Image.{InRange};
+ghost use Rattle.tp_state.specs.declared.fault.StateFault.TheVariants as fault;
 ghost use Rattle.tp_check.specs.Tables.{table_of, asked, HasPlacedStates};
-ghost use Rattle.tp_check.specs.EdgesRespect.{EveryEdgeRespects};
+ghost use Rattle.tp_check.specs.EdgesRespect.{EveryEdgeRespects, HasNoTable};
 ghost use Rattle.tp_check.specs.Passes.{IsVerdict, first_table, enter, go_along, along, edges_of, edges_in, pass, IsRefusalOf};
 ghost use Rattle.tp_check.specs.Counts.{counted, known, edges_from, TellsPasses, TellsOutcomes};
 ghost use Rattle.tp_check.specs.UnderWay.{IsUnderWay, HasPlaces, MayBeTaken, IsTaken, AreTaken, Gives, Moves, has_changed, marked, Adds, AddsAtMost, Leaves, HasCounted, Falls, Since, TurnsOver, Stops, StopsOver};
@@ -22,7 +26,7 @@ use tp_image::Image;
 use tp_state::{State, StateFault};
 
 /// The table that the passes come to, of an image whose flow has passed: every edge respects it. Refused is the first
-/// refusal of the passes, Memory that a growth was refused.
+/// refusal of the passes, and then no table exists that every edge respects; Memory is that a growth was refused.
 pub fn check_states(
     alloc: Global,
     image: &Image,
@@ -35,6 +39,9 @@ pub fn check_states(
     ensures respected { IfOk result (λ table. EveryEdgeRespects image.now listing.now (table_of table)) }
     ensures placed { IfOk result (λ table. HasPlacedStates image.now (table_of table)) }
     ensures refused { IfErr result (IsRefusalOf image.now listing.now) }
+    // of a code's listing: where anything but memory is refused, no table exists that every edge respects
+    ensures exact { AllByRecursion IsSpelled listing.now →
+        IfErr result (λ e. e ≢ fault.Memory → HasNoTable image.now listing.now) }
 {
     check_states_counting(alloc, image, listing, nest, &mut Effort::default())
 }
@@ -55,6 +62,9 @@ pub fn check_states_counting(
     ensures respected { IfOk result (λ table. EveryEdgeRespects image.now listing.now (table_of table)) }
     ensures placed { IfOk result (λ table. HasPlacedStates image.now (table_of table)) }
     ensures refused { IfErr result (IsRefusalOf image.now listing.now) }
+    // of a code's listing: where anything but memory is refused, no table exists that every edge respects
+    ensures exact { AllByRecursion IsSpelled listing.now →
+        IfErr result (λ e. e ≢ fault.Memory → HasNoTable image.now listing.now) }
     ensures passes { TellsPasses image.now listing.now result effort.new.passes }
     ensures outcomes { TellsOutcomes image.now listing.now result effort.new.outcomes }
     ensures outcomes_least { IfOk result (λ table. counted (edges_from listing.now table) ≤ effort.new.outcomes) }
@@ -99,7 +109,10 @@ impl Passes {
         ensures none { IfOk result (λ p. p.outcomes ≡ 0) }
         ensures counts { IfOk result (HasCounted listing.now) }
         ensures marked { IfOk result (λ p. (at : ℕ) → at < length p.table → has_changed p at ≡ true) }
+        // the image's own invariant
+        ensures in_range { InRange image.now }
     {
+        let _ = &image.code;
         let places = places_of(listing);
         let table = Table::first(alloc, image, places)?;
         let changed = vec![in alloc; true; places]?;

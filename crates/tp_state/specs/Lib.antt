@@ -3,6 +3,7 @@ pub mod Answer
 pub mod Kinds
 pub mod CellRules
 pub mod Conditions
+pub mod Sound
 pub mod Rules
 pub mod After
 pub mod Live

@@ -1,6 +1,7 @@
 use Rattle.std.proofs.Common.{subst}
 use Rattle.tp_check.specs.Tables.{table_of}
 use Rattle.tp_check.proofs.Verdict.{one_more, most_counted, more_counted, is_refusal, refusal_handed_on, tells_refusal, tells_handed_on, outcomes_least, tells_outcomes, outcomes_refusal, outcomes_handed_on, IsCounting, none_counted, IsBetween}
+use Rattle.tp_check.proofs.Least.{none_respected}
 use Rattle.tp_check.proofs.Counting.{counted_more}
 use Rattle.tp_check.proofs.Turning.{none_had}
 use Rattle.tp_check.proofs.passes.check_states_counting.Goals as goal
@@ -23,6 +24,10 @@ pub returns-in_err-moved-clause-refused : goal.returns-in_err-moved-clause-refus
 returns-in_err-moved-clause-refused c =
     refusal_handed_on c.args.image.now c.args.listing.now c.from_residual-in_err-moved.result c.in_err-moved.field-0.0 c.from_residual-in_err-moved.ensures.1
     (is_refusal c.args.image.now c.args.listing.now c.loop-moved.passes c.loop-moved.moved c.loop-moved.invariant.between c.in_err-moved.field-0.0 (table_of c.pass-answer.new.self.table) c.in_err-moved.ensures.gives)
+
+pub returns-in_err-moved-clause-exact : goal.returns-in_err-moved-clause-exact
+returns-in_err-moved-clause-exact c = λ spelled.
+    none_respected c.args.image.now c.args.listing.now c.begin.ensures.in_range c.requires.kept spelled c.from_residual-in_err-moved.result (returns-in_err-moved-clause-refused c)
 
 pub returns-in_err-moved-clause-passes : goal.returns-in_err-moved-clause-passes
 returns-in_err-moved-clause-passes c =

@@ -1,0 +1,72 @@
+-- Passes that carry one state from instruction to instruction, and keep states only at some addresses: at each other
+-- address, which one edge alone reaches, what is known after that edge takes the place of what was known.
+use Rattle.std.specs.Prelude.{◌≡◌, ℕ, zero, suc, ◌==◌, ◌||◌, nat_le, Bool, false, if◌then◌else◌, List, [], ◌∷◌, Option, Some, None, Result, Ok}
+use Rattle.std.specs.List.{count_by, list_any}
+use Rattle.tp_decode.specs.declared.placed.Placed.{Placed}
+use Rattle.tp_decode.specs.Cutting.{Cut}
+use Rattle.tp_flow.specs.declared.edge.Edge.{Edge}
+use Rattle.tp_flow.specs.NestRanges.{ranges}
+use Rattle.tp_flow.specs.Edges.{target}
+use Rattle.tp_image.specs.Image.{ImageValue}
+use Rattle.tp_state.specs.declared.state.State.{State}
+use Rattle.tp_state.specs.declared.fault.StateFault.{StateFault}
+use Rattle.tp_state.specs.Answer.{◌>>=◌}
+use Rattle.tp_state.specs.After.{after}
+use Rattle.tp_check.specs.Tables.{Table, with_state}
+use Rattle.tp_check.specs.Passes.{placed, enter, edges_in, first_table}
+
+-- where an edge of an instruction in its place leads
+abbrev pub target_of : ImageValue → Placed × Edge → Option ℕ
+target_of image e = target (ranges image.loops) e.0.at e.0.next e.0.instr e.1
+
+-- what is known after it
+abbrev pub outcome_of : ImageValue → Placed × Edge → State → Result State StateFault
+outcome_of image e s = placed e.0.at (after image e.0.at e.0.next e.0.instr e.1 s)
+
+-- a state comes to an address: it joins what is known there, or takes its place
+abbrev pub arrive : (ℕ → Bool) → Option ℕ → State → Table → Result Table StateFault
+arrive joins None s table = Ok table
+arrive joins (Some to) s table = if joins to then enter (Some to) s table else Ok (with_state to s table)
+
+abbrev pub go_over : ImageValue → (ℕ → Bool) → Placed × Edge → Option State → Table → Result Table StateFault
+go_over image joins e None table = Ok table
+go_over image joins e (Some s) table = outcome_of image e s >>= λ t. arrive joins (target_of image e) t table
+
+abbrev pub over : ImageValue → (ℕ → Bool) → List (Placed × Edge) → Table → Result Table StateFault
+over image joins [] table = Ok table
+over image joins (e ∷ more) table = go_over image joins e (table e.0.at) table >>= over image joins more
+
+-- what stands where edges join, and nothing elsewhere
+abbrev pub only_joins : (ℕ → Bool) → Table → Table
+only_joins joins table at = if joins at then table at else None
+
+-- ---- the addresses that join
+
+-- how many edges lead to an address, of all instructions
+abbrev pub leads_to : ℕ → Option ℕ → Bool
+leads_to at None = false
+leads_to at (Some to) = to == at
+
+abbrev pub reached : ImageValue → List Cut → ℕ → ℕ
+reached image cuts at = count_by (λ e. leads_to at (target_of image e)) (edges_in cuts)
+
+abbrev pub is_head : ImageValue → ℕ → Bool
+is_head image at = list_any (λ range. range.head == at) (ranges image.loops)
+
+-- the first address, loops' heads, and those that two edges reach
+abbrev pub is_kept : ImageValue → List Cut → ℕ → Bool
+is_kept image cuts at = (at == 0) || is_head image at || nat_le 2 (reached image cuts at)
+
+-- the addresses that join are those, or more
+abbrev pub AreWide : ImageValue → List Cut → (ℕ → Bool) → Type 0
+AreWide image cuts joins = (at : ℕ) → joins at ≡ false → is_kept image cuts at ≡ false
+
+-- ---- passes with one state carried
+
+-- a pass from what stands where edges join; it tells the whole table
+abbrev pub carried_pass : ImageValue → List Cut → (ℕ → Bool) → Table → Result Table StateFault
+carried_pass image cuts joins table = over image joins (edges_in cuts) (only_joins joins table)
+
+abbrev pub carried : ImageValue → List Cut → (ℕ → Bool) → ℕ → Result Table StateFault
+carried image cuts joins zero = Ok (first_table image)
+carried image cuts joins (suc n) = carried image cuts joins n >>= carried_pass image cuts joins

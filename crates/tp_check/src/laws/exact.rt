@@ -1,0 +1,33 @@
+//! Laws of exactness: the passes find a table exactly where there is one that every edge respects.
+
+ghost use Rattle.std.specs.Prelude.{◌≡◌, ℕ, List, Some, Ok, Err};
+ghost use Rattle.std.specs.List.{AllByRecursion};
+ghost use Rattle.tp_decode.specs.Cutting.{Cut, IsSpelled};
+ghost use Rattle.tp_flow.specs.NestKept.{KeepsNest};
+ghost use Rattle.tp_image.specs.Image.{ImageValue, InRange};
+ghost use Rattle.tp_state.specs.declared.state.State.{State};
+ghost use Rattle.tp_state.specs.declared.fault.StateFault.{StateFault};
+ghost use Rattle.tp_check.specs.Tables.{Table};
+ghost use Rattle.tp_check.specs.Passes.{IsVerdict};
+ghost use Rattle.tp_check.specs.EdgesRespect.{HasAbove, EveryEdgeRespects, HasNoTable};
+
+/// The passes refuse only where no table exists that every edge respects. Nothing is asked of the states of that table.
+pub fn a_refusal_means_no_table()
+    ensures { (image : ImageValue) (cuts : List Cut) (fault : StateFault) → InRange image → AllByRecursion IsSpelled cuts →
+        KeepsNest image.loops image.workspace cuts → IsVerdict image cuts (Err fault) → HasNoTable image cuts }
+{}
+
+/// The table that the passes come to is below every table that each edge respects.
+pub fn the_verdict_is_the_least_table()
+    ensures { (image : ImageValue) (cuts : List Cut) (table other : Table) → InRange image →
+        AllByRecursion IsSpelled cuts → KeepsNest image.loops image.workspace cuts →
+        IsVerdict image cuts (Ok table) → EveryEdgeRespects image cuts other →
+        (at : ℕ) (s : State) → table at ≡ Some s → HasAbove other at s }
+{}
+
+/// Every edge respects the table that the passes come to.
+pub fn every_edge_respects_the_verdict()
+    ensures { (image : ImageValue) (cuts : List Cut) (table : Table) → InRange image → AllByRecursion IsSpelled cuts →
+        KeepsNest image.loops image.workspace cuts → IsVerdict image cuts (Ok table) →
+        EveryEdgeRespects image cuts table }
+{}

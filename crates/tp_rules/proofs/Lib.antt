@@ -1,0 +1,10 @@
+pub mod Follows
+pub mod Ranges
+pub mod Results
+pub mod Asked
+pub mod Cells
+pub mod States
+pub mod Rules
+pub mod SoundResults
+pub mod SoundRules
+pub mod SoundJoins
