@@ -11,6 +11,7 @@ ghost use Rattle.tp_step.specs.State.{State};
 ghost use Rattle.tp_step.specs.Effects.{effect};
 ghost use Rattle.tp_step.specs.Steps.{performed, step, steps, IsStuck, Reaches};
 ghost use Rattle.tp_step.specs.Runs.{start, Run, RunsAlone, HasExchanged};
+ghost use Rattle.tp_step.specs.Lasting.{Begins, TakesNothingBack};
 
 /// A state has at most one next state.
 pub fn one_next_state()
@@ -78,4 +79,16 @@ pub fn result_has_its_length()
 pub fn packet_and_result_go_whole()
     ensures { (image : ImageValue) (packet : List ℕ) (s : State) →
         Reaches image (start image packet) s → HasExchanged image packet s.phase s.to_come s.sent }
+{}
+
+/// Steps take nothing back: the error flag stays set once it is set; what was sent on either link stays, with what is sent
+/// later behind it; bytes to come are taken from their front alone; and no phase comes again.
+pub fn steps_take_nothing_back()
+    ensures { (image : ImageValue) (n : ℕ) (s t : State) → steps image n s ≡ Some t → TakesNothingBack s t }
+{}
+
+/// So what a worker has sent on the way of a packet's run, the run sends first.
+pub fn runs_send_first_what_was_sent()
+    ensures { (image : ImageValue) (packet : List ℕ) (run : Run) → RunsAlone image packet run → (n : ℕ) (s : State) →
+        steps image n (start image packet) ≡ Some s → Begins s.sent run.result × Begins s.traced run.trace }
 {}
