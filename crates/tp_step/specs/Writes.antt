@@ -1,5 +1,5 @@
 -- What is written: the stretches of memory that an instruction may change.
-use Rattle.std.specs.Prelude.{◌≡◌, ℕ, ◌+◌, ◌-◌, ◌*◌, ◌<◌, ◌≤◌, ◌⊎◌, pos, List, [], ◌∷◌, All, Option, if◌then◌else◌, ◌||◌, None}
+use Rattle.std.specs.Prelude.{◌≡◌, ℕ, ◌+◌, ◌-◌, ◌*◌, ◌<◌, ◌≤◌, ◌⊎◌, List, [], ◌∷◌, All, Option, if◌then◌else◌, ◌||◌, None}
 use Rattle.std.specs.Option.{option_map_or, option_and_then}
 use Rattle.tp_decode.specs.Words.{signed}
 use Rattle.tp_decode.specs.Spelling.{function_of, digit_of, is_pfix, is_nfix}
@@ -65,6 +65,15 @@ IsOutside stretches x = All (λ (part : Stretch). (x < part.from) ⊎ (part.from
 abbrev pub ChangesOnly : List Stretch → Memory → Memory → Type 0
 ChangesOnly stretches before after = (x : ℕ) → IsOutside stretches x → after x ≡ before x
 
+-- all of a stretch belongs to another
+abbrev pub LiesIn : Stretch → Stretch → Type 0
+LiesIn whole part = (whole.from ≤ part.from) × (part.from + part.bytes ≤ whole.from + whole.bytes)
+
 -- the workspace
 abbrev pub workspace : ImageValue → Stretch
 workspace image = stretch mem_start (4 * image.workspace)
+
+-- What is written from one memory to another: the listed stretches and no other byte, and they lie in the workspace.
+pub record Writes (image : ImageValue) (stretches : List Stretch) (before after : Memory) : Type 0 where
+  pub inside : All (LiesIn (workspace image)) stretches
+  pub only : ChangesOnly stretches before after
