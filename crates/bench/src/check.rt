@@ -23,7 +23,7 @@ const FLOW_ROUNDS: u32 = 100;
 
 pub(crate) fn measure<R: Runtime<A = Global>>(rt: &R, is_timed: bool) -> Result<()> {
     let alloc = rt.alloc();
-    told(rt, "increment", &sample::INCREMENT, is_timed)?;
+    told(rt, "increment", sample::INCREMENT, is_timed)?;
     told(rt, "straight", &sample::straight(alloc)?, is_timed)?;
     told(rt, "jumps", &sample::jumps(alloc)?, is_timed)?;
     if !is_timed {

@@ -13,20 +13,15 @@ use std::time::Instant;
 use tp_decode::{Instr, decode};
 use tp_flow::{Edge, Nest, check_flow};
 use tp_image::{Image, read_image};
+use tp_samples::INCREMENT;
 use tp_state::State;
 
 const FEW_ROUNDS: u32 = 1_000;
 
 const TIMED_ROUNDS: u32 = 10_000_000;
 
-/// A worker that adds one to its packet.
-const IMAGE: [u8; 32] = [
-    0x54, 0x50, 0x57, 0x31, 0x10, 0x00, 0x0C, 0x00, 0x08, 0x00, 0x01, 0x00, 0x01, 0x00, 0x00, 0x00,
-    0x10, 0x24, 0xF2, 0x54, 0x44, 0xF7, 0x70, 0x81, 0xD0, 0x10, 0x24, 0xF2, 0x44, 0xFB, 0x21, 0xF5,
-];
-
 pub(crate) fn measure<R: Runtime<A = Global>>(rt: &R, is_timed: bool) -> Result<()> {
-    let image = read_image(rt.alloc(), &IMAGE)?;
+    let image = read_image(rt.alloc(), INCREMENT)?;
     let Ok(listing) = decode(rt.alloc(), &image.code) else {
         bail!("no listing");
     };

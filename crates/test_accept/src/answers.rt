@@ -1,9 +1,9 @@
 //! Answers to texts.
 
-use crate::images::*;
 use crate::texts::*;
 use std::test::Fail;
 use tp_accept::{Refusal, accept};
+use tp_samples::*;
 
 #[test]
 fn answers_images(rt: HostRuntime) -> Result<(), Fail> {
@@ -13,7 +13,7 @@ fn answers_images(rt: HostRuntime) -> Result<(), Fail> {
         (ONE_TURN, "YES 27 27"),
         (SUM_TO_TEN_THOUSAND, "YES 30 80022"),
         (ONE_TURN_TOO_MANY, "NO J6 0"),
-        (LOOP_IN_A_LOOP, "NO B1 0"),
+        (NESTED_TOO_LONG, "NO B1 0"),
         (TEN_TIMES_TEN_THOUSAND, "YES 35 400130"),
         (READS_AFTER_JUMP, "NO S1 8"),
         (JUMPS_INTO_SPELLING, "NO J1 7"),
@@ -21,9 +21,9 @@ fn answers_images(rt: HostRuntime) -> Result<(), Fail> {
         (LOADS_ANY_WORD, "NO S3 8"),
         (PICKS_A_WORD, "YES 21 21"),
         (READS_BELOW_WPTR, "NO S4 6"),
-        (EARLY_EXIT, "YES 17 17"),
-        (SHIFTS_BY_ANY, "NO S10 8"),
-        (TWO_WAYS, "YES 22 20"),
+        (FIVE_UNLESS_ZERO, "YES 17 17"),
+        (SHIFTS_BY_ITS_PACKET, "NO S10 8"),
+        (STORES_BY_TWO_WAYS, "YES 22 20"),
         (MOVES_A_WORD, "YES 19 19"),
         (MOVES_IN_VERSION_1, "NO S11 10"),
         (MOVES_ONTO_ITSELF, "NO S3 9"),
@@ -90,8 +90,8 @@ fn answers_short_codes(rt: HostRuntime) -> Result<(), Fail> {
 
 #[test]
 fn answers_beginnings(rt: HostRuntime) -> Result<(), Fail> {
-    for n in 0..LOOP_IN_A_LOOP.len() {
-        let answered = answer(rt.alloc(), &LOOP_IN_A_LOOP[..n])?;
+    for n in 0..NESTED_TOO_LONG.len() {
+        let answered = answer(rt.alloc(), &NESTED_TOO_LONG[..n])?;
         let expected = if n < 4 {
             format!(in rt.alloc(); "NO F1 0")?
         } else {

@@ -1,11 +1,11 @@
 //! The increment with each of its bytes set to each value: what is accepted runs within its budget.
 
-use crate::images::INCREMENT;
 use crate::runs::run_packet;
 use crate::texts::changed;
 use std::test::Fail;
 use tp_accept::accept;
 use tp_machine::Machine;
+use tp_samples::INCREMENT;
 
 #[test]
 fn runs_what_is_accepted(rt: HostRuntime) -> Result<(), Fail> {

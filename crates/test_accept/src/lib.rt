@@ -6,8 +6,6 @@ mod answers;
 #[cfg(test)]
 mod changed;
 #[cfg(test)]
-mod images;
-#[cfg(test)]
 mod runs;
 #[cfg(test)]
 mod texts;

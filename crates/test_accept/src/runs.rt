@@ -1,6 +1,5 @@
 //! Runs of accepted images.
 
-use crate::images::*;
 use crate::texts::{FOUR_THOUSAND, NINE_HUNDRED, many_jumps};
 use std::alloc::Global;
 use std::test::Fail;
@@ -8,6 +7,7 @@ use tp_accept::{Accepted, accept};
 use tp_link::LinkDevice;
 use tp_machine::{Machine, Outcome, RunFault};
 use tp_media::Media;
+use tp_samples::*;
 
 /// The room of each medium in bytes.
 const ROOM: usize = 256;
@@ -83,10 +83,10 @@ fn runs_accepted_images(rt: HostRuntime) -> Result<(), Fail> {
             [5, 0, 0, 0],
         ),
         case(PICKS_A_WORD, [0xFF; 4], false, 21, zero),
-        case(EARLY_EXIT, zero, false, 15, zero),
-        case(EARLY_EXIT, [7, 0, 0, 0], false, 17, [5, 0, 0, 0]),
-        case(TWO_WAYS, zero, false, 19, [2, 0, 0, 0]),
-        case(TWO_WAYS, [5, 0, 0, 0], false, 20, [1, 0, 0, 0]),
+        case(FIVE_UNLESS_ZERO, zero, false, 15, zero),
+        case(FIVE_UNLESS_ZERO, [7, 0, 0, 0], false, 17, [5, 0, 0, 0]),
+        case(STORES_BY_TWO_WAYS, zero, false, 19, [2, 0, 0, 0]),
+        case(STORES_BY_TWO_WAYS, [5, 0, 0, 0], false, 20, [1, 0, 0, 0]),
         case(MOVES_A_WORD, [1, 0, 0, 0], false, 19, [42, 0, 0, 0]),
     ];
     let mut machine = Machine::new();

@@ -1,8 +1,8 @@
 //! Texts that are made of others, and what is answered to a text.
 
-use crate::images::INCREMENT;
 use std::alloc::{AllocError, Global};
 use tp_accept::accept;
+use tp_samples::INCREMENT;
 
 /// The bytes of a version 1 header.
 const HEADER_BYTES: usize = 16;

@@ -1,10 +1,10 @@
 //! Images and refusals worked out by hand, and each call once with ample memory.
 
-use crate::samples::*;
 use std::alloc::{AllocError, Global};
 use std::process::Abort;
 use std::test::Fail;
 use tp_image::{Image, ImageCode, ImageFault, LoopRow, read_image, upgrade, write_image};
+use tp_samples::*;
 
 // The calls, with nothing said of what they answer: the tests compare it when they run.
 
@@ -67,26 +67,26 @@ const SAMPLES: [Sample; 24] = [
     (SUM_TO_TEN, 1, 16, 1, 0, 27),
     (ONE_TURN, 1, 16, 1, 0, 27),
     (SUM_TO_TEN_THOUSAND, 1, 16, 1, 0, 30),
-    (TOO_MANY_TURNS, 1, 16, 1, 0, 30),
+    (ONE_TURN_TOO_MANY, 1, 16, 1, 0, 30),
     (NESTED_TOO_LONG, 1, 16, 2, 0, 35),
-    (NESTED, 1, 16, 2, 0, 35),
-    (ADDS_AFTER_JUMP, 1, 12, 0, 0, 17),
+    (TEN_TIMES_TEN_THOUSAND, 1, 16, 2, 0, 35),
+    (READS_AFTER_JUMP, 1, 12, 0, 0, 17),
     (JUMPS_INTO_SPELLING, 1, 12, 0, 0, 18),
     (RECEIVES_TWO_WORDS, 1, 12, 0, 0, 16),
     (SENDS_TWICE, 1, 12, 0, 0, 18),
-    (UNCHECKED_INDEX, 1, 20, 0, 0, 18),
-    (MASKED_INDEX, 1, 20, 0, 0, 21),
+    (LOADS_ANY_WORD, 1, 20, 0, 0, 18),
+    (PICKS_A_WORD, 1, 20, 0, 0, 21),
     (READS_BELOW_WPTR, 1, 12, 0, 0, 16),
     (STORES_INTO_COUNT, 1, 16, 1, 0, 27),
     (FIVE_UNLESS_ZERO, 1, 12, 0, 0, 17),
-    (TRACES_PACKET, 1, 12, 0, 0, 19),
-    (TRACES_TOO_OFTEN, 1, 16, 1, 0, 28),
-    (SHIFTS_BY_PACKET, 1, 12, 0, 0, 18),
+    (TRACES_ITS_PACKET, 1, 12, 0, 0, 19),
+    (TRACES_65_TIMES, 1, 16, 1, 0, 28),
+    (SHIFTS_BY_ITS_PACKET, 1, 12, 0, 0, 18),
     (STORES_BY_TWO_WAYS, 1, 12, 0, 0, 22),
-    (COPIES_IN_VERSION_1, 1, 16, 0, 0, 19),
-    (COPIES_INITIAL_WORD, 2, 16, 0, 1, 19),
+    (MOVES_IN_VERSION_1, 1, 16, 0, 0, 19),
+    (MOVES_A_WORD, 2, 16, 0, 1, 19),
     (INCREMENT_2, 2, 12, 0, 0, 16),
-    (OVERLAPPING_COPY, 2, 16, 0, 0, 18),
+    (MOVES_ONTO_ITSELF, 2, 16, 0, 0, 18),
 ];
 
 fn assert_sample(rt: &(impl Abort + AllocGlobal), sample: Sample) -> Result<(), ImageFault> {
@@ -108,7 +108,7 @@ fn reads_and_writes_samples(rt: HostRuntime) -> Result<(), Fail> {
 
 #[test]
 fn reads_rows_and_words(rt: HostRuntime) -> Result<(), Fail> {
-    let nested = read(rt.alloc(), NESTED)?;
+    let nested = read(rt.alloc(), TEN_TIMES_TEN_THOUSAND)?;
     let outer = LoopRow {
         head: 13,
         lend: 26,
@@ -124,8 +124,8 @@ fn reads_rows_and_words(rt: HostRuntime) -> Result<(), Fail> {
         start: 0,
     };
     assert_eq!(rt; nested.loops.as_slice(), [outer, inner].as_slice());
-    assert_eq!(rt; nested.code.as_slice(), &NESTED[40..]);
-    let copies = read(rt.alloc(), COPIES_INITIAL_WORD)?;
+    assert_eq!(rt; nested.code.as_slice(), &TEN_TIMES_TEN_THOUSAND[40..]);
+    let copies = read(rt.alloc(), MOVES_A_WORD)?;
     assert_eq!(rt; copies.initial.as_slice(), [42].as_slice());
     Ok(())
 }
@@ -182,8 +182,8 @@ fn refuses_fields_out_of_range(rt: HostRuntime) -> Result<(), Fail> {
         (INCREMENT, 12, b"\x00\x00", ImageCode::F7, 12),
         (INCREMENT, 12, b"\x41\x00", ImageCode::F7, 12),
         (INCREMENT, 14, b"\x11\x00", ImageCode::F8, 14),
-        (COPIES_INITIAL_WORD, 16, b"\x11\x00", ImageCode::F10, 16),
-        (COPIES_INITIAL_WORD, 16, b"\x10\x00", ImageCode::F2, 41),
+        (MOVES_A_WORD, 16, b"\x11\x00", ImageCode::F10, 16),
+        (MOVES_A_WORD, 16, b"\x10\x00", ImageCode::F2, 41),
         (INCREMENT, 4, b"\x00\x00\x00\x00", ImageCode::F3, 4),
         (INCREMENT, 6, b"\x00\x00\x00\x00", ImageCode::F4, 6),
     ];
@@ -287,8 +287,8 @@ fn upgrades(rt: HostRuntime) -> Result<(), Fail> {
     let image = upgraded(rt.alloc(), &read(rt.alloc(), INCREMENT)?)?;
     assert_eq!(rt; image.version(), 2);
     assert_written(&rt, &image, INCREMENT_2)?;
-    let copies = read(rt.alloc(), COPIES_INITIAL_WORD)?;
-    assert_written(&rt, &upgraded(rt.alloc(), &copies)?, COPIES_INITIAL_WORD)?;
+    let copies = read(rt.alloc(), MOVES_A_WORD)?;
+    assert_written(&rt, &upgraded(rt.alloc(), &copies)?, MOVES_A_WORD)?;
     Ok(())
 }
 
@@ -328,10 +328,10 @@ fn assert_written_or_memory(rt: &(impl Abort + AllocGlobal), image: &Image, byte
 /// Where an allocation fails, each call answers `Memory` or what it answers with ample memory.
 #[test]
 fn answers_memory_or_the_same(rt: HostRuntime) {
-    let answer = read(rt.alloc(), COPIES_INITIAL_WORD);
+    let answer = read(rt.alloc(), MOVES_A_WORD);
     assert_has_42(&rt, &answer);
     if let Ok(image) = answer {
-        assert_written_or_memory(&rt, &image, COPIES_INITIAL_WORD);
+        assert_written_or_memory(&rt, &image, MOVES_A_WORD);
         assert_has_42(&rt, &upgraded(rt.alloc(), &image));
     }
     assert_refused(&rt, &INCREMENT[..16], ImageCode::F2, 16);

@@ -10,8 +10,6 @@ mod images;
 #[cfg(test)]
 mod latch;
 #[cfg(test)]
-mod samples;
-#[cfg(test)]
 mod sizes;
 #[cfg(test)]
 mod spellings;

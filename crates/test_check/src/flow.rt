@@ -7,6 +7,7 @@ use std::process::Abort;
 use std::test::Fail;
 use tp_decode::Instr;
 use tp_flow::{Edge, FlowCode, FlowFault, LoopRange, Nest, check_flow, edges};
+use tp_samples::*;
 
 /// Head, lend, control word, count and start.
 type Fields = (u16, u16, u16, u16, i32);
@@ -62,7 +63,7 @@ fn judges_samples(rt: HostRuntime) {
         (ONE_TURN, None),
         (SUM_TO_TEN_THOUSAND, None),
         (NESTED_TOO_LONG, None),
-        (TOO_MANY_TURNS, Some((FlowCode::J6, 0))),
+        (ONE_TURN_TOO_MANY, Some((FlowCode::J6, 0))),
         (JUMPS_INTO_SPELLING, Some((FlowCode::J1, 7))),
         (JUMPS_OUT_OF_LOOP, Some((FlowCode::J4, 14))),
     ];

@@ -10,6 +10,7 @@ use std::process::Abort;
 use tp_decode::Listing;
 use tp_flow::{Edge, Nest, check_flow, edges};
 use tp_image::{Image, read_image};
+use tp_samples::*;
 use tp_state::{Cell, State, StateCode, StateFault, after};
 
 /// The refusal of the first instruction that is refused, from the first on, along first edges.
@@ -60,12 +61,12 @@ fn assert_first_refusal(
 fn judges_small_codes(rt: HostRuntime) {
     let codes: [(&[u8], Option<StateFault>); 7] = [
         (READS_AFTER_JUMP, refused(StateCode::S1, 8)),
-        (LONG_PACKET, refused(StateCode::S7, 5)),
+        (RECEIVES_TWO_WORDS, refused(StateCode::S7, 5)),
         (SENDS_TWICE, refused(StateCode::S9, 15)),
-        (WILD_SUBSCRIPT, refused(StateCode::S3, 8)),
+        (LOADS_ANY_WORD, refused(StateCode::S3, 8)),
         (MOVES_IN_VERSION_1, refused(StateCode::S11, 10)),
-        (MASKED_SUBSCRIPT, None),
-        (WITH_A_FIRST_WORD, None),
+        (PICKS_A_WORD, None),
+        (MOVES_A_WORD, None),
     ];
     for (bytes, expected) in codes {
         assert_first_refusal(&rt, bytes, expected);
@@ -81,7 +82,7 @@ fn copy_of_the_start(rt: &(impl Abort + AllocGlobal), bytes: &[u8]) -> State {
 
 #[test]
 fn begins_with_the_first_words(rt: HostRuntime) {
-    let copy = copy_of_the_start(&rt, WITH_A_FIRST_WORD);
+    let copy = copy_of_the_start(&rt, MOVES_A_WORD);
     let cells = (copy.cells.get(0), copy.cells.get(15), copy.cells.get(16));
     let expected = (Cell::Known(42), Cell::Known(0), Cell::Undef);
     assert_eq!(rt; (copy.wptr, cells), (8, expected));

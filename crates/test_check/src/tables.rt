@@ -8,6 +8,7 @@ use crate::states::refused;
 use std::process::Abort;
 use tp_check::{Effort, Table, check_states, check_states_counting};
 use tp_flow::check_flow;
+use tp_samples::*;
 use tp_state::{Cell, Kind, StateCode, StateFault};
 
 /// What the passes come to.
@@ -33,7 +34,8 @@ fn counted(rt: &(impl Abort + AllocGlobal), bytes: &[u8]) -> Count {
 fn increment_with(at: usize, byte: u8) -> [u8; 32]
     requires { at < 16 }
 {
-    let mut bytes = INCREMENT;
+    let mut bytes = [0; 32];
+    bytes.copy_from_slice(INCREMENT);
     bytes[16 + at] = byte;
     bytes
 }
@@ -52,14 +54,14 @@ fn assert_refused(rt: &(impl Abort + AllocGlobal), bytes: &[u8], code: StateCode
 fn refuses_with_code_and_place(rt: HostRuntime) {
     let workers: [(&[u8], StateCode, usize); 9] = [
         (READS_AFTER_JUMP, StateCode::S1, 8),
-        (LONG_PACKET, StateCode::S7, 5),
+        (RECEIVES_TWO_WORDS, StateCode::S7, 5),
         (SENDS_TWICE, StateCode::S9, 15),
-        (WILD_SUBSCRIPT, StateCode::S3, 8),
-        (READS_BELOW, StateCode::S4, 6),
-        (STORES_THE_COUNT, StateCode::S5, 15),
+        (LOADS_ANY_WORD, StateCode::S3, 8),
+        (READS_BELOW_WPTR, StateCode::S4, 6),
+        (STORES_INTO_COUNT, StateCode::S5, 15),
         (MOVES_IN_VERSION_1, StateCode::S11, 10),
-        (MOVES_IN_PLACE, StateCode::S3, 9),
-        (WILD_SHIFT, StateCode::S10, 8),
+        (MOVES_ONTO_ITSELF, StateCode::S3, 9),
+        (SHIFTS_BY_ITS_PACKET, StateCode::S10, 8),
     ];
     for (bytes, code, place) in workers {
         assert_refused(&rt, bytes, code, place);
@@ -75,8 +77,8 @@ fn refuses_changes_of_one_byte(rt: HostRuntime) {
 
 #[test]
 fn passes_whole_workers(rt: HostRuntime) {
-    assert_eq!(rt; refusal(&rt, &INCREMENT), None);
-    assert_eq!(rt; refusal(&rt, MASKED_SUBSCRIPT), None);
+    assert_eq!(rt; refusal(&rt, INCREMENT), None);
+    assert_eq!(rt; refusal(&rt, PICKS_A_WORD), None);
 }
 
 /// A table that the passes find.
@@ -94,7 +96,7 @@ fn assert_cells(rt: &impl Abort, table: &Table, at: usize, cells: &[(usize, Cell
 
 #[test]
 fn finds_a_table(rt: HostRuntime) {
-    let table = found(&rt, TWO_WAYS);
+    let table = found(&rt, STORES_BY_TWO_WAYS);
     assert_cells(&rt, &table, 13, &[(9, Cell::Any)]);
     let known = [
         table.at(1).is_some(),
@@ -161,9 +163,9 @@ fn assert_counted(rt: &(impl Abort + AllocGlobal), bytes: &[u8], expected: Count
 #[test]
 fn counts_passes_and_outcomes(rt: HostRuntime) {
     // 13 instructions, one behind the other, stopp with them
-    assert_counted(&rt, &INCREMENT, (None, 2, 13));
+    assert_counted(&rt, INCREMENT, (None, 2, 13));
     // 19 instructions with a cj; its ways meet before what follows is taken
-    assert_counted(&rt, TWO_WAYS, (None, 2, 19 + 1));
+    assert_counted(&rt, STORES_BY_TWO_WAYS, (None, 2, 19 + 1));
     // 23 instructions with a lend; then the sum is a number that is not known, from 15 to 18, and stored as before
     assert_counted(&rt, SUM_TO_TEN_THOUSAND, (None, 3, 23 + 1 + 4));
 }
@@ -176,7 +178,7 @@ fn counts_up_to_a_refusal(rt: HostRuntime) {
     // 24 instructions with a lend, and then those at 12, 13 and 14 again
     assert_counted(
         &rt,
-        WILD_IN_LATER_TURNS,
+        LOADS_ANY_WORD_IN_LATER_TURNS,
         (refused(StateCode::S3, 14), 2, 24 + 1 + 3),
     );
 }

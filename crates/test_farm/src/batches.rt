@@ -1,6 +1,5 @@
 //! Batches to run, and what they come to.
 
-use crate::images::INCREMENT;
 use std::alloc::{AllocError, Global};
 use std::sync::Wait;
 use std::test::Fail;
@@ -11,6 +10,7 @@ use tp_collect::{Collected, Done, Entry, LostCause};
 use tp_farm::{Batch, Gate, Job, run_batch};
 use tp_link::{DeviceFault, FaultyWire, Link, LinkDevice, LinkFault, Links};
 use tp_media::{Media, boxed, media_of};
+use tp_samples::INCREMENT;
 
 /// The number of the batches here.
 pub(crate) const BATCH: u64 = 7;

@@ -1,7 +1,6 @@
 //! Devices that fail in one call, are closed, or lack room.
 
 use crate::batches::{ROOM, Told, failing, have_ended, told_by_one};
-use crate::images::*;
 use std::alloc::Global;
 use std::sync::Wait;
 use std::test::Fail;
@@ -9,6 +8,7 @@ use std::thread::Threads;
 use tp_farm::OpenGate;
 use tp_link::{DeviceFault, Link, LinkDevice, Links};
 use tp_media::Media;
+use tp_samples::*;
 
 const DONE: Told = Told::Done(2);
 

@@ -7,8 +7,6 @@ mod batches;
 #[cfg(test)]
 mod failing;
 #[cfg(test)]
-mod images;
-#[cfg(test)]
 mod members;
 #[cfg(test)]
 mod refusing;

@@ -1,7 +1,6 @@
 //! Members beside one another: the same batch by any number of them, and a batch that only threads can end.
 
 use crate::batches::{ROOM, Told, all_told, alone, count_up, failing, increments_by, run_on, same};
-use crate::images::*;
 use std::alloc::{AllocError, Global};
 use std::sync::Wait;
 use std::sync::atomic::{AtomicU64, Ordering};
@@ -11,6 +10,7 @@ use tp_collect::Collected;
 use tp_farm::{Gate, OpenGate};
 use tp_link::{EndedMedium, LinkDevice, Links, Medium, OwnedWire};
 use tp_media::Media;
+use tp_samples::*;
 
 /// The increments of these words by one member, over faulty wires that never fail.
 fn increments_by_one<R: Threads + Wait + Sync>(

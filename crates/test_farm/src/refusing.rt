@@ -1,7 +1,6 @@
 //! Batches that do not begin, and one that has nothing to do.
 
 use crate::batches::{ROOM, have_ended, increments_by, packets};
-use crate::images::*;
 use std::alloc::Global;
 use std::sync::Wait;
 use std::test::Fail;
@@ -10,6 +9,7 @@ use tp_accept::accept;
 use tp_board::Packet;
 use tp_farm::{FarmFault, Job, OpenGate, run_batch};
 use tp_media::{Media, boxed, media_of};
+use tp_samples::*;
 
 /// What a batch of the increment over these media is refused with, if it is.
 fn fault_over<R: Threads + Wait + Sync>(

@@ -1,7 +1,6 @@
 //! Gates that stop a batch.
 
 use crate::batches::{ROOM, Told, all_told, batch_on, have_ended, increments_by, told_by_one};
-use crate::images::*;
 use std::alloc::Global;
 use std::sync::Wait;
 use std::sync::atomic::{AtomicU64, Ordering};
@@ -10,6 +9,7 @@ use std::thread::Threads;
 use tp_farm::Gate;
 use tp_link::{LinkDevice, Links};
 use tp_media::{Media, boxed, media_of};
+use tp_samples::*;
 
 /// Lets members go on until it is asked for the time that is given.
 #[derive(Drop)]

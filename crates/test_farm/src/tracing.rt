@@ -1,7 +1,6 @@
 //! Traces.
 
 use crate::batches::{BATCH, ROOM, Told, alone, run_on, told_by_one};
-use crate::images::*;
 use std::alloc::Global;
 use std::sync::Wait;
 use std::test::Fail;
@@ -10,6 +9,7 @@ use tp_collect::{Collected, Done, Entry};
 use tp_farm::OpenGate;
 use tp_link::{DeviceFault, Link};
 use tp_media::Media;
+use tp_samples::*;
 
 /// What becomes of packets of two words by one member.
 fn both<R: Threads + Wait + Sync>(

@@ -15,6 +15,8 @@ use tp_decode::{DecodeFault, Instr, Listing, decode};
 use tp_flow::check_flow;
 use tp_image::{Image, ImageFault, read_image, upgrade, write_image};
 use tp_link::{LinkDevice, Links, Medium, OwnedWire, Wire};
+pub(crate) use tp_samples::INCREMENT;
+use tp_samples::STORES_BY_TWO_WAYS;
 use tp_session::{Farm, ServeFault, serve};
 use tp_state::{Cell, StateFault};
 
@@ -163,10 +165,6 @@ fn collected(alloc: Global, image: &Image) -> Answer {
     }
 }
 
-/// A worker that adds one to a number: its image has 16 code bytes, and its budget is 16.
-pub(crate) const INCREMENT: &[u8] = b"TPW1\x10\x00\x0C\x00\x08\x00\x01\x00\x01\x00\x00\x00\
-    \x10\x24\xF2\x54\x44\xF7\x70\x81\xD0\x10\x24\xF2\x44\xFB\x21\xF5";
-
 /// Accepting an image.
 fn accepted(alloc: Global) -> Answer {
     let Ok(text) = Vec::from_slice(alloc, INCREMENT) else {
@@ -179,13 +177,9 @@ fn accepted(alloc: Global) -> Answer {
     }
 }
 
-/// A worker that stores 1 or 2 in word 9, by two ways that meet at 13, and sends it.
-const WORKER: &[u8] = b"TPW1\x16\x00\x0C\x00\x08\x00\x01\x00\x01\x00\x00\x00\
-    \x10\x24\xF2\x54\x44\xF7\x70\xA3\x41\xD1\x02\x42\xD1\x71\xD0\x10\x24\xF2\x44\xFB\x21\xF5";
-
 /// The verifier's table of a worker.
 fn verified(alloc: Global) -> Answer {
-    let image = match read_image(alloc, WORKER) {
+    let image = match read_image(alloc, STORES_BY_TWO_WAYS) {
         Ok(image) => image,
         Err(ImageFault::Memory) => return Answer::Memory,
         Err(_) => return Answer::Other,

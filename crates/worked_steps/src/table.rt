@@ -10,6 +10,10 @@ ghost use Rattle.worked_steps.specs.Table.{Says};
 
 use crate::rows::Group;
 use crate::{arithmetic, bits, bytes, comparisons, control, locals, messages, moves, prefixes};
+pub use tp_samples::{
+    FIVE_UNLESS_ZERO, INCREMENT, JUMPS_INTO_SPELLING, MOVES_A_WORD, ONE_TURN, PICKS_A_WORD,
+    READS_AFTER_JUMP, STORES_BY_TWO_WAYS, SUM_TO_TEN, TRACES_ITS_PACKET,
+};
 
 /// A worker's image, a packet, and what the run of the packet alone gives.
 #[derive(Clone, Copy)]
@@ -24,58 +28,6 @@ pub struct Sample {
     /// The bytes sent on link 1.
     pub trace: &'static [u8],
 }
-
-/// Adds one to its packet.
-pub const INCREMENT: &[u8] =
-    b"TPW1\x10\x00\x0C\x00\x08\x00\x01\x00\x01\x00\x00\x00\x10\x24\xF2\x54\x44\xF7\x70\x81\xD0\x10\
-    \x24\xF2\x44\xFB\x21\xF5";
-
-/// Sums the indices of a loop of one turn.
-pub const LOOP_ONCE: &[u8] =
-    b"TPW1\x1B\x00\x10\x00\x08\x00\x01\x00\x01\x00\x01\x00\x0C\x00\x12\x00\x0A\x00\x01\x00\x00\x00\
-    \x00\x00\x10\x24\xF2\x54\x44\xF7\x40\xD1\x40\xD2\x41\xD3\x71\x72\xF5\xD1\x12\x48\x22\xF1\x11\
-    \x24\xF2\x44\xFB\x21\xF5";
-
-/// The same with ten turns.
-pub const SUM_TO_TEN: &[u8] =
-    b"TPW1\x1B\x00\x10\x00\x08\x00\x01\x00\x01\x00\x01\x00\x0C\x00\x12\x00\x0A\x00\x0A\x00\x00\x00\
-    \x00\x00\x10\x24\xF2\x54\x44\xF7\x40\xD1\x40\xD2\x4A\xD3\x71\x72\xF5\xD1\x12\x48\x22\xF1\x11\
-    \x24\xF2\x44\xFB\x21\xF5";
-
-/// Sends its packet where that is 0, else 5.
-pub const EARLY_EXIT: &[u8] =
-    b"TPW1\x11\x00\x0C\x00\x08\x00\x01\x00\x01\x00\x00\x00\x10\x24\xF2\x54\x44\xF7\x70\xA2\x45\xD0\
-    \x10\x24\xF2\x44\xFB\x21\xF5";
-
-/// Jumps into the second byte of a spelling, or reads it whole.
-pub const JUMPS_INTO_SPELLING: &[u8] =
-    b"TPW1\x12\x00\x0C\x00\x08\x00\x01\x00\x01\x00\x00\x00\x10\x24\xF2\x54\x44\xF7\x70\xA1\x21\x40\
-    \xD0\x10\x24\xF2\x44\xFB\x21\xF5";
-
-/// Stores 1 or 2 by two ways that meet.
-pub const TWO_WAYS: &[u8] =
-    b"TPW1\x16\x00\x0C\x00\x08\x00\x01\x00\x01\x00\x00\x00\x10\x24\xF2\x54\x44\xF7\x70\xA3\x41\xD1\
-    \x02\x42\xD1\x71\xD0\x10\x24\xF2\x44\xFB\x21\xF5";
-
-/// Loads a word that its packet picks.
-pub const PICKS_A_WORD: &[u8] =
-    b"TPW1\x15\x00\x14\x00\x08\x00\x01\x00\x01\x00\x00\x00\x10\x24\xF2\x54\x44\xF7\x70\x47\x24\xF6\
-    \x12\xFA\x30\xD0\x10\x24\xF2\x44\xFB\x21\xF5";
-
-/// Sends its packet as a trace message too.
-pub const TRACES: &[u8] =
-    b"TPW1\x13\x00\x0C\x00\x08\x00\x01\x00\x01\x00\x00\x00\x10\x24\xF2\x54\x44\xF7\x10\x24\xF2\x51\
-    \x44\xFB\x10\x24\xF2\x44\xFB\x21\xF5";
-
-/// Moves workspace word 0, which is 42 at first, to local 0.
-pub const MOVES_A_WORD: &[u8] =
-    b"TPW2\x13\x00\x10\x00\x08\x00\x01\x00\x01\x00\x00\x00\x01\x00\x2A\x00\x00\x00\x10\x24\xF2\x54\
-    \x44\xF7\x60\x18\x10\x44\x24\xFA\x10\x24\xF2\x44\xFB\x21\xF5";
-
-/// Adds a register that j has left undefined.
-pub const READS_AFTER_JUMP: &[u8] =
-    b"TPW1\x11\x00\x0C\x00\x08\x00\x01\x00\x01\x00\x00\x00\x10\x24\xF2\x54\x44\xF7\x00\x70\xF5\xD0\
-    \x10\x24\xF2\x44\xFB\x21\xF5";
 
 /// One is added.
 pub fn increment_one() -> Sample
@@ -110,7 +62,7 @@ pub fn loop_of_one_turn() -> Sample
     ensures { Says loop_once result }
 {
     Sample {
-        image: LOOP_ONCE,
+        image: ONE_TURN,
         packet: [0, 0, 0, 0],
         result_bytes: [0, 0, 0, 0],
         error: false,
@@ -138,7 +90,7 @@ pub fn jump_taken() -> Sample
     ensures { Says early_exit result }
 {
     Sample {
-        image: EARLY_EXIT,
+        image: FIVE_UNLESS_ZERO,
         packet: [0, 0, 0, 0],
         result_bytes: [0, 0, 0, 0],
         error: false,
@@ -152,7 +104,7 @@ pub fn jump_not_taken() -> Sample
     ensures { Says early_exit result }
 {
     Sample {
-        image: EARLY_EXIT,
+        image: FIVE_UNLESS_ZERO,
         packet: [7, 0, 0, 0],
         result_bytes: [5, 0, 0, 0],
         error: false,
@@ -194,7 +146,7 @@ pub fn one_way() -> Sample
     ensures { Says two_ways result }
 {
     Sample {
-        image: TWO_WAYS,
+        image: STORES_BY_TWO_WAYS,
         packet: [0, 0, 0, 0],
         result_bytes: [2, 0, 0, 0],
         error: false,
@@ -208,7 +160,7 @@ pub fn other_way() -> Sample
     ensures { Says two_ways result }
 {
     Sample {
-        image: TWO_WAYS,
+        image: STORES_BY_TWO_WAYS,
         packet: [5, 0, 0, 0],
         result_bytes: [1, 0, 0, 0],
         error: false,
@@ -236,7 +188,7 @@ pub fn trace_sent() -> Sample
     ensures { Says traces result }
 {
     Sample {
-        image: TRACES,
+        image: TRACES_ITS_PACKET,
         packet: [10, 0, 0, 0],
         result_bytes: [10, 0, 0, 0],
         error: false,

@@ -2,10 +2,7 @@
 
 use anyhow::Result;
 use std::alloc::Global;
-
-/// Adds one to its packet.
-pub(crate) const INCREMENT: &[u8] = b"TPW1\x10\0\x0C\0\x08\0\x01\0\x01\0\0\0\
-    \x10\x24\xF2\x54\x44\xF7\x70\x81\xD0\x10\x24\xF2\x44\xFB\x21\xF5";
+pub(crate) use tp_samples::INCREMENT;
 
 /// ldlp 0, mint, ldnlp 4, ldc 4, in
 const RECEIVES: &[u8] = b"\x10\x24\xF2\x54\x44\xF7";

@@ -12,10 +12,7 @@ pub struct Worker {
 /// Sums the indices of 10,000 turns: ldl 1; ldl 2; add; stl 1; ldlp 2; ldc 8; lend.
 pub const SUM: Worker = Worker {
     name: "10,000 turns",
-    image: b"TPW1\x1E\0\x10\0\x08\0\x01\0\x01\0\x01\0\
-        \x0F\0\x15\0\x0A\0\x10\x27\0\0\0\0\
-        \x10\x24\xF2\x54\x44\xF7\x40\xD1\x40\xD2\x22\x27\x21\x40\xD3\
-        \x71\x72\xF5\xD1\x12\x48\x22\xF1\x11\x24\xF2\x44\xFB\x21\xF5",
+    image: tp_samples::SUM_TO_TEN_THOUSAND,
     outer: 1,
     inner: 10_000,
 };
