@@ -11,6 +11,8 @@ mod images;
 #[cfg(test)]
 mod members;
 #[cfg(test)]
+mod recording;
+#[cfg(test)]
 mod refusing;
 #[cfg(test)]
 mod stopping;
