@@ -29,7 +29,7 @@ fn fails_as<R: Threads + Wait + Sync>(
 fn each_call_of_a_device_fails_in_turn(rt: HostRuntime) -> Result<(), Fail> {
     let source = Told::Lost(Link::Source, DeviceFault::Failed);
     let sink = Told::Lost(Link::Sink, DeviceFault::Failed);
-    let rows: [([u64; 3], [Told; 2]); 10] = [
+    let rows: [([u64; 3], [Told; 2]); 11] = [
         ([1, 0, 0], [source, DONE]),
         ([2, 0, 0], [source, DONE]),
         ([3, 0, 0], [DONE, source]),
@@ -38,6 +38,7 @@ fn each_call_of_a_device_fails_in_turn(rt: HostRuntime) -> Result<(), Fail> {
         ([0, 1, 0], [sink, DONE]),
         ([0, 2, 0], [sink, DONE]),
         ([0, 3, 0], [DONE, sink]),
+        ([0, 4, 0], [DONE, sink]),
         ([0, 5, 0], [DONE, DONE]),
         ([0, 0, 1], [DONE, DONE]),
     ];
@@ -47,56 +48,170 @@ fn each_call_of_a_device_fails_in_turn(rt: HostRuntime) -> Result<(), Fail> {
     Ok(())
 }
 
-/// What is told of a packet of 10 that is traced, where the trace fails in this call.
-fn traced<R: Threads + Wait + Sync>(rt: &R, alloc: Global, call: u64) -> Result<Vec<Told>, Fail> {
+/// What is told of a packet of 10 that is traced, where devices fail in these calls.
+fn traced<R: Threads + Wait + Sync>(
+    rt: &R,
+    alloc: Global,
+    calls: [u64; 3],
+) -> Result<Vec<Told>, Fail> {
     let mut media = Media::new(alloc, ROOM)?;
-    let links = failing(&mut media, [0, 0, call]);
+    let links = failing(&mut media, calls);
     told_by_one(rt, alloc, TRACES_ITS_PACKET, &[10], links, &OpenGate)
 }
 
-/// The first call of the trace sends its message, the second receives it.
+/// The first call of the trace sends its message, and then the first of the sink its result. After the run the second
+/// call of the sink receives the result, and then the second of the trace the message.
 #[test]
 fn a_trace_fails(rt: HostRuntime) -> Result<(), Fail> {
-    let lost = Told::Lost(Link::Trace, DeviceFault::Failed);
-    for (call, wanted) in [(1, lost), (2, lost), (3, Told::Done(10))] {
-        let all = traced(&rt, rt.alloc(), call)?;
-        assert!(rt; all.as_slice() == [wanted].as_slice(), "{call}");
+    let sink = Told::Lost(Link::Sink, DeviceFault::Failed);
+    let trace = Told::Lost(Link::Trace, DeviceFault::Failed);
+    for (calls, wanted) in [
+        ([0, 0, 1], trace),
+        ([0, 0, 2], trace),
+        ([0, 0, 3], Told::Done(10)),
+        ([0, 1, 1], trace),
+        ([0, 1, 2], sink),
+        ([0, 2, 2], sink),
+    ] {
+        let all = traced(&rt, rt.alloc(), calls)?;
+        assert!(rt; all.as_slice() == [wanted].as_slice(), "{calls:?}");
     }
     Ok(())
 }
 
-/// Media whose source holds 600 bytes.
-fn with_600_bytes(alloc: Global) -> Result<Media, Fail> {
-    let mut media = Media::with_rooms(alloc, 600, 4, 0)?;
-    media.wires().source.send(&[9; 600])?;
+fn of_link<T: Drop>(links: Links<T>, link: Link) -> T {
+    match link {
+        Link::Source => links.source,
+        Link::Sink => links.sink,
+        Link::Trace => links.trace,
+    }
+}
+
+/// Media of 600 bytes each, of which the link's is full.
+fn with_600_bytes(alloc: Global, link: Link) -> Result<Media, Fail> {
+    let mut media = Media::new(alloc, 600)?;
+    of_link(media.wires(), link).send(&[9; 600])?;
     Ok(media)
 }
 
-/// Whether that is told of two packets of 1, where the source holds 600 bytes and fails in this call, and is empty after it.
+/// The calls that fail, where the link's device fails in this one alone.
+fn call_of(link: Link, call: u64) -> [u64; 3] {
+    match link {
+        Link::Source => [call, 0, 0],
+        Link::Sink => [0, call, 0],
+        Link::Trace => [0, 0, call],
+    }
+}
+
+/// Whether that is told of two packets of 1, where the link's device holds 600 bytes and fails in this call, and all are
+/// empty after it.
 fn empties_as<R: Threads + Wait + Sync>(
     rt: &R,
     alloc: Global,
+    link: Link,
     call: u64,
     wanted: [Told; 2],
 ) -> Result<bool, Fail> {
-    let mut media = with_600_bytes(alloc)?;
-    let links = failing(&mut media, [call, 0, 0]);
+    let mut media = with_600_bytes(alloc, link)?;
+    let links = failing(&mut media, call_of(link, call));
     let all = told_by_one(rt, alloc, INCREMENT, &[1, 1], links, &OpenGate)?;
-    Ok(all.as_slice() == wanted.as_slice() && media.source.bytes().is_empty())
+    let empty = media.source.bytes().is_empty()
+        && media.sink.bytes().is_empty()
+        && media.trace.bytes().is_empty();
+    Ok(all.as_slice() == wanted.as_slice() && empty)
 }
 
-/// A source that holds 600 bytes is emptied by three calls, and the packet is sent by the fourth.
+/// A device that holds 600 bytes is emptied by three calls, before the packet is sent.
 #[test]
-fn a_source_fails_while_it_is_emptied(rt: HostRuntime) -> Result<(), Fail> {
-    let lost = Told::Lost(Link::Source, DeviceFault::Failed);
-    for (call, wanted) in [
-        (0, [DONE, DONE]),
-        (1, [lost, DONE]),
-        (3, [lost, DONE]),
-        (4, [lost, DONE]),
-        (6, [DONE, lost]),
+fn a_device_fails_while_it_is_emptied(rt: HostRuntime) -> Result<(), Fail> {
+    let source = Told::Lost(Link::Source, DeviceFault::Failed);
+    let sink = Told::Lost(Link::Sink, DeviceFault::Failed);
+    let trace = Told::Lost(Link::Trace, DeviceFault::Failed);
+    for (link, call, wanted) in [
+        (Link::Source, 0, [DONE, DONE]),
+        (Link::Source, 1, [source, DONE]),
+        (Link::Source, 3, [source, DONE]),
+        (Link::Source, 4, [source, DONE]),
+        (Link::Source, 6, [DONE, source]),
+        (Link::Sink, 1, [sink, DONE]),
+        (Link::Sink, 3, [sink, DONE]),
+        (Link::Sink, 6, [DONE, sink]),
+        (Link::Trace, 1, [trace, DONE]),
+        (Link::Trace, 3, [trace, DONE]),
+        (Link::Trace, 4, [DONE, DONE]),
     ] {
-        assert!(rt; empties_as(&rt, rt.alloc(), call, wanted)?, "{call}");
+        assert!(rt;
+            empties_as(&rt, rt.alloc(), link, call, wanted)?,
+            "{link} {call}"
+        );
+    }
+    Ok(())
+}
+
+/// How a device stands before a batch.
+#[derive(Clone, Copy)]
+enum Start {
+    Open,
+    /// Closed and empty.
+    Closed,
+    /// Closed, and it holds bytes.
+    ClosedFull,
+}
+
+fn bring<D: LinkDevice>(device: &mut D, start: Start) -> Result<(), DeviceFault> {
+    match start {
+        Start::Open => {}
+        Start::Closed => device.close(),
+        Start::ClosedFull => {
+            device.send(&[9; 4])?;
+            device.close();
+        }
+    }
+    Ok(())
+}
+
+/// What is told of a packet of 1, where the devices stand so before.
+fn told_from<R: Threads + Wait + Sync>(
+    rt: &R,
+    alloc: Global,
+    starts: [Start; 3],
+) -> Result<Vec<Told>, Fail> {
+    let mut media = Media::new(alloc, ROOM)?;
+    let mut links = media.wires();
+    bring(&mut links.source, starts[0])?;
+    bring(&mut links.sink, starts[1])?;
+    bring(&mut links.trace, starts[2])?;
+    told_by_one(rt, alloc, INCREMENT, &[1], links, &OpenGate)
+}
+
+/// Source, sink and trace are emptied in this order, then the packet is sent, and then the worker runs. The first refusal
+/// is told.
+#[test]
+fn the_first_refusal_is_told(rt: HostRuntime) -> Result<(), Fail> {
+    for (row, (starts, link)) in [
+        (
+            [Start::ClosedFull, Start::ClosedFull, Start::Open],
+            Link::Source,
+        ),
+        (
+            [Start::ClosedFull, Start::Open, Start::ClosedFull],
+            Link::Source,
+        ),
+        (
+            [Start::Open, Start::ClosedFull, Start::ClosedFull],
+            Link::Sink,
+        ),
+        ([Start::Closed, Start::ClosedFull, Start::Open], Link::Sink),
+        ([Start::Closed, Start::Open, Start::ClosedFull], Link::Trace),
+        ([Start::Open, Start::Closed, Start::ClosedFull], Link::Trace),
+        ([Start::Closed, Start::Closed, Start::Closed], Link::Source),
+    ]
+    .into_iter()
+    .enumerate()
+    {
+        let all = told_from(&rt, rt.alloc(), starts)?;
+        let wanted = Told::Lost(link, DeviceFault::Closed);
+        assert!(rt; all.as_slice() == [wanted].as_slice(), "{row}");
     }
     Ok(())
 }

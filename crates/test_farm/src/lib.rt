@@ -9,6 +9,8 @@ mod failing;
 #[cfg(test)]
 mod members;
 #[cfg(test)]
+mod recording;
+#[cfg(test)]
 mod refusing;
 #[cfg(test)]
 mod stopping;

@@ -51,12 +51,14 @@ fn members_make_no_difference(rt: HostRuntime) -> Result<(), Fail> {
 /// How many turns a thread is held for, at most.
 const MOST_TURNS: u64 = 1_000_000;
 
-/// Holds the first numbers until as many are claimed, and number 0 until all others are finished.
+/// Holds the first numbers until each of them is claimed, and number 0 until all others are finished.
 #[derive(Drop)]
 struct Holding {
     members: u64,
     packets: u64,
     claims: AtomicU64,
+    /// How many of the first numbers are claimed.
+    first_claims: AtomicU64,
     finishes: AtomicU64,
     ran_out: AtomicU64,
 }
@@ -74,9 +76,11 @@ impl Holding {
 }
 
 impl Gate for Holding {
-    ghost use Rattle.std.specs.Prelude.{true};
+    ghost use Rattle.std.specs.Prelude.{◌≡◌, true};
 
     ghost open_for_good = { λ _. true };
+
+    ghost has_answered = { λ _ _ answer. answer ≡ true };
 
     fn ask(&self, _member: u32) -> bool {
         true
@@ -85,7 +89,8 @@ impl Gate for Holding {
     fn claimed(&self, _member: u32, number: u32) {
         self.claims.fetch_add(1, Ordering::SeqCst);
         if u64::from(number) < self.members {
-            self.hold_until(&self.claims, self.members);
+            self.first_claims.fetch_add(1, Ordering::SeqCst);
+            self.hold_until(&self.first_claims, self.members);
         }
         if number == 0 {
             self.hold_until(&self.finishes, self.packets.saturating_sub(1));
@@ -104,6 +109,7 @@ impl Holding {
             members,
             packets,
             claims: AtomicU64::new(0),
+            first_claims: AtomicU64::new(0),
             finishes: AtomicU64::new(0),
             ran_out: AtomicU64::new(0),
         }
@@ -151,8 +157,8 @@ fn increments_by_any<R: Threads + Wait + Sync>(
     run_on(rt, alloc, INCREMENT, &[1; 64], members, gate)
 }
 
-/// Four members: the first four packets are held until all four are claimed, and the first until the other 63 are
-/// finished.
+/// Four members: packets 0 to 3 are held until these four are claimed, and packet 0 until the other 63 are finished. So no
+/// turns run out only where four members have packets in hand beside one another, and none has a share of its own.
 #[test]
 fn members_claim_beside_one_another(rt: HostRuntime) -> Result<(), Fail> {
     let mut ends = Vec::new(rt.alloc());

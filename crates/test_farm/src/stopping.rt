@@ -5,7 +5,7 @@ use std::alloc::Global;
 use std::sync::Wait;
 use std::sync::atomic::{AtomicU64, Ordering};
 use std::test::Fail;
-use std::thread::Threads;
+use std::thread::{self, Threads};
 use tp_farm::Gate;
 use tp_link::{LinkDevice, Links};
 use tp_media::{Media, boxed, media_of};
@@ -31,6 +31,8 @@ impl Gate for Closing {
     ghost use Rattle.std.specs.Prelude.{false};
 
     ghost open_for_good = { λ _. false };
+
+    ghost has_answered = { λ _ _ _. Unit {0} };
 
     fn ask(&self, _member: u32) -> bool {
         let earlier = self.asks.fetch_add(1, Ordering::SeqCst);
@@ -136,6 +138,92 @@ fn a_gate_stops_two_members(rt: HostRuntime) -> Result<(), Fail> {
         let (done, stopped) = done_and_stopped(&rt, rt.alloc())?;
         assert!(rt; done == 8 || done == 9, "{done}");
         assert_eq!(rt; done.saturating_add(stopped), 50);
+    }
+    Ok(())
+}
+
+/// No member's number.
+const NOBODY: u64 = u64::MAX;
+
+/// How often a member waits for others to go on, once a member was answered no.
+const TURNS: u32 = 1000;
+
+/// Says no once: to the ask of the number that is given, counted from 1.
+#[derive(Drop)]
+struct SayingNoOnce {
+    at: u64,
+    asks: AtomicU64,
+    /// The member that was answered no.
+    refused: AtomicU64,
+    /// How often that member has asked again.
+    asks_again: AtomicU64,
+}
+
+impl SayingNoOnce {
+    fn at(at: u64) -> SayingNoOnce {
+        SayingNoOnce {
+            at,
+            asks: AtomicU64::new(0),
+            refused: AtomicU64::new(NOBODY),
+            asks_again: AtomicU64::new(0),
+        }
+    }
+}
+
+impl Gate for SayingNoOnce {
+    ghost use Rattle.std.specs.Prelude.{false};
+
+    ghost open_for_good = { λ _. false };
+
+    ghost has_answered = { λ _ _ _. Unit {0} };
+
+    fn ask(&self, member: u32) -> bool {
+        if self.refused.load(Ordering::SeqCst) == u64::from(member) {
+            self.asks_again.fetch_add(1, Ordering::SeqCst);
+        }
+        let earlier = self.asks.fetch_add(1, Ordering::SeqCst);
+        let refuses = earlier == self.at.saturating_sub(1);
+        if refuses {
+            self.refused.store(u64::from(member), Ordering::SeqCst);
+        }
+        !refuses
+    }
+
+    fn claimed(&self, _member: u32, _number: u32) {
+        if self.refused.load(Ordering::SeqCst) == NOBODY {
+            return;
+        }
+        for _ in 0..TURNS {
+            thread::yield_now();
+        }
+    }
+
+    fn finished(&self, _member: u32, _number: u32) {}
+}
+
+/// How many of 1,024 packets are done, and how many are stopped.
+fn done_and_stopped_by_one_no<R: Threads + Wait + Sync>(
+    rt: &R,
+    alloc: Global,
+    members: usize,
+    gate: &SayingNoOnce,
+) -> Result<(usize, usize), Fail> {
+    let collected = increments_by(rt, alloc, &[1; 1024], members, gate)?;
+    let all = all_told(alloc, &collected)?;
+    Ok((count_of(&all, Told::Done(2)), count_of(&all, Told::Stopped)))
+}
+
+/// One no stops all members, though they would be let go on: each of them ends, and most packets are left. Nine asks were
+/// answered before; all but one member may find the batch stopped after that.
+#[test]
+fn one_no_stops_all_members(rt: HostRuntime) -> Result<(), Fail> {
+    for (members, least) in [(1, 9), (2, 8), (4, 6)] {
+        let gate = SayingNoOnce::at(10);
+        let (done, stopped) = done_and_stopped_by_one_no(&rt, rt.alloc(), members, &gate)?;
+        assert_eq!(rt; done.saturating_add(stopped), 1024);
+        assert!(rt; done >= least && stopped > 0, "{members}: {done}");
+        assert!(rt; members > 1 || done == least, "{done}");
+        assert_eq!(rt; gate.asks_again.load(Ordering::SeqCst), 0);
     }
     Ok(())
 }

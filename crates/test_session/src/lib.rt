@@ -9,6 +9,8 @@ mod farms;
 #[cfg(test)]
 mod listings;
 #[cfg(test)]
+mod members;
+#[cfg(test)]
 mod names;
 #[cfg(test)]
 mod runs;

@@ -227,7 +227,7 @@ module _ (batch : Batch) (o : Bool) where
           by_end : (e : End) → fault_of_end e ≡ None → EndsBy batch o (progress_of m.view) e → m.view.stop_callers ≡ 0
           by_end end.Drained well (hand, called, ended) = no_stop _ m.view.stop_callers refl called
           by_end end.Stopped well (hand, inl (called, seen)) = no_stop _ m.view.stop_callers refl called
-          by_end end.Stopped well (hand, inr closed) = not_closed closed
+          by_end end.Stopped well (hand, inr (called, closed)) = not_closed closed
           by_end end.Memory well e = cc
           by_end end.Stuck well e = cc
           by_end end.Limit well e = cc
@@ -278,7 +278,7 @@ module _ (batch : Batch) (o : Bool) where
           by_end end.Drained well (hand, called, inl ended) = b.ended (omega (arith, was_true m.view.ended ended, ended_somewhere))
           by_end end.Drained well (hand, called, inr all) = omega (arith, all, drawn_some, b.drawn, b.within, sized)
           by_end end.Stopped well (hand, inl (called, seen)) = absurd (not_stopped (b.stop_seen 0 m.view seen_there (was_true m.view.seen.stop seen)))
-          by_end end.Stopped well (hand, inr closed) = not_closed closed
+          by_end end.Stopped well (hand, inr (called, closed)) = not_closed closed
           by_end end.Memory well e = cc
           by_end end.Stuck well e = cc
           by_end end.Limit well e = cc

@@ -1,6 +1,6 @@
 //! Gates.
 
-ghost use Rattle.std.specs.Prelude.{◌≡◌, Bool, true};
+ghost use Rattle.std.specs.Prelude.{◌≡◌, ℕ, Bool, true};
 
 /// Asked by each member before it takes a packet, and told of the packets that it has taken and handled. All members ask
 /// one gate, from their own threads.
@@ -8,9 +8,13 @@ pub trait Gate: Sync {
     // It will answer true, whenever it is asked.
     ghost open_for_good: { Self → Bool };
 
+    // It has answered the member of this number so. No other call than `ask` tells it, whatever an impl says here.
+    ghost has_answered: { Self → ℕ → Bool → Type 0 };
+
     /// Whether the member may take another packet. Where not, it stops the batch.
     fn ask(&self, member: u32) -> bool
-        ensures { open_for_good self.now ≡ true → result ≡ true };
+        ensures open { open_for_good self.now ≡ true → result ≡ true }
+        ensures answer { has_answered self.now member result };
 
     /// The member has taken the packet of this number.
     fn claimed(&self, member: u32, number: u32);
@@ -25,6 +29,8 @@ pub struct OpenGate;
 
 impl Gate for OpenGate {
     ghost open_for_good = { λ _. true };
+
+    ghost has_answered = { λ _ _ answer. answer ≡ true };
 
     fn ask(&self, _member: u32) -> bool {
         true

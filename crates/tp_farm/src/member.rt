@@ -1,9 +1,9 @@
 //! A member's work: taking packets, handling them, and filing what became of them.
 
-ghost use Rattle.std.specs.Prelude.{◌≡◌, ◌<◌, IfSome, Some, None, slice_get, vec_len, vec_capacity};
+ghost use Rattle.std.specs.Prelude.{◌≡◌, ◌<◌, true, IfSome, Some, None, slice_get, vec_len, vec_capacity};
 ghost use Rattle.tp_farm.specs.Jobs.{batch_of, AreWhole};
 ghost use Rattle.tp_farm.specs.Stages.{of_links};
-ghost use Rattle.tp_farm.specs.Members.{KeepsAccounts, EndsBy};
+ghost use Rattle.tp_farm.specs.Members.{KeepsAccounts, EndsBy, IsRefused};
 ghost use Rattle.tp_farm.specs.Turns.{no_progress, MayTake, HasTaken, HasPutDown};
 
 use crate::gate::Gate;
@@ -70,10 +70,11 @@ fn file_packet<W: WorkSource, D: LinkDevice, G: Gate>(
     requires room { vec_len member.old.filed < vec_capacity member.old.filed }
     requires accounts { KeepsAccounts (batch_of job.now) (of_links D.state member.old.entry.value) (of_links D.state member.old.links) (W.progress member.old.hand) member.old.filed.items }
     ensures own { W.is_own source.now member.new.hand }
+    ensures number { member.new.number ≡ member.old.number }
     ensures entry { member.new.entry.value ≡ member.old.entry.value }
     ensures accounts { KeepsAccounts (batch_of job.now) (of_links D.state member.new.entry.value) (of_links D.state member.new.links) (W.progress member.new.hand) member.new.filed.items }
     ensures going { result ≡ None → HasPutDown (W.progress member.old.hand) (W.progress member.new.hand) }
-    ensures end { IfSome result (EndsBy (batch_of job.now) (G.open_for_good gate.now) (W.progress member.new.hand)) }
+    ensures never_ends { result ≡ None }
 {
     gate.claimed(member.number, number);
     match handle(&mut member.machine, job, number, packet, &mut member.links) {
@@ -114,9 +115,12 @@ fn take_turn<W: WorkSource, D: LinkDevice, G: Gate>(
     requires whole { AreWhole (batch_of job.now) }
     requires accounts { KeepsAccounts (batch_of job.now) (of_links D.state member.old.entry.value) (of_links D.state member.old.links) (W.progress member.old.hand) member.old.filed.items }
     ensures own { W.is_own source.now member.new.hand }
+    ensures number { member.new.number ≡ member.old.number }
     ensures entry { member.new.entry.value ≡ member.old.entry.value }
     ensures accounts { KeepsAccounts (batch_of job.now) (of_links D.state member.new.entry.value) (of_links D.state member.new.links) (W.progress member.new.hand) member.new.filed.items }
     ensures going { result ≡ None → HasTaken (W.progress member.old.hand) (W.progress member.new.hand) }
+    ensures allowed { result ≡ None → G.has_answered gate.now member.old.number true }
+    ensures refused { IfSome result (IsRefused (G.has_answered gate.now member.old.number) (W.progress member.new.hand)) }
     ensures end { IfSome result (EndsBy (batch_of job.now) (G.open_for_good gate.now) (W.progress member.new.hand)) }
 {
     if member.filed.reserve(1).is_err() {
@@ -151,6 +155,7 @@ pub(crate) fn work<W: WorkSource, D: LinkDevice, G: Gate>(
     ensures own { W.is_own source.now member.new.hand }
     ensures entry { member.new.entry.value ≡ member.old.entry.value }
     ensures accounts { KeepsAccounts (batch_of job.now) (of_links D.state member.new.entry.value) (of_links D.state member.new.links) (W.progress member.new.hand) member.new.filed.items }
+    ensures refused { IsRefused (G.has_answered gate.now member.old.number) (W.progress member.new.hand) result }
     ensures end { EndsBy (batch_of job.now) (G.open_for_good gate.now) (W.progress member.new.hand) result }
 {
     for _ in 0..job.packets.len() + 1 {

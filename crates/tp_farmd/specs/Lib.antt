@@ -1,1 +1,2 @@
 pub mod Media
+pub mod Asked

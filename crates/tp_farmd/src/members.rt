@@ -5,12 +5,13 @@ ghost use Rattle.tp_link.specs.Wire.{device_of};
 ghost use Rattle.tp_session.specs.Fitness.{AreFit};
 ghost use Rattle.tp_session.specs.Served.{Serves};
 ghost use Rattle.tp_farmd.specs.Media.{HaveRoom};
+ghost use Rattle.tp_farmd.specs.Asked.{IsAsked};
 
 use std::alloc::{AllocError, Global};
 use std::io::{Read, Write};
 use std::sync::Wait;
 use std::thread::Threads;
-use tp_link::{Links, Wire};
+use tp_link::{LinkDevice, Links, Wire};
 use tp_media::Media;
 use tp_options::Options;
 use tp_session::{Farm, ServeFault, serve};
@@ -37,7 +38,24 @@ fn boxed(alloc: Global, media: &mut [Media]) -> Result<Vec<Links<Box<Wire<'_>>>>
     Ok(links)
 }
 
-/// Serves an input on 1 to 64 members of its own.
+/// Serves an input on the farm that is asked for: each of its members serves.
+fn serve_as_asked<T: Threads + Wait + Sync, D: LinkDevice + Send, R: Read, W: Write>(
+    rt: &T,
+    alloc: Global,
+    reader: &mut R,
+    writer: &mut W,
+    farm: Farm<D>,
+    _asked: Options,
+) -> Result<(), ServeFault>
+    requires asked { IsAsked _asked farm }
+    requires fit { AreFit D.state farm.links.items }
+    ensures { IfSome (R.remaining reader.old) (λ input.
+        Serves _asked.trace input (R.remaining reader.new) (W.contents writer.old) (W.contents writer.new) result) }
+{
+    serve(rt, alloc, reader, writer, farm)
+}
+
+/// Serves an input on 1 to 64 members of its own, as many as are asked for.
 pub fn serve_members<T: Threads + Wait + Sync, R: Read, W: Write>(
     rt: &T,
     alloc: Global,
@@ -52,5 +70,6 @@ pub fn serve_members<T: Threads + Wait + Sync, R: Read, W: Write>(
 {
     let mut media = media_of(alloc, asked.members)?;
     let links = boxed(alloc, &mut media)?;
-    serve(rt, alloc, reader, writer, Farm::new(links, asked.trace))
+    let farm = Farm::new(links, asked.trace);
+    serve_as_asked(rt, alloc, reader, writer, farm, asked)
 }

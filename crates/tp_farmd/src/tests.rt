@@ -12,6 +12,8 @@ use std::test::Fail;
 use std::thread::Threads;
 use tp_session::ServeFault;
 
+mod threads;
+
 /// The words of a command line.
 #[derive(Drop)]
 struct Words<'a>(&'a [&'a str]);

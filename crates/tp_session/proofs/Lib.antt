@@ -6,3 +6,4 @@ pub mod ServeLemmas
 pub mod RunLemmas
 pub mod ServiceLemmas
 pub mod OneAnswer
+pub mod MemberLemmas

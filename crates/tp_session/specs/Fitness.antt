@@ -25,3 +25,7 @@ AreFit state links = All AreFitOf (map (of_links state) links)
 pub record HasMembers {D : Type 0} (links : List (Links D)) : Type 0 where
   pub least : 1 ≤ length links
   pub most : length links ≤ 64
+
+-- as many members after as before
+abbrev pub AreAsMany : {D : Type 0} → (before after : List (Links D)) → Type 0
+AreAsMany before after = length after ≡ length before

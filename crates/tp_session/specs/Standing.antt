@@ -7,14 +7,14 @@ use Rattle.tp_session.specs.declared.service.Service.{Service}
 use Rattle.tp_requests.specs.Requests.{Asked, ToList}
 use Rattle.tp_answers.specs.Answers.{Standing, standing}
 use Rattle.tp_answers.specs.Open.{sessions_of}
-use Rattle.tp_session.specs.Fitness.{AreFit, HasMembers}
+use Rattle.tp_session.specs.Fitness.{AreFit, AreAsMany}
 
 abbrev pub standing_of : {D : Type 0} → Service D → Standing
 standing_of service = standing (sessions_of service.sessions) service.batches
 
--- the members are as many as may be, their devices are as fit as they were, and traces are told as before
+-- there are as many members as before, their devices are as fit as they were, and traces are told as before
 pub record StaysOn {D : Type 0} (state : D → DeviceState) (before after : Service D) : Type 0 where
-  pub members : HasMembers after.links.items
+  pub members : AreAsMany before.links.items after.links.items
   pub fit : AreFit state before.links.items → AreFit state after.links.items
   pub trace : after.trace ≡ before.trace
 

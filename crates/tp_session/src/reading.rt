@@ -5,7 +5,7 @@ ghost use Rattle.std.specs.Io.KnownBytes.{Appends};
 ghost use Rattle.tp_requests.specs.Lines.{without_return};
 ghost use Rattle.tp_answers.specs.Answers.{Answers};
 ghost use Rattle.tp_session.specs.Served.{asked_in};
-ghost use Rattle.tp_session.specs.Fitness.{AreFit, HasMembers};
+ghost use Rattle.tp_session.specs.Fitness.{AreFit, HasMembers, AreAsMany};
 ghost use Rattle.tp_session.specs.Standing.{standing_of, StaysOn, IsWant};
 ghost use Rattle.tp_session.specs.Stand.{Stand, Keeps, IsAt, GoesOn, Fails, FailsAtEnd, HasToldAll};
 
@@ -98,7 +98,7 @@ fn end_line<R: Threads + Wait + Sync, D: LinkDevice + Send, W: Write>(
         OnOk result (GoesOn D.state trace begun progress.new service.new (W.contents writer.new) (s.taken ++ 10 ∷ [])) }
     ensures err { (trace : Bool) (begun : Option (List ℕ)) (s : Stand) → IsAt D.state trace begun progress.old service.old (W.contents writer.old) s →
         IfErr result (Fails trace s.taken (10 ∷ []) begun (W.contents writer.new)) }
-    ensures members { OnOk result (HasMembers service.new.links.items) }
+    ensures members { OnOk result (AreAsMany service.old.links.items service.new.links.items) }
 {
     let text = answer(service, rt, alloc, progress, true)?;
     write_whole(writer, &text)?;
@@ -122,7 +122,7 @@ fn take_byte<R: Threads + Wait + Sync, D: LinkDevice + Send, W: Write>(
         OnOk result (GoesOn D.state trace begun progress.new service.new (W.contents writer.new) (s.taken ++ byte ∷ [])) }
     ensures err { (trace : Bool) (begun : Option (List ℕ)) (s : Stand) → IsAt D.state trace begun progress.old service.old (W.contents writer.old) s →
         IfErr result (Fails trace s.taken (byte ∷ []) begun (W.contents writer.new)) }
-    ensures members { OnOk result (HasMembers service.new.links.items) }
+    ensures members { OnOk result (AreAsMany service.old.links.items service.new.links.items) }
 {
     if byte == b'\n' {
         return end_line(progress, service, rt, alloc, writer);
@@ -149,7 +149,7 @@ pub(crate) fn feed<R: Threads + Wait + Sync, D: LinkDevice + Send, W: Write>(
         OnOk result (GoesOn D.state trace begun progress.new service.new (W.contents writer.new) (s.taken ++ bytes.now)) }
     ensures err { (trace : Bool) (begun : Option (List ℕ)) (s : Stand) → IsAt D.state trace begun progress.old service.old (W.contents writer.old) s →
         IfErr result (Fails trace s.taken bytes.now begun (W.contents writer.new)) }
-    ensures members { OnOk result (HasMembers service.new.links.items) }
+    ensures members { OnOk result (AreAsMany service.old.links.items service.new.links.items) }
 {
     for byte in bytes {
         take_byte(progress, service, rt, alloc, writer, *byte)?;

@@ -7,7 +7,7 @@ ghost use Rattle.tp_farm.specs.Promised.{ArePackets};
 ghost use Rattle.tp_answers.specs.Answers.{IsRun};
 ghost use Rattle.tp_answers.specs.Open.{session_of};
 ghost use Rattle.tp_answers.specs.Entries.{AreOutcomes};
-ghost use Rattle.tp_session.specs.Fitness.{AreFit, HasMembers};
+ghost use Rattle.tp_session.specs.Fitness.{AreFit, HasMembers, AreAsMany};
 ghost use Rattle.tp_session.specs.Standing.{IsWant};
 
 use crate::fault::ServeFault;
@@ -35,7 +35,7 @@ fn fault_of(fault: FarmFault) -> ServeFault
     }
 }
 
-/// Runs the packets of a job on the members. The links come back.
+/// Runs the packets of a job on the members. The links come back, as many as there were.
 fn run_packets<R: Threads + Wait + Sync, D: LinkDevice + Send>(
     rt: &R,
     alloc: Global,
@@ -46,7 +46,7 @@ fn run_packets<R: Threads + Wait + Sync, D: LinkDevice + Send>(
     requires begins { job_fault (length links.old.items) (batch_of job.now) ≡ None }
     requires packets { ArePackets (batch_of job.now) }
     ensures outcomes { AreFit D.state links.old.items → IfOk result (AreOutcomes (batch_of job.now).image (batch_of job.now).packets) }
-    ensures members { OnOk result (HasMembers links.new.items) }
+    ensures members { OnOk result (AreAsMany links.old.items links.new.items) }
     ensures fit { AreFit D.state links.old.items → OnOk result (AreFit D.state links.new.items) }
     ensures want { IfErr result IsWant }
 {
@@ -72,7 +72,7 @@ pub(crate) fn run_session<R: Threads + Wait + Sync, D: LinkDevice + Send>(
 ) -> Result<String, ServeFault>
     requires members { HasMembers links.old.items }
     ensures run { AreFit D.state links.old.items → (name : List ℕ) → IfOk result (λ told. IsRun trace (session_of name kept.now) (string_bytes told)) }
-    ensures members { OnOk result (HasMembers links.new.items) }
+    ensures members { OnOk result (AreAsMany links.old.items links.new.items) }
     ensures fit { AreFit D.state links.old.items → OnOk result (AreFit D.state links.new.items) }
     ensures want { IfErr result IsWant }
 {

@@ -5,7 +5,9 @@ use Rattle.tp_farm.specs.Stages.{of_links}
 use Rattle.tp_farm.specs.Refused.{job_fault}
 use Rattle.tp_farm.specs.Batches.{IsBatch}
 use Rattle.tp_farm.specs.Rooms.{HasRoom}
-use Rattle.tp_farm.proofs.Beginning.{begun, on_ok}
+use Rattle.tp_accept.proofs.NeverWrong.{never_goes_wrong_of}
+use Rattle.tp_farm.proofs.Beginning.{begun, on_ok, if_ok}
+use Rattle.tp_farm.proofs.Promising.{goes_well}
 use Rattle.tp_farm.proofs.batch.run_batch.Goals as goal
 
 pub run_members-requires-clause-set : goal.run_members-requires-clause-set
@@ -39,3 +41,8 @@ pub returns-clause-begins : goal.returns-clause-begins
 returns-clause-begins g c =
     let long : length c.args.links.items ≡ c.len.result = omega (arith, c.args.links.ok.0, c.len.ensures) in
     on_ok _ c.settle.result (ap (λ n. job_fault n (batch_of c.args.job.now)) long ∙ sym c.job_fault.ensures ∙ c.in_default.is)
+
+pub returns-clause-goes_well : goal.returns-clause-goes_well
+returns-clause-goes_well g c packets = if_ok _ _ c.settle.result c.settle.ensures.batch λ b batch.
+    let accepted = c.args.job.now.image.now in
+    goes_well (batch_of c.args.job.now) accepted.budget (never_goes_wrong_of accepted.image accepted.budget accepted.acceptable) packets _ _ _ b.collected batch

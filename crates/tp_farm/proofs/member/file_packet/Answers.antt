@@ -21,10 +21,10 @@ returns-in-Err-Link-clause-accounts g c =
     rw c.push_reserved-in-Err-Link.ensures.items
     (accounts_lost _ _ _ _ _ _ _ c.requires.accounts c.in-Err-Link.ensures.settings c.args.number put.0 c.args.packet.now.items _ rises c.requires.packet reason c.requires.in_hand put.1)
 
-pub returns-in-Err-Stuck-clause-end : goal.returns-in-Err-Stuck-clause-end
-returns-in-Err-Stuck-clause-end g c =
+pub returns-in-Err-Stuck-clause-never_ends : goal.returns-in-Err-Stuck-clause-never_ends
+returns-in-Err-Stuck-clause-never_ends g c =
     absurd (subst (HasReason c.args.job.now.image.now.image c.args.packet.now.items (of_links g.D.LinkDevice.state c.args.member.now.links)) c.in-Err-Stuck.field-0-is c.in-Err-Stuck.ensures.reason)
 
-pub returns-in-Err-Limit-clause-end : goal.returns-in-Err-Limit-clause-end
-returns-in-Err-Limit-clause-end g c =
+pub returns-in-Err-Limit-clause-never_ends : goal.returns-in-Err-Limit-clause-never_ends
+returns-in-Err-Limit-clause-never_ends g c =
     absurd (subst (HasReason c.args.job.now.image.now.image c.args.packet.now.items (of_links g.D.LinkDevice.state c.args.member.now.links)) c.in-Err-Limit.field-0-is c.in-Err-Limit.ensures.reason)

@@ -8,6 +8,7 @@ use Rattle.tp_farm.proofs.member.work.Given as goal
 abbrev pub invariant-loop : goal.invariant-loop
 invariant-loop g l =
     g.W.WorkSource.is_own l.source l.member.hand
+    × (l.member.number ≡ l.initial.member.number)
     × (l.member.entry.value ≡ l.initial.member.entry.value)
     × KeepsAccounts (batch_of l.job) (of_links g.D.LinkDevice.state l.member.entry.value) (of_links g.D.LinkDevice.state l.member.links) (g.W.WorkSource.progress l.member.hand) l.member.filed.items
     × MayTake (g.W.WorkSource.progress l.member.hand)

@@ -1,4 +1,4 @@
-use Rattle.std.proofs.Common.{map, sym, subst, All, length, ap, arith}
+use Rattle.std.proofs.Common.{map, sym, subst, All, length, ap, ◌∙◌}
 use Rattle.tp_farm.specs.Jobs.{batch_of}
 use Rattle.tp_farm.specs.Stages.{of_links}
 use Rattle.tp_session.specs.Fitness.{AreFitOf}
@@ -18,8 +18,7 @@ pub returns-in-Ok-clause-members : goal.returns-in-Ok-clause-members
 returns-in-Ok-clause-members g c =
     let state = g.D.LinkDevice.state in
     let many = as_many (of_links state) (of_links state) c.replace-lent.result.items c.in-Ok.batch.links.items c.in-Ok.ensures.batch.settings in
-    let lent = ap (λ v. length v.items) c.replace-lent.ensures.value in
-    record { least = omega (arith, many, lent, c.requires.members.least); most = omega (arith, many, lent, c.requires.members.most) }
+    many ∙ ap (λ v. length v.items) c.replace-lent.ensures.value
 
 pub returns-in-Ok-clause-fit : goal.returns-in-Ok-clause-fit
 returns-in-Ok-clause-fit g c fit =

@@ -22,7 +22,7 @@ loop-index-preserved g c =
     sym (c.in_ok-extend_from_slice.ensures.items ∙ ap (λ l. c.tell_name.new.text.items ++ l) c.as_bytes.ensures.value ∙ ap (λ l. l ++ here) (c.in_ok-tell_name.ensures ∙ ap (λ n. c.loop-index.text.items ++ of_line n) (sym (c.name_at.ensures s now_at)))
     ∙ append_assoc c.loop-index.text.items (of_line s.name) here) in
     record {
-      stays = record { members = c.in_ok-run.ensures.stays.members; fit = λ fit. c.in_ok-run.ensures.stays.fit (was.stays.fit fit); trace = c.in_ok-run.ensures.stays.trace ∙ was.stays.trace };
+      stays = record { members = c.in_ok-run.ensures.stays.members ∙ was.stays.members; fit = λ fit. c.in_ok-run.ensures.stays.fit (was.stays.fit fit); trace = c.in_ok-run.ensures.stays.trace ∙ was.stays.trace };
       runs = λ fit.
           let run = subst (λ t. IsRun t s here) was.stays.trace (c.in_ok-run.ensures.run (was.stays.fit fit) s now_at) in
           subst (λ l. AreRuns trace l c.extend_from_slice.new.self.items) more (subst (λ l. AreRuns trace (take i all ++ s ∷ []) l) text (runs_more trace (take i all) c.loop-index.text.items s here (was.runs fit) run));

@@ -1,0 +1,166 @@
+//! What a gate is told: a member's own number, and its packet's.
+
+use crate::batches::{ROOM, count_up, failing, increments_by, told_by_one};
+use crate::images::*;
+use std::alloc::{AllocError, Global};
+use std::sync::{Mutex, Wait};
+use std::test::Fail;
+use std::thread::Threads;
+use tp_farm::Gate;
+use tp_media::Media;
+
+/// What a gate hears of the member of a number.
+#[derive(Clone, Copy, Debug, PartialEq, Eq)]
+enum Heard {
+    Asked(u32),
+    /// It has taken the packet of the second number.
+    Claimed(u32, u32),
+    /// It is done with it, or has lost it.
+    Finished(u32, u32),
+}
+
+impl Heard {
+    fn is_of(&self, member: u32) -> bool {
+        match self {
+            Heard::Asked(one) | Heard::Claimed(one, _) | Heard::Finished(one, _) => *one == member,
+        }
+    }
+}
+
+/// Lets each member go on, and keeps what it hears.
+#[derive(Drop)]
+struct Recording<'r, R> {
+    rt: &'r R,
+    heard: Mutex<Vec<Heard>>,
+}
+
+impl<'r, R: Wait> Recording<'r, R> {
+    fn new(rt: &'r R, alloc: Global) -> Recording<'r, R> {
+        Recording {
+            rt,
+            heard: Mutex::new(Vec::new(alloc)),
+        }
+    }
+
+    fn hear(&self, one: Heard) {
+        let _ = self.heard.lock(self.rt).push(one);
+    }
+
+    fn into_heard(self) -> Vec<Heard> {
+        self.heard.into_inner()
+    }
+}
+
+impl<R: Wait + Sync> Gate for Recording<'_, R> {
+    ghost use Rattle.std.specs.Prelude.{◌≡◌, true};
+
+    ghost open_for_good = { λ _. true };
+
+    ghost has_answered = { λ _ _ answer. answer ≡ true };
+
+    fn ask(&self, member: u32) -> bool {
+        self.hear(Heard::Asked(member));
+        true
+    }
+
+    fn claimed(&self, member: u32, number: u32) {
+        self.hear(Heard::Claimed(member, number));
+    }
+
+    fn finished(&self, member: u32, number: u32) {
+        self.hear(Heard::Finished(member, number));
+    }
+}
+
+/// What is heard of one member that runs two packets of 1, over wires that fail in these calls.
+fn heard_of_one<R: Threads + Wait + Sync>(
+    rt: &R,
+    alloc: Global,
+    calls: [u64; 3],
+) -> Result<Vec<Heard>, Fail> {
+    let mut media = Media::new(alloc, ROOM)?;
+    let links = failing(&mut media, calls);
+    let gate = Recording::new(rt, alloc);
+    let _ = told_by_one(rt, alloc, INCREMENT, &[1, 1], links, &gate)?;
+    Ok(gate.into_heard())
+}
+
+/// A packet that is lost is told as one that is done.
+#[test]
+fn a_gate_is_told_of_one_member(rt: HostRuntime) -> Result<(), Fail> {
+    let wanted = [
+        Heard::Asked(0),
+        Heard::Claimed(0, 0),
+        Heard::Finished(0, 0),
+        Heard::Asked(0),
+        Heard::Claimed(0, 1),
+        Heard::Finished(0, 1),
+        Heard::Asked(0),
+    ];
+    for calls in [[0, 0, 0], [0, 1, 0], [3, 0, 0]] {
+        let heard = heard_of_one(&rt, rt.alloc(), calls)?;
+        assert!(rt; heard.as_slice() == wanted.as_slice(), "{calls:?}");
+    }
+    Ok(())
+}
+
+/// What is heard of so many members that run 60 packets.
+fn heard_of<R: Threads + Wait + Sync>(
+    rt: &R,
+    alloc: Global,
+    members: usize,
+) -> Result<Vec<Heard>, Fail> {
+    let words = count_up(alloc, 60)?;
+    let gate = Recording::new(rt, alloc);
+    let _ = increments_by(rt, alloc, &words, members, &gate)?;
+    Ok(gate.into_heard())
+}
+
+/// What was heard of one member, in its order.
+fn of_member(alloc: Global, heard: &[Heard], member: u32) -> Result<Vec<Heard>, AllocError> {
+    let mut all = Vec::new(alloc);
+    for one in heard {
+        if one.is_of(member) {
+            all.push(*one)?;
+        }
+    }
+    Ok(all)
+}
+
+/// The member asks, has taken a packet and is done with that packet, in turn, and asks at last. How many packets that are.
+fn turns_of(heard: &[Heard]) -> Option<usize> {
+    let mut rest = heard;
+    for turns in 0..heard.len() {
+        match rest {
+            [Heard::Asked(_)] => return Some(turns),
+            [
+                Heard::Asked(_),
+                Heard::Claimed(_, number),
+                Heard::Finished(_, same),
+                more @ ..,
+            ] if number == same => {
+                rest = more;
+            }
+            _ => return None,
+        }
+    }
+    None
+}
+
+/// Members of the numbers 0, 1, 2 .. ask and no others, and each of them tells of its own packets.
+#[test]
+fn a_gate_is_told_of_each_member(rt: HostRuntime) -> Result<(), Fail> {
+    for members in [1u32, 3, 64] {
+        let heard = heard_of(&rt, rt.alloc(), members as usize)?;
+        let mut packets = 0usize;
+        for member in 0..members {
+            let own = of_member(rt.alloc(), &heard, member)?;
+            let turns = turns_of(&own);
+            assert!(rt; turns.is_some(), "{member} of {members}");
+            packets = packets.saturating_add(turns.unwrap_or(0));
+        }
+        assert_eq!(rt; packets, 60);
+        assert_eq!(rt; heard.len(), 180usize.saturating_add(members as usize));
+    }
+    Ok(())
+}

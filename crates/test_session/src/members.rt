@@ -1,0 +1,178 @@
+//! Members beside one another: each member of a farm serves, in each batch.
+
+use crate::cases::INCREMENT;
+use crate::farms::push_line;
+use std::alloc::{AllocError, Global};
+use std::sync::Wait;
+use std::sync::atomic::{AtomicU64, Ordering};
+use std::test::Fail;
+use std::thread::{self, Threads};
+use tp_link::{DeviceFault, LinkDevice, Links, Medium, OwnedWire};
+use tp_session::{Farm, ServeFault, serve};
+
+/// How many turns a member is held for, at most.
+const MOST_TURNS: u64 = 1_000_000;
+
+/// Where members wait for one another, once for each packet that they take.
+#[derive(Drop)]
+struct Meeting {
+    members: u64,
+    /// How many have come.
+    come: AtomicU64,
+    ran_out: AtomicU64,
+}
+
+impl Meeting {
+    fn of(members: u64) -> Meeting {
+        Meeting {
+            members,
+            come: AtomicU64::new(0),
+            ran_out: AtomicU64::new(0),
+        }
+    }
+
+    /// Comes for this time, counted from 1, and waits until all have.
+    fn wait(&self, time: u64) {
+        self.come.fetch_add(1, Ordering::SeqCst);
+        let wanted = self.members.saturating_mul(time);
+        for _ in 0..MOST_TURNS {
+            if self.come.load(Ordering::SeqCst) >= wanted {
+                return;
+            }
+            thread::yield_now();
+        }
+        self.ran_out.fetch_add(1, Ordering::SeqCst);
+    }
+}
+
+/// A wire, and the meeting to which it comes before each packet, if there is one.
+#[derive(Drop)]
+struct Meeter<'m> {
+    wire: OwnedWire,
+    meeting: Option<&'m Meeting>,
+    /// How often it has come.
+    times: u64,
+}
+
+impl Meeter<'_> {
+    ghost use Rattle.std.specs.Prelude.{◌≡◌};
+
+    fn come(&mut self)
+        ensures { self.new.wire ≡ self.old.wire }
+    {
+        if let Some(meeting) = self.meeting {
+            self.times = self.times.saturating_add(1);
+            meeting.wait(self.times);
+        }
+    }
+}
+
+impl LinkDevice for Meeter<'_> {
+    ghost use Rattle.tp_link.specs.OwnedWire.{device_of};
+
+    ghost state = { λ d. device_of d.wire };
+
+    fn send(&mut self, bytes: &[u8]) -> Result<(), DeviceFault> {
+        self.come();
+        self.wire.send(bytes)
+    }
+
+    fn receive(&mut self, into: &mut [u8]) -> Result<(), DeviceFault> {
+        self.wire.receive(into)
+    }
+
+    fn held(&self) -> usize {
+        self.wire.held()
+    }
+
+    fn room(&self) -> usize {
+        self.wire.room()
+    }
+
+    fn is_open(&self) -> bool {
+        self.wire.is_open()
+    }
+
+    fn faults(&self) -> u64 {
+        self.wire.faults()
+    }
+
+    fn close(&mut self) {
+        self.wire.close();
+    }
+}
+
+fn meeter_at(alloc: Global, meeting: Option<&Meeting>) -> Result<Meeter<'_>, AllocError> {
+    let (wire, _) = OwnedWire::new(alloc, Medium::new(alloc, 256)?)?;
+    Ok(Meeter {
+        wire,
+        meeting,
+        times: 0,
+    })
+}
+
+/// The links of so many members, whose sources come to the meeting.
+fn links_of(
+    alloc: Global,
+    members: u64,
+    meeting: &Meeting,
+) -> Result<Vec<Links<Meeter<'_>>>, AllocError> {
+    let mut links = Vec::new(alloc);
+    for _ in 0..members {
+        links.push(Links {
+            source: meeter_at(alloc, Some(meeting))?,
+            sink: meeter_at(alloc, None)?,
+            trace: meeter_at(alloc, None)?,
+        })?;
+    }
+    Ok(links)
+}
+
+/// An image, and two batches of so many packets.
+fn two_batches(alloc: Global, packets: u64) -> Result<Vec<u8>, Fail> {
+    let mut input = Vec::new(alloc);
+    push_line(&mut input, &["a IMAGE ", INCREMENT])?;
+    for _ in 0..2u8 {
+        for _ in 0..packets {
+            push_line(&mut input, &["a PACKET 01000000"])?;
+        }
+        push_line(&mut input, &["a RUN"])?;
+    }
+    Ok(input)
+}
+
+/// Serves two batches of as many packets as there are members, of which there are 1 to 64.
+fn serve_meeting<T: Threads + Wait + Sync>(
+    rt: &T,
+    alloc: Global,
+    members: u64,
+    meeting: &Meeting,
+) -> Result<Vec<u8>, Fail> {
+    let input = two_batches(alloc, members)?;
+    let links = links_of(alloc, members, meeting)?;
+    if links.is_empty() || links.len() > 64 {
+        return Err(ServeFault::Limit.into());
+    }
+    let mut reader = input.as_slice();
+    let mut writer = Vec::new(alloc);
+    serve(rt, alloc, &mut reader, &mut writer, Farm::new(links, false))?;
+    Ok(writer)
+}
+
+/// A member that has taken a packet is held until as many packets are taken as there are members. So no turns run out only
+/// where each member has a packet in hand beside the others, in the second batch too.
+#[test]
+fn each_member_serves(rt: HostRuntime) -> Result<(), Fail> {
+    for members in [1, 3, 8] {
+        let meeting = Meeting::of(members);
+        let written = serve_meeting(&rt, rt.alloc(), members, &meeting)?;
+        let done = format!(in rt.alloc(); " 0 16 02000000\nDONE {members}\n")?;
+        assert!(rt; written.ends_with(done.as_bytes()));
+        assert_eq!(rt; meeting.ran_out.load(Ordering::SeqCst), 0, "{members}");
+        assert_eq!(rt;
+            meeting.come.load(Ordering::SeqCst),
+            members.saturating_mul(2)
+        );
+    }
+    Ok(())
+}
