@@ -1,13 +1,13 @@
 //! What a gate is told: a member's own number, and its packet's.
 
 use crate::batches::{ROOM, count_up, failing, increments_by, told_by_one};
-use crate::images::*;
 use std::alloc::{AllocError, Global};
 use std::sync::{Mutex, Wait};
 use std::test::Fail;
 use std::thread::Threads;
 use tp_farm::Gate;
 use tp_media::Media;
+use tp_samples::*;
 
 /// What a gate hears of the member of a number.
 #[derive(Clone, Copy, Debug, PartialEq, Eq)]
