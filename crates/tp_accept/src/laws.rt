@@ -18,6 +18,8 @@ ghost use Rattle.tp_accept.specs.Acceptance.{IsAcceptable};
 ghost use Rattle.tp_accept.specs.Ending.{NeverGoesWrong};
 ghost use Rattle.tp_accept.specs.Workers.{bound_of_bytes, measure_of_bytes, two_and_three, row, increment, sum_to, ten, ten_thousand, loop_in_a_loop, outer_and_inner, early_exit, two_ways, neighbours};
 
+pub mod exact;
+
 use crate::accepted::Accepted;
 use tp_check::laws::passes_have_one_verdict;
 
