@@ -1,7 +1,9 @@
 //! The verdict on a text.
 
-ghost use Rattle.std.specs.Prelude.{◌≡◌, ◌≢◌, IfOk, IfErr, Ok, Err};
+ghost use Rattle.std.specs.Prelude.{◌≡◌, ◌≢◌, IfOk, IfErr, IfSome, Ok, Err};
 ghost use Rattle.tp_image.specs.Text.{IsTextOf};
+ghost use Rattle.tp_image.specs.Faults.{first_fault};
+ghost use Rattle.tp_accept.specs.Refusals.{of_image};
 ghost use Rattle.tp_accept.specs.Verdict.{allowed, IsAnswer};
 ghost use Rattle.tp_accept.specs.Ending.{NeverGoesWrong};
 ghost use Rattle.tp_accept.specs.declared.refusal.Refusal.TheVariants as refusal;
@@ -23,6 +25,8 @@ pub fn accept(alloc: Global, text: Vec<u8>) -> Result<Accepted, Refusal>
     ensures allowed { IfOk result (λ accepted. IsAnswer text.items (Ok (allowed accepted.image accepted.budget))) }
     ensures ends { IfOk result (λ accepted. NeverGoesWrong accepted.image accepted.budget) }
     ensures refused { IfErr result (λ e. e ≢ refusal.Memory → IsAnswer text.items (Err e)) }
+    // Bytes that are no image are refused by the first test that they fail, whatever memory is left.
+    ensures no_image { IfSome (first_fault text.items) (λ fault. result ≡ Err (of_image fault)) }
 {
     let image = read_image(alloc, &text)?;
     let listing = decode(alloc, &image.code)?;
