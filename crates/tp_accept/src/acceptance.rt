@@ -1,8 +1,10 @@
 //! The verdict on a text.
 
-ghost use Rattle.std.specs.Prelude.{◌≡◌, ◌≢◌, ℕ, IfOk, IfErr, Ok, Err};
+ghost use Rattle.std.specs.Prelude.{◌≡◌, ◌≢◌, ℕ, IfOk, IfErr, IfSome, Ok, Err};
 ghost use Rattle.tp_image.specs.Image.{ImageValue};
 ghost use Rattle.tp_image.specs.Text.{IsTextOf};
+ghost use Rattle.tp_image.specs.Faults.{first_fault};
+ghost use Rattle.tp_accept.specs.Refusals.{of_image};
 ghost use Rattle.tp_accept.specs.Verdict.{allowed, IsAnswer};
 ghost use Rattle.tp_accept.specs.Acceptance.{IsAcceptable};
 ghost use Rattle.tp_accept.specs.Ending.{NeverGoesWrong};
@@ -27,9 +29,11 @@ pub fn accept(alloc: Global, text: Vec<u8>) -> Result<Accepted, Refusal>
     ensures acceptable { IfOk result (λ accepted. IsAcceptable accepted.image accepted.budget) }
     ensures ends { IfOk result (λ accepted. NeverGoesWrong accepted.image accepted.budget) }
     ensures refused { IfErr result (λ e. e ≢ refusal.Memory → IsAnswer text.items (Err e)) }
-    // an acceptable image is not refused, but for want of memory
+    // An acceptable image is not refused, but for want of memory.
     ensures exact { IfErr result (λ e. e ≢ refusal.Memory →
         (image : ImageValue) (budget : ℕ) → IsTextOf text.items image → ¬ IsAcceptable image budget) }
+    // Bytes that are no image are refused by the first test that they fail, whatever memory is left.
+    ensures no_image { IfSome (first_fault text.items) (λ fault. result ≡ Err (of_image fault)) }
 {
     let image = read_image(alloc, &text)?;
     let listing = decode(alloc, &image.code)?;

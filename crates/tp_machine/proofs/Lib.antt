@@ -8,5 +8,4 @@ pub mod StartLemmas
 pub mod RunLemmas
 pub mod HeldPacket
 pub mod InTime
-pub mod StaysSent
 pub mod PromiseKept

@@ -4,7 +4,7 @@ use Rattle.tp_image.specs.Image.{ImageValue}
 use Rattle.tp_image.proofs.Unique.{one_image}
 use Rattle.tp_step.specs.Runs.{Run}
 use Rattle.tp_step.proofs.StepLemmas.{one_run}
-use Rattle.tp_machine.proofs.StaysSent.{begins_length, sends_first}
+use Rattle.tp_step.proofs.LastingLemmas.{begins_length, sends_first}
 use Rattle.tp_accept.specs.declared.refusal.Refusal.TheVariants.{Refused, Memory}
 use Rattle.tp_accept.specs.Refusals.{refusal_code_text}
 use Rattle.tp_accept.specs.Verdict.{Answer, IsAnswer}

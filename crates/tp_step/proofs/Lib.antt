@@ -1,5 +1,9 @@
 pub mod StepLemmas
 pub mod SpellingLemmas
+pub mod EffectsKeep
 pub mod SentLemmas
+pub mod LastingLemmas
+pub mod WritesLemmas
+pub mod UpgradeLemmas
 pub mod MemoryLemmas
 pub mod StartLemmas

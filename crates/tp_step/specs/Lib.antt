@@ -5,6 +5,8 @@ pub mod State
 pub mod Effects
 pub mod Steps
 pub mod Runs
+pub mod Lasting
+pub mod Writes
 pub use Rattle.tp_decode.specs.Words
 pub use Rattle.tp_decode.specs.Spelling
 pub use Rattle.tp_decode.specs.Table

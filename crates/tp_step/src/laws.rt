@@ -6,11 +6,14 @@ ghost use Rattle.std.specs.Prelude.{◌≡◌, ℕ, ◌+◌, ◌-◌, ◌*◌, �
 ghost use Rattle.tp_decode.specs.Spelling.{StandsAt};
 ghost use Rattle.tp_decode.specs.Table.{entry};
 ghost use Rattle.tp_decode.specs.declared.instr.Instr.{Instr};
-ghost use Rattle.tp_image.specs.Image.{ImageValue};
+ghost use Rattle.tp_image.specs.Image.{ImageValue, InRange};
+ghost use Rattle.tp_image.specs.Upgrade.{upgraded};
 ghost use Rattle.tp_step.specs.State.{State};
 ghost use Rattle.tp_step.specs.Effects.{effect};
 ghost use Rattle.tp_step.specs.Steps.{performed, step, steps, IsStuck, Reaches};
 ghost use Rattle.tp_step.specs.Runs.{start, Run, RunsAlone, HasExchanged};
+ghost use Rattle.tp_step.specs.Lasting.{Begins, TakesNothingBack};
+ghost use Rattle.tp_step.specs.Writes.{written, written_next, workspace, ChangesOnly, Writes};
 
 /// A state has at most one next state.
 pub fn one_next_state()
@@ -78,4 +81,41 @@ pub fn result_has_its_length()
 pub fn packet_and_result_go_whole()
     ensures { (image : ImageValue) (packet : List ℕ) (s : State) →
         Reaches image (start image packet) s → HasExchanged image packet s.phase s.to_come s.sent }
+{}
+
+/// Steps take nothing back: the error flag stays set once it is set; what was sent on either link stays, with what is sent
+/// later behind it; bytes to come are taken from their front alone; and no phase comes again.
+pub fn steps_take_nothing_back()
+    ensures { (image : ImageValue) (n : ℕ) (s t : State) → steps image n s ≡ Some t → TakesNothingBack s t }
+{}
+
+/// So what a worker has sent on the way of a packet's run, the run sends first.
+pub fn runs_send_first_what_was_sent()
+    ensures { (image : ImageValue) (packet : List ℕ) (run : Run) → RunsAlone image packet run → (n : ℕ) (s : State) →
+        steps image n (start image packet) ≡ Some s → Begins s.sent run.result × Begins s.traced run.trace }
+{}
+
+/// Who writes what is a list: an instruction writes the stretches of memory that stand there for it, in the workspace, and
+/// every other byte stays as it was. A step writes what the instruction whose last byte it executes writes; a prefix writes
+/// nothing.
+pub fn instructions_write_what_is_listed()
+    ensures instruction { (image : ImageValue) (instr : Instr) (s t : State) → InRange image →
+        effect image instr s ≡ Some t → Writes image (written instr s) s.memory t.memory }
+    ensures step { (image : ImageValue) (s t : State) → InRange image →
+        step image s ≡ Some t → Writes image (written_next image s) s.memory t.memory }
+{}
+
+/// So nothing outside the workspace changes.
+pub fn steps_change_the_workspace_alone()
+    ensures { (image : ImageValue) (n : ℕ) (s t : State) → InRange image →
+        steps image n s ≡ Some t → ChangesOnly (workspace image ∷ []) s.memory t.memory }
+{}
+
+/// What an image does, the upgraded image does: its steps are steps of the upgraded one, and so is each run. Nothing but
+/// move reads the version, and an image of version 1 has no step there, where the upgraded one may have.
+pub fn upgraded_images_do_the_same()
+    ensures steps { (image : ImageValue) (n : ℕ) (s t : State) →
+        steps image n s ≡ Some t → steps (upgraded image) n s ≡ Some t }
+    ensures runs { (image : ImageValue) (packet : List ℕ) (run : Run) →
+        RunsAlone image packet run → RunsAlone (upgraded image) packet run }
 {}

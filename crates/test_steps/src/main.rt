@@ -1,0 +1,54 @@
+//! Single steps on the machine: a state, the bytes of one instruction, and what executing them comes to.
+//!
+//! The vectors come on standard input, one a line, as README.md says. How many agree is printed, and before that the
+//! first that does not: the number of its line, its state, what it says and what came.
+#![tactic(auto)]
+
+mod answer;
+mod fields;
+mod run;
+mod vector;
+
+use anyhow::{Context, Result};
+use std::alloc::Global;
+use std::io::{BufRead, BufReader};
+
+/// What parts a vector's state from what it comes to.
+const MARK: &str = " > ";
+
+/// Whether what came is what a vector says. The machine does not tell where it stood when a device refused a call.
+fn agrees(came: &str, wanted: &str) -> bool {
+    came == wanted || came == "W" && wanted.starts_with("W ")
+}
+
+/// What a vector comes to.
+fn came(alloc: Global, state: &str) -> Result<String> {
+    let vector = vector::read(alloc, state)?;
+    let ran = run::run(alloc, &vector)?;
+    answer::text(alloc, &vector, &ran)
+}
+
+fn main(rt: HostRuntime) -> Result<()> {
+    let mut line_number = 0u32;
+    let mut agree = 0u32;
+    let mut differ = 0u32;
+    for line in BufReader::new(rt.alloc(), rt.reader())?.lines(rt.alloc()) {
+        let line = line?;
+        line_number = line_number.saturating_add(1);
+        if line.is_empty() || line.starts_with("#") {
+            continue;
+        }
+        let (state, wanted) = line.split_once(MARK).context("no mark in a line")?;
+        let came = came(rt.alloc(), state)?;
+        if agrees(came.as_str(), wanted) {
+            agree = agree.saturating_add(1);
+            continue;
+        }
+        if differ == 0 {
+            println!(rt; "line {line_number}: {state}\n  wanted {wanted}\n  came   {came}")?;
+        }
+        differ = differ.saturating_add(1);
+    }
+    println!(rt; "{agree} agree, {differ} do not")?;
+    Ok(())
+}
