@@ -1,22 +1,26 @@
 -- Answers to texts.
-use Rattle.std.proofs.Common.{◌≡◌, ◌≢◌, ℕ, List, Option, Some, None, Result, Ok, Err, refl, ap, sym, ◌∙◌, subst}
-use Rattle.std.specs.Prelude.{IfSome}
-use Rattle.tp_image.specs.Image.{ImageValue}
+use Rattle.std.proofs.Common.{◌≡◌, ◌≢◌, ℕ, ◌<◌, List, Option, Some, None, Result, Ok, Err, refl, ap, sym, ◌∙◌, subst}
+use Rattle.std.specs.Prelude.{IfSome, All}
+use Rattle.std.specs.List.{AllByRecursion}
+use Rattle.tp_image.specs.Image.{ImageValue, InRange}
 use Rattle.tp_image.specs.declared.fault.ImageFault.{ImageFault}
 use Rattle.tp_image.specs.Text.{IsTextOf}
 use Rattle.tp_image.specs.Faults.{first_fault}
 use Rattle.tp_image.proofs.Unique.{one_image}
+use Rattle.tp_image.proofs.Readable.{image_found}
 use Rattle.tp_decode.specs.declared.fault.DecodeFault.{DecodeFault}
-use Rattle.tp_decode.specs.Cutting.{Cut, IsCutting, cutting}
-use Rattle.tp_decode.proofs.Verdicts.{is_cutting}
+use Rattle.tp_decode.specs.Cutting.{Cut, IsSpelled, IsCutting, cutting}
+use Rattle.tp_decode.proofs.Verdicts.{is_cutting, sound_ok}
 use Rattle.tp_flow.specs.declared.fault.FlowFault.{FlowFault}
 use Rattle.tp_flow.specs.FlowFaults.{first_flow_fault}
+use Rattle.tp_flow.specs.NestKept.{KeepsNest}
+use Rattle.tp_flow.proofs.FlowKept.{nest_kept}
 use Rattle.tp_state.specs.declared.fault.StateFault.{StateFault}
 use Rattle.tp_state.specs.declared.fault.StateFault.TheVariants as state_fault
 use Rattle.tp_check.specs.Tables.{Table}
 use Rattle.tp_check.specs.Passes.{IsVerdict, IsRefusalOf}
 use Rattle.tp_accept.specs.declared.refusal.Refusal.TheVariants.{Memory}
-use Rattle.tp_accept.specs.Refusals.{of_state}
+use Rattle.tp_accept.specs.Refusals.{of_image, of_cutting, of_flow, of_state}
 use Rattle.tp_accept.specs.Verdict.{Answer, answer_on, IsStateAnswer, IsFlowAnswer, IsCutAnswer, IsImageAnswer, IsTextAnswer, IsAnswer}
 
 -- a code has one cutting
@@ -75,3 +79,33 @@ one_text_answer one None text answer other is also = one_image_answer one text a
 
 pub one_answer : OneVerdict → (text : List ℕ) (answer other : Answer) → IsAnswer text answer → IsAnswer text other → answer ≡ other
 one_answer one text answer other = one_text_answer one (first_fault text) text answer other
+
+-- ---- each text of bytes has an answer, since the passes have a verdict
+
+-- over a code whose flow passes
+abbrev HaveVerdict : Type 0
+HaveVerdict =
+    (image : ImageValue) (cuts : List Cut) → InRange image → AllByRecursion IsSpelled cuts → KeepsNest image.loops image.workspace cuts → (verdict : Result Table StateFault) × IsVerdict image cuts verdict
+
+a_state_answer : HaveVerdict → (image : ImageValue) (cuts : List Cut) → InRange image → IsCutting image.code cuts → first_flow_fault image cuts ≡ None → (answer : Answer) × IsStateAnswer image cuts answer
+a_state_answer have image cuts range cut flows =
+    let v = have image cuts range cut.each (nest_kept image cuts cut flows) in
+    (answer_on image cuts v.0, record { verdict = v.0; passes = v.1; answers = refl })
+
+a_flow_answer : HaveVerdict → (image : ImageValue) (cuts : List Cut) → InRange image → IsCutting image.code cuts → (found : Option FlowFault) → first_flow_fault image cuts ≡ found → (answer : Answer) × IsFlowAnswer found image cuts answer
+a_flow_answer have image cuts range cut (Some fault) is = (Err (of_flow fault), refl)
+a_flow_answer have image cuts range cut None is = a_state_answer have image cuts range cut is
+
+a_cut_answer : HaveVerdict → (image : ImageValue) → InRange image → (cut : Result (List Cut) DecodeFault) → cutting image.code ≡ cut → (answer : Answer) × IsCutAnswer cut image answer
+a_cut_answer have image range (Err fault) is = (Err (of_cutting fault), refl)
+a_cut_answer have image range (Ok cuts) is = a_flow_answer have image cuts range (sound_ok image.code cuts is) (first_flow_fault image cuts) refl
+
+a_text_answer : HaveVerdict → (text : List ℕ) → All (λ byte. byte < 256) text → (found : Option ImageFault) → first_fault text ≡ found → (answer : Answer) × IsTextAnswer found text answer
+a_text_answer have text bytes (Some fault) is = (Err (of_image fault), refl)
+a_text_answer have text bytes None is =
+    let read = image_found text bytes is in
+    let answer = a_cut_answer have read.0 read.1.0 (cutting read.0.code) refl in
+    (answer.0, record { image = read.0; spelled = read.1; answers = answer.1 })
+
+pub an_answer : HaveVerdict → (text : List ℕ) → All (λ byte. byte < 256) text → (answer : Answer) × IsAnswer text answer
+an_answer have text bytes = a_text_answer have text bytes (first_fault text) refl

@@ -1,6 +1,6 @@
 //! Laws of the bound, and of answers: each function's contract is the law.
 
-ghost use Rattle.std.specs.Prelude.{◌≡◌, ◌≤◌, ◌<◌, ◌+◌, ℕ, List, [], ◌∷◌, length, Some, IsTrue};
+ghost use Rattle.std.specs.Prelude.{◌≡◌, ◌≤◌, ◌<◌, ◌+◌, ℕ, List, [], ◌∷◌, length, All, Some, IsTrue};
 ghost use Rattle.tp_image.specs.declared.image.LoopRow.{LoopRow};
 ghost use Rattle.tp_image.specs.Image.{ImageValue, InRange};
 ghost use Rattle.tp_decode.specs.Cutting.{Cut, cut_at, IsCutting};
@@ -18,14 +18,23 @@ ghost use Rattle.tp_accept.specs.Acceptance.{IsAcceptable};
 ghost use Rattle.tp_accept.specs.Ending.{NeverGoesWrong};
 ghost use Rattle.tp_accept.specs.Workers.{bound_of_bytes, measure_of_bytes, two_and_three, row, increment, sum_to, ten, ten_thousand, loop_in_a_loop, outer_and_inner, early_exit, two_ways, neighbours};
 
+pub mod exact;
+
 use crate::accepted::Accepted;
-use tp_check::laws::passes_have_one_verdict;
+use tp_check::laws::{passes_have_a_verdict, passes_have_one_verdict};
 
 /// One text has one answer: it is not both allowed and refused, nor allowed or refused in two ways.
 pub fn one_text_has_one_answer()
     ensures { (text : List ℕ) (answer other : Answer) → IsAnswer text answer → IsAnswer text other → answer ≡ other }
 {
     passes_have_one_verdict();
+}
+
+/// Each text has an answer: the verdict is a function of the bytes.
+pub fn each_text_has_an_answer()
+    ensures { (text : List ℕ) → All (λ byte. byte < 256) text → (answer : Answer) × IsAnswer text answer }
+{
+    passes_have_a_verdict();
 }
 
 /// The costs of a code meet the equations of the bound.

@@ -1,4 +1,4 @@
-mod PassLemmas
+pub mod PassLemmas
 mod RespectLemmas
 mod Heights
 mod TableSteps
@@ -13,13 +13,13 @@ mod Turning
 mod Stopping
 mod Passing
 mod Verdict
-mod Ending
+pub mod Ending
 mod OneCount
-mod Least
+pub mod Least
 mod Lone
 mod Trails
 mod Carrying
 mod Nests
 mod CarriedPasses
 mod Staying
-mod Respected
+pub mod Respected

@@ -39,7 +39,7 @@ pub fn check_states(
     ensures respected { IfOk result (λ table. EveryEdgeRespects image.now listing.now (table_of table)) }
     ensures placed { IfOk result (λ table. HasPlacedStates image.now (table_of table)) }
     ensures refused { IfErr result (IsRefusalOf image.now listing.now) }
-    // of a code's listing: where anything but memory is refused, no table exists that every edge respects
+    // Of a code's listing: where anything but memory is refused, no table exists that every edge respects.
     ensures exact { AllByRecursion IsSpelled listing.now →
         IfErr result (λ e. e ≢ fault.Memory → HasNoTable image.now listing.now) }
 {
@@ -62,7 +62,7 @@ pub fn check_states_counting(
     ensures respected { IfOk result (λ table. EveryEdgeRespects image.now listing.now (table_of table)) }
     ensures placed { IfOk result (λ table. HasPlacedStates image.now (table_of table)) }
     ensures refused { IfErr result (IsRefusalOf image.now listing.now) }
-    // of a code's listing: where anything but memory is refused, no table exists that every edge respects
+    // Of a code's listing: where anything but memory is refused, no table exists that every edge respects.
     ensures exact { AllByRecursion IsSpelled listing.now →
         IfErr result (λ e. e ≢ fault.Memory → HasNoTable image.now listing.now) }
     ensures passes { TellsPasses image.now listing.now result effort.new.passes }
@@ -109,7 +109,7 @@ impl Passes {
         ensures none { IfOk result (λ p. p.outcomes ≡ 0) }
         ensures counts { IfOk result (HasCounted listing.now) }
         ensures marked { IfOk result (λ p. (at : ℕ) → at < length p.table → has_changed p at ≡ true) }
-        // the image's own invariant
+        // This is known of every image.
         ensures in_range { InRange image.now }
     {
         let _ = &image.code;

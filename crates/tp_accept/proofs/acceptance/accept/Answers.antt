@@ -2,6 +2,7 @@ use Rattle.std.proofs.Common.{◌≡◌, None, rules}
 use Rattle.std.proofs.lemmas.Result.{err_from_is_err_and}
 use Rattle.tp_image.specs.Faults.{first_fault}
 use Rattle.tp_accept.proofs.AnswerLemmas.{no_fault, refused_states}
+use Rattle.tp_accept.proofs.Exact.{refused_alike}
 use Rattle.tp_accept.proofs.NeverWrong.{never_goes_wrong_of}
 use Rattle.tp_accept.proofs.acceptance.accept.Goals as goal
 
@@ -11,6 +12,15 @@ returns-in_err-table-clause-refused c =
     let none : first_fault c.args.text.items ≡ None = no_fault c.args.text.items c.in_ok-image.image (search rules) in
     rw (p.1, p.2)
     (refused_states c.args.text.items c.in_ok-image.image c.in_ok-listing.listing c.in_err-table.field-0.0 none (search rules) (search rules) (search rules) (search rules))
+
+pub returns-in_err-table-clause-exact : goal.returns-in_err-table-clause-exact
+returns-in_err-table-clause-exact c = refused_alike c.args.text.items c.from_residual-in_err-table.result (returns-in_err-table-clause-refused c)
+
+pub returns-in_err-nest-clause-refused : goal.returns-in_err-nest-clause-refused
+returns-in_err-nest-clause-refused c = search rules
+
+pub returns-in_err-nest-clause-exact : goal.returns-in_err-nest-clause-exact
+returns-in_err-nest-clause-exact c = refused_alike c.args.text.items c.from_residual-in_err-nest.result (returns-in_err-nest-clause-refused c)
 
 pub returns-clause-ends : goal.returns-clause-ends
 returns-clause-ends c = never_goes_wrong_of c.in_ok-image.image c.in_ok-budget.budget (search rules)
