@@ -12,3 +12,4 @@ pub mod Computing
 pub mod AnswerLemmas
 pub mod RunEnds
 pub mod NeverWrong
+pub mod Upgrading
