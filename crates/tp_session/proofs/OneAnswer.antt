@@ -1,8 +1,7 @@
 -- One line has one answer, and so has one input.
-use Rattle.std.proofs.Common.{◌≡◌, ℕ, ◌+◌, ◌≤◌, ◌<◌, ◌⊎◌, inl, inr, Bool, true, false, List, [], ◌∷◌, ◌++◌, length, map, codes, Option, Some, None, Ok, Err, refl, ap, sym, subst, ◌∙◌, arith}
+use Rattle.std.proofs.Common.{◌≡◌, ℕ, ◌+◌, inl, inr, Bool, true, false, List, [], ◌∷◌, ◌++◌, length, codes, Option, Some, None, Ok, Err, ap, sym, subst, ◌∙◌, arith}
 use Rattle.tp_image.specs.Image.{ImageValue}
 use Rattle.tp_image.proofs.Unique.{one_image}
-use Rattle.tp_step.specs.Runs.{Run}
 use Rattle.tp_step.proofs.StepLemmas.{one_run}
 use Rattle.tp_step.proofs.LastingLemmas.{begins_length, sends_first}
 use Rattle.tp_accept.specs.declared.refusal.Refusal.TheVariants.{Refused, Memory}
@@ -10,9 +9,9 @@ use Rattle.tp_accept.specs.Refusals.{refusal_code_text}
 use Rattle.tp_accept.specs.Verdict.{Answer, IsAnswer}
 use Rattle.tp_requests.specs.Lines.{Line}
 use Rattle.tp_requests.specs.Requests.{Asked, ToList, ToOpen, ToKeep, ToRun, ToRunAll, ToDrop}
-use Rattle.tp_answers.specs.Sessions.{Session, named, with_session, without_packets}
+use Rattle.tp_answers.specs.Sessions.{Session, named, with_session}
 use Rattle.tp_answers.specs.Told.{run_lines, done_line, of_line, all_line}
-use Rattle.tp_answers.specs.Answers.{Standing, batches_more, is_full, IsRefused, IsOpened, IsOpenedBy, IsJudged, AnswersImage, packet_refusal, AnswersKept, AnswersPacket, IsResult, IsLoss, IsPacketAnswer, ArePacketAnswers, IsRun, AnswersRun, AreRuns, AreRunAndForgotten, AnswersDrop, Answers}
+use Rattle.tp_answers.specs.Answers.{Standing, is_full, IsRefused, IsOpenedBy, AnswersImage, packet_refusal, AnswersKept, AnswersPacket, IsResult, IsLoss, IsPacketAnswer, ArePacketAnswers, IsRun, AnswersRun, AreRuns, AnswersDrop, Answers}
 use Rattle.tp_session.specs.Served.{asked_in, next_number, AreAnswers}
 
 abbrev Same : List ℕ → List ℕ → Standing → Standing → Type 0

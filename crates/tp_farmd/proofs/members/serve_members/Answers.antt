@@ -10,7 +10,5 @@ returns-in_err-media g c = unserved c.args.asked.trace (g.R.Read.remaining c.arg
 pub returns-in_err-links : goal.returns-in_err-links
 returns-in_err-links g c = unserved c.args.asked.trace (g.R.Read.remaining c.args.reader.now) (g.W.Write.contents c.args.writer.now) c.from_residual-in_err-links.result c.from_residual-in_err-links.ensures.1
 
-pub returns : goal.returns
-returns g c =
-    let fit = subst (λ v. AreFit (λ b. device_of b.value) v.items) (sym c.new.ensures.links) c.in_ok-links.ensures.fit in
-    rw (sym c.new.ensures.trace) (c.serve.ensures fit)
+pub serve_as_asked-requires-clause-fit : goal.serve_as_asked-requires-clause-fit
+serve_as_asked-requires-clause-fit g c κs within = subst (λ v. AreFit (λ b. device_of b.value) v.items) (sym c.new-farm.ensures.links) c.in_ok-links.ensures.fit

@@ -14,12 +14,10 @@ returns-in_err-take_byte-clause-err g c trace begun s at =
     let p = err_from_is_err_and c.from_residual.result c.from_residual.ensures.1 in
     rw (p.1, p.2) (fails_more trace s.taken so_far.stand.taken (take i bytes) (drop (i + 1) bytes) bytes (get_or bytes i 0) begun _ _ so_far.taken_is (split_at bytes i c.loop-byte-test.true) (c.in_err-take_byte.ensures.err trace begun so_far.stand so_far.is))
 
-pub take_byte-requires : goal.take_byte-requires
-take_byte-requires g c κs within = still_members _ _ c.requires c.loop-byte.invariant.members
-
 pub loop-byte-preserved : goal.loop-byte-preserved
 loop-byte-preserved g c = record {
-  members = c.in_ok-take_byte.ensures.members ∙ c.loop-byte.invariant.members;
+  members = still_members _ _ c.loop-byte.invariant.members c.in_ok-take_byte.ensures.members;
+  as_many = c.in_ok-take_byte.ensures.members ∙ c.loop-byte.invariant.as_many;
   goes = λ trace begun s at.
       let bytes = c.args.bytes.now in
       let i = c.loop-byte.byte-index in

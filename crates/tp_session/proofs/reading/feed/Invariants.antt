@@ -1,12 +1,13 @@
 use Rattle.std.proofs.Common.{◌++◌, ℕ, Bool, List, Option, take}
-use Rattle.tp_session.specs.Fitness.{AreAsMany}
+use Rattle.tp_session.specs.Fitness.{HasMembers, AreAsMany}
 use Rattle.tp_session.specs.Stand.{Stand, IsAt, GoesOn}
 use Rattle.tp_session.proofs.reading.feed.Given as goal
 
 -- the lines that the bytes so far end are answered, and all members are there
 abbrev pub invariant-loop-byte : goal.invariant-loop-byte
 invariant-loop-byte g l = record {
-  members : AreAsMany l.fn.service.links.items l.service.links.items;
+  members : HasMembers l.service.links.items;
+  as_many : AreAsMany l.fn.service.links.items l.service.links.items;
   goes : (trace : Bool) (begun : Option (List ℕ)) (s : Stand) → IsAt g.D.LinkDevice.state trace begun l.fn.progress l.fn.service (g.W.Write.contents l.fn.writer) s →
       GoesOn g.D.LinkDevice.state trace begun l.progress l.service (g.W.Write.contents l.writer) (s.taken ++ take l.byte-index l.bytes);
 }

@@ -2,20 +2,15 @@ use Rattle.std.proofs.Common.{◌<◌, length, ap, ◌∙◌, refl, arith}
 use Rattle.std.proofs.lemmas.Result.{err_from_is_err_and}
 use Rattle.tp_answers.specs.Answers.{standing}
 use Rattle.tp_session.proofs.ServeLemmas.{SoFar, if_known, none_read, serves_read, serves_fed, short_read, so_far_more, nothing_taken, ends_by}
-use Rattle.tp_session.proofs.MemberLemmas.{members_of}
+use Rattle.tp_session.proofs.MemberLemmas.{still_members, members_of}
 use Rattle.tp_session.proofs.serving.serve.Goals as goal
-
-pub finish-requires : goal.finish-requires
-finish-requires g c κs within = members_of c.args.farm _ c.loop.invariant.members
-
-pub feed-requires : goal.feed-requires
-feed-requires g c κs within = members_of c.args.farm _ c.loop.invariant.members
 
 pub loop-init : goal.loop-init
 loop-init g c = record {
   turns = (tt, tt);
   room = omega arith;
-  members = refl;
+  members = members_of c.args.farm _ refl;
+  as_many = refl;
   so_far = λ fit. nothing_taken _ _ _ _ _ _ c.begin-progress.ensures (ap (λ sessions. standing sessions 0) c.new.ensures, refl) fit;
 }
 
@@ -33,7 +28,8 @@ pub loop-preserved : goal.loop-preserved
 loop-preserved g c = record {
   turns = (tt, tt);
   room = omega (arith, c.read.auto.buf, c.loop.invariant.room);
-  members = c.in_ok-feed.ensures.members ∙ c.loop.invariant.members;
+  members = still_members _ _ c.loop.invariant.members c.in_ok-feed.ensures.members;
+  as_many = c.in_ok-feed.ensures.members ∙ c.loop.invariant.as_many;
   so_far = λ fit. if_known (λ input. SoFar g.D.LinkDevice.state c.args.farm.trace input (g.R.Read.remaining c.loop.reader) (g.W.Write.contents c.args.writer.now) (g.W.Write.contents c.loop.writer) c.loop.progress c.loop.service) _ (c.loop.invariant.so_far fit) (λ input so_far. so_far_more _ _ input _ _ _ _ _ _ _ _ _ _ so_far c.in-Ok.ensures.bytes.0 (c.in_ok-feed.ensures.ok _ _ so_far.stand so_far.is));
 }
 

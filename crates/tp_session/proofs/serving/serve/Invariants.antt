@@ -1,6 +1,6 @@
 use Rattle.std.proofs.Common.{◌≡◌, IfSome, length}
 use Rattle.tp_session.specs.Served.{most_read}
-use Rattle.tp_session.specs.Fitness.{AreFit, AreAsMany}
+use Rattle.tp_session.specs.Fitness.{AreFit, HasMembers, AreAsMany}
 use Rattle.tp_session.proofs.ServeLemmas.{SoFar}
 use Rattle.tp_session.proofs.serving.serve.Given as goal
 
@@ -9,6 +9,7 @@ abbrev pub invariant-loop : goal.invariant-loop
 invariant-loop g l = record {
   turns : (goal.iterator-loop g).can_next l.iterator' × (goal.iterator-loop g).is_finite l.iterator';
   room : length l.buffer ≡ most_read;
-  members : AreAsMany l.fn.farm.links.items l.service.links.items;
+  members : HasMembers l.service.links.items;
+  as_many : AreAsMany l.fn.farm.links.items l.service.links.items;
   so_far : AreFit g.D.LinkDevice.state l.fn.farm.links.items → IfSome (g.R.Read.remaining l.fn.reader) (λ input. SoFar g.D.LinkDevice.state l.fn.farm.trace input (g.R.Read.remaining l.reader) (g.W.Write.contents l.fn.writer) (g.W.Write.contents l.writer) l.progress l.service);
 }
