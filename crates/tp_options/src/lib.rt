@@ -5,8 +5,6 @@
 
 mod chosen;
 mod command_line;
-#[cfg(test)]
-mod tests;
 
 pub use chosen::Options;
 pub use command_line::options;

@@ -1,10 +1,19 @@
 //! Command lines, and what they ask for.
 
-use crate::{Options, options};
 use clap::error::ErrorKind as Kind;
+use std::alloc::Global;
 use std::test::Fail;
+use tp_options::options;
 
-/// The number of members and the flag that words ask for.
+/// The members and the trace flag that words ask for, or the kind of error that they come to. Nothing is said of it here: the
+/// tests compare it when they run.
+fn asked(alloc: Global, words: &[&str]) -> Result<(usize, bool), Kind> {
+    match options(alloc, words) {
+        Ok(options) => Ok((options.members, options.trace)),
+        Err(error) => Err(error.kind()),
+    }
+}
+
 #[test]
 fn reads_options(rt: HostRuntime) -> Result<(), Fail> {
     let cases = [
@@ -18,13 +27,11 @@ fn reads_options(rt: HostRuntime) -> Result<(), Fail> {
         (["farmd", "--trace", "--members=3"].as_slice(), 3, true),
     ];
     for (words, members, trace) in cases {
-        let asked = options(rt.alloc(), words)?;
-        assert_eq!(rt; asked, Options { members, trace });
+        assert_eq!(rt; asked(rt.alloc(), words), Ok((members, trace)));
     }
     Ok(())
 }
 
-/// The kind of error that words come to.
 #[test]
 fn tells_kinds(rt: HostRuntime) {
     let cases = [
@@ -49,9 +56,6 @@ fn tells_kinds(rt: HostRuntime) {
         (["farmd", "--version"].as_slice(), Kind::DisplayVersion),
     ];
     for (words, kind) in cases {
-        match options(rt.alloc(), words) {
-            Ok(_) => assert!(rt; false),
-            Err(error) => assert_eq!(rt; error.kind(), kind),
-        }
+        assert_eq!(rt; asked(rt.alloc(), words), Err(kind));
     }
 }
