@@ -66,14 +66,15 @@ fn write_cell(out: &mut String, cell: Option<u8>) -> Result<()> {
 
 /// Writes the bytes that are another than before, each stretch behind its offset.
 fn write_changes(out: &mut String, before: &Cells, now: &Cells) -> Result<()> {
-    let mut parting = " ";
+    let mut any = false;
     let mut was_changed = false;
     let mut offset = 0u32;
     for (old, new) in before.iter().zip(now) {
         let is_changed = old != new;
         if is_changed && !was_changed {
-            write!(out, "{parting}{offset:x}:")?;
-            parting = ",";
+            out.push_str(if any { "," } else { " " })?;
+            write!(out, "{offset:x}:")?;
+            any = true;
         }
         if is_changed {
             write_cell(out, *new)?;
@@ -81,7 +82,7 @@ fn write_changes(out: &mut String, before: &Cells, now: &Cells) -> Result<()> {
         was_changed = is_changed;
         offset = offset.saturating_add(1);
     }
-    if parting == " " {
+    if !any {
         out.push_str(" -")?;
     }
     Ok(())

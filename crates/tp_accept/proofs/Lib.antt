@@ -13,3 +13,4 @@ pub mod AnswerLemmas
 pub mod RunEnds
 pub mod NeverWrong
 mod Exact
+pub mod Upgrading

@@ -1,21 +1,24 @@
 //! Laws of the bound, and of answers: each function's contract is the law.
 
-ghost use Rattle.std.specs.Prelude.{◌≡◌, ◌≤◌, ◌<◌, ◌+◌, ℕ, List, [], ◌∷◌, length, All, Some, IsTrue};
+ghost use Rattle.std.specs.Prelude.{◌≡◌, ◌↔◌, ◌≤◌, ◌<◌, ◌+◌, ℕ, List, [], ◌∷◌, length, All, Some, Ok, IsTrue};
 ghost use Rattle.tp_image.specs.declared.image.LoopRow.{LoopRow};
 ghost use Rattle.tp_image.specs.Image.{ImageValue, InRange};
+ghost use Rattle.tp_image.specs.Upgrade.{upgraded};
+ghost use Rattle.tp_image.specs.Text.{text};
 ghost use Rattle.tp_decode.specs.Cutting.{Cut, cut_at, IsCutting};
 ghost use Rattle.tp_flow.specs.declared.edge.Edge.{Edge};
 ghost use Rattle.tp_flow.specs.declared.edge.Edge.TheVariants.{Back};
 ghost use Rattle.tp_flow.specs.NestRanges.{ranges};
 ghost use Rattle.tp_flow.specs.RowRules.{is_start};
 ghost use Rattle.tp_flow.specs.NestKept.{IsEdge, KeepsNest};
+ghost use Rattle.tp_step.specs.Runs.{Run, RunsAlone};
 ghost use Rattle.tp_accept.specs.Bound.{bound, costs_of};
 ghost use Rattle.tp_accept.specs.Equations.{AreCosts};
 ghost use Rattle.tp_accept.specs.Measure.{Counts, measure, AreCountsAfter, HasTurns};
 ghost use Rattle.tp_accept.specs.Walks.{Walk};
-ghost use Rattle.tp_accept.specs.Verdict.{Answer, IsAnswer};
+ghost use Rattle.tp_accept.specs.Verdict.{Allowed, Answer, IsAnswer};
 ghost use Rattle.tp_accept.specs.Acceptance.{IsAcceptable};
-ghost use Rattle.tp_accept.specs.Ending.{NeverGoesWrong};
+ghost use Rattle.tp_accept.specs.Ending.{IsPacket, NeverGoesWrong};
 ghost use Rattle.tp_accept.specs.Workers.{bound_of_bytes, measure_of_bytes, two_and_three, row, increment, sum_to, ten, ten_thousand, loop_in_a_loop, outer_and_inner, early_exit, two_ways, neighbours};
 
 pub mod exact;
@@ -108,6 +111,19 @@ pub fn acceptable_code_never_goes_wrong()
 /// So the worker of an accepted image never goes wrong within its budget.
 pub fn accepted_code_never_goes_wrong(accepted: &Accepted)
     ensures { NeverGoesWrong accepted.now.image accepted.now.budget }
+{}
+
+/// Upgrading an acceptable image changes nothing: the upgraded image is acceptable with the same budget, and each packet's
+/// run alone is that of the image. Only move reads the version, and no instruction of an acceptable image of version 1 that a
+/// state reaches is a move. Of any other image [`tp_step::laws::upgraded_images_do_the_same`] says what stays.
+pub fn upgrading_changes_nothing()
+    ensures acceptable { (image : ImageValue) (budget : ℕ) → IsAcceptable image budget →
+        IsAcceptable (upgraded image) budget }
+    ensures runs { (image : ImageValue) (budget : ℕ) (packet : List ℕ) (run : Run) → IsAcceptable image budget →
+        IsPacket image packet → (RunsAlone image packet run ↔ RunsAlone (upgraded image) packet run) }
+    // And where the image's text is allowed, so is the upgraded image's, with the same code bytes and the same budget.
+    ensures answers { (image : ImageValue) (found : Allowed) → InRange image → IsAnswer (text image) (Ok found) →
+        IsAnswer (text (upgraded image)) (Ok found) }
 {}
 
 /// The bounds of small workers, as they are worked out by hand.
