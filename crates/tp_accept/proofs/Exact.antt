@@ -1,5 +1,5 @@
 -- An image may be run exactly where it is acceptable.
-use Rattle.std.proofs.Common.{◌≡◌, ◌≢◌, ℕ, ◌≤◌, nat_lt, if◌then◌else◌, Bool, true, false, List, Option, Some, None, Result, Ok, Err, refl, ap, subst, arith}
+use Rattle.std.proofs.Common.{◌≡◌, ◌≢◌, ℕ, ◌≤◌, nat_lt, if◌then◌else◌, Bool, true, false, List, Option, Some, None, Result, Ok, Err, refl, sym, ap, ◌∙◌, subst, arith}
 use Rattle.std.specs.Prelude.{IfErr}
 use Rattle.std.proofs.lemmas.Bool.Decides.{nat_tests}
 use Rattle.tp_image.specs.Image.{ImageValue}
@@ -58,38 +58,45 @@ module _ (text : List ℕ) (image : ImageValue) (spelled : IsTextOf text image) 
 
   -- ---- what may be run is acceptable
 
-  module _ (cuts : List Cut) (cut : IsCutting image.code cuts) (budget : ℕ) where
+  -- what is found of it: its code bytes, and a budget with which it is acceptable
+  abbrev IsFound : Allowed → Type 0
+  IsFound found = (found ≡ allowed image found.budget) × IsAcceptable image found.budget
+
+  module _ (cuts : List Cut) (cut : IsCutting image.code cuts) (found : Allowed) where
     by_bound : KeepsNest image.loops image.workspace cuts → (table : Table) → IsVerdict image cuts (Ok table) → (b : Bool) → nat_lt most_budget (bound image.loops cuts) ≡ b
-        → Ok (allowed image budget) ≡ (if b then Err too_long else Ok (allowed image (bound image.loops cuts))) → IsAcceptable image budget
+        → Ok found ≡ (if b then Err too_long else Ok (allowed image (bound image.loops cuts))) → IsFound found
     by_bound kept table passes true above answers = absurd (allowed_refused answers)
     by_bound kept table passes false above answers =
-        let bounded : budget ≡ bound image.loops cuts = ap (λ (a : Allowed). a.budget) (same_allowed answers) in
-        let low = not_above most_budget (bound image.loops cuts) above in
-        record {
-          in_range = spelled.0;
-          cuts = cuts;
-          cutting = cut;
-          kept = kept;
-          table = table;
-          respected = respected image cuts spelled.0 cut.each kept table passes;
-          bounded = bounded;
-          within = omega (arith, low, bounded);
-        }
+        let same = same_allowed answers in
+        let bounded : found.budget ≡ bound image.loops cuts = ap (λ (a : Allowed). a.budget) same in
+        let low = not_above most_budget (bound image.loops cuts) above in (
+          same ∙ ap (allowed image) (sym bounded),
+          record {
+            in_range = spelled.0;
+            cuts = cuts;
+            cutting = cut;
+            kept = kept;
+            table = table;
+            respected = respected image cuts spelled.0 cut.each kept table passes;
+            bounded = bounded;
+            within = omega (arith, low, bounded);
+          },
+        )
 
-    by_verdict : KeepsNest image.loops image.workspace cuts → (v : Result Table StateFault) → IsVerdict image cuts v → Ok (allowed image budget) ≡ answer_on image cuts v → IsAcceptable image budget
+    by_verdict : KeepsNest image.loops image.workspace cuts → (v : Result Table StateFault) → IsVerdict image cuts v → Ok found ≡ answer_on image cuts v → IsFound found
     by_verdict kept (Err fault) passes answers = absurd (allowed_refused answers)
     by_verdict kept (Ok table) passes answers = by_bound kept table passes (nat_lt most_budget (bound image.loops cuts)) refl answers
 
-    by_flow : (o : Option FlowFault) → first_flow_fault image cuts ≡ o → IsFlowAnswer o image cuts (Ok (allowed image budget)) → IsAcceptable image budget
+    by_flow : (o : Option FlowFault) → first_flow_fault image cuts ≡ o → IsFlowAnswer o image cuts (Ok found) → IsFound found
     by_flow (Some fault) flows answers = absurd (allowed_refused answers)
     by_flow None flows is = by_verdict (nest_kept image cuts cut flows) is.verdict is.passes is.answers
 
-  pub is_acceptable : (budget : ℕ) → IsAnswer text (Ok (allowed image budget)) → IsAcceptable image budget
-  is_acceptable budget is = by_cutting (cutting image.code) refl (on_image (Ok (allowed image budget)) is)
+  pub found_acceptable : (found : Allowed) → IsAnswer text (Ok found) → (found ≡ allowed image found.budget) × IsAcceptable image found.budget
+  found_acceptable found is = by_cutting (cutting image.code) refl (on_image (Ok found) is)
     where
-      by_cutting : (r : Result (List Cut) DecodeFault) → cutting image.code ≡ r → IsCutAnswer r image (Ok (allowed image budget)) → IsAcceptable image budget
+      by_cutting : (r : Result (List Cut) DecodeFault) → cutting image.code ≡ r → IsCutAnswer r image (Ok found) → IsFound found
       by_cutting (Err fault) cut answers = absurd (allowed_refused answers)
-      by_cutting (Ok cuts) cut answers = by_flow cuts (sound_ok image.code cuts cut) budget (first_flow_fault image cuts) refl answers
+      by_cutting (Ok cuts) cut answers = by_flow cuts (sound_ok image.code cuts cut) found (first_flow_fault image cuts) refl answers
 
   -- ---- and what is acceptable may be run
 

@@ -1,26 +1,16 @@
 -- Upgrading an image changes neither what is known of it nor what it does.
-use Rattle.std.proofs.Common.{◌≡◌, ℕ, zero, suc, ◌+◌, ◌≤◌, ◌↔◌, Bool, true, false, List, [], ◌∷◌, length, Option, Some, None, Result, Ok, Err, refl, ap, sym, ◌∙◌, subst, arith}
+use Rattle.std.proofs.Common.{◌≡◌, ℕ, ◌+◌, ◌≤◌, ◌↔◌, List, length, Result, Ok, Err, refl, sym, subst, arith}
 use Rattle.std.specs.Prelude.{slice_index_or}
 use Rattle.tp_decode.specs.declared.instr.Instr.{Instr}
-use Rattle.tp_decode.specs.declared.instr.Instr.TheVariants.{Jump, Ldlp, Ldnl, Ldc, Ldnlp, Ldl, Adc, Cj, Ajw, Eqc, Stl, Stnl, Rev, Lb, Bsub, Diff, Add, Input, Prod, Gt, Wsub, Output, Sub, Seterr, Csub0, Stopp, Rem, Lend, Div, BitNot, BitXor, Sb, Shr, Shl, Mint, BitAnd, MoveBytes, BitOr, Sum, Mul}
-use Rattle.tp_decode.specs.declared.placed.Placed.{Placed}
-use Rattle.tp_decode.specs.declared.fault.DecodeFault.{DecodeFault}
-use Rattle.tp_decode.specs.Cutting.{Cut, cutting}
+use Rattle.tp_decode.specs.declared.instr.Instr.TheVariants.{MoveBytes}
+use Rattle.tp_decode.specs.Cutting.{Cut}
 use Rattle.tp_image.specs.declared.image.Version.{Version}
 use Rattle.tp_image.specs.declared.image.Version.TheVariants.{One, Two}
 use Rattle.tp_image.specs.Image.{ImageValue, InRange, most_initial}
-use Rattle.tp_image.specs.Limits.{most_code, least_workspace, most_workspace}
+use Rattle.tp_image.specs.Limits.{most_code, most_workspace}
 use Rattle.tp_image.specs.Upgrade.{upgraded}
-use Rattle.tp_image.specs.Text.{text, IsTextOf}
-use Rattle.tp_image.specs.Faults.{first_fault}
-use Rattle.tp_image.proofs.Bodies.{first_fault-text}
-use Rattle.tp_image.proofs.Unique.{one_image}
+use Rattle.tp_image.specs.Text.{text}
 use Rattle.tp_flow.specs.declared.edge.Edge.{Edge}
-use Rattle.tp_flow.specs.declared.edge.Edge.TheVariants.{Next, Taken, Back, Out}
-use Rattle.tp_flow.specs.declared.fault.FlowFault.{FlowFault}
-use Rattle.tp_flow.specs.FlowFaults.{first_flow_fault}
-use Rattle.tp_flow.specs.NestRanges.{ranges}
-use Rattle.tp_flow.specs.Edges.{target}
 use Rattle.tp_step.specs.Effects.{has_move}
 use Rattle.tp_step.specs.Runs.{Run, RunsAlone}
 use Rattle.tp_step.proofs.StepLemmas.{one_run}
@@ -28,17 +18,15 @@ use Rattle.tp_step.proofs.UpgradeLemmas.{upgraded_two, run_upgraded}
 use Rattle.tp_state.specs.declared.state.State.{State}
 use Rattle.tp_state.specs.declared.fault.StateCode.{StateCode}
 use Rattle.tp_state.specs.declared.fault.StateCode.TheVariants.{S11}
-use Rattle.tp_state.specs.declared.fault.StateFault.{StateFault}
 use Rattle.tp_state.specs.Answer.{◌>>=◌, ◌>>◌, unless}
-use Rattle.tp_state.specs.Conditions.{IsPlaced}
 use Rattle.tp_state.specs.Kinds.{word_in, byte_in}
 use Rattle.tp_state.specs.Rules.{rule, local, words_on, bytes_on, words_further, frame_at, message_in, words_to_send, row_ended_at}
 use Rattle.tp_state.specs.After.{after, asked, entering, entered_at}
 use Rattle.tp_check.specs.Tables.{Table}
-use Rattle.tp_check.specs.Passes.{placed, enter, go_along, edges_in, along, pass, passes, IsVerdict}
-use Rattle.tp_check.specs.EdgesRespect.{Respects, RespectsFrom, EveryEdgeRespects}
+use Rattle.tp_check.specs.EdgesRespect.{EveryEdgeRespects}
 use Rattle.tp_accept.specs.Acceptance.{IsAcceptable}
-use Rattle.tp_accept.specs.Verdict.{Allowed, answer_on, IsStateAnswer, IsFlowAnswer, IsCutAnswer, IsImageAnswer, IsTextAnswer, IsAnswer}
+use Rattle.tp_accept.proofs.Exact.{found_acceptable, may_be_run}
+use Rattle.tp_accept.specs.Verdict.{Allowed, allowed, IsAnswer}
 use Rattle.tp_accept.specs.Ending.{IsPacket}
 use Rattle.tp_accept.proofs.NeverWrong.{never_goes_wrong}
 
@@ -137,82 +125,12 @@ runs_upgraded image budget packet run a is = (run_upgraded image packet run, bac
         let same : ends.run ≡ run = one_run (upgraded image) packet ends.run run (run_upgraded image packet ends.run ends.alone) alone in
         subst (RunsAlone image packet) same ends.alone
 
--- ---- passes, and the answer
+-- ---- the answer
 
-module _ (image : ImageValue) (one : image.version ≡ One) where
-  go_along_upgraded : (p : Placed) (edge : Edge) (o : Option State) (table out : Table) → go_along image p edge o table ≡ Ok out → go_along (upgraded image) p edge o table ≡ Ok out
-  unfolding go_along
-  go_along_upgraded p edge None table out e = e
-  go_along_upgraded p edge (Some s) table out e = by_after (after image p.at p.next p.instr edge s) refl e
-    where
-      to : State → Result Table StateFault
-      to t = enter (target (ranges image.loops) p.at p.next p.instr edge) t table
-
-      by_after : (r : Result State StateCode) → after image p.at p.next p.instr edge s ≡ r → (placed p.at r >>= to) ≡ Ok out → (placed p.at (after (upgraded image) p.at p.next p.instr edge s) >>= to) ≡ Ok out
-      by_after (Err code) here e' = cc
-      by_after (Ok t) here e' = rw (after_upgraded image p.at p.next p.instr edge s t one here) e'
-
-  along_upgraded : (ways : List (Placed × Edge)) (table out : Table) → along image ways table ≡ Ok out → along (upgraded image) ways table ≡ Ok out
-  along_upgraded [] table out e = e
-  along_upgraded (way ∷ more) table out e = by_first (λ t. along_upgraded more t out) (go_along image way.0 way.1 (table way.0.at) table) refl e
-    where
-      by_first : ((t : Table) → along image more t ≡ Ok out → along (upgraded image) more t ≡ Ok out) → (r : Result Table StateFault) → go_along image way.0 way.1 (table way.0.at) table ≡ r → (r >>= along image more) ≡ Ok out → (go_along (upgraded image) way.0 way.1 (table way.0.at) table >>= along (upgraded image) more) ≡ Ok out
-      by_first go (Err fault) here e' = cc
-      by_first go (Ok t) here e' = rw (go_along_upgraded way.0 way.1 (table way.0.at) table t here) (go t e')
-
-  passes_upgraded : (cuts : List Cut) (n : ℕ) (out : Table) → passes image cuts n ≡ Ok out → passes (upgraded image) cuts n ≡ Ok out
-  passes_upgraded cuts zero out e = e
-  passes_upgraded cuts (suc n) out e = by_first (λ t. passes_upgraded cuts n t) (passes image cuts n) refl e
-    where
-      by_first : ((t : Table) → passes image cuts n ≡ Ok t → passes (upgraded image) cuts n ≡ Ok t) → (r : Result Table StateFault) → passes image cuts n ≡ r → (r >>= pass image cuts) ≡ Ok out → (passes (upgraded image) cuts n >>= pass (upgraded image) cuts) ≡ Ok out
-      by_first go (Err fault) here e' = cc
-      by_first go (Ok t) here e' = rw (go t here) (along_upgraded (edges_in cuts) t out e')
-
-  verdict_upgraded : (cuts : List Cut) (table : Table) → IsVerdict image cuts (Ok table) → IsVerdict (upgraded image) cuts (Ok table)
-  verdict_upgraded cuts table v = record {
-    number = v.number;
-    comes = passes_upgraded cuts v.number table v.comes;
-    stays = along_upgraded (edges_in cuts) table table v.stays;
-  }
-
-  state_answer_upgraded : (cuts : List Cut) (found : Allowed) → IsStateAnswer image cuts (Ok found) → IsStateAnswer (upgraded image) cuts (Ok found)
-  state_answer_upgraded cuts found is = by_verdict is.verdict is.passes is.answers
-    where
-      by_verdict : (verdict : Result Table StateFault) → IsVerdict image cuts verdict → Ok found ≡ answer_on image cuts verdict → IsStateAnswer (upgraded image) cuts (Ok found)
-      by_verdict (Err fault) passes answers = cc
-      by_verdict (Ok table) passes answers = record { verdict = Ok table; passes = verdict_upgraded cuts table passes; answers = answers }
-
-  flow_answer_upgraded : (cuts : List Cut) (fault : Option FlowFault) (found : Allowed) → IsFlowAnswer fault image cuts (Ok found) → IsFlowAnswer fault (upgraded image) cuts (Ok found)
-  flow_answer_upgraded cuts (Some fault) found is = cc
-  flow_answer_upgraded cuts None found is = state_answer_upgraded cuts found is
-
-  cut_answer_upgraded : (cut : Result (List Cut) DecodeFault) (found : Allowed) → IsCutAnswer cut image (Ok found) → IsCutAnswer cut (upgraded image) (Ok found)
-  unfolding first_flow_fault
-  cut_answer_upgraded (Err fault) found is = cc
-  cut_answer_upgraded (Ok cuts) found is = flow_answer_upgraded cuts (first_flow_fault image cuts) found is
-
--- the text of the upgraded image passes where the image's does
+-- the text of the upgraded image passes where the image's does: both are acceptable alike
 pub answer_upgraded : (image : ImageValue) (found : Allowed) → InRange image → IsAnswer (text image) (Ok found) → IsAnswer (text (upgraded image)) (Ok found)
-answer_upgraded image found range is = by_version image.version refl
-  where
-    spelled : IsTextOf (text image) image
-    spelled = (range, refl)
-
-    passes_tests : first_fault (text image) ≡ None
-    passes_tests = first_fault-text (text image) image spelled
-
-    here : IsImageAnswer (text image) (Ok found)
-    here = subst (λ o. IsTextAnswer o (text image) (Ok found)) passes_tests is
-
-    same : here.image ≡ image
-    same = one_image (text image) here.image image here.spelled spelled
-
-    answers : IsCutAnswer (cutting image.code) image (Ok found)
-    answers = subst (λ i. IsCutAnswer (cutting i.code) i (Ok found)) same here.answers
-
-    by_version : (v : Version) → image.version ≡ v → IsAnswer (text (upgraded image)) (Ok found)
-    by_version Two two = subst (λ i. IsAnswer (text i) (Ok found)) (sym (upgraded_two image two)) is
-    by_version One one =
-        let spelled' : IsTextOf (text (upgraded image)) (upgraded image) = (range_upgraded image range, refl) in
-        subst (λ o. IsTextAnswer o (text (upgraded image)) (Ok found)) (sym (first_fault-text (text (upgraded image)) (upgraded image) spelled'))
-        record { image = upgraded image; spelled = spelled'; answers = cut_answer_upgraded image one (cutting image.code) found answers }
+answer_upgraded image found range is =
+    let here = found_acceptable (text image) image (range, refl) found is in
+    let there : IsAnswer (text (upgraded image)) (Ok (allowed (upgraded image) found.budget)) =
+    may_be_run (text (upgraded image)) (upgraded image) (range_upgraded image range, refl) found.budget (acceptable_upgraded image found.budget here.1) in
+    subst (λ (a : Allowed). IsAnswer (text (upgraded image)) (Ok a)) (sym here.0) there

@@ -1,5 +1,5 @@
 -- A code whose nest is kept: the edges to addresses that do not join, and the states that may stand.
-use Rattle.std.proofs.Common.{◌≡◌, ◌≢◌, ℕ, zero, suc, ◌+◌, ◌-◌, ◌<◌, ◌≤◌, ◌⊎◌, inl, inr, ◌==◌, nat_le, nat_lt, ◌||◌, Bool, true, false, if◌then◌else◌, List, [], ◌∷◌, ◌++◌, length, slice_get, Option, Some, None, Result, Ok, Err, refl, sym, ap, ◌∙◌, subst, arith}
+use Rattle.std.proofs.Common.{◌≡◌, ◌≢◌, ℕ, zero, suc, ◌+◌, ◌<◌, ◌≤◌, ◌⊎◌, inl, inr, ◌==◌, nat_le, ◌||◌, Bool, true, false, if◌then◌else◌, List, [], ◌∷◌, ◌++◌, length, slice_get, Option, Some, None, Result, Ok, Err, refl, sym, ap, ◌∙◌, subst, arith}
 use Rattle.std.specs.Prelude.{IfOk}
 use Rattle.std.specs.Option.{option_and_then}
 use Rattle.std.specs.List.{flat_map, count_by, list_any, AllByRecursion}
@@ -11,7 +11,7 @@ use Rattle.std.proofs.lemmas.List.Concat.{flat_map-cons}
 use Rattle.std.proofs.lemmas.List.Sums.{sum_by-cons}
 use Rattle.tp_decode.specs.declared.placed.Placed.{Placed}
 use Rattle.tp_decode.specs.declared.instr.Instr.{Instr}
-use Rattle.tp_decode.specs.Cutting.{Cut, cut_at, placed_from, IsSpelled}
+use Rattle.tp_decode.specs.Cutting.{Cut, placed_from, IsSpelled}
 use Rattle.tp_decode.proofs.NumberLemmas.{placed as placed_cut}
 use Rattle.tp_flow.specs.declared.edge.Edge.{Edge}
 use Rattle.tp_flow.specs.declared.edge.Edge.TheVariants.{Next, Taken, Back, Out}
@@ -33,7 +33,8 @@ use Rattle.tp_check.specs.Passes.{from, edges_of, edges_in}
 use Rattle.tp_state.specs.Sound.{IsSound, LoadsWord}
 use Rattle.tp_check.specs.Carried.{target_of, outcome_of, leads_to, reached, is_head, AreWide}
 use Rattle.tp_check.proofs.Lone.{IsLone, AreStates, IsAmong, LeadsOn, StandsThere}
-use Rattle.tp_check.proofs.Places.{StandsAt, stands_at}
+use Rattle.tp_flow.proofs.FlowSpelled.{some_bytes}
+use Rattle.tp_check.proofs.Places.{place_from, StandsAt, stands_at}
 use Rattle.tp_rules.proofs.SoundJoins.{join_sound}
 use Rattle.tp_rules.proofs.SoundRules.{after_sound}
 use Rattle.tp_check.proofs.Loading.{loads_word}
@@ -103,11 +104,6 @@ rises_ways p (w ∷ ways) rest above rises = (first, rises_ways p ways rest abov
     first : (e : Placed × Edge) → IsAmong (from p (w ∷ ways) ++ rest) e → p.at ≤ e.0.at
     first e among = by_way e (among_either (from p (w ∷ ways)) rest e among)
 
-above_start : (at : ℕ) (cuts : List Cut) (i : ℕ) (p : Placed) → slice_get (placed_from at cuts) i ≡ Some p → at ≤ p.at
-above_start at [] i p is = absurd cc
-above_start at (c ∷ cuts) zero p is = let same = ap (λ (q : Placed). q.at) (same_Some (placed_cut at c) p is) in omega (arith, same)
-above_start at (c ∷ cuts) (suc i) p is = let later = above_start (at + length c.bytes) cuts i p is in omega (arith, later)
-
 rises_all : (at : ℕ) (cuts : List Cut) → Rises (flat_map edges_of (placed_from at cuts))
 unfolding Rises
 rises_all at [] = tt
@@ -118,7 +114,7 @@ rises_all at (c ∷ cuts) =
     above : (e : Placed × Edge) → IsAmong (flat_map edges_of (placed_from (at + length c.bytes) cuts)) e → at ≤ e.0.at
     above e among =
         let place = among_placed (placed_from (at + length c.bytes) cuts) e among in
-        let low = above_start (at + length c.bytes) cuts place.0 e.0 place.1 in omega (arith, low)
+        let low = place_from (at + length c.bytes) cuts place.0 e.0 place.1 in omega (arith, low)
 
 -- ---- where edges join
 
@@ -166,15 +162,6 @@ is_back Next = inr (λ e. cc)
 is_back Taken = inr (λ e. cc)
 is_back Back = inl refl
 is_back Out = inr (λ e. cc)
-
-some_bytes : (cuts : List Cut) (at : ℕ) (cut : Cut) → AllByRecursion (λ c. 0 < length c.bytes) cuts → cut_at cuts at ≡ Some cut → 0 < length cut.bytes
-some_bytes [] at cut spelled is = absurd cc
-some_bytes (c ∷ cuts) at cut spelled is = by_test (at == 0) (nat_lt at (length c.bytes)) is (some_bytes cuts (at - length c.bytes) cut spelled.1)
-  where
-    by_test : (p q : Bool) → (if p then Some c else if q then None else cut_at cuts (at - length c.bytes)) ≡ Some cut → (cut_at cuts (at - length c.bytes) ≡ Some cut → 0 < length cut.bytes) → 0 < length cut.bytes
-    by_test true q is go = let same : c ≡ cut = same_Some c cut is in let some = spelled.0 in subst (λ (d : Cut). 0 < length d.bytes) same some
-    by_test false true is go = absurd cc
-    by_test false false is go = go is
 
 module _ (image : ImageValue) (cuts : List Cut) (kept : KeepsNest image.loops image.workspace cuts) (joins : ℕ → Bool) (wide : AreWide image cuts joins) where
   abbrev pub IsOne : Placed × Edge → Type 0

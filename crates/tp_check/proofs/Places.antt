@@ -78,7 +78,7 @@ number_of cuts at cut is = by_number (index_from 0 cuts at) (place_by_number cut
 
 -- ---- one behind another
 
-place_from : (from : ℕ) (cuts : List Cut) (i : ℕ) (p : Placed) → slice_get (placed_from from cuts) i ≡ Some p → from ≤ p.at
+pub place_from : (from : ℕ) (cuts : List Cut) (i : ℕ) (p : Placed) → slice_get (placed_from from cuts) i ≡ Some p → from ≤ p.at
 place_from from [] i p is = absurd cc
 place_from from (c ∷ cuts) zero p is = let same = ap (λ q. q.at) (same_Some (placed from c) p is) in omega (arith, same)
 place_from from (c ∷ cuts) (suc i) p is = let later = place_from (from + length c.bytes) cuts i p is in omega (arith, later)

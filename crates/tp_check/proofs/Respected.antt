@@ -13,8 +13,9 @@ use Rattle.tp_state.specs.declared.fault.StateFault.{StateFault}
 use Rattle.tp_state.specs.Answer.{◌>>=◌}
 use Rattle.tp_state.specs.Entry.{entry}
 use Rattle.tp_state.proofs.StateOrder.{is_below-self, is_below-trans}
+use Rattle.tp_state.proofs.Passing.{same_Ok}
 use Rattle.tp_check.specs.Tables.{Table, asked}
-use Rattle.tp_check.specs.Passes.{from, edges_of, edges_in, pass, passes, first_table, IsVerdict}
+use Rattle.tp_check.specs.Passes.{from, edges_of, edges_in, pass, passes, IsVerdict}
 use Rattle.tp_check.specs.EdgesRespect.{HasAbove, RespectsFrom, EveryEdgeRespects}
 use Rattle.tp_check.specs.Carried.{is_kept}
 use Rattle.tp_check.proofs.Lone.{IsAmong, StandsThere}
@@ -66,10 +67,7 @@ module _ (image : ImageValue) (cuts : List Cut) (range : InRange image) (spelled
 
   -- each pass leaves the first state below what stands at the first instruction
   begins_after : (n : ℕ) (table : Table) → passes image cuts n ≡ Ok table → HasAbove table 0 (entry image)
-  begins_after zero table is = subst (λ t. HasAbove t 0 (entry image)) (same_in is) (record { state = entry image; there = refl; below = is_below-self (entry image) })
-    where
-      same_in : ◌≡◌ {A = Result Table StateFault} (Ok (first_table image)) (Ok table) → first_table image ≡ table
-      same_in e = cc
+  begins_after zero table is = subst (λ t. HasAbove t 0 (entry image)) (same_Ok _ _ is) (record { state = entry image; there = refl; below = is_below-self (entry image) })
   begins_after (suc n) table is = by_answer (passes image cuts n) refl is (begins_after n)
     where
       by_answer : (r : Result Table StateFault) → passes image cuts n ≡ r → (r >>= pass image cuts) ≡ Ok table → ((t : Table) → passes image cuts n ≡ Ok t → HasAbove t 0 (entry image)) → HasAbove table 0 (entry image)

@@ -14,6 +14,7 @@ use Rattle.tp_state.specs.declared.fault.StateFault.{StateFault}
 use Rattle.tp_state.specs.Answer.{◌>>=◌}
 use Rattle.tp_state.specs.Order.{IsBelow, meeting}
 use Rattle.tp_state.proofs.StateOrder.{is_below-self, is_below-trans, is_below-antisym, is_below-join_left, is_below-join_right}
+use Rattle.tp_state.proofs.Passing.{same_Ok}
 use Rattle.tp_check.specs.Tables.{Table, with_state}
 use Rattle.tp_check.specs.Passes.{placed, met, enter, go_along, along}
 use Rattle.tp_check.specs.EdgesRespect.{HasAbove}
@@ -77,18 +78,12 @@ module _ (image : ImageValue) (are : All IsRow image.loops) (good : All (IsGood 
       by_meeting x stood (Ok v) m is =
           let made = met_is image are good joins IsEdge Stands lone states x t v m in
           let may = states.meet to x t (kept.stand to x stood) stands made.0 made.1 in
-          by_table v (same_in is)
+          by_table v (same_Ok _ _ is)
           (λ u stood_u. subst (λ z. IsBelow z v) (same_Some x u (sym stood ∙ stood_u)) (subst (IsBelow x) (sym made.2) (is_below-join_left x t may)))
           (subst (IsBelow t) (sym made.2) (is_below-join_right x t may))
-        where
-          same_in : ◌≡◌ {A = Result Table StateFault} (Ok (with_state to v table)) (Ok new) → with_state to v table ≡ new
-          same_in e = cc
 
       by_state : (o : Option State) → table to ≡ o → (placed to (met o t) >>= λ v. Ok (with_state to v table)) ≡ Ok new → IsUnder table new × HasAbove new to t
-      by_state None stood is = by_table t (same_in is) (λ u stood_u. absurd (let no : None ≡ Some u = sym stood ∙ stood_u in cc)) (is_below-self t)
-        where
-          same_in : ◌≡◌ {A = Result Table StateFault} (Ok (with_state to t table)) (Ok new) → with_state to t table ≡ new
-          same_in e = cc
+      by_state None stood is = by_table t (same_Ok _ _ is) (λ u stood_u. absurd (let no : None ≡ Some u = sym stood ∙ stood_u in cc)) (is_below-self t)
       by_state (Some x) stood is = by_meeting x stood (meeting x t) refl is
 
   -- what an edge has done
@@ -102,11 +97,8 @@ module _ (image : ImageValue) (are : All IsRow image.loops) (good : All (IsGood 
     where
       by_target : (s t : State) → table e.0.at ≡ Some s → outcome_of image e s ≡ Ok t → (o : Option ℕ) → target_of image e ≡ o → enter o t table ≡ Ok new → HasGone e table new
       by_target s t there gives None goes is =
-          let same : table ≡ new = same_in is in
+          let same : table ≡ new = same_Ok _ _ is in
           record { under = subst (IsUnder table) same (under_self table); respects = λ u also. (t, ap (outcome_of image e) (same_Some u s (sym also ∙ there)) ∙ gives, λ to goes_too. absurd (let no : None ≡ Some to = sym goes ∙ goes_too in cc)) }
-        where
-          same_in : ◌≡◌ {A = Result Table StateFault} (Ok table) (Ok new) → table ≡ new
-          same_in e = cc
       by_target s t there gives (Some to) goes is =
           let done = arrived to t table new kept (states.after e s t to is_e (kept.stand e.0.at s there) goes gives) is in
           record { under = done.0; respects = λ u also. (t, ap (outcome_of image e) (same_Some u s (sym also ∙ there)) ∙ gives, λ x goes_too. subst (λ y. HasAbove new y t) (same_Some to x (sym goes ∙ goes_too)) done.1) }
@@ -117,11 +109,8 @@ module _ (image : ImageValue) (are : All IsRow image.loops) (good : All (IsGood 
 
       by_state : (o : Option State) → table e.0.at ≡ o → go_along image e.0 e.1 o table ≡ Ok new → HasGone e table new
       by_state None there is =
-          let same : table ≡ new = same_in is in
+          let same : table ≡ new = same_Ok _ _ is in
           record { under = subst (IsUnder table) same (under_self table); respects = λ u also. absurd (let no : None ≡ Some u = sym there ∙ also in cc) }
-        where
-          same_in : ◌≡◌ {A = Result Table StateFault} (Ok table) (Ok new) → table ≡ new
-          same_in e = cc
       by_state (Some s) there is = by_outcome s there (outcome_of image e s) refl is
 
   kept_on : (e : Placed × Edge) → IsEdge e → (table new : Table) → Kept table → go_along image e.0 e.1 (table e.0.at) table ≡ Ok new → Kept new
@@ -132,10 +121,7 @@ module _ (image : ImageValue) (are : All IsRow image.loops) (good : All (IsGood 
       by_answer (Err f) e h = cc
 
   pub tables_rise : (es : List (Placed × Edge)) → ((i : ℕ) (e : Placed × Edge) → slice_get es i ≡ Some e → IsEdge e) → (table new : Table) → Kept table → along image es table ≡ Ok new → IsUnder table new
-  tables_rise [] edges table new kept is = subst (IsUnder table) (same_in is) (under_self table)
-    where
-      same_in : ◌≡◌ {A = Result Table StateFault} (Ok table) (Ok new) → table ≡ new
-      same_in e = cc
+  tables_rise [] edges table new kept is = subst (IsUnder table) (same_Ok _ _ is) (under_self table)
   tables_rise (e ∷ more) edges table new kept is = by_answer (go_along image e.0 e.1 (table e.0.at) table) refl is (tables_rise more (λ i f is. edges (suc i) f is))
     where
       by_answer : (r : Result Table StateFault) → go_along image e.0 e.1 (table e.0.at) table ≡ r → (r >>= along image more) ≡ Ok new → ((t n : Table) → Kept t → along image more t ≡ Ok n → IsUnder t n) → IsUnder table new

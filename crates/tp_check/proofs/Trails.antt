@@ -15,6 +15,7 @@ use Rattle.tp_state.specs.Answer.{◌>>=◌, ◌>>◌, unless}
 use Rattle.tp_state.specs.Order.{IsBelow, MayMeet, join, meeting}
 use Rattle.tp_state.specs.After.{after}
 use Rattle.tp_state.proofs.StateOrder.{is_below-self, is_below-trans, is_below-least, is_below-antisym, is_below-join_left, is_below-join_right}
+use Rattle.tp_state.proofs.Passing.{same_Ok}
 use Rattle.tp_check.specs.Tables.{Table, with_state}
 use Rattle.tp_check.specs.Passes.{placed, met, enter, go_along, along}
 use Rattle.tp_state.specs.Sound.{IsSound}
@@ -30,10 +31,7 @@ join-above s t h m = is_below-antisym (join s t) t (is_below-least s t t h (is_b
 
 -- what was refused or not below is not refused above
 pub placed_ok : (at : ℕ) (r : Result State StateCode) (t : State) → placed at r ≡ Ok t → r ≡ Ok t
-placed_ok at (Ok u) t e = let same : u ≡ t = same_in e in ap Ok same
-  where
-    same_in : {u t : State} → ◌≡◌ {A = Result State StateFault} (Ok u) (Ok t) → u ≡ t
-    same_in e = cc
+placed_ok at (Ok u) t e = let same : u ≡ t = same_Ok _ _ e in ap Ok same
 placed_ok at (Err c) t e = cc
 
 enter_none : (t : State) (table : Table) → enter None t table ≡ Ok table
@@ -115,10 +113,7 @@ module _ (image : ImageValue) (are : All IsRow image.loops) (good : All (IsGood 
   met_is x t v is = by_tests (x.wptr == t.wptr) refl (x.phase == t.phase) refl is
     where
       by_tests : (p : Bool) → (x.wptr == t.wptr) ≡ p → (q : Bool) → (x.phase == t.phase) ≡ q → (unless S6 p >> (unless S9 q >> Ok (join x t))) ≡ Ok v → (x.wptr ≡ t.wptr) × (x.phase ≡ t.phase) × (v ≡ join x t)
-      by_tests true e true f is = ((Decides-eqb x.wptr t.wptr).0 e, (Decides-eqb x.phase t.phase).0 f, same_in is)
-        where
-          same_in : ◌≡◌ {A = Result State StateCode} (Ok (join x t)) (Ok v) → v ≡ join x t
-          same_in is = cc
+      by_tests true e true f is = ((Decides-eqb x.wptr t.wptr).0 e, (Decides-eqb x.phase t.phase).0 f, sym (same_Ok _ _ is))
       by_tests true e false f is = cc
       by_tests false e q f is = cc
 

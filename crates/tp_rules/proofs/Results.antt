@@ -1,5 +1,5 @@
 -- What operations give from narrower ranges is narrower.
-use Rattle.std.proofs.Common.{◌≡◌, ℕ, zero, suc, ◌+◌, ◌-◌, ◌*◌, ◌/◌, ◌^◌, ◌<◌, ◌≤◌, Bool, true, false, ◌&&◌, not, if◌then◌else◌, IsTrue, ℤ, pos, negsuc, ◌-ℤ◌, ◌*ℤ◌, ◌≤ℤ◌, int_le, FitsSigned, w32, refl, sym, ap, ◌∙◌, subst, rules, arith, pow_pos, pow-add}
+use Rattle.std.proofs.Common.{◌≡◌, ℕ, zero, suc, ◌+◌, ◌-◌, ◌*◌, ◌/◌, ◌^◌, ◌<◌, ◌≤◌, Bool, true, false, ◌&&◌, not, if◌then◌else◌, IsTrue, ℤ, pos, negsuc, ◌-ℤ◌, ◌*ℤ◌, ◌≤ℤ◌, int_le, FitsSigned, w32, refl, sym, ap, ◌∙◌, subst, arith, pow_pos, pow-add}
 use Rattle.std.specs.Prelude.{int_lt, int_div}
 use Rattle.std.specs.Ordering.{int_eq}
 use Rattle.std.proofs.lemmas.Int.{ints, quot_fits}
@@ -14,7 +14,7 @@ use Rattle.tp_state.specs.Order.{kind_below}
 use Rattle.tp_state.specs.Rules.{is_positive, quotients, remainders, conjunctions, shifted_up, shifted_down, power, count_of, is_shift_count, are_shift_counts}
 use Rattle.tp_state.proofs.Products.{mul_up, quotient_up, div_more}
 use Rattle.tp_state.proofs.OrderLemmas.{kind_below-self}
-use Rattle.tp_rules.proofs.Ranges.{IsWithin, ints_below, fits_full, range_below, range_in_full}
+use Rattle.tp_rules.proofs.Ranges.{IsWithin, full_self, ints_below, fits_full, range_below, range_in_full}
 
 word_fits : (z : ℤ) → least_integer ≤ℤ z → z ≤ℤ greatest_integer → FitsSigned w32 z
 word_fits z h g = grind (arith, ints)
@@ -25,10 +25,7 @@ fits_least z f = grind (arith, ints)
 fits_greatest : (z : ℤ) → FitsSigned w32 z → z ≤ℤ greatest_integer
 fits_greatest z f = grind (arith, ints)
 
-full_self : IsTrue (kind_below full full)
-full_self = search rules
-
-at_least_zero : (z : ℤ) → int_le (pos 0) z ≡ true → pos 0 ≤ℤ z
+pub at_least_zero : (z : ℤ) → int_le (pos 0) z ≡ true → pos 0 ≤ℤ z
 at_least_zero z e = grind (arith, ints, nat_tests)
 
 below_zero : (z : ℤ) → int_le (pos 0) z ≡ false → z ≤ℤ negsuc 0
@@ -40,7 +37,7 @@ at_least_one z e = grind (arith, ints, nat_tests)
 below_one : (z : ℤ) → int_le (pos 1) z ≡ false → z ≤ℤ pos 0
 below_one z e = grind (arith, ints, nat_tests)
 
-above_zero : (z : ℤ) → int_lt (pos 0) z ≡ true → pos 1 ≤ℤ z
+pub above_zero : (z : ℤ) → int_lt (pos 0) z ≡ true → pos 1 ≤ℤ z
 above_zero z e = grind (arith, ints, nat_tests)
 
 is_less : (y z : ℤ) → int_lt y z ≡ true → y ≤ℤ z

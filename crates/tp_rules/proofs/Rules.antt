@@ -35,16 +35,13 @@ use Rattle.tp_state.proofs.OrderLemmas.{kind_below-self}
 use Rattle.tp_state.specs.Conditions.{HasGoodLoops}
 use Rattle.tp_state.specs.Sound.{IsRange, IsSoundCell, IsSound}
 use Rattle.tp_rules.proofs.Follows.{Follows, Both, same, same_as, both, bind, also, tested}
-use Rattle.tp_rules.proofs.Ranges.{IsWithin, fits_full, range_below, at_ends_below, sums_between, differences_between, products_between}
+use Rattle.tp_rules.proofs.Ranges.{IsWithin, full_self, fits_full, range_below, at_ends_below, sums_between, differences_between, products_between}
 use Rattle.tp_rules.proofs.Results.{quotients_below, remainders_below, conjunctions_below, complements_below, shifted_up_below, shifted_down_below}
 use Rattle.tp_rules.proofs.Asked.{IsNarrower, AreWithin, IsPart, known_follows, number_follows, pointer_follows, byte_pointer_follows, one_word_follows, exactly_below, points_below, exactly_one, words_on_follow, bytes_on_follow, words_further_follow}
 use Rattle.tp_rules.proofs.Cells.{replaced_below, mapped_below, part_below, below_themselves, copied_below, free_goes, defined_goes}
 use Rattle.tp_rules.proofs.States.{cells_of, registers, new_cells, in_phase, in_frame, pushed, popped, popped_two, replaced, given, no_more_known, block_set, left, free_from, defined_from, way_given, gives_way, part_all, stored, blurs, one_of_them}
 
 -- ---- reading
-
-full_self : IsTrue (kind_below full full)
-full_self = search rules
 
 read_follows : (rows : List LoopRow) (c d : Cell) → IsTrue (cell_below c d) → IsSoundCell rows c → Follows (λ (k l : Kind). IsTrue (kind_below k l)) (read rows c) (read rows d)
 unfolding read
@@ -374,80 +371,86 @@ module _ (image : ImageValue) (are : All IsRow image.loops) (good : All (IsGood 
 
   pub rule_follows : (at next : ℕ) (instr : Instr) (edge : Edge) → Goes (rule image at next instr edge s) (rule image at next instr edge t)
   unfolding rule
-  rule_follows at next (Jump n) edge = gives_way s t h
+  -- constants, locals, Wptr
+  rule_follows at next (Ldc n) edge = pushed s t h (exactly n) (exactly n) (kind_below-self (exactly n))
+  rule_follows at next Mint edge = pushed s t h _ _ (kind_below-self (exactly least_integer))
+  rule_follows at next (Ldl n) edge = local_then n _ _ λ x. bind IsBelow KindsBelow _ _ _ _ (read_at x) λ k l below. pushed s t h k l below
+  rule_follows at next (Stl n) edge = known_a_then _ _ λ k l is. local_then n _ _ λ x. unless_free_at x _ _ (popped _ _ (stored s t h x k l is is.also))
   rule_follows at next (Ldlp n) edge = local_then n _ _ λ x. pushed s t h (kind.Ptr x x) (kind.Ptr x x) (kind_below-self (kind.Ptr x x))
+  rule_follows at next (Ajw n) edge = rw h.wptr (same_then (frame_at image (pos t.wptr +ℤ n)) _ _ λ x. in_frame s t h x)
+  rule_follows at next Rev edge = known_a_then _ _ λ k l in_a. known_b_then _ _ λ k' l' in_b. registers s t h k' k s.c l' l t.c in_b.below in_a.below h.c
+  rule_follows at next Seterr edge = h
+  -- arithmetic, bits, shifts, comparisons
+  rule_follows at next (Adc n) edge = replaces (λ a. range (a.0 +ℤ n) (a.1 +ℤ n)) λ a c is. let l = is.low in let o = is.ordered in let hi = is.high in range_below (a.0 +ℤ n) (a.1 +ℤ n) (c.0 +ℤ n) (c.1 +ℤ n) (omega (arith, ints)) (omega (arith, ints)) (omega (arith, ints))
+  rule_follows at next Add edge = computes (at_ends sum_of) (at_ends_below sum_of sums_between)
+  rule_follows at next Sub edge = computes (at_ends difference) (at_ends_below difference differences_between)
+  rule_follows at next Sum edge = computes (at_ends sum_of) (at_ends_below sum_of sums_between)
+  rule_follows at next Diff edge = computes (at_ends difference) (at_ends_below difference differences_between)
+  rule_follows at next Mul edge = computes (at_ends product) (at_ends_below product products_between)
+  rule_follows at next Prod edge = computes (at_ends product) (at_ends_below product products_between)
+  rule_follows at next Div edge = computes quotients quotients_below
+  rule_follows at next Rem edge = computes remainders remainders_below
+  rule_follows at next BitNot edge = replaces (λ a. kind.Int (negsuc 0 -ℤ a.1) (negsuc 0 -ℤ a.0)) complements_below
+  rule_follows at next BitAnd edge = computes conjunctions conjunctions_below
+  rule_follows at next BitOr edge = also_numbers _ _ (given s t h _ _ full_self)
+  rule_follows at next BitXor edge = also_numbers _ _ (given s t h _ _ full_self)
+  rule_follows at next Shl edge = shifts shifted_up (λ b a d c counts in_b in_a. shifted_up_below b a d c in_b in_a)
+  rule_follows at next Shr edge = shifts shifted_down shifted_down_below
+  rule_follows at next (Eqc n) edge = also_number _ _ (replaced s t h _ _ (kind_below-self truth_value))
+  rule_follows at next Gt edge = also_numbers _ _ (given s t h _ _ (kind_below-self truth_value))
+  rule_follows at next Csub0 edge = also_numbers _ _ (popped s t h)
+  -- pointers and bytes
   rule_follows at next (Ldnl n) edge =
       also_known_a _ _ (pointer_a_then _ _ λ p q part. words_at p q n _ _ part λ w v is.
       unless_defined w v _ _ (part_of image.workspace w v is) λ e.
       bind IsBelow KindsBelow _ _ _ _ (reads_one w v is e) λ k l below. replaced s t h k l below)
-  rule_follows at next (Ldc n) edge = pushed s t h (exactly n) (exactly n) (kind_below-self (exactly n))
-  rule_follows at next (Ldnlp n) edge = bind IsBelow KindsBelow _ _ _ _ (words_further_follow image n s.a t.a h.a g.a) λ k l below. replaced s t h k l below
-  rule_follows at next (Ldl n) edge = local_then n _ _ λ x. bind IsBelow KindsBelow _ _ _ _ (read_at x) λ k l below. pushed s t h k l below
-  rule_follows at next (Adc n) edge = replaces (λ a. range (a.0 +ℤ n) (a.1 +ℤ n)) λ a c is. let l = is.low in let o = is.ordered in let hi = is.high in range_below (a.0 +ℤ n) (a.1 +ℤ n) (c.0 +ℤ n) (c.1 +ℤ n) (omega (arith, ints)) (omega (arith, ints)) (omega (arith, ints))
-  rule_follows at next (Cj n) Taken = also_number _ _ (replaced s t h _ _ (kind_below-self (exactly (pos 0))))
-  rule_follows at next (Cj n) Next = also_number _ _ (popped s t h)
-  rule_follows at next (Cj n) Back = also_number _ _ (popped s t h)
-  rule_follows at next (Cj n) Out = also_number _ _ (popped s t h)
-  rule_follows at next (Ajw n) edge = rw h.wptr (same_then (frame_at image (pos t.wptr +ℤ n)) _ _ λ x. in_frame s t h x)
-  rule_follows at next (Eqc n) edge = also_number _ _ (replaced s t h _ _ (kind_below-self truth_value))
-  rule_follows at next (Stl n) edge = known_a_then _ _ λ k l is. local_then n _ _ λ x. unless_free_at x _ _ (popped _ _ (stored s t h x k l is is.also))
   rule_follows at next (Stnl n) edge =
       also_known_a _ _ (known_b_then _ _ λ k l is. pointer_a_then _ _ λ p q part. words_at p q n _ _ part λ w v at.
       unless_free w v _ _ (part_of image.workspace w v at) λ free.
       popped_two _ _ (puts w v k l at is free))
-  rule_follows at next Rev edge = known_a_then _ _ λ k l in_a. known_b_then _ _ λ k' l' in_b. registers s t h k' k s.c l' l t.c in_b.below in_a.below h.c
-  rule_follows at next Lb edge =
-      also_known_a _ _ (byte_pointer_a_then _ _ λ p q part.
-      unless_defined (words_of_bytes p) (words_of_bytes q) _ _ (words_part p q part) λ e.
-      replaced s t h _ _ (kind_below-self (kind.Int (pos 0) (pos 255))))
+  rule_follows at next (Ldnlp n) edge = bind IsBelow KindsBelow _ _ _ _ (words_further_follow image n s.a t.a h.a g.a) λ k l below. replaced s t h k l below
+  rule_follows at next Wsub edge =
+      also_known_a _ _ (also_known_b _ _ (pointer_a_then _ _ λ p q part. number_b_then _ _ λ b d in_b.
+      words_then p q b d _ _ part in_b.low in_b.ordered in_b.high λ w v is.
+      given s t h (kind.Ptr w.0 w.1) (kind.Ptr v.0 v.1) (nats_below w v is.low is.high)))
   rule_follows at next Bsub edge =
       also_known_a _ _ (also_known_b _ _ (byte_pointer_a_then _ _ λ p q part. number_b_then _ _ λ b d in_b.
       bind IsBelow (AreWithin (4 * image.workspace)) _ _ _ _ (bytes_on_follow image p q b d part in_b.low in_b.ordered in_b.high) λ w v is.
       given s t h (kind.BytePtr w.0 w.1) (kind.BytePtr v.0 v.1) (nats_below w v is.low is.high)))
-  rule_follows at next Diff edge = computes (at_ends difference) (at_ends_below difference differences_between)
-  rule_follows at next Add edge = computes (at_ends sum_of) (at_ends_below sum_of sums_between)
+  rule_follows at next Lb edge =
+      also_known_a _ _ (byte_pointer_a_then _ _ λ p q part.
+      unless_defined (words_of_bytes p) (words_of_bytes q) _ _ (words_part p q part) λ e.
+      replaced s t h _ _ (kind_below-self (kind.Int (pos 0) (pos 255))))
+  rule_follows at next Sb edge =
+      also_known_a _ _ (also_known_b _ _ (byte_pointer_a_then _ _ λ p q part. also_number_b _ _
+      (unless_free (words_of_bytes p) (words_of_bytes q) _ _ (words_part p q part) λ free.
+      popped_two _ _ (blurs s t h (words_of_bytes p) (words_of_bytes q) (words_part p q part)))))
+  -- jumps, messages, stopp
+  rule_follows at next (Jump n) edge = gives_way s t h
+  rule_follows at next (Cj n) Taken = also_number _ _ (replaced s t h _ _ (kind_below-self (exactly (pos 0))))
+  rule_follows at next (Cj n) Next = also_number _ _ (popped s t h)
+  rule_follows at next (Cj n) Back = also_number _ _ (popped s t h)
+  rule_follows at next (Cj n) Out = also_number _ _ (popped s t h)
   rule_follows at next Input edge =
       also_known_a _ _ (also_known_b _ _ (also_known_c _ _ (also_number_a _ _ (also_number_b _ _ (one_word_c_then _ _ λ x.
       tested IsBelow S8 _ _ _ _ (exactly_b (channel link0_input)) λ _.
       tested IsBelow S7 _ _ _ _ (exactly_a (pos (4 * image.packet))) λ _.
       tested IsBelow S9 (s.phase == 0) (t.phase == 0) _ _ (λ e. rw h.phase e) λ _.
       packet x)))))
-  rule_follows at next Prod edge = computes (at_ends product) (at_ends_below product products_between)
-  rule_follows at next Gt edge = also_numbers _ _ (given s t h _ _ (kind_below-self truth_value))
-  rule_follows at next Wsub edge =
-      also_known_a _ _ (also_known_b _ _ (pointer_a_then _ _ λ p q part. number_b_then _ _ λ b d in_b.
-      words_then p q b d _ _ part in_b.low in_b.ordered in_b.high λ w v is.
-      given s t h (kind.Ptr w.0 w.1) (kind.Ptr v.0 v.1) (nats_below w v is.low is.high)))
   rule_follows at next Output edge =
       also_known_a _ _ (also_known_b _ _ (also_known_c _ _ (number_a_then _ _ λ a b in_a. also_number_b _ _ (one_word_c_then _ _ λ x.
       bind IsBelow IsSent _ _ _ _ (words_sent a b in_a) λ n m sent. sending x n m sent.0 sent.1))))
-  rule_follows at next Sub edge = computes (at_ends difference) (at_ends_below difference differences_between)
-  rule_follows at next Seterr edge = h
-  rule_follows at next Csub0 edge = also_numbers _ _ (popped s t h)
   rule_follows at next Stopp edge = tested IsBelow S9 (s.phase == 2) (t.phase == 2) (Ok s) (Ok t) (λ e. rw h.phase e) (λ _. h)
-  rule_follows at next Rem edge = computes remainders remainders_below
+  -- ends of loops
   rule_follows at next Lend edge =
       also_known_a _ _ (also_known_b _ _ (also_number_a _ _ (also IsBelow (pointer s.b) (pointer t.b) _ _ (both IsPart _ _ (pointer_follows s.b t.b h.b g.b))
       (same_then (found S5 (row_ended_at image at)) _ _ λ row.
       tested IsBelow S5 _ _ _ _ (ends_here row next) λ _. ends_turn edge row))))
-  rule_follows at next Div edge = computes quotients quotients_below
-  rule_follows at next BitNot edge = replaces (λ a. kind.Int (negsuc 0 -ℤ a.1) (negsuc 0 -ℤ a.0)) complements_below
-  rule_follows at next BitXor edge = also_numbers _ _ (given s t h _ _ full_self)
-  rule_follows at next Sb edge =
-      also_known_a _ _ (also_known_b _ _ (byte_pointer_a_then _ _ λ p q part. also_number_b _ _
-      (unless_free (words_of_bytes p) (words_of_bytes q) _ _ (words_part p q part) λ free.
-      popped_two _ _ (blurs s t h (words_of_bytes p) (words_of_bytes q) (words_part p q part)))))
-  rule_follows at next Shr edge = shifts shifted_down shifted_down_below
-  rule_follows at next Shl edge = shifts shifted_up (λ b a d c counts in_b in_a. shifted_up_below b a d c in_b in_a)
-  rule_follows at next Mint edge = pushed s t h _ _ (kind_below-self (exactly least_integer))
-  rule_follows at next BitAnd edge = computes conjunctions conjunctions_below
+  -- move
   rule_follows at next MoveBytes edge =
       tested IsBelow S11 (has_move image.version) (has_move image.version) _ _ (λ e. e) λ _.
       also_known_a _ _ (also_known_b _ _ (also_known_c _ _ (number_a_then _ _ λ a b in_a. one_word_b_then _ _ λ x. one_word_c_then _ _ λ y.
       tested IsBelow S7 _ _ _ _ (λ e. (move_length a b in_a e).0) λ e. moving a b x y (move_length a b in_a e).1)))
-  rule_follows at next BitOr edge = also_numbers _ _ (given s t h _ _ full_self)
-  rule_follows at next Sum edge = computes (at_ends sum_of) (at_ends_below sum_of sums_between)
-  rule_follows at next Mul edge = computes (at_ends product) (at_ends_below product products_between)
 
 -- ---- entering, and the whole
 

@@ -15,7 +15,7 @@ use Rattle.tp_state.specs.Order.{kind_below}
 use Rattle.tp_state.proofs.OrderLemmas.{int_low, int_high}
 use Rattle.tp_state.specs.Sound.{IsRange, IsSoundKind}
 use Rattle.tp_rules.proofs.Ranges.{IsWithin}
-use Rattle.tp_rules.proofs.Results.{quotients_below, remainders_below, conjunctions_below, shifted_up_below, shifted_down_below}
+use Rattle.tp_rules.proofs.Results.{at_least_zero, above_zero, quotients_below, remainders_below, conjunctions_below, shifted_up_below, shifted_down_below}
 
 -- a range within itself
 pub itself : (a : ℤ × ℤ) → IsRange a.0 a.1 → IsWithin a a
@@ -41,7 +41,7 @@ has_range (kind.Int a b) kind.Undef h g r f = absurd (search rules)
 has_range (kind.Int a b) (kind.Ptr c d) h g r f = absurd (search rules)
 has_range (kind.Int a b) (kind.BytePtr c d) h g r f = absurd (search rules)
 
-full_range : IsSoundKind full
+pub full_range : IsSoundKind full
 full_range = record { least = omega (arith, ints); ordered = omega (arith, ints); greatest = omega (arith, ints) }
 
 pub range_has : (a b : ℤ) → a ≤ℤ b → IsSoundKind (range a b)
@@ -100,15 +100,12 @@ quotients_single y x in_y in_x =
 pub quotients_has : (b a : ℤ × ℤ) → IsOne b → IsOne a → IsSoundKind (quotients b a)
 quotients_has = result_has quotients quotients_below refl quotients_single
 
-at_least_one : (z : ℤ) → int_lt (pos 0) z ≡ true → pos 1 ≤ℤ z
-at_least_one z e = grind (arith, ints, nat_tests)
-
 remainders_single : (y x : ℤ) → IsRange y y → IsRange x x → IsSoundKind (remainders (y, y) (x, x))
 remainders_single y x in_y in_x =
     ordered_in_full (remainders (y, y) (x, x)) (remainders_below (y, y) (x, x) (least_integer, greatest_integer) (least_integer, greatest_integer) (all_numbers (y, y) in_y) (all_numbers (x, x) in_x)) (by_test (is_positive (x, x)) refl (int_le (pos 0) y))
   where
     some : is_positive (x, x) ≡ true → pos 1 ≤ℤ x
-    some e = at_least_one x ((and_parts (int_eq x x) (int_lt (pos 0) x) e).1)
+    some e = above_zero x ((and_parts (int_eq x x) (int_lt (pos 0) x) e).1)
 
     by_test : (p : Bool) → is_positive (x, x) ≡ p → (q : Bool) (a b : ℤ) → (if not p then full else if q then kind.Int (pos 0) (x -ℤ pos 1) else kind.Int (pos 1 -ℤ x) (x -ℤ pos 1)) ≡ kind.Int a b → a ≤ℤ b
     by_test true f true a b e = let more = some f in let same : pos 0 ≡ a = cc in let also : x -ℤ pos 1 ≡ b = cc in omega (arith, ints)
@@ -118,18 +115,15 @@ remainders_single y x in_y in_x =
 pub remainders_has : (b a : ℤ × ℤ) → IsOne b → IsOne a → IsSoundKind (remainders b a)
 remainders_has = result_has remainders remainders_below refl remainders_single
 
-from_zero : (z : ℤ) → int_le (pos 0) z ≡ true → pos 0 ≤ℤ z
-from_zero z e = grind (arith, ints, nat_tests)
-
 conjunctions_single : (y x : ℤ) → IsRange y y → IsRange x x → IsSoundKind (conjunctions (y, y) (x, x))
 conjunctions_single y x in_y in_x =
     ordered_in_full (conjunctions (y, y) (x, x)) (conjunctions_below (y, y) (x, x) (least_integer, greatest_integer) (least_integer, greatest_integer) (all_numbers (y, y) in_y) (all_numbers (x, x) in_x)) (by_test (int_le (pos 0) x) refl (int_le (pos 0) y) refl (int_lt y x))
   where
     by_test : (p : Bool) → int_le (pos 0) x ≡ p → (q : Bool) → int_le (pos 0) y ≡ q → (r : Bool) (a b : ℤ) → (if p then kind.Int (pos 0) (if q && r then y else x) else if q then kind.Int (pos 0) y else full) ≡ kind.Int a b → a ≤ℤ b
-    by_test true f true g true a b e = let more = from_zero y g in let same : pos 0 ≡ a = cc in let also : y ≡ b = cc in omega (arith, ints)
-    by_test true f true g false a b e = let more = from_zero x f in let same : pos 0 ≡ a = cc in let also : x ≡ b = cc in omega (arith, ints)
-    by_test true f false g r a b e = let more = from_zero x f in let same : pos 0 ≡ a = cc in let also : x ≡ b = cc in omega (arith, ints)
-    by_test false f true g r a b e = let more = from_zero y g in let same : pos 0 ≡ a = cc in let also : y ≡ b = cc in omega (arith, ints)
+    by_test true f true g true a b e = let more = at_least_zero y g in let same : pos 0 ≡ a = cc in let also : y ≡ b = cc in omega (arith, ints)
+    by_test true f true g false a b e = let more = at_least_zero x f in let same : pos 0 ≡ a = cc in let also : x ≡ b = cc in omega (arith, ints)
+    by_test true f false g r a b e = let more = at_least_zero x f in let same : pos 0 ≡ a = cc in let also : x ≡ b = cc in omega (arith, ints)
+    by_test false f true g r a b e = let more = at_least_zero y g in let same : pos 0 ≡ a = cc in let also : y ≡ b = cc in omega (arith, ints)
     by_test false f false g r a b e = let same : least_integer ≡ a = cc in let also : greatest_integer ≡ b = cc in omega (arith, ints)
 
 pub conjunctions_has : (b a : ℤ × ℤ) → IsOne b → IsOne a → IsSoundKind (conjunctions b a)
@@ -149,7 +143,7 @@ counts_within : (a : ℤ × ℤ) → are_shift_counts a ≡ true → IsOne a →
 counts_within a e r =
     let o = r.ordered in
     let parts = and_parts (is_shift_count a.0) (is_shift_count a.1) e in
-    record { least = r.least; low = from_zero a.0 ((and_parts (int_le (pos 0) a.0) (int_le a.0 (pos 31)) parts.0).0); ordered = o; high = up_to (a.1) ((and_parts (int_le (pos 0) a.1) (int_le a.1 (pos 31)) parts.1).1); greatest = r.greatest }
+    record { least = r.least; low = at_least_zero a.0 ((and_parts (int_le (pos 0) a.0) (int_le a.0 (pos 31)) parts.0).0); ordered = o; high = up_to (a.1) ((and_parts (int_le (pos 0) a.1) (int_le a.1 (pos 31)) parts.1).1); greatest = r.greatest }
   where
     up_to : (z : ℤ) → int_le z (pos 31) ≡ true → z ≤ℤ pos 31
     up_to z e = grind (arith, ints, nat_tests)

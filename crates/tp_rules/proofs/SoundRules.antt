@@ -1,5 +1,5 @@
 -- What is known after an instruction is a state of the image's worker again, and its numbers are words.
-use Rattle.std.proofs.Common.{◌≡◌, ℕ, ◌+◌, ◌-◌, ◌<◌, ◌≤◌, nat_le, nat_lt, min, Bool, true, false, ◌&&◌, ◌==◌, if◌then◌else◌, ℤ, pos, negsuc, ◌+ℤ◌, ◌-ℤ◌, ◌≤ℤ◌, ◌*◌, ◌^◌, FitsSigned, w32, List, map, replicate, length, length-set, slice_get, slice_set, Option, Some, None, Result, Ok, Err, refl, ◌∙◌, subst, arith}
+use Rattle.std.proofs.Common.{◌≡◌, ℕ, ◌+◌, ◌-◌, ◌<◌, ◌≤◌, nat_le, nat_lt, Bool, true, false, ◌&&◌, ◌==◌, if◌then◌else◌, ℤ, pos, negsuc, ◌+ℤ◌, ◌-ℤ◌, ◌≤ℤ◌, ◌*◌, ◌^◌, FitsSigned, w32, List, map, replicate, length, length-set, slice_get, slice_set, Option, Some, None, Result, Ok, Err, refl, ◌∙◌, arith}
 use Rattle.std.specs.Prelude.{IfOk, All}
 use Rattle.std.specs.Ordering.{int_eq}
 use Rattle.std.proofs.lemmas.Int.{ints}
@@ -29,14 +29,15 @@ use Rattle.tp_state.specs.Kinds.{full, exactly, known, number, pointer, byte_poi
 use Rattle.tp_state.specs.CellRules.{cell_at, cells_from, with_cells, are_free, are_defined, is_defined, written, blurred, copied, read}
 use Rattle.tp_state.specs.Rules.{rule, local, words_further, one_number, two_numbers, words_on, bytes_on, push, pop, pop_two, set_areg, give, no_registers, with_word, with_blurred, between, given_way, below_wptr, are_apart, descheduled, frame_at, message_in, moved, with_block, leaving, truth_value, quotients, remainders, conjunctions, shifted_up, shifted_down, are_shift_counts, sum_of, difference, product}
 use Rattle.tp_state.specs.After.{after, entering, is_known}
-use Rattle.tp_state.proofs.CellLemmas.{length-with_cells, length-cells_from, blurred_part}
+use Rattle.tp_state.proofs.CellLemmas.{length-with_cells, length-cells_from}
 use Rattle.tp_state.specs.Conditions.{HasGoodLoops}
 use Rattle.tp_state.specs.Sound.{IsRange, AreInOrder, IsSoundKind, IsSoundCell, IsSound, LoadsWord}
 use Rattle.tp_rules.proofs.Follows.{Follows}
 use Rattle.tp_rules.proofs.Asked.{IsNarrower, AreWithin, IsPart, known_follows, number_follows, pointer_follows, byte_pointer_follows, words_on_follow, bytes_on_follow}
 use Rattle.tp_rules.proofs.Ranges.{IsWithin}
 use Rattle.tp_rules.proofs.Rules.{read_word, number_at}
-use Rattle.tp_rules.proofs.SoundResults.{IsOne, range_has, at_ends_has, quotients_has, remainders_has, conjunctions_has, shifted_up_has, shifted_down_has}
+use Rattle.tp_rules.proofs.Cells.{blur_long}
+use Rattle.tp_rules.proofs.SoundResults.{IsOne, full_range, range_has, at_ends_has, quotients_has, remainders_has, conjunctions_has, shifted_up_has, shifted_down_has}
 use Rattle.tp_state.proofs.KindLemmas.{word_in_is}
 use Rattle.tp_state.proofs.OrderLemmas.{kind_below-self}
 
@@ -182,16 +183,6 @@ module _ (rows : List LoopRow) (cells : List Cell) (words : All (IsSoundCell row
 words_mapped : (rows : List LoopRow) (f : Cell → Cell) → ((c : Cell) → IsSoundCell rows c → IsSoundCell rows (f c)) → (cells : List Cell) → All (IsSoundCell rows) cells → All (IsSoundCell rows) (map f cells)
 words_mapped rows f keeps cells words = All-map (IsSoundCell rows) f cells (λ i d lt. keeps _ (words i d lt))
 
-blurred_inside : (cells : List Cell) (x n : ℕ) → x + n ≤ length cells → length (with_cells cells x (map blurred (cells_from cells x n))) ≡ length cells
-blurred_inside cells x n room =
-    let long : length (map blurred (cells_from cells x n)) ≡ n = length-map (cells_from cells x n) blurred ∙ length-cells_from cells x n room in
-    length-with_cells cells x (map blurred (cells_from cells x n)) (omega (arith, long, room))
-
-length-blurred : (cells : List Cell) (x n : ℕ) → length (with_cells cells x (map blurred (cells_from cells x n))) ≡ length cells
-length-blurred cells x n =
-    subst (λ new. length new ≡ length cells) (blurred_part cells x n)
-    (blurred_inside cells (min x (length cells)) (min n (length cells - min x (length cells))) (omega arith))
-
 -- ---- states
 
 module _ (image : ImageValue) where
@@ -245,7 +236,7 @@ module _ (image : ImageValue) where
 
   blurs : (t : State) (w : ℕ × ℕ) → IsSound image t → IsSound image (with_blurred w t)
   unfolding between
-  blurs t w h = new_cells t _ h (length-blurred t.cells w.0 (w.1 + 1 - w.0)) (words_with image.loops t.cells h.words w.0 _ (words_mapped image.loops blurred (blurred_has image.loops) _ (words_from image.loops t.cells h.words w.0 (w.1 + 1 - w.0))))
+  blurs t w h = new_cells t _ h (blur_long t.cells w.0 (w.1 + 1 - w.0)) (words_with image.loops t.cells h.words w.0 _ (words_mapped image.loops blurred (blurred_has image.loops) _ (words_from image.loops t.cells h.words w.0 (w.1 + 1 - w.0))))
 
   one_or_more : (t : State) (w : ℕ × ℕ) (k : Kind) → IsSound image t → IsSoundKind k → IsSound image (if w.0 == w.1 then with_word w.0 k t else with_blurred w t)
   one_or_more t w k h ends = by_test (w.0 == w.1)
@@ -341,9 +332,6 @@ module _ (image : ImageValue) (small : image.workspace ≤ 512) (are : All IsRow
 
   loaded : (n : ℤ) → FitsSigned w32 n → IsRange n n
   loaded n fits = few n n (grind (arith, ints)) (omega (arith, ints)) (grind (arith, ints))
-
-  full_range : IsSoundKind full
-  full_range = few least_integer greatest_integer (omega (arith, ints)) (omega (arith, ints)) (omega (arith, ints))
 
   complements_have : (a : ℤ × ℤ) → IsOne a → IsSoundKind (kind.Int (negsuc 0 -ℤ a.1) (negsuc 0 -ℤ a.0))
   complements_have a r = let l = r.least in let o = r.ordered in let g = r.greatest in few (negsuc 0 -ℤ a.1) (negsuc 0 -ℤ a.0) (omega (arith, ints)) (omega (arith, ints)) (omega (arith, ints))
@@ -460,49 +448,55 @@ module _ (image : ImageValue) (small : image.workspace ≤ 512) (are : All IsRow
 
   pub rule_sound : (at next : ℕ) (instr : Instr) (edge : Edge) → LoadsWord instr → IfOk (rule image at next instr edge t) (IsSound image)
   unfolding rule
-  rule_sound at next (Jump n) edge loads = gives_way image t h
-  rule_sound at next (Ldlp n) edge loads = with_fact (IsSound image) (λ x. x < 2 ^ 32) (local image t n) _ (local_place image small t n) λ x lt. pushes (kind.Ptr x x) (record { ordered = omega arith; greatest = lt })
-  rule_sound at next (Ldnl n) edge loads = search (any, also, read_one_then, sets) depth 14
+  -- constants, locals, Wptr
   rule_sound at next (Ldc n) edge loads = pushes (exactly n) (loaded n loads)
-  rule_sound at next (Ldnlp n) edge loads = with_fact (IsSound image) IsSoundKind _ _ (words_further_has image small n t.a a_words) λ k ends. sets k ends
+  rule_sound at next Mint edge loads = pushes _ least_ends
   rule_sound at next (Ldl n) edge loads = search (any, read_then, pushes) depth 14
+  rule_sound at next (Stl n) edge loads = search (known_a_then, any, also, puts_one) depth 14
+  rule_sound at next (Ldlp n) edge loads = with_fact (IsSound image) (λ x. x < 2 ^ 32) (local image t n) _ (local_place image small t n) λ x lt. pushes (kind.Ptr x x) (record { ordered = omega arith; greatest = lt })
+  rule_sound at next (Ajw n) edge loads = with_fact (IsSound image) (λ x. (5 ≤ x) × (x < image.workspace)) _ _ (framed image _) λ x frame. moves_frame x frame
+  rule_sound at next Rev edge loads = with_fact (IsSound image) IsSoundKind _ _ (known_has t.a a_words) λ a a_ends. with_fact (IsSound image) IsSoundKind _ _ (known_has t.b b_words) λ b b_ends. registers image t b a t.c h b_ends a_ends h.c
+  rule_sound at next Seterr edge loads = h
+  -- arithmetic, bits, shifts, comparisons
   rule_sound at next (Adc n) edge loads = with_fact (IsSound image) IsOne (one_number t) _ (one_number_has t a_words) λ a is. adds n a is
+  rule_sound at next Add edge loads = computes (at_ends sum_of) (λ b a in_b in_a. at_ends_has sum_of b a)
+  rule_sound at next Sub edge loads = computes (at_ends difference) (λ b a in_b in_a. at_ends_has difference b a)
+  rule_sound at next Sum edge loads = computes (at_ends sum_of) (λ b a in_b in_a. at_ends_has sum_of b a)
+  rule_sound at next Diff edge loads = computes (at_ends difference) (λ b a in_b in_a. at_ends_has difference b a)
+  rule_sound at next Mul edge loads = computes (at_ends product) (λ b a in_b in_a. at_ends_has product b a)
+  rule_sound at next Prod edge loads = computes (at_ends product) (λ b a in_b in_a. at_ends_has product b a)
+  rule_sound at next Div edge loads = computes quotients quotients_has
+  rule_sound at next Rem edge loads = computes remainders remainders_has
+  rule_sound at next BitNot edge loads = replaces (λ a. kind.Int (negsuc 0 -ℤ a.1) (negsuc 0 -ℤ a.0)) complements_have
+  rule_sound at next BitAnd edge loads = computes conjunctions conjunctions_has
+  rule_sound at next BitOr edge loads = search (also, full_given) depth 14
+  rule_sound at next BitXor edge loads = search (also, full_given) depth 14
+  rule_sound at next Shl edge loads = shifts shifted_up (λ b a counts in_b in_a. shifted_up_has b a in_b in_a)
+  rule_sound at next Shr edge loads = shifts shifted_down shifted_down_has
+  rule_sound at next (Eqc n) edge loads = search (also, truth_set) depth 14
+  rule_sound at next Gt edge loads = search (also, truth_given) depth 14
+  rule_sound at next Csub0 edge loads = search (also, pop_one) depth 14
+  -- pointers and bytes
+  rule_sound at next (Ldnl n) edge loads = search (any, also, read_one_then, sets) depth 14
+  rule_sound at next (Stnl n) edge loads = search (known_b_then, any, also, puts) depth 14
+  rule_sound at next (Ldnlp n) edge loads = with_fact (IsSound image) IsSoundKind _ _ (words_further_has image small n t.a a_words) λ k ends. sets k ends
+  rule_sound at next Wsub edge loads = also (known t.a) _ (also (known t.b) _ (with_fact (IsSound image) IsUp (pointer t.a) _ (pointer_has t.a a_words) λ p up. with_fact (IsSound image) IsOne (number t.b) _ (number_has t.b b_words) λ n is. words_then p n _ up is.ordered λ w are. pointed w are))
+  rule_sound at next Bsub edge loads = also (known t.a) _ (also (known t.b) _ (with_fact (IsSound image) IsUp (byte_pointer t.a) _ (byte_pointer_has t.a a_words) λ p up. with_fact (IsSound image) IsOne (number t.b) _ (number_has t.b b_words) λ n is. bytes_then p n _ up is.ordered λ w are. byte_pointed w are))
+  rule_sound at next Lb edge loads = search (any, also, byte_set) depth 14
+  rule_sound at next Sb edge loads = search (any, also, puts_byte) depth 14
+  -- jumps, messages, stopp
+  rule_sound at next (Jump n) edge loads = gives_way image t h
   rule_sound at next (Cj n) Taken loads = search (also, zero_set) depth 14
   rule_sound at next (Cj n) Next loads = search (also, pop_one) depth 14
   rule_sound at next (Cj n) Back loads = search (also, pop_one) depth 14
   rule_sound at next (Cj n) Out loads = search (also, pop_one) depth 14
-  rule_sound at next (Ajw n) edge loads = with_fact (IsSound image) (λ x. (5 ≤ x) × (x < image.workspace)) _ _ (framed image _) λ x frame. moves_frame x frame
-  rule_sound at next (Eqc n) edge loads = search (also, truth_set) depth 14
-  rule_sound at next (Stl n) edge loads = search (known_a_then, any, also, puts_one) depth 14
-  rule_sound at next (Stnl n) edge loads = search (known_b_then, any, also, puts) depth 14
-  rule_sound at next Rev edge loads = with_fact (IsSound image) IsSoundKind _ _ (known_has t.a a_words) λ a a_ends. with_fact (IsSound image) IsSoundKind _ _ (known_has t.b b_words) λ b b_ends. registers image t b a t.c h b_ends a_ends h.c
-  rule_sound at next Lb edge loads = search (any, also, byte_set) depth 14
-  rule_sound at next Bsub edge loads = also (known t.a) _ (also (known t.b) _ (with_fact (IsSound image) IsUp (byte_pointer t.a) _ (byte_pointer_has t.a a_words) λ p up. with_fact (IsSound image) IsOne (number t.b) _ (number_has t.b b_words) λ n is. bytes_then p n _ up is.ordered λ w are. byte_pointed w are))
-  rule_sound at next Diff edge loads = computes (at_ends difference) (λ b a in_b in_a. at_ends_has difference b a)
-  rule_sound at next Add edge loads = computes (at_ends sum_of) (λ b a in_b in_a. at_ends_has sum_of b a)
   rule_sound at next Input edge loads = search (any, also, (λ (x : ℕ). packet_comes image t x h)) depth 14
-  rule_sound at next Prod edge loads = computes (at_ends product) (λ b a in_b in_a. at_ends_has product b a)
-  rule_sound at next Gt edge loads = search (also, truth_given) depth 14
-  rule_sound at next Wsub edge loads = also (known t.a) _ (also (known t.b) _ (with_fact (IsSound image) IsUp (pointer t.a) _ (pointer_has t.a a_words) λ p up. with_fact (IsSound image) IsOne (number t.b) _ (number_has t.b b_words) λ n is. words_then p n _ up is.ordered λ w are. pointed w are))
   rule_sound at next Output edge loads = search (any, also, sends) depth 16
-  rule_sound at next Sub edge loads = computes (at_ends difference) (λ b a in_b in_a. at_ends_has difference b a)
-  rule_sound at next Seterr edge loads = h
-  rule_sound at next Csub0 edge loads = search (also, pop_one) depth 14
   rule_sound at next Stopp edge loads = search (also, h) depth 14
-  rule_sound at next Rem edge loads = computes remainders remainders_has
+  -- ends of loops
   rule_sound at next Lend edge loads = search (any, also, ends_turn edge) depth 14
-  rule_sound at next Div edge loads = computes quotients quotients_has
-  rule_sound at next BitNot edge loads = replaces (λ a. kind.Int (negsuc 0 -ℤ a.1) (negsuc 0 -ℤ a.0)) complements_have
-  rule_sound at next BitXor edge loads = search (also, full_given) depth 14
-  rule_sound at next Sb edge loads = search (any, also, puts_byte) depth 14
-  rule_sound at next Shr edge loads = shifts shifted_down shifted_down_has
-  rule_sound at next Shl edge loads = shifts shifted_up (λ b a counts in_b in_a. shifted_up_has b a in_b in_a)
-  rule_sound at next Mint edge loads = pushes _ least_ends
-  rule_sound at next BitAnd edge loads = computes conjunctions conjunctions_has
+  -- move
   rule_sound at next MoveBytes edge loads = search (any, also, (λ (n x y : ℕ). copies_come image t n x y h)) depth 14
-  rule_sound at next BitOr edge loads = search (also, full_given) depth 14
-  rule_sound at next Sum edge loads = computes (at_ends sum_of) (λ b a in_b in_a. at_ends_has sum_of b a)
-  rule_sound at next Mul edge loads = computes (at_ends product) (λ b a in_b in_a. at_ends_has product b a)
 
 -- ---- entering, and the whole
 

@@ -21,7 +21,7 @@ use Rattle.tp_step.specs.Memory.{Memory, with_cells, with_bytes, undefined, byte
 use Rattle.tp_step.specs.State.{State, mem_start, in_workspace, is_word, load, store, local, descheduled}
 use Rattle.tp_step.specs.Effects.{effect, is_packet, has_move, may_move, is_result, is_trace, sent_on, divided, turn_ended}
 use Rattle.tp_step.specs.Steps.{code_byte, performed, executed, step, steps}
-use Rattle.tp_step.specs.Writes.{Stretch, stretch, at, below_wptr, written, instruction_ended, written_next, IsOutside, ChangesOnly, LiesIn, workspace, Writes}
+use Rattle.tp_step.specs.Writes.{Stretch, stretch, where_defined, below_wptr, written, instruction_ended, written_next, IsOutside, ChangesOnly, LiesIn, workspace, Writes}
 use Rattle.tp_step.proofs.MemoryLemmas.{cell_below, cell_above}
 
 -- ---- memory outside a stretch
@@ -183,7 +183,7 @@ stnl_writes image s n =
     bind image _ s.memory s.breg _ λ b is_b.
     bind image _ s.memory (store image (words_on a n) b s) _ λ t is.
     let there = stored image (words_on a n) b s t is in
-    subst (λ r. Writes image (at r (λ a. stretch (words_on a n) 4)) s.memory t.memory) (sym is_a)
+    subst (λ r. Writes image (where_defined r (λ a. stretch (words_on a n) 4 ∷ [])) s.memory t.memory) (sym is_a)
     (one image (words_on a n) 4 s.memory t.memory (in_word image (words_on a n) there.0) (λ x off. ap (λ (u : State). u.memory x) there.1 ∙ word_off s.memory (words_on a n) b x off))
 
 sb_writes : (image : ImageValue) (s : State) → After image (written Sb s) s.memory (effect image Sb s)
@@ -192,7 +192,7 @@ sb_writes image s =
     bind image _ s.memory s.areg _ λ a is_a.
     bind image _ s.memory s.breg _ λ b is_b.
     when image _ s.memory (in_workspace image a 1) _ λ inside.
-    subst (λ r. Writes image (at r (λ a. stretch a 1)) s.memory (with_bytes s.memory a (b % 256 ∷ []))) (sym is_a)
+    subst (λ r. Writes image (where_defined r (λ a. stretch a 1 ∷ [])) s.memory (with_bytes s.memory a (b % 256 ∷ []))) (sym is_a)
     (one image a 1 s.memory (with_bytes s.memory a (b % 256 ∷ [])) inside (λ x off. bytes_off s.memory a 1 (b % 256 ∷ []) x refl off))
 
 move_writes : (image : ImageValue) (s : State) → After image (written MoveBytes s) s.memory (effect image MoveBytes s)
@@ -204,8 +204,8 @@ move_writes image s =
     when image _ s.memory (has_move image.version && may_move image n target source) _ λ may.
     bind image _ s.memory (bytes_at s.memory source n) _ λ bytes are.
     let inside : in_workspace image target n ≡ true = target_inside image n target source may in
-    subst (λ r. Writes image (option_map_or (λ n. at s.breg (λ target. stretch target n)) r []) s.memory (with_bytes s.memory target bytes)) (sym is_n)
-    (subst (λ r. Writes image (at r (λ target. stretch target n)) s.memory (with_bytes s.memory target bytes)) (sym is_target)
+    subst (λ r. Writes image (where_defined r (λ n. where_defined s.breg (λ target. stretch target n ∷ []))) s.memory (with_bytes s.memory target bytes)) (sym is_n)
+    (subst (λ r. Writes image (where_defined r (λ target. stretch target n ∷ [])) s.memory (with_bytes s.memory target bytes)) (sym is_target)
     (one image target n s.memory (with_bytes s.memory target bytes) inside (λ x off. bytes_off s.memory target n bytes x (length-bytes_at s.memory source n bytes are) off)))
   where
     target_inside : (image : ImageValue) (n target source : ℕ) → (has_move image.version && may_move image n target source) ≡ true → in_workspace image target n ≡ true
@@ -255,8 +255,8 @@ input_writes image s =
     taken n target is_n is_target (Some t) is there inside =
         let rest = rested image (received n target) t is in
         let bytes : length (take n s.to_come) ≡ n = length-take-le n s.to_come there in
-        subst (λ r. Writes image (below_wptr s ∷ option_map_or (λ n. at s.creg (λ target. stretch target n)) r []) s.memory t.memory) (sym is_n)
-        (subst (λ r. Writes image (below_wptr s ∷ at r (λ target. stretch target n)) s.memory t.memory) (sym is_target)
+        subst (λ r. Writes image (below_wptr s ∷ where_defined r (λ n. where_defined s.creg (λ target. stretch target n ∷ []))) s.memory t.memory) (sym is_n)
+        (subst (λ r. Writes image (below_wptr s ∷ where_defined r (λ target. stretch target n ∷ [])) s.memory t.memory) (sym is_target)
         (two image (s.wptr - 20) 20 target n s.memory t.memory rest.0 inside
         (λ x off also. ap (λ (m : Memory). m x) rest.1 ∙ undefined_off (with_bytes s.memory target (take n s.to_come)) (s.wptr - 20) 20 x off ∙ bytes_off s.memory target n (take n s.to_come) x bytes also)))
 
@@ -297,7 +297,7 @@ lend_writes image s range =
     let next : words_on block (pos 1) ≡ block + 4 = next_word image block range first in
     let there = stored image (words_on block (pos 1)) left s t is in
     let second : is_word image (block + 4) ≡ true = subst (λ a. is_word image a ≡ true) next there.0 in
-    subst (λ r. After image (below_wptr s ∷ at r (λ block. stretch block 8)) s.memory (turn_ended image block index left (signed back) t)) (sym is_block)
+    subst (λ r. After image (below_wptr s ∷ where_defined r (λ block. stretch block 8 ∷ [])) s.memory (turn_ended image block index left (signed back) t)) (sym is_block)
     (lend_turn image s t block index left (signed back) range first second (ap (λ (u : State). u.wptr) there.1)
     (λ x off. ap (λ (u : State). u.memory x) there.1 ∙ word_off s.memory (words_on block (pos 1)) left x (subst (λ a. IsOff a 4 x) (sym next) (rear block x off))))
   where

@@ -20,9 +20,9 @@ pub record Stretch : Type 0 where
 abbrev pub stretch : ℕ → ℕ → Stretch
 stretch from bytes = record { from = from; bytes = bytes }
 
--- what stands where a register points, if it is defined
-abbrev pub at : Option ℕ → (ℕ → Stretch) → List Stretch
-at register there = option_map_or (λ a. there a ∷ []) register []
+-- what the number in a register stands for; nothing where it is undefined
+abbrev pub where_defined : Option ℕ → (ℕ → List Stretch) → List Stretch
+where_defined register there = option_map_or there register []
 
 -- the five words below Wptr
 abbrev pub below_wptr : State → Stretch
@@ -33,15 +33,15 @@ abbrev pub written : Instr → State → List Stretch
 -- local n
 written (Stl n) s = stretch (local s n) 4 ∷ []
 -- the word n words on from Areg
-written (Stnl n) s = at s.areg (λ a. stretch (words_on a n) 4)
+written (Stnl n) s = where_defined s.areg (λ a. stretch (words_on a n) 4 ∷ [])
 -- the byte at Areg
-written Sb s = at s.areg (λ a. stretch a 1)
+written Sb s = where_defined s.areg (λ a. stretch a 1 ∷ [])
 -- Areg bytes at Breg
-written MoveBytes s = option_map_or (λ n. at s.breg (λ target. stretch target n)) s.areg []
+written MoveBytes s = where_defined s.areg (λ n. where_defined s.breg (λ target. stretch target n ∷ []))
 -- the index and the count at Breg, and a place to deschedule
-written Lend s = below_wptr s ∷ at s.breg (λ block. stretch block 8)
+written Lend s = below_wptr s ∷ where_defined s.breg (λ block. stretch block 8 ∷ [])
 -- Areg bytes at Creg, and a place to deschedule
-written Input s = below_wptr s ∷ option_map_or (λ n. at s.creg (λ target. stretch target n)) s.areg []
+written Input s = below_wptr s ∷ where_defined s.areg (λ n. where_defined s.creg (λ target. stretch target n ∷ []))
 -- places to deschedule
 written Output s = below_wptr s ∷ []
 written (Jump n) s = below_wptr s ∷ []
