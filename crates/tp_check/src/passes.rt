@@ -112,6 +112,7 @@ impl Passes {
         // This is known of every image.
         ensures in_range { InRange image.now }
     {
+        // A look into the image tells that it is in range.
         let _ = &image.code;
         let places = places_of(listing);
         let table = Table::first(alloc, image, places)?;

@@ -1,4 +1,4 @@
--- States that are sound: what the rules keep, and what they need so that where less is known, no more is.
+-- States that are sound: what the rules keep, and what they need to keep the order.
 use Rattle.std.specs.Prelude.{◌≡◌, ℕ, ◌^◌, ◌<◌, ◌≤◌, ℤ, ◌≤ℤ◌, List, slice_get, Some, All, FitsSigned}
 use Rattle.std.specs.Int.{w32}
 use Rattle.tp_decode.specs.declared.instr.Instr.{Instr}
@@ -42,7 +42,8 @@ IsSoundCell rows (cell.Index l) = HasRow rows l
 IsSoundCell rows (cell.Count l) = HasRow rows l
 IsSoundCell rows c = Unit {0}
 
--- a state of an image's worker, of which each part says something that can be
+-- a sound state: one of the image's worker, whose ranges are in order, whose numbers are words, and whose live loops have
+-- rows
 pub record IsSound (image : ImageValue) (s : State) : Type 0 where
   pub placed : IsPlaced image s
   pub a : IsSoundKind s.a
