@@ -1,22 +1,21 @@
 -- Upgrading an image changes neither what is known of it nor what it does.
-use Rattle.std.proofs.Common.{◌≡◌, ℕ, zero, suc, ◌+◌, ◌≤◌, ◌↔◌, Bool, true, false, List, [], ◌∷◌, length, Option, Some, None, Result, Ok, Err, refl, ap, sym, ◌∙◌, subst, arith}
+use Rattle.std.proofs.Common.{◌≡◌, ℕ, zero, suc, ◌+◌, ◌≤◌, ◌↔◌, List, [], ◌∷◌, length, Option, Some, None, Result, Ok, Err, refl, sym, subst, arith}
 use Rattle.std.specs.Prelude.{slice_index_or}
 use Rattle.tp_decode.specs.declared.instr.Instr.{Instr}
-use Rattle.tp_decode.specs.declared.instr.Instr.TheVariants.{Jump, Ldlp, Ldnl, Ldc, Ldnlp, Ldl, Adc, Cj, Ajw, Eqc, Stl, Stnl, Rev, Lb, Bsub, Diff, Add, Input, Prod, Gt, Wsub, Output, Sub, Seterr, Csub0, Stopp, Rem, Lend, Div, BitNot, BitXor, Sb, Shr, Shl, Mint, BitAnd, MoveBytes, BitOr, Sum, Mul}
+use Rattle.tp_decode.specs.declared.instr.Instr.TheVariants.{MoveBytes}
 use Rattle.tp_decode.specs.declared.placed.Placed.{Placed}
 use Rattle.tp_decode.specs.declared.fault.DecodeFault.{DecodeFault}
 use Rattle.tp_decode.specs.Cutting.{Cut, cutting}
 use Rattle.tp_image.specs.declared.image.Version.{Version}
 use Rattle.tp_image.specs.declared.image.Version.TheVariants.{One, Two}
 use Rattle.tp_image.specs.Image.{ImageValue, InRange, most_initial}
-use Rattle.tp_image.specs.Limits.{most_code, least_workspace, most_workspace}
+use Rattle.tp_image.specs.Limits.{most_code, most_workspace}
 use Rattle.tp_image.specs.Upgrade.{upgraded}
 use Rattle.tp_image.specs.Text.{text, IsTextOf}
 use Rattle.tp_image.specs.Faults.{first_fault}
 use Rattle.tp_image.proofs.Bodies.{first_fault-text}
 use Rattle.tp_image.proofs.Unique.{one_image}
 use Rattle.tp_flow.specs.declared.edge.Edge.{Edge}
-use Rattle.tp_flow.specs.declared.edge.Edge.TheVariants.{Next, Taken, Back, Out}
 use Rattle.tp_flow.specs.declared.fault.FlowFault.{FlowFault}
 use Rattle.tp_flow.specs.FlowFaults.{first_flow_fault}
 use Rattle.tp_flow.specs.NestRanges.{ranges}
@@ -30,13 +29,12 @@ use Rattle.tp_state.specs.declared.fault.StateCode.{StateCode}
 use Rattle.tp_state.specs.declared.fault.StateCode.TheVariants.{S11}
 use Rattle.tp_state.specs.declared.fault.StateFault.{StateFault}
 use Rattle.tp_state.specs.Answer.{◌>>=◌, ◌>>◌, unless}
-use Rattle.tp_state.specs.Conditions.{IsPlaced}
 use Rattle.tp_state.specs.Kinds.{word_in, byte_in}
 use Rattle.tp_state.specs.Rules.{rule, local, words_on, bytes_on, words_further, frame_at, message_in, words_to_send, row_ended_at}
 use Rattle.tp_state.specs.After.{after, asked, entering, entered_at}
 use Rattle.tp_check.specs.Tables.{Table, HasPlacedStates}
 use Rattle.tp_check.specs.Passes.{placed, enter, go_along, edges_in, along, pass, passes, IsVerdict}
-use Rattle.tp_check.specs.EdgesRespect.{Respects, RespectsFrom, EveryEdgeRespects}
+use Rattle.tp_check.specs.EdgesRespect.{EveryEdgeRespects}
 use Rattle.tp_accept.specs.Acceptance.{IsAcceptable}
 use Rattle.tp_accept.specs.Verdict.{Allowed, answer_on, IsStateAnswer, IsFlowAnswer, IsCutAnswer, IsImageAnswer, IsTextAnswer, IsAnswer}
 use Rattle.tp_accept.specs.Ending.{IsPacket}
