@@ -42,6 +42,15 @@ pub(crate) fn register(text: &str) -> Result<Option<u32>> {
     }
 }
 
+/// The error flag.
+pub(crate) fn flag(text: &str) -> Result<bool> {
+    match text {
+        "0" => Ok(false),
+        "1" => Ok(true),
+        _ => Err(anyhow!("no flag: {text}")),
+    }
+}
+
 /// How far the worker is.
 pub(crate) fn phase(text: &str) -> Result<Phase> {
     match text {

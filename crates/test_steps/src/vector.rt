@@ -80,7 +80,7 @@ fn read_registers(iptr: &str, read: &[&str]) -> Result<Registers> {
         areg: fields::register(areg)?,
         breg: fields::register(breg)?,
         creg: fields::register(creg)?,
-        error: *flag == "1",
+        error: fields::flag(flag)?,
     })
 }
 
@@ -90,16 +90,22 @@ pub(crate) fn read(alloc: Global, text: &str) -> Result<Vector> {
     for field in text.split(' ') {
         read.push(field)?;
     }
-    let (front, back) = read.split_at_checked(8).context("no state")?;
+    let (front, back) = read.split_at_checked(8).context("no image")?;
+    let [_, image @ ..] = front else {
+        return Err(anyhow!("no image"));
+    };
+    let [_, words, _, _, _, iptr, _] = image else {
+        return Err(anyhow!("no image"));
+    };
     let [steps, registers @ .., phase, fill, differences, to_come] = back else {
         return Err(anyhow!("no state"));
     };
     Ok(Vector {
-        image: read_image_fields(alloc, &front[1..])?,
+        image: read_image_fields(alloc, image)?,
         steps: fields::number(steps)?,
-        registers: read_registers(front[6], registers)?,
+        registers: read_registers(iptr, registers)?,
         phase: fields::phase(phase)?,
-        cells: fields::cells(fields::number(front[2])?, fill, differences)?,
+        cells: fields::cells(fields::number(words)?, fill, differences)?,
         to_come: fields::bytes(alloc, to_come)?,
     })
 }

@@ -8,7 +8,7 @@ use Rattle.tp_step.specs.Steps.{steps}
 use Rattle.tp_step.specs.Runs.{start, Run, RunsAlone}
 use Rattle.tp_step.specs.Lasting.{Begins, Ends, TakesNothingBack}
 use Rattle.tp_step.proofs.StepLemmas.{steps_add, within_run, ends_in}
-use Rattle.tp_step.proofs.EffectsKeep.{steps_keep}
+use Rattle.tp_step.proofs.EffectsKeep.{IsKept, steps_keep}
 
 begins_more : (first all more : List ℕ) → Begins first all → Begins first (all ++ more)
 begins_more first all more b = record { rest = b.rest ++ more; is = ap (λ xs. xs ++ more) b.is ∙ append_assoc first b.rest more }
@@ -39,16 +39,17 @@ record HasLasted (before : State) (error : Bool) (phase : ℕ) (to_come sent tra
 same_lasts : (s : State) → HasLasted s s.error s.phase s.to_come s.sent s.traced
 same_lasts s = record { flag = λ is. is; phase_up = omega arith; left = record { taken = []; is = refl }; result = begins_same s.sent; trace = begins_same s.traced }
 
+lasts : (image : ImageValue) (before : State) → IsKept image (HasLasted before)
+lasts image before = record {
+  flag = λ e p c r w h. record { flag = λ is. refl; phase_up = h.phase_up; left = h.left; result = h.result; trace = h.trace };
+  packet = λ e c r w k long there h. record { flag = h.flag; phase_up = omega (arith, h.phase_up); left = ends_less k c before.to_come h.left; result = h.result; trace = h.trace };
+  result = λ e c r w bytes long h. record { flag = h.flag; phase_up = omega (arith, h.phase_up); left = h.left; result = begins_more before.sent r bytes h.result; trace = h.trace };
+  trace = λ e p c r w bytes h. record { flag = h.flag; phase_up = h.phase_up; left = h.left; result = h.result; trace = begins_more before.traced w bytes h.trace };
+}
+
 pub steps_last : (image : ImageValue) (n : ℕ) (s t : State) → steps image n s ≡ Some t → TakesNothingBack s t
 steps_last image n s t leads =
-    let lasted : HasLasted s t.error t.phase t.to_come t.sent t.traced =
-    steps_keep image (HasLasted s)
-    (λ e p c r w h. record { flag = λ is. refl; phase_up = h.phase_up; left = h.left; result = h.result; trace = h.trace })
-    (λ e c r w k long there h. record { flag = h.flag; phase_up = omega (arith, h.phase_up); left = ends_less k c s.to_come h.left; result = h.result; trace = h.trace })
-    (λ e c r w bytes long h. record { flag = h.flag; phase_up = omega (arith, h.phase_up); left = h.left; result = begins_more s.sent r bytes h.result; trace = h.trace })
-    (λ e p c r w bytes h. record { flag = h.flag; phase_up = h.phase_up; left = h.left; result = h.result; trace = begins_more s.traced w bytes h.trace })
-    n s t leads (same_lasts s)
-    in
+    let lasted : HasLasted s t.error t.phase t.to_come t.sent t.traced = steps_keep image (HasLasted s) (lasts image s) n s t leads (same_lasts s) in
     record { flag = lasted.flag; sent = lasted.result; traced = lasted.trace; to_come = lasted.left; phase = lasted.phase_up }
 
 -- what a state on the way of a packet's run has sent, the run sends first
