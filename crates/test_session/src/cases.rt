@@ -117,7 +117,7 @@ pub const RUNS: [Case; 14] = [
 /// Images with their verdict: what each does, its bytes and the answer.
 pub const VERDICTS: [(&str, &str, &str); 19] = [
     (
-        "eleven thousand turns",
+        "ten thousand and one turns",
         "545057311E00100008000100010001000F0015000A001127000000001024F25444F740D140D222272141D37172F5D1124822F11124F244FB21F5",
         "NO J6 0\n",
     ),

@@ -24,7 +24,7 @@
 //! Where a clause of the `drop` can see that, it says so, as that of [`Wire`](crate::Wire) does.
 //!
 //! An example is a latch, which holds one byte at most. While it is jammed it fails in each call,
-//! until its count can rise no further. (`src/tests/latch.rt` has the whole of it.)
+//! until its count can rise no further. (`test_base/src/latch.rt` has the whole of it.)
 //!
 //! ```text
 //! impl LinkDevice for Latch {
