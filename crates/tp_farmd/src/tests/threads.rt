@@ -74,7 +74,7 @@ fn most_threads_for<R: Threads + Wait + Files + AllocGlobal + Sync>(
 }
 
 /// How often a batch is served at most, until all of its threads are seen.
-const MOST_BATCHES: u32 = 100;
+const MOST_BATCHES: u32 = 20;
 
 /// The most threads that are seen in some batches; one more is served only where fewer than these were seen.
 fn most_threads_of<R: Threads + Wait + Files + AllocGlobal + Sync>(
