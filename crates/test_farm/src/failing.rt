@@ -103,8 +103,8 @@ fn call_of(link: Link, call: u64) -> [u64; 3] {
     }
 }
 
-/// Whether that is told of two packets of 1, where the link's device holds 600 bytes and fails in this call, and all are
-/// empty after it.
+/// Whether that is told of two packets of 1, where the link's device holds 600 bytes and fails in this call, and all
+/// are empty after it.
 fn empties_as<R: Threads + Wait + Sync>(
     rt: &R,
     alloc: Global,
@@ -184,8 +184,8 @@ fn told_from<R: Threads + Wait + Sync>(
     told_by_one(rt, alloc, INCREMENT, &[1], links, &OpenGate)
 }
 
-/// Source, sink and trace are emptied in this order, then the packet is sent, and then the worker runs. The first refusal
-/// is told.
+/// Source, sink and trace are emptied in this order, then the packet is sent, and then the worker runs. The first
+/// refusal is told.
 #[test]
 fn the_first_refusal_is_told(rt: HostRuntime) -> Result<(), Fail> {
     for (row, (starts, link)) in [

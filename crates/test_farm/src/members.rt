@@ -157,8 +157,8 @@ fn increments_by_any<R: Threads + Wait + Sync>(
     run_on(rt, alloc, INCREMENT, &[1; 64], members, gate)
 }
 
-/// Four members: packets 0 to 3 are held until these four are claimed, and packet 0 until the other 63 are finished. So no
-/// turns run out only where four members have packets in hand beside one another, and none has a share of its own.
+/// Four members: packets 0 to 3 are held until these four are claimed, and packet 0 until the other 63 are finished. So
+/// no turns run out only where four members have packets in hand beside one another, and none has a share of its own.
 #[test]
 fn members_claim_beside_one_another(rt: HostRuntime) -> Result<(), Fail> {
     let mut ends = Vec::new(rt.alloc());

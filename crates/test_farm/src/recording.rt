@@ -127,7 +127,7 @@ fn of_member(alloc: Global, heard: &[Heard], member: u32) -> Result<Vec<Heard>, 
     Ok(all)
 }
 
-/// The member asks, has taken a packet and is done with that packet, in turn, and asks at last. How many packets that are.
+/// A member asks, has taken a packet and is done with that packet, in turn, and asks at last: how many packets that are.
 fn turns_of(heard: &[Heard]) -> Option<usize> {
     let mut rest = heard;
     for turns in 0..heard.len() {

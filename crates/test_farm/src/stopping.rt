@@ -213,8 +213,8 @@ fn done_and_stopped_by_one_no<R: Threads + Wait + Sync>(
     Ok((count_of(&all, Told::Done(2)), count_of(&all, Told::Stopped)))
 }
 
-/// One no stops all members, though they would be let go on: each of them ends, and most packets are left. Nine asks were
-/// answered before; all but one member may find the batch stopped after that.
+/// One no stops all members, though they would be let go on: each of them ends, and packets are left. Nine asks were
+/// answered before; all members but one may find the batch stopped after that.
 #[test]
 fn one_no_stops_all_members(rt: HostRuntime) -> Result<(), Fail> {
     for (members, least) in [(1, 9), (2, 8), (4, 6)] {

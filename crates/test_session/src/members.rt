@@ -159,8 +159,8 @@ fn serve_meeting<T: Threads + Wait + Sync>(
     Ok(writer)
 }
 
-/// A member that has taken a packet is held until as many packets are taken as there are members. So no turns run out only
-/// where each member has a packet in hand beside the others, in the second batch too.
+/// A member that has taken a packet is held until as many packets are taken as there are members. So no turns run out
+/// only where each member has a packet in hand beside the others, in the second batch too.
 #[test]
 fn each_member_serves(rt: HostRuntime) -> Result<(), Fail> {
     for members in [1, 3, 8] {

@@ -51,9 +51,9 @@ pub record KeepsAccounts (batch : Batch) (before now : Devices) (p : Progress) (
 
 -- ---- how a member ends
 
--- With nothing in hand, a member ends where there are no more packets, or where the source was stopped: it has seen the stop, or
--- its own gate said no, and then it has called stop itself. It has called stop, too, where memory was refused. No worker of an
--- accepted image is stuck or goes past its budget.
+-- With nothing in hand, a member ends where there are no more packets, or where the source was stopped: it has seen the
+-- stop, or its own gate said no, and then it has called stop itself. It has called stop, too, where memory was refused.
+-- No worker of an accepted image is stuck or goes past its budget.
 abbrev pub EndsBy : Batch → (open_for_good : Bool) → Progress → End → Type 0
 EndsBy batch open_for_good p end.Drained =
     (p.in_hand ≡ None) × (p.stop_called ≡ false) × ((p.ended ≡ true) ⊎ (length batch.packets < length p.taken))

@@ -123,8 +123,8 @@ fn settle<D: LinkDevice, G: Gate>(
 /// Runs the packets of a job, by a member for each of the links: a thread with a machine of its own. The links come back
 /// in the order given; where there is a fault they are dropped. It may wait.
 ///
-/// Accepted code never goes wrong: each packet's worker ends by stopp within the budget and is never stuck, and each result
-/// that is collected is what the run of its packet alone gives.
+/// Accepted code never goes wrong: each packet's worker ends by stopp within the budget and is never stuck, and each
+/// result that is collected is what the run of its packet alone gives.
 ///
 /// G1, G2 and G3 are tested first, in this order. Where a thread cannot be started no further one is, and the members that
 /// were started go on until they end. A member to which memory was refused stops the batch first. Neither G5 nor G6 comes.
@@ -136,7 +136,8 @@ pub fn run_batch<'j, R: Threads + Wait + Sync, D: LinkDevice + Send, G: Gate>(
     gate: &'j G,
 ) -> Result<Batch<D>, FarmFault>
     ensures batch { IfOk result (λ b. IsBatch (batch_of job.now) (G.open_for_good gate.now) (map (of_links D.state) links.items) (map (of_links D.state) b.links.items) b.collected) }
-    ensures goes_well { ArePackets (batch_of job.now) → IfOk result (λ b. GoesWell (batch_of job.now) job.now.image.now.budget b.collected) }
+    ensures goes_well { ArePackets (batch_of job.now) →
+        IfOk result (λ b. GoesWell (batch_of job.now) job.now.image.now.budget b.collected) }
     ensures begins { OnOk result (job_fault (length links.items) (batch_of job.now) ≡ None) }
     ensures refused { IfSome (job_fault (length links.items) (batch_of job.now)) (λ fault. result ≡ Err fault) }
     ensures err { job_fault (length links.items) (batch_of job.now) ≡ None → IfErr result IsFromOutside }
