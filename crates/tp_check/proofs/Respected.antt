@@ -9,9 +9,11 @@ use Rattle.tp_decode.proofs.NumberLemmas.{placed as placed_cut}
 use Rattle.tp_flow.specs.declared.edge.Edge.{Edge}
 use Rattle.tp_flow.specs.NestKept.{KeepsNest}
 use Rattle.tp_image.specs.Image.{ImageValue, InRange}
+use Rattle.tp_state.specs.declared.state.State.{State}
 use Rattle.tp_state.specs.declared.fault.StateFault.{StateFault}
 use Rattle.tp_state.specs.Answer.{◌>>=◌}
 use Rattle.tp_state.specs.Entry.{entry}
+use Rattle.tp_state.specs.Sound.{IsSound}
 use Rattle.tp_state.proofs.StateOrder.{is_below-self, is_below-trans}
 use Rattle.tp_state.proofs.Passing.{same_Ok}
 use Rattle.tp_check.specs.Tables.{Table, asked}
@@ -82,3 +84,6 @@ module _ (image : ImageValue) (cuts : List Cut) (range : InRange image) (spelled
     begins = begins_after verdict.number table verdict.comes;
     each = respects_from table (good_after image cuts range spelled kept (is_kept image cuts) (λ at e. e) verdict.number table verdict.comes) verdict.stays;
   }
+
+  pub sound_there : (n : ℕ) (table : Table) → passes image cuts n ≡ Ok table → (at : ℕ) (s : State) → table at ≡ Some s → IsSound image s
+  sound_there n table is at s there = ((good_after image cuts range spelled kept (is_kept image cuts) (λ at e. e) n table is).stand at s there).sound
