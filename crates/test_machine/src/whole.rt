@@ -10,7 +10,8 @@ use std::test::Fail;
 use tp_image::{Image, read_image};
 use tp_link::{LinkDevice, Links, Medium, OwnedWire, Wire};
 use tp_machine::{MEM_START, Machine, Registers, RunFault};
-use worked_steps::table::{INCREMENT, MOVES_A_WORD, READS_AFTER_JUMP, Sample, TRACES, samples};
+use tp_samples::{INCREMENT, MOVES_A_WORD, READS_AFTER_JUMP, TRACES_ITS_PACKET};
+use worked_steps::table::{Sample, samples};
 
 /// A sample's run answers and leaves what the sample says.
 fn assert_sample(
@@ -195,7 +196,7 @@ fn trace_over(
     sink: AnyDevice,
     trace: AnyDevice,
 ) -> Result<Answer, Fail> {
-    let image = read_image(alloc, TRACES)?;
+    let image = read_image(alloc, TRACES_ITS_PACKET)?;
     let mut links = Links {
         source,
         sink,
