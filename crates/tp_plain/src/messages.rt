@@ -1,12 +1,13 @@
 //! Messages.
 
 ghost use Rattle.std.specs.Prelude.{◌≡◌, ◌+◌, ◌-◌, ◌≤◌, MatchResult, take, drop};
-ghost use Rattle.tp_decode.specs.declared.instr.Instr.TheVariants.{Input, Output};
+ghost use Rattle.tp_decode.specs.declared.instr.Instr.TheVariants.{Input, Output, MoveBytes};
 ghost use Rattle.tp_link.specs.Device.{after_receive, MayAnswerReceive};
 ghost use Rattle.tp_machine.specs.Devices.{devices};
 ghost use Rattle.tp_step.specs.Effects.{effect};
 ghost use Rattle.tp_step.specs.State.{mem_start};
 ghost use Rattle.tp_plain.specs.Bytes.{put};
+ghost use Rattle.tp_plain.specs.Stands.{Goes, Leads};
 ghost use Rattle.tp_plain.specs.Turning.{CanTurn, Turned};
 
 use crate::memory::MEM_START;
@@ -46,7 +47,29 @@ fn message(workspace: &[u8; 2048], a: u32, n: u32) -> &[u8]
     &workspace[i..i + n as usize]
 }
 
+/// Copies n bytes of the workspace.
+fn copy(workspace: &mut [u8; 2048], target: u32, source: u32, n: u32)
+    requires target_low { mem_start ≤ target }
+    requires target_high { target + n ≤ mem_start + 2048 }
+    requires source_low { mem_start ≤ source }
+    requires source_high { source + n ≤ mem_start + 2048 }
+    ensures { workspace.new ≡ put workspace.old (target - mem_start) (take n (drop (source - mem_start) workspace.old)) }
+{
+    let from = (source - MEM_START) as usize;
+    let to = (target - MEM_START) as usize;
+    workspace.copy_within(from..from + n as usize, to);
+}
+
 impl Registers {
+    /// move, move message
+    #[inline(never)]
+    pub(crate) fn move_bytes(self, workspace: &mut [u8; 2048])
+        requires { Goes MoveBytes self workspace.old }
+        ensures { Leads MoveBytes self self workspace.old workspace.new }
+    {
+        copy(workspace, self.b, self.c, self.a);
+    }
+
     /// in, input message
     #[inline(never)]
     pub(crate) fn input<D: LinkDevice>(self, workspace: &mut [u8; 2048], links: &mut Links<D>) -> Turn
