@@ -16,7 +16,12 @@ pub(crate) fn load(workspace: &[u8; 2048], a: u32) -> u32
     ensures { result ≡ word_in workspace.now (a - mem_start) }
 {
     let i = (a - MEM_START) as usize;
-    u32::from_le_bytes([workspace[i], workspace[i + 1], workspace[i + 2], workspace[i + 3]])
+    u32::from_le_bytes([
+        workspace[i],
+        workspace[i + 1],
+        workspace[i + 2],
+        workspace[i + 3],
+    ])
 }
 
 /// The word at an address takes a value.

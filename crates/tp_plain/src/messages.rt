@@ -72,7 +72,11 @@ impl Registers {
 
     /// in, input message
     #[inline(never)]
-    pub(crate) fn input<D: LinkDevice>(self, workspace: &mut [u8; 2048], links: &mut Links<D>) -> Turn
+    pub(crate) fn input<D: LinkDevice>(
+        self,
+        workspace: &mut [u8; 2048],
+        links: &mut Links<D>,
+    ) -> Turn
         requires { CanTurn (λ image. effect image Input) self workspace.old }
         ensures { Turned (λ image. effect image Input) self self workspace.old workspace.new
             (devices (D.state links.old.source) (D.state links.old.sink) (D.state links.old.trace))
@@ -80,7 +84,10 @@ impl Registers {
     {
         match receive(workspace, &mut links.source, self.c, self.a) {
             Ok(()) => Turn::Made,
-            Err(code) => Turn::Refused(LinkFault { link: Link::Source, code }),
+            Err(code) => Turn::Refused(LinkFault {
+                link: Link::Source,
+                code,
+            }),
         }
     }
 
@@ -96,12 +103,18 @@ impl Registers {
         if self.b == LINK0_OUTPUT {
             match links.sink.send(message) {
                 Ok(()) => Turn::Made,
-                Err(code) => Turn::Refused(LinkFault { link: Link::Sink, code }),
+                Err(code) => Turn::Refused(LinkFault {
+                    link: Link::Sink,
+                    code,
+                }),
             }
         } else {
             match links.trace.send(message) {
                 Ok(()) => Turn::Made,
-                Err(code) => Turn::Refused(LinkFault { link: Link::Trace, code }),
+                Err(code) => Turn::Refused(LinkFault {
+                    link: Link::Trace,
+                    code,
+                }),
             }
         }
     }

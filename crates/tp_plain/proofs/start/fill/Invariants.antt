@@ -1,4 +1,4 @@
-use Rattle.std.proofs.Common.{take}
+use Rattle.std.proofs.Common.{◌≡◌, length, take}
 use Rattle.std.specs.Prelude.{flat_map}
 use Rattle.std.specs.Int.{w32, to_le_bytes}
 use Rattle.tp_step.specs.Memory.{nothing_defined, with_bytes}
@@ -8,4 +8,7 @@ use Rattle.tp_plain.specs.Stands.{Holds}
 use Rattle.tp_plain.proofs.start.fill.Given as goal
 
 abbrev pub invariant-loop-i : goal.invariant-loop-i
-invariant-loop-i l = Holds (with_bytes nothing_defined mem_start (flat_map (to_le_bytes w32) (take l.i (first_words l.image)))) l.workspace
+invariant-loop-i l = record {
+  held : Holds (with_bytes nothing_defined mem_start (flat_map (to_le_bytes w32) (take l.i (first_words l.image)))) l.workspace;
+  long : length l.workspace ≡ 2048;
+}
