@@ -1,0 +1,96 @@
+//! Runs that a device ends, and what they leave.
+
+use crate::media::{accepted, all_bits_set, run_packet};
+use std::alloc::Global;
+use std::test::Fail;
+use tp_link::{DeviceFault, FaultyWire, Link, LinkDevice, LinkFault, Links};
+use tp_machine::Outcome;
+use tp_media::Media;
+use tp_plain::Machine;
+use tp_samples::{INCREMENT, TRACES_65_TIMES};
+
+/// A refusal by a device.
+fn refused(link: Link, code: DeviceFault) -> Result<Outcome, LinkFault> {
+    Err(LinkFault { link, code })
+}
+
+#[test]
+fn a_short_source_keeps_its_bytes(rt: HostRuntime) -> Result<(), Fail> {
+    let accepted = accepted(rt.alloc(), INCREMENT)?;
+    let (answered, media) = run_packet(rt.alloc(), &mut all_bits_set(), &accepted, &[1, 0, 0])?;
+    assert_eq!(rt; answered, refused(Link::Source, DeviceFault::Short));
+    assert_eq!(rt; media.source.bytes(), [1, 0, 0].as_slice());
+    assert_eq!(rt; media.sink.bytes().len(), 0);
+    Ok(())
+}
+
+#[test]
+fn a_full_trace_refuses(rt: HostRuntime) -> Result<(), Fail> {
+    let accepted = accepted(rt.alloc(), TRACES_65_TIMES)?;
+    let (answered, media) = run_packet(rt.alloc(), &mut Machine::new(), &accepted, &[0; 4])?;
+    assert_eq!(rt; answered, refused(Link::Trace, DeviceFault::Full));
+    assert_eq!(rt; media.source.bytes().len(), 0);
+    assert_eq!(rt; media.trace.bytes().len(), 256);
+    Ok(())
+}
+
+/// What a run answers over media of which the sink has little room, or is closed.
+fn run_over(
+    alloc: Global,
+    media: &mut Media,
+    close: bool,
+) -> Result<Result<Outcome, LinkFault>, Fail> {
+    let accepted = accepted(alloc, INCREMENT)?;
+    let mut links = media.wires();
+    links.source.send(&[1, 0, 0, 0])?;
+    if close {
+        links.sink.close();
+    }
+    Ok(all_bits_set().run(&accepted, &mut links))
+}
+
+#[test]
+fn a_full_and_a_closed_sink_refuse(rt: HostRuntime) -> Result<(), Fail> {
+    for (room, close, code) in [
+        (3, false, DeviceFault::Full),
+        (256, true, DeviceFault::Closed),
+    ] {
+        let mut media = Media::with_rooms(rt.alloc(), 256, room, 256)?;
+        let answered = run_over(rt.alloc(), &mut media, close)?;
+        assert_eq!(rt; answered, refused(Link::Sink, code));
+        assert_eq!(rt; media.source.bytes().len(), 0);
+        assert_eq!(rt; media.sink.bytes().len(), 0);
+    }
+    Ok(())
+}
+
+/// Wires over these media, whose source fails at its second call.
+fn failing_wires(media: &mut Media) -> Links<FaultyWire<'_>> {
+    Links {
+        source: FaultyWire::new(&mut media.source, 2),
+        sink: FaultyWire::new(&mut media.sink, 0),
+        trace: FaultyWire::new(&mut media.trace, 0),
+    }
+}
+
+/// The second run is on the same machine, in which a run was cut off, and of the same packet.
+#[test]
+fn a_failing_source_keeps_the_packet(rt: HostRuntime) -> Result<(), Fail> {
+    let accepted = accepted(rt.alloc(), INCREMENT)?;
+    let mut media = Media::new(rt.alloc(), 256)?;
+    let mut links = failing_wires(&mut media);
+    let mut machine = all_bits_set();
+    links.source.send(&[1, 0, 0, 0])?;
+    let cut_off = machine.run(&accepted, &mut links);
+    assert_eq!(rt; cut_off, refused(Link::Source, DeviceFault::Failed));
+    assert_eq!(rt; (links.source.held(), links.source.faults()), (4, 1));
+    let again = machine.run(&accepted, &mut links);
+    assert_eq!(rt;
+        again,
+        Ok(Outcome {
+            error: false,
+            steps: 16
+        })
+    );
+    Ok(())
+}
