@@ -8,10 +8,12 @@
 //! | ldl, ldnl, stl, stnl, lb, sb, move | [`words`] |
 //! | in, out, j and lend, and the loops that edges enter and leave | [`messages`] |
 //! | small codes, at the instruction that is refused | [`refusals`] |
+//! | cases that a narrower rule would answer otherwise | [`narrower`] |
 //! | states that are not sound, of which the rules do not keep the order | [`unsound`] |
 #![tactic(auto)]
 
 pub mod messages;
+pub mod narrower;
 pub mod numbers;
 pub mod refusals;
 pub mod registers;
