@@ -24,11 +24,8 @@ use Rattle.tp_state.specs.Answer.{◌>>=◌}
 use Rattle.tp_check.specs.declared.passes.Passes.{Passes}
 use Rattle.tp_check.specs.Tables.{Table, table_of, asked}
 use Rattle.tp_check.specs.Passes.{along, edges_of, edges_in, pass}
-use Rattle.tp_check.specs.Counts.{known, come_to}
-use Rattle.tp_check.specs.UnderWay.{IsUnderWay, MayBeTaken, IsTaken, AreTaken, Gives, Moves, has_changed, Adds, AddsAtMost, Leaves, HasCounted, Falls, Since, TellsLast}
+use Rattle.tp_check.specs.UnderWay.{IsUnderWay, MayBeTaken, IsTaken, AreTaken, Gives, Moves, has_changed}
 use Rattle.tp_check.proofs.Places.{StandsAt, number_of}
-use Rattle.tp_check.proofs.Counting.{counts_step}
-use Rattle.tp_check.proofs.Turning.{Turned, turned_none, come_on, turned_on}
 use Rattle.tp_check.proofs.Moving.{along_append, moves_none, moves_more, moves_no_more}
 
 -- ---- an instruction of the code
@@ -51,26 +48,14 @@ pub record Passed (image : ImageValue) (cuts : List Cut) (first now : Passes) (m
   pub taken : AreTaken image cuts now
   pub moves : Moves image moved first now
   pub rest : moved ≡ false → (k : ℕ) (p : Placed) → k < i → slice_get (placed_from 0 cuts) k ≡ Some p → has_changed now p.at ≡ false
-  pub counts : HasCounted cuts now
-  pub most : now.outcomes + length (flat_map edges_of (drop i (placed_from 0 cuts))) ≤ first.outcomes + length (edges_in cuts)
-  pub fits : first.outcomes ≤ 2 ^ 64 - 1 → now.outcomes ≤ 2 ^ 64 - 1
-  pub inside : i ≤ length cuts
-  pub come : come_to image cuts i (table_of first.table) ≡ Ok (table_of now.table)
-  pub turned : (last : ℕ → Option State) → TellsLast image cuts last first → Turned image cuts last first now i
 
-pub passed_none : (image : ImageValue) (cuts : List Cut) (first : Passes) → IsUnderWay image first → AreTaken image cuts first → HasCounted cuts first → Passed image cuts first first false 0
-passed_none image cuts first way taken counts = record {
+pub passed_none : (image : ImageValue) (cuts : List Cut) (first : Passes) → IsUnderWay image first → AreTaken image cuts first → Passed image cuts first first false 0
+passed_none image cuts first way taken = record {
   way = way;
   gives = refl;
   taken = taken;
   moves = moves_none image first;
   rest = λ e k p lt. absurd (omega (arith, lt));
-  counts = counts;
-  most = omega arith;
-  fits = λ le. le;
-  inside = omega arith;
-  come = refl;
-  turned = λ last tells. turned_none image cuts last first tells;
 }
 
 -- what an instruction's turn has left
@@ -81,11 +66,6 @@ pub record TakenOnce (image : ImageValue) (p : Placed) (now new : Passes) (moved
   pub taken : All (IsTaken image new p.at p.next p.instr) (asked p.instr)
   pub moves : Moves image moved now new
   pub rest : moved ≡ false → has_changed new p.at ≡ false
-  pub leaves : Leaves p.at now new
-  pub counts : Adds now.outcomes (if has_changed now p.at then known (table_of now.table p.at) (length (asked p.instr)) else 0) new.outcomes
-  pub most : AddsAtMost now.outcomes (length (asked p.instr)) new.outcomes
-  pub falls : (x : ℕ) → x ≢ p.at → Falls image now new x
-  pub since : Since image (has_changed new p.at) (table_of now.table p.at) (table_of new.table p.at)
 
 module _ (image : ImageValue) (cuts : List Cut) (i : ℕ) (p : Placed) (is : slice_get (placed_from 0 cuts) i ≡ Some p) where
   next_one : drop i (placed_from 0 cuts) ≡ p ∷ drop (i + 1) (placed_from 0 cuts)
@@ -94,19 +74,7 @@ module _ (image : ImageValue) (cuts : List Cut) (i : ℕ) (p : Placed) (is : sli
   next_edges : (table : Table) → along image (flat_map edges_of (drop i (placed_from 0 cuts))) table ≡ (along image (edges_of p) table >>= along image (flat_map edges_of (drop (i + 1) (placed_from 0 cuts))))
   next_edges table = ap (λ ps. along image (flat_map edges_of ps) table) next_one ∙ ap (λ es. along image es table) (flat_map-cons edges_of p (drop (i + 1) (placed_from 0 cuts))) ∙ along_append image (edges_of p) _ table
 
-  inside_on : i + 1 ≤ length cuts
-  inside_on = let within = slice_get_within (placed_from 0 cuts) i p is in omega (arith, within, length-placed 0 cuts)
-
-  edges_left : length (flat_map edges_of (drop i (placed_from 0 cuts))) ≡ length (asked p.instr) + length (flat_map edges_of (drop (i + 1) (placed_from 0 cuts)))
-  edges_left =
-      ap (λ ps. length (flat_map edges_of ps)) next_one ∙ ap length (flat_map-cons edges_of p (drop (i + 1) (placed_from 0 cuts)))
-      ∙ length-append (edges_of p) (flat_map edges_of (drop (i + 1) (placed_from 0 cuts))) ∙ ap (λ n. n + length (flat_map edges_of (drop (i + 1) (placed_from 0 cuts)))) (length-map (asked p.instr) (λ edge. (p, edge)))
-
   module _ (first now : Passes) (moved : Bool) (passed : Passed image cuts first now moved i) where
-    -- and no more than all of a pass is counted before it
-    pub most_stops : (new : ℕ) → AddsAtMost now.outcomes (length (asked p.instr)) new → AddsAtMost first.outcomes (length (edges_in cuts)) new
-    most_stops new adds = record { most = omega (arith, adds.most, passed.most, edges_left); fits = λ le. adds.fits (passed.fits le) }
-
     -- a refusal there is that of the pass
     pub passed_stops : (e : StateFault) (new : Passes) → Gives {X = Bool} (Err e) (table_of new.table) (along image (edges_of p) (table_of now.table)) → Gives {X = Bool} (Err e) (table_of new.table) (pass image cuts (table_of first.table))
     passed_stops (Refused code place) new gives = passed.gives ∙ next_edges (table_of now.table) ∙ ap (λ r. r >>= along image (flat_map edges_of (drop (i + 1) (placed_from 0 cuts)))) gives
@@ -135,51 +103,27 @@ module _ (image : ImageValue) (cuts : List Cut) (i : ℕ) (p : Placed) (is : sli
               subst (λ q. has_changed new q.at ≡ false) one (once.rest e')
           by_place (inr other) = once.moves.rests e' q.at (passed.rest e k q (omega (arith, lt, other)) there)
 
-      counts_on : HasCounted cuts new
-      counts_on = counts_step cuts p now new stands once.leaves once.moves.table.sized passed.counts once.counts
-
-      most_on : new.outcomes + length (flat_map edges_of (drop (i + 1) (placed_from 0 cuts))) ≤ first.outcomes + length (edges_in cuts)
-      most_on = omega (arith, once.most.most, passed.most, edges_left)
-
-      turned_more : AllByRecursion (λ c. 0 < length c.bytes) cuts → (last : ℕ → Option State) → TellsLast image cuts last first → Turned image cuts last first new (i + 1)
-      turned_more spelled last tells = turned_on image cuts i p is spelled first now new passed.come last (passed.turned last tells) once.falls once.since once.counts
-
     -- a turn that changes the table
-    pub passed_more : (new : Passes) → AllByRecursion (λ c. 0 < length c.bytes) cuts → StandsAt cuts p → TakenOnce image p now new true → Passed image cuts first new true (i + 1)
-    passed_more new spelled stands once = record {
+    pub passed_more : (new : Passes) → StandsAt cuts p → TakenOnce image p now new true → Passed image cuts first new true (i + 1)
+    passed_more new stands once = record {
       way = once.way;
       gives = gives_on new true stands once;
       taken = still_taken new true stands once;
       moves = moves_more image first now new moved passed.moves once.moves;
       rest = λ e. absurd (cc);
-      counts = counts_on new true stands once;
-      most = most_on new true stands once;
-      fits = λ le. once.most.fits (passed.fits le);
-      inside = inside_on;
-      come = come_on image cuts i p is spelled first now new passed.come once.gives;
-      turned = turned_more new true stands once spelled;
     }
 
     -- and one that does not
-    pub passed_same : (new : Passes) → AllByRecursion (λ c. 0 < length c.bytes) cuts → StandsAt cuts p → TakenOnce image p now new false → Passed image cuts first new moved (i + 1)
-    passed_same new spelled stands once = record {
+    pub passed_same : (new : Passes) → StandsAt cuts p → TakenOnce image p now new false → Passed image cuts first new moved (i + 1)
+    passed_same new stands once = record {
       way = once.way;
       gives = gives_on new false stands once;
       taken = still_taken new false stands once;
       moves = moves_no_more image first now new moved passed.moves once.moves;
       rest = λ e. rest_on new false stands once e refl;
-      counts = counts_on new false stands once;
-      most = most_on new false stands once;
-      fits = λ le. once.most.fits (passed.fits le);
-      inside = inside_on;
-      come = come_on image cuts i p is spelled first now new passed.come once.gives;
-      turned = turned_more new false stands once spelled;
     }
 
 -- ---- after all of them
-
-pub most_all : (image : ImageValue) (cuts : List Cut) (first now : Passes) (moved : Bool) (i : ℕ) → Passed image cuts first now moved i → AddsAtMost first.outcomes (length (edges_in cuts)) now.outcomes
-most_all image cuts first now moved i passed = record { most = omega (arith, passed.most); fits = passed.fits }
 
 module _ (image : ImageValue) (cuts : List Cut) (first now : Passes) (moved : Bool) (i : ℕ) (end : length cuts ≤ i) (passed : Passed image cuts first now moved i) where
   pub passed_all : pass image cuts (table_of first.table) ≡ Ok (table_of now.table)

@@ -1,7 +1,6 @@
 -- What taking an edge does to the passes under way.
 use Rattle.std.proofs.Common.{◌≡◌, ℕ, suc, ◌<◌, ◌⊎◌, inl, inr, [], ◌∷◌, Bool, true, false, List, length, slice_set, slice_index_or, Option, Some, None, Result, Ok, Err, refl, sym, ap, ◌∙◌, subst, rules, arith, length-set, get_or-set_same, get_or-set_other}
 use Rattle.std.specs.Prelude.{OnOk, IfOk, All}
-use Rattle.std.specs.Option.{is_some}
 use Rattle.std.proofs.lemmas.Bool.{cases_eq}
 use Rattle.std.proofs.lemmas.Option.{same_Some}
 use Rattle.tp_decode.specs.declared.instr.Instr.{Instr}
@@ -21,10 +20,9 @@ use Rattle.tp_check.specs.declared.passes.Passes.{Passes}
 use Rattle.tp_check.specs.Tables.{Table, table_of, asked}
 use Rattle.tp_check.specs.EdgesRespect.{HasAbove, Respects}
 use Rattle.tp_check.specs.Passes.{enter, go_along, placed, along, from, edges_of}
-use Rattle.tp_check.specs.UnderWay.{IsStateAt, HasGrown, IsUnderWay, MayBeTaken, has_changed, marked, IsTaken, Gives, Moves, IsAsBefore, Leaves, Falls, height, table_height}
+use Rattle.tp_check.specs.UnderWay.{IsStateAt, HasGrown, IsUnderWay, MayBeTaken, has_changed, marked, IsTaken, Gives, Moves, IsAsBefore}
 use Rattle.tp_check.proofs.Entering.{Entered, entered, elsewhere, there, comes_below, grows, still_respects, enters_below}
 use Rattle.tp_check.proofs.Moving.{along_on}
-use Rattle.tp_check.proofs.Falling.{fell_there}
 
 -- ---- the definition's answers
 
@@ -51,7 +49,6 @@ pub record Arrives (image : ImageValue) (old new : Passes) (to : ℕ) (v : State
   pub marks : new.changed.items ≡ marked moved to old.changed.items
   pub stays : moved ≡ false → new.table ≡ old.table
   pub sized : length new.table ≡ length old.table
-  pub sinks : moved ≡ true → table_height image new.table < table_height image old.table
   pub outcome : new.outcome ≡ v
 
 module _ (image : ImageValue) (old new : Passes) (to : ℕ) (v : State) (moved : Bool) (way : IsUnderWay image old) (inside : to < length old.table) (fits : IsStateAt image to v) (a : Arrives image old new to v moved) where
@@ -93,37 +90,6 @@ module _ (image : ImageValue) (old new : Passes) (to : ℕ) (v : State) (moved :
       let before = unmarked at rests in
       still_respects image (table_of old.table) to v way.grown fits (table_of new.table) enters at next instr s edge (taken before.rests s (sym before.same ∙ is))
 
-  -- what comes from an address that has a state leaves it one
-  pub leaves : (at : ℕ) (s : State) → table_of old.table at ≡ Some s → Leaves at old new
-  leaves at s here = record { others = λ x other rests. unmarked x rests; kept = at_place (cases_eq at to) }
-    where
-      at_place : (at ≡ to) ⊎ (at ≡ to → ⊥) → is_some (table_of new.table at) ≡ is_some (table_of old.table at)
-      at_place (inl same) = ap is_some (ap (table_of new.table) same ∙ there (table_of old.table) to v (table_of new.table) enters) ∙ sym (ap is_some here)
-      at_place (inr other) = ap is_some (elsewhere (table_of old.table) to v (table_of new.table) at enters other)
-
-  -- an address stays as it was, or it is the one that the outcome came to
-  pub falls : (x : ℕ) → Falls image old new x
-  falls x = by_answer moved refl
-    where
-      flag_is : (b : Bool) → moved ≡ b → has_changed new x ≡ slice_index_or (marked b to old.changed.items) x false
-      flag_is b e = ap (λ flags. slice_index_or flags x false) a.marks ∙ ap (λ m. slice_index_or (marked m to old.changed.items) x false) e
-
-      in_flags : to < length old.changed.items
-      in_flags = omega (arith, way.flags, inside)
-
-      at_place : moved ≡ true → (x ≡ to) ⊎ (x ≡ to → ⊥) → Falls image old new x
-      at_place e (inl same) =
-          inr (
-            flag_is true e ∙ ap (λ y. slice_index_or (slice_set old.changed.items to true) y false) same ∙ get_or-set_same old.changed.items to true false in_flags,
-            subst (λ y. height image (table_of new.table y) < height image (table_of old.table y)) (sym same)
-                (fell_there image to old.table new.table inside a.sized (λ y other. elsewhere (table_of old.table) to v (table_of new.table) y enters other) (a.sinks e)),
-          )
-      at_place e (inr other) = inl (flag_is true e ∙ get_or-set_other old.changed.items to x true false other, elsewhere (table_of old.table) to v (table_of new.table) x enters other)
-
-      by_answer : (b : Bool) → moved ≡ b → Falls image old new x
-      by_answer false e = inl (flag_is false e, ap (λ states. table_of states x) (a.stays e))
-      by_answer true e = at_place e (cases_eq x to)
-
   -- and the edge itself need not
   pub is_taken : (at next : ℕ) (instr : Instr) (edge : Edge) (s : State) → table_of old.table at ≡ Some s → after image at next instr edge s ≡ Ok v → target (ranges image.loops) at next instr edge ≡ Some to → IsTaken image new at next instr edge
   is_taken at next instr edge s here goes leads rests t is =
@@ -148,7 +114,7 @@ taken_from_none image p at next instr edge none rests t is = absurd (let no : No
 -- what follows from an outcome that came to an address follows from the answer
 pub on_arrival : (image : ImageValue) (old before new : Passes) (to : ℕ) (v : State) (r : Result Bool StateFault) (P : Type 0) → before.table ≡ old.table → Gives r (table_of new.table) (enter (Some to) v (table_of old.table)) → OnOk r (new.outcome ≡ v) → IfOk r (λ moved. Moves image moved before new) → IfOk r (λ moved. new.changed.items ≡ marked moved to old.changed.items)
     → ((moved : Bool) → Arrives image old new to v moved → P) → OnOk r P
-on_arrival image old before new to v (Ok moved) P same gives outcome moves marks go = go moved (record { comes = gives; marks = marks; stays = λ e. moves.table.stays e ∙ same; sized = moves.table.sized ∙ ap length same; sinks = λ e. subst (λ states. table_height image new.table < table_height image states) same (moves.table.falls e); outcome = outcome })
+on_arrival image old before new to v (Ok moved) P same gives outcome moves marks go = go moved (record { comes = gives; marks = marks; stays = λ e. moves.table.stays e ∙ same; sized = moves.table.sized ∙ ap length same; outcome = outcome })
 on_arrival image old before new to v (Err e) P same gives outcome moves marks go = search rules
 
 -- an outcome is a state at the target

@@ -1,7 +1,6 @@
 pub mod Tables
 pub mod EdgesRespect
 pub mod Passes
-pub mod Counts
 pub mod UnderWay
 pub use Rattle.tp_state.specs.After
 pub use Rattle.tp_state.specs.Order

@@ -24,7 +24,6 @@ use Rattle.tp_state.specs.Live.{LiveWordsAre}
 use Rattle.tp_check.specs.declared.passes.Passes.{Passes}
 use Rattle.tp_check.specs.Tables.{Table, table_of, asked}
 use Rattle.tp_check.specs.EdgesRespect.{HasAbove, Respects}
-use Rattle.tp_check.specs.Counts.{counted, known, asked_on, sum_below, IsSum, IsTurn, come_to, state_before, Refuses}
 
 -- ---- what a table keeps
 
@@ -135,88 +134,7 @@ pub record Moves (image : ImageValue) (moved : Bool) (old new : Passes) : Type 0
   pub table : MovesTable image moved old.table new.table
   pub rests : moved ≡ false → (at : ℕ) → has_changed old at ≡ false → has_changed new at ≡ false
 
--- ---- what is counted
-
--- at most so much was added to a count, and it is one of 64 bits if it was
-pub record AddsAtMost (old more new : ℕ) : Type 0 where
-  pub most : new ≤ old + more
-  pub fits : old ≤ 2 ^ 64 - 1 → new ≤ 2 ^ 64 - 1
-
--- so much was added, or the count stands at the greatest
-pub record Adds (old more new : ℕ) : Type 0 where
-  pub at_most : AddsAtMost old more new
-  pub at_least : counted (old + more) ≤ new
-
 -- nothing is known of an address that is not marked but what was known
 pub record IsAsBefore (old new : Passes) (x : ℕ) : Type 0 where
   pub rests : has_changed old x ≡ false
   pub same : table_of new.table x ≡ table_of old.table x
-
--- what a step from an address leaves: all others that are not marked are as before, and itself has a state if it had one
-pub record Leaves (at : ℕ) (old new : Passes) : Type 0 where
-  pub others : (x : ℕ) → x ≢ at → has_changed new x ≡ false → IsAsBefore old new x
-  pub kept : is_some (table_of new.table at) ≡ is_some (table_of old.table at)
-
--- an address whose edges need not be taken has had an outcome on each
-abbrev pub settled : List Cut → Passes → ℕ → ℕ
-settled cuts p x = if has_changed p x then 0 else known (table_of p.table x) (asked_on (cut_at cuts x))
-
-unfoldable pub all_settled : List Cut → Passes → ℕ
-all_settled cuts p = sum_below (settled cuts p) (length p.table)
-
-abbrev pub HasCounted : List Cut → Passes → Type 0
-HasCounted cuts p = counted (all_settled cuts p) ≤ p.outcomes
-
--- ---- what is known at the turns
-
--- a step leaves an address as it was, or marks it where fewer changes are left to it
-abbrev pub Falls : ImageValue → (old new : Passes) → ℕ → Type 0
-Falls image old new x =
-    ((has_changed new x ≡ has_changed old x) × (table_of new.table x ≡ table_of old.table x))
-    ⊎ ((has_changed new x ≡ true) × (height image (table_of new.table x) < height image (table_of old.table x)))
-
--- what is known at an address since it was that: the same where it is not marked, another where it is, if there was any
-abbrev pub Since : ImageValue → Bool → (before now : Option State) → Type 0
-Since image false before now = now ≡ before
-Since image true before now = (before ≡ None) ⊎ (height image now < height image before)
-
--- the flags tell what has changed since each instruction's last turn
-abbrev pub TellsLast : ImageValue → List Cut → (last : ℕ → Option State) → Passes → Type 0
-TellsLast image cuts last p =
-    (i : ℕ) (q : Placed) → slice_get (placed_from 0 cuts) i ≡ Some q → Since image (has_changed p q.at) (last i) (table_of p.table q.at)
-
--- what is known before instruction i at its turn in a pass over a table
-abbrev pub at_turn : ImageValue → List Cut → Table → ℕ → Option State
-at_turn image cuts table i = state_before (slice_get (placed_from 0 cuts) i) (come_to image cuts i table)
-
--- a pass whose turns have had their outcomes, and whose flags tell of the next
-pub record HasTurned (image : ImageValue) (cuts : List Cut) (last : ℕ → Option State) (old new : Passes) : Type 0 where
-  pub more : ℕ
-  pub turns : IsSum (λ i. IsTurn (last i) (at_turn image cuts (table_of old.table) i) (asked_on (slice_get cuts i))) (length cuts) more
-  pub adds : Adds old.outcomes more new.outcomes
-  pub tells : TellsLast image cuts (at_turn image cuts (table_of old.table)) new
-
-abbrev pub TurnsOver : ImageValue → List Cut → (old new : Passes) → Type 0
-TurnsOver image cuts old new = (last : ℕ → Option State) → TellsLast image cuts last old → HasTurned image cuts last old new
-
--- a refusal on an edge of an instruction, with the outcomes on those up to it
-abbrev pub Stops : ImageValue → Placed → (old new : Passes) → StateFault → Type 0
-Stops image p old new (Refused code place) = (edges : ℕ) × Refuses image p (table_of old.table) (Refused code place) edges × Adds old.outcomes edges new.outcomes
-Stops image p old new Memory = Unit {0}
-
--- a pass that has stopped at an instruction, with the outcomes of the turns before
-pub record HasStopped (image : ImageValue) (cuts : List Cut) (last : ℕ → Option State) (old new : Passes) (fault : StateFault) : Type 0 where
-  pub i : ℕ
-  pub more : ℕ
-  pub turns : IsSum (λ j. IsTurn (last j) (at_turn image cuts (table_of old.table) j) (asked_on (slice_get cuts j))) i more
-  pub instruction : Placed
-  pub there : slice_get (placed_from 0 cuts) i ≡ Some instruction
-  pub table : Table
-  pub comes : come_to image cuts i (table_of old.table) ≡ Ok table
-  pub edges : ℕ
-  pub refuses : Refuses image instruction table fault edges
-  pub adds : Adds old.outcomes (more + edges) new.outcomes
-
-abbrev pub StopsOver : ImageValue → List Cut → (old new : Passes) → StateFault → Type 0
-StopsOver image cuts old new (Refused code place) = (last : ℕ → Option State) → TellsLast image cuts last old → HasStopped image cuts last old new (Refused code place)
-StopsOver image cuts old new Memory = Unit {0}

@@ -1,6 +1,6 @@
 //! Laws of tables and passes: each function's contract is the law.
 
-ghost use Rattle.std.specs.Prelude.{◌≡◌, ℕ, List, Result};
+ghost use Rattle.std.specs.Prelude.{◌≡◌, List, Result};
 ghost use Rattle.std.specs.List.{AllByRecursion};
 ghost use Rattle.tp_decode.specs.Cutting.{Cut, IsSpelled};
 ghost use Rattle.tp_flow.specs.NestKept.{KeepsNest};
@@ -8,7 +8,6 @@ ghost use Rattle.tp_image.specs.Image.{ImageValue, InRange};
 ghost use Rattle.tp_state.specs.declared.fault.StateFault.{StateFault};
 ghost use Rattle.tp_check.specs.Tables.{Table};
 ghost use Rattle.tp_check.specs.Passes.{IsVerdict};
-ghost use Rattle.tp_check.specs.Counts.{ArePassesMade, AreOutcomes, AreOutcomesUpTo};
 
 pub mod carrying;
 pub mod exact;
@@ -25,18 +24,4 @@ pub fn passes_have_one_verdict()
 pub fn passes_have_a_verdict()
     ensures { (image : ImageValue) (cuts : List Cut) → InRange image → AllByRecursion IsSpelled cuts →
         KeepsNest image.loops image.workspace cuts → (verdict : Result Table StateFault) × IsVerdict image cuts verdict }
-{}
-
-/// The number of passes that are made to a verdict is one alone.
-pub fn passes_are_made_in_one_number()
-    ensures { (image : ImageValue) (cuts : List Cut) (verdict other : Result Table StateFault) (made also : ℕ) →
-        ArePassesMade image cuts verdict made → ArePassesMade image cuts other also → made ≡ also }
-{}
-
-/// The outcomes of so many passes are one number alone, and so are those up to a refusal.
-pub fn outcomes_are_one_number()
-    ensures passes { (image : ImageValue) (cuts : List Cut) (made total other : ℕ) →
-        AreOutcomes image cuts made total → AreOutcomes image cuts made other → total ≡ other }
-    ensures refusal { (image : ImageValue) (cuts : List Cut) (fault : StateFault) (whole total other : ℕ) →
-        AreOutcomesUpTo image cuts fault whole total → AreOutcomesUpTo image cuts fault whole other → total ≡ other }
 {}

@@ -4,13 +4,11 @@
 //! The laws are the contracts of the functions of [`laws`].
 #![tactic(auto)]
 
-mod check;
 mod effort;
 pub mod laws;
 mod passes;
 mod table;
 
-pub use check::every_edge_respects;
 pub use effort::Effort;
 pub use passes::{check_states, check_states_counting};
 pub use table::Table;

@@ -1,6 +1,6 @@
 //! The passes: a table is made edge by edge until a pass changes nothing.
 
-ghost use Rattle.std.specs.Prelude.{◌≡◌, ◌≢◌, ◌<◌, ◌≤◌, ◌+◌, ◌*◌, if◌then◌else◌, ℕ, true, false, length, All, Some, Ok, IfOk, IfErr, OnOk, IsTrue};
+ghost use Rattle.std.specs.Prelude.{◌≡◌, ◌≢◌, ◌<◌, ℕ, true, false, length, All, Some, Ok, IfOk, IfErr, OnOk, IsTrue};
 ghost use Rattle.std.specs.List.{AllByRecursion};
 ghost use Rattle.tp_decode.specs.Cutting.{IsSpelled};
 ghost use Rattle.tp_decode.specs.declared.instr.Instr.{Instr as AnInstr};
@@ -12,16 +12,14 @@ ghost use Rattle.tp_image.specs.Image.{InRange};
 ghost use Rattle.tp_state.specs.declared.fault.StateFault.TheVariants as fault;
 ghost use Rattle.tp_check.specs.Tables.{table_of, asked, HasPlacedStates};
 ghost use Rattle.tp_check.specs.EdgesRespect.{EveryEdgeRespects, HasNoTable};
-ghost use Rattle.tp_check.specs.Passes.{IsVerdict, first_table, enter, go_along, along, edges_of, edges_in, pass, IsRefusalOf};
-ghost use Rattle.tp_check.specs.Counts.{counted, known, edges_from, TellsPasses, TellsOutcomes};
-ghost use Rattle.tp_check.specs.UnderWay.{IsUnderWay, HasPlaces, MayBeTaken, IsTaken, AreTaken, Gives, Moves, has_changed, marked, Adds, AddsAtMost, Leaves, HasCounted, Falls, Since, TurnsOver, Stops, StopsOver};
+ghost use Rattle.tp_check.specs.Passes.{IsVerdict, first_table, enter, go_along, along, edges_of, pass, IsRefusalOf};
+ghost use Rattle.tp_check.specs.UnderWay.{IsUnderWay, HasPlaces, MayBeTaken, IsTaken, AreTaken, Gives, Moves, has_changed, marked};
 
-use crate::check::{asked, every_edge_respects};
 use crate::effort::Effort;
 use crate::table::Table;
 use std::alloc::{AllocError, Global};
-use tp_decode::{Listing, Placed};
-use tp_flow::{Edge, Nest};
+use tp_decode::{Instr, Listing, Placed};
+use tp_flow::{Edge, Nest, edges};
 use tp_image::Image;
 use tp_state::{State, StateFault};
 
@@ -47,8 +45,7 @@ pub fn check_states(
 }
 
 /// As `check_states`; and whatever the answer is, `effort` is then what the passes have taken up to it, whatever it was
-/// before. The check of every edge, which comes after the passes, is not counted. That this check fails is proved not to
-/// happen; what is promised of the table rests on it, and on nothing that the passes do.
+/// before. It is for benchmarks: no contract tells what is counted.
 pub fn check_states_counting(
     alloc: Global,
     image: &Image,
@@ -65,10 +62,6 @@ pub fn check_states_counting(
     // Of a code's listing: where anything but memory is refused, no table exists that every edge respects.
     ensures exact { AllByRecursion IsSpelled listing.now →
         IfErr result (λ e. e ≢ fault.Memory → HasNoTable image.now listing.now) }
-    ensures passes { TellsPasses image.now listing.now result effort.new.passes }
-    ensures outcomes { TellsOutcomes image.now listing.now result effort.new.outcomes }
-    ensures outcomes_least { IfOk result (λ table. counted (edges_from listing.now table) ≤ effort.new.outcomes) }
-    ensures outcomes_most { effort.new.outcomes ≤ effort.new.passes * length (edges_in listing.now) }
 {
     *effort = Effort::default();
     let mut passes = Passes::begin(alloc, image, listing)?;
@@ -79,11 +72,7 @@ pub fn check_states_counting(
         effort.outcomes = passes.outcomes;
         moved = answer?;
     }
-    let table = passes.table;
-    if !every_edge_respects(alloc, image, listing, nest, &table)? {
-        unreachable!();
-    }
-    Ok(table)
+    Ok(passes.table)
 }
 
 /// The passes, between two edges.
@@ -106,9 +95,6 @@ impl Passes {
         ensures places { IfOk result (λ p. HasPlaces listing.now p) }
         ensures way { IfOk result (IsUnderWay image.now) }
         ensures taken { IfOk result (AreTaken image.now listing.now) }
-        ensures none { IfOk result (λ p. p.outcomes ≡ 0) }
-        ensures counts { IfOk result (HasCounted listing.now) }
-        ensures marked { IfOk result (λ p. (at : ℕ) → at < length p.table → has_changed p at ≡ true) }
         // This is known of every image.
         ensures in_range { InRange image.now }
     {
@@ -139,16 +125,11 @@ impl Passes {
         requires places { HasPlaces listing.now self.old }
         requires way { IsUnderWay image.now self.old }
         requires taken { AreTaken image.now listing.now self.old }
-        requires counts { HasCounted listing.now self.old }
         ensures gives { Gives result (table_of self.new.table) (pass image.now listing.now (table_of self.old.table)) }
         ensures way { OnOk result (IsUnderWay image.now self.new) }
         ensures taken { OnOk result (AreTaken image.now listing.now self.new) }
         ensures moves { IfOk result (λ moved. Moves image.now moved self.old self.new) }
         ensures rest { IfOk result (λ moved. moved ≡ false → (at : ℕ) → IsTrue (is_start listing.now at) → has_changed self.new at ≡ false) }
-        ensures counts { OnOk result (HasCounted listing.now self.new) }
-        ensures most { AddsAtMost self.old.outcomes (length (edges_in listing.now)) self.new.outcomes }
-        ensures turns { OnOk result (TurnsOver image.now listing.now self.old self.new) }
-        ensures stops { IfErr result (StopsOver image.now listing.now self.old self.new) }
     {
         let mut moved = false;
         for i in 0..listing.len() {
@@ -181,12 +162,6 @@ impl Passes {
         ensures taken { OnOk result (All (IsTaken image.now self.new place.at place.next place.instr) (asked place.instr)) }
         ensures moves { IfOk result (λ moved. Moves image.now moved self.old self.new) }
         ensures rest { IfOk result (λ moved. moved ≡ false → has_changed self.new place.at ≡ false) }
-        ensures leaves { OnOk result (Leaves place.at self.old self.new) }
-        ensures counts { OnOk result (Adds self.old.outcomes (if has_changed self.old place.at then known (table_of self.old.table place.at) (length (asked place.instr)) else 0) self.new.outcomes) }
-        ensures most { AddsAtMost self.old.outcomes (length (asked place.instr)) self.new.outcomes }
-        ensures falls { OnOk result ((x : ℕ) → x ≢ place.at → Falls image.now self.old self.new x) }
-        ensures since { OnOk result (Since image.now (has_changed self.new place.at) (table_of self.old.table place.at) (table_of self.new.table place.at)) }
-        ensures stops { IfErr result (Stops image.now place self.old self.new) }
     {
         if !self.changed[place.at] {
             return Ok(false);
@@ -212,11 +187,6 @@ impl Passes {
             IsTaken image.now self.old at next instr edge → IsTaken image.now self.new at next instr edge) }
         ensures taken { OnOk result (All (IsTaken image.now self.new place.at place.next place.instr) (asked place.instr)) }
         ensures moves { IfOk result (λ moved. Moves image.now moved self.old self.new) }
-        ensures leaves { OnOk result (Leaves place.at self.old self.new) }
-        ensures counts { OnOk result (Adds self.old.outcomes (known (table_of self.old.table place.at) (length (asked place.instr))) self.new.outcomes) }
-        ensures most { AddsAtMost self.old.outcomes (length (asked place.instr)) self.new.outcomes }
-        ensures falls { OnOk result ((x : ℕ) → Falls image.now self.old self.new x) }
-        ensures stops { IfErr result (Stops image.now place self.old self.new) }
     {
         let ways = asked(place.instr);
         let mut moved = false;
@@ -246,9 +216,6 @@ impl Passes {
             IsTaken image.now self.old at next instr edge → IsTaken image.now self.new at next instr edge) }
         ensures taken { OnOk result (IsTaken image.now self.new place.at place.next place.instr edge) }
         ensures moves { IfOk result (λ moved. Moves image.now moved self.old self.new) }
-        ensures leaves { OnOk result (Leaves place.at self.old self.new) }
-        ensures counts { Adds self.old.outcomes (known (table_of self.old.table place.at) 1) self.new.outcomes }
-        ensures falls { OnOk result ((x : ℕ) → Falls image.now self.old self.new x) }
     {
         let Some(state) = self.table.at(place.at) else {
             return Ok(false);
@@ -273,7 +240,6 @@ impl Passes {
         ensures outcome { OnOk result (self.new.outcome ≡ self.old.outcome) }
         ensures moves { IfOk result (λ moved. Moves image.now moved self.old self.new) }
         ensures marks { IfOk result (λ moved. self.new.changed.items ≡ marked moved to self.old.changed.items) }
-        ensures outcomes { self.new.outcomes ≡ self.old.outcomes }
     {
         let moved = self.table.enter(alloc, image, to, &self.outcome)?;
         if moved {
@@ -291,5 +257,15 @@ fn places_of(listing: &Listing) -> usize
     match listing.starts().last() {
         Some(last) => *last as usize + 1,
         None => 1,
+    }
+}
+
+/// The edges that an instruction's rule is asked on.
+fn asked(instr: Instr) -> &'static [Edge]
+    ensures { result.now ≡ asked instr }
+{
+    match instr {
+        Instr::Stopp => &[Edge::Next],
+        instr => edges(instr),
     }
 }

@@ -61,13 +61,6 @@ impl Table {
         meet(&mut self.states[to], alloc, image, to, state)
     }
 
-    /// How many addresses there may be states at.
-    pub(crate) fn len(&self) -> usize
-        ensures { result ≡ length self.now }
-    {
-        self.states.len()
-    }
-
     /// What is known before the instruction at an address, if any way leads there.
     pub fn at(&self, addr: usize) -> Option<&State>
         ensures { option_copied result ≡ table_of self.now addr }

@@ -1,9 +1,8 @@
-use Rattle.std.proofs.Common.{sym, ap, ◌∙◌, subst, length, true, false, slice_index_or, arith}
+use Rattle.std.proofs.Common.{sym, ap, ◌∙◌, subst, length, true}
 use Rattle.std.proofs.lemmas.List.{length-replicate}
 use Rattle.tp_state.specs.Conditions.{IsPlaced}
 use Rattle.tp_check.specs.Tables.{table_of}
 use Rattle.tp_check.proofs.Entering.{first_grown}
-use Rattle.tp_check.proofs.Counting.{none_settled, all_true}
 use Rattle.tp_check.proofs.passes.Passes.begin.Goals as goal
 
 pub returns-clause-way : goal.returns-clause-way
@@ -12,9 +11,3 @@ returns-clause-way c = record {
   outcome = c.in_ok-outcome.ensures.placed;
   grown = first_grown c.args.image.now (table_of c.in_ok-table.table) c.requires.begins (subst (IsPlaced c.args.image.now) c.in_ok-outcome.ensures.value c.in_ok-outcome.ensures.placed) c.in_ok-table.ensures.value;
 }
-
-pub returns-clause-counts : goal.returns-clause-counts
-returns-clause-counts c = none_settled c.args.listing.now _ c.places_of-places.result c.in_ok-table.ensures.sized (c.in_ok-changed.ensures.items_if_clones_equal (λ y e. e))
-
-pub returns-clause-marked : goal.returns-clause-marked
-returns-clause-marked c at lt = ap (λ bs. slice_index_or bs at false) (c.in_ok-changed.ensures.items_if_clones_equal (λ y e. e)) ∙ all_true c.places_of-places.result at (let sized = c.in_ok-table.ensures.sized in omega (arith, lt, sized))

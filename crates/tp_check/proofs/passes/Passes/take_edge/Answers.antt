@@ -5,9 +5,7 @@ use Rattle.tp_state.specs.After.{after}
 use Rattle.tp_check.specs.Tables.{table_of}
 use Rattle.tp_check.specs.Passes.{enter}
 use Rattle.tp_check.specs.UnderWay.{IsStateAt}
-use Rattle.tp_check.proofs.Taking.{along_none, along_some, enter_none, gives_same, on_arrival, arrives_at, goes_on_way, stays_taken, is_taken, taken_nowhere, leaves, falls, left, refused}
-use Rattle.tp_check.proofs.Counting.{leaves_none}
-use Rattle.tp_check.proofs.Falling.{falls_none}
+use Rattle.tp_check.proofs.Taking.{along_none, along_some, enter_none, gives_same, on_arrival, arrives_at, goes_on_way, stays_taken, is_taken, taken_nowhere, left, refused}
 use Rattle.tp_check.proofs.passes.Passes.take_edge.Goals as goal
 
 pub returns-in_default-clause-gives : goal.returns-in_default-clause-gives
@@ -74,29 +72,3 @@ returns-in-None-clause-gives c =
 
 pub returns-in-None-clause-taken : goal.returns-in-None-clause-taken
 returns-in-None-clause-taken c = taken_nowhere c.args.image.now c.args.self.now c.args.place.at c.args.place.next c.args.place.instr c.args.edge c.in-Some.state.now c.go_on.new.self (sym c.in-Some.ensures) (goes_out c) (leads_nowhere c)
-
--- ---- what is left and counted
-
-pub returns-in_default-clause-leaves : goal.returns-in_default-clause-leaves
-returns-in_default-clause-leaves c = leaves_none c.args.place.at c.args.self.now
-
-pub returns-in-None-clause-leaves : goal.returns-in-None-clause-leaves
-returns-in-None-clause-leaves c = record { others = λ x other rests. record { rests = rests; same = refl }; kept = refl }
-
-pub returns-in-Some-target-clause-leaves : goal.returns-in-Some-target-clause-leaves
-returns-in-Some-target-clause-leaves c =
-    on_arrival c.args.image.now c.args.self.now _ c.enter.new.self c.in-Some-target.to c.go_on.new.self c.enter.result _ refl c.enter.ensures.gives c.enter.ensures.outcome c.enter.ensures.moves c.enter.ensures.marks
-    (λ moved a. leaves c.args.image.now c.args.self.now c.enter.new.self c.in-Some-target.to c.go_on.new.self moved c.requires.way (inside c) (fits c) a c.args.place.at c.in-Some.state.now (sym c.in-Some.ensures))
-
--- ---- what has fallen
-
-pub returns-in_default-clause-falls : goal.returns-in_default-clause-falls
-returns-in_default-clause-falls c x = falls_none c.args.image.now c.args.self.now x
-
-pub returns-in-None-clause-falls : goal.returns-in-None-clause-falls
-returns-in-None-clause-falls c x = falls_none c.args.image.now c.args.self.now x
-
-pub returns-in-Some-target-clause-falls : goal.returns-in-Some-target-clause-falls
-returns-in-Some-target-clause-falls c =
-    on_arrival c.args.image.now c.args.self.now _ c.enter.new.self c.in-Some-target.to c.go_on.new.self c.enter.result _ refl c.enter.ensures.gives c.enter.ensures.outcome c.enter.ensures.moves c.enter.ensures.marks
-    (λ moved a. falls c.args.image.now c.args.self.now c.enter.new.self c.in-Some-target.to c.go_on.new.self moved c.requires.way (inside c) (fits c) a)

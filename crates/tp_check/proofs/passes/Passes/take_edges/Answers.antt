@@ -1,11 +1,8 @@
-use Rattle.std.proofs.Common.{◌<◌, ◌≤◌, length, refl, sym, ap, subst, ◌∙◌, arith}
+use Rattle.std.proofs.Common.{sym, ap, subst, ◌∙◌, arith}
 use Rattle.tp_check.specs.Tables.{table_of}
 use Rattle.tp_check.specs.Passes.{along, from}
-use Rattle.tp_check.specs.UnderWay.{Moves, IsTaken, Stops}
+use Rattle.tp_check.specs.UnderWay.{Moves, IsTaken}
 use Rattle.tp_check.proofs.Moving.{moves_none, moves_more, moves_no_more, way_on, way_more}
-use Rattle.tp_check.proofs.Counting.{leaves_none, leaves_more, counts_none, counts_on, counts_most, counts_inside}
-use Rattle.tp_check.proofs.Falling.{falls_none, falls_more}
-use Rattle.tp_check.proofs.Stopping.{stops_handed_on, stops_here, ways_go}
 use Rattle.tp_check.proofs.passes.Passes.take_edges.Goals as goal
 use Rattle.tp_check.proofs.passes.Passes.take_edges.Goals.{then-branch, else-branch}
 
@@ -17,11 +14,6 @@ loop-edge-init c = record {
   others = λ at next instr edge taken. taken;
   taken = λ k d lt. absurd (omega (arith, lt));
   moves = moves_none c.args.image.now c.args.self.now;
-  leaves = leaves_none c.args.place.at c.args.self.now;
-  counts = counts_none (table_of c.args.self.now.table c.args.place.at) c.args.self.now.outcomes;
-  inside = omega arith;
-  goes = refl;
-  falls = λ x. falls_none c.args.image.now c.args.self.now x;
 }
 
 pub loop-edge-preserved : goal.loop-edge-preserved
@@ -32,11 +24,6 @@ loop-edge-preserved c = record {
   others = λ at next instr edge taken. c.in_ok-take_edge.ensures.others at next instr edge (c.loop-edge.invariant.others at next instr edge taken);
   taken = way_more (IsTaken c.args.image.now c.take_edge.new.self c.args.place.at c.args.place.next c.args.place.instr) c.asked-ways.result.now c.loop-edge.edge-index _ c.loop-edge-test.true (λ k d lt. c.in_ok-take_edge.ensures.others c.args.place.at c.args.place.next c.args.place.instr _ (c.loop-edge.invariant.taken k d lt)) c.in_ok-take_edge.ensures.taken;
   moves = moves;
-  leaves = leaves_more c.args.place.at c.args.self.now c.loop-edge.self c.take_edge.new.self c.loop-edge.invariant.leaves c.in_ok-take_edge.ensures.leaves;
-  counts = counts_on (table_of c.args.self.now.table c.args.place.at) (table_of c.loop-edge.self.table c.args.place.at) c.loop-edge.edge-index _ _ _ c.loop-edge.invariant.leaves.kept c.loop-edge.invariant.counts c.take_edge.ensures.counts;
-  inside = let lt = c.loop-edge-test.true in omega (arith, lt);
-  goes = ways_go c.args.image.now c.args.place c.asked-ways.result.now c.loop-edge.edge-index _ (table_of c.args.self.now.table) (table_of c.loop-edge.self.table) (table_of c.take_edge.new.self.table) c.loop-edge-test.true c.loop-edge.invariant.goes c.in_ok-take_edge.ensures.gives;
-  falls = λ x. falls_more c.args.image.now c.args.self.now c.loop-edge.self c.take_edge.new.self x (c.loop-edge.invariant.falls x) (c.in_ok-take_edge.ensures.falls x);
 }
   where
     moves : Moves c.args.image.now c.if-branch.moved c.args.self.now c.take_edge.new.self
@@ -45,19 +32,3 @@ loop-edge-preserved c = record {
           | then-branch w ↦ (rw w.moved-is (moves_more c.args.image.now c.args.self.now c.loop-edge.self c.take_edge.new.self c.loop-edge.moved c.loop-edge.invariant.moves (subst (λ b. Moves c.args.image.now b c.loop-edge.self c.take_edge.new.self) w.if-branch.true c.in_ok-take_edge.ensures.moves)))
           | else-branch w ↦ (rw w.moved-is (moves_no_more c.args.image.now c.args.self.now c.loop-edge.self c.take_edge.new.self c.loop-edge.moved c.loop-edge.invariant.moves (subst (λ b. Moves c.args.image.now b c.loop-edge.self c.take_edge.new.self) w.if-branch.false c.in_ok-take_edge.ensures.moves)))
         ]
-
-pub returns-in_err-take_edge-clause-most : goal.returns-in_err-take_edge-clause-most
-returns-in_err-take_edge-clause-most c =
-    counts_most (table_of c.args.self.now.table c.args.place.at) (table_of c.loop-edge.self.table c.args.place.at) c.loop-edge.edge-index _ _ _ _
-    (subst (λ ways. c.loop-edge.edge-index < length ways) c.asked-ways.ensures c.loop-edge-test.true) c.loop-edge.invariant.counts c.take_edge.ensures.counts
-
-pub returns-clause-most : goal.returns-clause-most
-returns-clause-most c =
-    counts_inside (table_of c.args.self.now.table c.args.place.at) c.loop-edge.edge-index _ _ _
-    (subst (λ ways. c.loop-edge.edge-index ≤ length ways) c.asked-ways.ensures c.loop-edge.invariant.inside) c.loop-edge.invariant.counts
-
-pub returns-in_err-take_edge-clause-stops : goal.returns-in_err-take_edge-clause-stops
-returns-in_err-take_edge-clause-stops c =
-    stops_handed_on c.from_residual.result c.in_err-take_edge.field-0.0 (Stops c.args.image.now c.args.place c.args.self.now c.take_edge.new.self) c.from_residual.ensures.1
-    (stops_here c.args.image.now c.args.place c.asked-ways.result.now c.loop-edge.edge-index _ c.args.self.now c.loop-edge.self c.take_edge.new.self c.in_err-take_edge.field-0.0 c.asked-ways.ensures c.loop-edge-test.true c.loop-edge.invariant.goes
-    c.in_err-take_edge.ensures.gives c.loop-edge.invariant.leaves.kept c.loop-edge.invariant.counts c.take_edge.ensures.counts)

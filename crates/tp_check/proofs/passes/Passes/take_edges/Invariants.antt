@@ -1,10 +1,9 @@
-use Rattle.std.proofs.Common.{◌≡◌, ℕ, ◌<◌, ◌≤◌, length, take, drop, slice_index_or, Ok}
+use Rattle.std.proofs.Common.{◌≡◌, ℕ, ◌<◌, drop, slice_index_or}
 use Rattle.tp_decode.specs.declared.instr.Instr.{Instr}
 use Rattle.tp_flow.specs.declared.edge.Edge.{Edge}
 use Rattle.tp_check.specs.Tables.{table_of, asked}
 use Rattle.tp_check.specs.Passes.{along, from, edges_of}
-use Rattle.tp_check.specs.Counts.{known}
-use Rattle.tp_check.specs.UnderWay.{IsUnderWay, IsTaken, Moves, Adds, Leaves, Falls}
+use Rattle.tp_check.specs.UnderWay.{IsUnderWay, IsTaken, Moves}
 use Rattle.tp_check.proofs.passes.Passes.take_edges.Given as goal
 
 abbrev pub invariant-loop-edge : goal.invariant-loop-edge
@@ -15,9 +14,4 @@ invariant-loop-edge l = record {
   others : (at next : ℕ) (instr : Instr) (edge : Edge) → IsTaken l.image l.initial.self at next instr edge → IsTaken l.image l.self at next instr edge;
   taken : (k : ℕ) (d : Edge) → k < l.edge-index → IsTaken l.image l.self l.place.at l.place.next l.place.instr (slice_index_or l.ways k d);
   moves : Moves l.image l.moved l.initial.self l.self;
-  leaves : Leaves l.place.at l.initial.self l.self;
-  counts : Adds l.initial.self.outcomes (known (table_of l.initial.self.table l.place.at) l.edge-index) l.self.outcomes;
-  inside : l.edge-index ≤ length l.ways;
-  goes : along l.image (take l.edge-index (from l.place l.ways)) (table_of l.initial.self.table) ≡ Ok (table_of l.self.table);
-  falls : (x : ℕ) → Falls l.image l.initial.self l.self x;
 }
