@@ -121,6 +121,8 @@ fn a_failing_source_keeps_the_packet(rt: HostRuntime) -> Result<(), Fail> {
     let failed = refused(Link::Source, DeviceFault::Failed);
     assert_eq!(rt; answers, [failed, ended(false, 16)]);
     assert_eq!(rt; at_source, (4, 1));
+    assert_eq!(rt; media.source.bytes(), [].as_slice());
+    assert_eq!(rt; media.sink.bytes(), [2, 0, 0, 0].as_slice());
     Ok(())
 }
 

@@ -7,6 +7,8 @@ mod cases;
 #[cfg(test)]
 mod farms;
 #[cfg(test)]
+mod full_size;
+#[cfg(test)]
 mod listings;
 #[cfg(test)]
 mod members;

@@ -1,6 +1,6 @@
 //! Listings, and lines of any length.
 
-use crate::farms::{answers, served};
+use crate::farms::answers;
 use std::alloc::{AllocError, Global};
 use std::test::Fail;
 
@@ -45,7 +45,11 @@ fn listings(rt: HostRuntime) -> Result<(), Fail> {
 }
 
 /// A line of so many instructions `ldc 1`, and what ends it.
-fn long_line(alloc: Global, instructions: usize, end: &[u8]) -> Result<Vec<u8>, AllocError> {
+pub(crate) fn long_line(
+    alloc: Global,
+    instructions: usize,
+    end: &[u8],
+) -> Result<Vec<u8>, AllocError> {
     let mut line = Vec::from_slice(alloc, b"LIST ")?;
     for _ in 0..instructions {
         line.extend_from_slice(b"41")?;
@@ -61,24 +65,26 @@ fn two_listings(alloc: Global, instructions: usize, end: &[u8]) -> Result<Vec<u8
     Ok(input)
 }
 
-fn count_lines(text: &[u8]) -> usize {
-    let mut lines = 0usize;
-    for byte in text {
-        if *byte == b'\n' {
-            lines = lines.saturating_add(1);
-        }
+/// What is answered for a listing of so many instructions `ldc 1`.
+pub(crate) fn long_listing(alloc: Global, instructions: u32) -> Result<String, AllocError> {
+    let mut output = String::new(alloc);
+    for at in 0..instructions {
+        let told = format!(in alloc; "{at} 41 ldc 1\n")?;
+        output.push_str(told.as_str())?;
     }
-    lines
+    let told = format!(in alloc; "DONE {instructions}\n")?;
+    output.push_str(told.as_str())?;
+    Ok(output)
 }
 
+/// Each line of the answer to the longest line, and a line behind it.
 #[test]
 fn the_longest_line(rt: HostRuntime) -> Result<(), Fail> {
     let input = two_listings(rt.alloc(), 16_381, b"\r\n")?;
     assert_eq!(rt; input.len(), 32_779);
-    let written = served(&rt, rt.alloc(), 1, false, &input)?;
-    assert_eq!(rt; count_lines(&written), 16_384);
-    assert!(rt; written.starts_with(b"0 41 ldc 1\n1 41 ldc 1\n"));
-    assert!(rt; written.ends_with(b"\n16380 41 ldc 1\nDONE 16381\n0 604f ldc -1\nDONE 1\n"));
+    let mut wanted = long_listing(rt.alloc(), 16_381)?;
+    wanted.push_str("0 604f ldc -1\nDONE 1\n")?;
+    assert!(rt; answers(&rt, rt.alloc(), 1, &input, wanted.as_bytes())?);
     Ok(())
 }
 

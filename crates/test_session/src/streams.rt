@@ -74,9 +74,9 @@ impl Write for Narrow {
 
 /// Takes all that it is given, and remembers how much that was at each flush.
 #[derive(Drop)]
-struct Flushed {
-    taken: Vec<u8>,
-    flushes: Vec<usize>,
+pub(crate) struct Flushed {
+    pub(crate) taken: Vec<u8>,
+    pub(crate) flushes: Vec<usize>,
 }
 
 impl Write for Flushed {
@@ -124,14 +124,25 @@ fn a_byte_at_a_time(rt: HostRuntime) -> Result<(), Fail> {
     Ok(())
 }
 
+/// What is written for an input, and how much that was at each flush.
+pub(crate) fn flushes_of<T: Threads + Wait + Sync>(
+    rt: &T,
+    alloc: Global,
+    members: usize,
+    input: &[u8],
+) -> Result<Flushed, ServeFault> {
+    let mut reader = input;
+    let mut writer = Flushed {
+        taken: Vec::new(alloc),
+        flushes: Vec::new(alloc),
+    };
+    serve_on(rt, alloc, members, false, &mut reader, &mut writer)?;
+    Ok(writer)
+}
+
 #[test]
 fn each_answer_is_flushed(rt: HostRuntime) -> Result<(), Fail> {
-    let mut reader = INPUT;
-    let mut writer = Flushed {
-        taken: Vec::new(rt.alloc()),
-        flushes: Vec::new(rt.alloc()),
-    };
-    serve_on(&rt, rt.alloc(), 1, false, &mut reader, &mut writer)?;
+    let writer = flushes_of(&rt, rt.alloc(), 1, INPUT)?;
     assert!(rt; writer.taken.as_slice() == OUTPUT);
     assert_eq!(rt; writer.flushes.as_slice(), [21, 29, 48, 56].as_slice());
     Ok(())
@@ -151,7 +162,7 @@ fn written_after(read: usize) -> usize {
 }
 
 /// Whether serving an input ends with a read fault and this is written, where this read fails.
-fn read_fails_as<T: Threads + Wait + Sync>(
+pub(crate) fn read_fails_as<T: Threads + Wait + Sync>(
     rt: &T,
     alloc: Global,
     input: &[u8],

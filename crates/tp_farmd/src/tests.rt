@@ -2,11 +2,11 @@
 
 use crate::ending::Ending;
 use crate::program::run;
-use std::alloc::Global;
+use std::alloc::{AllocError, Global};
 use std::env::{Env, FillError};
 use std::io;
 use std::io::{ErrorKind, Read, Write};
-use std::process::ExitCode;
+use std::process::{Abort, ExitCode};
 use std::sync::Wait;
 use std::test::Fail;
 use std::thread::Threads;
@@ -28,6 +28,35 @@ impl Env for Words<'_> {
         }
         buf[..word.len()].copy_from_slice(word.as_bytes());
         Ok(word.len())
+    }
+
+    fn var(&self, _name: &str, _buf: &mut [u8]) -> Result<usize, FillError> {
+        Err(FillError::NotPresent)
+    }
+
+    fn var_at(&self, _i: usize, _buf: &mut [u8]) -> Result<usize, FillError> {
+        Err(FillError::NotPresent)
+    }
+}
+
+/// A command line with a word that is no text.
+#[derive(Drop)]
+struct NoText;
+
+impl Env for NoText {
+    fn arg(&self, i: usize, buf: &mut [u8]) -> Result<usize, FillError> {
+        match (i, buf) {
+            (0, [first, ..]) => {
+                *first = b'f';
+                Ok(1)
+            }
+            (1, [first, ..]) => {
+                *first = 0xFF;
+                Ok(1)
+            }
+            (0 | 1, _) => Err(FillError::TooLong),
+            _ => Err(FillError::NotPresent),
+        }
     }
 
     fn var(&self, _name: &str, _buf: &mut [u8]) -> Result<usize, FillError> {
@@ -105,18 +134,49 @@ fn tells_a_failed_read(rt: HostRuntime) {
     assert!(rt; ended.errors.as_slice() == b"farmd: read\n".as_slice());
 }
 
-#[test]
-fn tells_a_failed_write(rt: HostRuntime) {
+/// Takes what it is given, and fails where it is to be flushed.
+#[derive(Drop)]
+struct Unflushed;
+
+impl Write for Unflushed {
+    fn write(&mut self, buf: &[u8]) -> io::Result<usize> {
+        Ok(buf.len())
+    }
+
+    fn flush(&mut self) -> io::Result<()> {
+        Err(io::Error::from(ErrorKind::BrokenPipe))
+    }
+}
+
+/// What ends with a fault of this writer, and is told so: an answer, help and the version.
+fn assert_tells_a_failed_write<T: Threads + Wait + Sync, W: Write>(
+    rt: &T,
+    alloc: Global,
+    output: &mut W,
+)
+where
+    T: Abort,
+{
     for words in [
         ["farmd"].as_slice(),
         ["farmd", "--help"].as_slice(),
         ["farmd", "--version"].as_slice(),
     ] {
         let mut input = b"LIST 604F\n".as_slice();
-        let ended = ran(&rt, rt.alloc(), words, &mut input, &mut Broken);
+        let ended = ran(rt, alloc, words, &mut input, output);
         assert_eq!(rt; ended.status, ExitCode::from(1));
         assert!(rt; ended.errors.as_slice() == b"farmd: write\n".as_slice());
     }
+}
+
+#[test]
+fn tells_a_failed_write(rt: HostRuntime) {
+    assert_tells_a_failed_write(&rt, rt.alloc(), &mut Broken);
+}
+
+#[test]
+fn tells_a_failed_flush(rt: HostRuntime) {
+    assert_tells_a_failed_write(&rt, rt.alloc(), &mut Unflushed);
 }
 
 /// Gives a line a call, and fails in one call, counted from 1.
@@ -254,21 +314,56 @@ fn refuses_words(rt: HostRuntime) {
 }
 
 #[test]
-fn answers_help_and_version(rt: HostRuntime) {
-    let shown = [
-        (
-            "--help",
-            "A processor farm whose every promise is proved\n\nUsage: farmd [OPTIONS]\n\nOptions:\n      --members <N>  ",
-        ),
-        ("--version", "farmd 0.1\n"),
-    ];
-    for (word, answer) in shown {
+fn refuses_a_word_that_is_no_text(rt: HostRuntime) {
+    let mut output = Vec::new(rt.alloc());
+    let mut errors = Vec::new(rt.alloc());
+    let status = run(
+        &rt,
+        &NoText,
+        rt.alloc(),
+        &mut Broken,
+        &mut output,
+        &mut errors,
+    );
+    assert_eq!(rt; status, ExitCode::from(2));
+    assert!(rt; output.is_empty());
+    assert!(rt;
+        errors.as_slice() == b"error: a word of the command line is not UTF-8\n".as_slice()
+    );
+}
+
+/// All that `--help` says.
+const HELP: &str = "\
+A processor farm whose every promise is proved
+
+Usage: farmd [OPTIONS]
+
+Options:
+      --members <N>  How many members run a batch, 1 to 64 [default: 4]
+      --trace        Follow each result with its trace
+  -h, --help         Print help
+  -V, --version      Print version
+
+Reads lines on standard input, and writes the answer to each on standard output:
+  LIST <hex>        the instructions of a code, then DONE <instructions>
+  <s> IMAGE <hex>   YES <code bytes> <budget>; opens session <s>, or gives it another image
+  <s> PACKET <hex>  KEPT <n>, the packet's number in the coming batch
+  <s> RUN           R <n> <flag> <steps> <hex> or LOST <n> for each packet, then DONE <packets>
+  RUN *             OF <s> and its RUN for each session, then ALL <sessions>
+  <s> DROP          GONE
+A refused line is answered by NO <code> <place>. docs/PROTOCOL.md says the rest.
+";
+
+#[test]
+fn answers_help_and_version(rt: HostRuntime) -> Result<(), Fail> {
+    for (word, answer) in [("--help", HELP), ("--version", "farmd 0.1\n")] {
         let mut output = Vec::new(rt.alloc());
         let ended = ran(&rt, rt.alloc(), &["farmd", word], &mut Broken, &mut output);
         assert_eq!(rt; ended.status, ExitCode::SUCCESS);
-        assert!(rt; output.starts_with(answer.as_bytes()));
+        assert_eq!(rt; str::from_utf8(&output).map_err(|_| "no text")?, answer);
         assert!(rt; ended.errors.is_empty());
     }
+    Ok(())
 }
 
 /// The number of members changes no answer, and the trace is told where it is asked for.
@@ -304,6 +399,11 @@ fn endings(rt: HostRuntime) -> Result<(), Fail> {
             Ending::NotText,
             2,
             "error: a word of the command line is not UTF-8\n",
+        ),
+        (
+            Ending::from(clap::Error::from(AllocError)),
+            1,
+            "farmd: memory\n",
         ),
         (Ending::Fault(ServeFault::Read), 1, "farmd: read\n"),
         (Ending::Fault(ServeFault::Write), 1, "farmd: write\n"),
