@@ -1,116 +1,157 @@
-//! How many instruction bytes a second a machine executes, on a loop and on a loop in a loop, beside plain functions that
-//! make the same turns over an array.
+//! How many instruction bytes a second the machine executes, and the tested machine beside it; and, of two loops, plain
+//! functions that make the same turns over an array.
 //!
-//! Each worker runs once, and what was counted is printed, or many times, and the rates are printed.
+//! Each worker runs once, and what was counted is printed; or each in turn many times, and the best rates are printed.
 
 mod plain;
+mod rounds;
 mod workers;
 
 use anyhow::{Result, anyhow};
+use rounds::{Plain, Run, Runs, Tested, rounds};
 use std::alloc::Global;
 use std::rt::Runtime;
-use std::time::{Duration, Instant};
-use tp_image::{Image, read_image};
-use tp_link::{Link, LinkDevice, Links, Medium, Wire};
-use tp_machine::Machine;
-use workers::Worker;
+use std::time::Instant;
+use tp_accept::{Accepted, accept};
+use workers::{WORKERS, Worker};
 
-const TIMED_ROUNDS: u32 = 2000;
+/// How often each is timed, in turn with the others.
+const TIMES: u32 = 7;
 
-/// More steps than any of the workers makes.
-const LIMIT: u32 = 1_000_000;
-
-/// What was counted over some rounds, the last result, and how long they took.
+/// The least times of a worker, in nanoseconds a round.
 #[derive(Clone, Copy)]
-struct Run {
+struct Best {
     counted: u64,
-    result_word: u32,
-    took: Duration,
+    machine: u64,
+    tested: u64,
+    plain: u64,
 }
 
 pub(crate) fn measure<R: Runtime<A = Global>>(rt: &R, is_timed: bool) -> Result<()> {
-    let rounds = is_timed.then_some(TIMED_ROUNDS);
-    told(rt, &workers::SUM, rounds)?;
-    told(rt, &workers::NEST, rounds)
+    for worker in &WORKERS {
+        let text = Vec::from_slice(rt.alloc(), worker.image)?;
+        let accepted = accept(rt.alloc(), text).map_err(|refusal| anyhow!("{refusal}"))?;
+        if is_timed {
+            timed(rt, worker, &accepted)?;
+        } else {
+            counted(rt, worker, &accepted)?;
+        }
+    }
+    Ok(())
 }
 
-/// Prints of one worker what is counted in one round, or the rates of many.
-fn told<R: Runtime<A = Global>>(rt: &R, worker: &Worker, rounds: Option<u32>) -> Result<()> {
+/// The machine, with an image.
+fn machine_with(accepted: &Accepted) -> Plain<'_> {
+    Plain {
+        machine: tp_machine::Machine::new(),
+        accepted,
+    }
+}
+
+/// The tested machine, with an image.
+fn tested_with(accepted: &Accepted) -> Tested<'_> {
+    Tested {
+        machine: tp_tested::Machine::new(),
+        image: accepted.image(),
+    }
+}
+
+/// Prints what one round comes to on both machines.
+fn counted<R: Runtime<A = Global>>(rt: &R, worker: &Worker, accepted: &Accepted) -> Result<()> {
     let name = worker.name;
-    let image = read_image(rt.alloc(), worker.image)?;
-    let Some(rounds) = rounds else {
-        let run = machine_rounds(rt, &image, 1)?;
-        let plain = plain_rounds(rt, worker, &image, 1)?;
+    let packet = accepted.packet_bytes();
+    for (kind, run) in [
+        (
+            "the machine",
+            rounds(rt, &mut machine_with(accepted), packet, 1)?,
+        ),
+        ("tested", rounds(rt, &mut tested_with(accepted), packet, 1)?),
+    ] {
         println!(rt;
-            "{name}: {} instruction bytes, result {}, plain loop {}",
-            run.counted, run.result_word, plain.result_word
+            "{name}, {kind}: {} instruction bytes, result {}",
+            run.counted, run.result_word
         )?;
+    }
+    let Some(turns) = worker.turns else {
         return Ok(());
     };
-    let run = machine_rounds(rt, &image, rounds)?;
-    let plain = plain_rounds(rt, worker, &image, rounds)?;
-    let rate = run.counted.saturating_mul(1000) / nanos(run).max(1);
-    let times = nanos(run) / nanos(plain).max(1);
-    println!(rt;
-        "{name}: {} instruction bytes, {rate} million a second, {times} times as long as the plain loop",
-        run.counted
-    )?;
+    let plain = plain_rounds(rt, turns, accepted, 1)?;
+    println!(rt; "{name}, plain loop: {}", plain.result_word)?;
     Ok(())
+}
+
+/// Prints the best rates of a worker.
+fn timed<R: Runtime<A = Global>>(rt: &R, worker: &Worker, accepted: &Accepted) -> Result<()> {
+    let mut best = Best {
+        counted: 0,
+        machine: u64::MAX,
+        tested: u64::MAX,
+        plain: u64::MAX,
+    };
+    for _ in 0..TIMES {
+        best = better(rt, worker, accepted, best)?;
+    }
+    let rate = |nanos: u64| best.counted.saturating_mul(1000) / nanos.max(1);
+    let name = worker.name;
+    let tenths = best.tested.saturating_mul(10) / best.machine.max(1);
+    println!(rt;
+        "{name}: {} million instruction bytes a second, tested {}: {}.{} times",
+        rate(best.machine),
+        rate(best.tested),
+        tenths / 10,
+        tenths % 10
+    )?;
+    if worker.turns.is_some() {
+        let times = best.machine / best.plain.max(1);
+        println!(rt; "{name}: {times} times as long as the plain loop")?;
+    }
+    Ok(())
+}
+
+/// One measurement of each, where it is better than those before.
+fn better<R: Runtime<A = Global>>(
+    rt: &R,
+    worker: &Worker,
+    accepted: &Accepted,
+    best: Best,
+) -> Result<Best> {
+    let packet = accepted.packet_bytes();
+    let machine = rounds(rt, &mut machine_with(accepted), packet, worker.rounds)?;
+    let tested = rounds(rt, &mut tested_with(accepted), packet, worker.rounds)?;
+    let plain = match worker.turns {
+        Some(turns) => nanos(plain_rounds(rt, turns, accepted, worker.rounds)?),
+        None => best.plain,
+    };
+    Ok(Best {
+        counted: machine.counted,
+        machine: best.machine.min(nanos(machine)),
+        tested: best.tested.min(nanos(tested)),
+        plain: best.plain.min(plain),
+    })
 }
 
 fn nanos(run: Run) -> u64 {
     u64::try_from(run.took.as_nanos()).unwrap_or(u64::MAX)
 }
 
-/// A worker's runs on one machine, each with a packet of one word, which is 0.
-fn machine_rounds<R: Runtime<A = Global>>(rt: &R, image: &Image, rounds: u32) -> Result<Run> {
-    let mut packets = Medium::new(rt.alloc(), 4)?;
-    let mut results = Medium::new(rt.alloc(), 4)?;
-    let mut traces = Medium::new(rt.alloc(), 4)?;
-    let mut links = Links {
-        source: Wire::new(&mut packets),
-        sink: Wire::new(&mut results),
-        trace: Wire::new(&mut traces),
-    };
-    let mut machine = Machine::new();
-    let mut counted = 0u64;
-    let mut word = [0; 4];
-    let start = Instant::now(rt)?;
-    for _ in 0..rounds {
-        links
-            .source
-            .send(&[0; 4])
-            .map_err(|code| anyhow!("{code} at {}", Link::Source))?;
-        let outcome = machine
-            .run_image(image, &mut links, LIMIT)
-            .map_err(|fault| anyhow!("{fault}"))?;
-        links
-            .sink
-            .receive(&mut word)
-            .map_err(|code| anyhow!("{code} at {}", Link::Sink))?;
-        counted = counted.saturating_add(u64::from(outcome.steps));
-    }
-    let took = start.elapsed(rt)?;
-    Ok(Run {
-        counted,
-        result_word: u32::from_le_bytes(word),
-        took,
-    })
-}
-
 /// The same turns by a plain function. Where its words stand is read from the image, so that no compiler knows it.
-fn plain_rounds<R: Runtime>(rt: &R, worker: &Worker, image: &Image, rounds: u32) -> Result<Run> {
-    let sum = image.result as usize % 8;
-    let block = (image.packet as usize + 1) % 8;
+fn plain_rounds<R: Runtime>(
+    rt: &R,
+    (outer, inner): (u32, u32),
+    accepted: &Accepted,
+    count: u32,
+) -> Result<Run> {
+    let sum = accepted.result_bytes() % 8;
+    let block = (accepted.packet_bytes() + 1) % 8;
     let mut words = [0u32; plain::WORDS];
     let start = Instant::now(rt)?;
-    for _ in 0..rounds {
+    for _ in 0..count {
         words[sum] = 0;
-        plain::turns(&mut words, sum, block, worker.outer, worker.inner);
+        plain::turns(&mut words, sum, block, outer, inner);
     }
     let took = start.elapsed(rt)?;
     Ok(Run {
-        counted: u64::from(rounds),
+        counted: u64::from(count),
         result_word: words[sum],
         took,
     })

@@ -4,8 +4,8 @@ use crate::texts::{FOUR_THOUSAND, NINE_HUNDRED, many_jumps};
 use std::alloc::Global;
 use std::test::Fail;
 use tp_accept::{Accepted, accept};
-use tp_link::LinkDevice;
-use tp_machine::{Machine, Outcome, RunFault};
+use tp_link::{LinkDevice, LinkFault};
+use tp_machine::{Machine, Outcome};
 use tp_media::Media;
 use tp_samples::*;
 
@@ -18,7 +18,7 @@ pub(crate) fn run_packet(
     machine: &mut Machine,
     accepted: &Accepted,
     packet: &[u8],
-) -> Result<(Result<Outcome, RunFault>, Media), Fail> {
+) -> Result<(Result<Outcome, LinkFault>, Media), Fail> {
     let mut media = Media::new(alloc, ROOM)?;
     let mut links = media.wires();
     links.source.send(packet)?;

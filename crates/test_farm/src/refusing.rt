@@ -100,13 +100,11 @@ fn a_batch_may_be_empty(rt: HostRuntime) -> Result<(), Fail> {
 }
 
 /// Each fault, and what is printed of it.
-const PRINTED: [(FarmFault, &str); 7] = [
+const PRINTED: [(FarmFault, &str); 5] = [
     (FarmFault::Members, "G1: not 1 to 64 members"),
     (FarmFault::Packets, "G2: more than 1024 packets"),
     (FarmFault::Length(7), "G3: packet 7 has another length"),
     (FarmFault::Thread, "G4: no thread"),
-    (FarmFault::Stuck, "G5: stuck"),
-    (FarmFault::Limit, "G6: not ended within the budget"),
     (FarmFault::Memory, "memory"),
 ];
 

@@ -1,79 +1,65 @@
-//! Runs that end in a fault, and what they leave.
+//! Runs that a device ends, and what they leave.
 
-use crate::media::{Media, make_media, media_with_sink_room, wires};
-use crate::runs::{Answer, Left, Task, assert_left, assert_run, ended, run_over};
+use crate::media::{accepted, all_bits_set, run_packet};
 use std::alloc::Global;
 use std::test::Fail;
-use tp_image::{Image, read_image};
 use tp_link::{DeviceFault, FaultyWire, Link, LinkDevice, LinkFault, Links};
-use tp_machine::{Machine, RunFault};
-use worked_steps::table::INCREMENT;
-
-/// The increment of a packet, within a limit.
-fn increment(packet: &[u8], limit: u32) -> Task<'_> {
-    Task {
-        image: INCREMENT,
-        packet,
-        limit,
-    }
-}
-
-#[test]
-fn stops_at_the_limit(rt: HostRuntime) -> Result<(), Fail> {
-    let left = Left {
-        source: &[],
-        sink: &[2, 0, 0, 0],
-        trace: &[],
-    };
-    for (limit, wanted) in [(16, ended(false, 16)), (15, Err(RunFault::Limit))] {
-        let task = increment(&[1, 0, 0, 0], limit);
-        assert_run(&rt, &mut Machine::new(), task, wanted, left)?;
-    }
-    Ok(())
-}
+use tp_machine::{Machine, Outcome};
+use tp_media::Media;
+use tp_samples::{INCREMENT, TRACES_65_TIMES};
 
 /// A refusal by a device.
-fn refused(link: Link, code: DeviceFault) -> Answer {
-    Err(RunFault::Link(LinkFault { link, code }))
+fn refused(link: Link, code: DeviceFault) -> Result<Outcome, LinkFault> {
+    Err(LinkFault { link, code })
 }
 
 #[test]
 fn a_short_source_keeps_its_bytes(rt: HostRuntime) -> Result<(), Fail> {
-    let left = Left {
-        source: &[1, 0, 0],
-        sink: &[],
-        trace: &[],
-    };
-    let task = increment(&[1, 0, 0], 100);
-    let wanted = refused(Link::Source, DeviceFault::Short);
-    assert_run(&rt, &mut Machine::new(), task, wanted, left)
-}
-
-#[test]
-fn a_full_sink_refuses(rt: HostRuntime) -> Result<(), Fail> {
-    let mut media = media_with_sink_room(rt.alloc(), 3)?;
-    let task = increment(&[1, 0, 0, 0], 100);
-    let answer = run_over(rt.alloc(), &mut media, &mut Machine::new(), task)?;
-    assert_eq!(rt; answer, refused(Link::Sink, DeviceFault::Full));
-    assert_left(&rt, &media, Left::default());
+    let accepted = accepted(rt.alloc(), INCREMENT)?;
+    let (answered, media) = run_packet(rt.alloc(), &mut all_bits_set(), &accepted, &[1, 0, 0])?;
+    assert_eq!(rt; answered, refused(Link::Source, DeviceFault::Short));
+    assert_eq!(rt; media.source.bytes(), [1, 0, 0].as_slice());
+    assert_eq!(rt; media.sink.bytes().len(), 0);
     Ok(())
 }
 
-/// What a run answers over a closed sink, and how many bytes its source still holds.
-fn run_over_closed_sink(alloc: Global, media: &mut Media) -> Result<(Answer, usize), Fail> {
-    let image = read_image(alloc, INCREMENT)?;
-    let mut links = wires(media);
+#[test]
+fn a_full_trace_refuses(rt: HostRuntime) -> Result<(), Fail> {
+    let accepted = accepted(rt.alloc(), TRACES_65_TIMES)?;
+    let (answered, media) = run_packet(rt.alloc(), &mut Machine::new(), &accepted, &[0; 4])?;
+    assert_eq!(rt; answered, refused(Link::Trace, DeviceFault::Full));
+    assert_eq!(rt; media.source.bytes().len(), 0);
+    assert_eq!(rt; media.trace.bytes().len(), 256);
+    Ok(())
+}
+
+/// What a run answers over media of which the sink has little room, or is closed.
+fn run_over(
+    alloc: Global,
+    media: &mut Media,
+    close: bool,
+) -> Result<Result<Outcome, LinkFault>, Fail> {
+    let accepted = accepted(alloc, INCREMENT)?;
+    let mut links = media.wires();
     links.source.send(&[1, 0, 0, 0])?;
-    links.sink.close();
-    let answer = Machine::new().run_image(&image, &mut links, 100);
-    Ok((answer, links.source.held()))
+    if close {
+        links.sink.close();
+    }
+    Ok(all_bits_set().run(&accepted, &mut links))
 }
 
 #[test]
-fn a_closed_sink_refuses(rt: HostRuntime) -> Result<(), Fail> {
-    let mut media = make_media(rt.alloc())?;
-    let seen = run_over_closed_sink(rt.alloc(), &mut media)?;
-    assert_eq!(rt; seen, (refused(Link::Sink, DeviceFault::Closed), 0));
+fn a_full_and_a_closed_sink_refuse(rt: HostRuntime) -> Result<(), Fail> {
+    for (room, close, code) in [
+        (3, false, DeviceFault::Full),
+        (256, true, DeviceFault::Closed),
+    ] {
+        let mut media = Media::with_rooms(rt.alloc(), 256, room, 256)?;
+        let answered = run_over(rt.alloc(), &mut media, close)?;
+        assert_eq!(rt; answered, refused(Link::Sink, code));
+        assert_eq!(rt; media.source.bytes().len(), 0);
+        assert_eq!(rt; media.sink.bytes().len(), 0);
+    }
     Ok(())
 }
 
@@ -86,56 +72,27 @@ fn failing_wires(media: &mut Media) -> Links<FaultyWire<'_>> {
     }
 }
 
-/// What a run answers over these wires.
-fn run_over_failing(
-    machine: &mut Machine,
-    image: &Image,
-    links: &mut Links<FaultyWire<'_>>,
-) -> Answer {
-    machine.run_image(image, links, 100)
-}
-
-/// What a cut off run leaves at its source: how many bytes, and how many calls that failed.
-type AtSource = (usize, u64);
-
-/// What two runs on one machine answer, of which the source fails in the first, and what that one leaves there.
-fn run_twice_over_failing(
-    alloc: Global,
-    media: &mut Media,
-) -> Result<([Answer; 2], AtSource), Fail> {
-    let image = read_image(alloc, INCREMENT)?;
-    let mut links = failing_wires(media);
-    let mut machine = Machine::new();
-    links.source.send(&[1, 0, 0, 0])?;
-    let cut_off = run_over_failing(&mut machine, &image, &mut links);
-    let at_source = (links.source.held(), links.source.faults());
-    let again = run_over_failing(&mut machine, &image, &mut links);
-    Ok(([cut_off, again], at_source))
-}
-
 /// The second run is on the same machine, in which a run was cut off, and of the same packet.
 #[test]
 fn a_failing_source_keeps_the_packet(rt: HostRuntime) -> Result<(), Fail> {
-    let mut media = make_media(rt.alloc())?;
-    let (answers, at_source) = run_twice_over_failing(rt.alloc(), &mut media)?;
-    let failed = refused(Link::Source, DeviceFault::Failed);
-    assert_eq!(rt; answers, [failed, ended(false, 16)]);
-    assert_eq!(rt; at_source, (4, 1));
-    assert_eq!(rt; media.source.bytes(), [].as_slice());
+    let accepted = accepted(rt.alloc(), INCREMENT)?;
+    let mut media = Media::new(rt.alloc(), 256)?;
+    let mut links = failing_wires(&mut media);
+    let mut machine = all_bits_set();
+    links.source.send(&[1, 0, 0, 0])?;
+    let cut_off = machine.run(&accepted, &mut links);
+    assert_eq!(rt; cut_off, refused(Link::Source, DeviceFault::Failed));
+    assert_eq!(rt; (links.source.held(), links.source.faults()), (4, 1));
+    let again = machine.run(&accepted, &mut links);
+    assert_eq!(rt;
+        again,
+        Ok(Outcome {
+            error: false,
+            steps: 16
+        })
+    );
+    drop(links);
+    assert!(rt; media.source.bytes().is_empty());
     assert_eq!(rt; media.sink.bytes(), [2, 0, 0, 0].as_slice());
-    Ok(())
-}
-
-#[test]
-fn prints_faults(rt: HostRuntime) -> Result<(), Fail> {
-    let faults = [
-        (refused(Link::Sink, DeviceFault::Full), "K2 at sink"),
-        (Err(RunFault::Stuck(8)), "stuck at 8"),
-        (Err(RunFault::Limit), "not ended within the limit"),
-    ];
-    for (answer, text) in faults {
-        let fault = answer.err().ok_or("no fault")?;
-        assert_eq!(rt; format!(in rt.alloc(); "{fault}")?.as_str(), text);
-    }
     Ok(())
 }

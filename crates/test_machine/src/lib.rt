@@ -1,5 +1,4 @@
-//! The runs of `worked_steps`'s table on the machine, which is to give what the definitions give; and runs that end in a
-//! fault, or over other devices. There is no code here but tests.
+//! Runs of accepted images on the machine, whatever it held before. There is no code here but tests.
 #![tactic(auto)]
 
 #[cfg(test)]
@@ -7,10 +6,4 @@ mod faults;
 #[cfg(test)]
 mod media;
 #[cfg(test)]
-mod place;
-#[cfg(test)]
 mod runs;
-#[cfg(test)]
-mod short;
-#[cfg(test)]
-mod whole;

@@ -1,34 +1,44 @@
-//! The devices of a run.
+//! Runs over media.
 
-use std::alloc::{AllocError, Global};
-use tp_link::{Links, Medium, Wire};
+use std::alloc::Global;
+use std::test::Fail;
+use tp_accept::{Accepted, accept};
+use tp_link::{LinkDevice, LinkFault};
+use tp_machine::{Machine, Outcome};
+use tp_media::Media;
 
-/// The media of three wires.
-#[derive(Drop)]
-pub(crate) struct Media {
-    pub(crate) source: Medium,
-    pub(crate) sink: Medium,
-    pub(crate) trace: Medium,
-}
+/// The room of each medium in bytes.
+const ROOM: usize = 256;
 
-/// With room enough.
-pub(crate) fn make_media(alloc: Global) -> Result<Media, AllocError> {
-    media_with_sink_room(alloc, 256)
-}
-
-/// The same, but for the room of the sink.
-pub(crate) fn media_with_sink_room(alloc: Global, sink_room: usize) -> Result<Media, AllocError> {
-    Ok(Media {
-        source: Medium::new(alloc, 256)?,
-        sink: Medium::new(alloc, sink_room)?,
-        trace: Medium::new(alloc, 512)?,
-    })
-}
-
-pub(crate) fn wires(media: &mut Media) -> Links<Wire<'_>> {
-    Links {
-        source: Wire::new(&mut media.source),
-        sink: Wire::new(&mut media.sink),
-        trace: Wire::new(&mut media.trace),
+/// A machine whose fields have all bits set.
+pub(crate) fn all_bits_set() -> Machine {
+    Machine {
+        workspace: [0xFF; 2048],
+        a: u32::MAX,
+        b: u32::MAX,
+        c: u32::MAX,
+        wptr: u32::MAX,
+        oreg: u32::MAX,
+        iptr: u32::MAX,
+        error: true,
     }
+}
+
+pub(crate) fn accepted(alloc: Global, image: &[u8]) -> Result<Accepted, Fail> {
+    Ok(accept(alloc, Vec::from_slice(alloc, image)?)?)
+}
+
+/// What a run of a packet answers, and what the media hold after it.
+pub(crate) fn run_packet(
+    alloc: Global,
+    machine: &mut Machine,
+    accepted: &Accepted,
+    packet: &[u8],
+) -> Result<(Result<Outcome, LinkFault>, Media), Fail> {
+    let mut media = Media::new(alloc, ROOM)?;
+    let mut links = media.wires();
+    links.source.send(packet)?;
+    let answered = machine.run(accepted, &mut links);
+    drop(links);
+    Ok((answered, media))
 }

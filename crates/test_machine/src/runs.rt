@@ -1,77 +1,74 @@
-//! Runs of whole workers over wires that borrow.
+//! Runs to their end.
 
-use crate::media::{Media, make_media, wires};
-use std::alloc::Global;
-use std::process::Abort;
+use crate::media::{accepted, all_bits_set, run_packet};
 use std::test::Fail;
-use tp_image::read_image;
-use tp_link::LinkDevice;
-use tp_machine::{Machine, Outcome, RunFault};
+use tp_machine::Outcome;
+use tp_samples::*;
 
-/// What a run answers.
-pub(crate) type Answer = Result<Outcome, RunFault>;
+/// An image, a packet of it, and what its run gives: the error flag, the steps, the result and the trace.
+type Case = (&'static [u8], [u8; 4], (bool, u32), [u8; 4], &'static [u8]);
 
-/// That the worker has ended.
-pub(crate) fn ended(error: bool, steps: u32) -> Answer {
-    Ok(Outcome { error, steps })
-}
+const ZERO: [u8; 4] = [0; 4];
 
-/// What is run: a worker, its packet, and how many bytes of its code it may execute.
-#[derive(Clone, Copy)]
-pub(crate) struct Task<'a> {
-    pub(crate) image: &'a [u8],
-    pub(crate) packet: &'a [u8],
-    pub(crate) limit: u32,
-}
+const MOST: [u8; 4] = [0xFF, 0xFF, 0xFF, 0x7F];
 
-/// What the three media hold after a run.
-#[derive(Clone, Copy, Default)]
-pub(crate) struct Left<'a> {
-    pub(crate) source: &'a [u8],
-    pub(crate) sink: &'a [u8],
-    pub(crate) trace: &'a [u8],
-}
-
-/// What a run answers over media with room enough.
-pub(crate) fn run(alloc: Global, machine: &mut Machine, task: Task<'_>) -> Result<Answer, Fail> {
-    let mut media = make_media(alloc)?;
-    run_over(alloc, &mut media, machine, task)
-}
-
-/// What a run answers over these media, to whose source the packet is sent.
-pub(crate) fn run_over(
-    alloc: Global,
-    media: &mut Media,
-    machine: &mut Machine,
-    task: Task<'_>,
-) -> Result<Answer, Fail> {
-    let image = read_image(alloc, task.image)?;
-    let mut links = wires(media);
-    links.source.send(task.packet)?;
-    Ok(machine.run_image(&image, &mut links, task.limit))
-}
-
-/// The media hold this.
-pub(crate) fn assert_left(rt: &impl Abort, media: &Media, left: Left<'_>) {
-    let held = [
-        media.source.bytes(),
-        media.sink.bytes(),
-        media.trace.bytes(),
+/// The packets of one image follow one another on one machine, so nothing may be left over between them.
+#[test]
+fn runs_whatever_the_machine_held(rt: HostRuntime) -> Result<(), Fail> {
+    let cases: [Case; 14] = [
+        (INCREMENT, [1, 0, 0, 0], (false, 16), [2, 0, 0, 0], &[]),
+        (INCREMENT, MOST, (true, 16), [0, 0, 0, 0x80], &[]),
+        (INCREMENT, [1, 0, 0, 0], (false, 16), [2, 0, 0, 0], &[]),
+        (SUM_TO_TEN, ZERO, (false, 99), [45, 0, 0, 0], &[]),
+        (ONE_TURN, ZERO, (false, 27), ZERO, &[]),
+        (
+            SUM_TO_TEN_THOUSAND,
+            ZERO,
+            (false, 80_022),
+            [0xF8, 0xDC, 0xFA, 0x02],
+            &[],
+        ),
+        (
+            TEN_TIMES_TEN_THOUSAND,
+            [5, 0, 0, 0],
+            (false, 400_130),
+            [5, 0, 0, 0],
+            &[],
+        ),
+        (PICKS_A_WORD, [0xFF; 4], (false, 21), ZERO, &[]),
+        (FIVE_UNLESS_ZERO, ZERO, (false, 15), ZERO, &[]),
+        (
+            FIVE_UNLESS_ZERO,
+            [7, 0, 0, 0],
+            (false, 17),
+            [5, 0, 0, 0],
+            &[],
+        ),
+        (STORES_BY_TWO_WAYS, ZERO, (false, 19), [2, 0, 0, 0], &[]),
+        (
+            STORES_BY_TWO_WAYS,
+            [5, 0, 0, 0],
+            (false, 20),
+            [1, 0, 0, 0],
+            &[],
+        ),
+        (MOVES_A_WORD, [1, 0, 0, 0], (false, 19), [42, 0, 0, 0], &[]),
+        (
+            TRACES_ITS_PACKET,
+            [10, 0, 0, 0],
+            (false, 19),
+            [10, 0, 0, 0],
+            &[10, 0, 0, 0],
+        ),
     ];
-    assert_eq!(rt; held, [left.source, left.sink, left.trace]);
-}
-
-/// A run over media with room enough gives this answer, and leaves this.
-pub(crate) fn assert_run(
-    rt: &(impl Abort + AllocGlobal),
-    machine: &mut Machine,
-    task: Task<'_>,
-    wanted: Answer,
-    left: Left<'_>,
-) -> Result<(), Fail> {
-    let mut media = make_media(rt.alloc())?;
-    let answer = run_over(rt.alloc(), &mut media, machine, task)?;
-    assert_eq!(rt; answer, wanted);
-    assert_left(rt, &media, left);
+    let mut machine = all_bits_set();
+    for (i, (image, packet, (error, steps), result, trace)) in cases.into_iter().enumerate() {
+        let accepted = accepted(rt.alloc(), image)?;
+        let (answered, media) = run_packet(rt.alloc(), &mut machine, &accepted, &packet)?;
+        assert_eq!(rt; answered, Ok(Outcome { error, steps }), "case {i}");
+        assert_eq!(rt; media.sink.bytes(), result.as_slice(), "case {i}");
+        assert_eq!(rt; media.source.bytes().len(), 0, "case {i}");
+        assert_eq!(rt; media.trace.bytes(), trace, "case {i}");
+    }
     Ok(())
 }

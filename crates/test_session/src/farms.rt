@@ -23,7 +23,7 @@ pub fn serve_on<T: Threads + Wait + Sync, R: Read, W: Write>(
     let mut media = media_of(alloc, members, ROOM)?;
     let links = boxed(alloc, &mut media)?;
     if links.is_empty() || links.len() > 64 {
-        return Err(ServeFault::Limit);
+        return Err(ServeFault::Thread);
     }
     serve(rt, alloc, reader, writer, Farm::new(links, trace))
 }

@@ -151,7 +151,7 @@ fn serve_meeting<T: Threads + Wait + Sync>(
     let input = two_batches(alloc, members)?;
     let links = links_of(alloc, members, meeting)?;
     if links.is_empty() || links.len() > 64 {
-        return Err(ServeFault::Limit.into());
+        return Err(ServeFault::Thread.into());
     }
     let mut reader = input.as_slice();
     let mut writer = Vec::new(alloc);

@@ -7,7 +7,8 @@ use anyhow::Result;
 use std::alloc::Global;
 use std::fmt::Write;
 use tp_link::{DeviceFault, Link, LinkFault};
-use tp_machine::{Outcome, Phase, Registers, RunFault};
+use tp_machine::Outcome;
+use tp_tested::{Phase, Registers, RunFault};
 
 /// A packet that is not whole.
 const SHORT: LinkFault = LinkFault {

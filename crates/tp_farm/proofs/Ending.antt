@@ -16,5 +16,3 @@ fault_reason batch o p end.Drained f is h = cc
 fault_reason batch o p end.Stopped f is h = cc
 fault_reason batch o p end.Memory fault.Memory is h = tt
 fault_reason batch o p end.Memory f is h = cc
-fault_reason batch o p end.Stuck f is h = absurd h
-fault_reason batch o p end.Limit f is h = absurd h

@@ -8,6 +8,7 @@ use Rattle.tp_link.specs.declared.device.DeviceFault.{DeviceFault}
 use Rattle.tp_link.specs.declared.device.DeviceFault.TheVariants.{Closed, Full, Short, Failed}
 use Rattle.tp_link.specs.declared.links.Link.{Link}
 use Rattle.tp_link.specs.declared.links.Link.TheVariants.{Source, Sink, Trace}
+use Rattle.tp_link.specs.declared.links.LinkFault.{LinkFault}
 use Rattle.tp_image.specs.Image.{ImageValue}
 use Rattle.tp_step.specs.State.{State}
 use Rattle.tp_step.specs.Steps.{step, steps, Reaches}
@@ -15,11 +16,8 @@ use Rattle.tp_step.specs.Runs.{start, HasExchanged}
 use Rattle.tp_step.proofs.StepLemmas.{steps_add, ends_in}
 use Rattle.tp_step.proofs.SentLemmas.{reached_exchanged}
 use Rattle.tp_machine.specs.declared.outcome.Outcome.{Outcome}
-use Rattle.tp_machine.specs.declared.outcome.RunFault.{RunFault}
-use Rattle.tp_machine.specs.declared.outcome.RunFault.TheVariants as fault
 use Rattle.tp_machine.specs.Devices.{Devices, packet_of}
 use Rattle.tp_machine.specs.Answers.{start_of, HasCome, Refused, Answered}
-use Rattle.tp_machine.specs.Promise.{IsOfLink}
 use Rattle.tp_machine.proofs.DeviceLemmas.{packet_held}
 use Rattle.tp_collect.specs.DoneValue.{most_trace}
 use Rattle.tp_farm.specs.Settings.{SameSettings}
@@ -127,11 +125,9 @@ module _ (image : ImageValue) (budget : ℕ) (packet : List ℕ) (before : Devic
       (send_cause r.now.trace (TracesMore image packet before.trace.room) send.bytes code send.may λ lacks.
       record { state = r.next; way = way; more = omega (arith, lacks, held, room, ap length send.sends, length-append r.state.traced send.bytes, length-append before.trace.held r.state.traced, ap length ready.trace) })
 
-  pub run_reason : (after : Devices) (answer : Result Outcome RunFault) → Answered image budget before after answer → IfErr answer IsOfLink → IfErr answer (HasReason image packet before)
-  run_reason after (Ok outcome) h link = tt
-  run_reason after (Err (fault.Link f)) h link = refused_reason f.link f.code after h
-  run_reason after (Err (fault.Stuck address)) h link = link
-  run_reason after (Err fault.Limit) h link = link
+  pub run_reason : (after : Devices) (answer : Result Outcome LinkFault) → Answered image budget before after answer → IfErr answer (HasReason image packet before)
+  run_reason after (Ok outcome) h = tt
+  run_reason after (Err f) h = refused_reason f.link f.code after h
 
 -- ---- a trace that is too long
 
@@ -151,7 +147,5 @@ lose_before image packet before now Source code same h = same_cause before.sourc
 lose_before image packet before now Sink code same h = same_cause before.sink now.sink _ _ (sym same.sink.fallible) (sym same.sink.opened) (λ lacks. subst (λ room. room < 4 * image.result) same.sink.room lacks) code h
 lose_before image packet before now Trace code same h = same_cause before.trace now.trace _ _ (sym same.trace.fallible) (sym same.trace.opened) (λ lacks. subst (TracesMore image packet) same.trace.room lacks) code h
 
-pub same_reason : (image : ImageValue) (packet : List ℕ) (before now : Devices) (e : RunFault) → SameSettings before now → HasReason image packet now e → HasReason image packet before e
-same_reason image packet before now (fault.Link f) same h = lose_before image packet before now f.link f.code same h
-same_reason image packet before now (fault.Stuck address) same h = h
-same_reason image packet before now fault.Limit same h = h
+pub same_reason : (image : ImageValue) (packet : List ℕ) (before now : Devices) (f : LinkFault) → SameSettings before now → HasReason image packet now f → HasReason image packet before f
+same_reason image packet before now f same h = lose_before image packet before now f.link f.code same h

@@ -229,8 +229,6 @@ module _ (batch : Batch) (o : Bool) where
           by_end end.Stopped well (hand, inl (called, seen)) = no_stop _ m.view.stop_callers refl called
           by_end end.Stopped well (hand, inr (called, closed)) = not_closed closed
           by_end end.Memory well e = cc
-          by_end end.Stuck well e = cc
-          by_end end.Limit well e = cc
 
       none_calls : (us : List Member) → AllDidWell batch o us → total (λ v. v.stop_callers) (views us) ≡ 0
       none_calls [] d = refl
@@ -251,8 +249,6 @@ module _ (batch : Batch) (o : Bool) where
           by_end end.Drained well e = none_left m.view.hand e.0
           by_end end.Stopped well e = none_left m.view.hand e.0
           by_end end.Memory well e = cc
-          by_end end.Stuck well e = cc
-          by_end end.Limit well e = cc
 
       empty_hands : (us : List Member) → AllDidWell batch o us → all_in_hand (views us) ≡ []
       empty_hands [] d = refl
@@ -280,8 +276,6 @@ module _ (batch : Batch) (o : Bool) where
           by_end end.Stopped well (hand, inl (called, seen)) = absurd (not_stopped (b.stop_seen 0 m.view seen_there (was_true m.view.seen.stop seen)))
           by_end end.Stopped well (hand, inr (called, closed)) = not_closed closed
           by_end end.Memory well e = cc
-          by_end end.Stuck well e = cc
-          by_end end.Limit well e = cc
 
       all_drawn_up : (us : List Member) → ms ≡ us → AllDidWell batch o us → 0 < length us → l.drawn ≡ n
       all_drawn_up [] is d any = absurd (omega (arith, any))

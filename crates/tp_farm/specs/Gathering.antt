@@ -45,5 +45,3 @@ abbrev pub fault_of_end : End → Option FarmFault
 fault_of_end end.Drained = None
 fault_of_end end.Stopped = None
 fault_of_end end.Memory = Some fault.Memory
-fault_of_end end.Stuck = Some fault.Stuck
-fault_of_end end.Limit = Some fault.Limit

@@ -2,27 +2,22 @@
 use Rattle.std.specs.Prelude.{ℕ, List, Result, Ok, Err}
 use Rattle.tp_link.specs.declared.device.DeviceFault.{DeviceFault}
 use Rattle.tp_link.specs.declared.links.Link.{Link}
+use Rattle.tp_link.specs.declared.links.LinkFault.{LinkFault}
 use Rattle.tp_image.specs.Image.{ImageValue}
-use Rattle.tp_machine.specs.declared.outcome.RunFault.{RunFault}
-use Rattle.tp_machine.specs.declared.outcome.RunFault.TheVariants as fault
 use Rattle.tp_machine.specs.Devices.{Devices}
 use Rattle.tp_farm.specs.Settings.{failed_by}
 use Rattle.tp_farm.specs.Losses.{MayLose}
 
 -- a device's answer, with its link
-abbrev pub on_link : {A : Type 0} → Link → Result A DeviceFault → Result A RunFault
+abbrev pub on_link : {A : Type 0} → Link → Result A DeviceFault → Result A LinkFault
 on_link which (Ok x) = Ok x
-on_link which (Err code) = Err (fault.Link record { link = which; code = code })
+on_link which (Err code) = Err record { link = which; code = code }
 
 -- why a packet has no result: by a device alone, since the worker of an accepted image is never stuck and ends in time
-abbrev pub HasReason : ImageValue → List ℕ → Devices → RunFault → Type 0
-HasReason image packet devices (fault.Link f) = MayLose image packet devices f.link f.code
-HasReason image packet devices (fault.Stuck address) = ⊥
-HasReason image packet devices fault.Limit = ⊥
+abbrev pub HasReason : ImageValue → List ℕ → Devices → LinkFault → Type 0
+HasReason image packet devices fault = MayLose image packet devices fault.link fault.code
 
 -- how often the device of a link failed in a handling
-abbrev pub failed_in : {A : Type 0} → Link → Result A RunFault → ℕ
+abbrev pub failed_in : {A : Type 0} → Link → Result A LinkFault → ℕ
 failed_in which (Ok x) = 0
-failed_in which (Err (fault.Link f)) = failed_by which f
-failed_in which (Err (fault.Stuck address)) = 0
-failed_in which (Err fault.Limit) = 0
+failed_in which (Err fault) = failed_by which fault

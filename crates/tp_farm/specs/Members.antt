@@ -53,7 +53,6 @@ pub record KeepsAccounts (batch : Batch) (before now : Devices) (p : Progress) (
 
 -- With nothing in hand, a member ends where there are no more packets, or where the source was stopped: it has seen the
 -- stop, or its own gate said no, and then it has called stop itself. It has called stop, too, where memory was refused.
--- No worker of an accepted image is stuck or goes past its budget.
 abbrev pub EndsBy : Batch → (open_for_good : Bool) → Progress → End → Type 0
 EndsBy batch open_for_good p end.Drained =
     (p.in_hand ≡ None) × (p.stop_called ≡ false) × ((p.ended ≡ true) ⊎ (length batch.packets < length p.taken))
@@ -61,8 +60,6 @@ EndsBy batch open_for_good p end.Stopped =
     (p.in_hand ≡ None)
     × (((p.stop_called ≡ false) × (p.stop_seen ≡ true)) ⊎ ((p.stop_called ≡ true) × (open_for_good ≡ false)))
 EndsBy batch open_for_good p end.Memory = (p.in_hand ≡ None) × (p.stop_called ≡ true)
-EndsBy batch open_for_good p end.Stuck = ⊥
-EndsBy batch open_for_good p end.Limit = ⊥
 
 -- a member that called stop, and lacked no memory, did so because its gate has answered it no
 abbrev pub IsRefused : (answered : Bool → Type 0) → Progress → End → Type 0

@@ -23,8 +23,7 @@ job_fault members batch =
     else if nat_lt most_packets (length batch.packets) then Some Packets
     else option_map Length (first_other batch)
 
--- why a batch that has begun gives nothing: what it runs on refused a thread (G4) or memory. Neither G5 nor G6 comes, since
--- no worker of an accepted image is stuck or goes past its budget.
+-- why a batch that has begun gives nothing: what it runs on refused a thread (G4) or memory
 abbrev pub IsFromOutside : FarmFault → Type 0
 IsFromOutside Thread = Unit {0}
 IsFromOutside Memory = Unit {0}

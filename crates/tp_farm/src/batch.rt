@@ -127,7 +127,7 @@ fn settle<D: LinkDevice, G: Gate>(
 /// result that is collected is what the run of its packet alone gives.
 ///
 /// G1, G2 and G3 are tested first, in this order. Where a thread cannot be started no further one is, and the members that
-/// were started go on until they end. A member to which memory was refused stops the batch first. Neither G5 nor G6 comes.
+/// were started go on until they end. A member to which memory was refused stops the batch first.
 pub fn run_batch<'j, R: Threads + Wait + Sync, D: LinkDevice + Send, G: Gate>(
     rt: &R,
     alloc: Global,

@@ -21,12 +21,6 @@ pub enum FarmFault {
     /// G4: a thread could not be started. The members that were started have ended.
     #[error("G4: no thread")]
     Thread,
-    /// G5: a worker was stuck. `run_batch` never answers it.
-    #[error("G5: stuck")]
-    Stuck,
-    /// G6: a worker did not end within its budget. `run_batch` never answers it.
-    #[error("G6: not ended within the budget")]
-    Limit,
     /// Memory was refused.
     #[error("memory")]
     Memory,

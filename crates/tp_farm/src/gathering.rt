@@ -32,8 +32,6 @@ fn fault_of_end(end: End) -> Option<FarmFault>
     match end {
         End::Drained | End::Stopped => None,
         End::Memory => Some(FarmFault::Memory),
-        End::Stuck => Some(FarmFault::Stuck),
-        End::Limit => Some(FarmFault::Limit),
     }
 }
 

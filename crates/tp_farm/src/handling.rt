@@ -16,18 +16,18 @@ use tp_accept::Accepted;
 use tp_board::Packet;
 use tp_collect::Done;
 use tp_link::{DeviceFault, Link, LinkDevice, LinkFault, Links};
-use tp_machine::{Machine, Outcome, RunFault};
+use tp_machine::{Machine, Outcome};
 
 /// The most bytes that one call receives.
 const MOST_RECEIVED: usize = 256;
 
 /// A device's refusal, with its link.
-fn of_link<T>(link: Link, answer: Result<T, DeviceFault>) -> Result<T, RunFault>
+fn of_link<T>(link: Link, answer: Result<T, DeviceFault>) -> Result<T, LinkFault>
     ensures { result ≡ on_link link answer }
 {
     match answer {
         Ok(x) => Ok(x),
-        Err(code) => Err(RunFault::Link(LinkFault { link, code })),
+        Err(code) => Err(LinkFault { link, code }),
     }
 }
 
@@ -51,7 +51,7 @@ fn prepare<D: LinkDevice>(
     _accepted: &Accepted,
     packet: &Packet,
     links: &mut Links<D>,
-) -> Result<(), RunFault>
+) -> Result<(), LinkFault>
     requires { length packet.now.items ≡ 4 * _accepted.now.image.packet }
     ensures settings { SameSettings (of_links D.state links.old) (of_links D.state links.new) }
     ensures rises { Rises (of_links D.state links.old) (of_links D.state links.new) (λ which. failed_in which result) }
@@ -70,7 +70,7 @@ fn run_on<D: LinkDevice>(
     accepted: &Accepted,
     _packet: &Packet,
     links: &mut Links<D>,
-) -> Result<Outcome, RunFault>
+) -> Result<Outcome, LinkFault>
     requires ready { IsReady _packet.now.items (of_links D.state links.old) }
     requires length { length _packet.now.items ≡ 4 * accepted.now.image.packet }
     ensures settings { SameSettings (of_links D.state links.old) (of_links D.state links.new) }
@@ -102,7 +102,7 @@ fn trace_held<D: LinkDevice>(
     _accepted: &Accepted,
     _packet: &Packet,
     links: &mut Links<D>,
-) -> Result<Packet, RunFault>
+) -> Result<Packet, LinkFault>
     requires { HasTraced _accepted.now.image _packet.now.items (D.state links.old.trace).held }
     ensures settings { SameSettings (of_links D.state links.old) (of_links D.state links.new) }
     ensures rises { Rises (of_links D.state links.old) (of_links D.state links.new) (λ which. failed_in which result) }
@@ -111,10 +111,10 @@ fn trace_held<D: LinkDevice>(
 {
     let n = links.trace.held();
     if n > MOST_RECEIVED {
-        return Err(RunFault::Link(LinkFault {
+        return Err(LinkFault {
             link: Link::Trace,
             code: DeviceFault::Full,
-        }));
+        });
     }
     of_link(Link::Trace, received(&mut links.trace, n))
 }
@@ -129,7 +129,7 @@ pub(crate) fn handle<D: LinkDevice>(
     number: u32,
     packet: &Packet,
     links: &mut Links<D>,
-) -> Result<Done, RunFault>
+) -> Result<Done, LinkFault>
     requires packet { slice_get (batch_of job.now).packets number ≡ Some packet.now.items }
     requires length { length packet.now.items ≡ 4 * job.now.image.now.image.packet }
     ensures settings { SameSettings (of_links D.state links.old) (of_links D.state links.new) }

@@ -15,7 +15,7 @@ use std::sync::Wait;
 use tp_board::{Packet, Work, WorkSource};
 use tp_collect::Done;
 use tp_link::{LinkDevice, LinkFault, Links};
-use tp_machine::{Machine, RunFault};
+use tp_machine::Machine;
 
 /// What became of one packet.
 #[derive(Drop)]
@@ -34,10 +34,6 @@ pub(crate) enum End {
     Stopped,
     /// Memory was refused.
     Memory,
-    /// A worker was stuck: never, of an accepted image.
-    Stuck,
-    /// A worker did not end within its budget: never, of an accepted image.
-    Limit,
 }
 
 /// A member, with its hand at the source of its packets, its machine and its devices.
@@ -53,8 +49,7 @@ pub(crate) struct Member<H, D> {
     pub(crate) entry: Snapshot<Links<D>>,
 }
 
-/// Handles a packet that is in hand, files what became of it, and finishes or abandons it. Where the machine's run has a
-/// fault of its own it stops the source instead.
+/// Handles a packet that is in hand, files what became of it, and finishes or abandons it.
 fn file_packet<W: WorkSource, D: LinkDevice, G: Gate>(
     job: &Job<'_>,
     gate: &G,
@@ -62,7 +57,7 @@ fn file_packet<W: WorkSource, D: LinkDevice, G: Gate>(
     member: &mut Member<W::Hand, D>,
     number: u32,
     packet: &Packet,
-) -> Option<End>
+)
     requires own { W.is_own source.now member.old.hand }
     requires in_hand { (W.progress member.old.hand).in_hand ≡ Some number }
     requires whole { AreWhole (batch_of job.now) }
@@ -73,8 +68,7 @@ fn file_packet<W: WorkSource, D: LinkDevice, G: Gate>(
     ensures number { member.new.number ≡ member.old.number }
     ensures entry { member.new.entry.value ≡ member.old.entry.value }
     ensures accounts { KeepsAccounts (batch_of job.now) (of_links D.state member.new.entry.value) (of_links D.state member.new.links) (W.progress member.new.hand) member.new.filed.items }
-    ensures going { result ≡ None → HasPutDown (W.progress member.old.hand) (W.progress member.new.hand) }
-    ensures never_ends { result ≡ None }
+    ensures put_down { HasPutDown (W.progress member.old.hand) (W.progress member.new.hand) }
 {
     gate.claimed(member.number, number);
     match handle(&mut member.machine, job, number, packet, &mut member.links) {
@@ -82,21 +76,11 @@ fn file_packet<W: WorkSource, D: LinkDevice, G: Gate>(
             member.filed.push_reserved(Filed::Done(done));
             let _ = source.finish(&mut member.hand);
             gate.finished(member.number, number);
-            None
         }
-        Err(RunFault::Link(fault)) => {
+        Err(fault) => {
             member.filed.push_reserved(Filed::Lost(number, fault));
             let _ = source.abandon(&mut member.hand);
             gate.finished(member.number, number);
-            None
-        }
-        Err(RunFault::Stuck(_)) => {
-            source.stop(&mut member.hand);
-            Some(End::Stuck)
-        }
-        Err(RunFault::Limit) => {
-            source.stop(&mut member.hand);
-            Some(End::Limit)
         }
     }
 }
@@ -132,7 +116,10 @@ fn take_turn<W: WorkSource, D: LinkDevice, G: Gate>(
         return Some(End::Stopped);
     }
     match source.next(rt, &mut member.hand) {
-        Work::Packet { number, bytes } => file_packet(job, gate, source, member, number, &bytes),
+        Work::Packet { number, bytes } => {
+            file_packet(job, gate, source, member, number, &bytes);
+            None
+        }
         Work::NoMore => Some(End::Drained),
         Work::Stopped => Some(End::Stopped),
     }

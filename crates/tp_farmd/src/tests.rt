@@ -409,8 +409,6 @@ fn endings(rt: HostRuntime) -> Result<(), Fail> {
         (Ending::Fault(ServeFault::Write), 1, "farmd: write\n"),
         (Ending::Fault(ServeFault::Memory), 1, "farmd: memory\n"),
         (Ending::Fault(ServeFault::Thread), 1, "farmd: thread\n"),
-        (Ending::Fault(ServeFault::Stuck), 1, "farmd: stuck\n"),
-        (Ending::Fault(ServeFault::Limit), 1, "farmd: limit\n"),
     ];
     for (ending, status, text) in &endings {
         assert_eq!(rt; ending.status(), *status);

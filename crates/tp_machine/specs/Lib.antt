@@ -1,9 +1,10 @@
 pub mod Devices
 pub mod Answers
 pub mod Promise
-pub mod Phases
-pub mod Meaning
-pub mod Resuming
+pub mod Bytes
+pub mod Stands
+pub mod Turning
+pub mod Running
 pub use Rattle.tp_step.specs.State
 pub use Rattle.tp_step.specs.Steps
 pub use Rattle.tp_step.specs.Runs

@@ -2,10 +2,10 @@
 
 ghost use Rattle.std.specs.Prelude.{ℕ, ◌<◌, All, Result};
 ghost use Rattle.tp_image.specs.Image.{ImageValue};
+ghost use Rattle.tp_link.specs.declared.links.LinkFault.{LinkFault};
 ghost use Rattle.tp_step.specs.Runs.{RunsAlone};
 ghost use Rattle.tp_machine.specs.declared.outcome.Outcome.{Outcome};
 ghost use Rattle.tp_machine.specs.Devices.{Devices, packet_of};
-ghost use Rattle.tp_machine.specs.declared.outcome.RunFault.{RunFault};
 ghost use Rattle.tp_machine.specs.Answers.{start_of, Ended, Answered};
 ghost use Rattle.tp_machine.specs.Promise.{KeepsPromise};
 
@@ -25,7 +25,7 @@ pub fn an_ended_run_is_the_run_alone()
 /// is the outcome of that run, or a device's refusal. Where the devices are open, the source holds a whole packet, sink and
 /// trace have the room, and none can fail, it is the outcome.
 pub fn accepted_code_never_goes_wrong(accepted: &Accepted)
-    ensures { (before after : Devices) (answer : Result Outcome RunFault) → All (λ byte. byte < 256) before.source.held →
+    ensures { (before after : Devices) (answer : Result Outcome LinkFault) → All (λ byte. byte < 256) before.source.held →
         Answered accepted.now.image accepted.now.budget before after answer →
         KeepsPromise accepted.now.image accepted.now.budget before answer }
 {}

@@ -1,35 +1,27 @@
-//! A machine that runs worker images: a checking interpreter of the step relation.
+//! A machine that runs accepted images: it keeps no tags and tests nothing.
 //!
-//! [`Machine::run`] runs one packet of an accepted image over a member's [`Links`](tp_link::Links), and
-//! [`Machine::run_image`] one of any image. The machine keeps a tag beside each register and byte, so it knows what is
-//! undefined, and tests everything that it does: where no step exists it answers [`RunFault::Stuck`].
-//!
-//! [`Machine::resume`] goes on from where a debugger or a test has set the machine: its [`Registers`], and the bytes of the
-//! workspace by [`Machine::put`] and [`Machine::undefine`], which [`Machine::cell`] reads.
+//! [`Machine::run`] runs one packet of an accepted image over a member's [`Links`](tp_link::Links). Accepted code never
+//! goes wrong, so the machine has plain words and bytes, and no test of what is defined, of an address, of an operation, of
+//! the worker's phase or of a shift count: each method asks that its instruction has an effect, and has it.
 #![tactic(auto)]
 
 mod arithmetic;
 mod bits;
 mod control;
-mod decode;
 mod functions;
 pub mod laws;
 mod machine;
 mod memory;
 mod messages;
 mod outcome;
-mod phase;
-mod places;
+mod perform;
 mod registers;
 mod run;
 mod stack;
 mod start;
-mod step;
 mod turn;
 mod words;
 
-pub use machine::{Machine, WORKSPACE_BYTES};
-pub use outcome::{Outcome, RunFault};
-pub use phase::Phase;
-pub use places::MEM_START;
-pub use registers::Registers;
+pub use machine::Machine;
+pub use memory::MEM_START;
+pub use outcome::Outcome;

@@ -1,14 +1,13 @@
 //! How a run begins.
 
-ghost use Rattle.std.specs.Prelude.{◌≡◌, ℕ, List, [], flat_map, slice_index_or};
+ghost use Rattle.std.specs.Prelude.{◌≡◌, flat_map, slice_index_or};
 ghost use Rattle.std.specs.Int.{w32, to_le_bytes};
 ghost use Rattle.tp_step.specs.Memory.{nothing_defined, with_bytes};
 ghost use Rattle.tp_step.specs.State.{mem_start};
-ghost use Rattle.tp_step.specs.Runs.{first_words, start};
-ghost use Rattle.tp_machine.specs.declared.phase.Phase.TheVariants.{BeforePacket};
+ghost use Rattle.tp_step.specs.Runs.{first_words};
+ghost use Rattle.tp_machine.specs.Stands.{Holds};
 
-use crate::machine::{Machine, WORKSPACE_BYTES};
-use crate::places::MEM_START;
+use crate::memory::{MEM_START, store};
 use tp_image::Image;
 
 /// The first value of a workspace word: an initial word of the image, or 0.
@@ -21,59 +20,12 @@ fn first_word(image: &Image, i: u32) -> u32
     }
 }
 
-impl Machine {
-    ghost use Rattle.std.specs.Prelude.{None, pos, false, replicate};
-    ghost use Rattle.tp_machine.specs.Meaning.{memory_of, state_of};
-
-    /// A machine in which nothing is defined.
-    pub fn new() -> Machine
-        ensures registers { (result.areg ≡ None) × (result.breg ≡ None) × (result.creg ≡ None) }
-        ensures defined { result.defined ≡ replicate 2048 false }
-        ensures bytes { result.bytes ≡ replicate 2048 0 }
-        ensures rest { (result.iptr ≡ pos 0) × (result.oreg ≡ 0) × (result.wptr ≡ 0) × (result.error ≡ false) }
-    {
-        Machine {
-            iptr: 0,
-            oreg: 0,
-            wptr: 0,
-            areg: None,
-            breg: None,
-            creg: None,
-            bytes: [0; WORKSPACE_BYTES],
-            defined: [false; WORKSPACE_BYTES],
-            error: false,
-        }
-    }
-
-    /// Nothing of the workspace is defined any more.
-    fn clear(&mut self)
-        ensures rest { self.new ≡ record self.old { defined = self.new.defined } }
-        ensures memory { memory_of self.new.defined self.new.bytes ≡ nothing_defined }
-    {
-        self.defined.fill(false);
-    }
-
-    /// The workspace begins with the image's initial words, and then zeros. Whatever it held is gone.
-    fn fill_workspace(&mut self, image: &Image)
-        ensures rest { self.new ≡ record self.old { bytes = self.new.bytes; defined = self.new.defined } }
-        ensures memory { memory_of self.new.defined self.new.bytes ≡ with_bytes nothing_defined mem_start (flat_map (to_le_bytes w32) (first_words image.now)) }
-    {
-        self.clear();
-        for i in 0..image.workspace {
-            self.put(MEM_START + 4 * i, &first_word(image, i).to_le_bytes());
-        }
-    }
-
-    /// The start of a packet's run, whatever ran before.
-    #[tactic(auto, unfolding(tp_step::specs::Runs::start))]
-    pub(crate) fn start(&mut self, image: &Image)
-        ensures { (packet : List ℕ) → state_of self.new record { phase = BeforePacket; to_come = packet; sent = []; traced = [] } ≡ start image.now packet }
-    {
-        self.fill_workspace(image);
-        self.iptr = 0;
-        self.oreg = 0;
-        self.wptr = MEM_START + 4 * image.start;
-        self.lose_registers();
-        self.error = false;
+/// The workspace begins with the image's initial words, and then zeros, as far as the image has words. What lies beyond
+/// them is not the worker's.
+pub(crate) fn fill(workspace: &mut [u8; 2048], image: &Image)
+    ensures { Holds (with_bytes nothing_defined mem_start (flat_map (to_le_bytes w32) (first_words image.now))) workspace.new }
+{
+    for i in 0..image.workspace {
+        store(workspace, MEM_START + 4 * i, first_word(image, i));
     }
 }

@@ -1,12 +1,12 @@
 use tp_link::LinkFault;
 
-/// What became of an instruction byte.
-#[derive(Clone, Copy, Debug, PartialEq, Eq)]
+/// What became of an instruction.
+#[derive(Clone, Copy)]
 pub(crate) enum Turn {
-    /// The step was made.
+    /// It had its effect, and the worker goes on.
     Made,
-    /// There is no step.
-    Stuck,
-    /// A device refused the call that the step makes.
+    /// It had its effect, and the worker has stopped.
+    Ended,
+    /// A device refused its call.
     Refused(LinkFault),
 }

@@ -1,66 +1,148 @@
 //! Arithmetic on words.
+#![tactic(auto, using(crate::proofs::Casts::casts))]
 
-ghost use Rattle.std.specs.Prelude.{◌≡◌, ◌*◌, ◌%◌, ◌/◌, ◌^◌, ◌<◌, ◌+ℤ◌, ◌-ℤ◌, ◌*ℤ◌, pos, negsuc, int_lt};
+ghost use Rattle.std.specs.Prelude.{◌≡◌, ◌*◌, ◌%◌, ◌/◌, ◌^◌, ◌<◌, ◌||◌, ◌&&◌, ◌+ℤ◌, ◌-ℤ◌, ◌*ℤ◌, pos, negsuc, int_lt, int_div, int_rem, if◌then◌else◌, Some, None};
+ghost use Rattle.std.specs.Ordering.{int_eq};
 ghost use Rattle.tp_decode.specs.Words.{signed, low_word, complement};
-ghost use Rattle.tp_decode.specs.Spelling.{shifted, shifted_complement};
-ghost use Rattle.tp_step.specs.Numbers.{overflows, words_on, truth};
+ghost use Rattle.tp_decode.specs.Spelling.{is_pfix, is_prefix, shifted, shifted_complement};
+ghost use Rattle.tp_step.specs.Numbers.{overflows, words_on, truth, least_integer, minus_one};
 
-/// The low 32 bits of a sum, and whether the sum overflows.
-pub(crate) fn checked_sum(a: i32, b: i32) -> (u32, bool)
-    ensures low { result.0 ≡ low_word (a +ℤ b) }
-    ensures flag { result.1 ≡ overflows (a +ℤ b) }
+/// The low 32 bits of a sum, and whether it overflows, read signed.
+#[inline(always)]
+pub(crate) fn checked_sum(b: u32, a: u32) -> (u32, bool)
+    ensures low { result.0 ≡ low_word (signed b +ℤ signed a) }
+    ensures flag { result.1 ≡ overflows (signed b +ℤ signed a) }
 {
-    let (sum, over) = a.overflowing_add(b);
+    let (sum, over) = b.cast_signed().overflowing_add(a.cast_signed());
     (sum.cast_unsigned(), over)
 }
 
-/// The low 32 bits of a difference, and whether the difference overflows.
-pub(crate) fn checked_difference(a: i32, b: i32) -> (u32, bool)
-    ensures low { result.0 ≡ low_word (a -ℤ b) }
-    ensures flag { result.1 ≡ overflows (a -ℤ b) }
+/// The low 32 bits of a difference, and whether it overflows, read signed.
+#[inline(always)]
+pub(crate) fn checked_difference(b: u32, a: u32) -> (u32, bool)
+    ensures low { result.0 ≡ low_word (signed b -ℤ signed a) }
+    ensures flag { result.1 ≡ overflows (signed b -ℤ signed a) }
 {
-    let (difference, over) = a.overflowing_sub(b);
+    let (difference, over) = b.cast_signed().overflowing_sub(a.cast_signed());
     (difference.cast_unsigned(), over)
 }
 
-/// The low 32 bits of a product, and whether the product overflows.
-pub(crate) fn checked_product(a: i32, b: i32) -> (u32, bool)
-    ensures low { result.0 ≡ low_word (a *ℤ b) }
-    ensures flag { result.1 ≡ overflows (a *ℤ b) }
+/// The low 32 bits of a product, and whether it overflows, read signed.
+#[inline(always)]
+pub(crate) fn checked_product(b: u32, a: u32) -> (u32, bool)
+    ensures low { result.0 ≡ low_word (signed b *ℤ signed a) }
+    ensures flag { result.1 ≡ overflows (signed b *ℤ signed a) }
 {
-    let (product, over) = a.overflowing_mul(b);
+    let (product, over) = b.cast_signed().overflowing_mul(a.cast_signed());
     (product.cast_unsigned(), over)
 }
 
-/// The low 32 bits of a difference of words.
-pub(crate) fn difference(a: u32, b: u32) -> u32
-    ensures { result ≡ low_word (pos a -ℤ pos b) }
+/// The quotient, read signed and toward zero, where there is one.
+#[inline(always)]
+pub(crate) fn quotient(b: u32, a: u32) -> Option<u32>
+    ensures { result ≡ (if int_eq (signed a) (pos 0) || (int_eq (signed b) least_integer && int_eq (signed a) minus_one) then None
+        else Some (low_word (int_div (signed b) (signed a)))) }
 {
-    a.wrapping_sub(b)
+    match b.cast_signed().checked_div(a.cast_signed()) {
+        Some(quotient) => Some(quotient.cast_unsigned()),
+        None => None,
+    }
+}
+
+/// The remainder, read signed and with the sign of the dividend, where there is one.
+#[inline(always)]
+pub(crate) fn remainder(b: u32, a: u32) -> Option<u32>
+    ensures { result ≡ (if int_eq (signed a) (pos 0) || (int_eq (signed b) least_integer && int_eq (signed a) minus_one) then None
+        else Some (low_word (int_rem (signed b) (signed a)))) }
+{
+    match b.cast_signed().checked_rem(a.cast_signed()) {
+        Some(remainder) => Some(remainder.cast_unsigned()),
+        None => None,
+    }
+}
+
+/// The low 32 bits of a sum of words.
+#[inline(always)]
+pub(crate) fn sum(b: u32, a: u32) -> u32
+    ensures { result ≡ low_word (pos b +ℤ pos a) }
+{
+    b.wrapping_add(a)
+}
+
+/// The low 32 bits of a difference of words.
+#[inline(always)]
+pub(crate) fn difference(b: u32, a: u32) -> u32
+    ensures { result ≡ low_word (pos b -ℤ pos a) }
+{
+    b.wrapping_sub(a)
 }
 
 /// The address that many words on, wrapped.
-pub(crate) fn words_on(a: u32, n: i32) -> u32
-    ensures { result ≡ words_on a n }
+#[inline(always)]
+pub(crate) fn words_on(a: u32, n: u32) -> u32
+    ensures { result ≡ words_on a (signed n) }
 {
-    a.wrapping_add(n.cast_unsigned().wrapping_mul(4))
+    a.wrapping_add(n.wrapping_mul(4))
 }
 
-/// A number as a word.
-pub(crate) fn low_word(n: i32) -> u32
-    ensures { result ≡ low_word n }
+/// The address that many words on, wrapped, with the number of words read unsigned.
+#[inline(always)]
+pub(crate) fn words_beyond(a: u32, n: u32) -> u32
+    ensures { result ≡ words_on a (pos n) }
 {
-    n.cast_unsigned()
+    a.wrapping_add(n.wrapping_mul(4))
 }
 
-/// The low 32 bits of an address.
-pub(crate) fn low_address(at: i64) -> u32
-    ensures { result ≡ low_word at }
+/// One less, wrapped.
+#[inline(always)]
+pub(crate) fn one_less(a: u32) -> u32
+    ensures { result ≡ low_word (signed a -ℤ pos 1) }
 {
-    (at.cast_unsigned() % (1 << 32)) as u32
+    a.wrapping_sub(1)
+}
+
+/// One more, wrapped.
+#[inline(always)]
+pub(crate) fn one_more(a: u32) -> u32
+    ensures { result ≡ low_word (signed a +ℤ pos 1) }
+{
+    a.wrapping_add(1)
+}
+
+/// Every bit turned.
+#[inline(always)]
+pub(crate) fn complement(a: u32) -> u32
+    ensures { result ≡ complement a }
+{
+    !a
+}
+
+/// Whether a word is above 0, read signed.
+#[inline(always)]
+pub(crate) fn is_positive(a: u32) -> bool
+    ensures { result ≡ int_lt (pos 0) (signed a) }
+{
+    a.cast_signed() > 0
+}
+
+/// Whether a word is below another, both read signed, as a word.
+#[inline(always)]
+pub(crate) fn is_less(a: u32, b: u32) -> u32
+    ensures { result ≡ truth (int_lt (signed a) (signed b)) }
+{
+    u32::from(a.cast_signed() < b.cast_signed())
+}
+
+/// Whether two words read signed are equal, as a word.
+#[inline(always)]
+pub(crate) fn is_equal(a: u32, b: u32) -> u32
+    ensures { result ≡ truth (int_eq (signed a) (signed b)) }
+{
+    u32::from(a.cast_signed() == b.cast_signed())
 }
 
 /// What pfix makes of Oreg.
+#[inline(always)]
 pub(crate) fn shifted(oreg: u32) -> u32
     ensures value { result ≡ shifted oreg }
     ensures shifted { result % 16 ≡ 0 }
@@ -69,6 +151,7 @@ pub(crate) fn shifted(oreg: u32) -> u32
 }
 
 /// What nfix makes of Oreg.
+#[inline(always)]
 pub(crate) fn shifted_complement(oreg: u32) -> u32
     ensures value { result ≡ shifted_complement oreg }
     ensures shifted { result % 16 ≡ 0 }
@@ -76,9 +159,23 @@ pub(crate) fn shifted_complement(oreg: u32) -> u32
     (!oreg).wrapping_mul(16)
 }
 
-/// A truth value as a word.
-pub(crate) fn truth(b: bool) -> u32
-    ensures { result ≡ truth b }
+/// Whether a byte is a prefix.
+#[inline(always)]
+pub(crate) fn is_prefix(byte: u8) -> bool
+    ensures { result ≡ is_prefix byte }
 {
-    u32::from(b)
+    byte / 16 == 2 || byte / 16 == 6
+}
+
+/// What a prefix makes of Oreg with its data in it.
+#[inline(always)]
+pub(crate) fn prefixed(byte: u8, oreg: u32) -> u32
+    ensures value { result ≡ (if is_pfix byte then shifted oreg else shifted_complement oreg) }
+    ensures shifted { result % 16 ≡ 0 }
+{
+    if byte / 16 == 2 {
+        shifted(oreg)
+    } else {
+        shifted_complement(oreg)
+    }
 }

@@ -9,7 +9,7 @@ use Rattle.tp_requests.specs.Lines.{line_feed, lines_of, ended_lines, without_re
 use Rattle.tp_requests.specs.Requests.{asked_by}
 use Rattle.tp_answers.specs.Answers.{Standing, Answers}
 use Rattle.tp_session.specs.declared.fault.ServeFault.{ServeFault}
-use Rattle.tp_session.specs.declared.fault.ServeFault.TheVariants.{Read, Write, Memory, Thread, Stuck, Limit}
+use Rattle.tp_session.specs.declared.fault.ServeFault.TheVariants.{Read, Write, Memory, Thread}
 use Rattle.tp_session.specs.declared.progress.Progress.{Progress}
 use Rattle.tp_session.specs.declared.service.Service.{Service}
 use Rattle.tp_session.specs.Served.{most_line, asked_in, next_number, nothing_open, AreTold}
@@ -94,16 +94,12 @@ module _ {D : Type 0} (state : D → DeviceState) (trace : Bool) (begun now : Op
   fails_wanting bytes Thread want = (0, has_told (s.taken ++ []) (append-nil s.taken))
   fails_wanting bytes Read want = absurd want
   fails_wanting bytes Write want = absurd want
-  fails_wanting bytes Stuck want = absurd want
-  fails_wanting bytes Limit want = absurd want
 
   pub wanting_at_end : (e : ServeFault) → IsWant e → FailsAtEnd trace s.taken begun now e
   wanting_at_end Memory want = has_told s.taken refl
   wanting_at_end Thread want = has_told s.taken refl
   wanting_at_end Read want = absurd want
   wanting_at_end Write want = absurd want
-  wanting_at_end Stuck want = absurd want
-  wanting_at_end Limit want = absurd want
 
   some_written : (now' : Option (List ℕ)) (here : List ℕ) (n : ℕ) → Appends now now' (take n here) → (m : ℕ) × Appends begun now' (take m (s.told ++ here))
   some_written now' here n wrote =
@@ -183,8 +179,6 @@ before_more trace first taken front rest bytes b begun now is split (n, told) =
 -- an error at a byte behind some others
 pub fails_more : (trace : Bool) (first taken front rest bytes : List ℕ) (b : ℕ) (begun now : Option (List ℕ)) (e : ServeFault) → taken ≡ first ++ front → bytes ≡ front ++ b ∷ rest → Fails trace taken (b ∷ []) begun now e → Fails trace first bytes begun now e
 fails_more trace first taken front rest bytes b begun now Read is split fails = absurd fails
-fails_more trace first taken front rest bytes b begun now Stuck is split fails = absurd fails
-fails_more trace first taken front rest bytes b begun now Limit is split fails = absurd fails
 fails_more trace first taken front rest bytes b begun now Write is split fails = (
   fails.0,
   record {

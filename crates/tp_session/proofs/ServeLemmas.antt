@@ -6,7 +6,7 @@ use Rattle.std.proofs.Math.Seq.{take-append_seam}
 use Rattle.tp_link.specs.Device.{DeviceState}
 use Rattle.tp_requests.specs.Lines.{lines_of}
 use Rattle.tp_session.specs.declared.fault.ServeFault.{ServeFault}
-use Rattle.tp_session.specs.declared.fault.ServeFault.TheVariants.{Read, Write, Memory, Thread, Stuck, Limit}
+use Rattle.tp_session.specs.declared.fault.ServeFault.TheVariants.{Read, Write, Memory, Thread}
 use Rattle.tp_session.specs.declared.progress.Progress.{Progress}
 use Rattle.tp_session.specs.declared.service.Service.{Service}
 use Rattle.tp_session.specs.Fitness.{AreFit}
@@ -78,8 +78,6 @@ module _ {D : Type 0} (state : D → DeviceState) (trace : Bool) (input : List �
   pub serves_fed : (left left' now' : Option (List ℕ)) (bytes : List ℕ) (e : ServeFault) (so_far : SoFar state trace input left begun now p service) → Consumes left left' bytes → length bytes ≤ most_read
       → Fails trace so_far.stand.taken bytes begun now' e → Serves trace input left' begun now' (Err e)
   serves_fed left left' now' bytes Read so_far consumed short fails = absurd fails
-  serves_fed left left' now' bytes Stuck so_far consumed short fails = absurd fails
-  serves_fed left left' now' bytes Limit so_far consumed short fails = absurd fails
   serves_fed left left' now' bytes Memory so_far consumed short fails = served_before left left' now' bytes fails.0 so_far consumed short fails.1
   serves_fed left left' now' bytes Thread so_far consumed short fails = served_before left left' now' bytes fails.0 so_far consumed short fails.1
   serves_fed left left' now' bytes Write so_far consumed short fails =
@@ -108,8 +106,6 @@ module _ {D : Type 0} (state : D → DeviceState) (trace : Bool) (input : List �
 
   pub serves_end : (left left' now' : Option (List ℕ)) (e : ServeFault) (so_far : SoFar state trace input left begun now p service) → Consumes left left' [] → IsAtEnd left' → FailsAtEnd trace so_far.stand.taken begun now' e → Serves trace input left' begun now' (Err e)
   serves_end left left' now' Read so_far consumed end fails = absurd fails
-  serves_end left left' now' Stuck so_far consumed end fails = absurd fails
-  serves_end left left' now' Limit so_far consumed end fails = absurd fails
   serves_end left left' now' Memory so_far consumed end fails = at_end_before left left' now' so_far consumed fails
   serves_end left left' now' Thread so_far consumed end fails = at_end_before left left' now' so_far consumed fails
   serves_end left left' now' Write so_far consumed end fails =

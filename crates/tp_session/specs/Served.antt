@@ -55,7 +55,7 @@ pub record IsServedBefore (trace : Bool) (input : List ℕ) (left old new : Opti
 
 -- What serving has done with an input, of which some is left, and with a writer's bytes. Ok: all is read, and what is
 -- served is written. Read: the answers to the whole lines that were read. Memory, Thread: those to the whole lines before.
--- Write: some of the first bytes of the answers to the first lines. A worker is never stuck, and always ends.
+-- Write: some of the first bytes of the answers to the first lines.
 abbrev pub Serves : Bool → List ℕ → Option (List ℕ) → Option (List ℕ) → Option (List ℕ) → Result (Unit {0}) ServeFault → Type 0
 Serves trace input left old new (Ok _) = (told : List ℕ) × IsAtEnd left × IsServed trace input told × Appends old new told
 Serves trace input left old new (Err fault.Read) =
@@ -64,5 +64,3 @@ Serves trace input left old new (Err fault.Memory) = IsServedBefore trace input 
 Serves trace input left old new (Err fault.Thread) = IsServedBefore trace input left old new
 Serves trace input left old new (Err fault.Write) =
     (lines : ℕ) × (n : ℕ) × (told : List ℕ) × AreTold trace (take lines (lines_of input)) told × Appends old new (take n told)
-Serves trace input left old new (Err fault.Stuck) = ⊥
-Serves trace input left old new (Err fault.Limit) = ⊥

@@ -5,7 +5,7 @@ use Rattle.std.specs.Io.KnownBytes.{Appends}
 use Rattle.tp_link.specs.Device.{DeviceState}
 use Rattle.tp_requests.specs.Lines.{Line, line_feed, lines_of, ended_lines}
 use Rattle.tp_session.specs.declared.fault.ServeFault.{ServeFault}
-use Rattle.tp_session.specs.declared.fault.ServeFault.TheVariants.{Read, Write, Memory, Thread, Stuck, Limit}
+use Rattle.tp_session.specs.declared.fault.ServeFault.TheVariants.{Read, Write, Memory, Thread}
 use Rattle.tp_session.specs.declared.progress.Progress.{Progress}
 use Rattle.tp_session.specs.declared.service.Service.{Service}
 use Rattle.tp_answers.specs.Answers.{Standing}
@@ -77,8 +77,6 @@ Fails trace taken bytes begun now Memory = (n : ℕ) × HasToldEnded trace (take
 Fails trace taken bytes begun now Thread = (n : ℕ) × HasToldEnded trace (taken ++ take n bytes) begun now
 Fails trace taken bytes begun now Write = (lines : List Line) × Begins (taken ++ bytes) lines × HasToldSome trace lines begun now
 Fails trace taken bytes begun now Read = ⊥
-Fails trace taken bytes begun now Stuck = ⊥
-Fails trace taken bytes begun now Limit = ⊥
 
 -- and at the end of the input
 abbrev pub FailsAtEnd : Bool → (input : List ℕ) → (begun now : Option (List ℕ)) → ServeFault → Type 0
@@ -86,8 +84,6 @@ FailsAtEnd trace input begun now Memory = HasToldEnded trace input begun now
 FailsAtEnd trace input begun now Thread = HasToldEnded trace input begun now
 FailsAtEnd trace input begun now Write = HasToldSome trace (lines_of input) begun now
 FailsAtEnd trace input begun now Read = ⊥
-FailsAtEnd trace input begun now Stuck = ⊥
-FailsAtEnd trace input begun now Limit = ⊥
 
 -- the end of the input is answered
 pub record HasToldAll (trace : Bool) (input : List ℕ) (begun now : Option (List ℕ)) : Type 0 where

@@ -20,12 +20,6 @@ pub enum ServeFault {
     /// A member's thread could not be started. The answers of the lines before the one that wanted it are written.
     #[error("thread")]
     Thread,
-    /// A worker was stuck. It never is.
-    #[error("stuck")]
-    Stuck,
-    /// A worker did not end within its budget. It always does.
-    #[error("limit")]
-    Limit,
 }
 
 impl From<AllocError> for ServeFault {

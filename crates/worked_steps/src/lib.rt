@@ -1,5 +1,5 @@
 //! Runs that are computed on the step relation. Nothing stands on this crate but the tests that make the same runs on a
-//! machine (`test_machine`).
+//! machine (`test_tested`).
 //!
 //! A short run begins at a given state and executes a few bytes: it leads to another state, or is stuck. A whole worker
 //! runs from its start to its end. What each run comes to was worked out by hand from the instruction table

@@ -1,7 +1,7 @@
 //! The table of all runs: short ones, and small workers as image bytes with what their runs give. All of it was worked out
 //! by hand from the instruction table.
 //!
-//! The contracts say that it is so by the definitions. The tests of `test_machine` make all of these runs on the machine.
+//! The contracts say that it is so by the definitions. The tests of `test_tested` make all of these runs on the tested machine.
 #![tactic(auto, unfolding(crate::proofs::Computing::by_steps))]
 
 ghost use Rattle.worked_steps.specs.Rows.{AllAreSo};

@@ -1,4 +1,4 @@
-use Rattle.tp_machine.proofs.RunLemmas.{ended_alone}
+use Rattle.tp_machine.proofs.Alone.{ended_alone}
 use Rattle.tp_machine.proofs.laws.an_ended_run_is_the_run_alone.Goals as goal
 
 pub returns : goal.returns

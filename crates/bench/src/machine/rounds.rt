@@ -1,0 +1,107 @@
+//! Rounds of a worker on a machine.
+
+use anyhow::{Result, anyhow};
+use std::alloc::Global;
+use std::rt::Runtime;
+use std::time::{Duration, Instant};
+use tp_accept::Accepted;
+use tp_image::Image;
+use tp_link::{Link, LinkDevice, Links, Medium, Wire};
+use tp_machine::Outcome;
+
+/// The bytes of the longest packet and the longest result.
+const MESSAGE_BYTES: usize = 64;
+
+/// More steps than any of the workers makes.
+const LIMIT: u32 = 16_777_216;
+
+/// What was counted over some rounds, the last result's first word, and how long they took.
+#[derive(Clone, Copy)]
+pub(crate) struct Run {
+    pub(crate) counted: u64,
+    pub(crate) result_word: u32,
+    pub(crate) took: Duration,
+}
+
+/// A machine, and what it runs.
+pub(crate) trait Runs: Drop {
+    fn run_once(&mut self, links: &mut Links<Wire<'_>>) -> Result<Outcome>;
+}
+
+#[derive(Drop)]
+pub(crate) struct Plain<'a> {
+    pub(crate) machine: tp_machine::Machine,
+    pub(crate) accepted: &'a Accepted,
+}
+
+impl Runs for Plain<'_> {
+    fn run_once(&mut self, links: &mut Links<Wire<'_>>) -> Result<Outcome> {
+        self.machine
+            .run(self.accepted, links)
+            .map_err(|fault| anyhow!("{fault}"))
+    }
+}
+
+#[derive(Drop)]
+pub(crate) struct Tested<'a> {
+    pub(crate) machine: tp_tested::Machine,
+    pub(crate) image: &'a Image,
+}
+
+impl Runs for Tested<'_> {
+    fn run_once(&mut self, links: &mut Links<Wire<'_>>) -> Result<Outcome> {
+        self.machine
+            .run_image(self.image, links, LIMIT)
+            .map_err(|fault| anyhow!("{fault}"))
+    }
+}
+
+/// Runs a packet of zeros. The first word of the result comes back, and the steps.
+fn round<M: Runs>(
+    machine: &mut M,
+    links: &mut Links<Wire<'_>>,
+    packet: usize,
+) -> Result<(u32, u32)> {
+    links
+        .source
+        .send(&[0; MESSAGE_BYTES][..packet.min(MESSAGE_BYTES)])
+        .map_err(|code| anyhow!("{code} at {}", Link::Source))?;
+    let outcome = machine.run_once(links)?;
+    let mut word = [0; 4];
+    links
+        .sink
+        .receive(&mut word)
+        .map_err(|code| anyhow!("{code} at {}", Link::Sink))?;
+    Ok((u32::from_le_bytes(word), outcome.steps))
+}
+
+/// So many rounds on one machine, each with a packet of so many bytes, which are 0.
+pub(crate) fn rounds<R: Runtime<A = Global>, M: Runs>(
+    rt: &R,
+    machine: &mut M,
+    packet: usize,
+    count: u32,
+) -> Result<Run> {
+    let mut packets = Medium::new(rt.alloc(), MESSAGE_BYTES)?;
+    let mut results = Medium::new(rt.alloc(), MESSAGE_BYTES)?;
+    let mut traces = Medium::new(rt.alloc(), MESSAGE_BYTES)?;
+    let mut links = Links {
+        source: Wire::new(&mut packets),
+        sink: Wire::new(&mut results),
+        trace: Wire::new(&mut traces),
+    };
+    let mut counted = 0u64;
+    let mut result_word = 0;
+    let start = Instant::now(rt)?;
+    for _ in 0..count {
+        let (word, steps) = round(machine, &mut links, packet)?;
+        counted = counted.saturating_add(u64::from(steps));
+        result_word = word;
+    }
+    let took = start.elapsed(rt)?;
+    Ok(Run {
+        counted,
+        result_word,
+        took,
+    })
+}

@@ -1,0 +1,169 @@
+//! A machine that is set as a row says.
+
+use std::test::Fail;
+use tp_machine::MEM_START;
+use tp_tested::{Machine, Phase, Registers};
+use worked_steps::rows::Setting;
+
+/// The words of a machine's workspace.
+const WORDS: u32 = 512;
+
+/// The words of the bare state.
+const BARE_WORDS: u32 = 16;
+
+/// The word at which Wptr begins.
+const START_WORD: u32 = 8;
+
+/// All of a state but its memory: the registers, how far the worker is, and the bytes of its messages, those to come on
+/// link 0 and those that were sent on links 0 and 1.
+#[derive(Clone, Copy)]
+pub(crate) struct Place {
+    pub(crate) registers: Registers,
+    pub(crate) phase: Phase,
+    pub(crate) coming: &'static [u8],
+    pub(crate) sent: &'static [u8],
+    pub(crate) traced: &'static [u8],
+}
+
+/// The bare state with Iptr here, and with these settings.
+pub(crate) fn place_of(iptr: i64, settings: &[Setting]) -> Place {
+    let mut place = Place {
+        registers: Registers {
+            iptr,
+            oreg: 0,
+            wptr: MEM_START + 4 * START_WORD,
+            areg: None,
+            breg: None,
+            creg: None,
+            error: false,
+        },
+        phase: Phase::BeforePacket,
+        coming: &[],
+        sent: &[],
+        traced: &[],
+    };
+    for setting in settings {
+        set(&mut place, *setting);
+    }
+    place
+}
+
+/// What a setting says, but of the memory.
+fn set(place: &mut Place, setting: Setting) {
+    match setting {
+        Setting::One(a) => set_stack(place, Some(a), None, None),
+        Setting::Two(a, b) => set_stack(place, Some(a), Some(b), None),
+        Setting::Three(a, b, c) => set_stack(place, Some(a), Some(b), Some(c)),
+        Setting::WithoutAreg(b, c) => set_stack(place, None, Some(b), Some(c)),
+        Setting::GivenWay => set_stack(place, None, None, None),
+        Setting::Flagged => place.registers.error = true,
+        Setting::Wptr(wptr) => place.registers.wptr = wptr,
+        Setting::Oreg(oreg) => place.registers.oreg = oreg,
+        Setting::Iptr(iptr) => place.registers.iptr = iptr,
+        Setting::AfterPacket => place.phase = Phase::BeforeResult,
+        Setting::AfterResult => place.phase = Phase::AfterResult,
+        Setting::Stopped => place.phase = Phase::Stopped,
+        Setting::Coming(bytes) => place.coming = bytes,
+        Setting::Sent(bytes) => place.sent = bytes,
+        Setting::Traced(bytes) => place.traced = bytes,
+        Setting::Holding(..) | Setting::Lacking(..) | Setting::LackingByte(_) | Setting::Filled =>
+            {}
+    }
+}
+
+fn set_stack(place: &mut Place, areg: Option<u32>, breg: Option<u32>, creg: Option<u32>) {
+    place.registers.areg = areg;
+    place.registers.breg = breg;
+    place.registers.creg = creg;
+}
+
+/// A machine with these registers, whose workspace is that of the bare state with these settings.
+pub(crate) fn machine_of(registers: Registers, settings: &[Setting]) -> Result<Machine, Fail> {
+    let mut machine = Machine::new();
+    if registers.oreg % 16 != 0 {
+        return Err(Fail::new("Oreg is no multiple of 16"));
+    }
+    machine.set_registers(registers);
+    hold(&mut machine, 0, &[0; BARE_WORDS as usize])?;
+    for setting in settings {
+        set_memory(&mut machine, *setting)?;
+    }
+    Ok(machine)
+}
+
+/// What a setting says of the memory.
+fn set_memory(machine: &mut Machine, setting: Setting) -> Result<(), Fail> {
+    match setting {
+        Setting::Holding(word, words) => hold(machine, word, words),
+        Setting::Lacking(word, count) => lack(machine, word, count),
+        Setting::LackingByte(address) => lack_byte(machine, address),
+        Setting::GivenWay => lack(machine, 3, 5),
+        Setting::Filled => {
+            fill(machine);
+            Ok(())
+        }
+        _ => Ok(()),
+    }
+}
+
+/// The words from this one on hold these.
+fn hold(machine: &mut Machine, word: u32, words: &[u32]) -> Result<(), Fail> {
+    let mut number = word;
+    for value in words {
+        if number >= WORDS {
+            return Err(Fail::new("no such word"));
+        }
+        machine.put(MEM_START + 4 * number, &value.to_le_bytes());
+        number += 1;
+    }
+    Ok(())
+}
+
+/// Every byte is 7.
+fn fill(machine: &mut Machine) {
+    for byte in 0..4 * WORDS {
+        machine.put(MEM_START + byte, &[7]);
+    }
+}
+
+/// From the first word on, so many words are undefined.
+fn lack(machine: &mut Machine, word: u32, count: u32) -> Result<(), Fail> {
+    if word > WORDS || count > WORDS - word {
+        return Err(Fail::new("no such words"));
+    }
+    machine.undefine(MEM_START + 4 * word, 4 * count as usize);
+    Ok(())
+}
+
+/// The byte at this address is undefined.
+fn lack_byte(machine: &mut Machine, address: u32) -> Result<(), Fail> {
+    if address < MEM_START || address - MEM_START >= 4 * WORDS {
+        return Err(Fail::new("no such byte"));
+    }
+    machine.undefine(address, 1);
+    Ok(())
+}
+
+/// The first address of a workspace at which two machines differ.
+pub(crate) fn first_difference(one: &Machine, other: &Machine) -> Option<u32> {
+    for byte in 0..4 * WORDS {
+        let address = MEM_START + byte;
+        if one.cell(address) != other.cell(address) {
+            return Some(address);
+        }
+    }
+    None
+}
+
+/// A workspace word, if all of its bytes are defined.
+pub(crate) fn word(machine: &Machine, number: u32) -> Option<u32> {
+    if number >= WORDS {
+        return None;
+    }
+    let address = MEM_START + 4 * number;
+    let b0 = machine.cell(address)?;
+    let b1 = machine.cell(address + 1)?;
+    let b2 = machine.cell(address + 2)?;
+    let b3 = machine.cell(address + 3)?;
+    Some(u32::from_le_bytes([b0, b1, b2, b3]))
+}

@@ -1,0 +1,12 @@
+use tp_link::LinkFault;
+
+/// What became of an instruction byte.
+#[derive(Clone, Copy, Debug, PartialEq, Eq)]
+pub(crate) enum Turn {
+    /// The step was made.
+    Made,
+    /// There is no step.
+    Stuck,
+    /// A device refused the call that the step makes.
+    Refused(LinkFault),
+}
