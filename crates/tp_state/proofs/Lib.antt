@@ -7,6 +7,7 @@ pub mod PlaneCells
 pub mod PlaneLoops
 pub mod PlaneJoins
 pub mod PlaneValues
+pub mod SeenLemmas
 pub mod JoinLemmas
 pub mod EntryLemmas
 pub mod OrderLemmas

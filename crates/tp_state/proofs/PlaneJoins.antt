@@ -240,3 +240,9 @@ below_found values other_values planes others w d n padded words other_words dif
         let bit_of : (64 * w + j) % 64 ≡ j = omega (arith, lt) in
         let fails : not (cell_below (cell_in values planes (64 * w + j)) (cell_in other_values others (64 * w + j))) ≡ true = sym (fails_here values other_values planes others w d n (64 * w + j) padded words other_words differ long room is word_of) ∙ ap (λ k. is_set n k) bit_of ∙ on in
         (64 * w + j, omega (arith, lt, room), not_true (cell_below (cell_in values planes (64 * w + j)) (cell_in other_values others (64 * w + j))) fails)
+
+-- bits that say Undef say it with any value
+pub undefined_bits : (first second : Bool) (v u : ℕ) → cell_of first second v ≡ Undef → cell_of first second u ≡ Undef
+undefined_bits first second v u e =
+    let same = same_bits first second true true v e in
+    rw (same.0, same.1) refl

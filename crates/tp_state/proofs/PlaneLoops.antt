@@ -7,7 +7,7 @@ use Rattle.tp_state.specs.declared.planes.Bits.{Bits}
 use Rattle.tp_state.specs.CellRules.{blurred, is_free, is_defined}
 use Rattle.tp_state.specs.Planes.{is_set, cell_of, bits_cell, with_mask, blurred_bits, live_bits, undefined_bits, no_bits, cell_in, ChangesPlanes}
 use Rattle.std.proofs.lemmas.Nat.{and_le_l}
-use Rattle.tp_state.proofs.PlaneBits.{set-and, none_set, some_set}
+use Rattle.tp_state.proofs.PlaneBits.{set-and, none_set, some_set, set_one_same, set_one_other}
 use Rattle.tp_state.proofs.PlaneCells.{set-mask_in, set-mask_out, blurred_in, blurred_out, live_where, undefined_where}
 
 -- ---- a word's place
@@ -200,3 +200,25 @@ tested_found word test tells values planes x end w mask n e masks small some =
         let bit_of : (64 * w + j) % 64 ≡ j = omega (arith, lt) in
         let not_so : not (test (bits_cell was j (get_or values (64 * w + j) 0))) ≡ true = sym (tells was j (get_or values (64 * w + j) 0)) ∙ ap (λ m. is_set m j) (sym e) ∙ both.0 in
         (64 * w + j, inside.0, inside.1, ap test (cell_in-word values planes (64 * w + j) w word_of ∙ ap (λ k. bits_cell was k (get_or values (64 * w + j) 0)) bit_of) ∙ not_true (test (bits_cell was j (get_or values (64 * w + j) 0))) not_so)
+
+-- the mask of one word
+pub one_within : (x j : ℕ) → j < 64 → is_set (2 ^ (x % 64)) j ≡ (nat_le x (64 * (x / 64) + j) && nat_lt (64 * (x / 64) + j) (x + 1))
+one_within x j lt = by_word (cases_eq j (x % 64)) (cases_lt (64 * (x / 64) + j) x)
+  where
+    never : (b : Bool) → (b && false) ≡ false
+    never true = refl
+    never false = refl
+
+    by_word : (j ≡ x % 64) ⊎ (j ≡ x % 64 → ⊥) → (64 * (x / 64) + j < x) ⊎ (x ≤ 64 * (x / 64) + j) → is_set (2 ^ (x % 64)) j ≡ (nat_le x (64 * (x / 64) + j) && nat_lt (64 * (x / 64) + j) (x + 1))
+    by_word (inl same) _ =
+        let here : 64 * (x / 64) + j ≡ x = omega (arith, same) in
+        let a : nat_le x (64 * (x / 64) + j) ≡ true = grind (arith, nat_tests) in
+        let b : nat_lt (64 * (x / 64) + j) (x + 1) ≡ true = grind (arith, nat_tests) in
+        ap (is_set (2 ^ (x % 64))) same ∙ set_one_same (x % 64) ∙ sym (rw (a, b) refl)
+    by_word (inr other) (inl before) =
+        let a : nat_le x (64 * (x / 64) + j) ≡ false = grind (arith, nat_tests) in
+        set_one_other (x % 64) j other ∙ sym (rw a refl)
+    by_word (inr other) (inr from) =
+        let past : x + 1 ≤ 64 * (x / 64) + j = omega (arith, from, other) in
+        let b : nat_lt (64 * (x / 64) + j) (x + 1) ≡ false = grind (arith, nat_tests) in
+        set_one_other (x % 64) j other ∙ sym (rw b (never (nat_le x (64 * (x / 64) + j))))

@@ -1,12 +1,14 @@
 //! Planes of bits: two bits of each workspace word say what its cell is, but for the value of one that has a value.
 
-ghost use Rattle.std.specs.Prelude.{◌≡◌, ℕ, ◌+◌, ◌-◌, ◌*◌, ◌^◌, ◌<◌, ◌≤◌, ◌==◌, ◌&&◌, nat_le, nat_lt, length, List, IsTrue, true, false, if◌then◌else◌, slice_index_or, bit_or, bit_xor};
+ghost use Rattle.std.specs.Prelude.{◌≡◌, ℕ, ◌+◌, ◌-◌, ◌*◌, ◌^◌, ◌<◌, ◌≤◌, ◌==◌, ◌&&◌, nat_le, nat_lt, length, List, IfOk, true, false, if◌then◌else◌, slice_index_or, bit_or, bit_xor};
+ghost use Rattle.tp_state.specs.declared.cell.Cell.TheVariants.{Undef};
 ghost use Rattle.tp_state.specs.CellRules.{blurred, is_free, is_defined};
-ghost use Rattle.tp_state.specs.Planes.{is_set, live_of, cell_of, bits_cell, HasByteRow, with_mask, blurred_bits, live_bits, undefined_bits, joined_bits, failing_bits, cell_in, IsWhole, ChangesPlanes, Moves};
+ghost use Rattle.tp_state.specs.Planes.{is_set, live_of, cell_of, bits_cell, HasByteRow, with_mask, blurred_bits, live_bits, undefined_bits, joined_bits, failing_bits, no_bits, cell_in, IsWhole, ChangesPlanes, Moves};
 ghost use Rattle.tp_state.specs.Order.{join_cells, cell_below};
 
 use crate::cell::Cell;
 use crate::values::differing;
+use std::alloc::{AllocError, Global};
 
 /// How many words a word of a plane tells of.
 pub(crate) const WORDS: usize = 64;
@@ -187,6 +189,45 @@ impl Bits {
     }
 }
 
+/// The planes of so many words whose values are known.
+pub(crate) fn whole_planes(alloc: Global, words: usize) -> Result<Vec<Bits>, AllocError>
+    requires { words < 2 ^ 32 }
+    ensures enough { IfOk result (λ planes. words ≤ 64 * length planes.items) }
+    ensures no_more { IfOk result (λ planes. 64 * length planes.items < words + 64) }
+    ensures known { IfOk result (λ planes. (values : List ℕ) (i : ℕ) → i < words → cell_in values planes.items i ≡ cell_of false false (slice_index_or values i 0)) }
+    ensures padded { IfOk result (λ planes. (values : List ℕ) (i : ℕ) → words ≤ i → i < 64 * length planes.items → cell_in values planes.items i ≡ Undef) }
+{
+    let mut planes = clear_planes(alloc, (words + WORDS - 1) / WORDS)?;
+    close_planes(&mut planes, words);
+    Ok(planes)
+}
+
+/// Planes of so many words, with no bit set.
+fn clear_planes(alloc: Global, many: usize) -> Result<Vec<Bits>, AllocError>
+    ensures long { IfOk result (λ planes. length planes.items ≡ many) }
+    ensures clear { IfOk result (λ planes. (k : ℕ) → k < many → slice_index_or planes.items k no_bits ≡ no_bits) }
+{
+    let clear = Bits {
+        first: 0,
+        second: 0,
+    };
+    let mut planes = Vec::with_capacity(alloc, many)?;
+    planes.resize(many, clear)?;
+    Ok(planes)
+}
+
+/// Behind so many words the bits of planes that have none say that nothing is known.
+fn close_planes(planes: &mut [Bits], words: usize)
+    requires enough { words ≤ 64 * length planes.old }
+    requires few { length planes.old < 2 ^ 32 }
+    requires clear { (k : ℕ) → k < length planes.old → slice_index_or planes.old k no_bits ≡ no_bits }
+    ensures known { (values : List ℕ) (i : ℕ) → i < words → cell_in values planes.new i ≡ cell_of false false (slice_index_or values i 0) }
+    ensures padded { (values : List ℕ) (i : ℕ) → words ≤ i → i < 64 * length planes.new → cell_in values planes.new i ≡ Undef }
+{
+    let end = WORDS * planes.len();
+    put_all(planes, words, end, Kept::of(Cell::Undef));
+}
+
 /// What holds of both, where it is told which values differ. It answers whether anything changed.
 fn join_bits(bits: &mut Bits, other: Bits, differ: u64) -> bool
     ensures value { bits.new ≡ joined_bits differ bits.old other }
@@ -209,6 +250,14 @@ pub(crate) fn put_all(planes: &mut [Bits], x: usize, end: usize, kept: Kept)
     for w in x / WORDS..(end + WORDS - 1) / WORDS {
         planes[w] = planes[w].put(within(w, x, end), kept);
     }
+}
+
+/// One word takes a cell's bits.
+pub(crate) fn put_one(planes: &mut [Bits], x: usize, kept: Kept)
+    requires room { x < 64 * length planes.old }
+    ensures { (values : List ℕ) → ChangesPlanes values planes.old planes.new (λ i c. cell_of kept.first kept.second (slice_index_or values i 0)) x (x + 1) }
+{
+    planes[x / WORDS] = planes[x / WORDS].put(one(x % WORDS), kept);
 }
 
 /// The words from x to an end may have taken something.
