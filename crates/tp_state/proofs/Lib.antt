@@ -9,7 +9,6 @@ pub mod PlaneJoins
 pub mod PlaneValues
 pub mod SeenLemmas
 pub mod JoinLemmas
-pub mod EntryLemmas
 pub mod OrderLemmas
 pub mod CellOrder
 pub mod StateOrder

@@ -1,17 +1,16 @@
 -- What words of planes say of cells, bit by bit.
-use Rattle.std.proofs.Common.{◌≡◌, ◌≢◌, ◌⊎◌, inl, inr, ℕ, ◌+◌, ◌-◌, ◌^◌, ◌<◌, ◌≤◌, ◌==◌, nat_lt, Bool, true, false, not, IsTrue, if◌then◌else◌, ◌&&◌, ◌||◌, bit_and, bit_or, bit_xor, ℤ, w32, refl, sym, ap, ◌∙◌, arith, rules}
+use Rattle.std.proofs.Common.{◌≡◌, ◌⊎◌, inl, inr, ℕ, ◌-◌, ◌^◌, ◌<◌, ◌≤◌, ◌==◌, nat_lt, Bool, true, false, not, IsTrue, if◌then◌else◌, ◌&&◌, ◌||◌, bit_and, bit_or, bit_xor, ℤ, w32, refl, sym, ap, ◌∙◌, arith, rules}
 use Rattle.std.proofs.lemmas.Bool.{cases_lt, cases_eq}
 use Rattle.std.proofs.lemmas.Bool.Decides.{nat_tests}
-use Rattle.std.proofs.lemmas.Int.{ints, of_z-to_z}
+use Rattle.std.proofs.lemmas.Int.{of_z-to_z}
 use Rattle.std.specs.Ordering.{int_eq}
 use Rattle.std.specs.Int.{cast_unsigned}
 use Rattle.tp_decode.specs.Words.{signed}
-use Rattle.tp_state.specs.declared.cell.Cell.{Cell}
 use Rattle.tp_state.specs.declared.cell.Cell.TheVariants.{Undef, Any, Known, Index, Count}
 use Rattle.tp_state.specs.declared.planes.Bits.{Bits}
-use Rattle.tp_state.specs.CellRules.{blurred, copied, is_free, is_defined}
+use Rattle.tp_state.specs.CellRules.{blurred, is_free, is_defined}
 use Rattle.tp_state.specs.Order.{cell_below, join_cells}
-use Rattle.tp_state.specs.Planes.{is_set, live_of, cell_of, bits_cell, HasByteRow, with_mask, blurred_bits, live_bits, undefined_bits, joined_bits, failing_bits}
+use Rattle.tp_state.specs.Planes.{is_set, live_of, cell_of, bits_cell, with_mask, blurred_bits, live_bits, undefined_bits, joined_bits, failing_bits}
 use Rattle.tp_state.proofs.CellOrder.{same_int, int_self, nat_self}
 use Rattle.tp_state.proofs.PlaneBits.{one_of, set-or, set-and, set-xor}
 
@@ -212,8 +211,8 @@ joined_where d b c j v u small small' tells =
     first =
         set-or (bit_or (bit_or b.first c.first) (bit_xor b.second c.second)) d j
         ∙ ap (λ t. t || is_set d j) (set-or (bit_or b.first c.first) (bit_xor b.second c.second) j
-            ∙ ap (λ t. t || is_set (bit_xor b.second c.second) j) (set-or b.first c.first j)
-            ∙ ap (λ t. (is_set b.first j || is_set c.first j) || t) (set-xor b.second c.second j))
+        ∙ ap (λ t. t || is_set (bit_xor b.second c.second) j) (set-or b.first c.first j)
+        ∙ ap (λ t. (is_set b.first j || is_set c.first j) || t) (set-xor b.second c.second j))
 
 -- ---- below
 

@@ -1,17 +1,16 @@
 -- Words of planes that are joined, or compared.
-use Rattle.std.proofs.Common.{◌≡◌, ◌⊎◌, inl, inr, ℕ, ◌+◌, ◌-◌, ◌*◌, ◌/◌, ◌%◌, ◌^◌, ◌<◌, ◌≤◌, ◌==◌, Bool, true, false, not, ◌||◌, List, length, min, slice_set, get_or, bit_or, bit_xor, refl, sym, ap, ◌∙◌, arith}
+use Rattle.std.proofs.Common.{◌≡◌, ◌⊎◌, inl, inr, ℕ, ◌+◌, ◌*◌, ◌/◌, ◌%◌, ◌^◌, ◌<◌, ◌≤◌, ◌==◌, Bool, true, false, not, ◌||◌, List, length, min, slice_set, get_or, bit_or, bit_xor, refl, sym, ap, ◌∙◌, arith}
 use Rattle.std.proofs.lemmas.Bool.{cases_lt, cases_eq, false≢true}
 use Rattle.std.proofs.lemmas.Bool.Decides.{nat_tests}
 use Rattle.std.proofs.lemmas.List.{set-get_or}
 use Rattle.std.proofs.lemmas.Nat.{le_or_l, le_or_r}
-use Rattle.tp_state.specs.declared.cell.Cell.{Cell}
-use Rattle.tp_state.specs.declared.cell.Cell.TheVariants.{Undef, Any, Known, Index, Count}
+use Rattle.tp_state.specs.declared.cell.Cell.TheVariants.{Undef, Any}
 use Rattle.tp_state.specs.declared.planes.Bits.{Bits}
 use Rattle.tp_state.specs.Planes.{is_set, live_of, cell_of, bits_cell, no_bits, cell_in, Moves, ChangesPlanes, joined_bits, failing_bits}
 use Rattle.tp_state.proofs.PlaneBits.{one_of, set-or, set-xor, xor_none, none_set, some_set}
 use Rattle.tp_state.specs.Order.{join_cells, cell_below}
 use Rattle.tp_state.proofs.PlaneCells.{LiveWays, live_ways, joined_where, failing_where}
-use Rattle.tp_state.proofs.PlaneLoops.{cell_in-word, cell_in-set_same, cell_in-set_other, changes_more, in_word, not_false, not_true}
+use Rattle.tp_state.proofs.PlaneLoops.{cell_in-word, cell_in-set_same, changes_more, in_word, not_false, not_true}
 
 moved_bits : Bits → Bits → ℕ
 moved_bits new old = bit_or (bit_xor new.first old.first) (bit_xor new.second old.second)

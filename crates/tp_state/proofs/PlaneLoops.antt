@@ -1,14 +1,14 @@
 -- Loops over the words of planes.
-use Rattle.std.proofs.Common.{◌≡◌, ◌⊎◌, inl, inr, ℕ, ◌+◌, ◌-◌, ◌*◌, ◌/◌, ◌%◌, ◌^◌, ◌<◌, ◌≤◌, ◌==◌, nat_lt, nat_le, Bool, true, false, not, ◌&&◌, List, length, min, slice_set, get_or, bit_and, length-set, get_or-set_same, get_or-set_other, refl, sym, ap, ◌∙◌, arith}
+use Rattle.std.proofs.Common.{◌≡◌, ◌⊎◌, inl, inr, ℕ, ◌+◌, ◌*◌, ◌/◌, ◌%◌, ◌^◌, ◌<◌, ◌≤◌, nat_lt, nat_le, Bool, true, false, not, ◌&&◌, List, length, min, slice_set, get_or, bit_and, length-set, get_or-set_same, get_or-set_other, refl, sym, ap, ◌∙◌, arith}
 use Rattle.std.proofs.lemmas.Bool.{cases_lt, cases_eq, false≢true}
 use Rattle.std.proofs.lemmas.Bool.Decides.{nat_tests}
 use Rattle.tp_state.specs.declared.cell.Cell.{Cell}
 use Rattle.tp_state.specs.declared.planes.Bits.{Bits}
-use Rattle.tp_state.specs.CellRules.{blurred, is_free, is_defined}
-use Rattle.tp_state.specs.Planes.{is_set, cell_of, bits_cell, with_mask, blurred_bits, live_bits, undefined_bits, no_bits, cell_in, ChangesPlanes}
+use Rattle.tp_state.specs.CellRules.{blurred}
+use Rattle.tp_state.specs.Planes.{is_set, cell_of, bits_cell, with_mask, blurred_bits, no_bits, cell_in, ChangesPlanes}
 use Rattle.std.proofs.lemmas.Nat.{and_le_l}
 use Rattle.tp_state.proofs.PlaneBits.{set-and, none_set, some_set, set_one_same, set_one_other}
-use Rattle.tp_state.proofs.PlaneCells.{set-mask_in, set-mask_out, blurred_in, blurred_out, live_where, undefined_where}
+use Rattle.tp_state.proofs.PlaneCells.{set-mask_in, set-mask_out, blurred_in, blurred_out}
 
 -- ---- a word's place
 

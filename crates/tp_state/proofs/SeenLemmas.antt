@@ -1,6 +1,6 @@
 -- The cells that planes and values are seen as.
-use Rattle.std.proofs.Common.{◌≡◌, ◌≢◌, ◌⊎◌, inl, inr, ℕ, ◌+◌, ◌-◌, ◌*◌, ◌/◌, ◌%◌, ◌^◌, ◌<◌, ◌≤◌, Bool, true, false, IsTrue, List, [], ◌∷◌, ◌++◌, length, map, take, drop, replicate, slice_set, min, pos, get_or, length-set, get_or-set_same, get_or-set_other, if◌then◌else◌, ◌==◌, zero, suc, refl, sym, ap, ◌∙◌, arith, rules}
-use Rattle.std.specs.List.{range_with_len, list_all}
+use Rattle.std.proofs.Common.{◌≡◌, ◌⊎◌, inl, inr, ℕ, ◌+◌, ◌-◌, ◌*◌, ◌/◌, ◌%◌, ◌<◌, ◌≤◌, Bool, true, false, IsTrue, List, [], ◌∷◌, ◌++◌, length, map, take, drop, replicate, slice_set, min, pos, get_or, length-set, get_or-set_same, get_or-set_other, if◌then◌else◌, ◌==◌, zero, suc, refl, sym, ap, ◌∙◌, arith, rules}
+use Rattle.std.specs.List.{list_all}
 use Rattle.std.proofs.lemmas.Bool.{cases_lt, cases_eq, false≢true}
 use Rattle.std.proofs.lemmas.List.{places, ext_get_or, get_or-map, length-map, map-append}
 use Rattle.std.specs.Ordering.{int_eq}
@@ -11,7 +11,7 @@ use Rattle.tp_decode.specs.Words.{signed}
 use Rattle.tp_state.specs.declared.cell.Cell.{Cell}
 use Rattle.tp_state.specs.declared.cell.Cell.TheVariants.{Undef, Any, Known, Index, Count}
 use Rattle.tp_state.specs.declared.planes.Bits.{Bits}
-use Rattle.tp_state.specs.CellRules.{cell_at, cells_from, with_cells, blurred, is_free}
+use Rattle.tp_state.specs.CellRules.{cell_at, cells_from, with_cells, blurred}
 use Rattle.tp_state.specs.Order.{join_cells, joined_cells, cell_below, TellsChange}
 use Rattle.tp_state.specs.Planes.{cell_of, bits_cell, no_bits, HasByteRow, cell_in, seen, IsWhole, ChangesPlanes}
 use Rattle.tp_state.proofs.CellLemmas.{ChangesFrom, changes_all, length-cells_from, cell_at-cells_from, blurred_part}

@@ -1,5 +1,5 @@
 -- How what is known of words is kept: two bits of each word, in two planes, and a value.
-use Rattle.std.specs.Prelude.{◌≡◌, ℕ, ◌+◌, ◌-◌, ◌*◌, ◌/◌, ◌%◌, ◌^◌, ◌<◌, ◌≤◌, ◌==◌, Bool, true, false, nat_lt, nat_le, ◌&&◌, if◌then◌else◌, List, map, length, slice_index_or, bit_and, bit_or, bit_xor, ◌⊎◌}
+use Rattle.std.specs.Prelude.{◌≡◌, ℕ, ◌+◌, ◌-◌, ◌*◌, ◌/◌, ◌%◌, ◌^◌, ◌<◌, ◌≤◌, ◌==◌, Bool, true, false, nat_lt, if◌then◌else◌, List, map, length, slice_index_or, bit_and, bit_or, bit_xor, ◌⊎◌}
 use Rattle.std.specs.Int.{bit_at}
 use Rattle.std.specs.List.{range_with_len}
 use Rattle.tp_decode.specs.Words.{signed}
@@ -68,7 +68,7 @@ live_under_free b c = bit_and c.first b.second
 abbrev pub failing_bits : ℕ → Bits → Bits → ℕ
 failing_bits d b c =
     bit_or (bit_xor (unlike_bits d b c) (bit_and (unlike_bits d b c) c.first))
-      (bit_xor (live_under_free b c) (bit_and (bit_and (live_under_free b c) c.second) b.first))
+    (bit_xor (live_under_free b c) (bit_and (bit_and (live_under_free b c) c.second) b.first))
 
 -- ---- the words of a workspace
 

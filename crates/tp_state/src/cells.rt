@@ -9,8 +9,8 @@ ghost use Rattle.tp_state.specs.Entry.{first_cells};
 
 use crate::cell::Cell;
 use crate::planes::{
-    Bits, Kept, WORDS, all_defined, all_free, blur_all, join_planes, planes_below, put_all, put_one,
-    whole_planes,
+    Bits, Kept, WORDS, all_defined, all_free, blur_all, join_planes, planes_below, put_all,
+    put_one, whole_planes,
 };
 use std::alloc::{AllocError, Global};
 use std::marker::Model;
@@ -212,12 +212,7 @@ fn first_values(alloc: Global, initial: &[u32], words: usize) -> Result<Vec<u32>
 
 /// What holds of both, word by word. It answers whether anything changed.
 #[tactic(auto, using(crate::proofs::SeenLemmas::length_seen))]
-fn join_words(
-    values: &[u32],
-    planes: &mut [Bits],
-    other_values: &[u32],
-    others: &[Bits],
-) -> bool
+fn join_words(values: &[u32], planes: &mut [Bits], other_values: &[u32], others: &[Bits]) -> bool
     requires whole { IsWhole values.now planes.old }
     requires others { IsWhole other_values.now others.now }
     requires long { length (seen other_values.now others.now) ≡ length (seen values.now planes.old) }

@@ -108,7 +108,11 @@ fn within(w: usize, x: usize, end: usize) -> u64
 fn masked(bits: u64, mask: u64, bit: bool) -> u64
     ensures { result ≡ with_mask bit mask bits }
 {
-    if bit { bits | mask } else { (bits | mask) ^ mask }
+    if bit {
+        bits | mask
+    } else {
+        (bits | mask) ^ mask
+    }
 }
 
 impl Bits {

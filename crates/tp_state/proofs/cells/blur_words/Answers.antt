@@ -1,6 +1,5 @@
-use Rattle.std.proofs.Common.{◌≤◌, length, min, arith}
-use Rattle.tp_state.specs.CellRules.{blurred}
-use Rattle.tp_state.proofs.SeenLemmas.{Blurs, whole_blurred, seen_blurred}
+use Rattle.std.proofs.Common.{◌≤◌, length, arith}
+use Rattle.tp_state.proofs.SeenLemmas.{whole_blurred, seen_blurred}
 use Rattle.tp_state.proofs.cells.blur_words.Goals as goal
 
 pub returns-clause-whole : goal.returns-clause-whole

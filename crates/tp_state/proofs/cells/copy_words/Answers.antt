@@ -1,4 +1,4 @@
-use Rattle.std.proofs.Common.{◌≤◌, ◌<◌, ◌+◌, length, ap, ◌∙◌, arith}
+use Rattle.std.proofs.Common.{◌<◌, ◌+◌, length, ap, ◌∙◌, arith}
 use Rattle.tp_state.specs.CellRules.{copied}
 use Rattle.tp_state.specs.Planes.{seen}
 use Rattle.tp_state.proofs.CellLemmas.{changes_one, changes_all, changes_end, apart_from}

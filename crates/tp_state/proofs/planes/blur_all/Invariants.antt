@@ -1,6 +1,6 @@
-use Rattle.std.proofs.Common.{ℕ, ◌*◌, List, min, slice_index_or}
+use Rattle.std.proofs.Common.{ℕ, ◌*◌, List, min}
 use Rattle.tp_state.specs.CellRules.{blurred}
-use Rattle.tp_state.specs.Planes.{ChangesPlanes, cell_of}
+use Rattle.tp_state.specs.Planes.{ChangesPlanes}
 use Rattle.tp_state.proofs.planes.blur_all.Given as goal
 
 abbrev pub invariant-loop-w : goal.invariant-loop-w

@@ -1,4 +1,4 @@
-use Rattle.std.proofs.Common.{inl, ◌∙◌, get_or, length, ◌≡◌, ◌*◌, ◌<◌, arith}
+use Rattle.std.proofs.Common.{inl, ◌∙◌, get_or, length, ◌*◌, ◌<◌, arith}
 use Rattle.tp_state.proofs.PlaneJoins.{undefined_bits}
 use Rattle.tp_state.proofs.SeenLemmas.{clear_known}
 use Rattle.tp_state.proofs.planes.close_planes.Goals as goal

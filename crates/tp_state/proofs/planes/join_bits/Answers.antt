@@ -1,4 +1,4 @@
-use Rattle.std.proofs.Common.{ap, ◌∙◌, ◌==◌, not, sym, subst}
+use Rattle.std.proofs.Common.{ap, ◌∙◌, ◌==◌, not, sym}
 use Rattle.tp_state.proofs.PlaneJoins.{none_moved, some_moved}
 use Rattle.tp_state.proofs.planes.join_bits.Goals as goal
 

@@ -1,5 +1,5 @@
 use Rattle.std.proofs.Common.{◌<◌, length, arith}
-use Rattle.tp_state.proofs.PlaneJoins.{joins_moved, joins_kept, joined_end}
+use Rattle.tp_state.proofs.PlaneJoins.{joins_moved, joins_kept}
 use Rattle.tp_state.proofs.planes.join_planes.Goals as goal
 use Rattle.tp_state.proofs.planes.join_planes.Goals.{then-join_bits, else-join_bits}
 

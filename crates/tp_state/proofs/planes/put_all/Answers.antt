@@ -1,5 +1,4 @@
 use Rattle.std.proofs.Common.{◌≤◌, ◌<◌, ◌*◌, length, arith}
-use Rattle.tp_state.specs.Planes.{cell_of}
 use Rattle.tp_state.proofs.PlaneLoops.{put_more, changes_end}
 use Rattle.tp_state.proofs.planes.put_all.Goals as goal
 

@@ -1,5 +1,4 @@
 use Rattle.std.proofs.Common.{ℕ, ◌*◌, List, min, slice_index_or}
-use Rattle.tp_state.specs.CellRules.{blurred}
 use Rattle.tp_state.specs.Planes.{ChangesPlanes, cell_of}
 use Rattle.tp_state.proofs.planes.put_all.Given as goal
 

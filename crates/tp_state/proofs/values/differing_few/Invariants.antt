@@ -1,4 +1,4 @@
-use Rattle.std.proofs.Common.{◌≡◌, ℕ, ◌<◌, ◌≤◌, ◌==◌, ◌^◌, not, false, slice_index_or}
+use Rattle.std.proofs.Common.{◌≡◌, ℕ, ◌<◌, ◌≤◌, ◌==◌, not, false, slice_index_or}
 use Rattle.tp_state.specs.Planes.{is_set}
 use Rattle.tp_state.proofs.values.differing_few.Given as goal
 

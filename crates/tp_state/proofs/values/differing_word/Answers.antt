@@ -1,6 +1,5 @@
-use Rattle.std.proofs.Common.{◌≡◌, ℕ, ◌≤◌, ◌<◌, ◌==◌, List, Bool, true, false, not, cond, eqb, get_or, length, take, ◌%◌, ◌^◌, ap, ◌∙◌, refl, arith, w32}
+use Rattle.std.proofs.Common.{◌≡◌, ◌≤◌, ◌<◌, ◌==◌, Bool, true, false, not, cond, eqb, get_or, length, take, ◌%◌, ◌^◌, ap, ◌∙◌, refl, arith, w32}
 use lib.Lanes.{zip2, mask_l}
-use Rattle.std.specs.Int.{bit_at}
 use Rattle.std.proofs.lemmas.List.{length-take-le, get_or-take}
 use Rattle.std.proofs.lemmas.Simd.{tops_compared, length-zip2, mask_l-mod, bit_mask_l, get_or-zip2}
 use Rattle.tp_state.specs.Planes.{is_set}
