@@ -2,8 +2,13 @@ pub mod EdgeLemmas
 pub mod Casts
 pub mod RangeLemmas
 pub mod CellLemmas
+pub mod PlaneBits
+pub mod PlaneCells
+pub mod PlaneLoops
+pub mod PlaneJoins
+pub mod PlaneValues
+pub mod SeenLemmas
 pub mod JoinLemmas
-pub mod EntryLemmas
 pub mod OrderLemmas
 pub mod CellOrder
 pub mod StateOrder

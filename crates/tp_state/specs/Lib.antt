@@ -2,6 +2,7 @@ pub mod EdgesTaken
 pub mod Answer
 pub mod Kinds
 pub mod CellRules
+pub mod Planes
 pub mod Conditions
 pub mod Sound
 pub mod Rules

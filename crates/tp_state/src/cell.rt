@@ -4,7 +4,7 @@ ghost use Rattle.std.specs.Prelude.{◌≡◌, ◌≤◌, ◌≤ℤ◌, ◌^◌,
 ghost use Rattle.tp_flow.specs.RowRules.{last_index};
 ghost use Rattle.tp_state.specs.Conditions.{HasGoodLoops};
 ghost use Rattle.tp_state.specs.Order.{cell_below, join_cells};
-ghost use Rattle.tp_state.specs.CellRules.{is_free, is_defined, read, blurred, copied};
+ghost use Rattle.tp_state.specs.CellRules.{is_free, read, copied};
 
 use crate::fault::StateCode;
 use crate::kind::Kind;
@@ -32,23 +32,6 @@ impl Cell {
         ensures { result ≡ is_free self }
     {
         !matches!(self, Cell::Index(_) | Cell::Count(_))
-    }
-
-    /// Whether its bytes are defined.
-    pub(crate) fn is_defined(self) -> bool
-        ensures { result ≡ is_defined self }
-    {
-        self != Cell::Undef
-    }
-
-    /// What is known of the word when something, or a part of something, may have been written to it.
-    pub(crate) fn blurred(self) -> Cell
-        ensures { result ≡ blurred self }
-    {
-        match self {
-            Cell::Known(_) => Cell::Any,
-            cell => cell,
-        }
     }
 
     /// What is known of a copy of the word.

@@ -1,31 +1,41 @@
 //! What is known of the words of a workspace.
 
-ghost use Rattle.std.specs.Prelude.{◌≡◌, ◌+◌, ◌≤◌, ◌<◌, length, map, replicate, slice_set, IsTrue, IfOk, OnOk, pos, ◌++◌, ◌-◌, ℕ, true, false};
+ghost use Rattle.std.specs.Prelude.{◌≡◌, ◌+◌, ◌≤◌, ◌<◌, length, map, replicate, take, drop, slice_set, min, IsTrue, IfOk, pos, ◌++◌, ◌-◌, ℕ, true, false};
 ghost use Rattle.tp_state.specs.CellRules.{cell_at, cells_from, with_cells, are_free, are_defined, blurred, copied};
-ghost use Rattle.tp_decode.specs.Words.{signed};
-ghost use Rattle.tp_state.specs.declared.cell.Cell.TheVariants.{Known};
 ghost use Rattle.tp_state.specs.Rules.{are_apart};
-ghost use Rattle.tp_state.specs.Order.{cell_below, join_cells, joined_cells, TellsChange};
+ghost use Rattle.tp_state.specs.Order.{cell_below, joined_cells, TellsChange};
+ghost use Rattle.tp_state.specs.Planes.{seen, IsWhole};
 ghost use Rattle.tp_state.specs.Entry.{first_cells};
 
 use crate::cell::Cell;
+use crate::planes::{
+    Bits, Kept, WORDS, all_defined, all_free, blur_all, join_planes, planes_below, put_all,
+    put_one, whole_planes,
+};
 use std::alloc::{AllocError, Global};
 use std::marker::Model;
 use tp_image::Image;
 
 /// What is known of each workspace word, by its number: a contract sees the list of these.
+///
+/// Two bits of each word say which cell it is, in planes, so that 64 words are joined or compared at once. Beside them
+/// stands a value for each word, which means something only where a word is known or a live control word.
 #[derive(Drop)]
 pub struct Cells {
-    cells: Vec<Cell>,
+    values: Vec<u32>,
+    planes: Vec<Bits>,
 }
 
 impl Model for Cells {
     ghost use Rattle.std.specs.Prelude.{List};
     ghost use Rattle.tp_state.specs.declared.cell.Cell.{Cell};
+    ghost use Rattle.tp_state.specs.Planes.{seen, IsWhole};
 
     ghost Value = { List Cell };
 
-    ghost view = { λ c. c.cells.items };
+    ghost view = { λ c. seen c.values.items c.planes.items };
+
+    ghost invariant = { λ c. IsWhole c.values.items c.planes.items };
 }
 
 impl Cells {
@@ -33,34 +43,33 @@ impl Cells {
     pub fn get(&self, x: usize) -> Cell
         ensures { result ≡ cell_at self.now x }
     {
-        match self.cells.get(x) {
-            Some(cell) => *cell,
-            None => Cell::Undef,
-        }
+        word_at(&self.values, &self.planes, x)
     }
 
     pub(crate) fn set(&mut self, x: usize, cell: Cell)
         requires { x < length self.old }
         ensures { self.new ≡ slice_set self.old x cell }
     {
-        self.cells[x] = cell;
+        set_word(&mut self.values, &mut self.planes, x, cell);
     }
 
     /// What is known of a worker's words before its first instruction.
     pub(crate) fn entry(alloc: Global, image: &Image) -> Result<Cells, AllocError>
         ensures { IfOk result (λ cells. cells ≡ first_cells image.now) }
     {
-        let mut cells = known_words(alloc, &image.initial)?;
-        push_zeros(&mut cells, image.workspace as usize)?;
-        Ok(Cells { cells })
+        let words = image.workspace as usize;
+        let values = first_values(alloc, &image.initial, words)?;
+        let planes = whole_planes(alloc, words)?;
+        Ok(Cells { values, planes })
     }
 
     /// A copy.
     pub(crate) fn copy_of(&self, alloc: Global) -> Result<Cells, AllocError>
         ensures { IfOk result (λ cells. cells ≡ self.now) }
     {
-        let cells = Vec::from_slice(alloc, &self.cells)?;
-        Ok(Cells { cells })
+        let values = Vec::from_slice(alloc, &self.values)?;
+        let planes = Vec::from_slice(alloc, &self.planes)?;
+        Ok(Cells { values, planes })
     }
 
     /// It takes the other's value, of as many words.
@@ -68,7 +77,12 @@ impl Cells {
         requires { length others.now ≡ length self.old }
         ensures { self.new ≡ others.now }
     {
-        self.cells.copy_from_slice(&others.cells);
+        set_words(
+            &mut self.values,
+            &mut self.planes,
+            &others.values,
+            &others.planes,
+        );
     }
 
     /// What holds of both, word by word. It answers whether anything changed.
@@ -77,7 +91,12 @@ impl Cells {
         ensures value { self.new ≡ joined_cells self.old others.now }
         ensures changed { TellsChange result self.old self.new }
     {
-        join_all(&mut self.cells, &others.cells)
+        join_words(
+            &self.values,
+            &mut self.planes,
+            &others.values,
+            &others.planes,
+        )
     }
 
     /// Whether each says as much as the other's of the same word or more.
@@ -86,42 +105,30 @@ impl Cells {
         ensures yes { result ≡ true → (i : ℕ) → IsTrue (cell_below (cell_at self.now i) (cell_at others.now i)) }
         ensures no { result ≡ false → (i : ℕ) × (cell_below (cell_at self.now i) (cell_at others.now i) ≡ false) }
     {
-        all_below(&self.cells, &others.cells)
-    }
-
-    /// The cells of n words, from a word on, as far as the workspace goes.
-    #[tactic(auto, unfolding(crate::specs::CellRules::cells_from))]
-    fn part(&self, x: usize, n: usize) -> &[Cell]
-        ensures { result.now ≡ cells_from self.now x n }
-    {
-        let len = self.cells.len();
-        let first = x.min(len);
-        let last = first + n.min(len - first);
-        &self.cells[first..last]
+        words_below(&self.values, &self.planes, &others.values, &others.planes)
     }
 
     /// Whether none of n words, from a word on, is a live control word.
     pub(crate) fn are_free(&self, x: usize, n: usize) -> bool
         ensures { result ≡ are_free (cells_from self.now x n) }
     {
-        self.part(x, n).iter().all(|cell| cell.is_free())
+        words_free(&self.values, &self.planes, x, n)
     }
 
     /// Whether the bytes of n words, from a word on, are defined.
     pub(crate) fn are_defined(&self, x: usize, n: usize) -> bool
         ensures { result ≡ are_defined (cells_from self.now x n) }
     {
-        self.part(x, n).iter().all(|cell| cell.is_defined())
+        words_defined(&self.values, &self.planes, x, n)
     }
 
     /// The same is known of n words, from a word on.
-    #[tactic(auto, unfolding(crate::specs::CellRules::with_cells))]
     pub(crate) fn fill(&mut self, x: usize, n: usize, cell: Cell)
         requires { x + n ≤ length self.old }
         ensures sized { length self.new ≡ length self.old }
         ensures value { self.new ≡ with_cells self.old x (replicate n cell) }
     {
-        self.cells[x..x + n].fill(cell);
+        fill_words(&mut self.values, &mut self.planes, x, n, cell);
     }
 
     /// Each of n words, from a word on, may have taken something, as far as the workspace goes.
@@ -129,7 +136,7 @@ impl Cells {
         ensures value { self.new ≡ with_cells self.old x (map blurred (cells_from self.old x n)) }
         ensures sized { length self.new ≡ length self.old }
     {
-        blur_cells(&mut self.cells, x, n);
+        blur_words(&self.values, &mut self.planes, x, n);
     }
 
     /// n words, from a word on, take copies of n others.
@@ -140,106 +147,161 @@ impl Cells {
         ensures value { self.new ≡ with_cells self.old x (map copied (cells_from self.old y n)) }
         ensures sized { length self.new ≡ length self.old }
     {
-        copy_cells(&mut self.cells, x, y, n);
+        copy_words(&mut self.values, &mut self.planes, x, y, n);
     }
 }
 
-/// Each of n words, from a word on, may have taken something, as far as there are words.
-#[tactic(auto, using(crate::proofs::CellLemmas::blurred_part))]
-fn blur_cells(cells: &mut [Cell], x: usize, n: usize)
-    ensures { cells.new ≡ with_cells cells.old x (map blurred (cells_from cells.old x n)) }
+/// The part of n words, from a word on, that lies in a workspace: its first word, and its end.
+fn part(len: usize, x: usize, n: usize) -> (usize, usize)
+    ensures first { result.0 ≡ min x len }
+    ensures end { result.1 ≡ min x len + min n (len - min x len) }
 {
-    let len = cells.len();
     let first = x.min(len);
-    blur_within(cells, first, n.min(len - first));
+    (first, first + n.min(len - first))
 }
 
-/// Each of n words, from a word on, may have taken something.
-fn blur_within(cells: &mut [Cell], x: usize, n: usize)
-    requires { x + n ≤ length cells.old }
-    ensures { cells.new ≡ with_cells cells.old x (map blurred (cells_from cells.old x n)) }
+/// What is known of a word; nothing of a word outside the workspace.
+#[tactic(auto, using(crate::proofs::SeenLemmas::length_seen))]
+fn word_at(values: &[u32], planes: &[Bits], x: usize) -> Cell
+    requires { IsWhole values.now planes.now }
+    ensures { result ≡ cell_at (seen values.now planes.now) x }
 {
-    for i in 0..n {
-        cells[x + i] = cells[x + i].blurred();
+    if x < values.len() {
+        planes[x / WORDS].cell(x % WORDS, values[x])
+    } else {
+        Cell::Undef
     }
 }
 
-/// n words, from a word on, take copies of n others.
-fn copy_cells(cells: &mut [Cell], x: usize, y: usize, n: usize)
-    requires target { x + n ≤ length cells.old }
-    requires source { y + n ≤ length cells.old }
-    requires apart { IsTrue (are_apart n x y) }
-    ensures { cells.new ≡ with_cells cells.old x (map copied (cells_from cells.old y n)) }
+#[tactic(auto, using(crate::proofs::SeenLemmas::length_seen))]
+fn set_word(values: &mut [u32], planes: &mut [Bits], x: usize, cell: Cell)
+    requires whole { IsWhole values.old planes.old }
+    requires inside { x < length (seen values.old planes.old) }
+    ensures whole { IsWhole values.new planes.new }
+    ensures value { seen values.new planes.new ≡ slice_set (seen values.old planes.old) x cell }
 {
-    for i in 0..n {
-        cells[x + i] = cells[y + i].copied();
-    }
+    let kept = Kept::of(cell);
+    values[x] = kept.value;
+    put_one(planes, x, kept);
+}
+
+/// All words take those of others, of which there are as many.
+#[tactic(auto, using(crate::proofs::SeenLemmas::length_seen))]
+fn set_words(values: &mut [u32], planes: &mut [Bits], other_values: &[u32], others: &[Bits])
+    requires whole { IsWhole values.old planes.old }
+    requires others { IsWhole other_values.now others.now }
+    requires long { length (seen other_values.now others.now) ≡ length (seen values.old planes.old) }
+    ensures values { values.new ≡ other_values.now }
+    ensures planes { planes.new ≡ others.now }
+{
+    values.copy_from_slice(other_values);
+    planes.copy_from_slice(others);
+}
+
+/// The values of an image's first words, and of the others, which begin with 0.
+fn first_values(alloc: Global, initial: &[u32], words: usize) -> Result<Vec<u32>, AllocError>
+    requires { length initial.now ≤ words }
+    ensures value { IfOk result (λ values. values.items ≡ initial.now ++ replicate (words - length initial.now) 0) }
+    ensures long { IfOk result (λ values. length values.items ≡ words) }
+{
+    let mut values = Vec::with_capacity(alloc, words)?;
+    values.extend_from_slice(initial)?;
+    values.resize(words, 0)?;
+    Ok(values)
 }
 
 /// What holds of both, word by word. It answers whether anything changed.
-fn join_all(cells: &mut [Cell], others: &[Cell]) -> bool
-    requires { length others.now ≡ length cells.old }
-    ensures value { cells.new ≡ joined_cells cells.old others.now }
-    ensures changed { TellsChange result cells.old cells.new }
+#[tactic(auto, using(crate::proofs::SeenLemmas::length_seen))]
+fn join_words(values: &[u32], planes: &mut [Bits], other_values: &[u32], others: &[Bits]) -> bool
+    requires whole { IsWhole values.now planes.old }
+    requires others { IsWhole other_values.now others.now }
+    requires long { length (seen other_values.now others.now) ≡ length (seen values.now planes.old) }
+    ensures whole { IsWhole values.now planes.new }
+    ensures value { seen values.now planes.new ≡ joined_cells (seen values.now planes.old) (seen other_values.now others.now) }
+    ensures changed { TellsChange result (seen values.now planes.old) (seen values.now planes.new) }
 {
-    let mut changed = false;
-    for i in 0..cells.len() {
-        if join_cell(&mut cells[i], others[i]) {
-            changed = true;
-        }
+    join_planes(planes, others, values, other_values)
+}
+
+/// Whether each word says as much as the other's of the same number or more.
+#[tactic(auto, using(crate::proofs::SeenLemmas::length_seen))]
+fn words_below(values: &[u32], planes: &[Bits], other_values: &[u32], others: &[Bits]) -> bool
+    requires whole { IsWhole values.now planes.now }
+    requires others { IsWhole other_values.now others.now }
+    requires long { length (seen other_values.now others.now) ≡ length (seen values.now planes.now) }
+    ensures yes { result ≡ true → (i : ℕ) → IsTrue (cell_below (cell_at (seen values.now planes.now) i) (cell_at (seen other_values.now others.now) i)) }
+    ensures no { result ≡ false → (i : ℕ) × (cell_below (cell_at (seen values.now planes.now) i) (cell_at (seen other_values.now others.now) i) ≡ false) }
+{
+    planes_below(planes, others, values, other_values)
+}
+
+/// Whether none of n words, from a word on, is a live control word.
+#[tactic(auto, using(crate::proofs::SeenLemmas::length_seen))]
+fn words_free(values: &[u32], planes: &[Bits], x: usize, n: usize) -> bool
+    requires { IsWhole values.now planes.now }
+    ensures { result ≡ are_free (cells_from (seen values.now planes.now) x n) }
+{
+    let (first, end) = part(values.len(), x, n);
+    all_free(planes, first, end)
+}
+
+/// Whether the bytes of n words, from a word on, are defined.
+#[tactic(auto, using(crate::proofs::SeenLemmas::length_seen))]
+fn words_defined(values: &[u32], planes: &[Bits], x: usize, n: usize) -> bool
+    requires { IsWhole values.now planes.now }
+    ensures { result ≡ are_defined (cells_from (seen values.now planes.now) x n) }
+{
+    let (first, end) = part(values.len(), x, n);
+    all_defined(planes, first, end)
+}
+
+/// The same is known of n words, from a word on.
+#[tactic(auto, using(crate::proofs::SeenLemmas::length_seen))]
+fn fill_words(values: &mut [u32], planes: &mut [Bits], x: usize, n: usize, cell: Cell)
+    requires whole { IsWhole values.old planes.old }
+    requires room { x + n ≤ length (seen values.old planes.old) }
+    ensures sized { length (seen values.new planes.new) ≡ length (seen values.old planes.old) }
+    ensures whole { IsWhole values.new planes.new }
+    ensures value { seen values.new planes.new ≡ with_cells (seen values.old planes.old) x (replicate n cell) }
+{
+    let kept = Kept::of(cell);
+    fill_values(values, x, n, kept.value);
+    put_all(planes, x, x + n, kept);
+}
+
+/// The values of n words, from a word on, are one value.
+fn fill_values(values: &mut [u32], x: usize, n: usize, value: u32)
+    requires { x + n ≤ length values.old }
+    ensures { values.new ≡ take x values.old ++ (replicate n value ++ drop (x + length (replicate n value)) values.old) }
+{
+    values[x..x + n].fill(value);
+}
+
+/// Each of n words, from a word on, may have taken something, as far as the workspace goes.
+#[tactic(auto, using(crate::proofs::SeenLemmas::length_seen))]
+fn blur_words(values: &[u32], planes: &mut [Bits], x: usize, n: usize)
+    requires { IsWhole values.now planes.old }
+    ensures sized { length (seen values.now planes.new) ≡ length (seen values.now planes.old) }
+    ensures whole { IsWhole values.now planes.new }
+    ensures value { seen values.now planes.new ≡ with_cells (seen values.now planes.old) x (map blurred (cells_from (seen values.now planes.old) x n)) }
+{
+    let (first, end) = part(values.len(), x, n);
+    blur_all(planes, first, end);
+}
+
+/// n words, from a word on, take copies of n others.
+#[tactic(auto, using(crate::proofs::SeenLemmas::length_seen))]
+fn copy_words(values: &mut [u32], planes: &mut [Bits], x: usize, y: usize, n: usize)
+    requires whole { IsWhole values.old planes.old }
+    requires target { x + n ≤ length (seen values.old planes.old) }
+    requires source { y + n ≤ length (seen values.old planes.old) }
+    requires apart { IsTrue (are_apart n x y) }
+    ensures sized { length (seen values.new planes.new) ≡ length (seen values.old planes.old) }
+    ensures whole { IsWhole values.new planes.new }
+    ensures value { seen values.new planes.new ≡ with_cells (seen values.old planes.old) x (map copied (cells_from (seen values.old planes.old) y n)) }
+{
+    for i in 0..n {
+        let cell = word_at(values, planes, y + i).copied();
+        set_word(values, planes, x + i, cell);
     }
-    changed
-}
-
-/// What holds of both, of one word. It answers whether it changed. Most words are alike, so this is asked first.
-fn join_cell(cell: &mut Cell, other: Cell) -> bool
-    ensures value { cell.new ≡ join_cells cell.old other }
-    ensures changed { TellsChange result cell.old cell.new }
-{
-    if *cell == other {
-        return false;
-    }
-    let joined = cell.join(other);
-    let changed = joined != *cell;
-    *cell = joined;
-    changed
-}
-
-/// The words of an image's beginning.
-fn known_words(alloc: Global, words: &[u32]) -> Result<Vec<Cell>, AllocError>
-    ensures { IfOk result (λ cells. cells.items ≡ map (λ word. Known (signed word)) words.now) }
-{
-    words.iter().map(|word| known_word(*word)).collect(alloc)
-}
-
-/// A word that is known.
-fn known_word(word: u32) -> Cell
-    ensures { result ≡ Known (signed word) }
-{
-    Cell::Known(word.cast_signed())
-}
-
-/// The other words are 0.
-fn push_zeros(cells: &mut Vec<Cell>, words: usize) -> Result<(), AllocError>
-    requires { length cells.old.items ≤ words }
-    ensures { OnOk result (cells.new.items ≡ cells.old.items ++ replicate (words - length cells.old.items) (Known (pos 0))) }
-{
-    for zero in cells.len()..words {
-        cells.push(Cell::Known(0))?;
-    }
-    Ok(())
-}
-
-/// Whether each cell says as much as the other's of the same word or more.
-fn all_below(cells: &[Cell], others: &[Cell]) -> bool
-    requires { length others.now ≡ length cells.now }
-    ensures yes { result ≡ true → (i : ℕ) → IsTrue (cell_below (cell_at cells.now i) (cell_at others.now i)) }
-    ensures no { result ≡ false → (i : ℕ) × (cell_below (cell_at cells.now i) (cell_at others.now i) ≡ false) }
-{
-    for i in 0..cells.len() {
-        if !cells[i].is_below(others[i]) {
-            return false;
-        }
-    }
-    true
 }

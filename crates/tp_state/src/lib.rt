@@ -11,9 +11,11 @@ mod kind;
 pub mod laws;
 mod outcome;
 mod places;
+mod planes;
 mod ranges;
 mod rules;
 mod state;
+mod values;
 
 pub use cell::Cell;
 pub use cells::Cells;

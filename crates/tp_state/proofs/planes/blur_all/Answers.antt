@@ -1,0 +1,13 @@
+use Rattle.std.proofs.Common.{◌≤◌, ◌<◌, ◌*◌, length, arith}
+use Rattle.tp_state.proofs.PlaneLoops.{blur_more, changes_end}
+use Rattle.tp_state.proofs.planes.blur_all.Goals as goal
+
+pub loop-w-preserved : goal.loop-w-preserved
+loop-w-preserved c values =
+    let room : c.loop-w.w < length c.loop-w.planes = omega arith in
+    blur_more values _ _ c.args.x c.args.end c.loop-w.w c.within.result c.blurred.result (c.loop-w.invariant values) room c.within.ensures c.blurred.ensures
+
+pub returns : goal.returns
+returns c values =
+    let past : c.args.end ≤ 64 * c.loop-w.w = omega arith in
+    changes_end values _ _ _ c.args.x c.args.end c.loop-w.w (c.loop-w.invariant values) past

@@ -1,0 +1,355 @@
+//! Planes of bits: two bits of each workspace word say what its cell is, but for the value of one that has a value.
+
+ghost use Rattle.std.specs.Prelude.{◌≡◌, ℕ, ◌+◌, ◌-◌, ◌*◌, ◌^◌, ◌<◌, ◌≤◌, ◌==◌, ◌&&◌, nat_le, nat_lt, length, List, IfOk, true, false, if◌then◌else◌, slice_index_or, bit_or, bit_xor};
+ghost use Rattle.tp_state.specs.declared.cell.Cell.TheVariants.{Undef};
+ghost use Rattle.tp_state.specs.CellRules.{blurred, is_free, is_defined};
+ghost use Rattle.tp_state.specs.Planes.{is_set, live_of, cell_of, bits_cell, HasByteRow, with_mask, blurred_bits, live_bits, undefined_bits, joined_bits, failing_bits, no_bits, cell_in, IsWhole, ChangesPlanes, Moves};
+ghost use Rattle.tp_state.specs.Order.{join_cells, cell_below};
+
+use crate::cell::Cell;
+use crate::values::differing;
+use std::alloc::{AllocError, Global};
+
+/// How many words a word of a plane tells of.
+pub(crate) const WORDS: usize = 64;
+
+/// The first of the values that tell a loop's count, and not its index.
+const COUNTS: u32 = 256;
+
+/// Two bits of each of 64 words: Known has 00, Any 10, Undef 11, and a live control word 01. So a join is an OR, and the
+/// first bit of words that differ.
+#[derive(Clone, Copy, Debug, PartialEq, Eq)]
+pub(crate) struct Bits {
+    pub(crate) first: u64,
+    pub(crate) second: u64,
+}
+
+/// A cell as it is kept: its two bits, and its value. A live control word's value is its row, and 256 more for a count.
+#[derive(Clone, Copy, Debug)]
+pub(crate) struct Kept {
+    pub(crate) first: bool,
+    pub(crate) second: bool,
+    pub(crate) value: u32,
+}
+
+impl Kept {
+    pub(crate) fn of(cell: Cell) -> Kept
+        ensures cell { cell_of result.first result.second result.value ≡ cell }
+        ensures row { HasByteRow cell }
+    {
+        match cell {
+            Cell::Known(n) => Kept::with(false, false, n.cast_unsigned()),
+            Cell::Any => Kept::with(true, false, 0),
+            Cell::Undef => Kept::with(true, true, 0),
+            Cell::Index(l) => Kept::with(false, true, u32::from(l)),
+            Cell::Count(l) => Kept::with(false, true, COUNTS + u32::from(l)),
+        }
+    }
+
+    fn with(first: bool, second: bool, value: u32) -> Kept
+        ensures { result ≡ record { first = first; second = second; value = value } }
+    {
+        Kept {
+            first,
+            second,
+            value,
+        }
+    }
+}
+
+/// A live control word, by its value.
+fn live_cell(value: u32) -> Cell
+    requires { HasByteRow (live_of value) }
+    ensures { result ≡ live_of value }
+{
+    if value < COUNTS {
+        Cell::Index(value as u8)
+    } else {
+        Cell::Count((value - COUNTS) as u8)
+    }
+}
+
+/// Whether a bit is set.
+fn is_set(bits: u64, j: usize) -> bool
+    requires { j < 64 }
+    ensures { result ≡ is_set bits j }
+{
+    (bits >> j) & 1 == 1
+}
+
+/// One bit.
+pub(crate) fn one(j: usize) -> u64
+    requires { j < 64 }
+    ensures { result ≡ 2 ^ j }
+{
+    1 << j
+}
+
+/// The lowest bits.
+fn low(k: usize) -> u64
+    requires { k ≤ 64 }
+    ensures { result ≡ 2 ^ k - 1 }
+{
+    if k == WORDS { u64::MAX } else { one(k) - 1 }
+}
+
+/// Of the words that word w of a plane tells of, those from x to an end.
+fn within(w: usize, x: usize, end: usize) -> u64
+    requires order { x ≤ end }
+    requires place { w < 2 ^ 32 }
+    ensures { (j : ℕ) → j < 64 → is_set result j ≡ (nat_le x (64 * w + j) && nat_lt (64 * w + j) end) }
+{
+    let below = x.saturating_sub(WORDS * w).min(WORDS);
+    let through = end.saturating_sub(WORDS * w).min(WORDS);
+    low(through) ^ low(below)
+}
+
+/// Sets or clears the bits of a mask.
+fn masked(bits: u64, mask: u64, bit: bool) -> u64
+    ensures { result ≡ with_mask bit mask bits }
+{
+    if bit {
+        bits | mask
+    } else {
+        (bits | mask) ^ mask
+    }
+}
+
+impl Bits {
+    /// The cell of one of the words, with its value.
+    pub(crate) fn cell(self, j: usize, value: u32) -> Cell
+        requires place { j < 64 }
+        requires row { HasByteRow (bits_cell self j value) }
+        ensures { result ≡ bits_cell self j value }
+    {
+        match (is_set(self.first, j), is_set(self.second, j)) {
+            (false, false) => Cell::Known(value.cast_signed()),
+            (true, false) => Cell::Any,
+            (true, true) => Cell::Undef,
+            (false, true) => live_cell(value),
+        }
+    }
+
+    /// The words of a mask take a cell's bits.
+    fn put(self, mask: u64, kept: Kept) -> Bits
+        ensures first { result.first ≡ with_mask kept.first mask self.first }
+        ensures second { result.second ≡ with_mask kept.second mask self.second }
+    {
+        Bits {
+            first: masked(self.first, mask, kept.first),
+            second: masked(self.second, mask, kept.second),
+        }
+    }
+
+    /// The words of a mask may have taken something: those that are Known are Any.
+    fn blurred(self, mask: u64) -> Bits
+        ensures { result ≡ blurred_bits mask self }
+    {
+        Bits {
+            first: self.first | ((self.second & mask) ^ mask),
+            second: self.second,
+        }
+    }
+
+    /// What holds of both, where it is told which values differ.
+    fn joined(self, other: Bits, differ: u64) -> Bits
+        ensures { result ≡ joined_bits differ self other }
+    {
+        Bits {
+            first: self.first | other.first | (self.second ^ other.second) | differ,
+            second: self.second | other.second,
+        }
+    }
+
+    /// The words of which it does not say as much as the other or more, where it is told which values differ.
+    fn failing(self, other: Bits, differ: u64) -> u64
+        ensures { result ≡ failing_bits differ self other }
+    {
+        let unlike = self.first | (self.second ^ other.second) | differ;
+        let live_under_free = other.first & self.second;
+        (unlike ^ (unlike & other.first))
+            | (live_under_free ^ (live_under_free & other.second & self.first))
+    }
+
+    /// The words that have other bits than before.
+    fn changes(self, old: Bits) -> u64
+        ensures { result ≡ bit_or (bit_xor self.first old.first) (bit_xor self.second old.second) }
+    {
+        (self.first ^ old.first) | (self.second ^ old.second)
+    }
+
+    /// The live control words.
+    fn live(self) -> u64
+        ensures { result ≡ live_bits self }
+    {
+        self.second & (self.first ^ self.second)
+    }
+
+    /// The words that are undefined.
+    fn undefined(self) -> u64
+        ensures { result ≡ undefined_bits self }
+    {
+        self.first & self.second
+    }
+}
+
+/// The planes of so many words whose values are known.
+pub(crate) fn whole_planes(alloc: Global, words: usize) -> Result<Vec<Bits>, AllocError>
+    requires { words < 2 ^ 32 }
+    ensures enough { IfOk result (λ planes. words ≤ 64 * length planes.items) }
+    ensures no_more { IfOk result (λ planes. 64 * length planes.items < words + 64) }
+    ensures known { IfOk result (λ planes. (values : List ℕ) (i : ℕ) → i < words → cell_in values planes.items i ≡ cell_of false false (slice_index_or values i 0)) }
+    ensures padded { IfOk result (λ planes. (values : List ℕ) (i : ℕ) → words ≤ i → i < 64 * length planes.items → cell_in values planes.items i ≡ Undef) }
+{
+    let mut planes = clear_planes(alloc, (words + WORDS - 1) / WORDS)?;
+    close_planes(&mut planes, words);
+    Ok(planes)
+}
+
+/// Planes of so many words, with no bit set.
+fn clear_planes(alloc: Global, many: usize) -> Result<Vec<Bits>, AllocError>
+    ensures long { IfOk result (λ planes. length planes.items ≡ many) }
+    ensures clear { IfOk result (λ planes. (k : ℕ) → k < many → slice_index_or planes.items k no_bits ≡ no_bits) }
+{
+    let clear = Bits {
+        first: 0,
+        second: 0,
+    };
+    let mut planes = Vec::with_capacity(alloc, many)?;
+    planes.resize(many, clear)?;
+    Ok(planes)
+}
+
+/// Behind so many words the bits of planes that have none say that nothing is known.
+fn close_planes(planes: &mut [Bits], words: usize)
+    requires enough { words ≤ 64 * length planes.old }
+    requires few { length planes.old < 2 ^ 32 }
+    requires clear { (k : ℕ) → k < length planes.old → slice_index_or planes.old k no_bits ≡ no_bits }
+    ensures known { (values : List ℕ) (i : ℕ) → i < words → cell_in values planes.new i ≡ cell_of false false (slice_index_or values i 0) }
+    ensures padded { (values : List ℕ) (i : ℕ) → words ≤ i → i < 64 * length planes.new → cell_in values planes.new i ≡ Undef }
+{
+    let end = WORDS * planes.len();
+    put_all(planes, words, end, Kept::of(Cell::Undef));
+}
+
+/// What holds of both, where it is told which values differ. It answers whether anything changed.
+fn join_bits(bits: &mut Bits, other: Bits, differ: u64) -> bool
+    ensures value { bits.new ≡ joined_bits differ bits.old other }
+    ensures stays { result ≡ false → bits.new ≡ bits.old }
+    ensures moves { result ≡ true → Moves bits.old bits.new }
+{
+    let joined = bits.joined(other, differ);
+    let moved = joined.changes(*bits);
+    *bits = joined;
+    moved != 0
+}
+
+/// The words from x to an end take a cell's bits.
+pub(crate) fn put_all(planes: &mut [Bits], x: usize, end: usize, kept: Kept)
+    requires order { x ≤ end }
+    requires room { end ≤ 64 * length planes.old }
+    requires few { length planes.old < 2 ^ 32 }
+    ensures { (values : List ℕ) → ChangesPlanes values planes.old planes.new (λ i c. cell_of kept.first kept.second (slice_index_or values i 0)) x end }
+{
+    for w in x / WORDS..(end + WORDS - 1) / WORDS {
+        planes[w] = planes[w].put(within(w, x, end), kept);
+    }
+}
+
+/// One word takes a cell's bits.
+pub(crate) fn put_one(planes: &mut [Bits], x: usize, kept: Kept)
+    requires room { x < 64 * length planes.old }
+    ensures { (values : List ℕ) → ChangesPlanes values planes.old planes.new (λ i c. cell_of kept.first kept.second (slice_index_or values i 0)) x (x + 1) }
+{
+    planes[x / WORDS] = planes[x / WORDS].put(one(x % WORDS), kept);
+}
+
+/// The words from x to an end may have taken something.
+pub(crate) fn blur_all(planes: &mut [Bits], x: usize, end: usize)
+    requires order { x ≤ end }
+    requires room { end ≤ 64 * length planes.old }
+    requires few { length planes.old < 2 ^ 32 }
+    ensures { (values : List ℕ) → ChangesPlanes values planes.old planes.new (λ i c. blurred c) x end }
+{
+    for w in x / WORDS..(end + WORDS - 1) / WORDS {
+        planes[w] = planes[w].blurred(within(w, x, end));
+    }
+}
+
+/// Whether none of the words from x to an end is a live control word.
+pub(crate) fn all_free(planes: &[Bits], x: usize, end: usize) -> bool
+    requires order { x ≤ end }
+    requires room { end ≤ 64 * length planes.now }
+    requires few { length planes.now < 2 ^ 32 }
+    ensures yes { result ≡ true → (values : List ℕ) (i : ℕ) → x ≤ i → i < end → is_free (cell_in values planes.now i) ≡ true }
+    ensures no { result ≡ false → (values : List ℕ) → (i : ℕ) × (x ≤ i) × (i < end) × (is_free (cell_in values planes.now i) ≡ false) }
+{
+    for w in x / WORDS..(end + WORDS - 1) / WORDS {
+        if planes[w].live() & within(w, x, end) != 0 {
+            return false;
+        }
+    }
+    true
+}
+
+/// Whether all of the words from x to an end are defined.
+pub(crate) fn all_defined(planes: &[Bits], x: usize, end: usize) -> bool
+    requires order { x ≤ end }
+    requires room { end ≤ 64 * length planes.now }
+    requires few { length planes.now < 2 ^ 32 }
+    ensures yes { result ≡ true → (values : List ℕ) (i : ℕ) → x ≤ i → i < end → is_defined (cell_in values planes.now i) ≡ true }
+    ensures no { result ≡ false → (values : List ℕ) → (i : ℕ) × (x ≤ i) × (i < end) × (is_defined (cell_in values planes.now i) ≡ false) }
+{
+    for w in x / WORDS..(end + WORDS - 1) / WORDS {
+        if planes[w].undefined() & within(w, x, end) != 0 {
+            return false;
+        }
+    }
+    true
+}
+
+/// What holds of both, word by word. It answers whether anything changed.
+pub(crate) fn join_planes(
+    planes: &mut [Bits],
+    others: &[Bits],
+    values: &[u32],
+    other_values: &[u32],
+) -> bool
+    requires planes { length others.now ≡ length planes.old }
+    requires values { length other_values.now ≡ length values.now }
+    requires whole { IsWhole values.now planes.old }
+    ensures joined { ChangesPlanes values.now planes.old planes.new (λ i c. join_cells c (cell_in other_values.now others.now i)) 0 (64 * length planes.old) }
+    ensures stays { result ≡ false → planes.new ≡ planes.old }
+    ensures moves { result ≡ true → (i : ℕ) × (i < 64 * length planes.old) × ¬ (cell_in values.now planes.new i ≡ cell_in values.now planes.old i) }
+{
+    let mut changed = false;
+    for w in 0..planes.len() {
+        let differ = differing(values, other_values, w);
+        if join_bits(&mut planes[w], others[w], differ) {
+            changed = true;
+        }
+    }
+    changed
+}
+
+/// Whether each word says as much as the other's of the same number or more.
+pub(crate) fn planes_below(
+    planes: &[Bits],
+    others: &[Bits],
+    values: &[u32],
+    other_values: &[u32],
+) -> bool
+    requires planes { length others.now ≡ length planes.now }
+    requires values { length other_values.now ≡ length values.now }
+    requires whole { IsWhole other_values.now others.now }
+    ensures yes { result ≡ true → (i : ℕ) → i < 64 * length planes.now → cell_below (cell_in values.now planes.now i) (cell_in other_values.now others.now i) ≡ true }
+    ensures no { result ≡ false → (i : ℕ) × (i < 64 * length planes.now) × (cell_below (cell_in values.now planes.now i) (cell_in other_values.now others.now i) ≡ false) }
+{
+    for w in 0..planes.len() {
+        let differ = differing(values, other_values, w);
+        if planes[w].failing(others[w], differ) != 0 {
+            return false;
+        }
+    }
+    true
+}

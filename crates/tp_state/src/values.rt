@@ -1,0 +1,48 @@
+//! The values that are kept of words, one beside another.
+
+ghost use Rattle.std.specs.Prelude.{◌≡◌, ℕ, ◌+◌, ◌*◌, ◌<◌, ◌≤◌, ◌==◌, not, length, slice_index_or};
+ghost use Rattle.tp_state.specs.Planes.{is_set};
+
+use crate::planes::{WORDS, one};
+use std::simd::prelude::*;
+
+/// Which values differ, of those that word w of a plane tells of.
+pub(crate) fn differing(values: &[u32], others: &[u32], w: usize) -> u64
+    requires same { length others.now ≡ length values.now }
+    requires some { 64 * w < length values.now }
+    ensures { (j : ℕ) → j < 64 → 64 * w + j < length values.now → is_set result j ≡ not (slice_index_or values.now (64 * w + j) 0 == slice_index_or others.now (64 * w + j) 0) }
+{
+    let values = &values[WORDS * w..];
+    let others = &others[WORDS * w..];
+    if values.len() < WORDS {
+        differing_few(values, others)
+    } else {
+        differing_word(values, others)
+    }
+}
+
+/// Which of the first 64 values differ.
+fn differing_word(values: &[u32], others: &[u32]) -> u64
+    requires values { 64 ≤ length values.now }
+    requires others { 64 ≤ length others.now }
+    ensures { (j : ℕ) → j < 64 → is_set result j ≡ not (slice_index_or values.now j 0 == slice_index_or others.now j 0) }
+{
+    u32x64::from_slice(values)
+        .simd_ne(u32x64::from_slice(others))
+        .to_bitmask()
+}
+
+/// Which values differ, of fewer than 64.
+fn differing_few(values: &[u32], others: &[u32]) -> u64
+    requires same { length others.now ≡ length values.now }
+    requires few { length values.now < 64 }
+    ensures { (j : ℕ) → j < length values.now → is_set result j ≡ not (slice_index_or values.now j 0 == slice_index_or others.now j 0) }
+{
+    let mut bits = 0;
+    for j in 0..values.len() {
+        if values[j] != others[j] {
+            bits |= one(j);
+        }
+    }
+    bits
+}
