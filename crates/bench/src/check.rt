@@ -1,7 +1,7 @@
 //! What the verifier's passes take, beside `check_flow` of the same image in the same run: over small and straight codes, and
 //! over codes that are made to keep the passes going.
 //!
-//! The small and straight codes are judged once, and it is printed how many instructions have a state, how many passes were
+//! The small and straight codes are judged once, and it is printed how many states are kept, how many passes were
 //! made, and how many outcomes were worked out; or all are judged, and the times are printed with these counts.
 
 mod sample;
@@ -13,7 +13,7 @@ use std::alloc::Global;
 use std::fmt;
 use std::rt::Runtime;
 use std::time::Instant;
-use tp_check::{Effort, Table, check_states_counting};
+use tp_check::{Effort, check_states_counting};
 use tp_decode::{Instr, Listing, decode};
 use tp_flow::{check_flow, edges};
 use tp_image::{Image, read_image};
@@ -47,12 +47,12 @@ fn told<R: Runtime<A = Global>>(rt: &R, name: &str, bytes: &[u8], is_timed: bool
     let instructions = listing.len();
     let Effort { passes, outcomes } = effort;
     println!(rt;
-        "{name}: {instructions} instructions, {states} of them have a state, {passes} passes, {outcomes} outcomes"
+        "{name}: {instructions} instructions, {states} states kept, {passes} passes, {outcomes} outcomes"
     )?;
     Ok(())
 }
 
-/// How many instructions have a state, and what finding this took.
+/// How many states are kept, and what finding them took.
 #[derive(Clone, Copy)]
 struct Found {
     states: usize,
@@ -69,17 +69,10 @@ fn judged(alloc: Global, image: &Image, listing: &Listing) -> Result<Found>
     let table = check_states_counting(alloc, image, listing, &nest, &mut effort).map_err(
         |fault| anyhow!("{fault}"),
     )?;
-    let states = states_in(&table, listing);
-    Ok(Found { states, effort })
-}
-
-/// How many instructions have a state.
-fn states_in(table: &Table, listing: &Listing) -> usize {
-    listing
-        .starts()
-        .iter()
-        .filter(|start| table.at(**start as usize).is_some())
-        .count()
+    Ok(Found {
+        states: table.kept(),
+        effort,
+    })
 }
 
 /// How many edges a code's instructions are asked on.

@@ -1,15 +1,21 @@
 //! Tables and refusals of whole workers, and what the passes take.
 
-ghost use Rattle.std.specs.Prelude.{◌<◌};
+ghost use Rattle.std.specs.Prelude.{◌≡◌, ◌<◌, IfSome};
+ghost use Rattle.std.specs.Option.{option_copied};
+ghost use Rattle.tp_flow.specs.NestRanges.{ranges};
+ghost use Rattle.tp_state.specs.Conditions.{HasGoodLoops, IsPlaced};
+ghost use Rattle.tp_check.specs.Carried.{AreSound};
 
 use crate::images::*;
 use crate::reading::read;
 use crate::states::refused;
 use std::process::Abort;
 use tp_check::{Effort, Table, check_states, check_states_counting};
-use tp_flow::check_flow;
+use tp_decode::{Instr, Listing};
+use tp_flow::{Edge, Nest, check_flow};
+use tp_image::Image;
 use tp_samples::*;
-use tp_state::{Cell, Kind, StateCode, StateFault};
+use tp_state::{Cell, Kind, State, StateCode, StateFault, after};
 
 /// What the passes come to.
 fn verdict(rt: &(impl Abort + AllocGlobal), bytes: &[u8]) -> Result<Table, StateFault> {
@@ -86,53 +92,124 @@ fn found(rt: &(impl Abort + AllocGlobal), bytes: &[u8]) -> Table {
     verdict(rt, bytes).expect(rt, "a table")
 }
 
-/// That in the state at an address these words are known so.
-fn assert_cells(rt: &impl Abort, table: &Table, at: usize, cells: &[(usize, Cell)]) {
-    let state = table.at(at).expect(rt, "a state");
+/// The state that a table keeps at an address.
+fn kept_at(table: &Table, at: u32) -> Option<&State> {
+    for (place, state) in &table.states {
+        if *place == at {
+            return Some(state);
+        }
+    }
+    None
+}
+
+/// That in the state that is kept at an address these words are known so.
+fn assert_cells(rt: &impl Abort, table: &Table, at: u32, cells: &[(usize, Cell)]) {
+    let state = kept_at(table, at).expect(rt, "a state");
     for (word, cell) in cells {
         assert_eq!(rt; state.cells.get(*word), *cell, "word {word} at {at}");
     }
+}
+
+/// That a table keeps states at these addresses, and at no other.
+fn assert_kept(rt: &(impl Abort + AllocGlobal), bytes: &[u8], places: &[u32]) {
+    let table = found(rt, bytes);
+    assert_eq!(rt; table.kept(), places.len());
+    for place in places {
+        assert!(rt; kept_at(&table, *place).is_some(), "a state at {place}");
+    }
+}
+
+/// States are kept at the first instruction, where two ways meet, and at heads.
+#[test]
+fn keeps_states_where_edges_join(rt: HostRuntime) {
+    assert_kept(&rt, INCREMENT, &[0]);
+    assert_kept(&rt, STORES_BY_TWO_WAYS, &[0, 13]);
+    assert_kept(&rt, SUM_TO_TEN_THOUSAND, &[0, 15]);
 }
 
 #[test]
 fn finds_a_table(rt: HostRuntime) {
     let table = found(&rt, STORES_BY_TWO_WAYS);
     assert_cells(&rt, &table, 13, &[(9, Cell::Any)]);
-    let known = [
-        table.at(1).is_some(),
-        table.at(2).is_some(),
-        table.at(14).is_some(),
-        table.at(22).is_some(),
-    ];
-    assert_eq!(rt; known, [true, false, true, false]);
 }
 
 /// What a state says but of its cells: Wptr, the phase, Areg and Breg.
 type Registers = (u32, u8, Kind, Kind);
 
-/// That the state at an address says so.
-fn assert_registers(rt: &impl Abort, table: &Table, at: usize, registers: Registers) {
-    let state = table.at(at).expect(rt, "a state");
-    assert_eq!(rt; (state.wptr, state.phase, state.a, state.b), registers);
+/// The same: it is a state of the image's worker.
+fn placed_at<'a>(image: &Image, table: &'a Table, at: u32) -> Option<&'a State>
+    requires { AreSound image.now table.now.states.items }
+    ensures { IfSome (option_copied result) (IsPlaced image.now) }
+{
+    let _ = &image.code;
+    for i in 0..table.states.len() {
+        if table.states[i].0 == at {
+            return Some(&table.states[i].1);
+        }
+    }
+    None
 }
 
-/// At the head, before the sum, before the lend, and at the end.
+/// What is known at an address, from the state at an address before it: control falls from instruction to instruction, and
+/// out of loops.
+fn carried_to(
+    rt: &(impl Abort + AllocGlobal),
+    image: &Image,
+    listing: &Listing,
+    nest: &Nest,
+    state: State,
+    from: usize,
+    to: usize,
+) -> State
+    requires good { HasGoodLoops image.now }
+    requires nest { nest.now ≡ ranges image.now.loops }
+    requires placed { IsPlaced image.now state }
+{
+    let mut state = state;
+    for at in from..to {
+        if let (Some(instr), Some(next)) = (listing.at(at), listing.next(at)) {
+            let edge = match instr {
+                Instr::Lend => Edge::Out,
+                _ => Edge::Next,
+            };
+            state = after(rt.alloc(), &state, at, next, instr, edge, image, nest).expect(
+                rt, "a state",
+            );
+        }
+    }
+    state
+}
+
+/// What is known at addresses along a loop, from the state that is kept at its head: before the sum, before the lend, behind
+/// the loop, and at the end.
 #[test]
 fn knows_the_registers_along_a_loop(rt: HostRuntime) {
-    let table = found(&rt, SUM_TO_TEN_THOUSAND);
-    let states = [
+    let (image, listing) = read(&rt, SUM_TO_TEN_THOUSAND);
+    let nest = check_flow(&image, &listing).expect(&rt, "a nest");
+    let table = check_states(rt.alloc(), &image, &listing, &nest).expect(&rt, "a table");
+    let any = Kind::Int(i32::MIN, i32::MAX);
+    let states: [(usize, Registers); 5] = [
         (15, (8, 1, Kind::Undef, Kind::Undef)),
-        (
-            17,
-            (8, 1, Kind::Int(0, 9999), Kind::Int(i32::MIN, i32::MAX)),
-        ),
+        (17, (8, 1, Kind::Int(0, 9999), any)),
         (21, (8, 1, Kind::Int(8, 8), Kind::Ptr(10, 10))),
+        (23, (8, 1, Kind::Undef, Kind::Undef)),
         (28, (8, 2, Kind::Undef, Kind::Undef)),
     ];
     for (at, registers) in states {
-        assert_registers(&rt, &table, at, registers);
+        let head = placed_at(&image, &table, 15).expect(&rt, "a state");
+        let head = head.copy_of(rt.alloc()).expect(&rt, "a copy");
+        let state = carried_to(&rt, &image, &listing, &nest, head, 15, at);
+        assert_eq!(rt; (state.wptr, state.phase, state.a, state.b), registers);
+        for (word, cell) in LEFT_BY_THE_LOOP {
+            if at >= 23 {
+                assert_eq!(rt; state.cells.get(word), cell, "word {word} at {at}");
+            }
+        }
     }
 }
+
+/// What stands in the workspace behind the loop, up to the end.
+const LEFT_BY_THE_LOOP: [(usize, Cell); 3] = [(9, Cell::Any), (10, Cell::Undef), (11, Cell::Undef)];
 
 /// What stands in the workspace at the head.
 const CELLS_AT_THE_HEAD: [(usize, Cell); 6] = [
@@ -144,13 +221,10 @@ const CELLS_AT_THE_HEAD: [(usize, Cell); 6] = [
     (11, Cell::Count(0)),
 ];
 
-/// At the head, behind the loop, and at the end.
 #[test]
-fn knows_what_a_loop_leaves(rt: HostRuntime) {
+fn knows_what_stands_at_a_head(rt: HostRuntime) {
     let table = found(&rt, SUM_TO_TEN_THOUSAND);
     assert_cells(&rt, &table, 15, &CELLS_AT_THE_HEAD);
-    assert_cells(&rt, &table, 23, &[(10, Cell::Undef), (11, Cell::Undef)]);
-    assert_cells(&rt, &table, 28, &[(9, Cell::Any)]);
 }
 
 /// That the passes take so much.

@@ -195,8 +195,9 @@ fn verified(alloc: Global) -> Answer {
     match check_states(alloc, &image, &listing, &nest) {
         Ok(table) => same_if(
             table
-                .at(13)
-                .is_some_and(|state| state.cells.get(9) == Cell::Any),
+                .states
+                .iter()
+                .any(|(at, state)| *at == 13 && state.cells.get(9) == Cell::Any),
         ),
         Err(StateFault::Memory) => Answer::Memory,
         Err(_) => Answer::Other,

@@ -2,7 +2,7 @@
 use Rattle.std.proofs.Common.{◌≡◌, ◌≢◌, ℕ, ◌≤◌, nat_lt, if◌then◌else◌, Bool, true, false, List, Option, Some, None, Result, Ok, Err, refl, sym, ap, ◌∙◌, subst, arith}
 use Rattle.std.specs.Prelude.{IfErr}
 use Rattle.std.proofs.lemmas.Bool.Decides.{nat_tests}
-use Rattle.tp_image.specs.Image.{ImageValue}
+use Rattle.tp_image.specs.Image.{ImageValue, InRange}
 use Rattle.tp_image.specs.Text.{IsTextOf}
 use Rattle.tp_image.specs.Faults.{first_fault}
 use Rattle.tp_image.proofs.Bodies.{first_fault-text}
@@ -19,6 +19,8 @@ use Rattle.tp_state.specs.declared.fault.StateCode.{StateCode}
 use Rattle.tp_state.specs.declared.fault.StateFault.{StateFault}
 use Rattle.tp_check.specs.Tables.{Table}
 use Rattle.tp_check.specs.Passes.{IsVerdict}
+use Rattle.tp_check.specs.Carried.{IsTableOf}
+use Rattle.tp_state.specs.declared.state.State.{State}
 use Rattle.tp_check.specs.EdgesRespect.{HasNoTable}
 use Rattle.tp_check.proofs.PassLemmas.{one_verdict}
 use Rattle.tp_check.proofs.Ending.{a_verdict}
@@ -45,6 +47,19 @@ not_above n m e = grind (arith, nat_tests)
 
 is_within : (n m : ℕ) → m ≤ n → nat_lt n m ≡ false
 is_within n m le = grind (arith, nat_tests)
+
+-- an image whose table was found, from what is kept of it
+pub acceptable_of : (image : ImageValue) (cuts : List Cut) (states : List (ℕ × State)) (budget : ℕ) → InRange image → IsCutting image.code cuts → KeepsNest image.loops image.workspace cuts → IsTableOf image cuts states → budget ≡ bound image.loops cuts → bound image.loops cuts ≤ most_budget → IsAcceptable image budget
+acceptable_of image cuts states budget range cut kept found bounded within = record {
+  in_range = range;
+  cuts = cuts;
+  cutting = cut;
+  kept = kept;
+  table = found.whole;
+  respected = respected image cuts range cut.each kept found.whole found.verdict;
+  bounded = bounded;
+  within = omega (arith, within, bounded);
+}
 
 module _ (text : List ℕ) (image : ImageValue) (spelled : IsTextOf text image) where
   no_fault_there : first_fault text ≡ None

@@ -123,7 +123,7 @@ module _ (image : ImageValue) (table : Table) (to : ℕ) (s : State) (grown : Ha
 
 -- ---- a state that comes where one above it is
 
-same_there : (table : Table) (to : ℕ) (u : State) → table to ≡ Some u → with_state to u table ≡ table
+pub same_there : (table : Table) (to : ℕ) (u : State) → table to ≡ Some u → with_state to u table ≡ table
 same_there table to u is = fun_ext λ x. at_place x (cases_eq x to)
   where
     at_place : (x : ℕ) → (x ≡ to) ⊎ (x ≡ to → ⊥) → with_state to u table x ≡ table x

@@ -7,7 +7,6 @@ mod Entering
 mod Taking
 mod Moving
 mod Passing
-mod Verdict
 pub mod Ending
 pub mod Least
 mod Lone
@@ -17,3 +16,10 @@ mod Nests
 mod CarriedPasses
 mod Staying
 pub mod Respected
+mod Settling
+mod Stepping
+mod Turning
+mod Ways
+mod Verdict
+mod Counting
+mod Keeping

@@ -1,5 +1,5 @@
 -- What is asked of addresses that one edge alone reaches, and of the states that may stand at an address.
-use Rattle.std.specs.Prelude.{◌≡◌, ◌≢◌, ℕ, Bool, false, List, [], ◌∷◌, slice_get, Some, Ok}
+use Rattle.std.specs.Prelude.{◌≡◌, ◌≢◌, ℕ, Bool, false, List, [], ◌∷◌, Some, Ok}
 use Rattle.tp_decode.specs.declared.placed.Placed.{Placed}
 use Rattle.tp_flow.specs.declared.edge.Edge.{Edge}
 use Rattle.tp_flow.specs.NestRanges.{ranges}
@@ -10,12 +10,7 @@ use Rattle.tp_state.specs.Sound.{IsSound}
 use Rattle.tp_state.specs.Live.{LiveWordsAre}
 use Rattle.tp_state.specs.Order.{MayMeet, join}
 use Rattle.tp_check.specs.Carried.{target_of, outcome_of}
-
--- What is asked of the addresses that join: among some edges, each other address is the target of one at most, and no
--- edge leads from it to itself.
-pub record IsLone (image : ImageValue) (joins : ℕ → Bool) (IsEdge : Placed × Edge → Type 0) : Type 0 where
-  pub one : (e f : Placed × Edge) (to : ℕ) → IsEdge e → IsEdge f → joins to ≡ false → target_of image e ≡ Some to → target_of image f ≡ Some to → e ≡ f
-  pub on : (e : Placed × Edge) (to : ℕ) → IsEdge e → joins to ≡ false → target_of image e ≡ Some to → to ≢ e.0.at
+pub use Rattle.tp_check.specs.Carried.{IsAmong, IsLone}
 
 -- What is asked of the states that may stand at an address: those of one address may meet where Wptr and the phase are
 -- the same, and they are kept along edges and by joins.
@@ -24,10 +19,6 @@ pub record AreStates (image : ImageValue) (IsEdge : Placed × Edge → Type 0) (
   pub meet : (at : ℕ) (s t : State) → Stands at s → Stands at t → s.wptr ≡ t.wptr → s.phase ≡ t.phase → MayMeet s t
   pub join : (at : ℕ) (s t : State) → Stands at s → Stands at t → s.wptr ≡ t.wptr → s.phase ≡ t.phase → Stands at (join s t)
   pub after : (e : Placed × Edge) (s t : State) (to : ℕ) → IsEdge e → Stands e.0.at s → target_of image e ≡ Some to → outcome_of image e s ≡ Ok t → Stands to t
-
--- an edge is one of some
-abbrev pub IsAmong : List (Placed × Edge) → Placed × Edge → Type 0
-IsAmong es e = (i : ℕ) × (slice_get es i ≡ Some e)
 
 -- no edge leads back, or to its own instruction, but to where edges join
 abbrev pub LeadsOn : ImageValue → (ℕ → Bool) → List (Placed × Edge) → Type 0

@@ -1,50 +1,33 @@
 -- Steps of the passes, one after another.
 use Rattle.std.proofs.lemmas.Bool.{cases_eq}
-use Rattle.std.proofs.Common.{◌≡◌, ℕ, zero, suc, ◌+◌, ◌<◌, ◌≤◌, ◌⊎◌, inl, inr, Bool, true, false, List, [], ◌∷◌, ◌++◌, length, Option, Result, Ok, Err, refl, sym, ap, ◌∙◌, subst, rules, arith, drop, get_or, add-one, drop-cons}
-use Rattle.std.specs.Prelude.{IsErrAnd}
+use Rattle.std.proofs.Common.{◌≡◌, ℕ, zero, suc, ◌+◌, ◌<◌, ◌≤◌, ◌⊎◌, inl, inr, Bool, true, false, List, [], ◌∷◌, ◌++◌, length, Option, Result, Ok, Err, refl, sym, ap, ◌∙◌, subst, arith, get_or, drop, add-one, drop-cons}
 use mathlib.Core.Path.{fun_ext}
 use Rattle.tp_decode.specs.declared.placed.Placed.{Placed}
 use Rattle.tp_flow.specs.declared.edge.Edge.{Edge}
 use Rattle.tp_image.specs.Image.{ImageValue}
 use Rattle.tp_state.specs.declared.fault.StateFault.{StateFault}
-use Rattle.tp_state.specs.declared.fault.StateFault.TheVariants.{Refused, Memory}
 use Rattle.tp_state.specs.Answer.{◌>>=◌}
 use Rattle.tp_state.specs.declared.state.State.{State}
-use Rattle.tp_check.specs.declared.passes.Passes.{Passes}
 use Rattle.tp_check.specs.Tables.{Table}
 use Rattle.tp_check.specs.Passes.{go_along, along, from}
-use Rattle.tp_check.specs.UnderWay.{Gives, Moves, MovesTable, table_height}
+use Rattle.tp_check.specs.UnderWay.{Moves, table_height}
 
 -- no step leaves more changes
-pub table_le : (image : ImageValue) (moved : Bool) (old new : List (Option State)) → MovesTable image moved old new → table_height image new ≤ table_height image old
+pub table_le : (image : ImageValue) (moved : Bool) (old new : List (Option State)) → Moves image moved old new → table_height image new ≤ table_height image old
 table_le image true old new m = omega (arith, m.falls refl)
 table_le image false old new m = let e = ap (table_height image) (m.stays refl) in omega (arith, e)
 
-module _ (image : ImageValue) (first then_ last : Passes) where
-  -- a step that changes the table, after others
+module _ (image : ImageValue) (first then_ last : List (Option State)) where
+  -- a step that changes a state, after others
   pub moves_more : (moved : Bool) → Moves image moved first then_ → Moves image true then_ last → Moves image true first last
-  moves_more moved m n = record {
-    table = record {
-      sized = n.table.sized ∙ m.table.sized;
-      stays = λ e. absurd (cc);
-      falls = λ e. omega (arith, n.table.falls refl, table_le image moved first.table then_.table m.table);
-    };
-    rests = λ e. absurd (cc);
-  }
+  moves_more moved m n = record { sized = n.sized ∙ m.sized; stays = λ e. absurd (cc); falls = λ e. omega (arith, n.falls refl, table_le image moved first then_ m) }
 
-  -- and one that leaves it as it is
+  -- and one that leaves all as they are
   pub moves_no_more : (moved : Bool) → Moves image moved first then_ → Moves image false then_ last → Moves image moved first last
-  moves_no_more moved m n = record {
-    table = record {
-      sized = n.table.sized ∙ m.table.sized;
-      stays = λ e. n.table.stays refl ∙ m.table.stays e;
-      falls = λ e. omega (arith, m.table.falls e, table_le image false then_.table last.table n.table);
-    };
-    rests = λ e at rests. n.rests refl at (m.rests e at rests);
-  }
+  moves_no_more moved m n = record { sized = n.sized ∙ m.sized; stays = λ e. n.stays refl ∙ m.stays e; falls = λ e. omega (arith, m.falls e, table_le image false then_ last n) }
 
-pub moves_none : (image : ImageValue) (p : Passes) → Moves image false p p
-moves_none image p = record { table = record { sized = refl; stays = λ e. refl; falls = λ e. absurd (cc) }; rests = λ e at rests. rests }
+pub moves_none : (image : ImageValue) (states : List (Option State)) → Moves image false states states
+moves_none image states = record { sized = refl; stays = λ e. refl; falls = λ e. absurd (cc) }
 
 -- ---- the definition's answers, one edge after another
 
@@ -65,25 +48,13 @@ along_append image (x ∷ xs) ys table = ap (λ f. go_along image x.0 x.1 (table
     in_turn (Ok t) f g = refl
     in_turn (Err e) f g = refl
 
--- an edge of an instruction, and those behind it
-module _ (image : ImageValue) (p : Placed) (ways : List Edge) (i : ℕ) (d : Edge) (table : Table) (inside : i < length ways) where
-  next_way : from p (drop i ways) ≡ (p, get_or ways i d) ∷ from p (drop (i + 1) ways)
-  next_way = ap (from p) (drop-cons ways i d inside ∙ ap (λ n. get_or ways i d ∷ drop n ways) (sym (add-one i)))
-
-  pub way_on : (new : Table) → go_along image p (get_or ways i d) (table p.at) table ≡ Ok new → along image (from p (drop i ways)) table ≡ along image (from p (drop (i + 1) ways)) new
-  way_on new is = ap (λ es. along image es table) next_way ∙ along_on image p (get_or ways i d) _ table new is
-
-  pub way_stops : (fault : StateFault) → go_along image p (get_or ways i d) (table p.at) table ≡ Err fault → along image (from p (drop i ways)) table ≡ Err fault
-  way_stops fault is = ap (λ es. along image es table) next_way ∙ along_stops image p (get_or ways i d) _ table fault is
-
-  pub way_fails : (r : Result Table StateFault) (e : StateFault) (new : Table) → r ≡ along image (from p (drop i ways)) table → Gives {X = Bool} (Err e) new (go_along image p (get_or ways i d) (table p.at) table) → Gives {X = Bool} (Err e) new r
-  way_fails r (Refused code place) new is gives = is ∙ way_stops (Refused code place) gives
-  way_fails r Memory new is gives = tt
-
-get_in : (ways : List Edge) (i : ℕ) (d d' : Edge) → i < length ways → get_or ways i d ≡ get_or ways i d'
+pub get_in : (ways : List Edge) (i : ℕ) (d d' : Edge) → i < length ways → get_or ways i d ≡ get_or ways i d'
 get_in [] i d d' inside = absurd (omega (arith, inside))
 get_in (w ∷ ways) zero d d' inside = refl
 get_in (w ∷ ways) (suc i) d d' inside = get_in ways i d d' (omega (arith, inside))
+
+pub next_way : (p : Placed) (ways : List Edge) (i : ℕ) (d : Edge) → i < length ways → from p (drop i ways) ≡ (p, get_or ways i d) ∷ from p (drop (i + 1) ways)
+next_way p ways i d inside = ap (from p) (drop-cons ways i d inside ∙ ap (λ n. get_or ways i d ∷ drop n ways) (sym (add-one i)))
 
 -- what holds of the edges before one, and of that one
 pub way_more : (P : Edge → Type 0) (ways : List Edge) (i : ℕ) (e : Edge) → i < length ways → ((k : ℕ) (d : Edge) → k < i → P (get_or ways k d)) → P (get_or ways i e) → (k : ℕ) (d : Edge) → k < i + 1 → P (get_or ways k d)
@@ -92,8 +63,3 @@ way_more P ways i e inside below here k d lt = by_place (cases_eq k i)
     by_place : (k ≡ i) ⊎ (k ≡ i → ⊥) → P (get_or ways k d)
     by_place (inl same) = subst P (get_in ways i e d inside ∙ ap (λ n. get_or ways n d) (sym same)) here
     by_place (inr other) = below k d (omega (arith, lt, other))
-
--- a fault that is handed on
-pub handed_on : (r : Result Bool StateFault) (e : StateFault) (table : Table) (wanted : Result Table StateFault) → IsErrAnd r (λ x. x ≡ e) → Gives {X = Bool} (Err e) table wanted → Gives r table wanted
-handed_on (Ok x) e table wanted is gives = absurd (search rules)
-handed_on (Err x) e table wanted is gives = rw is gives

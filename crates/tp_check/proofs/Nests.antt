@@ -51,7 +51,7 @@ among_either (x ∷ xs) ys e (suc i, is) = by_way (among_either xs ys e (i, is))
     by_way (inl (j, is)) = inl (suc j, is)
     by_way (inr among) = inr among
 
-count_one : (p : Placed × Edge → Bool) (xs : List (Placed × Edge)) (i : ℕ) (x : Placed × Edge) → slice_get xs i ≡ Some x → p x ≡ true → 1 ≤ count_by p xs
+pub count_one : (p : Placed × Edge → Bool) (xs : List (Placed × Edge)) (i : ℕ) (x : Placed × Edge) → slice_get xs i ≡ Some x → p x ≡ true → 1 ≤ count_by p xs
 count_one p [] i x is holds = absurd cc
 count_one p (y ∷ xs) zero x is holds =
     let same : y ≡ x = same_Some y x is in

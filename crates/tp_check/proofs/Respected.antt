@@ -29,21 +29,21 @@ use Rattle.tp_check.proofs.CarriedPasses.{Good, good_after}
 
 -- ---- edges among others
 
-left_among : (xs ys : List (Placed × Edge)) (i : ℕ) (e : Placed × Edge) → slice_get xs i ≡ Some e → slice_get (xs ++ ys) i ≡ Some e
+pub left_among : (xs ys : List (Placed × Edge)) (i : ℕ) (e : Placed × Edge) → slice_get xs i ≡ Some e → slice_get (xs ++ ys) i ≡ Some e
 left_among [] ys i e is = absurd cc
 left_among (x ∷ xs) ys zero e is = is
 left_among (x ∷ xs) ys (suc i) e is = left_among xs ys i e is
 
-right_among : (xs ys : List (Placed × Edge)) (e : Placed × Edge) → IsAmong ys e → IsAmong (xs ++ ys) e
+pub right_among : (xs ys : List (Placed × Edge)) (e : Placed × Edge) → IsAmong ys e → IsAmong (xs ++ ys) e
 right_among [] ys e among = among
 right_among (x ∷ xs) ys e among = let later = right_among xs ys e among in (suc later.0, later.1)
 
-way_there : (p : Placed) (ways : List Edge) (k : ℕ) (d : Edge) → k < length ways → slice_get (from p ways) k ≡ Some (p, get_or ways k d)
+pub way_there : (p : Placed) (ways : List Edge) (k : ℕ) (d : Edge) → k < length ways → slice_get (from p ways) k ≡ Some (p, get_or ways k d)
 way_there p [] k d lt = absurd (omega (arith, lt))
 way_there p (w ∷ ways) zero d lt = refl
 way_there p (w ∷ ways) (suc k) d lt = way_there p ways k d (omega (arith, lt))
 
-edge_there : (ps : List Placed) (i : ℕ) (p : Placed) → slice_get ps i ≡ Some p → (k : ℕ) (d : Edge) → k < length (asked p.instr) → IsAmong (flat_map edges_of ps) (p, get_or (asked p.instr) k d)
+pub edge_there : (ps : List Placed) (i : ℕ) (p : Placed) → slice_get ps i ≡ Some p → (k : ℕ) (d : Edge) → k < length (asked p.instr) → IsAmong (flat_map edges_of ps) (p, get_or (asked p.instr) k d)
 edge_there [] i p is k d lt = absurd cc
 edge_there (q ∷ ps) zero p is k d lt =
     let same : q ≡ p = same_Some q p is in

@@ -1,5 +1,5 @@
 -- What a table becomes where a state comes to an address.
-use Rattle.std.proofs.Common.{◌≡◌, ℕ, zero, suc, ◌<◌, nat_eq, if◌then◌else◌, Bool, false, List, [], ◌∷◌, ◌++◌, length, slice_set, slice_index_or, Option, Some, None, Result, Ok, Err, refl, sym, ap, ◌∙◌, subst, rules, arith}
+use Rattle.std.proofs.Common.{◌≡◌, ℕ, zero, suc, ◌<◌, nat_eq, if◌then◌else◌, Bool, false, List, [], ◌∷◌, ◌++◌, length, slice_set, slice_index_or, Option, Some, None, Result, Ok, Err, refl, sym, ap, ◌∙◌, subst, arith}
 use mathlib.Core.Path.{fun_ext}
 use Rattle.std.specs.Option.{option_and_then}
 use Rattle.std.specs.Prelude.{IfSome}
@@ -12,10 +12,10 @@ use Rattle.tp_state.specs.declared.fault.StateFault.{StateFault}
 use Rattle.tp_state.specs.declared.fault.StateFault.TheVariants.{Refused, Memory}
 use Rattle.tp_state.specs.Answer.{◌>>=◌}
 use Rattle.tp_state.specs.Conditions.{IsPlaced}
-use Rattle.tp_check.specs.Tables.{table_of, with_state, HasPlacedStates}
+use Rattle.tp_check.specs.Tables.{table_of, with_state}
 use Rattle.tp_check.specs.Passes.{enter, placed, met, first_table}
 use Rattle.tp_state.specs.Entry.{entry}
-use Rattle.tp_check.specs.UnderWay.{Gives, GivesState, MovesState, MovesTable, height}
+use Rattle.tp_check.specs.UnderWay.{Gives, GivesState, MovesState, Moves, height}
 use Rattle.tp_check.proofs.Heights.{table_sinks}
 
 -- ---- reading
@@ -45,9 +45,8 @@ table_set states i t h = fun_ext λ x. set_there states i t x h
 
 -- ---- a state comes to an address
 
-pub slot_placed : (image : ImageValue) (states : List (Option State)) (i : ℕ) (there : Option State) → i < length states → HasPlacedStates image (table_of states) → there ≡ slice_index_or states i None → IfSome there (IsPlaced image)
-slot_placed image states i None h placed is = search rules
-slot_placed image states i (Some s) h placed is = placed i s (table_at states i h ∙ sym is)
+pub slot_placed : (image : ImageValue) (states : List (Option State)) (i : ℕ) (there : Option State) → i < length states → IfSome (table_of states i) (IsPlaced image) → there ≡ slice_index_or states i None → IfSome there (IsPlaced image)
+slot_placed image states i there h placed is = subst (λ o. IfSome o (IsPlaced image)) (table_at states i h ∙ sym is) placed
 
 pub enter_gives : (states : List (Option State)) (i : ℕ) (there new : Option State) (s : State) (r : Result Bool StateFault) → i < length states → there ≡ slice_index_or states i None → GivesState r new (placed i (met there s)) → Gives r (table_of (slice_set states i new)) (enter (Some i) s (table_of states))
 unfolding enter
@@ -58,7 +57,7 @@ enter_gives states i there new s r h is given = by_answer r (placed i (met there
     by_answer (Err (Refused code place)) wanted e gives = ap (λ r. r >>= (λ t. Ok (with_state i t (table_of states)))) (e ∙ gives)
     by_answer (Err Memory) wanted e gives = tt
 
-pub enter_moves : (image : ImageValue) (states : List (Option State)) (i : ℕ) (there new : Option State) (moved : Bool) → i < length states → there ≡ slice_index_or states i None → MovesState image moved there new → MovesTable image moved states (slice_set states i new)
+pub enter_moves : (image : ImageValue) (states : List (Option State)) (i : ℕ) (there new : Option State) (moved : Bool) → i < length states → there ≡ slice_index_or states i None → MovesState image moved there new → Moves image moved states (slice_set states i new)
 enter_moves image states i there new moved h is moves = record {
   sized = length-set states i new;
   stays = λ same. ap (slice_set states i) (moves.stays same ∙ is) ∙ set-get_or states i None;

@@ -1,88 +1,293 @@
--- The run of the passes and its verdict.
-use Rattle.std.proofs.Common.{◌≡◌, ◌≢◌, ℕ, suc, ◌+◌, ◌-◌, ◌*◌, ◌^◌, ◌<◌, ◌≤◌, ◌⊎◌, inl, inr, min, Bool, true, false, IsTrue, List, length, Option, Result, Ok, Err, refl, sym, ap, ◌∙◌, subst, rules, arith}
-use Rattle.std.specs.Prelude.{IsErrAnd, IfErr}
+-- One pass, instruction by instruction, and one after another.
+use Rattle.std.proofs.Common.{◌≡◌, ℕ, zero, suc, ◌+◌, ◌<◌, ◌≤◌, ◌^◌, ◌⊎◌, inl, inr, ◌==◌, ◌&&◌, nat_le, if◌then◌else◌, Bool, true, false, List, [], ◌∷◌, ◌++◌, length, slice_get, Some, None, Result, Ok, Err, refl, sym, ap, ◌∙◌, subst, rules, arith, drop, add-one, drop-cons}
+use mathlib.Core.Path.{fun_ext}
+use Rattle.std.specs.Prelude.{IfErr, IsErrAnd}
+use Rattle.std.specs.List.{flat_map, AllByRecursion}
 use Rattle.std.specs.Option.{is_some}
 use Rattle.std.proofs.lemmas.Bool.{cases_eq}
-use Rattle.tp_decode.specs.Cutting.{Cut}
-use Rattle.tp_flow.specs.RowRules.{is_start}
-use Rattle.tp_image.specs.Image.{ImageValue}
+use Rattle.std.proofs.lemmas.Bool.Decides.{nat_tests}
+use Rattle.std.proofs.lemmas.Option.{same_Some, slice_get_within, get_or_from_slice_get}
+use Rattle.std.proofs.lemmas.List.{drop_all}
+use Rattle.std.proofs.lemmas.List.Concat.{flat_map-cons}
+use Rattle.tp_decode.specs.declared.placed.Placed.{Placed}
+use Rattle.tp_decode.specs.Cutting.{Cut, cut_at, placed_from, IsSpelled}
+use Rattle.tp_decode.proofs.NumberLemmas.{placed, length-placed}
+use Rattle.tp_flow.specs.declared.edge.Edge.{Edge}
+use Rattle.tp_flow.specs.NestKept.{KeepsNest}
+use Rattle.tp_flow.proofs.FlowSpelled.{some_bytes}
+use Rattle.tp_image.specs.Image.{ImageValue, InRange}
 use Rattle.tp_state.specs.declared.state.State.{State}
 use Rattle.tp_state.specs.declared.fault.StateFault.{StateFault}
 use Rattle.tp_state.specs.declared.fault.StateFault.TheVariants.{Refused, Memory}
 use Rattle.tp_state.specs.Answer.{◌>>=◌}
+use Rattle.tp_state.specs.Conditions.{IsPlaced}
+use Rattle.tp_state.specs.Entry.{entry}
 use Rattle.tp_check.specs.declared.passes.Passes.{Passes}
-use Rattle.tp_check.specs.Tables.{Table, table_of, HasPlacedStates}
-use Rattle.tp_check.specs.EdgesRespect.{EveryEdgeRespects}
-use Rattle.tp_check.specs.Passes.{first_table, pass, passes, IsVerdict, IsRefusalOf}
-use Rattle.tp_check.specs.UnderWay.{IsUnderWay, HasPlaces, AreTaken, Gives, Moves, table_height, has_changed}
+use Rattle.tp_check.specs.Tables.{Table, table_of}
+use Rattle.tp_check.specs.Passes.{edges_of, edges_in, first_table, pass, passes, IsVerdict, IsRefusalOf}
+use Rattle.tp_check.specs.Carried.{over, only_joins, is_kept, is_head, reached, AreStatesOf, IsTableOf, AreSound}
+use Rattle.tp_check.specs.UnderWay.{is_in, AreJoins, HasPlaces, marks, IsBefore, StandsIn, Carries, Moves, table_height}
+use Rattle.tp_check.proofs.Places.{stands_at, number_of}
+use Rattle.tp_check.proofs.Entering.{first_grown}
+use Rattle.tp_check.proofs.Nests.{or_left}
+use Rattle.tp_check.proofs.CarriedPasses.{good_after, one_pass}
+use Rattle.tp_check.proofs.Trails.{edge_by_edge}
+use Rattle.tp_check.proofs.Nests.{IsOne, lone, are_states}
+use Rattle.tp_check.proofs.Lone.{StandsThere}
+use Rattle.tp_check.proofs.Ways.{then_more}
+use Rattle.tp_check.proofs.Respected.{sound_there}
+use Rattle.tp_rules.proofs.SoundJoins.{entry_sound}
 
--- between two passes; whether the last one changed the table
-pub record IsBetween (image : ImageValue) (cuts : List Cut) (p : Passes) (moved : Bool) : Type 0 where
-  pub places : HasPlaces cuts p
-  pub way : IsUnderWay image p
-  pub taken : AreTaken image cuts p
+-- ---- instructions in their order
+
+pub stands_in : (cuts : List Cut) (i : ℕ) (p : Placed) → AllByRecursion (λ c. 0 < length c.bytes) cuts → slice_get (placed_from 0 cuts) i ≡ Some p → StandsIn cuts p
+stands_in cuts i p spelled is =
+    let stands = stands_at cuts i p spelled is in
+    record { number = i; is = is; cut = stands.cut; there = stands.there; next = ap (λ (q : Placed). q.next) stands.is; instr = ap (λ (q : Placed). q.instr) stands.is }
+
+first_at : (from : ℕ) (cuts : List Cut) (p : Placed) → slice_get (placed_from from cuts) 0 ≡ Some p → p.at ≡ from
+first_at from [] p is = absurd cc
+first_at from (c ∷ cuts) p is = sym (ap (λ (q : Placed). q.at) (same_Some _ _ is))
+
+-- each stands where the one before it ends
+next_at : (from : ℕ) (cuts : List Cut) (i : ℕ) (p q : Placed) → slice_get (placed_from from cuts) i ≡ Some p → slice_get (placed_from from cuts) (suc i) ≡ Some q → q.at ≡ p.next
+next_at from [] i p q is also = absurd cc
+next_at from (c ∷ cuts) zero p q is also = first_at (from + length c.bytes) cuts q also ∙ ap (λ (q : Placed). q.next) (same_Some _ _ is)
+next_at from (c ∷ cuts) (suc i) p q is also = next_at (from + length c.bytes) cuts i p q is also
+
+over_append : (image : ImageValue) (joins : ℕ → Bool) (xs ys : List (Placed × Edge)) (table : Table) → over image joins (xs ++ ys) table ≡ (over image joins xs table >>= over image joins ys)
+over_append image joins [] ys table = refl
+over_append image joins (x ∷ xs) ys table = ap (λ f. first >>= f) (fun_ext λ t. over_append image joins xs ys t) ∙ sym (in_turn first (over image joins xs) (over image joins ys))
+  where
+    first : Result Table StateFault
+    first = Rattle.tp_check.specs.Carried.go_over image joins x (table x.0.at) table
+
+    in_turn : (r : Result Table StateFault) (f g : Table → Result Table StateFault) → ((r >>= f) >>= g) ≡ (r >>= (λ t. f t >>= g))
+    in_turn (Ok t) f g = refl
+    in_turn (Err e) f g = refl
+
+-- ---- a pass
+
+module _ (image : ImageValue) (cuts : List Cut) (joins : ℕ → Bool) where
+  -- after some of the instructions
+  pub record Comes (first now : Passes) (i : ℕ) (begun : Table) : Type 0 where
+    pub at : ℕ
+    pub whole : Table
+    pub gives : over image joins (edges_in cuts) begun ≡ over image joins (flat_map edges_of (drop i (placed_from 0 cuts))) whole
+    pub before : IsBefore image cuts joins now at whole
+    pub past : (j : ℕ) (q : Placed) → j < i → slice_get (placed_from 0 cuts) j ≡ Some q → q.at < at
+    pub next : (q : Placed) → slice_get (placed_from 0 cuts) i ≡ Some q → q.at ≡ at
+
+  pub none_come : (first : Passes) (begun : Table) → IsBefore image cuts joins first 0 begun → Comes first first 0 begun
+  none_come first begun before = record { at = 0; whole = begun; gives = refl; before = before; past = λ j q lt. absurd (omega (arith, lt)); next = λ q is. first_at 0 cuts q is }
+
+  module _ (i : ℕ) (p : Placed) (is : slice_get (placed_from 0 cuts) i ≡ Some p) where
+    next_edges : (table : Table) → over image joins (flat_map edges_of (drop i (placed_from 0 cuts))) table ≡ (over image joins (edges_of p) table >>= over image joins (flat_map edges_of (drop (i + 1) (placed_from 0 cuts))))
+    next_edges table =
+        ap (λ ps. over image joins (flat_map edges_of ps) table) next_one ∙ ap (λ es. over image joins es table) (flat_map-cons edges_of p (drop (i + 1) (placed_from 0 cuts))) ∙ over_append image joins (edges_of p) _ table
+      where
+        next_one : drop i (placed_from 0 cuts) ≡ p ∷ drop (i + 1) (placed_from 0 cuts)
+        next_one = drop-cons (placed_from 0 cuts) i p (slice_get_within (placed_from 0 cuts) i p is) ∙ ap (λ q. q ∷ drop (suc i) (placed_from 0 cuts)) (get_or_from_slice_get (placed_from 0 cuts) i p p is) ∙ ap (λ n. p ∷ drop n (placed_from 0 cuts)) (sym (add-one i))
+
+    module _ (first now : Passes) (begun : Table) (on : Comes first now i begun) where
+      pub here_before : IsBefore image cuts joins now p.at on.whole
+      here_before = subst (λ at. IsBefore image cuts joins now at on.whole) (sym (on.next p is)) on.before
+
+      goes : over image joins (edges_in cuts) begun ≡ (over image joins (edges_of p) on.whole >>= over image joins (flat_map edges_of (drop (i + 1) (placed_from 0 cuts))))
+      goes = on.gives ∙ next_edges on.whole
+
+      pub stop_there : (e : StateFault) (P Q : Table → Type 0) → Carries {X = Bool} (Err e) (over image joins (edges_of p) on.whole) P → Carries {X = Bool} (Err e) (over image joins (edges_in cuts) begun) Q
+      stop_there e P Q refuses = then_more e _ (over image joins (edges_of p) on.whole) (over image joins (flat_map edges_of (drop (i + 1) (placed_from 0 cuts)))) P Q goes refuses
+
+      pub come_on : AllByRecursion (λ c. 0 < length c.bytes) cuts → (new : Passes) (moved : Bool) → Carries (Ok moved) (over image joins (edges_of p) on.whole) (IsBefore image cuts joins new p.next) → Comes first new (i + 1) begun
+      come_on spelled new moved done = record {
+        at = p.next;
+        whole = done.0;
+        gives = goes ∙ ap (λ r. r >>= over image joins (flat_map edges_of (drop (i + 1) (placed_from 0 cuts)))) done.1;
+        before = done.2;
+        past = λ j q lt there. passed j q lt there (cases_eq j i);
+        next = λ q there. next_at 0 cuts i p q is (sym (ap (slice_get (placed_from 0 cuts)) (add-one i)) ∙ there);
+      }
+        where
+          longer : p.at < p.next
+          longer =
+              let stands = stands_in cuts i p spelled is in
+              let some = some_bytes cuts p.at stands.cut spelled stands.there in
+              omega (arith, some, stands.next)
+
+          passed : (j : ℕ) (q : Placed) → j < i + 1 → slice_get (placed_from 0 cuts) j ≡ Some q → (j ≡ i) ⊎ (j ≡ i → ⊥) → q.at < p.next
+          passed j q lt there (inl same) = let one = ap (λ (q : Placed). q.at) (same_Some q p (sym there ∙ ap (slice_get (placed_from 0 cuts)) same ∙ is)) in omega (arith, longer, one)
+          passed j q lt there (inr other) = let less = on.past j q (omega (arith, lt, other)) there in let here = on.next p is in omega (arith, longer, less, here)
+
+  -- after all of them
+  pub come_all : (first now new : Passes) (i : ℕ) (begun : Table) → length cuts ≤ i → Comes first now i begun → new.slots ≡ now.slots → new.changed.items ≡ now.changed.items → new.carried ≡ now.carried → new.ahead ≡ now.ahead → new.outcome ≡ now.outcome → new.is_carried ≡ false → (moved : Bool)
+      → Carries (Ok moved) (over image joins (edges_in cuts) begun) (IsBefore image cuts joins new 0)
+  come_all first now new i begun end on slots changed carried ahead outcome rests moved = (
+    on.whole,
+    on.gives ∙ ap (λ ps. over image joins (flat_map edges_of ps) on.whole) none,
+    record {
+      way = record {
+        flags = ap length changed ∙ on.before.way.flags ∙ ap length (sym slots);
+        carried = rw carried on.before.way.carried;
+        ahead = rw ahead on.before.way.ahead;
+        outcome = rw outcome on.before.way.outcome;
+        slots = λ x is. on.before.way.slots x is ∙ ap (λ states. table_of states x) (sym slots);
+        grown = on.before.way.grown;
+      };
+      here = λ sure. absurd (let no : false ≡ true = sym rests ∙ sure in cc);
+      taken = λ x cut there k d lt mark. on.before.taken x cut there k d lt (earlier x cut there (joins x) refl mark);
+    },
+  )
+    where
+      none : drop i (placed_from 0 cuts) ≡ []
+      none = drop_all i (placed_from 0 cuts) (omega (arith, end, length-placed 0 cuts))
+
+      earlier : (x : ℕ) (cut : Cut) → cut_at cuts x ≡ Some cut → (b : Bool) → joins x ≡ b → marks joins new 0 x ≡ false → marks joins now on.at x ≡ false
+      earlier x cut there true e mark =
+          ap (λ c. if c then is_in now.changed.items x else (x == on.at) && now.is_carried) e ∙ sym (ap (λ items. is_in items x) changed) ∙ sym (ap (λ c. if c then is_in new.changed.items x else (x == 0) && new.is_carried) e) ∙ mark
+      earlier x cut there false e mark =
+          let number = number_of cuts x cut there in
+          let within = slice_get_within (placed_from 0 cuts) number.0 (placed x cut) number.1 in
+          let less = on.past number.0 (placed x cut) (omega (arith, within, end, length-placed 0 cuts)) number.1 in
+          let no : (x == on.at) ≡ false = below less in
+          ap (λ c. if c then is_in now.changed.items x else (x == on.at) && now.is_carried) e ∙ ap (λ b. b && now.is_carried) no
+        where
+          below : x < on.at → (x == on.at) ≡ false
+          below lt = grind (arith, nat_tests)
+
+-- ---- the passes
+
+-- between two passes; whether the last one changed a state that is kept
+pub record IsBetween (image : ImageValue) (cuts : List Cut) (joins : ℕ → Bool) (p : Passes) (moved : Bool) : Type 0 where
+  pub places : HasPlaces cuts (length p.slots)
+  pub few : length p.slots ≤ 2 ^ 32
+  pub rests : p.is_carried ≡ false
+  pub whole : Table
+  pub before : IsBefore image cuts joins p 0 whole
   pub number : ℕ
-  pub comes : passes image cuts number ≡ Ok (table_of p.table)
-  pub stays : moved ≡ false → pass image cuts (table_of p.table) ≡ Ok (table_of p.table)
-  pub rest : moved ≡ false → (at : ℕ) → IsTrue (is_start cuts at) → has_changed p at ≡ false
-
--- before the first pass
-pub none_made : (image : ImageValue) (cuts : List Cut) (p : Passes) → table_of p.table ≡ first_table image → HasPlaces cuts p → IsUnderWay image p → AreTaken image cuts p → IsBetween image cuts p true
-none_made image cuts p table places way taken = record {
-  places = places;
-  way = way;
-  taken = taken;
-  number = 0;
-  comes = ap Ok (sym table);
-  stays = λ e. absurd cc;
-  rest = λ e. absurd cc;
-}
+  pub comes : passes image cuts number ≡ Ok whole
+  pub stays : moved ≡ false → IsVerdict image cuts (Ok whole)
 
 -- the passes that are left, and the one that sees that nothing changes
 abbrev pub left_of : ImageValue → Bool → Passes → ℕ
-left_of image true p = 1 + table_height image p.table
-left_of image false p = table_height image p.table
+left_of image true p = 1 + table_height image p.slots
+left_of image false p = table_height image p.slots
 
-module _ (image : ImageValue) (cuts : List Cut) (old : Passes) (moved : Bool) (before : IsBetween image cuts old moved) where
-  module _ (new : Passes) (m : Bool) (is : moved ≡ true) (gives : pass image cuts (table_of old.table) ≡ Ok (table_of new.table)) (moves : Moves image m old new) where
-    next_comes : passes image cuts (suc before.number) ≡ Ok (table_of new.table)
-    next_comes = ap (λ r. r >>= pass image cuts) before.comes ∙ gives
+module _ (image : ImageValue) (cuts : List Cut) (range : InRange image) (spelled : AllByRecursion IsSpelled cuts) (kept : KeepsNest image.loops image.workspace cuts) (joins : ℕ → Bool) (join : AreJoins image cuts joins) where
+  zero_joins : joins 0 ≡ true
+  zero_joins = by_join (joins 0) refl
+    where
+      by_join : (b : Bool) → joins 0 ≡ b → joins 0 ≡ true
+      by_join true e = e
+      by_join false e = let no : true ≡ false = or_left true (is_head image 0) (nat_le 2 (reached image cuts 0)) (join.wide 0 e) in cc
 
-    -- one pass more
-    pub one_more : IsUnderWay image new → AreTaken image cuts new → (m ≡ false → (at : ℕ) → IsTrue (is_start cuts at) → has_changed new at ≡ false) → IsBetween image cuts new m
-    one_more way taken rest = record {
-      places = λ at starts. rw moves.table.sized (before.places at starts);
-      way = way;
-      taken = taken;
-      number = suc before.number;
-      comes = next_comes;
-      stays = λ e. ap (pass image cuts) (same e) ∙ gives;
-      rest = rest;
-    }
-      where
-        same : m ≡ false → table_of new.table ≡ table_of old.table
-        same e = ap table_of (moves.table.stays e)
+  -- before the first pass
+  pub none_made : (p : Passes) (places : ℕ) → HasPlaces cuts places → places ≤ 2 ^ 32 → length p.slots ≡ places → length p.changed.items ≡ places → table_of p.slots ≡ first_table image
+      → ((at : ℕ) → at < places → is_in p.changed.items at ≡ true) → p.is_carried ≡ false → IsPlaced image p.carried → IsPlaced image p.ahead → IsPlaced image p.outcome → IsBetween image cuts joins p true
+  none_made p places inside few sized flags table marked rests carried ahead outcome = record {
+    places = λ at starts. rw sized (inside at starts);
+    few = rw sized few;
+    rests = rests;
+    whole = first_table image;
+    before = record {
+      way = record {
+        flags = flags ∙ sym sized;
+        carried = carried;
+        ahead = ahead;
+        outcome = outcome;
+        slots = λ x is. sym (ap (λ (t : Table). t x) table);
+        grown = first_grown image (first_table image) kept.begins (entry_sound image range).placed refl;
+      };
+      here = λ sure. absurd (let no : false ≡ true = sym rests ∙ sure in cc);
+      taken = λ x cut there k d lt mark s stood. absurd (never x cut there s stood mark (cases_eq x 0));
+    };
+    number = 0;
+    comes = refl;
+    stays = λ e. absurd cc;
+  }
+    where
+      never : (x : ℕ) (cut : Cut) → cut_at cuts x ≡ Some cut → (s : State) → first_table image x ≡ Some s → marks joins p 0 x ≡ false → (x ≡ 0) ⊎ (x ≡ 0 → ⊥) → ⊥
+      never x cut there s stood mark (inl same) =
+          let is : joins x ≡ true = ap joins same ∙ zero_joins in
+          let on = marked x (inside x (ap is_some there)) in
+          let no : true ≡ false = sym on ∙ sym (ap (λ c. if c then is_in p.changed.items x else (x == 0) && p.is_carried) is) ∙ mark in
+          cc
+      never x cut there s stood mark (inr other) =
+          let no : (x == 0) ≡ false = grind (arith, nat_tests) in
+          let none : None ≡ Some s = sym (ap (λ b. if b then Some (entry image) else None) no) ∙ stood in
+          cc
 
-  pub fewer_left : (new : Passes) (m : Bool) → moved ≡ true → Moves image m old new → left_of image m new < left_of image moved old
-  fewer_left new true is moves = rw is (omega (arith, moves.table.falls refl))
-  fewer_left new false is moves = rw is (let same : table_height image new.table ≡ table_height image old.table = ap (table_height image) (moves.table.stays refl) in omega (arith, same))
+  -- one pass more
+  one_as_defined : (n : ℕ) (table : Table) → passes image cuts n ≡ Ok table → passes image cuts (suc n) ≡ over image joins (edges_in cuts) table
+  one_as_defined n table comes =
+      ap (λ r. r >>= pass image cuts) comes
+      ∙ (edge_by_edge image range.rows kept.good joins (IsOne image cuts kept joins join.wide) (StandsThere image) (lone image cuts kept joins join.wide) (are_states image cuts kept joins join.wide range spelled) (edges_in cuts) (λ i e is. (i, is)) table
+      (good_after image cuts range spelled kept joins join.wide n table comes)).0
+
+  pub one_more : (old new : Passes) (moved m : Bool) → IsBetween image cuts joins old moved → new.is_carried ≡ false → Moves image m old.slots new.slots
+      → ((whole : Table) → IsBefore image cuts joins old 0 whole → Carries (Ok m) (over image joins (edges_in cuts) whole) (IsBefore image cuts joins new 0)) → IsBetween image cuts joins new m
+  one_more old new moved m on rests moves gives = record {
+    places = λ at starts. rw moves.sized (on.places at starts);
+    few = rw moves.sized on.few;
+    rests = rests;
+    whole = done.0;
+    before = done.2;
+    number = suc on.number;
+    comes = comes;
+    stays = stays;
+  }
+    where
+      done : (new_whole : Table) × (over image joins (edges_in cuts) on.whole ≡ Ok new_whole) × IsBefore image cuts joins new 0 new_whole
+      done = gives on.whole on.before
+
+      comes : passes image cuts (suc on.number) ≡ Ok done.0
+      comes = one_as_defined on.number on.whole on.comes ∙ done.1
+
+      stays : m ≡ false → IsVerdict image cuts (Ok done.0)
+      stays e = record {
+        number = suc on.number;
+        comes = comes;
+        stays = (one_pass image cuts range spelled kept joins join.wide done.0 (good_after image cuts range spelled kept joins join.wide (suc on.number) done.0 comes)).0
+            ∙ ap (over image joins (edges_in cuts)) (fun_ext λ x. alike x (joins x) refl)
+            ∙ sym (one_pass image cuts range spelled kept joins join.wide on.whole (good_after image cuts range spelled kept joins join.wide on.number on.whole on.comes)).0
+            ∙ sym (ap (λ r. r >>= pass image cuts) on.comes) ∙ comes;
+      }
+        where
+          alike : (x : ℕ) (b : Bool) → joins x ≡ b → only_joins joins done.0 x ≡ only_joins joins on.whole x
+          alike x true is =
+              ap (λ c. if c then done.0 x else None) is ∙ done.2.way.slots x is ∙ ap (λ states. table_of states x) (moves.stays e) ∙ sym (on.before.way.slots x is) ∙ sym (ap (λ c. if c then on.whole x else None) is)
+          alike x false is = ap (λ c. if c then done.0 x else None) is ∙ sym (ap (λ c. if c then on.whole x else None) is)
+
+  pub fewer_left : (old new : Passes) (moved m : Bool) → moved ≡ true → Moves image m old.slots new.slots → left_of image m new < left_of image moved old
+  fewer_left old new moved true is moves = rw is (omega (arith, moves.falls refl))
+  fewer_left old new moved false is moves = rw is (let same : table_height image new.slots ≡ table_height image old.slots = ap (table_height image) (moves.stays refl) in omega (arith, same))
 
   -- the refusal of a pass is the verdict
-  pub is_refusal : (e : StateFault) (table : Table) → Gives {X = Bool} (Err e) table (pass image cuts (table_of old.table)) → IsRefusalOf image cuts e
-  is_refusal (Refused code place) table gives = record { number = suc before.number; comes = ap (λ r. r >>= pass image cuts) before.comes ∙ gives; stays = refl }
-  is_refusal Memory table gives = tt
+  pub is_refusal : (old : Passes) (moved : Bool) (on : IsBetween image cuts joins old moved) (e : StateFault) (P : Table → Type 0) → Carries {X = Bool} (Err e) (over image joins (edges_in cuts) on.whole) P → IsRefusalOf image cuts e
+  is_refusal old moved on (Refused code place) P gives = record { number = suc on.number; comes = one_as_defined on.number on.whole on.comes ∙ gives; stays = refl }
+  is_refusal old moved on Memory P gives = tt
 
--- after the last pass
-module _ (image : ImageValue) (cuts : List Cut) (p : Passes) (last : IsBetween image cuts p false) where
-  pub is_verdict : IsVerdict image cuts (Ok (table_of p.table))
-  is_verdict = record { number = last.number; comes = last.comes; stays = last.stays refl }
+  -- after the last pass
+  pub is_table : (p : Passes) (keeps : ℕ → Bool) (states : List (ℕ × State)) → IsBetween image cuts joins p false → ((at : ℕ) → keeps at ≡ is_kept image cuts at) → AreStatesOf keeps (table_of p.slots) states → IsTableOf image cuts states
+  is_table p keeps states on same are = record {
+    whole = on.whole;
+    verdict = on.stays refl;
+    kept = record {
+      rising = are.rising;
+      each = λ i a there. let one = are.each i a there in (sym (same a.0) ∙ one.0, there_too a.0 (sym (same a.0) ∙ one.0) ∙ one.1);
+      all = λ at s is stood. are.all at s (same at ∙ is) (sym (there_too at is) ∙ stood);
+    };
+  }
+    where
+      there_too : (at : ℕ) → is_kept image cuts at ≡ true → on.whole at ≡ table_of p.slots at
+      there_too at is = by_join (joins at) refl
+        where
+          by_join : (b : Bool) → joins at ≡ b → on.whole at ≡ table_of p.slots at
+          by_join true e = on.before.way.slots at e
+          by_join false e = absurd (let no : true ≡ false = sym is ∙ join.wide at e in cc)
 
-  pub placed_states : HasPlacedStates image (table_of p.table)
-  placed_states at s is = (last.way.grown.states at s is).placed
-
-  -- every edge respects the table
-  pub every_edge : EveryEdgeRespects image cuts (table_of p.table)
-  every_edge = record { begins = last.way.grown.begins; each = λ at cut s there is k d lt. last.taken at cut there k d lt (last.rest refl at (ap is_some there)) s is }
+  pub are_sound : (states : List (ℕ × State)) → IsTableOf image cuts states → AreSound image states
+  are_sound states t i a there = sound_there image cuts range spelled kept t.verdict.number t.whole t.verdict.comes a.0 a.1 (t.kept.each i a there).1
 
 pub refusal_handed_on : {X : Type 0} (image : ImageValue) (cuts : List Cut) (r : Result X StateFault) (e : StateFault) → IsErrAnd r (λ x. x ≡ e) → IsRefusalOf image cuts e → IfErr r (IsRefusalOf image cuts)
 refusal_handed_on image cuts (Ok x) e is refusal = search rules

@@ -1,6 +1,6 @@
 -- Passes that carry one state from instruction to instruction, and keep states only at some addresses: at each other
 -- address, which one edge alone reaches, what is known after that edge takes the place of what was known.
-use Rattle.std.specs.Prelude.{◌≡◌, ℕ, zero, suc, ◌==◌, ◌||◌, nat_le, Bool, false, if◌then◌else◌, List, [], ◌∷◌, Option, Some, None, Result, Ok}
+use Rattle.std.specs.Prelude.{◌≡◌, ◌≢◌, ℕ, zero, suc, ◌==◌, ◌||◌, nat_le, ◌<◌, Bool, false, if◌then◌else◌, IsTrue, List, [], ◌∷◌, Option, Some, None, Result, Ok, slice_get}
 use Rattle.std.specs.List.{count_by, list_any}
 use Rattle.tp_decode.specs.declared.placed.Placed.{Placed}
 use Rattle.tp_decode.specs.Cutting.{Cut}
@@ -12,8 +12,9 @@ use Rattle.tp_state.specs.declared.state.State.{State}
 use Rattle.tp_state.specs.declared.fault.StateFault.{StateFault}
 use Rattle.tp_state.specs.Answer.{◌>>=◌}
 use Rattle.tp_state.specs.After.{after}
+use Rattle.tp_state.specs.Sound.{IsSound}
 use Rattle.tp_check.specs.Tables.{Table, with_state}
-use Rattle.tp_check.specs.Passes.{placed, enter, edges_in, first_table}
+use Rattle.tp_check.specs.Passes.{placed, enter, edges_in, first_table, IsVerdict}
 
 -- where an edge of an instruction in its place leads
 abbrev pub target_of : ImageValue → Placed × Edge → Option ℕ
@@ -61,6 +62,15 @@ is_kept image cuts at = (at == 0) || is_head image at || nat_le 2 (reached image
 abbrev pub AreWide : ImageValue → List Cut → (ℕ → Bool) → Type 0
 AreWide image cuts joins = (at : ℕ) → joins at ≡ false → is_kept image cuts at ≡ false
 
+-- an edge is one of some
+abbrev pub IsAmong : List (Placed × Edge) → Placed × Edge → Type 0
+IsAmong es e = (i : ℕ) × (slice_get es i ≡ Some e)
+
+-- Among some edges, each address that does not join is the target of one at most, and no edge leads from it to itself.
+pub record IsLone (image : ImageValue) (joins : ℕ → Bool) (IsEdge : Placed × Edge → Type 0) : Type 0 where
+  pub one : (e f : Placed × Edge) (to : ℕ) → IsEdge e → IsEdge f → joins to ≡ false → target_of image e ≡ Some to → target_of image f ≡ Some to → e ≡ f
+  pub on : (e : Placed × Edge) (to : ℕ) → IsEdge e → joins to ≡ false → target_of image e ≡ Some to → to ≢ e.0.at
+
 -- ---- passes with one state carried
 
 -- a pass from what stands where edges join; it tells the whole table
@@ -70,3 +80,22 @@ carried_pass image cuts joins table = over image joins (edges_in cuts) (only_joi
 abbrev pub carried : ImageValue → List Cut → (ℕ → Bool) → ℕ → Result Table StateFault
 carried image cuts joins zero = Ok (first_table image)
 carried image cuts joins (suc n) = carried image cuts joins n >>= carried_pass image cuts joins
+
+-- ---- what is kept of a table
+
+-- The states of a table at some addresses, by rising address; none at another.
+pub record AreStatesOf (keeps : ℕ → Bool) (table : Table) (states : List (ℕ × State)) : Type 0 where
+  pub rising : (i j : ℕ) (a b : ℕ × State) → i < j → slice_get states i ≡ Some a → slice_get states j ≡ Some b → a.0 < b.0
+  pub each : (i : ℕ) (a : ℕ × State) → slice_get states i ≡ Some a → IsTrue (keeps a.0) × (table a.0 ≡ Some a.1)
+  pub all : (at : ℕ) (s : State) → IsTrue (keeps at) → table at ≡ Some s → (i : ℕ) × (slice_get states i ≡ Some (at, s))
+
+-- At the addresses that are kept these are the states of the verdict's table, which has one at each address to which a way
+-- leads.
+pub record IsTableOf (image : ImageValue) (cuts : List Cut) (states : List (ℕ × State)) : Type 0 where
+  pub whole : Table
+  pub verdict : IsVerdict image cuts (Ok whole)
+  pub kept : AreStatesOf (is_kept image cuts) whole states
+
+-- its states are sound
+abbrev pub AreSound : ImageValue → List (ℕ × State) → Type 0
+AreSound image states = (i : ℕ) (a : ℕ × State) → slice_get states i ≡ Some a → IsSound image a.1

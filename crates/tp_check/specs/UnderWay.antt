@@ -1,6 +1,5 @@
 -- What holds while the passes are made.
-use Rattle.std.specs.Prelude.{◌≡◌, ℕ, ◌+◌, ◌*◌, ◌-◌, ◌^◌, ◌<◌, Bool, true, false, if◌then◌else◌, ℤ, pos, negsuc, ◌+ℤ◌, ◌-ℤ◌, ◌⊎◌, List, length, sum_by, slice_get, slice_index_or, slice_set, All, Option, Some, None, Result, Ok, Err, IsTrue, ◌≤◌, ◌≢◌}
-use Rattle.std.specs.Option.{is_some}
+use Rattle.std.specs.Prelude.{◌≡◌, ◌≢◌, ℕ, ◌+◌, ◌*◌, ◌-◌, ◌^◌, ◌<◌, ◌==◌, ◌&&◌, Bool, true, false, if◌then◌else◌, ℤ, pos, negsuc, ◌+ℤ◌, ◌-ℤ◌, List, length, sum_by, slice_get, slice_index_or, slice_set, All, ◌⊎◌, Option, Some, None, Result, Ok, Err, IsTrue}
 use Rattle.tp_decode.specs.declared.instr.Instr.{Instr}
 use Rattle.tp_decode.specs.declared.placed.Placed.{Placed}
 use Rattle.tp_decode.specs.Cutting.{Cut, cut_at, placed_from}
@@ -21,9 +20,12 @@ use Rattle.tp_state.specs.declared.fault.StateFault.TheVariants.{Refused, Memory
 use Rattle.tp_state.specs.Conditions.{IsPlaced}
 use Rattle.tp_state.specs.Entry.{entry}
 use Rattle.tp_state.specs.Live.{LiveWordsAre}
+use Rattle.tp_state.specs.After.{after}
 use Rattle.tp_check.specs.declared.passes.Passes.{Passes}
 use Rattle.tp_check.specs.Tables.{Table, table_of, asked}
-use Rattle.tp_check.specs.EdgesRespect.{HasAbove, Respects}
+use Rattle.tp_check.specs.EdgesRespect.{HasAbove}
+use Rattle.tp_check.specs.Passes.{edges_in}
+use Rattle.tp_check.specs.Carried.{AreWide, IsAmong, IsLone, target_of}
 
 -- ---- what a table keeps
 
@@ -37,40 +39,113 @@ pub record HasGrown (image : ImageValue) (table : Table) : Type 0 where
   pub states : (at : ℕ) (s : State) → table at ≡ Some s → IsStateAt image at s
   pub begins : HasAbove table 0 (entry image)
 
--- between two edges
-pub record IsUnderWay (image : ImageValue) (p : Passes) : Type 0 where
-  pub flags : length p.changed.items ≡ length p.table
-  pub outcome : IsPlaced image p.outcome
-  pub grown : HasGrown image (table_of p.table)
-
 -- an instruction's place among so many addresses
 pub record MayBeTaken (image : ImageValue) (places : ℕ) (place : Placed) : Type 0 where
   pub inside : place.at < places
   pub targets : (edge : Edge) (to : ℕ) → target (ranges image.loops) place.at place.next place.instr edge ≡ Some to → to < places
+  pub elsewhere : (edge : Edge) (to : ℕ) → target (ranges image.loops) place.at place.next place.instr edge ≡ Some to → to ≢ place.at
   pub around : KeepsAround image.loops image.workspace place.at place.next place.instr
 
--- each instruction has its place
-abbrev pub HasPlaces : List Cut → Passes → Type 0
-HasPlaces cuts p = (at : ℕ) → IsTrue (is_start cuts at) → at < length p.table
+-- ---- where edges join
+
+-- whether an address is marked
+abbrev pub is_in : List Bool → ℕ → Bool
+is_in flags at = slice_index_or flags at false
+
+-- Edges join at these addresses: at each that is kept, and at each target of one edge alone but the next instruction, to
+-- which control falls.
+pub record AreJoins (image : ImageValue) (cuts : List Cut) (joins : ℕ → Bool) : Type 0 where
+  pub wide : AreWide image cuts joins
+  pub lone : IsLone image joins (IsAmong (edges_in cuts))
+  pub falls : (e : Placed × Edge) (to : ℕ) → IsAmong (edges_in cuts) e → joins to ≡ false → target_of image e ≡ Some to → to ≡ e.0.next
 
 -- ---- what need not be taken again
 
--- the state at an address has changed since the edges from there were last taken
-abbrev pub has_changed : Passes → ℕ → Bool
-has_changed p at = slice_index_or p.changed.items at false
+-- Nothing is refused on an edge; where its target joins, the state there is above what is known after it, and elsewhere it
+-- is what is known after it.
+pub record Settles (image : ImageValue) (joins : ℕ → Bool) (table : Table) (at next : ℕ) (instr : Instr) (s : State) (edge : Edge) : Type 0 where
+  pub outcome : State
+  pub goes_on : after image at next instr edge s ≡ Ok outcome
+  pub meets : (to : ℕ) → target (ranges image.loops) at next instr edge ≡ Some to → joins to ≡ true → HasAbove table to outcome
+  pub sets : (to : ℕ) → target (ranges image.loops) at next instr edge ≡ Some to → joins to ≡ false → table to ≡ Some outcome
 
--- an address is marked, where its state has changed
-abbrev pub marked : Bool → ℕ → List Bool → List Bool
-marked moved to flags = if moved then slice_set flags to true else flags
+-- an edge that was taken has settled, unless its address is marked
+abbrev pub IsTaken : ImageValue → (ℕ → Bool) → (ℕ → Bool) → Table → (at next : ℕ) → Instr → Edge → Type 0
+IsTaken image joins marks table at next instr edge =
+    marks at ≡ false → (s : State) → table at ≡ Some s → Settles image joins table at next instr s edge
 
--- an edge that was taken respects the table until the state before it changes
-abbrev pub IsTaken : ImageValue → Passes → (at next : ℕ) → Instr → Edge → Type 0
-IsTaken image p at next instr edge =
-    has_changed p at ≡ false → (s : State) → table_of p.table at ≡ Some s → Respects image (table_of p.table) at next instr s edge
+abbrev pub TakenAt : ImageValue → (ℕ → Bool) → (ℕ → Bool) → Table → ℕ → Cut → Type 0
+TakenAt image joins marks table at cut =
+    All (IsTaken image joins marks table at (at + length cut.bytes) cut.instr) (asked cut.instr)
 
-abbrev pub AreTaken : ImageValue → List Cut → Passes → Type 0
-AreTaken image cuts p =
-    (at : ℕ) (cut : Cut) → cut_at cuts at ≡ Some cut → All (IsTaken image p at (at + length cut.bytes) cut.instr) (asked cut.instr)
+-- what is marked: where edges join, what has changed since its edges were last taken; and the address to which a state is
+-- carried
+abbrev pub marks : (ℕ → Bool) → Passes → ℕ → (ℕ → Bool)
+marks joins p ahead at = if joins at then is_in p.changed.items at else (at == ahead) && p.is_carried
+
+-- ---- under way
+
+-- Where edges join the passes keep the states of a whole table.
+pub record IsUnderWay (image : ImageValue) (joins : ℕ → Bool) (p : Passes) (whole : Table) : Type 0 where
+  pub flags : length p.changed.items ≡ length p.slots
+  pub carried : IsPlaced image p.carried
+  pub ahead : IsPlaced image p.ahead
+  pub outcome : IsPlaced image p.outcome
+  pub slots : (at : ℕ) → joins at ≡ true → whole at ≡ table_of p.slots at
+  pub grown : HasGrown image whole
+
+-- before the instruction at an address
+pub record IsBefore (image : ImageValue) (cuts : List Cut) (joins : ℕ → Bool) (p : Passes) (at : ℕ) (whole : Table) : Type 0 where
+  pub way : IsUnderWay image joins p whole
+  pub here : p.is_carried ≡ true → (joins at ≡ false) × (whole at ≡ Some p.carried)
+  pub taken : (x : ℕ) (cut : Cut) → cut_at cuts x ≡ Some cut → TakenAt image joins (marks joins p at) whole x cut
+
+-- where edges join, marks alone
+abbrev pub flags : (ℕ → Bool) → Passes → (ℕ → Bool)
+flags joins p at = if joins at then is_in p.changed.items at else false
+
+-- before an instruction whose state, if it is to be taken, is carried now
+pub record IsReady (image : ImageValue) (cuts : List Cut) (joins : ℕ → Bool) (p : Passes) (at : ℕ) (whole : Table) : Type 0 where
+  pub way : IsUnderWay image joins p whole
+  pub here : p.is_carried ≡ true → whole at ≡ Some p.carried
+  pub others : (x : ℕ) (cut : Cut) → x ≢ at → cut_at cuts x ≡ Some cut → TakenAt image joins (flags joins p) whole x cut
+  pub own : p.is_carried ≡ false → (cut : Cut) → cut_at cuts at ≡ Some cut → (k : ℕ) (d : Edge) → k < length (asked cut.instr) → (s : State) → whole at ≡ Some s → Settles image joins whole at (at + length cut.bytes) cut.instr s (slice_index_or (asked cut.instr) k d)
+
+-- between two edges of an instruction, so many of which have been taken
+pub record IsAmidst (image : ImageValue) (cuts : List Cut) (joins : ℕ → Bool) (p : Passes) (place : Placed) (done : ℕ) (whole : Table) : Type 0 where
+  pub way : IsUnderWay image joins p whole
+  pub here : whole place.at ≡ Some p.carried
+  pub next : p.is_carried ≡ true → (joins place.next ≡ false) × (whole place.next ≡ Some p.ahead)
+  pub others : (x : ℕ) (cut : Cut) → x ≢ place.at → cut_at cuts x ≡ Some cut → TakenAt image joins (marks joins p place.next) whole x cut
+  pub own : (k : ℕ) (d : Edge) → k < done → IsTaken image joins (marks joins p place.next) whole place.at place.next place.instr (slice_index_or (asked place.instr) k d)
+
+-- a step's answer is the definition's, or a want of memory; and of the table that it comes to, this holds
+abbrev pub Carries : {X : Type 0} → Result X StateFault → Result Table StateFault → (Table → Type 0) → Type 0
+Carries (Ok x) wanted P = (new : Table) × (wanted ≡ Ok new) × P new
+Carries (Err (Refused code place)) wanted P = wanted ≡ Err (Refused code place)
+Carries (Err Memory) wanted P = Unit {0}
+
+-- an instruction of a code, in its place
+pub record StandsIn (cuts : List Cut) (place : Placed) : Type 0 where
+  pub number : ℕ
+  pub is : slice_get (placed_from 0 cuts) number ≡ Some place
+  pub cut : Cut
+  pub there : cut_at cuts place.at ≡ Some cut
+  pub next : place.next ≡ place.at + length cut.bytes
+  pub instr : place.instr ≡ cut.instr
+
+-- an instruction of a code, with a whole table between two of its edges
+pub record AreAmidst (image : ImageValue) (joins : ℕ → Bool) (p : Passes) (place : Placed) (done : ℕ) : Type 0 where
+  pub cuts : List Cut
+  pub number : ℕ
+  pub stands : slice_get (placed_from 0 cuts) number ≡ Some place
+  pub join : AreJoins image cuts joins
+  pub whole : Table
+  pub amidst : IsAmidst image cuts joins p place done whole
+
+-- each instruction has its place
+abbrev pub HasPlaces : List Cut → ℕ → Type 0
+HasPlaces cuts places = (at : ℕ) → IsTrue (is_start cuts at) → at < places
 
 -- ---- how far the passes have to go
 
@@ -124,17 +199,27 @@ pub record MovesState (image : ImageValue) (moved : Bool) (old new : Option Stat
   pub falls : moved ≡ true → height image new < height image old
 
 -- it tells whether a table has changed, and where it has, fewer changes are left
-pub record MovesTable (image : ImageValue) (moved : Bool) (old new : List (Option State)) : Type 0 where
+pub record Moves (image : ImageValue) (moved : Bool) (old new : List (Option State)) : Type 0 where
   pub sized : length new ≡ length old
   pub stays : moved ≡ false → new ≡ old
   pub falls : moved ≡ true → table_height image new < table_height image old
 
--- the same, and where it has not, nothing is left to be taken that was not before
-pub record Moves (image : ImageValue) (moved : Bool) (old new : Passes) : Type 0 where
-  pub table : MovesTable image moved old.table new.table
-  pub rests : moved ≡ false → (at : ℕ) → has_changed old at ≡ false → has_changed new at ≡ false
+-- an address is marked, where its state has changed
+abbrev pub marked : Bool → ℕ → List Bool → List Bool
+marked moved to flags = if moved then slice_set flags to true else flags
 
--- nothing is known of an address that is not marked but what was known
-pub record IsAsBefore (old new : Passes) (x : ℕ) : Type 0 where
-  pub rests : has_changed old x ≡ false
-  pub same : table_of new.table x ≡ table_of old.table x
+-- all but the states that are kept and the marks is as before
+pub record SameButSlots (old new : Passes) : Type 0 where
+  pub is_carried : new.is_carried ≡ old.is_carried
+  pub carried : new.carried ≡ old.carried
+  pub ahead : new.ahead ≡ old.ahead
+  pub outcome : new.outcome ≡ old.outcome
+
+-- the state that is kept at an address is carried, if it was marked and there is one; it is not marked any more
+pub record IsStarted (at : ℕ) (old new : Passes) : Type 0 where
+  pub slots : new.slots ≡ old.slots
+  pub changed : new.changed.items ≡ slice_set old.changed.items at false
+  pub ahead : new.ahead ≡ old.ahead
+  pub outcome : new.outcome ≡ old.outcome
+  pub yes : new.is_carried ≡ true → table_of old.slots at ≡ Some new.carried
+  pub no : new.is_carried ≡ false → (new.carried ≡ old.carried) × ((is_in old.changed.items at ≡ false) ⊎ (table_of old.slots at ≡ None))

@@ -7,7 +7,9 @@
 mod effort;
 pub mod laws;
 mod passes;
+mod slots;
 mod table;
+mod way;
 
 pub use effort::Effort;
 pub use passes::{check_states, check_states_counting};

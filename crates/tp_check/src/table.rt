@@ -1,99 +1,45 @@
 //! Tables.
 
-ghost use Rattle.std.specs.Prelude.{◌≡◌, ◌<◌, ℕ, Some, length, IfOk, IfSome};
-ghost use Rattle.std.specs.Option.{option_copied};
-ghost use Rattle.tp_state.specs.Conditions.{IsPlaced};
-ghost use Rattle.tp_check.specs.Tables.{table_of, HasPlacedStates};
-ghost use Rattle.tp_check.specs.Passes.{enter, first_table, met, placed};
-ghost use Rattle.tp_check.specs.UnderWay.{Gives, GivesState, MovesState, MovesTable};
+ghost use Rattle.std.specs.Prelude.{◌≡◌, ◌≤◌, ◌^◌, length, IfOk};
+ghost use Rattle.tp_check.specs.Tables.{table_of};
+ghost use Rattle.tp_check.specs.Carried.{AreStatesOf};
+ghost use Rattle.tp_check.specs.Joining.{keeps_at};
 
+use crate::slots::Slots;
+use crate::way::Ways;
 use std::alloc::{AllocError, Global};
-use std::marker::Model;
-use tp_image::Image;
-use tp_state::{State, StateFault};
+use tp_state::State;
 
-/// What is known before the instructions of a code: a contract sees the state of each address that has one.
+/// What is known before some instructions of a code, from which the rest can be worked out.
 #[derive(Drop)]
 pub struct Table {
-    /// By address.
-    states: Vec<Option<State>>,
-}
-
-impl Model for Table {
-    ghost use Rattle.std.specs.Prelude.{List, Option};
-    ghost use Rattle.tp_state.specs.declared.state.State.{State};
-
-    ghost Value = { List (Option State) };
-
-    ghost view = { λ t. t.states.items };
+    /// The states, each with its address, by rising address: at the first address, at those that two edges reach, and at
+    /// loops' heads, if a way leads there, and nowhere else.
+    pub states: Vec<(u32, State)>,
 }
 
 impl Table {
-    /// The first instruction alone has a state, of so many addresses.
-    pub(crate) fn first(alloc: Global, image: &Image, places: usize) -> Result<Table, AllocError>
-        requires { 0 < places }
-        ensures sized { IfOk result (λ table. length table ≡ places) }
-        ensures value { IfOk result (λ table. table_of table ≡ first_table image.now) }
+    /// What is kept of the states that the passes have left.
+    pub(crate) fn of(alloc: Global, slots: Slots, ways: &Ways) -> Result<Table, AllocError>
+        requires few { length slots ≤ 2 ^ 32 }
+        ensures { IfOk result (λ table. AreStatesOf (keeps_at ways.now) (table_of slots) table.states.items) }
     {
-        let mut states = Vec::with_capacity(alloc, places)?;
-        let first = State::entry(alloc, image)?;
-        states.push(Some(first))?;
-        for _place in 1..places {
-            states.push(None)?;
+        let mut slots = slots;
+        let mut states = Vec::new(alloc);
+        for at in 0..slots.len() {
+            if ways.keeps(at) {
+                if let Some(state) = slots.take(at) {
+                    states.push((at as u32, state))?;
+                }
+            }
         }
         Ok(Table { states })
     }
 
-    /// A state comes to an address. It answers whether anything changed there.
-    pub(crate) fn enter(
-        &mut self,
-        alloc: Global,
-        image: &Image,
-        to: usize,
-        state: &State,
-    ) -> Result<bool, StateFault>
-        requires inside { to < length self.old }
-        requires placed { HasPlacedStates image.now (table_of self.old) }
-        requires state { IsPlaced image.now state.now }
-        ensures gives { Gives result (table_of self.new) (enter (Some to) state.now (table_of self.old)) }
-        ensures moves { IfOk result (λ moved. MovesTable image.now moved self.old self.new) }
+    /// How many states it keeps.
+    pub fn kept(&self) -> usize
+        ensures { result ≡ length self.now.states.items }
     {
-        meet(&mut self.states[to], alloc, image, to, state)
-    }
-
-    /// What is known before the instruction at an address, if any way leads there.
-    pub fn at(&self, addr: usize) -> Option<&State>
-        ensures { option_copied result ≡ table_of self.now addr }
-    {
-        match self.states.get(addr) {
-            Some(state) => state.as_ref(),
-            None => None,
-        }
-    }
-}
-
-/// A state comes to an address, where another may stand already. It answers whether anything changed.
-fn meet(
-    there: &mut Option<State>,
-    alloc: Global,
-    image: &Image,
-    to: usize,
-    state: &State,
-) -> Result<bool, StateFault>
-    requires placed { IfSome there.old (IsPlaced image.now) }
-    requires state { IsPlaced image.now state.now }
-    ensures gives { GivesState result there.new (placed to (met there.old state.now)) }
-    ensures moves { IfOk result (λ moved. MovesState image.now moved there.old there.new) }
-{
-    state.has_word_ends();
-    match there {
-        Some(met) => match met.join(state) {
-            Ok(moved) => Ok(moved),
-            Err(code) => Err(StateFault::Refused { code, place: to }),
-        },
-        None => {
-            *there = Some(state.copy_of(alloc)?);
-            Ok(true)
-        }
+        self.states.len()
     }
 }

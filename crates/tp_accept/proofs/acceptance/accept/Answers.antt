@@ -2,7 +2,7 @@ use Rattle.std.proofs.Common.{◌≡◌, None, rules}
 use Rattle.std.proofs.lemmas.Result.{err_from_is_err_and}
 use Rattle.tp_image.specs.Faults.{first_fault}
 use Rattle.tp_accept.proofs.AnswerLemmas.{no_fault, refused_states}
-use Rattle.tp_accept.proofs.Exact.{refused_alike}
+use Rattle.tp_accept.proofs.Exact.{refused_alike, acceptable_of}
 use Rattle.tp_accept.proofs.NeverWrong.{never_goes_wrong_of}
 use Rattle.tp_accept.proofs.acceptance.accept.Goals as goal
 
@@ -24,3 +24,11 @@ returns-in_err-nest-clause-exact c = refused_alike c.args.text.items c.from_resi
 
 pub returns-clause-ends : goal.returns-clause-ends
 returns-clause-ends c = never_goes_wrong_of c.in_ok-image.image c.in_ok-budget.budget (search rules)
+
+pub invariant_of-result : goal.invariant_of-result
+invariant_of-result c =
+    record { acceptable = ∣ acceptable_of c.in_ok-image.image c.in_ok-listing.listing _ c.in_ok-budget.budget (search rules) (search rules) (search rules) c.in_ok-table.ensures.table c.in_ok-budget.ensures.value c.in_ok-budget.ensures.within ∣₁ }
+
+pub returns-clause-acceptable : goal.returns-clause-acceptable
+returns-clause-acceptable c =
+    acceptable_of c.in_ok-image.image c.in_ok-listing.listing _ c.in_ok-budget.budget (search rules) (search rules) (search rules) c.in_ok-table.ensures.table c.in_ok-budget.ensures.value c.in_ok-budget.ensures.within

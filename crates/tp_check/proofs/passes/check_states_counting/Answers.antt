@@ -1,28 +1,38 @@
-use Rattle.std.proofs.Common.{subst}
-use Rattle.tp_check.specs.Tables.{table_of}
-use Rattle.tp_check.proofs.Verdict.{none_made, one_more, is_refusal, refusal_handed_on, every_edge, IsBetween}
+use Rattle.std.proofs.Common.{rules, sym, subst}
+use Rattle.tp_check.specs.Joining.{joins_at, keeps_at}
 use Rattle.tp_check.proofs.Least.{none_respected}
+use Rattle.tp_check.proofs.Verdict.{IsBetween, none_made, one_more, is_refusal, is_table, are_sound, refusal_handed_on}
 use Rattle.tp_check.proofs.passes.check_states_counting.Goals as goal
 
-pub returns-clause-placed : goal.returns-clause-placed
-returns-clause-placed c at s there = (c.loop-moved.invariant.way.grown.states at s there).placed
-
-pub returns-clause-respected : goal.returns-clause-respected
-returns-clause-respected c = every_edge c.args.image.now c.args.listing.now c.loop-moved.passes (subst (IsBetween c.args.image.now c.args.listing.now c.loop-moved.passes) c.loop-moved-test.false c.loop-moved.invariant)
-
 pub loop-moved-init : goal.loop-moved-init
-loop-moved-init c = none_made c.args.image.now c.args.listing.now c.in_ok-passes.passes c.in_ok-passes.ensures.table c.in_ok-passes.ensures.places c.in_ok-passes.ensures.way c.in_ok-passes.ensures.taken
+loop-moved-init c =
+    rw c.ways.view_is
+    (none_made c.args.image.now c.args.listing.now c.begin.ensures.in_range c.requires.spelled c.requires.kept (joins_at c.in_ok-ways.ways) c.in_ok-ways.ensures.joins c.in_ok-passes.passes c.places_of-places.result c.places_of-places.ensures.all c.places_of-places.ensures.few
+    c.in_ok-passes.ensures.sized c.in_ok-passes.ensures.flags c.in_ok-passes.ensures.slots c.in_ok-passes.ensures.marked c.in_ok-passes.ensures.rests c.in_ok-passes.ensures.carried c.in_ok-passes.ensures.ahead c.in_ok-passes.ensures.outcome)
 
 pub returns-in_err-moved-clause-refused : goal.returns-in_err-moved-clause-refused
 returns-in_err-moved-clause-refused c =
+    let on = subst (λ w. IsBetween c.args.image.now c.args.listing.now (joins_at w) c.loop-moved.passes c.loop-moved.moved) c.ways.view_is c.loop-moved.invariant in
     refusal_handed_on c.args.image.now c.args.listing.now c.from_residual-in_err-moved.result c.in_err-moved.field-0.0 c.from_residual-in_err-moved.ensures.1
-    (is_refusal c.args.image.now c.args.listing.now c.loop-moved.passes c.loop-moved.moved c.loop-moved.invariant c.in_err-moved.field-0.0 (table_of c.pass-answer.new.self.table) c.in_err-moved.ensures.gives)
+    (is_refusal c.args.image.now c.args.listing.now c.begin.ensures.in_range c.requires.spelled c.requires.kept (joins_at c.in_ok-ways.ways) c.in_ok-ways.ensures.joins c.loop-moved.passes c.loop-moved.moved on c.in_err-moved.field-0.0 _
+    (c.in_err-moved.ensures.gives on.whole on.before))
 
 pub returns-in_err-moved-clause-exact : goal.returns-in_err-moved-clause-exact
-returns-in_err-moved-clause-exact c = λ spelled.
-    none_respected c.args.image.now c.args.listing.now c.begin.ensures.in_range c.requires.kept spelled c.from_residual-in_err-moved.result (returns-in_err-moved-clause-refused c)
+returns-in_err-moved-clause-exact c =
+    none_respected c.args.image.now c.args.listing.now c.begin.ensures.in_range c.requires.kept c.requires.spelled c.from_residual-in_err-moved.result (returns-in_err-moved-clause-refused c)
 
 pub loop-moved-preserved : goal.loop-moved-preserved
 loop-moved-preserved c =
-    one_more c.args.image.now c.args.listing.now c.loop-moved.passes c.loop-moved.moved c.loop-moved.invariant c.pass-answer.new.self c.in_ok-moved.moved
-    c.loop-moved-test.true c.in_ok-moved.ensures.gives c.in_ok-moved.ensures.moves c.in_ok-moved.ensures.way c.in_ok-moved.ensures.taken c.in_ok-moved.ensures.rest
+    let on = subst (λ w. IsBetween c.args.image.now c.args.listing.now (joins_at w) c.loop-moved.passes c.loop-moved.moved) c.ways.view_is c.loop-moved.invariant in
+    subst (λ w. IsBetween c.args.image.now c.args.listing.now (joins_at w) c.pass-answer.new.self c.in_ok-moved.moved) (sym c.ways.view_is)
+    (one_more c.args.image.now c.args.listing.now c.begin.ensures.in_range c.requires.spelled c.requires.kept (joins_at c.in_ok-ways.ways) c.in_ok-ways.ensures.joins c.loop-moved.passes c.pass-answer.new.self c.loop-moved.moved c.in_ok-moved.moved on
+    c.in_ok-moved.ensures.rests c.in_ok-moved.ensures.moves c.in_ok-moved.ensures.gives)
+
+pub returns-clause-table : goal.returns-clause-table
+returns-clause-table c =
+    let on = subst (λ w. IsBetween c.args.image.now c.args.listing.now (joins_at w) c.loop-moved.passes c.loop-moved.moved) c.ways.view_is c.loop-moved.invariant in
+    is_table c.args.image.now c.args.listing.now c.begin.ensures.in_range c.requires.spelled c.requires.kept (joins_at c.in_ok-ways.ways) c.in_ok-ways.ensures.joins c.loop-moved.passes (keeps_at c.in_ok-ways.ways) _
+    (subst (IsBetween c.args.image.now c.args.listing.now (joins_at c.in_ok-ways.ways) c.loop-moved.passes) c.loop-moved-test.false on) c.in_ok-ways.ensures.keeps (search rules)
+
+pub returns-clause-sound : goal.returns-clause-sound
+returns-clause-sound c = are_sound c.args.image.now c.args.listing.now c.begin.ensures.in_range c.requires.spelled c.requires.kept (joins_at c.in_ok-ways.ways) c.in_ok-ways.ensures.joins _ (returns-clause-table c)

@@ -1,5 +1,11 @@
-use Rattle.tp_check.proofs.Passing.{Passed}
+use Rattle.tp_check.specs.Tables.{Table}
+use Rattle.tp_check.specs.Joining.{joins_at}
+use Rattle.tp_check.specs.UnderWay.{IsBefore, Moves}
+use Rattle.tp_check.proofs.Verdict.{Comes}
 use Rattle.tp_check.proofs.passes.Passes.pass.Given as goal
 
 abbrev pub invariant-loop-i : goal.invariant-loop-i
-invariant-loop-i l = Passed l.image l.listing l.initial.self l.self l.moved l.i
+invariant-loop-i l = record {
+  gives : (begun : Table) → IsBefore l.image l.listing (joins_at l.ways) l.initial.self 0 begun → Comes l.image l.listing (joins_at l.ways) l.initial.self l.self l.i begun;
+  moves : Moves l.image l.moved l.initial.self.slots l.self.slots;
+}

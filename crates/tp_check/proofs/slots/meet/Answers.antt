@@ -1,6 +1,6 @@
 use Rattle.std.proofs.Common.{sym, ◌∙◌}
 use Rattle.tp_check.proofs.Heights.{HasWords, joined_moves, first_moves}
-use Rattle.tp_check.proofs.table.meet.Goals as goal
+use Rattle.tp_check.proofs.slots.meet.Goals as goal
 
 pub returns-in-Ok-clause-moves : goal.returns-in-Ok-clause-moves
 returns-in-Ok-clause-moves c =

@@ -3,7 +3,7 @@ use Rattle.tp_state.specs.declared.state.State.{State}
 use Rattle.tp_state.specs.Entry.{entry}
 use Rattle.tp_check.specs.Tables.{table_of}
 use Rattle.tp_check.proofs.TableSteps.{table_first, table_push}
-use Rattle.tp_check.proofs.table.Table.first.Goals as goal
+use Rattle.tp_check.proofs.slots.Slots.first.Goals as goal
 
 pub loop-place-init : goal.loop-place-init
 loop-place-init c = record { sized = ap length states_are; value = ap table_of states_are ∙ table_first c.args.image.now }

@@ -1,0 +1,267 @@
+-- How control comes to addresses, edge by edge.
+use Rattle.std.proofs.Common.{◌≡◌, ◌≢◌, ℕ, zero, suc, ◌+◌, ◌<◌, ◌≤◌, ◌⊎◌, inl, inr, ◌==◌, ◌||◌, nat_le, if◌then◌else◌, Bool, true, false, List, [], ◌∷◌, ◌++◌, length, slice_get, slice_set, slice_index_or, get_or, drop, drop-cons, Some, None, refl, sym, ap, ◌∙◌, subst, arith, add-one, get_or-set_same, get_or-set_other}
+use Rattle.std.specs.Prelude.{All}
+use Rattle.std.specs.List.{list_any, flat_map}
+use Rattle.std.proofs.lemmas.Bool.{cases_eq}
+use Rattle.std.proofs.lemmas.Bool.Decides.{nat_tests}
+use Rattle.std.proofs.lemmas.Option.{same_Some, slice_get_within, get_or_from_slice_get}
+use Rattle.std.proofs.lemmas.List.{drop_all}
+use Rattle.std.proofs.lemmas.List.Concat.{flat_map-cons}
+use Rattle.tp_decode.proofs.NumberLemmas.{length-placed}
+use Rattle.tp_check.proofs.Respected.{way_there, left_among, right_among}
+use Rattle.std.proofs.lemmas.List.Sums.{sum_by-cons}
+use Rattle.tp_decode.specs.declared.placed.Placed.{Placed}
+use Rattle.tp_decode.specs.Cutting.{Cut, placed_from}
+use Rattle.tp_flow.specs.declared.edge.Edge.{Edge}
+use Rattle.tp_flow.specs.NestRanges.{ranges}
+use Rattle.tp_flow.specs.NestKept.{KeepsNest, IsLoop}
+use Rattle.tp_image.specs.Image.{ImageValue}
+use Rattle.tp_image.specs.declared.image.LoopRow.{LoopRow}
+use Rattle.tp_check.specs.declared.way.Way.{Way}
+use Rattle.tp_check.specs.declared.way.Way.TheVariants as way
+use Rattle.tp_check.specs.Passes.{from, edges_of, edges_in}
+use Rattle.tp_check.specs.Carried.{IsAmong, target_of, leads_to, reached, is_head, is_kept}
+use Rattle.tp_check.specs.Joining.{way_at, joins, keeps, joins_at, keeps_at, with_edge, IsInner, leading, Tells, TellWays}
+use Rattle.tp_check.specs.UnderWay.{AreJoins, HasPlaces}
+use Rattle.tp_check.proofs.Moving.{next_way}
+use Rattle.tp_check.proofs.Nests.{lone, count_one}
+
+-- ---- an edge is counted
+
+leading_cons : (image : ImageValue) (at : ℕ) (e : Placed × Edge) (rest : List (Placed × Edge)) → leading image at (e ∷ rest) ≡ (if leads_to at (target_of image e) then 1 else 0) + leading image at rest
+leading_cons image at e rest = sum_by-cons (λ x. if leads_to at (target_of image x) then 1 else 0) e rest
+
+leads_elsewhere : (image : ImageValue) (at : ℕ) (e : Placed × Edge) (rest : List (Placed × Edge)) → leads_to at (target_of image e) ≡ false → leading image at (e ∷ rest) ≡ leading image at rest
+leads_elsewhere image at e rest is = leading_cons image at e rest ∙ ap (λ b. (if b then 1 else 0) + leading image at rest) is ∙ none (leading image at rest)
+  where
+    none : (n : ℕ) → 0 + n ≡ n
+    none n = omega arith
+
+tells_same : (image : ImageValue) (cuts : List Cut) (at : ℕ) (more rest : List (Placed × Edge)) → leading image at more ≡ leading image at rest → (w : Way) → Tells image cuts more at w → Tells image cuts rest at w
+tells_same image cuts at more rest same way.Joined tells = tells
+tells_same image cuts at more rest same way.Unreached tells = (tells.0, tells.1 ∙ same)
+tells_same image cuts at more rest same way.Jump tells = (tells.0, tells.1 ∙ ap suc same)
+tells_same image cuts at more rest same way.Fall tells = (tells.0, tells.1 ∙ ap suc same, tells.2)
+
+or_last : (p q r : Bool) → r ≡ true → (p || q || r) ≡ true
+or_last true q r is = refl
+or_last false true r is = refl
+or_last false false r is = is
+
+two_kept : (image : ImageValue) (cuts : List Cut) (at n : ℕ) → reached image cuts at ≡ suc (suc n) → is_kept image cuts at ≡ true
+two_kept image cuts at n is = or_last (at == 0) (is_head image at) (nat_le 2 (reached image cuts at)) (two (reached image cuts at) is)
+  where
+    two : (m : ℕ) → m ≡ suc (suc n) → nat_le 2 m ≡ true
+    two m is = grind (arith, nat_tests)
+
+module _ (image : ImageValue) (cuts : List Cut) (e : Placed × Edge) (rest : List (Placed × Edge)) (ways : List Way) (tells : TellWays image cuts (e ∷ rest) ways) where
+  pub counted_nowhere : target_of image e ≡ None → TellWays image cuts rest ways
+  counted_nowhere leads at = tells_same image cuts at (e ∷ rest) rest (leads_elsewhere image at e rest (ap (leads_to at) leads)) (way_at ways at) (tells at)
+
+  module _ (one : IsAmong (edges_in cuts) e) (to : ℕ) (leads : target_of image e ≡ Some to) (inside : to < length ways) where
+    one_more : leading image to (e ∷ rest) ≡ suc (leading image to rest)
+    one_more = leading_cons image to e rest ∙ ap (λ b. (if b then 1 else 0) + leading image to rest) (ap (leads_to to) leads ∙ here) ∙ counts (leading image to rest)
+      where
+        here : (to == to) ≡ true
+        here = grind (arith, nat_tests)
+
+        counts : (n : ℕ) → 1 + n ≡ suc n
+        counts n = omega arith
+
+    there : (w : Way) → Tells image cuts (e ∷ rest) to w → (b : Bool) → (to == e.0.next) ≡ b → Tells image cuts rest to (with_edge b w)
+    there way.Joined tells b is = tells
+    there way.Jump tells b is = two_kept image cuts to (leading image to rest) (tells.1 ∙ ap suc one_more)
+    there way.Fall tells b is = two_kept image cuts to (leading image to rest) (tells.1 ∙ ap suc one_more)
+    there way.Unreached tells false is = (tells.0, tells.1 ∙ one_more)
+    there way.Unreached tells true is = (tells.0, tells.1 ∙ one_more, record { edge = e; is = one; leads = leads; falls = same })
+      where
+        same : to ≡ e.0.next
+        same = grind (arith, nat_tests)
+
+    pub counted_there : TellWays image cuts rest (slice_set ways to (with_edge (to == e.0.next) (way_at ways to)))
+    counted_there at = by_place (cases_eq at to)
+      where
+        by_place : (at ≡ to) ⊎ (at ≡ to → ⊥) → Tells image cuts rest at (way_at (slice_set ways to (with_edge (to == e.0.next) (way_at ways to))) at)
+        by_place (inl same) =
+            subst (λ x. Tells image cuts rest x (way_at (slice_set ways to (with_edge (to == e.0.next) (way_at ways to))) x)) (sym same)
+            (subst (Tells image cuts rest to) (sym (get_or-set_same ways to (with_edge (to == e.0.next) (way_at ways to)) way.Unreached inside)) (there (way_at ways to) (tells to) (to == e.0.next) refl))
+        by_place (inr other) =
+            subst (Tells image cuts rest at) (sym (get_or-set_other ways to at (with_edge (to == e.0.next) (way_at ways to)) way.Unreached other))
+            (tells_same image cuts at (e ∷ rest) rest (leads_elsewhere image at e rest (ap (leads_to at) leads ∙ no other)) (way_at ways at) (tells at))
+          where
+            no : (at ≡ to → ⊥) → (to == at) ≡ false
+            no other = grind (arith, nat_tests)
+
+next_counted : (image : ImageValue) (cuts : List Cut) (p : Placed) (edges : List Edge) (i : ℕ) (d : Edge) → i < length edges → (rest : List (Placed × Edge)) (ways : List Way) → TellWays image cuts (from p (drop i edges) ++ rest) ways → TellWays image cuts ((p, get_or edges i d) ∷ (from p (drop (i + 1) edges) ++ rest)) ways
+next_counted image cuts p edges i d inside rest ways tells = subst (λ es. TellWays image cuts (es ++ rest) ways) (next_way p edges i d inside) tells
+
+any_way : (ways : List Way) (to : ℕ) (d : Way) → to < length ways → slice_index_or ways to d ≡ way_at ways to
+any_way [] to d lt = absurd (omega (arith, lt))
+any_way (w ∷ ways) zero d lt = refl
+any_way (w ∷ ways) (suc to) d lt = any_way ways to d (omega (arith, lt))
+
+-- an edge of an instruction, among those that are asked
+module _ (image : ImageValue) (cuts : List Cut) (p : Placed) (edges asks : List Edge) (same : edges ≡ asks) (i : ℕ) (d : Edge) (inside : i < length edges) (rest : List (Placed × Edge)) (ways : List Way)
+    (among : (e : Placed × Edge) → IsAmong (from p asks) e → IsAmong (edges_in cuts) e) (tells : TellWays image cuts (from p (drop i asks) ++ rest) ways) where
+  same_edge : slice_index_or edges i d ≡ get_or asks i d
+  same_edge = ap (λ xs. slice_index_or xs i d) same
+
+  less : i < length asks
+  less = subst (λ xs. i < length xs) same inside
+
+  one : IsAmong (edges_in cuts) (p, slice_index_or edges i d)
+  one = subst (λ e. IsAmong (edges_in cuts) (p, e)) (sym same_edge) (among (p, get_or asks i d) (i, way_there p asks i d less))
+
+  here : TellWays image cuts ((p, slice_index_or edges i d) ∷ (from p (drop (i + 1) asks) ++ rest)) ways
+  here = subst (λ e. TellWays image cuts ((p, e) ∷ (from p (drop (i + 1) asks) ++ rest)) ways) (sym same_edge) (next_counted image cuts p asks i d less rest ways tells)
+
+  pub next_nowhere : target_of image (p, slice_index_or edges i d) ≡ None → TellWays image cuts (from p (drop (i + 1) asks) ++ rest) ways
+  next_nowhere leads = counted_nowhere image cuts (p, slice_index_or edges i d) (from p (drop (i + 1) asks) ++ rest) ways here leads
+
+  pub next_there : (to : ℕ) → target_of image (p, slice_index_or edges i d) ≡ Some to → ((edge : Edge) (to : ℕ) → target_of image (p, edge) ≡ Some to → to < length ways) → (w new default : Way) → w ≡ slice_index_or ways to default → new ≡ with_edge (to == p.next) w → TellWays image cuts (from p (drop (i + 1) asks) ++ rest) (slice_set ways to new)
+  next_there to leads within w new default was is =
+      subst (λ x. TellWays image cuts (from p (drop (i + 1) asks) ++ rest) (slice_set ways to x)) (sym (is ∙ ap (with_edge (to == p.next)) (was ∙ any_way ways to default (within (slice_index_or edges i d) to leads))))
+      (counted_there image cuts (p, slice_index_or edges i d) (from p (drop (i + 1) asks) ++ rest) ways here one to leads (within (slice_index_or edges i d) to leads))
+
+-- the edges of an instruction are those of a code
+pub among_of : (ps : List Placed) (i : ℕ) (p : Placed) → slice_get ps i ≡ Some p → (e : Placed × Edge) → IsAmong (edges_of p) e → IsAmong (flat_map edges_of ps) e
+among_of [] i p is e among = absurd cc
+among_of (q ∷ ps) zero p is e (k, there) =
+    let same : q ≡ p = same_Some q p is in
+    rw (flat_map-cons edges_of q ps, same) (k, left_among (edges_of p) (flat_map edges_of ps) k e there)
+among_of (q ∷ ps) (suc i) p is e among = rw (flat_map-cons edges_of q ps) (right_among (edges_of q) (flat_map edges_of ps) e (among_of ps i p is e among))
+
+pub next_instruction : (cuts : List Cut) (i : ℕ) (p : Placed) → slice_get (placed_from 0 cuts) i ≡ Some p → flat_map edges_of (drop i (placed_from 0 cuts)) ≡ edges_of p ++ flat_map edges_of (drop (i + 1) (placed_from 0 cuts))
+next_instruction cuts i p is =
+    ap (flat_map edges_of) (drop-cons (placed_from 0 cuts) i p (slice_get_within (placed_from 0 cuts) i p is) ∙ ap (λ q. q ∷ drop (suc i) (placed_from 0 cuts)) (get_or_from_slice_get (placed_from 0 cuts) i p p is) ∙ ap (λ n. p ∷ drop n (placed_from 0 cuts)) (sym (add-one i)))
+    ∙ flat_map-cons edges_of p (drop (i + 1) (placed_from 0 cuts))
+
+pub no_instructions : (cuts : List Cut) (i : ℕ) → length cuts ≤ i → flat_map edges_of (drop i (placed_from 0 cuts)) ≡ []
+no_instructions cuts i end = ap (flat_map edges_of) (drop_all i (placed_from 0 cuts) (omega (arith, end, length-placed 0 cuts)))
+
+-- ---- before any edge is counted
+
+-- so many loops' heads are marked
+abbrev pub Begun : ImageValue → ℕ → ℕ → Way → Type 0
+Begun image k at way.Joined = ((at == 0) || is_head image at) ≡ true
+Begun image k at way.Unreached = ((at == 0) ≡ false) × ((i : ℕ) (d : LoopRow) → i < k → (get_or image.loops i d).head ≢ at)
+Begun image k at way.Fall = ⊥
+Begun image k at way.Jump = ⊥
+
+head_among : (rows : List LoopRow) (i : ℕ) (d : LoopRow) → i < length rows → (at : ℕ) → (get_or rows i d).head ≡ at → list_any (λ range. range.head == at) (ranges rows) ≡ true
+head_among [] i d lt at is = absurd (omega (arith, lt))
+head_among (r ∷ rows) zero d lt at is = let here : (r.head == at) ≡ true = grind (arith, nat_tests) in rw here refl
+head_among (r ∷ rows) (suc i) d lt at is = by_test (r.head == at) (head_among rows i d (omega (arith, lt)) at is)
+  where
+    by_test : (b : Bool) → list_any (λ range. range.head == at) (ranges rows) ≡ true → (b || list_any (λ range. range.head == at) (ranges rows)) ≡ true
+    by_test true go = refl
+    by_test false go = go
+
+no_head : (rows : List LoopRow) (at : ℕ) → ((i : ℕ) (d : LoopRow) → i < length rows → (get_or rows i d).head ≢ at) → list_any (λ range. range.head == at) (ranges rows) ≡ false
+no_head [] at none = refl
+no_head (r ∷ rows) at none =
+    let here : (r.head == at) ≡ false = differs r.head (none 0 r (omega arith)) in
+    rw here (no_head rows at (λ i d lt. none (suc i) d (omega (arith, lt))))
+  where
+    differs : (h : ℕ) → h ≢ at → (h == at) ≡ false
+    differs h other = grind (arith, nat_tests)
+
+or_right : (p q : Bool) → q ≡ true → (p || q) ≡ true
+or_right true q is = refl
+or_right false q is = is
+
+-- a head more
+pub begun_more : (image : ImageValue) (k : ℕ) (d : LoopRow) → k < length image.loops → (ways : List Way) → (get_or image.loops k d).head < length ways → ((at : ℕ) → Begun image k at (way_at ways at)) → (at : ℕ) → Begun image (k + 1) at (way_at (slice_set ways (get_or image.loops k d).head way.Joined) at)
+begun_more image k d lt ways inside begun at = by_place (cases_eq at (get_or image.loops k d).head)
+  where
+    same_row : (rows : List LoopRow) (k i : ℕ) (d c : LoopRow) → k < length rows → i ≡ k → get_or rows i c ≡ get_or rows k d
+    same_row rows k i d c lt same = ap (λ n. get_or rows n c) same ∙ any_default rows k d c lt
+      where
+        any_default : (rows : List LoopRow) (k : ℕ) (d c : LoopRow) → k < length rows → get_or rows k c ≡ get_or rows k d
+        any_default [] k d c lt = absurd (omega (arith, lt))
+        any_default (r ∷ rows) zero d c lt = refl
+        any_default (r ∷ rows) (suc k) d c lt = any_default rows k d c (omega (arith, lt))
+
+    keeps_on : (w : Way) → at ≢ (get_or image.loops k d).head → Begun image k at w → Begun image (k + 1) at w
+    keeps_on way.Joined other is = is
+    keeps_on way.Unreached other is = (is.0, λ i c less. by_number i c less (cases_eq i k))
+      where
+        by_number : (i : ℕ) (c : LoopRow) → i < k + 1 → (i ≡ k) ⊎ (i ≡ k → ⊥) → (get_or image.loops i c).head ≢ at
+        by_number i c less (inl same) = λ here. other (sym here ∙ ap (λ (r : LoopRow). r.head) (same_row image.loops k i d c lt same))
+        by_number i c less (inr differs) = is.1 i c (omega (arith, less, differs))
+    keeps_on way.Fall other is = absurd is
+    keeps_on way.Jump other is = absurd is
+
+    by_place : (at ≡ (get_or image.loops k d).head) ⊎ (at ≡ (get_or image.loops k d).head → ⊥) → Begun image (k + 1) at (way_at (slice_set ways (get_or image.loops k d).head way.Joined) at)
+    by_place (inl same) =
+        subst (λ x. Begun image (k + 1) x (way_at (slice_set ways (get_or image.loops k d).head way.Joined) x)) (sym same)
+        (subst (Begun image (k + 1) (get_or image.loops k d).head) (sym (get_or-set_same ways (get_or image.loops k d).head way.Joined way.Unreached inside))
+        (or_right ((get_or image.loops k d).head == 0) (is_head image (get_or image.loops k d).head) (head_among image.loops k d lt (get_or image.loops k d).head refl)))
+    by_place (inr other) = subst (Begun image (k + 1) at) (sym (get_or-set_other ways (get_or image.loops k d).head at way.Joined way.Unreached other)) (keeps_on (way_at ways at) other (begun at))
+
+pub begun_next : (image : ImageValue) (cuts : List Cut) (rows : List LoopRow) → rows ≡ image.loops → (k : ℕ) (d : LoopRow) → k < length rows → (ways : List Way) (places : ℕ) → length ways ≡ places → All (IsLoop cuts) image.loops → HasPlaces cuts places
+    → ((at : ℕ) → Begun image k at (way_at ways at)) → (at : ℕ) → Begun image (k + 1) at (way_at (slice_set ways (slice_index_or rows k d).head way.Joined) at)
+begun_next image cuts rows same k d lt ways places sized loops inside begun at =
+    subst (λ xs. Begun image (k + 1) at (way_at (slice_set ways (get_or xs k d).head way.Joined) at)) (sym same)
+    (begun_more image k d less ways (let head = inside (get_or image.loops k d).head (loops k d less).head in omega (arith, head, sized)) begun at)
+  where
+    less : k < length image.loops
+    less = subst (λ xs. k < length xs) same lt
+
+pub begun_all : (image : ImageValue) (cuts : List Cut) (k : ℕ) → length image.loops ≤ k → (ways : List Way) → ((at : ℕ) → Begun image k at (way_at ways at)) → TellWays image cuts (edges_in cuts) ways
+begun_all image cuts k end ways begun at = tells (way_at ways at) (begun at)
+  where
+    or_both : (p q r : Bool) → (p || q) ≡ true → (p || q || r) ≡ true
+    or_both true q r is = refl
+    or_both false true r is = refl
+    or_both false false r is = absurd cc
+
+    tells : (w : Way) → Begun image k at w → Tells image cuts (edges_in cuts) at w
+    tells way.Joined is = or_both (at == 0) (is_head image at) (nat_le 2 (reached image cuts at)) is
+    tells way.Unreached is = (record { first = is.0; head = no_head image.loops at (λ i d lt. is.1 i d (omega (arith, lt, end))) }, refl)
+    tells way.Fall is = absurd is
+    tells way.Jump is = absurd is
+
+-- ---- after all edges
+
+module _ (image : ImageValue) (cuts : List Cut) (ways : List Way) (tells : TellWays image cuts [] ways) where
+  not_kept : (at n : ℕ) → IsInner image at → reached image cuts at ≡ n → n < 2 → false ≡ is_kept image cuts at
+  not_kept at n inner is few = rw (inner.first, inner.head, is) (sym (less n few))
+    where
+      less : (n : ℕ) → n < 2 → nat_le 2 n ≡ false
+      less n few = grind (arith, nat_tests)
+
+  pub are_keeps : (at : ℕ) → keeps_at ways at ≡ is_kept image cuts at
+  are_keeps at = by_way (way_at ways at) (tells at)
+    where
+      by_way : (w : Way) → Tells image cuts [] at w → keeps w ≡ is_kept image cuts at
+      by_way way.Joined is = sym is
+      by_way way.Unreached is = not_kept at 0 is.0 is.1 (omega arith)
+      by_way way.Jump is = not_kept at 1 is.0 is.1 (omega arith)
+      by_way way.Fall is = not_kept at 1 is.0 is.1 (omega arith)
+
+  are_wide : (at : ℕ) → joins_at ways at ≡ false → is_kept image cuts at ≡ false
+  are_wide at alone = sym (are_keeps at) ∙ by_way (way_at ways at) alone
+    where
+      by_way : (w : Way) → joins w ≡ false → keeps w ≡ false
+      by_way way.Unreached is = refl
+      by_way way.Fall is = refl
+      by_way way.Jump is = absurd cc
+      by_way way.Joined is = absurd cc
+
+  pub are_joins : KeepsNest image.loops image.workspace cuts → AreJoins image cuts (joins_at ways)
+  are_joins kept = record { wide = are_wide; lone = lone image cuts kept (joins_at ways) are_wide; falls = λ e to one alone leads. by_way e to one alone leads (way_at ways to) refl (tells to) }
+    where
+      by_way : (e : Placed × Edge) (to : ℕ) → IsAmong (edges_in cuts) e → joins_at ways to ≡ false → target_of image e ≡ Some to → (w : Way) → way_at ways to ≡ w → Tells image cuts [] to w → to ≡ e.0.next
+      by_way e to one alone leads way.Unreached same is =
+          let here : leads_to to (target_of image e) ≡ true = ap (leads_to to) leads ∙ itself in
+          let some = count_one (λ g. leads_to to (target_of image g)) (edges_in cuts) one.0 e one.1 here in
+          absurd (let none = is.1 in omega (arith, some, none))
+        where
+          itself : (to == to) ≡ true
+          itself = grind (arith, nat_tests)
+      by_way e to one alone leads way.Fall same is =
+          let edges : e ≡ is.2.edge = (lone image cuts kept (joins_at ways) are_wide).one e is.2.edge to one is.2.is alone leads is.2.leads in
+          is.2.falls ∙ sym (ap (λ (g : Placed × Edge). g.0.next) edges)
+      by_way e to one alone leads way.Jump same is = absurd (let no : true ≡ false = sym (ap joins same) ∙ alone in cc)
+      by_way e to one alone leads way.Joined same is = absurd (let no : true ≡ false = sym (ap joins same) ∙ alone in cc)

@@ -1,0 +1,226 @@
+-- What an edge that is taken leaves under way.
+use Rattle.std.proofs.Common.{◌≡◌, ◌≢◌, ℕ, ◌+◌, ◌<◌, ◌⊎◌, inl, inr, ◌==◌, ◌&&◌, if◌then◌else◌, Bool, true, false, [], ◌∷◌, length, slice_set, slice_index_or, Option, Some, None, Result, Ok, Err, refl, sym, ap, ◌∙◌, subst, rules, arith, length-set, get_or-set_same, get_or-set_other}
+use Rattle.std.specs.Prelude.{IfOk, IfSome}
+use Rattle.std.proofs.lemmas.Bool.{cases_eq}
+use Rattle.std.proofs.lemmas.Bool.Decides.{nat_tests}
+use Rattle.tp_decode.specs.declared.placed.Placed.{Placed}
+use Rattle.tp_decode.specs.Cutting.{Cut, cut_at, placed_from}
+use Rattle.tp_decode.proofs.NumberLemmas.{placed as placed_cut}
+use Rattle.tp_flow.specs.declared.edge.Edge.{Edge}
+use Rattle.tp_image.specs.Image.{ImageValue}
+use Rattle.tp_state.specs.declared.state.State.{State}
+use Rattle.tp_state.specs.declared.fault.StateFault.{StateFault}
+use Rattle.tp_state.specs.declared.fault.StateFault.TheVariants.{Refused, Memory}
+use Rattle.tp_state.specs.Conditions.{IsPlaced}
+use Rattle.tp_state.specs.After.{after}
+use Rattle.tp_check.specs.declared.passes.Passes.{Passes}
+use Rattle.tp_check.specs.Tables.{Table, table_of, with_state, asked}
+use Rattle.tp_check.specs.Passes.{enter, edges_in}
+use Rattle.tp_check.specs.Carried.{target_of, over, IsAmong}
+use Rattle.tp_check.specs.UnderWay.{IsStateAt, MayBeTaken, is_in, IsTaken, TakenAt, marks, IsUnderWay, IsAmidst, AreAmidst, Carries, Gives, Moves, marked}
+use Rattle.tp_check.proofs.Entering.{Entered, entered, elsewhere, grows}
+use Rattle.tp_check.proofs.Taking.{arrives_at}
+use Rattle.tp_check.proofs.Moving.{way_more}
+use Rattle.tp_check.proofs.Respected.{edge_there}
+use Rattle.tp_check.proofs.Settling.{Keeps, among, differ_too, enters_alike, refuses_alike, with_there, with_elsewhere, over_nowhere, over_joined, over_alone, settled_nowhere, taken_joined, settled_joined, taken_alone, settled_alone, grows_alone}
+
+pub same_marks : (joins : ℕ → Bool) (old new : Passes) (ahead x : ℕ) → new.changed.items ≡ old.changed.items → new.is_carried ≡ old.is_carried → marks joins new ahead x ≡ marks joins old ahead x
+same_marks joins old new ahead x changed carried = rw (changed, carried) refl
+
+pub not_both : (x y : ℕ) (b : Bool) → x ≢ y → ((x == y) && b) ≡ false
+not_both x y b other = let no : (x == y) ≡ false = grind (arith, nat_tests) in ap (λ c. c && b) no
+
+not_same : (x y : ℕ) → ((x == y) && true) ≡ false → x ≢ y
+not_same x y e same = let yes : (x == y) ≡ true = grind (arith, nat_tests) in absurd (let no : true ≡ false = sym (ap (λ c. c && true) yes) ∙ e in cc)
+
+-- all but the marks, the states that are kept and the working states is as before
+pub record IsAfter (old new : Passes) : Type 0 where
+  pub carried : new.carried ≡ old.carried
+  pub is_carried : new.is_carried ≡ old.is_carried
+  pub ahead : new.ahead ≡ old.ahead
+
+module _ (image : ImageValue) (joins : ℕ → Bool) (old : Passes) (place : Placed) (edge : Edge) (done : ℕ) (amid : AreAmidst image joins old place done)
+    (lt : done < length (asked place.instr)) (at_edge : slice_index_or (asked place.instr) done edge ≡ edge) (may : MayBeTaken image (length old.slots) place)
+    (v : State) (goes : after image place.at place.next place.instr edge old.carried ≡ Ok v) (fits : IsPlaced image v) where
+  abbrev whole : Table
+  whole = amid.whole
+
+  own_edge : (k : ℕ) (d : Edge) → k < length (asked place.instr) → IsAmong (edges_in amid.cuts) (place, slice_index_or (asked place.instr) k d)
+  own_edge k d less = edge_there (placed_from 0 amid.cuts) amid.number place amid.stands k d less
+
+  one : IsAmong (edges_in amid.cuts) (place, edge)
+  one = subst (λ e. IsAmong (edges_in amid.cuts) (place, e)) at_edge (own_edge done edge lt)
+
+  -- the edges that have been taken, and this one
+  all_own : (later : ℕ → Bool) (new : Table) → ((way : Edge) → IsAmong (edges_in amid.cuts) (place, way) → IsTaken image joins (marks joins old place.next) amid.whole place.at place.next place.instr way → IsTaken image joins later new place.at place.next place.instr way)
+      → IsTaken image joins later new place.at place.next place.instr edge
+      → (k : ℕ) (d : Edge) → k < done + 1 → IsTaken image joins later new place.at place.next place.instr (slice_index_or (asked place.instr) k d)
+  all_own later new still settled =
+      way_more (IsTaken image joins later new place.at place.next place.instr) (asked place.instr) done edge lt
+      (λ k d less. still (slice_index_or (asked place.instr) k d) (own_edge k d (omega (arith, less, lt))) (amid.amidst.own k d less))
+      (subst (IsTaken image joins later new place.at place.next place.instr) (sym at_edge) settled)
+
+  all_others : (later : ℕ → Bool) (new : Table) → ((q : Placed) (way : Edge) → IsAmong (edges_in amid.cuts) (q, way) → IsTaken image joins (marks joins old place.next) amid.whole q.at q.next q.instr way → IsTaken image joins later new q.at q.next q.instr way)
+      → (x : ℕ) (cut : Cut) → x ≢ place.at → cut_at amid.cuts x ≡ Some cut → TakenAt image joins later new x cut
+  all_others later new still x cut other stands k d less =
+      still (placed_cut x cut) (slice_index_or (asked cut.instr) k d) (among amid.cuts x cut stands k d less) (amid.amidst.others x cut other stands k d less)
+
+  -- it leads nowhere
+  pub nowhere : (new : Passes) → new.slots ≡ old.slots → new.changed.items ≡ old.changed.items → IsAfter old new → new.outcome ≡ v → target_of image (place, edge) ≡ None
+      → Carries {X = Bool} (Ok false) (over image joins ((place, edge) ∷ []) amid.whole) (IsAmidst image amid.cuts joins new place (done + 1))
+  nowhere new slots changed rest outcome leads = (
+    amid.whole,
+    over_nowhere image joins place edge amid.whole old.carried amid.amidst.here v goes leads,
+    record {
+      way = record {
+        flags = ap length changed ∙ amid.amidst.way.flags ∙ ap length (sym slots);
+        carried = rw rest.carried amid.amidst.way.carried;
+        ahead = rw rest.ahead amid.amidst.way.ahead;
+        outcome = rw outcome fits;
+        slots = λ at is. amid.amidst.way.slots at is ∙ ap (λ states. table_of states at) (sym slots);
+        grown = amid.amidst.way.grown;
+      };
+      here = rw rest.carried amid.amidst.here;
+      next = λ sure. let before = amid.amidst.next (sym rest.is_carried ∙ sure) in (before.0, before.1 ∙ ap Some (sym rest.ahead));
+      others = all_others (marks joins new place.next) amid.whole (λ q way is taken. λ mark. taken (keeps q.at mark).0);
+      own = all_own (marks joins new place.next) amid.whole (λ way is taken. λ mark. taken (keeps place.at mark).0)
+          (settled_nowhere image amid.cuts joins amid.join place edge one amid.whole amid.amidst.way.grown old.carried v amid.amidst.here goes (marks joins old place.next) (marks joins new place.next) keeps leads);
+    },
+  )
+    where
+      keeps : Keeps (marks joins old place.next) (marks joins new place.next) amid.whole amid.whole
+      keeps x mark = (sym (same_marks joins old new place.next x changed rest.is_carried) ∙ mark, refl)
+
+  module _ (to : ℕ) (leads : target_of image (place, edge) ≡ Some to) where
+    stands_there : IsStateAt image to v
+    stands_there = arrives_at image place edge (length old.slots) to amid.whole old.carried v may amid.amidst.way.grown amid.amidst.here goes fits leads
+
+    inside : to < length old.changed.items
+    inside = let le = may.targets edge to leads in let long = amid.amidst.way.flags in omega (arith, le, long)
+
+    -- it leads to where edges join
+    module _ (is_joined : joins to ≡ true) (new : Passes) (rest : IsAfter old new) (outcome : new.outcome ≡ v) where
+      module _ (moved : Bool) (comes : enter (Some to) v (table_of old.slots) ≡ Ok (table_of new.slots)) (flags : new.changed.items ≡ marked moved to old.changed.items) (moves : Moves image moved old.slots new.slots) where
+        same_there : amid.whole to ≡ table_of old.slots to
+        same_there = amid.amidst.way.slots to is_joined
+
+        module _ (table : Table) (it : Entered amid.whole to v table) (made : (x : ℕ) → joins x ≡ true → table x ≡ table_of new.slots x) where
+          stays : moved ≡ false → (x : ℕ) → table x ≡ amid.whole x
+          stays still x = by_place (cases_eq x to)
+            where
+              by_place : (x ≡ to) ⊎ (x ≡ to → ⊥) → table x ≡ amid.whole x
+              by_place (inl same) = ap table same ∙ made to is_joined ∙ ap (λ states. table_of states to) (moves.stays still) ∙ sym same_there ∙ ap amid.whole (sym same)
+              by_place (inr other) = elsewhere amid.whole to v table x it other
+
+          keeps : Keeps (marks joins old place.next) (marks joins new place.next) amid.whole table
+          keeps x mark = by_move moved refl (joins x) refl
+            where
+              old_mark : Bool → Bool
+              old_mark b = if b then is_in old.changed.items x else (x == place.next) && old.is_carried
+
+              new_mark : (m b : Bool) → moved ≡ m → joins x ≡ b → (if b then is_in (marked m to old.changed.items) x else (x == place.next) && old.is_carried) ≡ false
+              new_mark m b e f = ap (λ c. if c then is_in (marked m to old.changed.items) x else (x == place.next) && old.is_carried) (sym f)
+                  ∙ ap (λ n. if joins x then is_in (marked n to old.changed.items) x else (x == place.next) && old.is_carried) (sym e)
+                  ∙ sym (ap (λ items. if joins x then is_in items x else (x == place.next) && old.is_carried) flags)
+                  ∙ sym (ap (λ c. if joins x then is_in new.changed.items x else (x == place.next) && c) rest.is_carried) ∙ mark
+
+              at_place : (x ≡ to) ⊎ (x ≡ to → ⊥) → slice_index_or (slice_set old.changed.items to true) x false ≡ false → (is_in old.changed.items x ≡ false) × (table x ≡ amid.whole x)
+              at_place (inl same) rests =
+                  let set : slice_index_or (slice_set old.changed.items to true) to false ≡ true = get_or-set_same old.changed.items to true false inside in
+                  absurd (let no : true ≡ false = sym set ∙ sym (ap (λ y. slice_index_or (slice_set old.changed.items to true) y false) same) ∙ rests in cc)
+              at_place (inr other) rests = (sym (get_or-set_other old.changed.items to x true false other) ∙ rests, elsewhere amid.whole to v table x it other)
+
+              by_move : (m : Bool) → moved ≡ m → (b : Bool) → joins x ≡ b → (marks joins old place.next x ≡ false) × (table x ≡ amid.whole x)
+              by_move false e b f = (ap old_mark f ∙ new_mark false b e f, stays e x)
+              by_move true e true f = let done = at_place (cases_eq x to) (new_mark true true e f) in (ap old_mark f ∙ done.0, done.1)
+              by_move true e false f = (ap old_mark f ∙ new_mark true false e f, elsewhere amid.whole to v table x it (λ same. absurd (let no : false ≡ true = sym f ∙ ap joins same ∙ is_joined in cc)))
+
+          amidst_joined : IsAmidst image amid.cuts joins new place (done + 1) table
+          amidst_joined = record {
+            way = record {
+              flags = ap length flags ∙ long moved ∙ amid.amidst.way.flags ∙ sym moves.sized;
+              carried = rw rest.carried amid.amidst.way.carried;
+              ahead = rw rest.ahead amid.amidst.way.ahead;
+              outcome = rw outcome fits;
+              slots = made;
+              grown = grows image amid.whole to v amid.amidst.way.grown stands_there table it;
+            };
+            here = elsewhere amid.whole to v table place.at it (λ same. may.elsewhere edge to leads (sym same)) ∙ rw rest.carried amid.amidst.here;
+            next = λ sure. let before = amid.amidst.next (sym rest.is_carried ∙ sure) in (before.0, elsewhere amid.whole to v table place.next it (λ same. absurd (let no : false ≡ true = sym before.0 ∙ ap joins same ∙ is_joined in cc)) ∙ before.1 ∙ ap Some (sym rest.ahead));
+            others = all_others (marks joins new place.next) table (λ q way is taken. taken_joined image amid.cuts joins amid.join place edge one amid.whole amid.amidst.way.grown old.carried v amid.amidst.here goes to leads stands_there is_joined table it (marks joins old place.next) (marks joins new place.next) keeps q.at q.next q.instr way taken);
+            own = all_own (marks joins new place.next) table (λ way is taken. taken_joined image amid.cuts joins amid.join place edge one amid.whole amid.amidst.way.grown old.carried v amid.amidst.here goes to leads stands_there is_joined table it (marks joins old place.next) (marks joins new place.next) keeps place.at place.next place.instr way taken)
+                (settled_joined image amid.cuts joins amid.join place edge one amid.whole amid.amidst.way.grown old.carried v amid.amidst.here goes to leads stands_there is_joined table it (marks joins old place.next) (marks joins new place.next) keeps);
+          }
+            where
+              long : (b : Bool) → length (marked b to old.changed.items) ≡ length old.changed.items
+              long true = length-set old.changed.items to true
+              long false = refl
+
+        at_join : Carries {X = Bool} (Ok moved) (over image joins ((place, edge) ∷ []) amid.whole) (IsAmidst image amid.cuts joins new place (done + 1))
+        at_join =
+            let alike = enters_alike to v amid.whole (table_of old.slots) (table_of new.slots) same_there comes in
+            let gives = over_joined image joins place edge amid.whole old.carried amid.amidst.here v goes to leads is_joined ∙ alike.enters in
+            let e = entered amid.whole to v (with_state to alike.state amid.whole) alike.enters in
+            (with_state to alike.state amid.whole, gives, amidst_joined (with_state to alike.state amid.whole) e (λ x is. at_place alike.state alike.is x is (cases_eq x to)))
+          where
+            at_place : (u : State) → table_of new.slots ≡ with_state to u (table_of old.slots) → (x : ℕ) → joins x ≡ true → (x ≡ to) ⊎ (x ≡ to → ⊥) → with_state to u amid.whole x ≡ table_of new.slots x
+            at_place u made x is (inl same) = ap (with_state to u amid.whole) same ∙ with_there to u amid.whole ∙ sym (with_there to u (table_of old.slots)) ∙ ap (with_state to u (table_of old.slots)) (sym same) ∙ sym (ap (λ (t : Table). t x) made)
+            at_place u made x is (inr other) = with_elsewhere to u amid.whole x other ∙ amid.amidst.way.slots x is ∙ sym (with_elsewhere to u (table_of old.slots) x other) ∙ sym (ap (λ (t : Table). t x) made)
+
+      pub to_join : (r : Result Bool StateFault) → Gives r (table_of new.slots) (enter (Some to) v (table_of old.slots)) → IfOk r (λ moved. new.changed.items ≡ marked moved to old.changed.items) → IfOk r (λ moved. Moves image moved old.slots new.slots)
+          → Carries r (over image joins ((place, edge) ∷ []) amid.whole) (IsAmidst image amid.cuts joins new place (done + 1))
+      to_join (Ok moved) gives flags moves = at_join moved gives flags moves
+      to_join (Err (Refused code at)) gives flags moves =
+          over_joined image joins place edge amid.whole old.carried amid.amidst.here v goes to leads is_joined ∙ refuses_alike to v amid.whole (table_of old.slots) (Refused code at) (amid.amidst.way.slots to is_joined) gives
+      to_join (Err Memory) gives flags moves = tt
+
+    -- it alone leads there: control falls to the next instruction
+    module _ (is_alone : joins to ≡ false) (new : Passes) (slots : new.slots ≡ old.slots) (changed : new.changed.items ≡ old.changed.items) (carried : new.carried ≡ old.carried) (is_carried : new.is_carried ≡ true) (ahead : new.ahead ≡ v) (outcome : IsPlaced image new.outcome) where
+      falls : to ≡ place.next
+      falls = amid.join.falls (place, edge) to one is_alone leads
+
+      keeps_alone : Keeps (marks joins old place.next) (marks joins new place.next) amid.whole (with_state to v amid.whole)
+      keeps_alone x mark = by_join (joins x) refl
+        where
+          old_mark : Bool → Bool
+          old_mark b = if b then is_in old.changed.items x else (x == place.next) && old.is_carried
+
+          new_mark : (b : Bool) → joins x ≡ b → (if b then is_in old.changed.items x else (x == place.next) && true) ≡ false
+          new_mark b f = ap (λ c. if c then is_in old.changed.items x else (x == place.next) && true) (sym f)
+              ∙ sym (ap (λ items. if joins x then is_in items x else (x == place.next) && true) changed)
+              ∙ sym (ap (λ c. if joins x then is_in new.changed.items x else (x == place.next) && c) is_carried) ∙ mark
+
+          by_join : (b : Bool) → joins x ≡ b → (marks joins old place.next x ≡ false) × (with_state to v amid.whole x ≡ amid.whole x)
+          by_join true f = (ap old_mark f ∙ new_mark true f, with_elsewhere to v amid.whole x (differ_too joins x to f is_alone))
+          by_join false f =
+              let other : x ≢ place.next = not_same x place.next (new_mark false f) in
+              (ap old_mark f ∙ not_both x place.next old.is_carried other, with_elsewhere to v amid.whole x (λ same. other (same ∙ falls)))
+
+      pub to_next : Carries {X = Bool} (Ok false) (over image joins ((place, edge) ∷ []) amid.whole) (IsAmidst image amid.cuts joins new place (done + 1))
+      to_next = (
+        with_state to v amid.whole,
+        over_alone image joins place edge amid.whole old.carried amid.amidst.here v goes to leads is_alone,
+        record {
+          way = record {
+            flags = ap length changed ∙ amid.amidst.way.flags ∙ ap length (sym slots);
+            carried = rw carried amid.amidst.way.carried;
+            ahead = rw ahead fits;
+            outcome = outcome;
+            slots = λ at is. with_elsewhere to v amid.whole at (differ_too joins at to is is_alone) ∙ amid.amidst.way.slots at is ∙ ap (λ states. table_of states at) (sym slots);
+            grown = grows_alone image amid.cuts joins amid.join place edge one amid.whole amid.amidst.way.grown old.carried v amid.amidst.here goes to leads stands_there is_alone (marks joins old place.next) (marks joins new place.next) keeps_alone;
+          };
+          here = with_elsewhere to v amid.whole place.at (λ same. may.elsewhere edge to leads (sym same)) ∙ rw carried amid.amidst.here;
+          next = λ sure. (ap joins (sym falls) ∙ is_alone, ap (with_state to v amid.whole) (sym falls) ∙ with_there to v amid.whole ∙ ap Some (sym ahead));
+          others = all_others (marks joins new place.next) (with_state to v amid.whole) (λ q way is taken. taken_alone image amid.cuts joins amid.join place edge one amid.whole amid.amidst.way.grown old.carried v amid.amidst.here goes to leads stands_there is_alone (marks joins old place.next) (marks joins new place.next) keeps_alone q way is taken);
+          own = all_own (marks joins new place.next) (with_state to v amid.whole) (λ way is taken. taken_alone image amid.cuts joins amid.join place edge one amid.whole amid.amidst.way.grown old.carried v amid.amidst.here goes to leads stands_there is_alone (marks joins old place.next) (marks joins new place.next) keeps_alone place way is taken)
+              (settled_alone image amid.cuts joins amid.join place edge one amid.whole amid.amidst.way.grown old.carried v amid.amidst.here goes to leads stands_there is_alone (marks joins old place.next) (marks joins new place.next) keeps_alone);
+        },
+      )
+
+-- the states that are kept where edges join are those of the image's worker
+pub slot_is_placed : (image : ImageValue) (joins : ℕ → Bool) (p : Passes) (whole : Table) → IsUnderWay image joins p whole → (at : ℕ) → joins at ≡ true → IfSome (table_of p.slots at) (IsPlaced image)
+slot_is_placed image joins p whole way at is = by_state (table_of p.slots at) refl
+  where
+    by_state : (o : Option State) → table_of p.slots at ≡ o → IfSome o (IsPlaced image)
+    by_state None e = search rules
+    by_state (Some s) e = (way.grown.states at s (way.slots at is ∙ e)).placed

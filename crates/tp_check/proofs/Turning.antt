@@ -1,0 +1,220 @@
+-- An instruction's turn in a pass.
+use Rattle.std.proofs.Common.{◌≡◌, ◌≢◌, ℕ, suc, ◌+◌, ◌<◌, ◌⊎◌, inl, inr, ◌==◌, ◌&&◌, if◌then◌else◌, Bool, true, false, List, [], ◌∷◌, length, slice_index_or, Option, Some, None, Result, Ok, Err, refl, sym, ap, ◌∙◌, subst, rules, arith, length-set, get_or-set_other, drop, get_or}
+use Rattle.std.specs.Prelude.{IfSome}
+use Rattle.std.proofs.lemmas.Bool.{cases_eq}
+use Rattle.std.proofs.lemmas.Option.{same_Some}
+use Rattle.tp_decode.specs.declared.instr.Instr.{Instr}
+use Rattle.tp_decode.specs.declared.placed.Placed.{Placed}
+use Rattle.tp_decode.specs.Cutting.{Cut, cut_at}
+use Rattle.tp_flow.specs.declared.edge.Edge.{Edge}
+use Rattle.tp_image.specs.Image.{ImageValue}
+use Rattle.tp_state.specs.declared.state.State.{State}
+use Rattle.tp_state.specs.declared.fault.StateFault.{StateFault}
+use Rattle.tp_state.specs.Answer.{◌>>=◌}
+use Rattle.tp_state.specs.Conditions.{IsPlaced}
+use Rattle.tp_check.specs.declared.passes.Passes.{Passes}
+use Rattle.tp_check.specs.Tables.{Table, table_of, asked}
+use Rattle.tp_check.specs.Passes.{from, edges_of}
+use Rattle.tp_check.specs.Carried.{target_of, over, go_over}
+use Rattle.tp_check.specs.UnderWay.{is_in, AreJoins, Settles, IsTaken, TakenAt, marks, flags, IsUnderWay, IsBefore, IsReady, IsAmidst, AreAmidst, StandsIn, Carries, IsStarted}
+use Rattle.tp_check.proofs.Entering.{enters_below, same_there}
+use Rattle.tp_check.proofs.Moving.{next_way}
+use Rattle.tp_check.proofs.Settling.{over_none, over_nowhere, over_joined, over_alone}
+use Rattle.tp_check.proofs.Stepping.{same_marks, not_both}
+
+-- ---- edges after edges
+
+pub over_one : (image : ImageValue) (joins : ℕ → Bool) (e : Placed × Edge) (more : List (Placed × Edge)) (table : Table) → over image joins (e ∷ more) table ≡ (over image joins (e ∷ []) table >>= over image joins more)
+over_one image joins e more table = in_turn (go_over image joins e (table e.0.at) table)
+  where
+    in_turn : (r : Result Table StateFault) → (r >>= over image joins more) ≡ ((r >>= over image joins []) >>= over image joins more)
+    in_turn (Ok t) = refl
+    in_turn (Err f) = refl
+
+pub over_way : (image : ImageValue) (joins : ℕ → Bool) (p : Placed) (ways : List Edge) (i : ℕ) (d : Edge) → i < length ways → (table : Table)
+    → over image joins (from p (drop i ways)) table ≡ (over image joins ((p, slice_index_or ways i d) ∷ []) table >>= over image joins (from p (drop (i + 1) ways)))
+over_way image joins p ways i d inside table = ap (λ es. over image joins es table) (next_way p ways i d inside) ∙ over_one image joins (p, get_or ways i d) (from p (drop (i + 1) ways)) table
+
+-- ---- the turn begins
+
+no_flag : (joins : ℕ → Bool) (p : Passes) (at x : ℕ) → x ≢ at → flags joins p x ≡ false → marks joins p at x ≡ false
+no_flag joins p at x other is = by_join (joins x) refl
+  where
+    by_join : (b : Bool) → joins x ≡ b → marks joins p at x ≡ false
+    by_join true e = ap (λ c. if c then is_in p.changed.items x else (x == at) && p.is_carried) e ∙ sym (ap (λ c. if c then is_in p.changed.items x else false) e) ∙ is
+    by_join false e = ap (λ c. if c then is_in p.changed.items x else (x == at) && p.is_carried) e ∙ not_both x at p.is_carried other
+
+and_false : (b c : Bool) → c ≡ false → (b && c) ≡ false
+and_false true c e = e
+and_false false c e = refl
+
+module _ (image : ImageValue) (cuts : List Cut) (joins : ℕ → Bool) (old mid : Passes) (at : ℕ) (whole : Table) (before : IsBefore image cuts joins old at whole) where
+  ready_joined : joins at ≡ true → IsStarted at old mid → IsReady image cuts joins mid at whole
+  ready_joined is st = record {
+    way = record {
+      flags = ap length st.changed ∙ length-set old.changed.items at false ∙ before.way.flags ∙ ap length (sym st.slots);
+      carried = by_flag mid.is_carried refl;
+      ahead = rw st.ahead before.way.ahead;
+      outcome = rw st.outcome before.way.outcome;
+      slots = λ x sure. before.way.slots x sure ∙ ap (λ states. table_of states x) (sym st.slots);
+      grown = before.way.grown;
+    };
+    here = here;
+    others = λ x cut other stands k d lt mark. before.taken x cut stands k d lt (by_join x other (joins x) refl mark);
+    own = λ rests cut stands k d lt s stood. at_own (st.no rests).1 cut stands k d lt s stood;
+  }
+    where
+      here : mid.is_carried ≡ true → whole at ≡ Some mid.carried
+      here on = before.way.slots at is ∙ st.yes on
+
+      by_flag : (b : Bool) → mid.is_carried ≡ b → IsPlaced image mid.carried
+      by_flag true e = (before.way.grown.states at mid.carried (here e)).placed
+      by_flag false e = rw (st.no e).0 before.way.carried
+
+      by_join : (x : ℕ) → x ≢ at → (b : Bool) → joins x ≡ b → flags joins mid x ≡ false → marks joins old at x ≡ false
+      by_join x other true e mark =
+          ap (λ c. if c then is_in old.changed.items x else (x == at) && old.is_carried) e ∙ sym (get_or-set_other old.changed.items at x false false other) ∙ sym (ap (λ items. is_in items x) st.changed)
+          ∙ sym (ap (λ c. if c then is_in mid.changed.items x else false) e) ∙ mark
+      by_join x other false e mark = ap (λ c. if c then is_in old.changed.items x else (x == at) && old.is_carried) e ∙ not_both x at old.is_carried other
+
+      at_own : (is_in old.changed.items at ≡ false) ⊎ (table_of old.slots at ≡ None) → (cut : Cut) → cut_at cuts at ≡ Some cut → (k : ℕ) (d : Edge) → k < length (asked cut.instr) → (s : State) → whole at ≡ Some s
+          → Settles image joins whole at (at + length cut.bytes) cut.instr s (slice_index_or (asked cut.instr) k d)
+      at_own (inl rests) cut stands k d lt s stood = before.taken at cut stands k d lt (ap (λ c. if c then is_in old.changed.items at else (at == at) && old.is_carried) is ∙ rests) s stood
+      at_own (inr none) cut stands k d lt s stood = absurd (let no : None ≡ Some s = sym none ∙ sym (before.way.slots at is) ∙ stood in cc)
+
+  ready_alone : joins at ≡ false → IsReady image cuts joins old at whole
+  ready_alone alone = record {
+    way = before.way;
+    here = λ sure. (before.here sure).1;
+    others = λ x cut other stands k d lt mark. before.taken x cut stands k d lt (no_flag joins old at x other mark);
+    own = λ rests cut stands k d lt. before.taken at cut stands k d lt (ap (λ c. if c then is_in old.changed.items at else (at == at) && old.is_carried) alone ∙ and_false (at == at) old.is_carried rests);
+  }
+
+  pub ready : (joins at ≡ true → IsStarted at old mid) → (joins at ≡ false → mid ≡ old) → IsReady image cuts joins mid at whole
+  ready started other = by_join (joins at) refl
+    where
+      by_join : (b : Bool) → joins at ≡ b → IsReady image cuts joins mid at whole
+      by_join true e = ready_joined e (started e)
+      by_join false e = subst (λ p. IsReady image cuts joins p at whole) (sym (other e)) (ready_alone e)
+
+-- what a state that is kept and the one that is carried have as many words of
+pub as_long : (image : ImageValue) (joins : ℕ → Bool) (p : Passes) (whole : Table) → IsUnderWay image joins p whole → (at : ℕ) → joins at ≡ true → IfSome (table_of p.slots at) (λ s. length s.cells ≡ length p.carried.cells)
+as_long image joins p whole way at is = by_state (table_of p.slots at) refl
+  where
+    by_state : (o : Option State) → table_of p.slots at ≡ o → IfSome o (λ s. length s.cells ≡ length p.carried.cells)
+    by_state None e = search rules
+    by_state (Some s) e = (way.grown.states at s (way.slots at is ∙ e)).placed.sized ∙ sym way.carried.sized
+
+-- ---- nothing is carried
+
+module _ (image : ImageValue) (joins : ℕ → Bool) (p : Placed) (table : Table) where
+  -- an edge that has settled changes nothing
+  edge_stays : (edge : Edge) → ((s : State) → table p.at ≡ Some s → Settles image joins table p.at p.next p.instr s edge) → over image joins ((p, edge) ∷ []) table ≡ Ok table
+  edge_stays edge each = by_state (table p.at) refl
+    where
+      by_join : (s : State) (here : table p.at ≡ Some s) (r : Settles image joins table p.at p.next p.instr s edge) (to : ℕ) → target_of image (p, edge) ≡ Some to → (b : Bool) → joins to ≡ b → over image joins ((p, edge) ∷ []) table ≡ Ok table
+      by_join s here r to leads true e = over_joined image joins p edge table s here r.outcome r.goes_on to leads e ∙ enters_below table to r.outcome (r.meets to leads e)
+      by_join s here r to leads false e = over_alone image joins p edge table s here r.outcome r.goes_on to leads e ∙ ap Ok (same_there table to r.outcome (r.sets to leads e))
+
+      by_target : (s : State) (here : table p.at ≡ Some s) (r : Settles image joins table p.at p.next p.instr s edge) (o : Option ℕ) → target_of image (p, edge) ≡ o → over image joins ((p, edge) ∷ []) table ≡ Ok table
+      by_target s here r None leads = over_nowhere image joins p edge table s here r.outcome r.goes_on leads
+      by_target s here r (Some to) leads = by_join s here r to leads (joins to) refl
+
+      by_state : (o : Option State) → table p.at ≡ o → over image joins ((p, edge) ∷ []) table ≡ Ok table
+      by_state None e = over_none image joins p edge table e
+      by_state (Some s) e = by_target s e (each s e) (target_of image (p, edge)) refl
+
+  ways_stay : (ways : List Edge) → ((k : ℕ) (d : Edge) → k < length ways → over image joins ((p, slice_index_or ways k d) ∷ []) table ≡ Ok table) → over image joins (from p ways) table ≡ Ok table
+  ways_stay [] each = refl
+  ways_stay (w ∷ ways) each =
+      over_one image joins (p, w) (from p ways) table ∙ ap (λ r. r >>= over image joins (from p ways)) (each 0 w (omega arith)) ∙ ways_stay ways (λ k d lt. each (suc k) d (omega (arith, lt)))
+
+module _ (image : ImageValue) (cuts : List Cut) (joins : ℕ → Bool) (mid : Passes) (place : Placed) (stands : StandsIn cuts place) (whole : Table) (now : IsReady image cuts joins mid place.at whole) where
+  -- in its place, of an instruction that is there
+  here_is : (P : ℕ → Cut → Type 0) → ((cut : Cut) → cut_at cuts place.at ≡ Some cut → P place.at cut) → (x : ℕ) (cut : Cut) → x ≡ place.at → cut_at cuts x ≡ Some cut → P x cut
+  here_is P go x cut same there = subst (λ y. P y cut) (sym same) (go cut (sym (ap (cut_at cuts) same) ∙ there))
+
+  own_quiet : mid.is_carried ≡ false → (k : ℕ) (d : Edge) → k < length (asked place.instr) → (s : State) → whole place.at ≡ Some s → Settles image joins whole place.at place.next place.instr s (slice_index_or (asked place.instr) k d)
+  own_quiet rests = rw (stands.next, stands.instr) (λ k d lt s is. now.own rests stands.cut stands.there k d lt s is)
+
+  pub waits : mid.is_carried ≡ false → Carries {X = Bool} (Ok false) (over image joins (edges_of place) whole) (IsBefore image cuts joins mid place.next)
+  waits rests = (
+    whole,
+    ways_stay image joins place whole (asked place.instr) (λ k d lt. edge_stays image joins place whole (slice_index_or (asked place.instr) k d) (own_quiet rests k d lt)),
+    record {
+      way = now.way;
+      here = λ sure. absurd (let no : false ≡ true = sym rests ∙ sure in cc);
+      taken = λ x cut there. at_place x cut there (cases_eq x place.at);
+    },
+  )
+    where
+      quiet : (x : ℕ) → marks joins mid place.next x ≡ false → flags joins mid x ≡ false
+      quiet x is = by_join (joins x) refl
+        where
+          by_join : (b : Bool) → joins x ≡ b → flags joins mid x ≡ false
+          by_join true e = ap (λ c. if c then is_in mid.changed.items x else false) e ∙ sym (ap (λ c. if c then is_in mid.changed.items x else (x == place.next) && mid.is_carried) e) ∙ is
+          by_join false e = ap (λ c. if c then is_in mid.changed.items x else false) e
+
+      at_place : (x : ℕ) (cut : Cut) → cut_at cuts x ≡ Some cut → (x ≡ place.at) ⊎ (x ≡ place.at → ⊥) → TakenAt image joins (marks joins mid place.next) whole x cut
+      at_place x cut there (inl same) = here_is (λ y c. TakenAt image joins (marks joins mid place.next) whole y c) (λ c is k d lt m s stood. now.own rests c is k d lt s stood) x cut same there
+      at_place x cut there (inr other) = λ k d lt m. now.others x cut other there k d lt (quiet x m)
+
+  -- ---- a state is carried
+
+  pub begun : (new : Passes) → new.slots ≡ mid.slots → new.changed.items ≡ mid.changed.items → new.carried ≡ mid.carried → new.ahead ≡ mid.ahead → new.outcome ≡ mid.outcome → new.is_carried ≡ false → mid.is_carried ≡ true → IsAmidst image cuts joins new place 0 whole
+  begun new slots changed carried ahead outcome rests on = record {
+    way = record {
+      flags = ap length changed ∙ now.way.flags ∙ ap length (sym slots);
+      carried = rw carried now.way.carried;
+      ahead = rw ahead now.way.ahead;
+      outcome = rw outcome now.way.outcome;
+      slots = λ x is. now.way.slots x is ∙ ap (λ states. table_of states x) (sym slots);
+      grown = now.way.grown;
+    };
+    here = now.here on ∙ ap Some (sym carried);
+    next = λ sure. absurd (let no : false ≡ true = sym rests ∙ sure in cc);
+    others = λ x cut other there k d lt m. now.others x cut other there k d lt (quiet x (joins x) refl m);
+    own = λ k d lt. absurd (omega (arith, lt));
+  }
+    where
+      quiet : (x : ℕ) (b : Bool) → joins x ≡ b → marks joins new place.next x ≡ false → flags joins mid x ≡ false
+      quiet x true e m = ap (λ c. if c then is_in mid.changed.items x else false) e ∙ sym (ap (λ items. is_in items x) changed) ∙ sym (ap (λ c. if c then is_in new.changed.items x else (x == place.next) && new.is_carried) e) ∙ m
+      quiet x false e m = ap (λ c. if c then is_in mid.changed.items x else false) e
+
+  abbrev pub begins : (new : Passes) → new.slots ≡ mid.slots → new.changed.items ≡ mid.changed.items → new.carried ≡ mid.carried → new.ahead ≡ mid.ahead → new.outcome ≡ mid.outcome → new.is_carried ≡ false → mid.is_carried ≡ true → AreJoins image cuts joins → AreAmidst image joins new place 0
+  begins new slots changed carried ahead outcome rests on join = record { cuts = cuts; number = stands.number; stands = stands.is; join = join; whole = whole; amidst = begun new slots changed carried ahead outcome rests on }
+
+-- ---- the turn ends
+
+in_place : (P : ℕ → Instr → Type 0) (next other : ℕ) (instr also : Instr) → next ≡ other → instr ≡ also → P next instr → P other also
+in_place P next other instr also same too holds = subst (P other) too (subst (λ n. P n instr) same holds)
+
+pub turned : (image : ImageValue) (cuts : List Cut) (joins : ℕ → Bool) (last new : Passes) (place : Placed) (stands : StandsIn cuts place) (whole : Table) → IsAmidst image cuts joins last place (length (asked place.instr)) whole
+    → new.slots ≡ last.slots → new.changed.items ≡ last.changed.items → new.carried ≡ last.ahead → new.ahead ≡ last.carried → new.outcome ≡ last.outcome → new.is_carried ≡ last.is_carried → IsBefore image cuts joins new place.next whole
+turned image cuts joins last new place stands whole now slots changed carried ahead outcome is_carried = record {
+  way = record {
+    flags = ap length changed ∙ now.way.flags ∙ ap length (sym slots);
+    carried = rw carried now.way.ahead;
+    ahead = rw ahead now.way.carried;
+    outcome = rw outcome now.way.outcome;
+    slots = λ x is. now.way.slots x is ∙ ap (λ states. table_of states x) (sym slots);
+    grown = now.way.grown;
+  };
+  here = λ sure. let on = now.next (sym is_carried ∙ sure) in (on.0, on.1 ∙ ap Some (sym carried));
+  taken = λ x cut there. at_place x cut there (cases_eq x place.at);
+}
+  where
+    earlier : (x : ℕ) → marks joins new place.next x ≡ false → marks joins last place.next x ≡ false
+    earlier x m = sym (same_marks joins last new place.next x changed is_carried) ∙ m
+
+    now_own : (k : ℕ) (d : Edge) → k < length (asked place.instr) → IsTaken image joins (marks joins new place.next) whole place.at place.next place.instr (slice_index_or (asked place.instr) k d)
+    now_own k d lt m = now.own k d lt (earlier place.at m)
+
+    own : (cut : Cut) → cut_at cuts place.at ≡ Some cut → TakenAt image joins (marks joins new place.next) whole place.at cut
+    own cut there =
+        subst (λ c. TakenAt image joins (marks joins new place.next) whole place.at c) (same_Some stands.cut cut (sym stands.there ∙ there))
+        (in_place (λ next instr. (k : ℕ) (d : Edge) → k < length (asked instr) → IsTaken image joins (marks joins new place.next) whole place.at next instr (slice_index_or (asked instr) k d)) place.next (place.at + length stands.cut.bytes) place.instr stands.cut.instr stands.next stands.instr now_own)
+
+    at_place : (x : ℕ) (cut : Cut) → cut_at cuts x ≡ Some cut → (x ≡ place.at) ⊎ (x ≡ place.at → ⊥) → TakenAt image joins (marks joins new place.next) whole x cut
+    at_place x cut there (inl same) = subst (λ y. TakenAt image joins (marks joins new place.next) whole y cut) (sym same) (own cut (sym (ap (cut_at cuts) same) ∙ there))
+    at_place x cut there (inr other) = λ k d lt m. now.others x cut other there k d lt (earlier x m)

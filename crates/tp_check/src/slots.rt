@@ -1,0 +1,116 @@
+//! The states that the passes keep.
+
+ghost use Rattle.std.specs.Prelude.{◌≡◌, ◌<◌, ◌≤◌, ◌^◌, ℕ, Some, length, IfOk, IfSome, IsTrue};
+ghost use Rattle.std.specs.Option.{option_copied};
+ghost use Rattle.tp_state.specs.Conditions.{IsPlaced};
+ghost use Rattle.tp_check.specs.Tables.{table_of};
+ghost use Rattle.tp_check.specs.Passes.{enter, first_table, met, placed};
+ghost use Rattle.tp_check.specs.UnderWay.{Gives, GivesState, MovesState, Moves};
+
+use std::alloc::{AllocError, Global};
+use std::marker::Model;
+use tp_image::Image;
+use tp_state::{State, StateFault};
+
+/// What is known before some instructions of a code: a contract sees the state of each address that has one.
+#[derive(Drop)]
+pub(crate) struct Slots {
+    /// By address.
+    states: Vec<Option<State>>,
+}
+
+impl Model for Slots {
+    ghost use Rattle.std.specs.Prelude.{List, Option};
+    ghost use Rattle.tp_state.specs.declared.state.State.{State};
+
+    ghost Value = { List (Option State) };
+
+    ghost view = { λ t. t.states.items };
+}
+
+impl Slots {
+    /// The first instruction alone has a state, of so many addresses.
+    pub(crate) fn first(alloc: Global, image: &Image, places: usize) -> Result<Slots, AllocError>
+        requires { 0 < places }
+        ensures sized { IfOk result (λ slots. length slots ≡ places) }
+        ensures value { IfOk result (λ slots. table_of slots ≡ first_table image.now) }
+    {
+        let mut states = Vec::with_capacity(alloc, places)?;
+        let first = State::entry(alloc, image)?;
+        states.push(Some(first))?;
+        for _place in 1..places {
+            states.push(None)?;
+        }
+        Ok(Slots { states })
+    }
+
+    /// A state comes to an address. It answers whether anything changed there.
+    pub(crate) fn enter(
+        &mut self,
+        alloc: Global,
+        image: &Image,
+        to: usize,
+        state: &State,
+    ) -> Result<bool, StateFault>
+        requires inside { to < length self.old }
+        requires placed { IfSome (table_of self.old to) (IsPlaced image.now) }
+        requires state { IsPlaced image.now state.now }
+        ensures gives { Gives result (table_of self.new) (enter (Some to) state.now (table_of self.old)) }
+        ensures moves { IfOk result (λ moved. Moves image.now moved self.old self.new) }
+    {
+        meet(&mut self.states[to], alloc, image, to, state)
+    }
+
+    /// What is known before the instruction at an address.
+    pub(crate) fn at(&self, addr: usize) -> Option<&State>
+        ensures { option_copied result ≡ table_of self.now addr }
+    {
+        match self.states.get(addr) {
+            Some(state) => state.as_ref(),
+            None => None,
+        }
+    }
+
+    /// How many addresses there may be states at.
+    pub(crate) fn len(&self) -> usize
+        ensures { result ≡ length self.now }
+    {
+        self.states.len()
+    }
+
+    /// The same, given up: the slot is empty from here on.
+    pub(crate) fn take(&mut self, addr: usize) -> Option<State>
+        requires { addr < length self.old }
+        ensures value { result ≡ table_of self.old addr }
+        ensures sized { length self.new ≡ length self.old }
+        ensures others { (x : ℕ) → addr < x → table_of self.new x ≡ table_of self.old x }
+    {
+        self.states[addr].take()
+    }
+}
+
+/// A state comes to an address, where another may stand already. It answers whether anything changed.
+fn meet(
+    there: &mut Option<State>,
+    alloc: Global,
+    image: &Image,
+    to: usize,
+    state: &State,
+) -> Result<bool, StateFault>
+    requires placed { IfSome there.old (IsPlaced image.now) }
+    requires state { IsPlaced image.now state.now }
+    ensures gives { GivesState result there.new (placed to (met there.old state.now)) }
+    ensures moves { IfOk result (λ moved. MovesState image.now moved there.old there.new) }
+{
+    state.has_word_ends();
+    match there {
+        Some(met) => match met.join(state) {
+            Ok(moved) => Ok(moved),
+            Err(code) => Err(StateFault::Refused { code, place: to }),
+        },
+        None => {
+            *there = Some(state.copy_of(alloc)?);
+            Ok(true)
+        }
+    }
+}
