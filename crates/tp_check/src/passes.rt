@@ -1,8 +1,7 @@
 //! The passes: a table is made edge by edge until a pass changes nothing.
 
 ghost use Rattle.std.specs.Prelude.{◌≡◌, ◌≢◌, ◌<◌, ◌≤◌, ◌+◌, ◌^◌, ◌∷◌, [], ℕ, true, false, length, List, slice_index_or, Some, IfOk, IfErr, IfSome, OnOk};
-ghost use Rattle.std.specs.List.{AllByRecursion};
-ghost use Rattle.tp_decode.specs.Cutting.{Cut, IsSpelled};
+ghost use Rattle.tp_decode.specs.Cutting.{Cut};
 ghost use Rattle.tp_decode.specs.declared.instr.Instr.{Instr as AnInstr};
 ghost use Rattle.tp_flow.specs.declared.edge.Edge.{Edge as AnEdge};
 ghost use Rattle.tp_flow.specs.NestRanges.{ranges};
@@ -40,7 +39,6 @@ pub fn check_states(
 ) -> Result<Table, StateFault>
     requires kept { KeepsNest image.now.loops image.now.workspace listing.now }
     requires nest { nest.now ≡ ranges image.now.loops }
-    requires spelled { AllByRecursion IsSpelled listing.now }
     ensures table { IfOk result (λ table. IsTableOf image.now listing.now table.states.items) }
     ensures sound { IfOk result (λ table. AreSound image.now table.states.items) }
     ensures refused { IfErr result (IsRefusalOf image.now listing.now) }
@@ -61,13 +59,13 @@ pub fn check_states_counting(
 ) -> Result<Table, StateFault>
     requires kept { KeepsNest image.now.loops image.now.workspace listing.now }
     requires nest { nest.now ≡ ranges image.now.loops }
-    requires spelled { AllByRecursion IsSpelled listing.now }
     ensures table { IfOk result (λ table. IsTableOf image.now listing.now table.states.items) }
     ensures sound { IfOk result (λ table. AreSound image.now table.states.items) }
     ensures refused { IfErr result (IsRefusalOf image.now listing.now) }
     // Where anything but memory is refused, no table exists that every edge respects.
     ensures exact { IfErr result (λ e. e ≢ fault.Memory → HasNoTable image.now listing.now) }
 {
+    listing.is_spelled();
     *effort = Effort::default();
     let places = places_of(listing);
     let ways = Ways::of(alloc, image, listing, nest, places)?;

@@ -1,6 +1,6 @@
 -- One instruction more in a listing, and what an answer says.
-use Rattle.std.proofs.Common.{◌≡◌, ◌≢◌, ℕ, ◌+◌, ◌-◌, ◌<◌, true, nat_lt, List, [], ◌∷◌, ◌++◌, length, take, drop, Option, Some, None, Result, Ok, Err, MatchResult, IfOk, IfErr, refl, ap, sym, ◌∙◌, arith, length-append, length-drop, slice_range}
-use Rattle.std.specs.List.{list_all}
+use Rattle.std.proofs.Common.{◌≡◌, ◌≢◌, ℕ, ◌+◌, ◌-◌, ◌<◌, true, nat_lt, List, [], ◌∷◌, ◌++◌, length, take, drop, Option, Some, None, Result, Ok, Err, MatchResult, IfOk, IfErr, refl, subst, ap, sym, ◌∙◌, arith, length-append, length-drop, slice_range}
+use Rattle.std.specs.List.{list_all, AllByRecursion}
 use Rattle.std.proofs.lemmas.List.{length-map, append-nil, take-append-drop, drop-drop, map-append, length-take}
 use Rattle.std.proofs.lemmas.List.Folds.{list_all-append}
 use Rattle.std.proofs.lemmas.Grind.{flat_map-append}
@@ -54,13 +54,18 @@ starts_more at (c ∷ cuts) cut =
     let place : at + length c.bytes + length (code_of cuts) ≡ at + length (c.bytes ++ code_of cuts) = omega (arith, length-append c.bytes (code_of cuts)) in
     ap (λ xs. at ∷ xs) (starts_more (at + length c.bytes) cuts cut ∙ ap (λ n. starts_from (at + length c.bytes) cuts ++ n ∷ []) place)
 
+all_more : (cuts : List Cut) (cut : Cut) → AllByRecursion IsSpelled cuts → IsSpelled cut → AllByRecursion IsSpelled (cuts ++ cut ∷ [])
+all_more [] cut all is = (is, tt)
+all_more (c ∷ cuts) cut all is = (all.0, all_more cuts cut all.1 is)
+
 -- a listing with one instruction more
-pub listing_more : (starts : List ℕ) (numbers : List (Option ℕ)) (pieces : List Piece) (piece : Piece) (at : ℕ) → IsListing starts numbers pieces → length (code_of (cuts_of pieces)) ≡ at → 0 < length (cut_of piece).bytes →
+pub listing_more : (starts : List ℕ) (numbers : List (Option ℕ)) (pieces : List Piece) (piece : Piece) (at : ℕ) → IsListing starts numbers pieces → length (code_of (cuts_of pieces)) ≡ at → 0 < length (cut_of piece).bytes → IsSpelled (cut_of piece) →
     IsListing (starts ++ at ∷ []) (numbers ++ numbered (length pieces) (cut_of piece)) (pieces ++ piece ∷ [])
-listing_more starts numbers pieces piece at is place some = record {
+listing_more starts numbers pieces piece at is place some spelled = record {
   counted =
       ap (λ ns. ns ++ numbered (length pieces) (cut_of piece)) is.counted
       ∙ sym (ap (numbers_from 0) (map-append cut_of pieces (piece ∷ [])) ∙ numbers_more 0 (cuts_of pieces) (cut_of piece) ∙ ap (λ n. numbers_from 0 (cuts_of pieces) ++ numbered n (cut_of piece)) (omega (arith, length-map pieces cut_of)));
+  each = subst (AllByRecursion IsSpelled) (sym (map-append cut_of pieces (piece ∷ []))) (all_more (cuts_of pieces) (cut_of piece) is.each spelled);
   rising = ap (λ xs. xs ++ at ∷ []) is.rising ∙ sym (ap (starts_from 0) (map-append cut_of pieces (piece ∷ [])) ∙ starts_more 0 (cuts_of pieces) (cut_of piece) ∙ ap (λ n. starts_from 0 (cuts_of pieces) ++ n ∷ []) (omega (arith, place)));
   some =
       let test : nat_lt 0 (length (cut_of piece).bytes) ≡ true = grind (arith, nat_tests) in

@@ -2,7 +2,8 @@
 
 ghost use Rattle.std.specs.Prelude.{◌≡◌, ◌<◌, ◌+◌, ◌==◌, length, IfOk, slice_get, string_bytes};
 ghost use Rattle.std.specs.Option.{option_map};
-ghost use Rattle.tp_decode.specs.Cutting.{starts_from, placed_from, index_from, cut_at};
+ghost use Rattle.std.specs.List.{AllByRecursion};
+ghost use Rattle.tp_decode.specs.Cutting.{IsSpelled, starts_from, placed_from, index_from, cut_at};
 ghost use Rattle.tp_decode.specs.Lines.{lines_from};
 ghost use Rattle.tp_decode.specs.Listings.{IsListing, cuts_of};
 
@@ -44,6 +45,13 @@ impl Listing {
             numbers,
             pieces,
         }
+    }
+
+    /// The bytes of each instruction spell it.
+    pub fn is_spelled(&self)
+        ensures { AllByRecursion IsSpelled self.now }
+    {
+        let _ = &self.starts;
     }
 
     /// How many instructions there are.

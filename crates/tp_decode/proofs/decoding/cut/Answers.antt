@@ -34,7 +34,7 @@ loop-at-preserved c =
     let len : c.len.result ≡ length piece.spelling.items = c.len.ensures.value in
     record {
       within = omega (arith, len, begins.within, length-drop c.loop-at.at c.args.code.now, c.loop-at.invariant.within);
-      kept = rw (starts, numbers, pieces) (listing_more c.loop-at.starts.items c.loop-at.numbers.items old piece c.loop-at.at c.loop-at.invariant.kept c.loop-at.invariant.place some);
+      kept = rw (starts, numbers, pieces) (listing_more c.loop-at.starts.items c.loop-at.numbers.items old piece c.loop-at.at c.loop-at.invariant.kept c.loop-at.invariant.place some begins.spelled);
       place = ap (λ ps. length (code_of (cuts_of ps))) pieces ∙ code_more old piece ∙ (omega (arith, len, c.loop-at.invariant.place));
       so_far = rw (pieces, len, map-append) (one_more c.args.code.now c.loop-at.at (cuts_of old) (cut_of piece) c.loop-at.invariant.so_far begins);
     }
