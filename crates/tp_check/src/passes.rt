@@ -14,7 +14,8 @@ ghost use Rattle.tp_state.specs.declared.fault.StateFault.TheVariants as fault;
 ghost use Rattle.tp_check.specs.Tables.{Table as WholeTable, table_of, asked};
 ghost use Rattle.tp_check.specs.EdgesRespect.{HasNoTable};
 ghost use Rattle.tp_check.specs.Passes.{first_table, enter, edges_of, edges_in, IsRefusalOf};
-ghost use Rattle.tp_check.specs.Carried.{over, IsTableOf, AreSound};
+ghost use Rattle.tp_check.specs.Carried.{over, IsTableOf};
+ghost use Rattle.tp_check.specs.StatesThere.{AreStatesThere};
 ghost use Rattle.tp_check.specs.Joining.{joins_at, keeps_at};
 ghost use Rattle.tp_check.specs.UnderWay.{AreJoins, HasPlaces, MayBeTaken, StandsIn, IsBefore, IsAmidst, AreAmidst, Carries, Gives, Moves, marked, SameButSlots, IsStarted};
 
@@ -42,7 +43,7 @@ pub fn check_states(
     requires nest { nest.now ≡ ranges image.now.loops }
     requires spelled { AllByRecursion IsSpelled listing.now }
     ensures table { IfOk result (λ table. IsTableOf image.now listing.now table.states.items) }
-    ensures sound { IfOk result (λ table. AreSound image.now table.states.items) }
+    ensures states { IfOk result (λ table. AreStatesThere image.now table.states.items) }
     ensures refused { IfErr result (IsRefusalOf image.now listing.now) }
     // Where anything but memory is refused, no table exists that every edge respects.
     ensures exact { IfErr result (λ e. e ≢ fault.Memory → HasNoTable image.now listing.now) }
@@ -63,7 +64,7 @@ pub fn check_states_counting(
     requires nest { nest.now ≡ ranges image.now.loops }
     requires spelled { AllByRecursion IsSpelled listing.now }
     ensures table { IfOk result (λ table. IsTableOf image.now listing.now table.states.items) }
-    ensures sound { IfOk result (λ table. AreSound image.now table.states.items) }
+    ensures states { IfOk result (λ table. AreStatesThere image.now table.states.items) }
     ensures refused { IfErr result (IsRefusalOf image.now listing.now) }
     // Where anything but memory is refused, no table exists that every edge respects.
     ensures exact { IfErr result (λ e. e ≢ fault.Memory → HasNoTable image.now listing.now) }
