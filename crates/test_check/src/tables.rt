@@ -4,11 +4,12 @@ ghost use Rattle.std.specs.Prelude.{◌≡◌, ◌<◌, IfSome};
 ghost use Rattle.std.specs.Option.{option_copied};
 ghost use Rattle.tp_flow.specs.NestRanges.{ranges};
 ghost use Rattle.tp_state.specs.Conditions.{HasGoodLoops, IsPlaced};
-ghost use Rattle.tp_check.specs.Carried.{AreSound};
+ghost use Rattle.tp_check.specs.StatesThere.{AreStatesThere};
 
 use crate::images::*;
 use crate::reading::read;
 use crate::states::refused;
+use std::alloc::{AllocError, Global};
 use std::process::Abort;
 use tp_check::{Effort, Table, check_states, check_states_counting};
 use tp_decode::{Instr, Listing};
@@ -119,12 +120,38 @@ fn assert_kept(rt: &(impl Abort + AllocGlobal), bytes: &[u8], places: &[u32]) {
     }
 }
 
+/// A worker with 900 conditional jumps to the instruction behind each, so that both edges of each have one target.
+fn nine_hundred_jumps(alloc: Global) -> Result<Vec<u8>, AllocError> {
+    let mut bytes = Vec::from_slice(alloc, b"TPW1\x15\x07\x0C\0\x08\0\x01\0\x01\0\0\0")?;
+    bytes.extend_from_slice(b"\x10\x24\xF2\x54\x44\xF7")?;
+    for _ in 0..900 {
+        bytes.extend_from_slice(b"\x40\xA0")?;
+    }
+    bytes.extend_from_slice(b"\x10\x24\xF2\x44\xFB\x21\xF5")?;
+    Ok(bytes)
+}
+
 /// States are kept at the first instruction, where two ways meet, and at heads.
 #[test]
 fn keeps_states_where_edges_join(rt: HostRuntime) {
     assert_kept(&rt, INCREMENT, &[0]);
-    assert_kept(&rt, STORES_BY_TWO_WAYS, &[0, 13]);
+    assert_kept(&rt, SUM_TO_TEN, &[0, 12]);
     assert_kept(&rt, SUM_TO_TEN_THOUSAND, &[0, 15]);
+    assert_kept(&rt, STORES_BY_TWO_WAYS, &[0, 13]);
+    let jumps = nine_hundred_jumps(rt.alloc()).expect(&rt, "memory");
+    let table = found(&rt, &jumps);
+    assert_eq!(rt; table.kept(), 901);
+}
+
+/// They stand by rising address.
+#[test]
+fn tables_rise(rt: HostRuntime) {
+    let jumps = nine_hundred_jumps(rt.alloc()).expect(&rt, "memory");
+    let mut last = None;
+    for (at, _) in &found(&rt, &jumps).states {
+        assert!(rt; last < Some(*at), "a higher address than the one before");
+        last = Some(*at);
+    }
 }
 
 #[test]
@@ -138,7 +165,7 @@ type Registers = (u32, u8, Kind, Kind);
 
 /// The same: it is a state of the image's worker.
 fn placed_at<'a>(image: &Image, table: &'a Table, at: u32) -> Option<&'a State>
-    requires { AreSound image.now table.now.states.items }
+    requires { AreStatesThere image.now table.now.states.items }
     ensures { IfSome (option_copied result) (IsPlaced image.now) }
 {
     let _ = &image.code;
@@ -232,16 +259,16 @@ fn assert_counted(rt: &(impl Abort + AllocGlobal), bytes: &[u8], expected: Count
     assert_eq!(rt; counted(rt, bytes), expected);
 }
 
-/// A pass that makes the states has an outcome for each instruction, and one more for a cj and for a lend; a last pass sees
-/// that nothing changes, and has none.
+/// A pass that makes the states has an outcome for each instruction, and one more for a cj and for a lend; a later one has
+/// them from where a state has changed that is kept, up to the next that is.
 #[test]
 fn counts_passes_and_outcomes(rt: HostRuntime) {
-    // 13 instructions, one behind the other, stopp with them
-    assert_counted(&rt, INCREMENT, (None, 2, 13));
-    // 19 instructions with a cj; its ways meet before what follows is taken
+    // 13 instructions, one behind the other, stopp with them, and no state but the first is kept
+    assert_counted(&rt, INCREMENT, (None, 1, 13));
+    // 19 instructions with a cj; its ways meet before what follows is taken, and the second pass has nothing to take
     assert_counted(&rt, STORES_BY_TWO_WAYS, (None, 2, 19 + 1));
-    // 23 instructions with a lend; then the sum is a number that is not known, from 15 to 18, and stored as before
-    assert_counted(&rt, SUM_TO_TEN_THOUSAND, (None, 3, 23 + 1 + 4));
+    // 23 instructions with a lend; then the sum at the head is a number that is not known, and the 12 from there on follow
+    assert_counted(&rt, SUM_TO_TEN_THOUSAND, (None, 2, 23 + 1 + 12 + 1));
 }
 
 /// A refused outcome is the last that is counted.

@@ -14,7 +14,7 @@ use Rattle.tp_state.proofs.LiveWords.{none_live}
 use Rattle.tp_check.specs.Tables.{Table}
 use Rattle.tp_check.specs.Passes.{along, edges_in, pass, passes, first_table, IsVerdict}
 use Rattle.tp_check.specs.Carried.{over, only_joins, is_head, reached, AreWide, carried, carried_pass}
-use Rattle.tp_check.proofs.Lone.{StandsThere}
+use Rattle.tp_check.proofs.Lone.{IsStateAt}
 use Rattle.tp_rules.proofs.SoundJoins.{entry_sound}
 use Rattle.tp_check.proofs.Nests.{IsOne, lone, edges_lead_on, are_states, or_left}
 use Rattle.tp_check.proofs.Trails.{Trails, edge_by_edge}
@@ -22,15 +22,15 @@ use Rattle.tp_check.proofs.Carrying.{carried_pass as pass_carried}
 
 module _ (image : ImageValue) (cuts : List Cut) (range : InRange image) (spelled : AllByRecursion IsSpelled cuts) (kept : KeepsNest image.loops image.workspace cuts) (joins : ℕ → Bool) (wide : AreWide image cuts joins) where
   abbrev pub Good : Table → Type 0
-  Good table = Trails image range.rows kept.good joins (IsOne image cuts kept joins wide) (StandsThere image) (lone image cuts kept joins wide) (are_states image cuts kept joins wide range spelled) table
+  Good table = Trails image range.rows kept.good joins (IsOne image cuts kept joins wide) (IsStateAt image) (lone image cuts kept joins wide) (are_states image cuts kept joins wide range spelled) table
 
-  entry_stands : StandsThere image 0 (entry image)
+  entry_stands : IsStateAt image 0 (entry image)
   entry_stands = record { sound = entry_sound image range; live = none_live image kept.begins }
 
   first_good : Good (first_table image)
   first_good = record { stand = λ at s is. stand_at at s (at == 0) refl is; trail = λ to t lone_to is. absurd (no_trail to t lone_to (to == 0) refl is) }
     where
-      stand_at : (at : ℕ) (s : State) (b : Bool) → (at == 0) ≡ b → (if b then Some (entry image) else None) ≡ Some s → StandsThere image at s
+      stand_at : (at : ℕ) (s : State) (b : Bool) → (at == 0) ≡ b → (if b then Some (entry image) else None) ≡ Some s → IsStateAt image at s
       stand_at at s true e is =
           let here : at ≡ 0 = (Decides-eqb at 0).0 e in
           let same : entry image ≡ s = cc in
@@ -43,12 +43,12 @@ module _ (image : ImageValue) (cuts : List Cut) (range : InRange image) (spelled
 
   pub one_pass : (table : Table) → Good table → (pass image cuts table ≡ carried_pass image cuts joins table) × IfOk (pass image cuts table) Good
   one_pass table good = (
-    pass_carried image range.rows kept.good joins (IsOne image cuts kept joins wide) (StandsThere image) (lone image cuts kept joins wide) (are_states image cuts kept joins wide range spelled) (edges_in cuts) (λ i e is. (i, is)) (λ e among. among) (edges_lead_on image cuts kept joins wide) table good,
+    pass_carried image range.rows kept.good joins (IsOne image cuts kept joins wide) (IsStateAt image) (lone image cuts kept joins wide) (are_states image cuts kept joins wide range spelled) (edges_in cuts) (λ i e is. (i, is)) (λ e among. among) (edges_lead_on image cuts kept joins wide) table good,
     subst (λ r. IfOk r Good) (sym edges.0) edges.1,
   )
     where
       edges : (along image (edges_in cuts) table ≡ over image joins (edges_in cuts) table) × IfOk (over image joins (edges_in cuts) table) Good
-      edges = edge_by_edge image range.rows kept.good joins (IsOne image cuts kept joins wide) (StandsThere image) (lone image cuts kept joins wide) (are_states image cuts kept joins wide range spelled) (edges_in cuts) (λ i e is. (i, is)) table good
+      edges = edge_by_edge image range.rows kept.good joins (IsOne image cuts kept joins wide) (IsStateAt image) (lone image cuts kept joins wide) (are_states image cuts kept joins wide range spelled) (edges_in cuts) (λ i e is. (i, is)) table good
 
   pub all_passes : (n : ℕ) → (passes image cuts n ≡ carried image cuts joins n) × IfOk (passes image cuts n) Good
   all_passes zero = (refl, first_good)

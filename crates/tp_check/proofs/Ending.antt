@@ -25,7 +25,7 @@ use Rattle.tp_state.specs.Entry.{entry}
 use Rattle.tp_state.specs.After.{after}
 use Rattle.tp_check.specs.Tables.{Table, table_of, asked}
 use Rattle.tp_check.specs.Passes.{enter, go_along, placed, along, from, edges_of, pass, passes, first_table, IsVerdict}
-use Rattle.tp_check.specs.UnderWay.{IsStateAt, HasGrown, MayBeTaken, state_height, table_height}
+use Rattle.tp_check.specs.UnderWay.{IsPlacedAt, HasGrown, MayBeTaken, state_height, table_height}
 use Rattle.tp_check.proofs.Heights.{Sinks, sound_words, state_sinks, state_light, table_sinks}
 use Rattle.tp_check.proofs.TableSteps.{table_at, table_set}
 use Rattle.tp_check.proofs.Places.{last_above, no_last, stands_at}
@@ -74,7 +74,7 @@ module _ (image : ImageValue) (places : ℕ) where
 
   -- ---- a state comes to an address
 
-  module _ (states : List (Option State)) (kept : IsKept image places states) (to : ℕ) (inside : to < length states) (s : State) (fits : IsStateAt image to s) (sound : IsSound image s) where
+  module _ (states : List (Option State)) (kept : IsKept image places states) (to : ℕ) (inside : to < length states) (s : State) (fits : IsPlacedAt image to s) (sound : IsSound image s) where
     module _ (new : Table) (e : Entered (table_of states) to s new) where
       new_states : List (Option State)
       new_states = slice_set states to (Some e.state)

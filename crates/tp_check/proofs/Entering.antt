@@ -23,7 +23,7 @@ use Rattle.tp_state.proofs.LiveWords.{none_live}
 use Rattle.tp_check.specs.Tables.{Table, with_state}
 use Rattle.tp_check.specs.EdgesRespect.{HasAbove, Respects}
 use Rattle.tp_check.specs.Passes.{enter, placed, met, first_table}
-use Rattle.tp_check.specs.UnderWay.{IsStateAt, HasGrown}
+use Rattle.tp_check.specs.UnderWay.{IsPlacedAt, HasGrown}
 
 -- a state that comes where another is known, or none
 abbrev pub Becomes : Option State → State → State → Type 0
@@ -67,7 +67,7 @@ there table to s new e =
     let same : (to == to) ≡ true = grind (arith, nat_tests) in
     ap (λ (t : Table). t to) e.is ∙ ap (λ b. if b then Some e.state else table to) same
 
-module _ (image : ImageValue) (table : Table) (to : ℕ) (s : State) (grown : HasGrown image table) (fits : IsStateAt image to s) where
+module _ (image : ImageValue) (table : Table) (to : ℕ) (s : State) (grown : HasGrown image table) (fits : IsPlacedAt image to s) where
   -- two states of one address meet, where Wptr and the phase are the same
   may_meet : (u : State) → table to ≡ Some u → u.wptr ≡ s.wptr → u.phase ≡ s.phase → MayMeet u s
   may_meet u is wptr phase =
@@ -75,7 +75,7 @@ module _ (image : ImageValue) (table : Table) (to : ℕ) (s : State) (grown : Ha
       record { wptr = wptr; phase = phase; sized = stands.placed.sized ∙ sym fits.placed.sized; cells = same_agree _ _ _ _ stands.live fits.live }
 
   -- a join of theirs is one too
-  joined_at : (u : State) → table to ≡ Some u → IsStateAt image to (join u s)
+  joined_at : (u : State) → table to ≡ Some u → IsPlacedAt image to (join u s)
   joined_at u is =
       let stands = grown.states to u is in
       let long : length s.cells ≡ length u.cells = fits.placed.sized ∙ sym stands.placed.sized in
@@ -85,7 +85,7 @@ module _ (image : ImageValue) (table : Table) (to : ℕ) (s : State) (grown : Ha
       }
 
   module _ (new : Table) (e : Entered table to s new) where
-    becomes_at : (o : Option State) → table to ≡ o → Becomes o s e.state → IsStateAt image to e.state × IsBelow s e.state
+    becomes_at : (o : Option State) → table to ≡ o → Becomes o s e.state → IsPlacedAt image to e.state × IsBelow s e.state
     becomes_at None is same = rw same (fits, is_below-self s)
     becomes_at (Some u) is (wptr, phase, same) = rw same (joined_at u is, is_below-join_right u s (may_meet u is wptr phase))
 
@@ -111,10 +111,10 @@ module _ (image : ImageValue) (table : Table) (to : ℕ) (s : State) (grown : Ha
     pub grows : HasGrown image new
     grows = record { states = λ at t is. at_place at t is (cases_eq at to); begins = rises 0 (entry image) grown.begins }
       where
-        at_place : (at : ℕ) (t : State) → new at ≡ Some t → (at ≡ to) ⊎ (at ≡ to → ⊥) → IsStateAt image at t
+        at_place : (at : ℕ) (t : State) → new at ≡ Some t → (at ≡ to) ⊎ (at ≡ to → ⊥) → IsPlacedAt image at t
         at_place at t is (inl same) =
             let here : e.state ≡ t = same_Some _ _ (sym (there table to s new e) ∙ sym (ap new same) ∙ is) in
-            subst (λ x. IsStateAt image x t) (sym same) (subst (IsStateAt image to) here (becomes_at (table to) refl e.becomes).0)
+            subst (λ x. IsPlacedAt image x t) (sym same) (subst (IsPlacedAt image to) here (becomes_at (table to) refl e.becomes).0)
         at_place at t is (inr other) = grown.states at t (sym (elsewhere table to s new at e other) ∙ is)
 
     -- an edge that respects the old table respects the new one
@@ -156,10 +156,10 @@ first_grown image table outside inside is = subst (HasGrown image) (sym is) (rec
   begins = record { state = entry image; there = refl; below = is_below-self (entry image) };
 })
   where
-    at_place : (at : ℕ) (s : State) → first_table image at ≡ Some s → (at ≡ 0) ⊎ (at ≡ 0 → ⊥) → IsStateAt image at s
+    at_place : (at : ℕ) (s : State) → first_table image at ≡ Some s → (at ≡ 0) ⊎ (at ≡ 0 → ⊥) → IsPlacedAt image at s
     at_place at s there (inl same) =
         let first : entry image ≡ s = same_Some _ _ (sym (ap (first_table image) same) ∙ there) in
-        subst (λ x. IsStateAt image x s) (sym same) (subst (IsStateAt image 0) first (record { placed = inside; live = none_live image outside }))
+        subst (λ x. IsPlacedAt image x s) (sym same) (subst (IsPlacedAt image 0) first (record { placed = inside; live = none_live image outside }))
     at_place at s there (inr other) =
         let no : (at == 0) ≡ false = grind (arith, nat_tests) in
         absurd (let none : None ≡ Some s = sym (ap (λ b. if b then Some (entry image) else None) no) ∙ there in cc)

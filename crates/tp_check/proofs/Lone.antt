@@ -11,6 +11,7 @@ use Rattle.tp_state.specs.Live.{LiveWordsAre}
 use Rattle.tp_state.specs.Order.{MayMeet, join}
 use Rattle.tp_check.specs.Carried.{target_of, outcome_of}
 pub use Rattle.tp_check.specs.Carried.{IsAmong, IsLone}
+pub use Rattle.tp_check.specs.StatesThere.{IsStateAt}
 
 -- What is asked of the states that may stand at an address: those of one address may meet where Wptr and the phase are
 -- the same, and they are kept along edges and by joins.
@@ -25,8 +26,3 @@ abbrev pub LeadsOn : ImageValue → (ℕ → Bool) → List (Placed × Edge) →
 LeadsOn image joins [] = Unit {0}
 LeadsOn image joins (f ∷ more) =
     ((e : Placed × Edge) → IsAmong (f ∷ more) e → joins f.0.at ≡ false → target_of image e ≢ Some f.0.at) × LeadsOn image joins more
-
--- a state that may stand at an address: its live control words are those of the loops around it
-pub record StandsThere (image : ImageValue) (at : ℕ) (s : State) : Type 0 where
-  pub sound : IsSound image s
-  pub live : LiveWordsAre image.loops (is_around (ranges image.loops) at) s.cells

@@ -32,7 +32,7 @@ use Rattle.tp_check.specs.Tables.{asked}
 use Rattle.tp_check.specs.Passes.{from, edges_of, edges_in}
 use Rattle.tp_state.specs.Sound.{IsSound, LoadsWord}
 use Rattle.tp_check.specs.Carried.{target_of, outcome_of, leads_to, reached, is_head, AreWide}
-use Rattle.tp_check.proofs.Lone.{IsLone, AreStates, IsAmong, LeadsOn, StandsThere}
+use Rattle.tp_check.proofs.Lone.{IsLone, AreStates, IsAmong, LeadsOn, IsStateAt}
 use Rattle.tp_flow.proofs.FlowSpelled.{some_bytes}
 use Rattle.tp_check.proofs.Places.{place_from, StandsAt, stands_at}
 use Rattle.tp_rules.proofs.SoundJoins.{join_sound}
@@ -233,16 +233,16 @@ module _ (image : ImageValue) (cuts : List Cut) (kept : KeepsNest image.loops im
   -- ---- states
 
   module _ (range : InRange image) (spelled : AllByRecursion IsSpelled cuts) where
-    join_stands : (at : ℕ) (s t : State) → StandsThere image at s → StandsThere image at t → s.wptr ≡ t.wptr → s.phase ≡ t.phase → StandsThere image at (join s t)
+    join_stands : (at : ℕ) (s t : State) → IsStateAt image at s → IsStateAt image at t → s.wptr ≡ t.wptr → s.phase ≡ t.phase → IsStateAt image at (join s t)
     join_stands at s t f g w p = record {
       sound = join_sound image s t f.sound g.sound;
       live = live_joined image.loops (is_around (ranges image.loops) at) s.cells t.cells f.live g.live (g.sound.placed.sized ∙ sym f.sound.placed.sized);
     }
 
-    meet_there : (at : ℕ) (s t : State) → StandsThere image at s → StandsThere image at t → s.wptr ≡ t.wptr → s.phase ≡ t.phase → MayMeet s t
+    meet_there : (at : ℕ) (s t : State) → IsStateAt image at s → IsStateAt image at t → s.wptr ≡ t.wptr → s.phase ≡ t.phase → MayMeet s t
     meet_there at s t f g w p = record { wptr = w; phase = p; sized = f.sound.placed.sized ∙ sym g.sound.placed.sized; cells = same_agree image.loops (is_around (ranges image.loops) at) s.cells t.cells f.live g.live }
 
-    after_stands : (e : Placed × Edge) (s t : State) (to : ℕ) → IsOne e → StandsThere image e.0.at s → target_of image e ≡ Some to → outcome_of image e s ≡ Ok t → StandsThere image to t
+    after_stands : (e : Placed × Edge) (s t : State) (to : ℕ) → IsOne e → IsStateAt image e.0.at s → target_of image e ≡ Some to → outcome_of image e s ≡ Ok t → IsStateAt image to t
     after_stands e s t to among f goes gives = record {
       sound = by_answer (after image e.0.at e.0.next e.0.instr e.1 s) ok (after_sound image range kept.good e.0.at e.0.next e.0.instr e.1 s loads f.sound);
       live = live_after image e.0.at e.0.next e.0.instr e.1 to s t around f.sound.placed f.live goes ok;
@@ -264,5 +264,5 @@ module _ (image : ImageValue) (cuts : List Cut) (kept : KeepsNest image.loops im
         by_answer (Ok u) is sound = let same : u ≡ t = cc in subst (IsSound image) same sound
         by_answer (Err c) is sound = cc
 
-    pub are_states : AreStates image IsOne (StandsThere image)
+    pub are_states : AreStates image IsOne (IsStateAt image)
     are_states = record { sound = λ at s f. f.sound; meet = meet_there; join = join_stands; after = after_stands }

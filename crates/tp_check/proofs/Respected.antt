@@ -20,7 +20,7 @@ use Rattle.tp_check.specs.Tables.{Table, asked}
 use Rattle.tp_check.specs.Passes.{from, edges_of, edges_in, pass, passes, IsVerdict}
 use Rattle.tp_check.specs.EdgesRespect.{HasAbove, RespectsFrom, EveryEdgeRespects}
 use Rattle.tp_check.specs.Carried.{is_kept}
-use Rattle.tp_check.proofs.Lone.{IsAmong, StandsThere}
+use Rattle.tp_check.proofs.Lone.{IsAmong, IsStateAt}
 use Rattle.tp_check.proofs.Places.{number_of}
 use Rattle.tp_check.proofs.Nests.{IsOne, lone, are_states}
 use Rattle.tp_check.proofs.Trails.{placed_ok}
@@ -53,11 +53,11 @@ edge_there (q ∷ ps) (suc i) p is k d lt =
 
 module _ (image : ImageValue) (cuts : List Cut) (range : InRange image) (spelled : AllByRecursion IsSpelled cuts) (kept : KeepsNest image.loops image.workspace cuts) where
   abbrev Gone : Placed × Edge → Table → Table → Type 0
-  Gone e table new = HasGone image range.rows kept.good (is_kept image cuts) (IsOne image cuts kept (is_kept image cuts) (λ at e. e)) (StandsThere image) (lone image cuts kept (is_kept image cuts) (λ at e. e)) (are_states image cuts kept (is_kept image cuts) (λ at e. e) range spelled) e table new
+  Gone e table new = HasGone image range.rows kept.good (is_kept image cuts) (IsOne image cuts kept (is_kept image cuts) (λ at e. e)) (IsStateAt image) (lone image cuts kept (is_kept image cuts) (λ at e. e)) (are_states image cuts kept (is_kept image cuts) (λ at e. e) range spelled) e table new
 
   each_goes : (table : Table) → Good image cuts range spelled kept (is_kept image cuts) (λ at e. e) table → pass image cuts table ≡ Ok table → (e : Placed × Edge) → IsAmong (edges_in cuts) e → Gone e table table
   each_goes table good stays e among =
-      stays_on image range.rows kept.good (is_kept image cuts) (IsOne image cuts kept (is_kept image cuts) (λ at e. e)) (StandsThere image) (lone image cuts kept (is_kept image cuts) (λ at e. e)) (are_states image cuts kept (is_kept image cuts) (λ at e. e) range spelled) (edges_in cuts) (λ i e is. (i, is)) table good stays among.0 e among.1
+      stays_on image range.rows kept.good (is_kept image cuts) (IsOne image cuts kept (is_kept image cuts) (λ at e. e)) (IsStateAt image) (lone image cuts kept (is_kept image cuts) (λ at e. e)) (are_states image cuts kept (is_kept image cuts) (λ at e. e) range spelled) (edges_in cuts) (λ i e is. (i, is)) table good stays among.0 e among.1
 
   respects_from : (table : Table) → Good image cuts range spelled kept (is_kept image cuts) (λ at e. e) table → pass image cuts table ≡ Ok table → (at : ℕ) → RespectsFrom image cuts table at
   respects_from table good stays at cut s stands there k d lt =
@@ -75,7 +75,7 @@ module _ (image : ImageValue) (cuts : List Cut) (range : InRange image) (spelled
       by_answer : (r : Result Table StateFault) → passes image cuts n ≡ r → (r >>= pass image cuts) ≡ Ok table → ((t : Table) → passes image cuts n ≡ Ok t → HasAbove t 0 (entry image)) → HasAbove table 0 (entry image)
       by_answer (Ok t) before is go =
           let first = go t before in
-          let up = tables_rise image range.rows kept.good (is_kept image cuts) (IsOne image cuts kept (is_kept image cuts) (λ at e. e)) (StandsThere image) (lone image cuts kept (is_kept image cuts) (λ at e. e)) (are_states image cuts kept (is_kept image cuts) (λ at e. e) range spelled) (edges_in cuts) (λ i e is. (i, is)) t table (good_after image cuts range spelled kept (is_kept image cuts) (λ at e. e) n t before) is 0 first.state first.there in
+          let up = tables_rise image range.rows kept.good (is_kept image cuts) (IsOne image cuts kept (is_kept image cuts) (λ at e. e)) (IsStateAt image) (lone image cuts kept (is_kept image cuts) (λ at e. e)) (are_states image cuts kept (is_kept image cuts) (λ at e. e) range spelled) (edges_in cuts) (λ i e is. (i, is)) t table (good_after image cuts range spelled kept (is_kept image cuts) (λ at e. e) n t before) is 0 first.state first.there in
           record { state = up.state; there = up.there; below = is_below-trans (entry image) first.state up.state first.below up.below }
       by_answer (Err f) before is go = cc
 
@@ -85,5 +85,8 @@ module _ (image : ImageValue) (cuts : List Cut) (range : InRange image) (spelled
     each = respects_from table (good_after image cuts range spelled kept (is_kept image cuts) (λ at e. e) verdict.number table verdict.comes) verdict.stays;
   }
 
+  pub stands_there : (n : ℕ) (table : Table) → passes image cuts n ≡ Ok table → (at : ℕ) (s : State) → table at ≡ Some s → IsStateAt image at s
+  stands_there n table is at s there = (good_after image cuts range spelled kept (is_kept image cuts) (λ at e. e) n table is).stand at s there
+
   pub sound_there : (n : ℕ) (table : Table) → passes image cuts n ≡ Ok table → (at : ℕ) (s : State) → table at ≡ Some s → IsSound image s
-  sound_there n table is at s there = ((good_after image cuts range spelled kept (is_kept image cuts) (λ at e. e) n table is).stand at s there).sound
+  sound_there n table is at s there = (stands_there n table is at s there).sound

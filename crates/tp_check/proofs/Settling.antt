@@ -19,7 +19,7 @@ use Rattle.tp_check.specs.Tables.{Table, with_state, asked}
 use Rattle.tp_check.specs.EdgesRespect.{HasAbove}
 use Rattle.tp_check.specs.Passes.{enter, placed, met, edges_in}
 use Rattle.tp_check.specs.Carried.{target_of, arrive, over, is_head, IsAmong}
-use Rattle.tp_check.specs.UnderWay.{IsStateAt, HasGrown, AreJoins, Settles, IsTaken}
+use Rattle.tp_check.specs.UnderWay.{IsPlacedAt, HasGrown, AreJoins, Settles, IsTaken}
 use Rattle.tp_check.proofs.Entering.{Entered, elsewhere, comes_below, rises}
 use Rattle.tp_check.proofs.Nests.{or_left}
 use Rattle.tp_check.proofs.Places.{number_of}
@@ -118,7 +118,7 @@ module _ (image : ImageValue) (cuts : List Cut) (joins : ℕ → Bool) (join : A
     sets = λ x also. absurd (let no : None ≡ Some x = sym leads ∙ also in cc);
   }
 
-  module _ (to : ℕ) (leads : target_of image (p, edge) ≡ Some to) (fits : IsStateAt image to v) where
+  module _ (to : ℕ) (leads : target_of image (p, edge) ≡ Some to) (fits : IsPlacedAt image to v) where
     -- ---- it leads to where edges join
 
     module _ (is_joined : joins to ≡ true) (new : Table) (e : Entered table to v new) (marks later : ℕ → Bool) (keeps : Keeps marks later table new) where
@@ -194,8 +194,8 @@ module _ (image : ImageValue) (cuts : List Cut) (joins : ℕ → Bool) (join : A
               let yes : (to == 0) ≡ true = grind (arith, nat_tests) in
               absurd (let never : true ≡ false = sym yes ∙ no in cc)
 
-          at_place : (at : ℕ) (t : State) → with_state to v table at ≡ Some t → (at ≡ to) ⊎ (at ≡ to → ⊥) → IsStateAt image at t
+          at_place : (at : ℕ) (t : State) → with_state to v table at ≡ Some t → (at ≡ to) ⊎ (at ≡ to → ⊥) → IsPlacedAt image at t
           at_place at t is (inl same) =
               let here : v ≡ t = same_Some _ _ (sym (with_there to v table) ∙ sym (ap (with_state to v table) same) ∙ is) in
-              subst (λ x. IsStateAt image x t) (sym same) (subst (IsStateAt image to) here fits)
+              subst (λ x. IsPlacedAt image x t) (sym same) (subst (IsPlacedAt image to) here fits)
           at_place at t is (inr other) = grown.states at t (sym (with_elsewhere to v table at other) ∙ is)

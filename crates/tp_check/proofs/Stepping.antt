@@ -17,7 +17,7 @@ use Rattle.tp_check.specs.declared.passes.Passes.{Passes}
 use Rattle.tp_check.specs.Tables.{Table, table_of, with_state, asked}
 use Rattle.tp_check.specs.Passes.{enter, edges_in}
 use Rattle.tp_check.specs.Carried.{target_of, over, IsAmong}
-use Rattle.tp_check.specs.UnderWay.{IsStateAt, MayBeTaken, is_in, IsTaken, TakenAt, marks, IsUnderWay, IsAmidst, AreAmidst, Carries, Gives, Moves, marked}
+use Rattle.tp_check.specs.UnderWay.{IsPlacedAt, MayBeTaken, is_in, IsTaken, TakenAt, marks, IsUnderWay, IsAmidst, AreAmidst, Carries, Gives, Moves, marked}
 use Rattle.tp_check.proofs.Entering.{Entered, entered, elsewhere, grows}
 use Rattle.tp_check.proofs.Taking.{arrives_at}
 use Rattle.tp_check.proofs.Moving.{way_more}
@@ -92,7 +92,7 @@ module _ (image : ImageValue) (joins : ℕ → Bool) (old : Passes) (place : Pla
       keeps x mark = (sym (same_marks joins old new place.next x changed rest.is_carried) ∙ mark, refl)
 
   module _ (to : ℕ) (leads : target_of image (place, edge) ≡ Some to) where
-    stands_there : IsStateAt image to v
+    stands_there : IsPlacedAt image to v
     stands_there = arrives_at image place edge (length old.slots) to amid.whole old.carried v may amid.amidst.way.grown amid.amidst.here goes fits leads
 
     inside : to < length old.changed.items

@@ -25,7 +25,8 @@ use Rattle.tp_state.specs.Entry.{entry}
 use Rattle.tp_check.specs.declared.passes.Passes.{Passes}
 use Rattle.tp_check.specs.Tables.{Table, table_of}
 use Rattle.tp_check.specs.Passes.{edges_of, edges_in, first_table, pass, passes, IsVerdict, IsRefusalOf}
-use Rattle.tp_check.specs.Carried.{over, only_joins, is_kept, is_head, reached, AreStatesOf, IsTableOf, AreSound}
+use Rattle.tp_check.specs.Carried.{over, only_joins, is_kept, is_head, reached, AreStatesOf, IsTableOf}
+use Rattle.tp_check.specs.StatesThere.{AreStatesThere}
 use Rattle.tp_check.specs.UnderWay.{is_in, AreJoins, HasPlaces, marks, IsBefore, StandsIn, Carries, Moves, table_height}
 use Rattle.tp_check.proofs.Places.{stands_at, number_of}
 use Rattle.tp_check.proofs.Entering.{first_grown}
@@ -33,9 +34,9 @@ use Rattle.tp_check.proofs.Nests.{or_left}
 use Rattle.tp_check.proofs.CarriedPasses.{good_after, one_pass}
 use Rattle.tp_check.proofs.Trails.{edge_by_edge}
 use Rattle.tp_check.proofs.Nests.{IsOne, lone, are_states}
-use Rattle.tp_check.proofs.Lone.{StandsThere}
+use Rattle.tp_check.proofs.Lone.{IsStateAt}
 use Rattle.tp_check.proofs.Ways.{then_more}
-use Rattle.tp_check.proofs.Respected.{sound_there}
+use Rattle.tp_check.proofs.Respected.{stands_there}
 use Rattle.tp_rules.proofs.SoundJoins.{entry_sound}
 
 -- ---- instructions in their order
@@ -221,7 +222,7 @@ module _ (image : ImageValue) (cuts : List Cut) (range : InRange image) (spelled
   one_as_defined : (n : ℕ) (table : Table) → passes image cuts n ≡ Ok table → passes image cuts (suc n) ≡ over image joins (edges_in cuts) table
   one_as_defined n table comes =
       ap (λ r. r >>= pass image cuts) comes
-      ∙ (edge_by_edge image range.rows kept.good joins (IsOne image cuts kept joins join.wide) (StandsThere image) (lone image cuts kept joins join.wide) (are_states image cuts kept joins join.wide range spelled) (edges_in cuts) (λ i e is. (i, is)) table
+      ∙ (edge_by_edge image range.rows kept.good joins (IsOne image cuts kept joins join.wide) (IsStateAt image) (lone image cuts kept joins join.wide) (are_states image cuts kept joins join.wide range spelled) (edges_in cuts) (λ i e is. (i, is)) table
       (good_after image cuts range spelled kept joins join.wide n table comes)).0
 
   pub one_more : (old new : Passes) (moved m : Bool) → IsBetween image cuts joins old moved → new.is_carried ≡ false → Moves image m old.slots new.slots
@@ -286,8 +287,8 @@ module _ (image : ImageValue) (cuts : List Cut) (range : InRange image) (spelled
           by_join true e = on.before.way.slots at e
           by_join false e = absurd (let no : true ≡ false = sym is ∙ join.wide at e in cc)
 
-  pub are_sound : (states : List (ℕ × State)) → IsTableOf image cuts states → AreSound image states
-  are_sound states t i a there = sound_there image cuts range spelled kept t.verdict.number t.whole t.verdict.comes a.0 a.1 (t.kept.each i a there).1
+  pub are_states_there : (states : List (ℕ × State)) → IsTableOf image cuts states → AreStatesThere image states
+  are_states_there states t i a there = stands_there image cuts range spelled kept t.verdict.number t.whole t.verdict.comes a.0 a.1 (t.kept.each i a there).1
 
 pub refusal_handed_on : {X : Type 0} (image : ImageValue) (cuts : List Cut) (r : Result X StateFault) (e : StateFault) → IsErrAnd r (λ x. x ≡ e) → IsRefusalOf image cuts e → IfErr r (IsRefusalOf image cuts)
 refusal_handed_on image cuts (Ok x) e is refusal = search rules

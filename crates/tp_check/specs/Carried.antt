@@ -12,7 +12,6 @@ use Rattle.tp_state.specs.declared.state.State.{State}
 use Rattle.tp_state.specs.declared.fault.StateFault.{StateFault}
 use Rattle.tp_state.specs.Answer.{◌>>=◌}
 use Rattle.tp_state.specs.After.{after}
-use Rattle.tp_state.specs.Sound.{IsSound}
 use Rattle.tp_check.specs.Tables.{Table, with_state}
 use Rattle.tp_check.specs.Passes.{placed, enter, edges_in, first_table, IsVerdict}
 
@@ -95,7 +94,3 @@ pub record IsTableOf (image : ImageValue) (cuts : List Cut) (states : List (ℕ 
   pub whole : Table
   pub verdict : IsVerdict image cuts (Ok whole)
   pub kept : AreStatesOf (is_kept image cuts) whole states
-
--- its states are sound
-abbrev pub AreSound : ImageValue → List (ℕ × State) → Type 0
-AreSound image states = (i : ℕ) (a : ℕ × State) → slice_get states i ≡ Some a → IsSound image a.1

@@ -8,3 +8,4 @@ pub use Rattle.tp_state.specs.Entry
 pub use Rattle.tp_flow.specs.NestKept
 pub mod Carried
 pub mod Joining
+pub mod StatesThere

@@ -30,13 +30,13 @@ use Rattle.tp_check.specs.Carried.{AreWide, IsAmong, IsLone, target_of}
 -- ---- what a table keeps
 
 -- a state before an instruction is one of the image's worker, and its live control words are those of the loops around it
-pub record IsStateAt (image : ImageValue) (at : ℕ) (s : State) : Type 0 where
+pub record IsPlacedAt (image : ImageValue) (at : ℕ) (s : State) : Type 0 where
   pub placed : IsPlaced image s
   pub live : LiveWordsAre image.loops (is_around (ranges image.loops) at) s.cells
 
 -- the states of a table are such, and what is known at first is known at the first instruction or more
 pub record HasGrown (image : ImageValue) (table : Table) : Type 0 where
-  pub states : (at : ℕ) (s : State) → table at ≡ Some s → IsStateAt image at s
+  pub states : (at : ℕ) (s : State) → table at ≡ Some s → IsPlacedAt image at s
   pub begins : HasAbove table 0 (entry image)
 
 -- an instruction's place among so many addresses

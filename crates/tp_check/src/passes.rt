@@ -13,7 +13,8 @@ ghost use Rattle.tp_state.specs.declared.fault.StateFault.TheVariants as fault;
 ghost use Rattle.tp_check.specs.Tables.{Table as WholeTable, table_of, asked};
 ghost use Rattle.tp_check.specs.EdgesRespect.{HasNoTable};
 ghost use Rattle.tp_check.specs.Passes.{first_table, enter, edges_of, edges_in, IsRefusalOf};
-ghost use Rattle.tp_check.specs.Carried.{over, IsTableOf, AreSound};
+ghost use Rattle.tp_check.specs.Carried.{over, IsTableOf};
+ghost use Rattle.tp_check.specs.StatesThere.{AreStatesThere};
 ghost use Rattle.tp_check.specs.Joining.{joins_at, keeps_at};
 ghost use Rattle.tp_check.specs.UnderWay.{AreJoins, HasPlaces, MayBeTaken, StandsIn, IsBefore, IsAmidst, AreAmidst, Carries, Gives, Moves, marked, SameButSlots, IsStarted};
 
@@ -40,7 +41,7 @@ pub fn check_states(
     requires kept { KeepsNest image.now.loops image.now.workspace listing.now }
     requires nest { nest.now ≡ ranges image.now.loops }
     ensures table { IfOk result (λ table. IsTableOf image.now listing.now table.states.items) }
-    ensures sound { IfOk result (λ table. AreSound image.now table.states.items) }
+    ensures states { IfOk result (λ table. AreStatesThere image.now table.states.items) }
     ensures refused { IfErr result (IsRefusalOf image.now listing.now) }
     // Where anything but memory is refused, no table exists that every edge respects.
     ensures exact { IfErr result (λ e. e ≢ fault.Memory → HasNoTable image.now listing.now) }
@@ -60,7 +61,7 @@ pub fn check_states_counting(
     requires kept { KeepsNest image.now.loops image.now.workspace listing.now }
     requires nest { nest.now ≡ ranges image.now.loops }
     ensures table { IfOk result (λ table. IsTableOf image.now listing.now table.states.items) }
-    ensures sound { IfOk result (λ table. AreSound image.now table.states.items) }
+    ensures states { IfOk result (λ table. AreStatesThere image.now table.states.items) }
     ensures refused { IfErr result (IsRefusalOf image.now listing.now) }
     // Where anything but memory is refused, no table exists that every edge respects.
     ensures exact { IfErr result (λ e. e ≢ fault.Memory → HasNoTable image.now listing.now) }

@@ -6,10 +6,10 @@ ghost use Rattle.tp_decode.specs.Cutting.{Cut, IsSpelled};
 ghost use Rattle.tp_flow.specs.NestKept.{KeepsNest};
 ghost use Rattle.tp_image.specs.Image.{ImageValue, InRange};
 ghost use Rattle.tp_state.specs.declared.state.State.{State};
-ghost use Rattle.tp_state.specs.Sound.{IsSound};
 ghost use Rattle.tp_state.specs.declared.fault.StateFault.{StateFault};
 ghost use Rattle.tp_check.specs.Tables.{Table};
 ghost use Rattle.tp_check.specs.Passes.{IsVerdict, passes};
+ghost use Rattle.tp_check.specs.StatesThere.{IsStateAt};
 ghost use Rattle.tp_check.specs.EdgesRespect.{HasAbove, EveryEdgeRespects, HasNoTable};
 
 /// The passes refuse only where no table exists that every edge respects. Nothing is asked of the states of that table.
@@ -33,9 +33,10 @@ pub fn every_edge_respects_the_verdict()
         EveryEdgeRespects image cuts table }
 {}
 
-/// What the passes come to know is sound: so are the states of their tables, after any number of passes.
+/// What the passes come to know is sound, and the same words are live in all states of one address: so it is with the states of
+/// their tables, after any number of passes.
 pub fn states_of_the_passes_are_sound()
     ensures { (image : ImageValue) (cuts : List Cut) (n : ℕ) (table : Table) → InRange image →
         AllByRecursion IsSpelled cuts → KeepsNest image.loops image.workspace cuts → passes image cuts n ≡ Ok table →
-        (at : ℕ) (s : State) → table at ≡ Some s → IsSound image s }
+        (at : ℕ) (s : State) → table at ≡ Some s → IsStateAt image at s }
 {}

@@ -3,11 +3,11 @@ use Rattle.std.proofs.lemmas.Option.{slice_get-get_or}
 use Rattle.tp_image.specs.Image.{ImageValue}
 use Rattle.tp_state.specs.declared.state.State.{State}
 use Rattle.tp_state.specs.Conditions.{IsPlaced}
-use Rattle.tp_check.specs.Carried.{AreSound}
+use Rattle.tp_check.specs.StatesThere.{AreStatesThere}
 use Rattle.test_check.proofs.tables.placed_at.Goals as goal
 
-placed_in : (image : ImageValue) (states : List (ℕ × State)) → AreSound image states → (i : ℕ) (d a : ℕ × State) → i < length states → a ≡ slice_index_or states i d → IsPlaced image a.1
-placed_in image states sound i d a lt is = (sound i a (slice_get-get_or states i d lt ∙ ap Some (sym is))).placed
+placed_in : (image : ImageValue) (states : List (ℕ × State)) → AreStatesThere image states → (i : ℕ) (d a : ℕ × State) → i < length states → a ≡ slice_index_or states i d → IsPlaced image a.1
+placed_in image states sound i d a lt is = (sound i a (slice_get-get_or states i d lt ∙ ap Some (sym is))).sound.placed
 
 pub returns-then-index-at : goal.returns-then-index-at
 returns-then-index-at c =

@@ -1,7 +1,7 @@
 use Rattle.std.proofs.Common.{rules, sym, subst}
 use Rattle.tp_check.specs.Joining.{joins_at, keeps_at}
 use Rattle.tp_check.proofs.Least.{none_respected}
-use Rattle.tp_check.proofs.Verdict.{IsBetween, none_made, one_more, is_refusal, is_table, are_sound, refusal_handed_on}
+use Rattle.tp_check.proofs.Verdict.{IsBetween, none_made, one_more, is_refusal, is_table, are_states_there, refusal_handed_on}
 use Rattle.tp_check.proofs.passes.check_states_counting.Goals as goal
 
 pub loop-moved-init : goal.loop-moved-init
@@ -34,5 +34,5 @@ returns-clause-table c =
     is_table c.args.image.now c.args.listing.now c.begin.ensures.in_range c.is_spelled.ensures c.requires.kept (joins_at c.in_ok-ways.ways) c.in_ok-ways.ensures.joins c.loop-moved.passes (keeps_at c.in_ok-ways.ways) _
     (subst (IsBetween c.args.image.now c.args.listing.now (joins_at c.in_ok-ways.ways) c.loop-moved.passes) c.loop-moved-test.false on) c.in_ok-ways.ensures.keeps (search rules)
 
-pub returns-clause-sound : goal.returns-clause-sound
-returns-clause-sound c = are_sound c.args.image.now c.args.listing.now c.begin.ensures.in_range c.is_spelled.ensures c.requires.kept (joins_at c.in_ok-ways.ways) c.in_ok-ways.ensures.joins _ (returns-clause-table c)
+pub returns-clause-states : goal.returns-clause-states
+returns-clause-states c = are_states_there c.args.image.now c.args.listing.now c.begin.ensures.in_range c.is_spelled.ensures c.requires.kept (joins_at c.in_ok-ways.ways) c.in_ok-ways.ensures.joins _ (returns-clause-table c)
