@@ -6,7 +6,7 @@
 ghost use Rattle.worked_steps.specs.Rows.{AreSo};
 
 use crate::rows::Expected::{Leads, Sticks};
-use crate::rows::Setting::{Filled, Holding, Lacking, LackingByte, One, Three, Two, WithoutAreg};
+use crate::rows::Setting::{Filled, Holding, Lacking, One, Three, Two, WithoutAreg};
 use crate::rows::{Row, Worker, rows, worker};
 
 /// lb (`F1`): each byte of a word, the last of the workspace, and what is no byte of it.
@@ -45,14 +45,6 @@ pub fn sb() -> &'static [Row]
             => Leads(&[One(9), Holding(8, &[0x44AB2211])]);
         byte_3: [0x23, 0xFB], [Three(0x8000006B, 0x1234AB, 9), Holding(8, &[0x44332211])]
             => Leads(&[One(9), Holding(8, &[0xAB332211])]);
-        into_undefined: [0x23, 0xFB], [Three(0x8000006A, 0x1234AB, 9), Lacking(8, 1)]
-            => Leads(&[
-                One(9),
-                Holding(8, &[0x00AB0000]),
-                LackingByte(0x80000068),
-                LackingByte(0x80000069),
-                LackingByte(0x8000006B),
-            ]);
         above: [0x23, 0xFB], [Three(0x80000088, 1, 9)] => Sticks;
         below: [0x23, 0xFB], [Three(0x80000047, 1, 9)] => Sticks;
         undefined: [0x23, 0xFB], [One(0x80000068)] => Sticks;
