@@ -47,7 +47,7 @@ fn told<R: Runtime<A = Global>>(rt: &R, name: &str, bytes: &[u8], is_timed: bool
     let instructions = listing.len();
     let Effort { passes, outcomes } = effort;
     println!(rt;
-        "{name}: {instructions} instructions, {states} states kept, {passes} passes, {outcomes} outcomes"
+        "{name}: instructions {instructions}, states kept {states}, passes {passes}, outcomes {outcomes}"
     )?;
     Ok(())
 }
