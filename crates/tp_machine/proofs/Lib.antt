@@ -18,4 +18,3 @@ pub mod HeldPacket
 pub mod Kept
 pub mod Alone
 pub mod PromiseKept
-pub mod Reading

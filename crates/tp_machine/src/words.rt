@@ -4,7 +4,7 @@
 ghost use Rattle.std.specs.Prelude.{◌≡◌, ◌*◌, ◌%◌, ◌/◌, ◌^◌, ◌<◌, ◌||◌, ◌&&◌, ◌+ℤ◌, ◌-ℤ◌, ◌*ℤ◌, pos, negsuc, int_lt, int_div, int_rem, if◌then◌else◌, Some, None};
 ghost use Rattle.std.specs.Ordering.{int_eq};
 ghost use Rattle.tp_decode.specs.Words.{signed, low_word, complement};
-ghost use Rattle.tp_decode.specs.Spelling.{is_pfix, is_prefix, shifted, shifted_complement};
+ghost use Rattle.tp_decode.specs.Spelling.{shifted, shifted_complement};
 ghost use Rattle.tp_step.specs.Numbers.{overflows, words_on, truth, least_integer, minus_one};
 
 /// The low 32 bits of a sum, and whether it overflows, read signed.
@@ -157,25 +157,4 @@ pub(crate) fn shifted_complement(oreg: u32) -> u32
     ensures shifted { result % 16 ≡ 0 }
 {
     (!oreg).wrapping_mul(16)
-}
-
-/// Whether a byte is a prefix.
-#[inline(always)]
-pub(crate) fn is_prefix(byte: u8) -> bool
-    ensures { result ≡ is_prefix byte }
-{
-    byte / 16 == 2 || byte / 16 == 6
-}
-
-/// What a prefix makes of Oreg with its data in it.
-#[inline(always)]
-pub(crate) fn prefixed(byte: u8, oreg: u32) -> u32
-    ensures value { result ≡ (if is_pfix byte then shifted oreg else shifted_complement oreg) }
-    ensures shifted { result % 16 ≡ 0 }
-{
-    if byte / 16 == 2 {
-        shifted(oreg)
-    } else {
-        shifted_complement(oreg)
-    }
 }

@@ -25,8 +25,8 @@ go-answer-requires-clause-promise g c =
     ends c.args.accepted.now.image c.args.accepted.now.budget before (rw c.budget-budget.ensures.value at c.budget-budget.ensures.ends) c.held-held.ensures.bytes
 
 pub returns-clause-alone : goal.returns-clause-alone
-returns-clause-alone g c = answered_alone c.args.accepted.now.image c.args.accepted.now.budget _ _ c.go-answer.result.1 c.go-answer.ensures
+returns-clause-alone g c = answered_alone c.args.accepted.now.image c.args.accepted.now.budget _ _ c.go-answer.result.1 c.go-answer.ensures.answered
 
 pub returns-clause-promise : goal.returns-clause-promise
 returns-clause-promise g c =
-    keeps_promise c.args.accepted.now.image c.args.accepted.now.budget _ _ c.go-answer.result.1 (rw c.budget-budget.ensures.value at c.budget-budget.ensures.ends) c.held-held.ensures.bytes c.go-answer.ensures
+    keeps_promise c.args.accepted.now.image c.args.accepted.now.budget _ _ c.go-answer.result.1 (rw c.budget-budget.ensures.value at c.budget-budget.ensures.ends) c.held-held.ensures.bytes c.go-answer.ensures.answered
