@@ -36,14 +36,14 @@ fn most_threads<R: Files + AllocGlobal>(rt: &R, done: &AtomicBool) -> usize {
     most
 }
 
-/// A worker of 400,130 steps, three packets for it, and their run.
+/// A worker of 400,130 steps, twelve packets for it, and their run: some milliseconds for each of three members.
 fn long_batch(alloc: Global) -> Result<Vec<u8>, Fail> {
     let mut input = Vec::from_slice(
         alloc,
         b"a IMAGE 545057312300100008000100010002000D001A000A000A0000000000140016000C00102700000000\
         1024F25444F740D22020204AD340D422272140D5144422F1124F22F11024F244FB21F5\n",
     )?;
-    for _ in 0..3u8 {
+    for _ in 0..12u8 {
         input.extend_from_slice(b"a PACKET 05000000\n")?;
     }
     input.extend_from_slice(b"a RUN\n")?;
