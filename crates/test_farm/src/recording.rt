@@ -104,6 +104,15 @@ fn a_gate_is_told_of_one_member(rt: HostRuntime) -> Result<(), Fail> {
     Ok(())
 }
 
+/// A batch of no packets starts no member, so nobody asks.
+#[test]
+fn a_gate_is_told_nothing_of_no_packets(rt: HostRuntime) -> Result<(), Fail> {
+    let gate = Recording::new(&rt, rt.alloc());
+    let _ = increments_by(&rt, rt.alloc(), &[], 3, &gate)?;
+    assert_eq!(rt; gate.into_heard().len(), 0);
+    Ok(())
+}
+
 /// What is heard of so many members that run 60 packets.
 fn heard_of<R: Threads + Wait + Sync>(
     rt: &R,

@@ -10,4 +10,6 @@ pub mod Beginning
 pub mod Settling
 pub mod Together
 pub mod Settled
+pub mod Nothing
+pub mod Board
 pub mod Promising

@@ -4,8 +4,7 @@ use Rattle.std.specs.List.{All, AllZip}
 use Rattle.tp_link.specs.Device.{DeviceState}
 use Rattle.tp_link.specs.declared.links.Links.{Links}
 use Rattle.tp_board.specs.declared.answer.Ledger.{Ledger}
-use Rattle.tp_board.specs.Boards.{SeatView, views_of, IsSeatOf}
-use Rattle.tp_board.specs.Ledgers.{Balances}
+use Rattle.tp_board.specs.Sources.{Progress}
 use Rattle.tp_collect.specs.declared.collected.Entry.{Entry}
 use Rattle.tp_collect.specs.Collected.{IsCollected}
 use Rattle.tp_collect.specs.Collecting.{Collection, vacant}
@@ -15,18 +14,19 @@ use Rattle.tp_farm.specs.declared.gathering.Kept.{Kept}
 use Rattle.tp_farm.specs.Stages.{of_links}
 use Rattle.tp_farm.specs.Working.{Work, HasWorked}
 use Rattle.tp_farm.specs.Gathering.{fault_of_end, all_filed, filed_in, FindVacant, IsOfBatch}
+use Rattle.tp_farm.specs.Closing.{AddsUp}
 use Rattle.tp_farm.specs.Apart.{kept_of}
 use Rattle.tp_farm.specs.Batches.{IsBatch}
-use Rattle.tp_farm.proofs.Settling.{Member, AllDidWell, views, everything, all_vacant, settled}
-use Rattle.tp_farm.proofs.Together.{members_of, did_well, before_is, after_is, views_is, filed_is, length_is, seats_own, all_of_batch}
+use Rattle.tp_farm.proofs.Settling.{Member, AllDidWell, hands, everything, all_vacant, settled}
+use Rattle.tp_farm.proofs.Together.{members_of, did_well, before_is, after_is, hands_is, filed_is, length_is, hands_own, all_of_batch}
 
-module _ {D : Type 0} (state : D → DeviceState) (work : Work) (bs : List (Links D)) (rs : List (Returned SeatView Filed D)) (worked : AllZip (HasWorked state work) bs rs) where
+module _ {H D : Type 0} (state : D → DeviceState) (own : H → Type 0) (progress : H → Progress) (work : Work) (bs : List (Links D)) (rs : List (Returned H Filed D)) (worked : AllZip (HasWorked state own progress work) bs rs) where
   -- what was empty holds what came
   came : {X : Type 0} (old new come : List X) → old ≡ [] → new ≡ old ++ come → new ≡ come
   came old new come none is = is ∙ ap (λ xs. xs ++ come) none
 
-  pub own_seats : (old new : List SeatView) → old ≡ [] → new ≡ old ++ map (λ r. r.hand) rs → All (IsSeatOf work.board) new
-  own_seats old new none is = subst (All (IsSeatOf work.board)) (sym (came old new (map (λ r. r.hand) rs) none is)) (seats_own state work bs rs worked)
+  pub own_hands : (old new : List H) → old ≡ [] → new ≡ old ++ map (λ r. r.hand) rs → All own new
+  own_hands old new none is = subst (All own) (sym (came old new (map (λ r. r.hand) rs) none is)) (hands_own state own progress work bs rs worked)
 
   module _ (c : Collection) (n : ℕ) (begins : c ≡ record { batch = work.batch; entries = replicate n vacant }) (old new : List (Kept D)) (none : old ≡ []) (kept : new ≡ old ++ map kept_of rs) where
     kept_is : new ≡ map kept_of rs
@@ -35,23 +35,23 @@ module _ {D : Type 0} (state : D → DeviceState) (work : Work) (bs : List (Link
     pub kept_of_batch : All (λ k. All (IsOfBatch c.batch) k.filed.items) new
     kept_of_batch =
         subst (λ ks. All (λ k. All (IsOfBatch c.batch) k.filed.items) ks) (sym kept_is)
-        (subst (λ b. All (λ k. All (IsOfBatch b) k.filed.items) (map kept_of rs)) (sym (ap (λ x. x.batch) begins)) (all_of_batch state work bs rs worked))
+        (subst (λ b. All (λ k. All (IsOfBatch b) k.filed.items) (map kept_of rs)) (sym (ap (λ x. x.batch) begins)) (all_of_batch state own progress work bs rs worked))
 
-    module _ (well : All (λ r. fault_of_end r.end ≡ None) rs) (seats0 seats1 : List SeatView) (no_seats : seats0 ≡ []) (seats : seats1 ≡ seats0 ++ map (λ r. r.hand) rs) (l : Ledger) (balanced : Balances n (views_of seats1) l) (sized : n ≡ length work.batch.packets) where
+    module _ (well : All (λ r. fault_of_end r.end ≡ None) rs) (hands0 hands1 : List H) (no_hands : hands0 ≡ []) (came_in : hands1 ≡ hands0 ++ map (λ r. r.hand) rs) (l : Ledger) (adds_up : AddsUp n (map progress hands1) l) (sized : n ≡ length work.batch.packets) where
       ms : List Member
-      ms = members_of state bs rs
+      ms = members_of state own progress bs rs
 
       all_well : AllDidWell work.batch work.open_for_good ms
       unfolding ms
-      all_well = did_well state work bs rs worked well
+      all_well = did_well state own progress work bs rs worked well
 
-      balances : Balances n (views ms) l
+      added_up : AddsUp n (hands ms) l
       unfolding ms
-      balances = subst (λ vs. Balances n vs l) (ap views_of (came seats0 seats1 (map (λ r. r.hand) rs) no_seats seats) ∙ sym (views_is state work bs rs worked)) balanced
+      added_up = subst (λ ps. AddsUp n ps l) (ap (map progress) (came hands0 hands1 (map (λ r. r.hand) rs) no_hands came_in) ∙ sym (hands_is state own progress work bs rs worked)) adds_up
 
       filed_same : all_filed (map (λ k. k.filed.items) new) ≡ everything ms
       unfolding ms
-      filed_same = ap (λ ks. all_filed (map (λ k. k.filed.items) ks)) kept_is ∙ sym (ap all_filed (filed_is state work bs rs worked))
+      filed_same = ap (λ ks. all_filed (map (λ k. k.filed.items) ks)) kept_is ∙ sym (ap all_filed (filed_is state own progress work bs rs worked))
 
       entries_is : c.entries ≡ replicate n vacant
       entries_is = ap (λ x. x.entries) begins
@@ -59,7 +59,7 @@ module _ {D : Type 0} (state : D → DeviceState) (work : Work) (bs : List (Link
       pub vacant_at_first : FindVacant c.entries (all_filed (map (λ k. k.filed.items) new))
       vacant_at_first =
           subst (λ fs. FindVacant c.entries fs) (sym filed_same)
-          (subst (λ es. FindVacant es (everything ms)) (sym entries_is) (all_vacant work.batch work.open_for_good n l ms all_well balances sized))
+          (subst (λ es. FindVacant es (everything ms)) (sym entries_is) (all_vacant work.batch work.open_for_good n l ms all_well added_up sized))
 
       module _ (c' : Collection) (filed : c' ≡ record c { entries = filed_in c.entries (all_filed (map (λ k. k.filed.items) new)) }) (entries : List Entry) (finished : entries ≡ c'.entries) (collected : IsCollected c'.batch entries) (any : 0 < length rs) (links0 links1 : List (Links D)) (no_links : links0 ≡ []) (links : links1 ≡ links0 ++ map (λ k. k.links) new) where
         entries_filed : entries ≡ filed_in (replicate n vacant) (everything ms)
@@ -73,12 +73,12 @@ module _ {D : Type 0} (state : D → DeviceState) (work : Work) (bs : List (Link
 
         some_members : 0 < length ms
         unfolding ms
-        some_members = subst (λ k. 0 < k) (sym (length_is state work bs rs worked)) any
+        some_members = subst (λ k. 0 < k) (sym (length_is state own progress work bs rs worked)) any
 
         pub is_batch : IsBatch work.batch work.open_for_good (map (of_links state) bs) (map (of_links state) links1) entries
         unfolding ms
         is_batch =
-            let it = settled work.batch work.open_for_good n l ms all_well balances sized entries entries_filed (subst (λ b. IsCollected b entries) batch_same collected) some_members in
+            let it = settled work.batch work.open_for_good n l ms all_well added_up sized entries entries_filed (subst (λ b. IsCollected b entries) batch_same collected) some_members in
             subst (λ xs. IsBatch work.batch work.open_for_good (map (of_links state) bs) (map (of_links state) xs) entries) (sym links_is)
-            (subst (λ xs. IsBatch work.batch work.open_for_good (map (of_links state) bs) xs entries) (after_is state work bs rs worked)
-            (subst (λ xs. IsBatch work.batch work.open_for_good xs (map (λ m. m.after) ms) entries) (before_is state work bs rs worked) it))
+            (subst (λ xs. IsBatch work.batch work.open_for_good (map (of_links state) bs) xs entries) (after_is state own progress work bs rs worked)
+            (subst (λ xs. IsBatch work.batch work.open_for_good xs (map (λ m. m.after) ms) entries) (before_is state own progress work bs rs worked) it))

@@ -1,25 +1,19 @@
 -- What the members of a batch come to, all together.
-use Rattle.std.proofs.Common.{◌≡◌, ℕ, ◌+◌, ◌<◌, ◌≤◌, ◌⊎◌, inl, inr, Bool, true, false, ltb, if◌then◌else◌, List, [], ◌∷◌, ◌++◌, map, length, replicate, Some, None, slice_get, sum_by, zero, suc, nat_lt, refl, sym, ap, ◌∙◌, subst, arith, length-append}
+use Rattle.std.proofs.Common.{◌≡◌, ℕ, ◌+◌, ◌<◌, ◌≤◌, ◌⊎◌, inl, inr, Bool, true, false, ltb, if◌then◌else◌, List, [], ◌∷◌, ◌++◌, map, length, replicate, Some, None, slice_get, sum_by, zero, suc, refl, sym, ap, ◌∙◌, subst, arith}
 use Rattle.std.proofs.lemmas.Bool.Decides.{nat_tests}
 use Rattle.std.specs.Option.{option_map}
 use Rattle.std.proofs.lemmas.List.{map-append, length-replicate, get_or-replicate}
 use Rattle.std.proofs.lemmas.List.Sums.{sum_by-append, sum_by-cons}
-use Rattle.std.proofs.lemmas.List.Elements.{All-nil, All-append, All-weaker}
+use Rattle.std.proofs.lemmas.List.Elements.{All-nil, All-cons, All-head, All-append, All-weaker}
 use Rattle.std.proofs.lemmas.Option.{slice_get-get_or, slice_get_within, same_Some}
 use Rattle.std.specs.List.{All, AllZip}
-use mathlib.Core.Option.{some}
-use lib.ListN.{get_elem?}
 use Rattle.tp_link.specs.declared.links.Link.{Link}
 use Rattle.tp_link.specs.declared.links.LinkFault.{LinkFault}
 use Rattle.tp_link.specs.declared.links.Link.TheVariants.{Source, Sink, Trace}
 use Rattle.tp_machine.specs.Devices.{Devices}
-use Rattle.tp_board.specs.declared.view.View.{View}
 use Rattle.tp_board.specs.declared.answer.Ledger.{Ledger}
 use Rattle.tp_board.specs.Counting.{times, once_below}
-use Rattle.tp_board.specs.Views.{all_drawn, all_finished, all_abandoned, all_in_hand, first_of}
-use Rattle.tp_board.specs.Rule.{total}
-use Rattle.tp_board.specs.Ledgers.{Balances}
-use Rattle.tp_board.specs.Sources.{progress_of}
+use Rattle.tp_board.specs.Sources.{Progress}
 use Rattle.tp_collect.specs.declared.collected.Entry.{Entry}
 use Rattle.tp_collect.specs.declared.collected.Entry.TheVariants as entry
 use Rattle.tp_collect.specs.declared.collected.LostCause.TheVariants as cause
@@ -31,6 +25,7 @@ use Rattle.tp_farm.specs.declared.member.End.{End}
 use Rattle.tp_farm.specs.declared.member.End.TheVariants as end
 use Rattle.tp_farm.specs.Settings.{SameSettings}
 use Rattle.tp_farm.specs.Members.{KeepsAccounts, EndsBy, IsFiled, filed_failed}
+use Rattle.tp_farm.specs.Closing.{all_finished, all_abandoned, put_down, IsBorneOut, AddsUp}
 use Rattle.tp_farm.specs.Gathering.{number_of, entry_of, filed_in, FindVacant, all_filed, fault_of_end}
 use Rattle.tp_farm.specs.Batches.{device_at, failures_at, tells_failure, LostBySome, IsBatch}
 use Rattle.tp_farm.proofs.Numbers.{numbers, times-append, times_parts, find_vacant, tells_all, none_filed}
@@ -40,22 +35,22 @@ use Rattle.tp_farm.proofs.Origins.{Comes, comes_from}
 pub record Member : Type 0 where
   pub before : Devices
   pub after : Devices
-  pub view : View
+  pub progress : Progress
   pub filed : List Filed
   pub end : End
 
 -- it has done its work, and no fault ended it
 pub record DidWell (batch : Batch) (open_for_good : Bool) (m : Member) : Type 0 where
-  pub accounts : KeepsAccounts batch m.before m.after (progress_of m.view) m.filed
-  pub ends : EndsBy batch open_for_good (progress_of m.view) m.end
+  pub accounts : KeepsAccounts batch m.before m.after m.progress m.filed
+  pub ends : EndsBy batch open_for_good m.progress m.end
   pub well : fault_of_end m.end ≡ None
 
 abbrev pub AllDidWell : Batch → Bool → List Member → Type 0
 AllDidWell batch o [] = Unit {0}
 AllDidWell batch o (m ∷ ms) = DidWell batch o m × AllDidWell batch o ms
 
-abbrev pub views : List Member → List View
-views ms = map (λ m. m.view) ms
+abbrev pub hands : List Member → List Progress
+hands ms = map (λ m. m.progress) ms
 
 abbrev pub everything : List Member → List Filed
 everything ms = all_filed (map (λ m. m.filed) ms)
@@ -66,8 +61,8 @@ module _ (batch : Batch) (o : Bool) where
   numbers-append : (xs ys : List Filed) → numbers (xs ++ ys) ≡ numbers xs ++ numbers ys
   numbers-append xs ys = map-append number_of xs ys
 
-  -- the numbers that are filed are those that the seats finished and abandoned
-  filed_numbers : (x : ℕ) (ms : List Member) → AllDidWell batch o ms → times x (numbers (everything ms)) ≡ times x (all_finished (views ms)) + times x (all_abandoned (views ms))
+  -- the numbers that are filed are those that the hands finished and abandoned
+  filed_numbers : (x : ℕ) (ms : List Member) → AllDidWell batch o ms → times x (numbers (everything ms)) ≡ put_down x (hands ms)
   filed_numbers x [] h = refl
   filed_numbers x (m ∷ ms) h =
       omega (
@@ -78,8 +73,8 @@ module _ (batch : Batch) (o : Bool) where
         filed_numbers x ms h.1,
         ap (times x) h.0.accounts.finished,
         ap (times x) h.0.accounts.abandoned,
-        times-append x m.view.finished (all_finished (views ms)),
-        times-append x m.view.abandoned (all_abandoned (views ms)),
+        times-append x m.progress.finished (all_finished (hands ms)),
+        times-append x m.progress.abandoned (all_abandoned (hands ms)),
       )
 
   -- ---- devices
@@ -88,7 +83,7 @@ module _ (batch : Batch) (o : Bool) where
   same_all [] h = tt
   same_all (m ∷ ms) h = (h.0.accounts.settings, same_all ms h.1)
 
-  rises_at : (which : Link) (m : Member) → KeepsAccounts batch m.before m.after (progress_of m.view) m.filed → (device_at which m.after).faults ≡ (device_at which m.before).faults + sum_by (filed_failed which) m.filed
+  rises_at : (which : Link) (m : Member) → KeepsAccounts batch m.before m.after m.progress m.filed → (device_at which m.after).faults ≡ (device_at which m.before).faults + sum_by (filed_failed which) m.filed
   rises_at Source m h = h.rises.source
   rises_at Sink m h = h.rises.sink
   rises_at Trace m h = h.rises.trace
@@ -138,17 +133,10 @@ module _ (batch : Batch) (o : Bool) where
 
   -- ---- the entries
 
-  module _ (n : ℕ) (l : Ledger) (ms : List Member) (h : AllDidWell batch o ms) (b : Balances n (views ms) l) (sized : n ≡ length batch.packets) where
+  module _ (n : ℕ) (l : Ledger) (ms : List Member) (h : AllDidWell batch o ms) (b : AddsUp n (hands ms) l) (sized : n ≡ length batch.packets) where
     -- each number is filed once at most, and it was drawn
-    few : (x : ℕ) → times x (numbers (everything ms)) + times x (all_in_hand (views ms)) ≡ once_below x l.drawn
-    few x =
-        omega (
-          arith,
-          filed_numbers x ms h,
-          b.went x,
-          times-append x (all_finished (views ms) ++ all_abandoned (views ms)) (all_in_hand (views ms)),
-          times-append x (all_finished (views ms)) (all_abandoned (views ms)),
-        )
+    few : (x : ℕ) → times x (numbers (everything ms)) ≤ once_below x l.drawn
+    few x = omega (arith, filed_numbers x ms h, b.few x)
 
     once_most : (x m : ℕ) → once_below x m ≤ 1
     once_most x m = by_test (ltb x m)
@@ -212,80 +200,61 @@ module _ (batch : Batch) (o : Bool) where
 
     -- nobody stopped the board, where no gate closes
     module _ (always : o ≡ true) where
-      no_stop : (p : Bool) (n : ℕ) → nat_lt 0 n ≡ p → p ≡ false → n ≡ 0
-      no_stop p n is e = grind (arith, nat_tests, is, e)
-
       not_closed : {X : Type 0} → o ≡ false → X
       not_closed e = true_false (sym always ∙ e)
         where
           true_false : {X : Type 0} → ◌≡◌ {A = Bool} true false → X
           true_false e = cc
 
-      none_called : (m : Member) → DidWell batch o m → m.view.stop_callers ≡ 0
+      none_called : (m : Member) → DidWell batch o m → m.progress.stop_called ≡ false
       none_called m d = by_end m.end d.well d.ends
         where
-          by_end : (e : End) → fault_of_end e ≡ None → EndsBy batch o (progress_of m.view) e → m.view.stop_callers ≡ 0
-          by_end end.Drained well (hand, called, ended) = no_stop _ m.view.stop_callers refl called
-          by_end end.Stopped well (hand, inl (called, seen)) = no_stop _ m.view.stop_callers refl called
+          by_end : (e : End) → fault_of_end e ≡ None → EndsBy batch o m.progress e → m.progress.stop_called ≡ false
+          by_end end.Drained well (hand, called, ended) = called
+          by_end end.Stopped well (hand, inl (called, seen)) = called
           by_end end.Stopped well (hand, inr (called, closed)) = not_closed closed
           by_end end.Memory well e = cc
 
-      none_calls : (us : List Member) → AllDidWell batch o us → total (λ v. v.stop_callers) (views us) ≡ 0
-      none_calls [] d = refl
-      none_calls (u ∷ us) d = omega (arith, none_called u d.0, none_calls us d.1)
+      none_calls : (us : List Member) → AllDidWell batch o us → All (λ p. p.stop_called ≡ false) (hands us)
+      none_calls [] d = All-nil (λ p. p.stop_called ≡ false)
+      none_calls (u ∷ us) d = All-cons (λ p. p.stop_called ≡ false) u.progress (hands us) (none_called u d.0) (none_calls us d.1)
 
       not_stopped : l.stopped ≡ true → ⊥
-      not_stopped is = omega (arith, b.stopped.0 is, none_calls ms h)
+      not_stopped is = b.stopped is (none_calls ms h)
 
       -- a member has nothing in hand
-      empty_hand : (m : Member) → DidWell batch o m → m.view.hand ≡ []
+      empty_hand : (m : Member) → DidWell batch o m → m.progress.in_hand ≡ None
       empty_hand m d = by_end m.end d.well d.ends
         where
-          none_left : (hand : List ℕ) → first_of hand ≡ None → hand ≡ []
-          none_left [] e = refl
-          none_left (x ∷ hand) e = cc
-
-          by_end : (e : End) → fault_of_end e ≡ None → EndsBy batch o (progress_of m.view) e → m.view.hand ≡ []
-          by_end end.Drained well e = none_left m.view.hand e.0
-          by_end end.Stopped well e = none_left m.view.hand e.0
+          by_end : (e : End) → fault_of_end e ≡ None → EndsBy batch o m.progress e → m.progress.in_hand ≡ None
+          by_end end.Drained well e = e.0
+          by_end end.Stopped well e = e.0
           by_end end.Memory well e = cc
 
-      empty_hands : (us : List Member) → AllDidWell batch o us → all_in_hand (views us) ≡ []
-      empty_hands [] d = refl
-      empty_hands (u ∷ us) d = rw (empty_hand u d.0) (empty_hands us d.1)
+      empty_hands : (us : List Member) → AllDidWell batch o us → All (λ p. p.in_hand ≡ None) (hands us)
+      empty_hands [] d = All-nil (λ p. p.in_hand ≡ None)
+      empty_hands (u ∷ us) d = All-cons (λ p. p.in_hand ≡ None) u.progress (hands us) (empty_hand u d.0) (empty_hands us d.1)
 
       -- and a member ends where there are no more packets
-      first_drained : (m : Member) (us : List Member) → ms ≡ m ∷ us → DidWell batch o m → l.drawn ≡ n
-      first_drained m us is d = by_end m.end d.well d.ends
+      first_drained : (m : Member) → IsBorneOut n l m.progress → DidWell batch o m → l.drawn ≡ n
+      first_drained m so d = by_end m.end d.well d.ends
         where
-          seen_there : get_elem? (views ms) 0 ≡ some m.view
-          seen_there = ap (λ vs. get_elem? (views vs) 0) is
-
-          ended_somewhere : m.view.ended ≤ total (λ v. v.ended) (views ms)
-          ended_somewhere = subst (λ vs. m.view.ended ≤ total (λ v. v.ended) (views vs)) (sym is) (omega arith)
-
-          drawn_some : length m.view.drawn ≤ length (all_drawn (views ms))
-          drawn_some = subst (λ vs. length m.view.drawn ≤ length (all_drawn (views vs))) (sym is) (omega (arith, length-append m.view.drawn (all_drawn (views us))))
-
-          was_true : (k : ℕ) → nat_lt 0 k ≡ true → 0 < k
-          was_true k e = grind (arith, nat_tests, e)
-
-          by_end : (e : End) → fault_of_end e ≡ None → EndsBy batch o (progress_of m.view) e → l.drawn ≡ n
-          by_end end.Drained well (hand, called, inl ended) = b.ended (omega (arith, was_true m.view.ended ended, ended_somewhere))
-          by_end end.Drained well (hand, called, inr all) = omega (arith, all, drawn_some, b.drawn, b.within, sized)
-          by_end end.Stopped well (hand, inl (called, seen)) = absurd (not_stopped (b.stop_seen 0 m.view seen_there (was_true m.view.seen.stop seen)))
+          by_end : (e : End) → fault_of_end e ≡ None → EndsBy batch o m.progress e → l.drawn ≡ n
+          by_end end.Drained well (hand, called, inl ended) = so.ended ended
+          by_end end.Drained well (hand, called, inr all) = omega (arith, all, so.taken, b.within, sized)
+          by_end end.Stopped well (hand, inl (called, seen)) = absurd (not_stopped (so.stop_seen seen))
           by_end end.Stopped well (hand, inr (called, closed)) = not_closed closed
           by_end end.Memory well e = cc
 
-      all_drawn_up : (us : List Member) → ms ≡ us → AllDidWell batch o us → 0 < length us → l.drawn ≡ n
-      all_drawn_up [] is d any = absurd (omega (arith, any))
-      all_drawn_up (m ∷ us) is d any = first_drained m us is d.0
+      all_drawn_up : (us : List Member) → All (IsBorneOut n l) (hands us) → AllDidWell batch o us → 0 < length us → l.drawn ≡ n
+      all_drawn_up [] so d any = absurd (omega (arith, any))
+      all_drawn_up (m ∷ us) so d any = first_drained m (All-head (IsBorneOut n l) m.progress (hands us) so) d.0
 
       -- so each packet was filed
       each_filed : (x : ℕ) → 0 < length ms → x < n → times x (numbers (everything ms)) ≡ 1
       each_filed x any lt =
-          let drew : l.drawn ≡ n = all_drawn_up ms refl h any in
-          omega (arith, few x, ap (times x) (empty_hands ms h), ap (once_below x) drew, below x n lt)
+          let drew : l.drawn ≡ n = all_drawn_up ms b.learnt h any in
+          omega (arith, filed_numbers x ms h, b.all (empty_hands ms h) x, ap (once_below x) drew, below x n lt)
         where
           below : (x m : ℕ) → x < m → once_below x m ≡ 1
           below x m lt = by_test (ltb x m) refl

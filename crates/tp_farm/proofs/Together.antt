@@ -1,91 +1,85 @@
 -- What members give back, with what they had.
-use Rattle.std.proofs.Common.{◌≡◌, suc, Bool, List, [], ◌∷◌, map, length, None, refl, ap}
+use Rattle.std.proofs.Common.{◌≡◌, suc, List, [], ◌∷◌, map, length, None, refl, ap}
 use Rattle.std.proofs.lemmas.List.Elements.{All-head, All-tail, All-nil, All-cons, All-weaker}
 use Rattle.std.specs.List.{All, AllZip}
 use Rattle.tp_link.specs.Device.{DeviceState}
 use Rattle.tp_link.specs.declared.links.Links.{Links}
 use Rattle.tp_machine.specs.Devices.{Devices}
-use Rattle.tp_board.specs.Boards.{SeatView, views_of, IsSeatOf}
-use Rattle.tp_farm.specs.declared.job.Job.{Job}
+use Rattle.tp_board.specs.Sources.{Progress}
 use Rattle.tp_farm.specs.declared.member.Filed.{Filed}
 use Rattle.tp_farm.specs.declared.member.Filed.TheVariants as filed
 use Rattle.tp_farm.specs.declared.worker.Returned.{Returned}
 use Rattle.tp_farm.specs.Stages.{of_links}
 use Rattle.tp_farm.specs.Members.{IsFiled}
-use Rattle.tp_farm.specs.Working.{Work, work_on, HasWorked}
+use Rattle.tp_farm.specs.Working.{Work, HasWorked}
 use Rattle.tp_farm.specs.Gathering.{fault_of_end, IsOfBatch}
-use Rattle.tp_farm.specs.Apart.{EndsAsItSays, kept_of}
-use Rattle.tp_farm.proofs.Settling.{Member, AllDidWell, views}
+use Rattle.tp_farm.specs.Apart.{kept_of}
+use Rattle.tp_farm.proofs.Settling.{Member, AllDidWell, hands}
 
-module _ {D : Type 0} (state : D → DeviceState) where
-  pub members_of : List (Links D) → List (Returned SeatView Filed D) → List Member
+module _ {H D : Type 0} (state : D → DeviceState) (own : H → Type 0) (progress : H → Progress) where
+  pub members_of : List (Links D) → List (Returned H Filed D) → List Member
   members_of [] rs = []
   members_of (b ∷ bs) [] = []
-  members_of (b ∷ bs) (r ∷ rs) = record { before = of_links state b; after = of_links state r.links; view = r.hand.view; filed = r.filed.items; end = r.end } ∷ members_of bs rs
+  members_of (b ∷ bs) (r ∷ rs) = record { before = of_links state b; after = of_links state r.links; progress = progress r.hand; filed = r.filed.items; end = r.end } ∷ members_of bs rs
 
   module _ (work : Work) where
-    abbrev Worked : List (Links D) → List (Returned SeatView Filed D) → Type 0
-    Worked bs rs = AllZip (HasWorked state work) bs rs
+    abbrev Worked : List (Links D) → List (Returned H Filed D) → Type 0
+    Worked bs rs = AllZip (HasWorked state own progress work) bs rs
 
-    pub did_well : (bs : List (Links D)) (rs : List (Returned SeatView Filed D)) → Worked bs rs → All (λ r. fault_of_end r.end ≡ None) rs → AllDidWell work.batch work.open_for_good (members_of bs rs)
+    pub did_well : (bs : List (Links D)) (rs : List (Returned H Filed D)) → Worked bs rs → All (λ r. fault_of_end r.end ≡ None) rs → AllDidWell work.batch work.open_for_good (members_of bs rs)
     unfolding members_of
     did_well [] rs h well = tt
     did_well (b ∷ bs) [] h well = absurd h
     did_well (b ∷ bs) (r ∷ rs) h well = (record { accounts = h.0.accounts; ends = h.0.ends; well = All-head (λ r. fault_of_end r.end ≡ None) r rs well }, did_well bs rs h.1 (All-tail (λ r. fault_of_end r.end ≡ None) r rs well))
 
-    pub before_is : (bs : List (Links D)) (rs : List (Returned SeatView Filed D)) → Worked bs rs → map (λ m. m.before) (members_of bs rs) ≡ map (of_links state) bs
+    pub before_is : (bs : List (Links D)) (rs : List (Returned H Filed D)) → Worked bs rs → map (λ m. m.before) (members_of bs rs) ≡ map (of_links state) bs
     unfolding members_of
     before_is [] rs h = refl
     before_is (b ∷ bs) [] h = absurd h
     before_is (b ∷ bs) (r ∷ rs) h = ap (λ xs. of_links state b ∷ xs) (before_is bs rs h.1)
 
-    pub after_is : (bs : List (Links D)) (rs : List (Returned SeatView Filed D)) → Worked bs rs → map (λ m. m.after) (members_of bs rs) ≡ map (of_links state) (map (λ k. k.links) (map kept_of rs))
+    pub after_is : (bs : List (Links D)) (rs : List (Returned H Filed D)) → Worked bs rs → map (λ m. m.after) (members_of bs rs) ≡ map (of_links state) (map (λ k. k.links) (map kept_of rs))
     unfolding members_of
     after_is [] [] h = refl
     after_is [] (r ∷ rs) h = absurd h
     after_is (b ∷ bs) [] h = absurd h
     after_is (b ∷ bs) (r ∷ rs) h = ap (λ xs. of_links state r.links ∷ xs) (after_is bs rs h.1)
 
-    pub views_is : (bs : List (Links D)) (rs : List (Returned SeatView Filed D)) → Worked bs rs → views (members_of bs rs) ≡ views_of (map (λ r. r.hand) rs)
+    pub hands_is : (bs : List (Links D)) (rs : List (Returned H Filed D)) → Worked bs rs → hands (members_of bs rs) ≡ map progress (map (λ r. r.hand) rs)
     unfolding members_of
-    views_is [] [] h = refl
-    views_is [] (r ∷ rs) h = absurd h
-    views_is (b ∷ bs) [] h = absurd h
-    views_is (b ∷ bs) (r ∷ rs) h = ap (λ xs. r.hand.view ∷ xs) (views_is bs rs h.1)
+    hands_is [] [] h = refl
+    hands_is [] (r ∷ rs) h = absurd h
+    hands_is (b ∷ bs) [] h = absurd h
+    hands_is (b ∷ bs) (r ∷ rs) h = ap (λ xs. progress r.hand ∷ xs) (hands_is bs rs h.1)
 
-    pub filed_is : (bs : List (Links D)) (rs : List (Returned SeatView Filed D)) → Worked bs rs → map (λ m. m.filed) (members_of bs rs) ≡ map (λ k. k.filed.items) (map kept_of rs)
+    pub filed_is : (bs : List (Links D)) (rs : List (Returned H Filed D)) → Worked bs rs → map (λ m. m.filed) (members_of bs rs) ≡ map (λ k. k.filed.items) (map kept_of rs)
     unfolding members_of
     filed_is [] [] h = refl
     filed_is [] (r ∷ rs) h = absurd h
     filed_is (b ∷ bs) [] h = absurd h
     filed_is (b ∷ bs) (r ∷ rs) h = ap (λ xs. r.filed.items ∷ xs) (filed_is bs rs h.1)
 
-    pub length_is : (bs : List (Links D)) (rs : List (Returned SeatView Filed D)) → Worked bs rs → length (members_of bs rs) ≡ length rs
+    pub length_is : (bs : List (Links D)) (rs : List (Returned H Filed D)) → Worked bs rs → length (members_of bs rs) ≡ length rs
     unfolding members_of
     length_is [] [] h = refl
     length_is [] (r ∷ rs) h = absurd h
     length_is (b ∷ bs) [] h = absurd h
     length_is (b ∷ bs) (r ∷ rs) h = ap suc (length_is bs rs h.1)
 
-    -- each seat is one of the board's
-    pub seats_own : (bs : List (Links D)) (rs : List (Returned SeatView Filed D)) → Worked bs rs → All (IsSeatOf work.board) (map (λ r. r.hand) rs)
-    seats_own bs [] h = All-nil (IsSeatOf work.board)
-    seats_own [] (r ∷ rs) h = absurd h
-    seats_own (b ∷ bs) (r ∷ rs) h = All-cons (IsSeatOf work.board) r.hand (map (λ r. r.hand) rs) h.0.own (seats_own bs rs h.1)
+    -- each hand is one of the source's
+    pub hands_own : (bs : List (Links D)) (rs : List (Returned H Filed D)) → Worked bs rs → All own (map (λ r. r.hand) rs)
+    hands_own bs [] h = All-nil own
+    hands_own [] (r ∷ rs) h = absurd h
+    hands_own (b ∷ bs) (r ∷ rs) h = All-cons own r.hand (map (λ r. r.hand) rs) h.0.is_own (hands_own bs rs h.1)
 
     of_batch : (devices : Devices) (f : Filed) → IsFiled work.batch devices f → IsOfBatch work.batch f
     of_batch devices (filed.Done d) h = h
     of_batch devices (filed.Lost n f) h = tt
 
-    pub all_of_batch : (bs : List (Links D)) (rs : List (Returned SeatView Filed D)) → Worked bs rs → All (λ k. All (IsOfBatch work.batch) k.filed.items) (map kept_of rs)
+    pub all_of_batch : (bs : List (Links D)) (rs : List (Returned H Filed D)) → Worked bs rs → All (λ k. All (IsOfBatch work.batch) k.filed.items) (map kept_of rs)
     all_of_batch bs [] h = All-nil (λ k. All (IsOfBatch work.batch) k.filed.items)
     all_of_batch [] (r ∷ rs) h = absurd h
     all_of_batch (b ∷ bs) (r ∷ rs) h =
         All-cons (λ k. All (IsOfBatch work.batch) k.filed.items) (kept_of r) (map kept_of rs)
         (All-weaker (IsFiled work.batch (of_links state b)) (IsOfBatch work.batch) (of_batch (of_links state b)) r.filed.items h.0.accounts.filed)
         (all_of_batch bs rs h.1)
-
-  pub end_as_said : {G : Type 0} (job : Job) (open_for_good : G → Bool) (gate : G) (board : _) (bs : List (Links D)) (rs : List (Returned SeatView Filed D)) → AllZip (HasWorked state (work_on open_for_good job gate board)) bs rs → All (EndsAsItSays job) rs
-  end_as_said job o gate board bs [] h = All-nil (EndsAsItSays job)
-  end_as_said job o gate board [] (r ∷ rs) h = absurd h
-  end_as_said job o gate board (b ∷ bs) (r ∷ rs) h = All-cons (EndsAsItSays job) r rs (record { open_for_good = o gate; ends = h.0.ends }) (end_as_said job o gate board bs rs h.1)

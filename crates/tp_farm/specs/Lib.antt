@@ -8,6 +8,7 @@ pub mod Members
 pub mod Working
 pub mod Refused
 pub mod Gathering
+pub mod Closing
 pub mod Apart
 pub mod Batches
 pub mod Rooms

@@ -1,9 +1,8 @@
--- What a member's thread gives back.
-use Rattle.std.specs.Prelude.{◌≡◌, Bool}
+-- What a member's thread gives back, whatever source its packets come from.
+use Rattle.std.specs.Prelude.{◌≡◌, ℕ, Bool, List}
 use Rattle.tp_link.specs.Device.{DeviceState}
 use Rattle.tp_link.specs.declared.links.Links.{Links}
-use Rattle.tp_board.specs.Boards.{BoardView, SeatView, IsSeatOf}
-use Rattle.tp_board.specs.Sources.{progress_of}
+use Rattle.tp_board.specs.Sources.{Progress}
 use Rattle.tp_collect.specs.Collected.{Batch}
 use Rattle.tp_farm.specs.declared.job.Job.{Job}
 use Rattle.tp_farm.specs.declared.member.Filed.{Filed}
@@ -14,35 +13,33 @@ use Rattle.tp_farm.specs.Turns.{no_progress}
 use Rattle.tp_farm.specs.Stages.{of_links}
 use Rattle.tp_farm.specs.Members.{KeepsAccounts, EndsBy}
 
--- what all members work on: the batch, whether its gate is open for good, and the board
+-- what all members work on: the batch, and whether its gate is open for good
 pub record Work : Type 0 where
   pub batch : Batch
   pub open_for_good : Bool
-  pub board : BoardView
 
-abbrev pub work_on : {G : Type 0} → (G → Bool) → Job → G → BoardView → Work
-work_on open_for_good job gate board = record {
+abbrev pub work_on : {G : Type 0} → (G → Bool) → Job → G → Work
+work_on open_for_good job gate = record {
   batch = batch_of job;
   open_for_good = open_for_good gate;
-  board = board;
 }
 
-abbrev pub work_of : {G : Type 0} → (G → Bool) → Shop G → Work
-work_of open_for_good shop = work_on open_for_good shop.job.now shop.gate.now shop.source.now.board
+abbrev pub work_of : {G S : Type 0} → (G → Bool) → Shop G S → Work
+work_of open_for_good shop = work_on open_for_good shop.job.now shop.gate.now
 
--- the shop is of the board and the packets, and each packet has its length
-pub record IsSet {G : Type 0} (shop : Shop G) : Type 0 where
-  pub packets : shop.source.now.packets ≡ (batch_of shop.job.now).packets
+-- the shop's source has the batch's packets, and each packet has its length
+pub record IsSet {G S : Type 0} (packets_of : S → List (List ℕ)) (shop : Shop G S) : Type 0 where
+  pub packets : packets_of shop.source.now ≡ (batch_of shop.job.now).packets
   pub whole : AreWhole (batch_of shop.job.now)
 
--- a seat of the board that has done nothing
-pub record IsFresh (board : BoardView) (seat : SeatView) : Type 0 where
-  pub own : IsSeatOf board seat
-  pub none : progress_of seat.view ≡ no_progress
+-- a hand of the source that has done nothing
+pub record IsFresh {H : Type 0} (own : H → Type 0) (progress : H → Progress) (hand : H) : Type 0 where
+  pub is_own : own hand
+  pub none : progress hand ≡ no_progress
 
--- a member that had these devices has done its work: its seat is one of the board's, its accounts are in order, and it has
+-- a member that had these devices has done its work: its hand is one of the source's, its accounts are in order, and it has
 -- ended as it says
-pub record HasWorked {D : Type 0} (state : D → DeviceState) (work : Work) (before : Links D) (r : Returned SeatView Filed D) : Type 0 where
-  pub own : IsSeatOf work.board r.hand
-  pub accounts : KeepsAccounts work.batch (of_links state before) (of_links state r.links) (progress_of r.hand.view) r.filed.items
-  pub ends : EndsBy work.batch work.open_for_good (progress_of r.hand.view) r.end
+pub record HasWorked {H D : Type 0} (state : D → DeviceState) (own : H → Type 0) (progress : H → Progress) (work : Work) (before : Links D) (r : Returned H Filed D) : Type 0 where
+  pub is_own : own r.hand
+  pub accounts : KeepsAccounts work.batch (of_links state before) (of_links state r.links) (progress r.hand) r.filed.items
+  pub ends : EndsBy work.batch work.open_for_good (progress r.hand) r.end

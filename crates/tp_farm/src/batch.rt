@@ -3,6 +3,7 @@
 ghost use Rattle.std.specs.Prelude.{◌≡◌, ◌==◌, ◌<◌, not, None, Some, Err, All, map, position, replicate, IfSome, IfOk, IfErr, OnOk, length, vec_len};
 ghost use Rattle.std.specs.List.{AllZip};
 ghost use Rattle.tp_board.specs.Boards.{IsSeatOf, views_of};
+ghost use Rattle.tp_board.specs.Sources.{progress_of};
 ghost use Rattle.tp_board.specs.Ledgers.{Balances};
 ghost use Rattle.tp_collect.specs.Collecting.{vacant};
 ghost use Rattle.tp_farm.specs.Jobs.{batch_of};
@@ -15,10 +16,11 @@ ghost use Rattle.tp_farm.specs.Rooms.{HasRoom};
 
 use crate::fault::FarmFault;
 use crate::gate::Gate;
-use crate::gathering::{Kept, gather_all, take_seats};
+use crate::gathering::{Kept, gather_all, take_hands};
 use crate::job::Job;
+use crate::member::Filed;
 use crate::members::run_members;
-use crate::worker::{Back, Shop};
+use crate::worker::{Returned, Shop};
 use std::alloc::{AllocError, Global};
 use std::snapshot::Snapshot;
 use std::sync::Wait;
@@ -60,19 +62,19 @@ fn job_fault(job: &Job<'_>, members: usize) -> Option<FarmFault>
 
 /// Room for what the members give back.
 #[derive(Drop)]
-struct Room<D> {
-    seats: Vec<Seat>,
+struct Room<H, D> {
+    hands: Vec<H>,
     kept: Vec<Kept<D>>,
     links: Vec<Links<D>>,
 }
 
-impl<D: Drop> Room<D> {
+impl<H: Drop, D: Drop> Room<H, D> {
     /// Room for so many members.
-    fn for_members(alloc: Global, members: usize) -> Result<Room<D>, AllocError>
+    fn for_members(alloc: Global, members: usize) -> Result<Room<H, D>, AllocError>
         ensures { IfOk result (HasRoom members) }
     {
         Ok(Room {
-            seats: Vec::with_capacity(alloc, members)?,
+            hands: Vec::with_capacity(alloc, members)?,
             kept: Vec::with_capacity(alloc, members)?,
             links: Vec::with_capacity(alloc, members)?,
         })
@@ -94,25 +96,25 @@ fn close_board(board: Board, seats: Vec<Seat>) -> Ledger
 /// Makes one batch of what the members give back: the board is closed, which accounts for each number once, and all that
 /// was filed is gathered. The first fault of a member is the answer.
 fn settle<D: LinkDevice, G: Gate>(
-    job: &Job<'_>,
+    _job: &Job<'_>,
     _gate: &G,
     board: Board,
     mut collector: Collector<'_>,
-    returned: Vec<Back<D>>,
-    mut room: Room<D>,
+    returned: Vec<Returned<Seat, Filed, D>>,
+    mut room: Room<Seat, D>,
     _before: Snapshot<Vec<Links<D>>>,
 ) -> Result<Batch<D>, FarmFault>
-    requires worked { AllZip (HasWorked D.state (work_on G.open_for_good job.now _gate.now board)) _before.value.items returned.items }
+    requires worked { AllZip (HasWorked D.state (IsSeatOf board) (λ s. progress_of s.view) (work_on G.open_for_good _job.now _gate.now)) _before.value.items returned.items }
     requires members { vec_len returned ≡ board.members }
     requires some { 0 < vec_len returned }
-    requires packets { board.packets ≡ length (batch_of job.now).packets }
-    requires collector { collector ≡ record { batch = batch_of job.now; entries = replicate board.packets vacant } }
+    requires packets { board.packets ≡ length (batch_of _job.now).packets }
+    requires collector { collector ≡ record { batch = batch_of _job.now; entries = replicate board.packets vacant } }
     requires room { HasRoom (vec_len returned) room }
-    ensures batch { IfOk result (λ b. IsBatch (batch_of job.now) (G.open_for_good _gate.now) (map (of_links D.state) _before.value.items) (map (of_links D.state) b.links.items) b.collected) }
+    ensures batch { IfOk result (λ b. IsBatch (batch_of _job.now) (G.open_for_good _gate.now) (map (of_links D.state) _before.value.items) (map (of_links D.state) b.links.items) b.collected) }
     ensures err { IfErr result IsFromOutside }
 {
-    take_seats(job, returned, &mut room.seats, &mut room.kept)?;
-    let _ledger = close_board(board, room.seats);
+    take_hands(returned, &mut room.hands, &mut room.kept)?;
+    let _ledger = close_board(board, room.hands);
     gather_all(&mut collector, room.kept, &mut room.links);
     Ok(Batch {
         collected: collector.finish(),
@@ -126,7 +128,7 @@ fn settle<D: LinkDevice, G: Gate>(
 /// Accepted code never goes wrong: each packet's worker ends by stopp within the budget and is never stuck, and each
 /// result that is collected is what the run of its packet alone gives.
 ///
-/// G1, G2 and G3 are tested first, in this order. Where a thread cannot be started no further one is, and the members that
+/// G1, G2 and G3 are tested first, in this order. A batch of no packets starts no thread. Where a thread cannot be started no further one is, and the members that
 /// were started go on until they end. A member to which memory was refused stops the batch first.
 pub fn run_batch<'j, R: Threads + Wait + Sync, D: LinkDevice + Send, G: Gate>(
     rt: &R,
@@ -146,6 +148,12 @@ pub fn run_batch<'j, R: Threads + Wait + Sync, D: LinkDevice + Send, G: Gate>(
         return Err(fault);
     }
     let collector = Collector::new(alloc, job.batch, job.image.image(), job.packets)?;
+    if job.packets.is_empty() {
+        return Ok(Batch {
+            collected: collector.finish(),
+            links,
+        });
+    }
     let room = Room::for_members(alloc, links.len())?;
     let made = Board::new(alloc, job.packets.len() as u32, links.len() as u32);
     let Ok((board, seats)) = made else {

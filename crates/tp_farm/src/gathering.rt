@@ -1,24 +1,19 @@
 //! What the members give back becomes one batch.
 
 ghost use Rattle.std.specs.Prelude.{◌≡◌, ◌≤◌, ◌+◌, ◌++◌, None, Some, All, map, slice_get, slice_set, OnOk, IfErr, vec_len, vec_capacity};
-ghost use Rattle.tp_board.specs.Sources.{progress_of};
 ghost use Rattle.tp_collect.specs.Collected.{Batch};
 ghost use Rattle.tp_collect.specs.Collecting.{vacant};
-ghost use Rattle.tp_farm.specs.Jobs.{batch_of};
-ghost use Rattle.tp_farm.specs.Members.{EndsBy};
 ghost use Rattle.tp_farm.specs.Refused.{IsFromOutside};
 ghost use Rattle.tp_farm.specs.Gathering.{number_of, entry_of, IsOfBatch, filed_in, FindVacant, all_filed, fault_of_end};
-ghost use Rattle.tp_farm.specs.Apart.{EndsAsItSays, kept_of};
+ghost use Rattle.tp_farm.specs.Apart.{kept_of};
 
 use crate::fault::FarmFault;
-use crate::job::Job;
 use crate::member::{End, Filed};
-use crate::worker::Back;
-use tp_board::Seat;
+use crate::worker::Returned;
 use tp_collect::Collector;
 use tp_link::{LinkDevice, Links};
 
-/// What is left of a member when its seat is gone.
+/// What is left of a member when its hand is gone.
 #[derive(Drop)]
 pub(crate) struct Kept<D> {
     pub(crate) links: Links<D>,
@@ -35,17 +30,15 @@ fn fault_of_end(end: End) -> Option<FarmFault>
     }
 }
 
-/// Takes the seats from what the members gave back; the first fault of a member is the answer.
-pub(crate) fn take_seats<D: LinkDevice>(
-    _job: &Job<'_>,
-    returned: Vec<Back<D>>,
-    seats: &mut Vec<Seat>,
+/// Takes the hands from what the members gave back; the first fault of a member is the answer.
+pub(crate) fn take_hands<H: Drop, D: LinkDevice>(
+    returned: Vec<Returned<H, Filed, D>>,
+    hands: &mut Vec<H>,
     kept: &mut Vec<Kept<D>>,
 ) -> Result<(), FarmFault>
-    requires ends { All (EndsAsItSays _job.now) returned.items }
-    requires seats { vec_len seats.old + vec_len returned ≤ vec_capacity seats.old }
+    requires hands { vec_len hands.old + vec_len returned ≤ vec_capacity hands.old }
     requires kept { vec_len kept.old + vec_len returned ≤ vec_capacity kept.old }
-    ensures seats { OnOk result (seats.new.items ≡ seats.old.items ++ map (λ r. r.hand) returned.items) }
+    ensures hands { OnOk result (hands.new.items ≡ hands.old.items ++ map (λ r. r.hand) returned.items) }
     ensures kept { OnOk result (kept.new.items ≡ kept.old.items ++ map kept_of returned.items) }
     ensures well { OnOk result (All (λ r. fault_of_end r.end ≡ None) returned.items) }
     ensures err { IfErr result IsFromOutside }
@@ -54,7 +47,7 @@ pub(crate) fn take_seats<D: LinkDevice>(
         if let Some(fault) = fault_of_end(one.end) {
             return Err(fault);
         }
-        seats.push_reserved(one.hand);
+        hands.push_reserved(one.hand);
         kept.push_reserved(Kept {
             links: one.links,
             filed: one.filed,

@@ -9,7 +9,7 @@ use crate::member::{End, Filed, Member, work};
 use std::alloc::Global;
 use std::snapshot::Snapshot;
 use std::sync::Wait;
-use tp_board::{BoardSource, Seat};
+use tp_board::WorkSource;
 use tp_link::{LinkDevice, Links};
 use tp_machine::Machine;
 
@@ -22,34 +22,31 @@ pub(crate) struct Returned<H, F, D> {
     pub(crate) end: End,
 }
 
-/// The same of a member with a seat at a board.
-pub(crate) type Back<D> = Returned<Seat, Filed, D>;
-
 /// What all members work with.
 #[derive(Drop)]
-pub(crate) struct Shop<'j, G> {
+pub(crate) struct Shop<'j, G, S> {
     pub(crate) job: &'j Job<'j>,
     pub(crate) gate: &'j G,
-    pub(crate) source: &'j BoardSource<'j>,
+    pub(crate) source: &'j S,
 }
 
 /// The whole work of the member of a number, on a machine of its own.
-pub(crate) fn work_as<D: LinkDevice, G: Gate>(
+pub(crate) fn work_as<S: WorkSource, D: LinkDevice, G: Gate>(
     rt: &impl Wait,
     alloc: Global,
-    shop: &Shop<'_, G>,
+    shop: &Shop<'_, G, S>,
     number: u32,
-    seat: Seat,
+    hand: S::Hand,
     links: Links<D>,
-) -> Back<D>
-    requires set { IsSet shop.now }
-    requires fresh { IsFresh shop.now.source.now.board seat }
-    ensures { HasWorked D.state (work_of G.open_for_good shop.now) links result }
+) -> Returned<S::Hand, Filed, D>
+    requires set { IsSet S.packets shop.now }
+    requires fresh { IsFresh (S.is_own shop.now.source.now) S.progress hand }
+    ensures { HasWorked D.state (S.is_own shop.now.source.now) S.progress (work_of G.open_for_good shop.now) links result }
 {
     let entry = Snapshot::of(&links);
     let mut member = Member {
         number,
-        hand: seat,
+        hand,
         machine: Machine::new(),
         links,
         filed: Vec::new(alloc),

@@ -1,5 +1,8 @@
+use Rattle.std.proofs.lemmas.Bool.Decides.{nat_tests}
+use Rattle.std.proofs.lemmas.List.{length-map}
 use Rattle.std.proofs.Common.{◌≡◌, length, map, IfOk, sym, ap, ◌∙◌, subst, arith}
 use Rattle.std.proofs.lemmas.Slice.Zip.{AllZip-long}
+use Rattle.std.specs.List.{AllZip}
 use Rattle.tp_farm.specs.Jobs.{batch_of}
 use Rattle.tp_farm.specs.Stages.{of_links}
 use Rattle.tp_farm.specs.Refused.{job_fault}
@@ -8,6 +11,11 @@ use Rattle.tp_farm.specs.Rooms.{HasRoom}
 use Rattle.tp_accept.proofs.NeverWrong.{never_goes_wrong_of}
 use Rattle.tp_farm.proofs.Beginning.{begun, on_ok, if_ok}
 use Rattle.tp_farm.proofs.Promising.{goes_well}
+use Rattle.tp_board.specs.Boards.{IsSeatOf}
+use Rattle.tp_board.specs.Sources.{progress_of}
+use Rattle.tp_collect.specs.Collected.{IsCollected}
+use Rattle.tp_farm.specs.Working.{HasWorked, work_on}
+use Rattle.tp_farm.proofs.Nothing.{nothing_run}
 use Rattle.tp_farm.proofs.batch.run_batch.Goals as goal
 
 pub run_members-requires-clause-set : goal.run_members-requires-clause-set
@@ -46,3 +54,16 @@ pub returns-clause-goes_well : goal.returns-clause-goes_well
 returns-clause-goes_well g c packets = if_ok _ _ c.settle.result c.settle.ensures.batch λ b batch.
     let accepted = c.args.job.now.image.now in
     goes_well (batch_of c.args.job.now) accepted.budget (never_goes_wrong_of accepted.image accepted.budget accepted.acceptable) packets _ _ _ b.collected batch
+
+pub settle-requires-clause-worked : goal.settle-requires-clause-worked
+settle-requires-clause-worked g c κs within =
+    let work = work_on g.G.Gate.open_for_good c.args.job.now c.args.gate.now in
+    subst (λ v. AllZip (HasWorked g.D.LinkDevice.state (IsSeatOf c.into_board-board.result) (λ s. progress_of s.view) work) v.items c.in_ok-returned.returned.items) (sym c.of-before.ensures)
+    (subst (λ b. AllZip (HasWorked g.D.LinkDevice.state (IsSeatOf b) (λ s. progress_of s.view) work) c.args.links.items c.in_ok-returned.returned.items) (sym c.into_board-board.ensures) c.in_ok-returned.ensures.worked)
+
+pub returns-then-is_empty-clause-batch : goal.returns-then-is_empty-clause-batch
+returns-then-is_empty-clause-batch g c =
+    let batch = batch_of c.args.job.now in
+    let is : c.in_ok-collector.collector.batch ≡ batch = ap (λ x. x.batch) c.in_ok-collector.ensures ∙ ap (λ image. record batch { image = image }) c.image.ensures in
+    let none : length batch.packets ≡ 0 = grind (arith, nat_tests, c.is_empty.ensures, c.if-is_empty.true, length-map c.args.job.now.packets.now (λ p. p.items)) in
+    nothing_run batch _ _ _ none (subst (λ b. IsCollected b c.finish.result) is c.finish.ensures.collected)

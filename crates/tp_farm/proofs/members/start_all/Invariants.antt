@@ -10,8 +10,8 @@ invariant-loop-links g l =
     (goal.iterator-loop-links g).can_next l.links-iterator
     × (goal.iterator-loop-links g).is_finite l.links-iterator
     × IsUpTo (λ h. h.promise.before.value) (λ h. h.promise.shop.now ≡ l.shop) l.fn.all.items (into_iter_items l.links-iterator) l.handles.items
-    × All (IsFresh l.shop.source.now.board) l.seats.items
-    × (vec_len l.seats ≡ into_iter_len l.links-iterator)
+    × All (IsFresh (g.S.WorkSource.is_own l.shop.source.now) g.S.WorkSource.progress) l.hands.items
+    × (vec_len l.hands ≡ into_iter_len l.links-iterator)
     × (vec_len l.handles + into_iter_len l.links-iterator ≡ vec_len l.fn.all)
     × (l.number ≡ vec_len l.handles)
     × (vec_len l.fn.all ≤ vec_capacity l.handles)
