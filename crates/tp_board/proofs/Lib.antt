@@ -10,3 +10,4 @@ mod Events
 mod Opening
 mod Same
 mod Schedule
+mod Turns

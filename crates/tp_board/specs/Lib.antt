@@ -17,3 +17,4 @@ pub mod Boards
 pub mod Calls
 pub mod Ledgers
 pub mod Sources
+pub mod Lines

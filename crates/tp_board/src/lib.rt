@@ -11,6 +11,7 @@ mod board_source;
 mod event;
 mod farm_core;
 pub mod laws;
+mod line;
 mod rule;
 mod seat;
 mod source;
