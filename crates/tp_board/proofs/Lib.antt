@@ -11,3 +11,5 @@ mod Opening
 mod Same
 mod Schedule
 mod Turns
+mod Desks
+mod Handing

@@ -18,3 +18,5 @@ pub mod Calls
 pub mod Ledgers
 pub mod Sources
 pub mod Lines
+pub mod Desks
+pub mod Streams
