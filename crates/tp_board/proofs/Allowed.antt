@@ -31,7 +31,7 @@ module _ {S : Type 0} (k : Size) (slots id : ℕ) (me : Me S View) where
   pub joins : (other : ℕ) (u : View) → 0 < me.0.parts → Joins {S = S} (Holds k) id me.0 other u (join_of me.0 u) (newcomer 0 0)
   joins other u some_part s h at apart there = (h.0, h.1, join_rule k h.0 s.views id me.0 other u some_part h.2 at apart there)
 
-pub opens : (S : Type 0) (p m : ℕ) → p ≤ 1024 → m ≤ 64 → Holds {S = S} (size p m) (opening (0 ∷ 0 ∷ 0 ∷ 0 ∷ []) [] (newcomer p m))
+pub opens : (S : Type 0) (p m : ℕ) → p ≤ 1024 → m ≤ 65 → Holds {S = S} (size p m) (opening (0 ∷ 0 ∷ 0 ∷ 0 ∷ []) [] (newcomer p m))
 opens S p m few_packets few_members = (
   nothing_seen,
   refl,

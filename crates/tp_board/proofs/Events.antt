@@ -103,7 +103,7 @@ claim_law k words views id v (h, at, one) may =
     let w = h.0 in
     let packets : v.packets ≡ k.packets = (h.2.fits id v at).packets (omega arith) in
     let next : slice_set (words_of w) 0 (one_more w.claimed) ≡ words_of (counters (w.claimed + 1) w.done w.lost w.stop) =
-    ap (λ n. n ∷ w.done ∷ w.lost ∷ w.stop ∷ []) (added w.claimed (claimed_small k w views h.2)) in
+    ap (λ n. n ∷ w.done ∷ w.lost ∷ w.stop ∷ []) (added w.claimed (let z = claimed_small k w views h.2 in omega arith)) in
     let Told : List ℕ → List ℕ → View → Reply → Type 0 = λ ws ws' u r. IsSame (farm_of k ws' (slice_set views id u)) (step (farm_of k ws views) id Claim).1 × ((step (farm_of k ws views) id Claim).0 ≡ r) in
     let Goal : List ℕ → Type 0 = λ ws. Told ws (slice_set ws 0 (one_more (slice_index ws 0))) (after_draw v (slice_index ws 0)) (claim_reply v.packets (slice_index ws 0)) in
     let Next : List ℕ → Type 0 = λ ws. Told (words_of w) ws (after_draw v w.claimed) (claim_reply v.packets w.claimed) in

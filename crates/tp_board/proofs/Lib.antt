@@ -10,3 +10,6 @@ mod Events
 mod Opening
 mod Same
 mod Schedule
+mod Turns
+mod Desks
+mod Handing

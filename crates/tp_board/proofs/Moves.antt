@@ -18,7 +18,7 @@ use Rattle.tp_board.specs.Steps.{after_draw, after_finish, after_abandon, after_
 use Rattle.tp_board.proofs.Steps.{drew_rule, finish_rule, abandon_rule, stop_rule, saw_rule}
 use Rattle.tp_board.proofs.Totals.{le_total, total_le}
 
-pub claimed_small : (k : Size) (w : Counters) (views : List View) → Rule k w views → w.claimed ≤ 1088
+pub claimed_small : (k : Size) (w : Counters) (views : List View) → Rule k w views → w.claimed ≤ 1089
 claimed_small k w views r = let a = total_le (λ v. v.ended) (λ v. v.parts) views (λ id v at. (r.fits id v at).ended) in let b = r.ended in let c = r.parts in let d = r.few_packets in let e = r.few_members in omega arith
 
 pub finished_small : (k : Size) (w : Counters) (views : List View) → Rule k w views → w.done ≤ 1024
@@ -27,7 +27,7 @@ finished_small k w views r = let a = total_le (λ v. length v.finished) (λ v. l
 pub abandoned_small : (k : Size) (w : Counters) (views : List View) → Rule k w views → w.lost ≤ 1024
 abandoned_small k w views r = let a = total_le (λ v. length v.abandoned) (λ v. length v.drawn) views (λ id v at. let c = (r.fits id v at).counted in omega arith) in let b = r.lost in let c = r.drawn in let d = r.few_packets in omega arith
 
-pub added : (n : ℕ) → n ≤ 1088 → (n + 1) % 2 ^ 64 ≡ n + 1
+pub added : (n : ℕ) → n ≤ 66560 → (n + 1) % 2 ^ 64 ≡ n + 1
 added n h = mod-eq_of_lt (omega arith)
 
 pub one_or : (t : ℕ) → bit_or (min 1 t) 1 ≡ 1
@@ -47,7 +47,7 @@ module _ (k : Size) (words : List ℕ) (views : List View) (id : ℕ) (v : View)
       let found : slice_index words 0 ≡ w.claimed = ap (λ ws. slice_index ws 0) e in
       subst (λ n. KeepsRule k (slice_set words 0 (one_more (slice_index words 0))) (set views id (after_draw v n))) (sym found) (
         counters (w.claimed + 1) w.done w.lost w.stop,
-        ap (λ ws. slice_set ws 0 (one_more (slice_index ws 0))) e ∙ ap (λ n. n ∷ w.done ∷ w.lost ∷ w.stop ∷ []) (added w.claimed (claimed_small k w views r)),
+        ap (λ ws. slice_set ws 0 (one_more (slice_index ws 0))) e ∙ ap (λ n. n ∷ w.done ∷ w.lost ∷ w.stop ∷ []) (added w.claimed (let z = claimed_small k w views r in omega arith)),
         drew_rule k w views id v no_hand going one r at,
       )
 

@@ -13,7 +13,7 @@ use Rattle.tp_board.proofs.Counting.{none_below}
 use Rattle.tp_board.proofs.Steps.{newcomer_fits}
 use Rattle.tp_board.proofs.Totals.{total_same, total_each, at_replicate, none_gathered}
 
-opening_rule : (p m : ℕ) → p ≤ 1024 → m ≤ 64 → Rule (size p m) nothing_seen (opening_views p m)
+opening_rule : (p m : ℕ) → p ≤ 1024 → m ≤ 65 → Rule (size p m) nothing_seen (opening_views p m)
 opening_rule p m few_packets few_members =
     let v = newcomer p 1 in
     let none : min 0 p ≡ 0 = omega arith in record {
@@ -51,7 +51,7 @@ opening_law p m (some_member, few_members, few_packets) =
     let v = newcomer p 1 in
     let views = opening_views p m in
     let none : min 0 p ≡ 0 = omega arith in record {
-      rule = (nothing_seen, refl, opening_rule p m few_packets few_members);
+      rule = (nothing_seen, refl, opening_rule p m few_packets (omega arith));
       only = (λ words h. h.1 ∙ opening_only p m h.0 h.2);
       farm = ap (λ n. farm p n (map (λ u. first_of u.hand) views) (all_finished views) (all_abandoned views) (nat_eq 0 1)) none
           ∙ ap (λ hs. farm p 0 hs (all_finished views) (all_abandoned views) (nat_eq 0 1)) (no_hands v m refl)

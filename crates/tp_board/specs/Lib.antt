@@ -17,3 +17,6 @@ pub mod Boards
 pub mod Calls
 pub mod Ledgers
 pub mod Sources
+pub mod Lines
+pub mod Desks
+pub mod Streams

@@ -8,8 +8,8 @@ use Rattle.tp_board.specs.declared.rule.Size.{Size}
 use Rattle.tp_board.specs.Counting.{times, once_below}
 use Rattle.tp_board.specs.Words.{words_of}
 
--- f of each view, added up
-abbrev pub total : (View → ℕ) → List View → ℕ
+-- f of each element, added up
+abbrev pub total : {V : Type 0} → (V → ℕ) → List V → ℕ
 total f [] = 0
 total f (v ∷ vs) = f v + total f vs
 
@@ -31,13 +31,13 @@ pub record Fits (k : Size) (w : Counters) (v : View) : Type 0 where
   pub seen : AtMost v.seen w
   pub idle : v.parts ≡ 0 → (v.drawn ≡ []) × (v.stop_callers ≡ 0)
 
--- of the words and all views: all drawn numbers are those below the lesser of `claimed` and
+-- of the words and all views, of at most 64 members and a feeder: all drawn numbers are those below the lesser of `claimed` and
 -- packets, each once; `claimed` also counts the views that learnt the end, which exist only where
 -- it is above packets; `done` and `lost` count the numbers finished and abandoned; `stop` is 1
 -- where some view called stop, and else 0
 pub record Rule (k : Size) (w : Counters) (views : List View) : Type 0 where
   pub few_packets : k.packets ≤ 1024
-  pub few_members : k.members ≤ 64
+  pub few_members : k.members ≤ 65
   pub parts : total (λ v. v.parts) views ≡ k.members
   pub each_once : (x : ℕ) → total (λ v. times x v.drawn) views ≡ once_below x (min w.claimed k.packets)
   pub drawn : total (λ v. length v.drawn) views ≡ min w.claimed k.packets

@@ -115,7 +115,7 @@ impl<'p> WorkSource for BoardSource<'p> {
 }
 
 // The same bytes. `clone` would take memory's Result.
-fn copied(packet: &Packet) -> Packet
+pub(crate) fn copied(packet: &Packet) -> Packet
     ensures { result.items ≡ packet.now.items }
 {
     let mut copy = ArrayVec::new();

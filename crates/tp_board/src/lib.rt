@@ -8,12 +8,16 @@
 mod answer;
 mod board;
 mod board_source;
+mod desk;
 mod event;
 mod farm_core;
 pub mod laws;
+mod line;
 mod rule;
 mod seat;
 mod source;
+mod stream;
+mod stream_hand;
 mod view;
 
 pub use answer::{BoardFault, Claim, Ledger, MAX_MEMBERS, MAX_PACKETS};
@@ -23,3 +27,5 @@ pub use event::{Event, Reply, Shown};
 pub use farm_core::Core;
 pub use seat::Seat;
 pub use source::{Packet, Work, WorkSource};
+pub use stream::{StreamCloseFault, StreamQueue};
+pub use stream_hand::{Fed, Feeder, StreamHand, StreamLedger};

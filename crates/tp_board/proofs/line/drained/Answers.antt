@@ -1,0 +1,20 @@
+use Rattle.std.proofs.Common.{◌≡◌, ◌-◌, length, ap, arith}
+use Rattle.crossbeam_queue.specs.Passes.{view}
+use Rattle.tp_board.specs.declared.line.Turn.{Turn}
+use Rattle.tp_board.proofs.Turns.{left, left_at, all_popped}
+use Rattle.tp_board.proofs.line.drained.Goals as goal
+
+pub learn_as-requires-clause-rule : goal.learn_as-requires-clause-rule
+learn_as-requires-clause-rule g c = left _ _ c.requires.parts
+
+pub returns-in-None-drain : goal.returns-in-None-drain
+returns-in-None-drain g c =
+    let i = c.loop.invariant in
+    let same = c.learn_as.ensures.queue.1 in
+    let was = ap (λ (t : Turn). length t.popped) same in
+    let had = ap (λ (t : Turn). t.pushed) same in
+    let all = all_popped (view c.loop.pass) c.in-None-drain.ensures.1.1 in
+    let count = i.count in
+    let pushed = i.pushed in
+    let fed = c.requires.pushed.0 in
+    left_at (view c.args.pass.now) (c.args.pushed - c.loop.left) (omega arith) c.learn_as.ensures.rule

@@ -1,0 +1,189 @@
+-- What a stream, its hands and its feeder are to a contract, and what its calls say.
+use Rattle.std.specs.Prelude.{◌≡◌, ℕ, ◌+◌, ◌-◌, ◌<◌, ◌≤◌, ◌⊎◌, Bool, List, [], ◌∷◌, ◌++◌, length, map, replicate, Option, Some, None, slice_get, if◌then◌else◌}
+use Rattle.atomic_table.specs.Seated.{TableId}
+use Rattle.crossbeam_queue.specs.Fifo.{Held}
+use Rattle.crossbeam_queue.specs.Passes.{Pass, view}
+use Rattle.tp_board.specs.declared.event.Event.TheVariants as event
+use Rattle.tp_board.specs.declared.event.Reply.TheVariants as reply
+use Rattle.tp_board.specs.declared.line.Item.{Item}
+use Rattle.tp_board.specs.declared.line.Turn.{Turn}
+use Rattle.tp_board.specs.declared.rule.Size.{Size}
+use Rattle.tp_board.specs.declared.source.Work.{Work}
+use Rattle.tp_board.specs.declared.source.Work.TheVariants as work
+use Rattle.tp_board.specs.declared.stream_hand.Fed.{Fed}
+use Rattle.tp_board.specs.declared.stream_hand.Fed.TheVariants as fed
+use Rattle.tp_board.specs.declared.view.View.{View}
+use Rattle.tp_board.specs.Calls.{MadeStep, made, Makes, sees_no_stop, sees_stop}
+use Rattle.tp_board.specs.Counting.{times, hand_list, AreBelow}
+use Rattle.tp_board.specs.Lines.{line, hand, feeder, item_of, put, MayPut, Waits}
+use Rattle.tp_board.specs.Openings.{InRange}
+use Rattle.tp_board.specs.Runs.{numbers_from}
+use Rattle.tp_board.specs.Views.{newcomer, all_drawn}
+use Rattle.tp_board.specs.Words.{size}
+
+-- what a pass at the queue knows
+abbrev pub turn_of : Pass Item Turn → Turn
+turn_of p = view p
+
+-- what a pass at the queue, a seat at the three words and what is in hand are together: a view as the
+-- board's seats have. A pop is a draw, or the learning of the end
+abbrev pub seen_of : Turn → View → List ℕ → View
+seen_of t p numbers = record p {
+  packets = t.packets;
+  steps = length t.popped + t.ended + p.steps;
+  drawn = t.popped;
+  hand = numbers;
+  ended = t.ended;
+}
+
+-- a stream, by its queue, the table of its words, its packets' bytes and how many members it has
+pub record StreamView : Type 0 where
+  pub line : TableId
+  pub desk : TableId
+  pub packets : List (List ℕ)
+  pub members : ℕ
+
+-- a member's hand: what its pass and its seat know, and the number in hand
+pub record HandView : Type 0 where
+  pub line : TableId
+  pub desk : TableId
+  pub turn : Turn
+  pub place : View
+  pub number : Option ℕ
+
+pub record FeederView : Type 0 where
+  pub line : TableId
+  pub desk : TableId
+  pub turn : Turn
+  pub place : View
+
+abbrev pub stream_of : TableId → TableId → List (List ℕ) → ℕ → StreamView
+stream_of line desk packets members = record { line = line; desk = desk; packets = packets; members = members }
+
+abbrev pub hand_of_parts : TableId → TableId → Turn → View → Option ℕ → HandView
+hand_of_parts line desk turn place number = record { line = line; desk = desk; turn = turn; place = place; number = number }
+
+abbrev pub feeder_of_parts : TableId → TableId → Turn → View → FeederView
+feeder_of_parts line desk turn place = record { line = line; desk = desk; turn = turn; place = place }
+
+abbrev pub hand_seen : HandView → View
+hand_seen h = seen_of h.turn h.place (hand_list h.number)
+
+abbrev pub feeder_seen : FeederView → View
+feeder_seen f = seen_of f.turn f.place []
+
+-- those of the hands, and then the feeder's
+abbrev pub all_seen : List HandView → FeederView → List View
+all_seen hands f = map hand_seen hands ++ feeder_seen f ∷ []
+
+-- a hand and the feeder that have made no step
+abbrev pub new_hand_of : StreamView → HandView
+new_hand_of q = hand_of_parts q.line q.desk (hand (length q.packets) q.members) (newcomer (length q.packets) 1) None
+
+abbrev pub new_feeder_of : StreamView → FeederView
+new_feeder_of q = feeder_of_parts q.line q.desk (feeder (length q.packets) q.members 1) (newcomer (length q.packets) 1)
+
+abbrev pub IsHandOf : StreamView → HandView → Type 0
+IsHandOf q h = (h.line ≡ q.line) × (h.desk ≡ q.desk) × (h.turn.packets ≡ length q.packets) × (h.turn.members ≡ q.members)
+
+abbrev pub IsFeederOf : StreamView → FeederView → Type 0
+IsFeederOf q f = (f.line ≡ q.line) × (f.desk ≡ q.desk) × (f.turn.packets ≡ length q.packets) × (f.turn.members ≡ q.members)
+
+-- ---- what the types keep
+-- of a stream: its table has three words and was told how many seats there are, and its queue has
+-- room for 32 items
+pub record IsStream (desk : TableId) (key : Size) (capacity packets members : ℕ) : Type 0 where
+  pub words : desk.words ≡ 3
+  pub told : key ≡ size packets (members + 1)
+  pub room : capacity ≡ 32
+  pub in_range : InRange packets members
+
+-- of a view: the numbers drawn are those finished, those abandoned and those in hand, each once
+pub record Agrees (v : View) : Type 0 where
+  pub ended : v.ended ≤ v.parts
+  pub in_hand : length v.hand ≤ v.parts
+  pub each_once : (x : ℕ) → times x v.drawn ≡ times x v.finished + times x v.abandoned + times x v.hand
+  pub counted : length v.drawn ≡ length v.finished + length v.abandoned + length v.hand
+
+-- of a hand: the numbers that its pass popped are, each once, those that its seat finished and
+-- abandoned and the one in hand
+pub record IsHand (t : Turn) (p : View) (number : Option ℕ) (ended stop_seen : Bool) : Type 0 where
+  pub one_pass : t.parts ≡ 1
+  pub one_seat : p.parts ≡ 1
+  pub feeds : t.feeds ≡ 0
+  pub pushed : t.pushed ≡ 0
+  pub marks : t.marks ≡ 0
+  pub few_packets : t.packets ≤ 1024
+  pub few_popped : length t.popped ≤ t.packets
+  pub no_claim : p.seen.claimed ≡ 0
+  pub agrees : Agrees (seen_of t p (hand_list number))
+  pub ended_is : t.ended ≡ (if ended then 1 else 0)
+  pub stop_seen_is : p.seen.stop ≡ (if stop_seen then 1 else 0)
+
+-- of the feeder: what it keeps beside its pass is what that pushed, and it has popped nothing
+pub record IsFeeder (t : Turn) (p : View) (pushed marks : ℕ) : Type 0 where
+  pub one_pass : t.parts ≡ 1
+  pub one_seat : p.parts ≡ 1
+  pub feeds : t.feeds ≡ 1
+  pub pushed_is : t.pushed ≡ pushed
+  pub marks_is : t.marks ≡ marks
+  pub few_packets : t.packets ≤ 1024
+  pub few_members : t.members ≤ 64
+  pub within : pushed ≤ t.packets
+  pub marked : marks ≤ t.members
+  pub marks_last : pushed < t.packets → marks ≡ 0
+  pub no_number : t.popped ≡ []
+  pub no_end : t.ended ≡ 0
+  pub agrees : Agrees (seen_of t p [])
+
+-- ---- the calls
+-- what `next` answers after these steps: of a hand's view before, the answer, and the view after.
+-- NoMore and Stopped come without a step where the hand knows them already
+abbrev pub NextAfter : List MadeStep → View → Work → View → Type 0
+NextAfter before v (work.Packet n bytes) w =
+    (v.ended ≡ 0)
+    × (v.seen.stop ≡ 0)
+    × (n < v.packets)
+    × ((y : ℕ) → 0 < times y v.drawn → y < n)
+    × Makes v (before ++ sees_no_stop ∷ made event.Claim n (reply.Number n) ∷ []) w
+NextAfter before v work.NoMore w =
+    ((v.ended ≡ 1) × Makes v [] w)
+    ⊎ ((v.ended ≡ 0) × (v.seen.stop ≡ 0) × ((n : ℕ) × (v.packets ≤ n) × Makes v (before ++ sees_no_stop ∷ made event.Claim n reply.NoMore ∷ []) w))
+NextAfter before v work.Stopped w =
+    (v.ended ≡ 0)
+    × (((v.seen.stop ≡ 1) × Makes v [] w) ⊎ ((v.seen.stop ≡ 0) × Makes v (before ++ sees_stop ∷ []) w))
+
+-- it may have found the queue empty, so many times, and looked at the stop mark each time
+abbrev pub NextMakes : View → Work → View → Type 0
+NextMakes v work w = (tries : ℕ) × NextAfter (replicate tries sees_no_stop) v work w
+
+-- a packet comes with the bytes of its number
+abbrev pub HasBytes : List (List ℕ) → Work → Type 0
+HasBytes packets (work.Packet n bytes) = slice_get packets n ≡ Some bytes.items
+HasBytes packets work.NoMore = Unit {0}
+HasBytes packets work.Stopped = Unit {0}
+
+-- a load of the stop mark, which was 0, and nothing at the queue
+abbrev pub LooksOnly : FeederView → FeederView → Type 0
+LooksOnly f g = Makes (feeder_seen f) (sees_no_stop ∷ []) (feeder_seen g) × (g.turn ≡ f.turn)
+
+-- Pushed: the next item is pushed, and no other. Full: at one moment of the call the queue held 32
+-- items that were pushed and not popped. Over: all packets and marks are pushed
+abbrev pub FeedSays : FeederView → Fed → FeederView → Type 0
+FeedSays f fed.Pushed g =
+    Makes (feeder_seen f) (sees_no_stop ∷ []) (feeder_seen g)
+    × MayPut f.turn
+    × (g.turn ≡ put f.turn (item_of f.turn))
+FeedSays f fed.Full g = LooksOnly f g × MayPut f.turn × Held 32 (Waits f.turn)
+FeedSays f fed.Stopped g = Makes (feeder_seen f) (sees_stop ∷ []) (feeder_seen g) × (g.turn ≡ f.turn)
+FeedSays f fed.Over g = LooksOnly f g × (f.turn.pushed ≡ f.turn.packets) × (f.turn.marks ≡ f.turn.members)
+
+-- ---- the close
+-- the queue held these items: the numbers from `drawn` to `pushed`, and then marks; the numbers that
+-- the hands drew and those left in the queue are the numbers below `pushed`, each once
+abbrev pub IsLeft : List View → ℕ → ℕ → Type 0
+IsLeft views pushed drawn =
+    (items : List Item) × (marks : ℕ)
+    × (items ≡ line drawn (pushed - drawn) marks)
+    × (drawn ≤ pushed)
+    × AreBelow (all_drawn views ++ numbers_from drawn (pushed - drawn)) pushed

@@ -1,0 +1,363 @@
+//! The stream: packets that one thread feeds and the members take while they run.
+ghost use Rattle.std.specs.Prelude.{◌≡◌, ◌+◌, ◌<◌, ◌≤◌, nat_lt, ℕ, List, None, true, [], ◌∷◌, length, map, replicate, All};
+ghost use Rattle.std.specs.Prelude.{IfOk, IfErr, OnOk, OnErr, IfSome};
+ghost use Rattle.crossbeam_queue.specs.Passes.{view, IsPassOf, ruled_capacity};
+ghost use Rattle.tp_board.specs.Boards.{NewRefuses};
+ghost use Rattle.tp_board.specs.Views.{first_of, newcomer};
+ghost use Rattle.tp_board.specs.Calls.{Makes, sees_no_stop, FinishSays, AbandonSays, StopSays};
+ghost use Rattle.tp_board.specs.Ledgers.{Balances, join_of_all};
+ghost use Rattle.tp_board.specs.Counting.{hand_list};
+ghost use Rattle.tp_board.specs.Lines.{hand};
+ghost use Rattle.tp_board.specs.Openings.{InRange};
+ghost use Rattle.tp_board.specs.Sources.{progress_of, NextSays};
+ghost use Rattle.tp_board.specs.Streams.{StreamView, stream_of, hand_of_parts, seen_of, hand_seen, feeder_seen, all_seen};
+ghost use Rattle.tp_board.specs.Streams.{IsStream, IsHandOf, IsFeederOf, new_hand_of, new_feeder_of};
+ghost use Rattle.tp_board.specs.Streams.{NextAfter, NextMakes, HasBytes, FeedSays, IsLeft, Agrees};
+
+use crate::answer::{BoardFault, Ledger, MAX_MEMBERS, MAX_PACKETS};
+use crate::board_source::copied;
+use crate::desk::{DONE, Desk, LOST, STOP, Token};
+use crate::desk::{another_seat, join_seats, look_stop, open_desk, report_done, report_lost, set_stop};
+use crate::line::{Item, Line, Place, drained, feed, join, new_hand, opened, take};
+use crate::source::{Packet, Work, WorkSource};
+use crate::stream_hand::{Fed, Feeder, StreamHand, StreamLedger};
+use std::alloc::Global;
+use std::marker::Model;
+use std::sync::Wait;
+use std::thread;
+
+/// Packets that one thread feeds in order of number, through a queue of 32 places, and the members
+/// take, each with its own hand. Shared by `&` between their threads.
+///
+/// No call takes a lock, and none but `new` takes memory. `feed`, `next` and `close` may wait. A hand
+/// or a feeder of another stream is against each call's condition.
+#[derive(Drop)]
+pub struct StreamQueue<'p> {
+    packets: &'p [Packet],
+    members: u32,
+    line: Line,
+    desk: Desk,
+}
+
+impl<'p> Model for StreamQueue<'p> {
+    ghost Value = { StreamView };
+
+    ghost view = { λ s. stream_of s.line.table.shared.table_id s.desk.shared.table_id (map (λ p. p.items) s.packets.now) s.members };
+
+    ghost invariant = { λ s. IsStream s.desk.shared.table_id s.desk.shared.key (ruled_capacity s.line) (length s.packets.now) s.members };
+}
+
+/// A4: a hand of the stream is missing. All is handed back as it was.
+#[derive(Drop)]
+pub struct StreamCloseFault<'p> {
+    pub stream: StreamQueue<'p>,
+    pub feeder: Feeder,
+    pub hands: Vec<StreamHand>,
+}
+
+impl<'p> StreamQueue<'p> {
+    /// A stream of these packets, in order of number, with a feeder, and a hand for each member. The
+    /// members are tested before the packets.
+    pub fn new(
+        alloc: Global,
+        packets: &'p [Packet],
+        members: u32,
+    ) -> Result<(StreamQueue<'p>, Feeder, Vec<StreamHand>), BoardFault>
+        ensures in_range { OnOk result (InRange (length packets.now) members) }
+        ensures stream { IfOk result (λ r. r.0 ≡ stream_of r.0.line r.0.desk (map (λ p. p.items) packets.entry.now) members) }
+        ensures feeder { IfOk result (λ r. r.1 ≡ new_feeder_of r.0) }
+        ensures hands { IfOk result (λ r. r.2.items ≡ replicate members (new_hand_of r.0)) }
+        ensures own { IfOk result (λ r. IsFeederOf r.0 r.1 × All (IsHandOf r.0) r.2.items) }
+        ensures err { IfErr result (NewRefuses (length packets.now) members) }
+    {
+        if members == 0 || members > MAX_MEMBERS {
+            return Err(BoardFault::Members);
+        }
+        if packets.len() > MAX_PACKETS as usize {
+            return Err(BoardFault::Packets);
+        }
+        let count = packets.len() as u32;
+        let mut hands = Vec::with_capacity(alloc, members as usize)?;
+        let (line, mut pass, first) = opened(alloc, count, members)?;
+        let (desk, mut token) = open_desk(alloc, count, members + 1)?;
+        let seat = another_seat(&desk, &mut token, count, members + 1);
+        hands.push_reserved(handed(first, seat, count, members));
+        for made in 1..members {
+            let other = new_hand(&line, &mut pass);
+            let seat = another_seat(&desk, &mut token, count, members + 1 - made);
+            hands.push_reserved(handed(other, seat, count, members));
+        }
+        let feeder = Feeder {
+            pass,
+            token,
+            pushed: 0,
+            marks: 0,
+        };
+        let stream = StreamQueue {
+            packets,
+            members,
+            line,
+            desk,
+        };
+        Ok((stream, feeder, hands))
+    }
+
+    /// One load of the stop mark and, where that is clear, one try to push the next item: the packets
+    /// in order of number, and then one end mark for each member.
+    pub fn feed<R: Wait>(&self, rt: &R, feeder: &mut Feeder) -> Fed
+        requires { IsFeederOf self.now feeder.old }
+        ensures own { IsFeederOf self.now feeder.new }
+        ensures says { FeedSays feeder.old result feeder.new }
+    {
+        if look_stop(&self.desk, &mut feeder.token) != 0 {
+            return Fed::Stopped;
+        }
+        let packets = self.packets.len() as u32;
+        if feeder.pushed < packets {
+            let item = Item::Number(feeder.pushed);
+            if !feed(rt, &self.line, &mut feeder.pass, item) {
+                return Fed::Full;
+            }
+            feeder.pushed += 1;
+            return Fed::Pushed;
+        }
+        if feeder.marks >= self.members {
+            return Fed::Over;
+        }
+        if !feed(rt, &self.line, &mut feeder.pass, Item::End) {
+            return Fed::Full;
+        }
+        feeder.marks += 1;
+        Fed::Pushed
+    }
+
+    /// Sets the stop mark, by one step.
+    pub fn stop_feeding(&self, feeder: &mut Feeder)
+        requires { IsFeederOf self.now feeder.old }
+        ensures own { IsFeederOf self.now feeder.new }
+        ensures says { StopSays (feeder_seen feeder.old) (feeder_seen feeder.new) }
+        ensures turn { feeder.new.turn ≡ feeder.old.turn }
+    {
+        set_stop(&self.desk, &mut feeder.token);
+    }
+
+    // The next packet, the end or the stop, by tries until one has an answer.
+    fn next_item<R: Wait>(&self, rt: &R, hand: &mut StreamHand) -> Work
+        requires own { IsHandOf self.now hand.old }
+        requires empty { first_of (hand_list hand.old.number) ≡ None }
+        ensures own { IsHandOf self.now hand.new }
+        ensures work { NextSays self.now.packets (progress_of (hand_seen hand.old)) result (progress_of (hand_seen hand.new)) }
+        ensures steps { NextMakes (hand_seen hand.old) result (hand_seen hand.new) }
+    {
+        if hand.ended {
+            return Work::NoMore;
+        }
+        if hand.stop_seen {
+            return Work::Stopped;
+        }
+        for _ in rt.forever() {
+            if let Some(work) = self.try_next(rt, hand) {
+                return work;
+            }
+            thread::yield_now();
+        }
+        unreachable!()
+    }
+
+    // One load of the stop mark and, where that is clear, one try to pop. None only where the queue
+    // was empty.
+    fn try_next<R: Wait>(&self, rt: &R, hand: &mut StreamHand) -> Option<Work>
+        requires own { IsHandOf self.now hand.old }
+        requires empty { hand.old.number ≡ None }
+        requires going { ((hand_seen hand.old).ended ≡ 0) × ((hand_seen hand.old).seen.stop ≡ 0) }
+        ensures own { IsHandOf self.now hand.new }
+        ensures none { result ≡ None → (hand.new.number ≡ None) × Makes (hand_seen hand.old) (sees_no_stop ∷ []) (hand_seen hand.new) }
+        ensures some { IfSome result (λ w. NextAfter [] (hand_seen hand.old) w (hand_seen hand.new)) }
+        ensures bytes { IfSome result (HasBytes self.now.packets) }
+    {
+        if look_stop(&self.desk, &mut hand.token) != 0 {
+            hand.stop_seen = true;
+            return Some(Work::Stopped);
+        }
+        match take(rt, &self.line, &mut hand.pass) {
+            Some(Item::Number(number)) => {
+                hand.number = Some(number);
+                let bytes = copied(&self.packets[number as usize]);
+                Some(Work::Packet { number, bytes })
+            }
+            Some(Item::End) => {
+                hand.ended = true;
+                Some(Work::NoMore)
+            }
+            None => None,
+        }
+    }
+
+    /// The accounts of the stream, where all of its hands are here. Then takes out what is left in
+    /// the queue.
+    pub fn close<R: Wait>(
+        self,
+        rt: &R,
+        feeder: Feeder,
+        hands: Vec<StreamHand>,
+    ) -> Result<StreamLedger, StreamCloseFault<'p>>
+        requires feeder { IsFeederOf self feeder }
+        requires hands { All (IsHandOf self) hands.items }
+        ensures all { IfOk result (λ l. length hands.items ≡ self.members) }
+        ensures ledger { IfOk result (λ l. Balances (length self.packets) (all_seen hands.items feeder) l.ledger) }
+        ensures pushed { IfOk result (λ l. l.pushed ≡ feeder.turn.pushed) }
+        ensures left { IfOk result (λ l. IsLeft (all_seen hands.items feeder) l.pushed l.ledger.drawn) }
+        ensures missing { IfErr result (λ f. length hands.items < self.members) }
+        ensures err { IfErr result (λ f. (f.stream ≡ self) × (f.feeder ≡ feeder) × (f.hands.items ≡ hands.items)) }
+    {
+        if hands.len() < self.members as usize {
+            return Err(StreamCloseFault {
+                stream: self,
+                feeder,
+                hands,
+            });
+        }
+        let pushed = feeder.pushed;
+        let (mut pass, token) = self.gather(feeder, hands);
+        let drawn = drained(rt, &self.line, &mut pass, pushed);
+        let StreamQueue {
+            packets: _,
+            members: _,
+            line: _,
+            desk,
+        } = self;
+        let closed = desk.close_with(token);
+        let done = closed.word(DONE);
+        let lost = closed.word(LOST);
+        let stop = closed.word(STOP);
+        closed.free();
+        Ok(StreamLedger {
+            pushed,
+            ledger: tally(drawn, done, lost, stop),
+        })
+    }
+
+    // All passes in one, and all seats in one.
+    fn gather(&self, feeder: Feeder, mut rest: Vec<StreamHand>) -> (Place, Token)
+        requires feeder { IsFeederOf self.now feeder }
+        requires rest { All (IsHandOf self.now) rest.items }
+        ensures own { (result.0.table_id ≡ self.now.line) × (result.0.me.1 ≡ []) × (result.1.table_id ≡ self.now.desk) × (result.1.me.1 ≡ []) }
+        ensures view { (numbers : List ℕ) × (seen_of (view result.0) result.1.me.0 numbers ≡ join_of_all (feeder_seen feeder) (map hand_seen rest.items)) }
+        ensures agrees { Agrees (join_of_all (feeder_seen feeder) (map hand_seen rest.items)) }
+        ensures sizes { ((view result.0).packets ≡ length self.now.packets) × ((view result.0).members ≡ self.now.members) × ((view result.0).pushed ≡ feeder.turn.pushed) }
+        ensures parts { ((view result.0).parts ≡ length rest.items + 1) × (result.1.me.0.parts ≡ length rest.items + 1) }
+    {
+        let mut pass = feeder.pass;
+        let mut token = feeder.token;
+        while let Some(next) = rest.pop() {
+            join(&self.line, &mut pass, next.pass);
+            join_seats(&self.desk, &mut token, next.token);
+        }
+        (pass, token)
+    }
+}
+
+// The ledger that the queue and the three words give.
+fn tally(drawn: u32, done: u64, lost: u64, stop: u64) -> Ledger
+    requires { done + lost ≤ drawn }
+    ensures drawn { result.drawn ≡ drawn }
+    ensures done { result.done ≡ done }
+    ensures lost { result.lost ≡ lost }
+    ensures in_hand { drawn ≡ done + lost + result.in_hand }
+    ensures stopped { result.stopped ≡ nat_lt 0 stop }
+{
+    Ledger {
+        drawn,
+        done: done as u32,
+        lost: lost as u32,
+        in_hand: (u64::from(drawn) - done - lost) as u32,
+        stopped: stop > 0,
+    }
+}
+
+// The hand of one member, which has made no step.
+fn handed(pass: Place, token: Token, packets: u32, members: u32) -> StreamHand
+    requires pass { (view pass ≡ hand packets members) × (pass.me.1 ≡ []) }
+    requires token { token.me ≡ (newcomer packets 1, []) }
+    requires few { packets ≤ 1024 }
+    ensures { result ≡ hand_of_parts pass.table_id token.table_id (hand packets members) (newcomer packets 1) None }
+{
+    StreamHand {
+        pass,
+        token,
+        number: None,
+        ended: false,
+        stop_seen: false,
+    }
+}
+
+impl<'p> WorkSource for StreamQueue<'p> {
+    ghost use Rattle.tp_board.specs.declared.answer.BoardFault.TheVariants.{EmptyHand};
+    ghost use Rattle.tp_board.specs.Sources.{HandFinished, HandAbandoned};
+
+    type Hand = StreamHand;
+
+    ghost is_own = { IsHandOf };
+
+    ghost progress = { λ h. progress_of (hand_seen h) };
+
+    ghost packets = { λ s. s.packets };
+
+    /// One load of the stop mark and, where that is clear, one try to pop; again until it has an
+    /// answer. An end mark is NoMore. It may wait.
+    fn next(&self, rt: &impl Wait, hand: &mut StreamHand) -> Work
+        requires own { IsHandOf self.now hand.old }
+        requires empty { (progress_of (hand_seen hand.old)).in_hand ≡ None }
+        ensures own { IsHandOf self.now hand.new }
+        ensures work { NextSays self.now.packets (progress_of (hand_seen hand.old)) result (progress_of (hand_seen hand.new)) }
+        ensures steps { NextMakes (hand_seen hand.old) result (hand_seen hand.new) }
+    {
+        self.next_item(rt, hand)
+    }
+
+    /// One addition to the count of packets done.
+    fn finish(&self, hand: &mut StreamHand) -> Result<u32, BoardFault>
+        requires { IsHandOf self.now hand.old }
+        ensures own { IsHandOf self.now hand.new }
+        ensures ok { IfOk result (λ n. HandFinished (progress_of (hand_seen hand.old)) n (progress_of (hand_seen hand.new))) }
+        ensures err { IfErr result (λ e. e ≡ EmptyHand) }
+        ensures empty { OnErr result ((progress_of (hand_seen hand.old)).in_hand ≡ None) }
+        ensures unchanged { OnErr result (hand.new ≡ hand.old) }
+        ensures steps { IfOk result (λ n. FinishSays (hand_seen hand.old) n (hand_seen hand.new)) }
+    {
+        let Some(number) = hand.number else {
+            return Err(BoardFault::EmptyHand);
+        };
+        report_done(&self.desk, &mut hand.token, number);
+        hand.number = None;
+        Ok(number)
+    }
+
+    /// One addition to the count of packets lost.
+    fn abandon(&self, hand: &mut StreamHand) -> Result<u32, BoardFault>
+        requires { IsHandOf self.now hand.old }
+        ensures own { IsHandOf self.now hand.new }
+        ensures ok { IfOk result (λ n. HandAbandoned (progress_of (hand_seen hand.old)) n (progress_of (hand_seen hand.new))) }
+        ensures err { IfErr result (λ e. e ≡ EmptyHand) }
+        ensures empty { OnErr result ((progress_of (hand_seen hand.old)).in_hand ≡ None) }
+        ensures unchanged { OnErr result (hand.new ≡ hand.old) }
+        ensures steps { IfOk result (λ n. AbandonSays (hand_seen hand.old) n (hand_seen hand.new)) }
+    {
+        let Some(number) = hand.number else {
+            return Err(BoardFault::EmptyHand);
+        };
+        report_lost(&self.desk, &mut hand.token, number);
+        hand.number = None;
+        Ok(number)
+    }
+
+    /// Sets the stop mark, by one step.
+    fn stop(&self, hand: &mut StreamHand)
+        requires { IsHandOf self.now hand.old }
+        ensures own { IsHandOf self.now hand.new }
+        ensures called { progress_of (hand_seen hand.new) ≡ record (progress_of (hand_seen hand.old)) { stop_called = true } }
+        ensures steps { StopSays (hand_seen hand.old) (hand_seen hand.new) }
+    {
+        set_stop(&self.desk, &mut hand.token);
+    }
+}
