@@ -18,9 +18,9 @@ module _ {T P : Type 0} (g : Promise.Ghosts P T) where
         kept_zip hs rs (search (e, rules)) (λ i d below. (refl, let t = (k (suc i) d (omega (arith, below))).1 in record { handle = t.handle; handle_is = t.handle_is; kept = t.kept })),
       )
 
-  -- so each result is what is said of what its thread was given
-  pub joined_zip : {X : Type 0} (of : PromisedHandle T P → X) (R : X → T → Type 0) (good : PromisedHandle T P → Type 0) → ((h : PromisedHandle T P) (r : T) → good h → g.kept_by h.promise r → R (of h) r) → (hs : List (PromisedHandle T P)) (rs : List T) → All good hs → AllZip (λ h r. g.kept_by h.promise r) hs rs → AllZip R (map of hs) rs
-  joined_zip of R good w [] [] a z = tt
-  joined_zip of R good w [] (r ∷ rs) a z = absurd z
-  joined_zip of R good w (h ∷ hs) [] a z = absurd z
-  joined_zip of R good w (h ∷ hs) (r ∷ rs) a z = (w h r (All-head good h hs a) z.0, joined_zip of R good w hs rs (All-tail good h hs a) z.1)
+-- so each result is what is said of what its thread was given
+pub joined_zip : {H T X : Type 0} (of : H → X) (kept : H → T → Type 0) (R : X → T → Type 0) (good : H → Type 0) → ((h : H) (r : T) → good h → kept h r → R (of h) r) → (hs : List H) (rs : List T) → All good hs → AllZip kept hs rs → AllZip R (map of hs) rs
+joined_zip of kept R good w [] [] a z = tt
+joined_zip of kept R good w [] (r ∷ rs) a z = absurd z
+joined_zip of kept R good w (h ∷ hs) [] a z = absurd z
+joined_zip of kept R good w (h ∷ hs) (r ∷ rs) a z = (w h r (All-head good h hs a) z.0, joined_zip of kept R good w hs rs (All-tail good h hs a) z.1)

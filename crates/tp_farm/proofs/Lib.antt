@@ -11,5 +11,6 @@ pub mod Settling
 pub mod Together
 pub mod Settled
 pub mod Nothing
-pub mod Board
+pub mod Feeding
+pub mod Views
 pub mod Promising

@@ -9,6 +9,7 @@ pub mod Working
 pub mod Refused
 pub mod Gathering
 pub mod Closing
+pub mod Feeding
 pub mod Apart
 pub mod Batches
 pub mod Rooms

@@ -2,9 +2,10 @@
 
 ghost use Rattle.std.specs.Prelude.{◌≡◌, ◌==◌, ◌<◌, not, None, Some, Err, All, map, position, replicate, IfSome, IfOk, IfErr, OnOk, length, vec_len};
 ghost use Rattle.std.specs.List.{AllZip};
-ghost use Rattle.tp_board.specs.Boards.{IsSeatOf, views_of};
-ghost use Rattle.tp_board.specs.Sources.{progress_of};
 ghost use Rattle.tp_board.specs.Ledgers.{Balances};
+ghost use Rattle.tp_board.specs.Sources.{progress_of};
+ghost use Rattle.tp_board.specs.Streams.{IsHandOf, IsFeederOf, hand_seen, all_seen};
+ghost use Rattle.tp_farm.specs.Feeding.{HasOnlyFed};
 ghost use Rattle.tp_collect.specs.Collecting.{vacant};
 ghost use Rattle.tp_farm.specs.Jobs.{batch_of};
 ghost use Rattle.tp_farm.specs.Stages.{of_links};
@@ -25,7 +26,7 @@ use std::alloc::{AllocError, Global};
 use std::snapshot::Snapshot;
 use std::sync::Wait;
 use std::thread::Threads;
-use tp_board::{Board, BoardSource, Ledger, MAX_MEMBERS, MAX_PACKETS, Packet, Seat};
+use tp_board::{Feeder, Ledger, MAX_MEMBERS, MAX_PACKETS, Packet, StreamHand, StreamQueue};
 use tp_collect::{Collected, Collector};
 use tp_link::{LinkDevice, Links};
 
@@ -81,40 +82,50 @@ impl<H: Drop, D: Drop> Room<H, D> {
     }
 }
 
-/// Closes a board whose seats are all here.
-fn close_board(board: Board, seats: Vec<Seat>) -> Ledger
-    requires own { All (IsSeatOf board) seats.items }
-    requires all { length seats.items ≡ board.members }
-    ensures { Balances board.packets (views_of seats.items) result }
+/// Closes a stream whose hands are all here.
+fn close_stream<R: Wait>(
+    rt: &R,
+    stream: StreamQueue<'_>,
+    feeder: Feeder,
+    hands: Vec<StreamHand>,
+) -> Ledger
+    requires feeder { IsFeederOf stream feeder }
+    requires own { All (IsHandOf stream) hands.items }
+    requires all { length hands.items ≡ stream.members }
+    ensures { Balances (length stream.packets) (all_seen hands.items feeder) result }
 {
-    match board.close(seats) {
-        Ok(ledger) => ledger,
+    match stream.close(rt, feeder, hands) {
+        Ok(closed) => closed.ledger,
         Err(_) => unreachable!(),
     }
 }
 
-/// Makes one batch of what the members give back: the board is closed, which accounts for each number once, and all that
+/// Makes one batch of what the members give back: the stream is closed, which accounts for each number once, and all that
 /// was filed is gathered. The first fault of a member is the answer.
-fn settle<D: LinkDevice, G: Gate>(
+fn settle<R: Wait, D: LinkDevice, G: Gate>(
+    rt: &R,
     _job: &Job<'_>,
     _gate: &G,
-    board: Board,
+    stream: StreamQueue<'_>,
+    feeder: Feeder,
     mut collector: Collector<'_>,
-    returned: Vec<Returned<Seat, Filed, D>>,
-    mut room: Room<Seat, D>,
+    returned: Vec<Returned<StreamHand, Filed, D>>,
+    mut room: Room<StreamHand, D>,
     _before: Snapshot<Vec<Links<D>>>,
 ) -> Result<Batch<D>, FarmFault>
-    requires worked { AllZip (HasWorked D.state (IsSeatOf board) (λ s. progress_of s.view) (work_on G.open_for_good _job.now _gate.now)) _before.value.items returned.items }
-    requires members { vec_len returned ≡ board.members }
+    requires worked { AllZip (HasWorked D.state (IsHandOf stream) (λ h. progress_of (hand_seen h)) (work_on G.open_for_good _job.now _gate.now)) _before.value.items returned.items }
+    requires feeder { IsFeederOf stream feeder }
+    requires fed { HasOnlyFed feeder }
+    requires members { vec_len returned ≡ stream.members }
     requires some { 0 < vec_len returned }
-    requires packets { board.packets ≡ length (batch_of _job.now).packets }
-    requires collector { collector ≡ record { batch = batch_of _job.now; entries = replicate board.packets vacant } }
+    requires packets { stream.packets ≡ (batch_of _job.now).packets }
+    requires collector { collector ≡ record { batch = batch_of _job.now; entries = replicate (length stream.packets) vacant } }
     requires room { HasRoom (vec_len returned) room }
     ensures batch { IfOk result (λ b. IsBatch (batch_of _job.now) (G.open_for_good _gate.now) (map (of_links D.state) _before.value.items) (map (of_links D.state) b.links.items) b.collected) }
     ensures err { IfErr result IsFromOutside }
 {
     take_hands(returned, &mut room.hands, &mut room.kept)?;
-    let _ledger = close_board(board, room.hands);
+    let _ledger = close_stream(rt, stream, feeder, room.hands);
     gather_all(&mut collector, room.kept, &mut room.links);
     Ok(Batch {
         collected: collector.finish(),
@@ -155,18 +166,18 @@ pub fn run_batch<'j, R: Threads + Wait + Sync, D: LinkDevice + Send, G: Gate>(
         });
     }
     let room = Room::for_members(alloc, links.len())?;
-    let made = Board::new(alloc, job.packets.len() as u32, links.len() as u32);
-    let Ok((board, seats)) = made else {
+    let made = StreamQueue::new(alloc, job.packets, links.len() as u32);
+    let Ok((stream, feeder, hands)) = made else {
         return Err(FarmFault::Memory);
     };
-    let source = BoardSource::new(board, job.packets);
     let before = Snapshot::of(&links);
     let shop = Shop {
         job: &*job,
         gate: &*gate,
-        source: &source,
+        source: &stream,
     };
-    let returned = run_members(rt, alloc, &shop, seats, links)?;
-    let board = source.into_board();
-    settle(job, gate, board, collector, returned, room, before)
+    let (returned, feeder) = run_members(rt, alloc, &shop, feeder, hands, links)?;
+    settle(
+        rt, job, gate, stream, feeder, collector, returned, room, before,
+    )
 }

@@ -2,6 +2,9 @@
 
 ghost use Rattle.std.specs.Prelude.{◌≡◌, ◌≤◌, ◌+◌, ◌++◌, ◌∷◌, [], true, map, IfSome, IfOk, IfErr, All, vec_len, vec_capacity};
 ghost use Rattle.std.specs.List.{AllZip};
+ghost use Rattle.tp_board.specs.Sources.{progress_of};
+ghost use Rattle.tp_board.specs.Streams.{IsHandOf, IsFeederOf, hand_seen};
+ghost use Rattle.tp_farm.specs.Feeding.{HasOnlyFed};
 ghost use Rattle.tp_farm.specs.Refused.{IsFromOutside};
 ghost use Rattle.tp_farm.specs.Working.{IsSet, IsFresh, HasWorked, work_of};
 
@@ -14,7 +17,7 @@ use std::snapshot::Snapshot;
 use std::sync::Wait;
 use std::thread;
 use std::thread::{Promise, PromisedHandle, Scope, Threads, join_promised};
-use tp_board::WorkSource;
+use tp_board::{Fed, Feeder, StreamHand, StreamQueue, WorkSource};
 use tp_link::{LinkDevice, Links};
 
 /// What a member's thread keeps: it has done the shop's work with the devices that it had.
@@ -121,38 +124,35 @@ where
     })
 }
 
-/// Starts the members, and joins those that were started.
-fn start_and_join<
-    's,
-    'e,
-    R: Threads + Wait + Sync,
-    D: LinkDevice + Send + 'e,
-    G: Gate,
-    S: WorkSource + Sync,
->(
-    rt: &'e R,
-    scope: &'s Scope<'s, &'e ()>,
-    alloc: Global,
-    shop: &'e Shop<'e, G, S>,
-    hands: Vec<S::Hand>,
-    all: Vec<Links<D>>,
+/// Feeds a stream until all is pushed, or a member has stopped it.
+fn feed_all<R: Wait>(rt: &R, stream: &StreamQueue<'_>, feeder: &mut Feeder)
+    requires own { IsFeederOf stream.now feeder.old }
+    requires fed { HasOnlyFed feeder.old }
+    ensures own { IsFeederOf stream.now feeder.new }
+    ensures fed { HasOnlyFed feeder.new }
+{
+    for _ in rt.forever() {
+        match stream.feed(rt, feeder) {
+            Fed::Pushed => {}
+            Fed::Full => thread::yield_now(),
+            Fed::Stopped | Fed::Over => return,
+        }
+    }
+}
+
+/// Joins the members that were started.
+fn join_all<R: Threads + Wait, D: LinkDevice, G: Gate, S: WorkSource>(
+    rt: &R,
+    started: Started<'_, G, D, S>,
 ) -> Result<Vec<Returned<S::Hand, Filed, D>>, FarmFault>
 where
-    S::Hand: Drop + Send,
-    requires set { IsSet S.packets shop.now }
-    requires fresh { All (IsFresh (S.is_own shop.now.source.now) S.progress) hands.items }
-    requires hands { vec_len hands ≡ vec_len all }
-    requires members { vec_len all ≤ 64 }
-    ensures worked { IfOk result (λ rs. AllZip (HasWorked D.state (S.is_own shop.now.source.now) S.progress (work_of G.open_for_good shop.now)) all.items rs.items) }
+    S::Hand: Drop,
+    ensures joined { IfOk result (λ rs. (started.all_started ≡ true) × AllZip (λ h r. HasWorked D.state (S.is_own h.promise.shop.now.source.now) S.progress (work_of G.open_for_good h.promise.shop.now) h.promise.before.value r) started.handles.items rs.items) }
     ensures err { IfErr result IsFromOutside }
 {
-    let Started {
-        handles,
-        all_started,
-    } = start_all(rt, scope, alloc, shop, hands, all)?;
-    match join_promised(rt, handles) {
+    match join_promised(rt, started.handles) {
         Ok(returned) => {
-            if all_started {
+            if started.all_started {
                 Ok(returned)
             } else {
                 Err(FarmFault::Thread)
@@ -167,39 +167,70 @@ where
     }
 }
 
-/// Runs the members, each in a thread of its own, until all have ended. What they give back comes in the order of the
-/// links.
-pub(crate) fn run_members<
-    R: Threads + Wait + Sync,
-    D: LinkDevice + Send,
-    G: Gate,
-    S: WorkSource + Sync,
->(
-    rt: &R,
+/// Starts the members, feeds their stream, and joins those that were started. Nothing returns between the first start and
+/// the last join; where a member could not be started the stream is stopped first.
+fn start_feed_and_join<'s, 'e, R: Threads + Wait + Sync, D: LinkDevice + Send + 'e, G: Gate>(
+    rt: &'e R,
+    scope: &'s Scope<'s, &'e ()>,
     alloc: Global,
-    shop: &Shop<'_, G, S>,
-    hands: Vec<S::Hand>,
+    shop: &'e Shop<'e, G, StreamQueue<'e>>,
+    mut feeder: Feeder,
+    hands: Vec<StreamHand>,
     all: Vec<Links<D>>,
-) -> Result<Vec<Returned<S::Hand, Filed, D>>, FarmFault>
-where
-    S::Hand: Drop + Send,
-    requires set { IsSet S.packets shop.now }
-    requires fresh { All (IsFresh (S.is_own shop.now.source.now) S.progress) hands.items }
+) -> Result<(Vec<Returned<StreamHand, Filed, D>>, Feeder), FarmFault>
+    requires set { IsSet (λ s. s.packets) shop.now }
+    requires fresh { All (IsFresh (IsHandOf shop.now.source.now) (λ h. progress_of (hand_seen h))) hands.items }
+    requires feeder { IsFeederOf shop.now.source.now feeder }
+    requires fed { HasOnlyFed feeder }
     requires hands { vec_len hands ≡ vec_len all }
     requires members { vec_len all ≤ 64 }
-    ensures worked { IfOk result (λ rs. AllZip (HasWorked D.state (S.is_own shop.now.source.now) S.progress (work_of G.open_for_good shop.now)) all.items rs.items) }
+    ensures worked { IfOk result (λ r. AllZip (HasWorked D.state (IsHandOf shop.now.source.now) (λ h. progress_of (hand_seen h)) (work_of G.open_for_good shop.now)) all.items r.0.items) }
+    ensures feeder { IfOk result (λ r. IsFeederOf shop.now.source.now r.1 × HasOnlyFed r.1) }
+    ensures err { IfErr result IsFromOutside }
+{
+    let started = start_all(rt, scope, alloc, shop, hands, all)?;
+    if started.all_started {
+        feed_all(rt, shop.source, &mut feeder);
+    } else {
+        shop.source.stop_feeding(&mut feeder);
+    }
+    let returned = join_all(rt, started)?;
+    Ok((returned, feeder))
+}
+
+/// Runs the members, each in a thread of its own, and feeds them until all is pushed; then waits for their ends. What they
+/// give back comes in the order of the links.
+pub(crate) fn run_members<R: Threads + Wait + Sync, D: LinkDevice + Send, G: Gate>(
+    rt: &R,
+    alloc: Global,
+    shop: &Shop<'_, G, StreamQueue<'_>>,
+    feeder: Feeder,
+    hands: Vec<StreamHand>,
+    all: Vec<Links<D>>,
+) -> Result<(Vec<Returned<StreamHand, Filed, D>>, Feeder), FarmFault>
+    requires set { IsSet (λ s. s.packets) shop.now }
+    requires fresh { All (IsFresh (IsHandOf shop.now.source.now) (λ h. progress_of (hand_seen h))) hands.items }
+    requires feeder { IsFeederOf shop.now.source.now feeder }
+    requires fed { HasOnlyFed feeder }
+    requires hands { vec_len hands ≡ vec_len all }
+    requires members { vec_len all ≤ 64 }
+    ensures worked { IfOk result (λ r. AllZip (HasWorked D.state (IsHandOf shop.now.source.now) (λ h. progress_of (hand_seen h)) (work_of G.open_for_good shop.now)) all.items r.0.items) }
+    ensures feeder { IfOk result (λ r. IsFeederOf shop.now.source.now r.1 × HasOnlyFed r.1) }
     ensures err { IfErr result IsFromOutside }
 {
     thread::scope(
         thread::scope_env(),
         rt,
-        |scope| -> Result<Vec<Returned<S::Hand, Filed, D>>, FarmFault>
-            requires set { IsSet S.packets shop.now }
-            requires fresh { All (IsFresh (S.is_own shop.now.source.now) S.progress) hands.items }
+        |scope| -> Result<(Vec<Returned<StreamHand, Filed, D>>, Feeder), FarmFault>
+            requires set { IsSet (λ s. s.packets) shop.now }
+            requires fresh { All (IsFresh (IsHandOf shop.now.source.now) (λ h. progress_of (hand_seen h))) hands.items }
+            requires feeder { IsFeederOf shop.now.source.now feeder }
+            requires fed { HasOnlyFed feeder }
             requires hands { vec_len hands ≡ vec_len all }
             requires members { vec_len all ≤ 64 }
-            ensures worked { IfOk result (λ rs. AllZip (HasWorked D.state (S.is_own shop.entry.now.source.now) S.progress (work_of G.open_for_good shop.entry.now)) all.items rs.items) }
+            ensures worked { IfOk result (λ r. AllZip (HasWorked D.state (IsHandOf shop.entry.now.source.now) (λ h. progress_of (hand_seen h)) (work_of G.open_for_good shop.entry.now)) all.items r.0.items) }
+            ensures feeder { IfOk result (λ r. IsFeederOf shop.entry.now.source.now r.1 × HasOnlyFed r.1) }
             ensures err { IfErr result IsFromOutside }
-        { start_and_join(rt, scope, alloc, shop, hands, all) },
+        { start_feed_and_join(rt, scope, alloc, shop, feeder, hands, all) },
     )
 }

@@ -11,35 +11,41 @@ use Rattle.tp_farm.specs.Rooms.{HasRoom}
 use Rattle.tp_accept.proofs.NeverWrong.{never_goes_wrong_of}
 use Rattle.tp_farm.proofs.Beginning.{begun, on_ok, if_ok}
 use Rattle.tp_farm.proofs.Promising.{goes_well}
-use Rattle.tp_board.specs.Boards.{IsSeatOf}
 use Rattle.tp_board.specs.Sources.{progress_of}
+use Rattle.tp_board.specs.Streams.{IsHandOf, hand_seen}
 use Rattle.tp_collect.specs.Collected.{IsCollected}
 use Rattle.tp_farm.specs.Working.{HasWorked, work_on}
+use Rattle.tp_farm.proofs.Feeding.{fresh_hands, fresh_feeder}
 use Rattle.tp_farm.proofs.Nothing.{nothing_run}
 use Rattle.tp_farm.proofs.batch.run_batch.Goals as goal
 
 pub run_members-requires-clause-set : goal.run_members-requires-clause-set
 run_members-requires-clause-set g c κs within = record {
-  packets = ap (λ s. s.packets) c.new-source.ensures;
+  packets = ap (λ s. s.packets) c.in-Ok.ensures.stream;
   whole = (begun c.len.result (batch_of c.args.job.now) (sym c.job_fault.ensures ∙ c.in_default.is)).whole;
 }
+
+pub run_members-requires-clause-fresh : goal.run_members-requires-clause-fresh
+run_members-requires-clause-fresh g c κs within = fresh_hands _ _ _ c.in-Ok.ensures.hands
+
+pub run_members-requires-clause-fed : goal.run_members-requires-clause-fed
+run_members-requires-clause-fed g c κs within = fresh_feeder _ _ c.in-Ok.ensures.feeder
 
 pub settle-requires-clause-members : goal.settle-requires-clause-members
 settle-requires-clause-members g c κs within =
     let long = AllZip-long _ _ _ c.in_ok-returned.ensures.worked in
-    let same = ap (λ b. b.members) (c.into_board-board.ensures ∙ ap (λ s. s.board) c.new-source.ensures) in
-    omega (arith, same, ap (λ b. b.members) c.in-Ok.ensures.board, long, c.in_ok-returned.returned.ok.0, c.args.links.ok.0, c.len-3.ensures)
+    omega (arith, ap (λ q. q.members) c.in-Ok.ensures.stream, long, c.in_ok-returned.field-0.returned.ok.0, c.args.links.ok.0, c.len-3.ensures)
 
 pub settle-requires-clause-some : goal.settle-requires-clause-some
 settle-requires-clause-some g c κs within =
     let long = AllZip-long _ _ _ c.in_ok-returned.ensures.worked in
     let some = (begun c.len.result (batch_of c.args.job.now) (sym c.job_fault.ensures ∙ c.in_default.is)).some in
-    omega (arith, some, long, c.in_ok-returned.returned.ok.0, c.args.links.ok.0, c.len.ensures)
+    omega (arith, some, long, c.in_ok-returned.field-0.returned.ok.0, c.args.links.ok.0, c.len.ensures)
 
 pub settle-requires-clause-room : goal.settle-requires-clause-room
 settle-requires-clause-room g c κs within =
     let long = AllZip-long _ _ _ c.in_ok-returned.ensures.worked in
-    subst (λ n. HasRoom n c.in_ok-room.room) (omega (arith, long, c.in_ok-returned.returned.ok.0, c.args.links.ok.0, c.len-2.ensures)) c.in_ok-room.ensures
+    subst (λ n. HasRoom n c.in_ok-room.room) (omega (arith, long, c.in_ok-returned.field-0.returned.ok.0, c.args.links.ok.0, c.len-2.ensures)) c.in_ok-room.ensures
 
 pub returns-clause-batch : goal.returns-clause-batch
 returns-clause-batch g c =
@@ -58,8 +64,7 @@ returns-clause-goes_well g c packets = if_ok _ _ c.settle.result c.settle.ensure
 pub settle-requires-clause-worked : goal.settle-requires-clause-worked
 settle-requires-clause-worked g c κs within =
     let work = work_on g.G.Gate.open_for_good c.args.job.now c.args.gate.now in
-    subst (λ v. AllZip (HasWorked g.D.LinkDevice.state (IsSeatOf c.into_board-board.result) (λ s. progress_of s.view) work) v.items c.in_ok-returned.returned.items) (sym c.of-before.ensures)
-    (subst (λ b. AllZip (HasWorked g.D.LinkDevice.state (IsSeatOf b) (λ s. progress_of s.view) work) c.args.links.items c.in_ok-returned.returned.items) (sym c.into_board-board.ensures) c.in_ok-returned.ensures.worked)
+    subst (λ v. AllZip (HasWorked g.D.LinkDevice.state (IsHandOf _) (λ h. progress_of (hand_seen h)) work) v.items _) (sym c.of-before.ensures) c.in_ok-returned.ensures.worked
 
 pub returns-then-is_empty-clause-batch : goal.returns-then-is_empty-clause-batch
 returns-then-is_empty-clause-batch g c =

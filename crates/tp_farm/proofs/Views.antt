@@ -1,19 +1,19 @@
--- A board's close, as that of any source.
+-- What the close of a stream says of the views of its hands and its feeder, as a close says of any source's hands.
 use Rattle.std.proofs.Common.{◌≡◌, ℕ, ◌+◌, ◌<◌, ◌≤◌, true, false, List, [], ◌∷◌, ◌++◌, map, length, None, nat_lt, suc, refl, ap, subst, arith, length-append}
 use Rattle.std.proofs.lemmas.Bool.Decides.{nat_tests}
-use Rattle.std.proofs.lemmas.List.Elements.{All-nil, All-cons, All-head, All-tail}
+use Rattle.std.proofs.lemmas.List.Elements.{All-nil, All-cons, All-head, All-tail, All-push}
 use Rattle.std.specs.List.{All}
 use mathlib.Core.Option.{some}
 use lib.ListN.{get_elem?}
 use Rattle.tp_board.specs.declared.view.View.{View}
 use Rattle.tp_board.specs.declared.answer.Ledger.{Ledger}
-use Rattle.tp_board.specs.Boards.{SeatView, views_of}
 use Rattle.tp_board.specs.Counting.{times, once_below}
 use Rattle.tp_board.specs.Views as view
 use Rattle.tp_board.specs.Rule.{total}
 use Rattle.tp_board.specs.Ledgers.{Balances}
 use Rattle.tp_board.specs.Sources.{progress_of}
 use Rattle.tp_farm.specs.Closing.{all_finished, all_abandoned, put_down, IsBorneOut, AddsUp}
+use Rattle.tp_farm.specs.Feeding.{HasOnlyFed}
 use Rattle.tp_farm.proofs.Numbers.{times-append}
 
 module _ (n : ℕ) (views : List View) (l : Ledger) (b : Balances n views l) where
@@ -82,9 +82,52 @@ module _ (n : ℕ) (views : List View) (l : Ledger) (b : Balances n views l) whe
     stopped = λ is none. omega (arith, b.stopped.0 is, none_calls views none);
   }
 
-same_hands : (seats : List SeatView) → map progress_of (views_of seats) ≡ map (λ s. progress_of s.view) seats
-same_hands [] = refl
-same_hands (s ∷ seats) = ap (λ ps. progress_of s.view ∷ ps) (same_hands seats)
+-- ---- a hand that has put nothing down, behind the others
 
-pub seats_add_up : (n : ℕ) (seats : List SeatView) (l : Ledger) → Balances n (views_of seats) l → AddsUp n (map (λ s. progress_of s.view) seats) l
-seats_add_up n seats l b = subst (λ ps. AddsUp n ps l) (same_hands seats) (adds_up n (views_of seats) l b)
+times_finished : (x : ℕ) (ps : List Progress) (last : Progress) → times x (all_finished (ps ++ last ∷ [])) ≡ times x (all_finished ps) + times x last.finished
+times_finished x [] last = times-append x last.finished [] ∙ omega arith
+times_finished x (p ∷ ps) last =
+    omega (
+      arith,
+      times-append x p.finished (all_finished (ps ++ last ∷ [])),
+      times-append x p.finished (all_finished ps),
+      times_finished x ps last,
+    )
+
+times_abandoned : (x : ℕ) (ps : List Progress) (last : Progress) → times x (all_abandoned (ps ++ last ∷ [])) ≡ times x (all_abandoned ps) + times x last.abandoned
+times_abandoned x [] last = times-append x last.abandoned [] ∙ omega arith
+times_abandoned x (p ∷ ps) last =
+    omega (
+      arith,
+      times-append x p.abandoned (all_abandoned (ps ++ last ∷ [])),
+      times-append x p.abandoned (all_abandoned ps),
+      times_abandoned x ps last,
+    )
+
+all_before : {X : Type 0} (P : X → Type 0) (xs : List X) (last : X) → All P (xs ++ last ∷ []) → All P xs
+all_before P [] last h = All-nil P
+all_before P (x ∷ xs) last h = All-cons P x xs (All-head P x (xs ++ last ∷ []) h) (all_before P xs last (All-tail P x (xs ++ last ∷ []) h))
+
+module _ (n : ℕ) (ps : List Progress) (last : Progress) (l : Ledger) (finished : last.finished ≡ []) (abandoned : last.abandoned ≡ []) (in_hand : last.in_hand ≡ None) (going : last.stop_called ≡ false) (b : AddsUp n (ps ++ last ∷ []) l) where
+  none_put_down : (x : ℕ) → put_down x (ps ++ last ∷ []) ≡ put_down x ps
+  none_put_down x = omega (arith, times_finished x ps last, times_abandoned x ps last, ap (times x) finished, ap (times x) abandoned)
+
+  without_last : AddsUp n ps l
+  without_last = record {
+    within = b.within;
+    few = λ x. omega (arith, none_put_down x, b.few x);
+    all = λ none x. omega (arith, none_put_down x, b.all (All-push (λ p. p.in_hand ≡ None) ps last none in_hand) x);
+    learnt = all_before (IsBorneOut n l) ps last b.learnt;
+    stopped = λ is none. b.stopped is (All-push (λ p. p.stop_called ≡ false) ps last none going);
+  }
+
+-- ---- the hands of a stream, and its feeder
+
+same_hands : (hands : List HandView) (last : View) → map progress_of (map hand_seen hands ++ last ∷ []) ≡ map (λ h. progress_of (hand_seen h)) hands ++ progress_of last ∷ []
+same_hands [] last = refl
+same_hands (h ∷ hands) last = ap (λ ps. progress_of (hand_seen h) ∷ ps) (same_hands hands last)
+
+pub hands_add_up : (n : ℕ) (hands : List HandView) (f : FeederView) (l : Ledger) → HasOnlyFed f → Balances n (all_seen hands f) l → AddsUp n (map (λ h. progress_of (hand_seen h)) hands) l
+hands_add_up n hands f l fed b =
+    without_last n (map (λ h. progress_of (hand_seen h)) hands) (progress_of (feeder_seen f)) l fed.none_finished fed.none_abandoned refl (ap (nat_lt 0) fed.not_stopped)
+    (subst (λ ps. AddsUp n ps l) (same_hands hands (feeder_seen f)) (adds_up n (all_seen hands f) l b))
