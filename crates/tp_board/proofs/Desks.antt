@@ -43,10 +43,11 @@ lost_small k w views r =
 
 -- one view and the words change together
 changed : (k : Size) (w w' : Counters) (views : List View) (id : ℕ) (v u : View) → DeskRule k w views → get_elem? views id ≡ some v
-    → u.parts ≡ v.parts → w'.done + length v.finished ≡ w.done + length u.finished → w'.lost + length v.abandoned ≡ w.lost + length u.abandoned
+    → w'.claimed ≡ 0 → u.parts ≡ v.parts → w'.done + length v.finished ≡ w.done + length u.finished → w'.lost + length v.abandoned ≡ w.lost + length u.abandoned
     → w'.stop ≡ min 1 (total (λ v. v.stop_callers) (set views id u)) → AtMost w w' → FitsDesk k w' u → DeskRule k w' (set views id u)
-changed k w w' views id v u r at same done lost stop more mine = record {
+changed k w w' views id v u r at unclaimed same done lost stop more mine = record {
   few_seats = r.few_seats;
+  no_claim = unclaimed;
   parts = (let a = total_set (λ v. v.parts) views id v u at in let b = r.parts in omega arith);
   done = (let a = total_set (λ v. length v.finished) views id v u at in let b = r.done in omega arith);
   lost = (let a = total_set (λ v. length v.abandoned) views id v u at in let b = r.lost in omega arith);
@@ -64,7 +65,7 @@ module _ (k : Size) (words : List ℕ) (views : List View) (id : ℕ) (v : View)
       let more : AtMost w w' = record { claimed = omega arith; done = omega arith; lost = omega arith; stop = omega arith } in (
         w',
         ap (λ ws. slice_set ws 0 ((slice_index ws 0 + 1) % 2 ^ 64)) h.1 ∙ ap (λ d. d ∷ w.lost ∷ w.stop ∷ []) (added w.done (omega arith)),
-        changed k w w' views id v u r at refl (omega arith) (omega arith) (let a = total_set (λ v. v.stop_callers) views id v u at in let b = r.stop in omega arith) more
+        changed k w w' views id v u r at r.no_claim refl (omega arith) (omega arith) (let a = total_set (λ v. v.stop_callers) views id v u at in let b = r.stop in omega arith) more
             (record { few = omega arith; seen = wider v.seen w w' f.seen more; idle = (λ e. absurd (omega arith)) }),
       )
 
@@ -77,7 +78,7 @@ module _ (k : Size) (words : List ℕ) (views : List View) (id : ℕ) (v : View)
       let more : AtMost w w' = record { claimed = omega arith; done = omega arith; lost = omega arith; stop = omega arith } in (
         w',
         ap (λ ws. slice_set ws 1 ((slice_index ws 1 + 1) % 2 ^ 64)) h.1 ∙ ap (λ d. w.done ∷ d ∷ w.stop ∷ []) (added w.lost (omega arith)),
-        changed k w w' views id v u r at refl (omega arith) (omega arith) (let a = total_set (λ v. v.stop_callers) views id v u at in let b = r.stop in omega arith) more
+        changed k w w' views id v u r at r.no_claim refl (omega arith) (omega arith) (let a = total_set (λ v. v.stop_callers) views id v u at in let b = r.stop in omega arith) more
             (record { few = omega arith; seen = wider v.seen w w' f.seen more; idle = (λ e. absurd (omega arith)) }),
       )
 
@@ -90,7 +91,7 @@ module _ (k : Size) (words : List ℕ) (views : List View) (id : ℕ) (v : View)
       let more : AtMost w w' = record { claimed = omega arith; done = omega arith; lost = omega arith; stop = omega arith } in (
         w',
         ap (λ ws. slice_set ws 2 (bit_or (slice_index ws 2) 1)) h.1 ∙ ap (λ n. w.done ∷ w.lost ∷ n ∷ []) (ap (λ n. bit_or n 1) r.stop ∙ one_or (total (λ v. v.stop_callers) views)),
-        changed k w w' views id v u r at refl (omega arith) (omega arith) (let a = total_set (λ v. v.stop_callers) views id v u at in let b = le_total (λ v. v.stop_callers) views id v at in omega arith) more
+        changed k w w' views id v u r at r.no_claim refl (omega arith) (omega arith) (let a = total_set (λ v. v.stop_callers) views id v u at in let b = le_total (λ v. v.stop_callers) views id v at in omega arith) more
             (record { few = f.few; seen = wider v.seen w w' f.seen more; idle = (λ e. absurd (omega arith)) }),
       )
 
@@ -103,7 +104,7 @@ module _ (k : Size) (words : List ℕ) (views : List View) (id : ℕ) (v : View)
       subst (λ n. KeepsDesk k (slice_set words 2 (slice_index words 2)) (set views id (after_look v shown.Stop n))) (sym found) (
         w,
         set_same 2 words ∙ h.1,
-        changed k w w views id v u r at refl (omega arith) (omega arith) (let a = total_set (λ v. v.stop_callers) views id v u at in let b = r.stop in omega arith) same
+        changed k w w views id v u r at r.no_claim refl (omega arith) (omega arith) (let a = total_set (λ v. v.stop_callers) views id v u at in let b = r.stop in omega arith) same
             (record { few = f.few; seen = (record { claimed = s.claimed; done = s.done; lost = s.lost; stop = omega arith }); idle = f.idle }),
       )
 
@@ -154,6 +155,7 @@ split_rule : (k : Size) (w : Counters) (views : List View) (id p m : ℕ) → 0 
 split_rule k w views id p m some_part r at =
     let v : View = newcomer p m in let u : View = newcomer p (m - 1) in let n : View = newcomer p 1 in let vs = set views id u in record {
       few_seats = r.few_seats;
+      no_claim = r.no_claim;
       parts = (let a = total_set (λ v. v.parts) views id v u at in let b = r.parts in let c = total_snoc (λ v. v.parts) vs n in omega arith);
       done = (let a = total_set (λ v. length v.finished) views id v u at in let b = r.done in let c = total_snoc (λ v. length v.finished) vs n in omega arith);
       lost = (let a = total_set (λ v. length v.abandoned) views id v u at in let b = r.lost in let c = total_snoc (λ v. length v.abandoned) vs n in omega arith);
@@ -180,6 +182,7 @@ join_rule k w views id v other u some_part r at apart there =
     let sum = λ (f : View → ℕ). total_set f views id v b at in
     let rest = λ (f : View → ℕ). total_set f vs other u s there in record {
       few_seats = r.few_seats;
+      no_claim = r.no_claim;
       parts = (let a = sum (λ v. v.parts) in let c = rest (λ v. v.parts) in let d = r.parts in omega arith);
       done = (let a = sum (λ v. length v.finished) in let c = rest (λ v. length v.finished) in let d = r.done in let e = length-append v.finished u.finished in omega arith);
       lost = (let a = sum (λ v. length v.abandoned) in let c = rest (λ v. length v.abandoned) in let d = r.lost in let e = length-append v.abandoned u.abandoned in omega arith);
@@ -199,7 +202,7 @@ pub opens : (S : Type 0) (p m : ℕ) → m ≤ 65 → DeskHolds {S = S} (size p 
 opens S p m few_seats = (
   nothing_seen,
   refl,
-  record { few_seats = few_seats; parts = omega arith; done = refl; lost = refl; stop = omega arith; fits = only },
+  record { few_seats = few_seats; no_claim = refl; parts = omega arith; done = refl; lost = refl; stop = omega arith; fits = only },
 )
   where
     only : (id : ℕ) (v : View) → get_elem? (newcomer p m ∷ []) id ≡ some v → FitsDesk (size p m) nothing_seen v
@@ -208,6 +211,7 @@ opens S p m few_seats = (
 
 -- what the rule says of the view that has every part
 pub record WholeDesk (w : Counters) (v : View) : Type 0 where
+  pub no_claim : w.claimed ≡ 0
   pub done : w.done ≡ length v.finished
   pub lost : w.lost ≡ length v.abandoned
   pub stop : w.stop ≡ min 1 v.stop_callers
@@ -220,6 +224,7 @@ closes S k id v ws s most h e =
     let none = others_none (λ v. v.parts) s.views id v h.1 (r.parts ∙ sym every) in
     let of = λ (f : View → ℕ) (g : (u : View) → FitsDesk k h.0.0 u → u.parts ≡ 0 → f u ≡ 0). all_of f s.views id v h.1 (λ j u apart there. g u (r.fits j u there) (none j u apart there)) in
     (h.0.0, sym e ∙ h.0.1, record {
+      no_claim = r.no_claim;
       done = r.done ∙ of (λ v. length v.finished) (λ u f e. ap length (f.idle e).0);
       lost = r.lost ∙ of (λ v. length v.abandoned) (λ u f e. ap length (f.idle e).1);
       stop = r.stop ∙ ap (λ n. min 1 n) (of (λ v. v.stop_callers) (λ u f e. (f.idle e).2));

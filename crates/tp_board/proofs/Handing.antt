@@ -16,9 +16,18 @@ use Rattle.tp_board.specs.Counting.{times, hand_list}
 use Rattle.tp_board.specs.Lines.{took, IsNext}
 use Rattle.tp_board.specs.Sources.{progress_of, NextSays}
 use Rattle.tp_board.specs.Views.{first_of}
-use Rattle.tp_board.specs.Steps.{with_number, with_end, after_draw, after_look}
+use Rattle.tp_board.specs.Desks.{holding}
+use Rattle.tp_board.specs.Steps.{with_number, with_end, after_draw, after_finish, after_abandon, after_look}
 use Rattle.tp_board.specs.Streams.{seen_of, Agrees, IsHand, NextAfter, NextMakes, HasBytes}
 use Rattle.tp_board.proofs.Counting.{times-append}
+
+pub no_number : (m : Option ℕ) → first_of (hand_list m) ≡ None → m ≡ None
+no_number None e = refl
+no_number (Some n) e = e
+
+pub none_of : {X : Type 0} (m : Option X) → ((x : X) → m ≡ Some x → ⊥) → m ≡ None
+none_of None h = refl
+none_of (Some x) h = absurd (h x refl)
 
 -- ---- a pop, after a look that found no stop
 popped_hand : (t : Turn) (p : View) (ended stop_seen : Bool) (n : ℕ) → IsHand t p None ended stop_seen → p.seen.stop ≡ 0 → IsNext t (Number n) → IsHand (took t (Number n)) (after_look p shown.Stop 0) (Some n) ended stop_seen
@@ -196,3 +205,49 @@ get_map f (x ∷ xs) (suc n) d l = get_map f xs n d (omega arith)
 
 pub below_map : {X Y : Type 0} (f : X → Y) (xs : List X) (n m : ℕ) → m ≡ length (map f xs) → n < m → n < length xs
 below_map f xs n m e l = omega (arith, length-map xs f)
+
+-- ---- a report
+-- a hand with a number in hand may report it
+pub has_room : (t : Turn) (p : View) (number : Option ℕ) (ended stop_seen : Bool) (n : ℕ) → number ≡ Some n → IsHand t p number ended stop_seen → length p.finished + length p.abandoned < 1024
+has_room t p number ended stop_seen n full ok =
+    let a = ok.agrees.counted in let b = ok.few_popped in let d = ok.few_packets in let c = ap (λ m. length (hand_list m)) full in omega arith
+
+pub hand_finished : (t : Turn) (p q : View) (number : Option ℕ) (ended stop_seen : Bool) (n : ℕ) → number ≡ Some n → q ≡ after_finish (holding p (n ∷ [])) → IsHand t p number ended stop_seen → IsHand t q None ended stop_seen
+hand_finished t p q number ended stop_seen n full is ok = subst (λ (q : View). IsHand t q None ended stop_seen) (sym is) (record {
+  one_pass = ok.one_pass;
+  one_seat = ok.one_seat;
+  feeds = ok.feeds;
+  pushed = ok.pushed;
+  marks = ok.marks;
+  few_packets = ok.few_packets;
+  few_popped = ok.few_popped;
+  no_claim = ok.no_claim;
+  agrees = record {
+    ended = ok.agrees.ended;
+    in_hand = omega arith;
+    each_once = (λ x. let a = ok.agrees.each_once x in let b = times-append x p.finished (n ∷ []) in let c = ap (λ m. times x (hand_list m)) full in omega arith);
+    counted = (let a = ok.agrees.counted in let b = length-append p.finished (n ∷ []) in let c = ap (λ m. length (hand_list m)) full in omega arith);
+  };
+  ended_is = ok.ended_is;
+  stop_seen_is = ok.stop_seen_is;
+})
+
+pub hand_abandoned : (t : Turn) (p q : View) (number : Option ℕ) (ended stop_seen : Bool) (n : ℕ) → number ≡ Some n → q ≡ after_abandon (holding p (n ∷ [])) → IsHand t p number ended stop_seen → IsHand t q None ended stop_seen
+hand_abandoned t p q number ended stop_seen n full is ok = subst (λ (q : View). IsHand t q None ended stop_seen) (sym is) (record {
+  one_pass = ok.one_pass;
+  one_seat = ok.one_seat;
+  feeds = ok.feeds;
+  pushed = ok.pushed;
+  marks = ok.marks;
+  few_packets = ok.few_packets;
+  few_popped = ok.few_popped;
+  no_claim = ok.no_claim;
+  agrees = record {
+    ended = ok.agrees.ended;
+    in_hand = omega arith;
+    each_once = (λ x. let a = ok.agrees.each_once x in let b = times-append x p.abandoned (n ∷ []) in let c = ap (λ m. times x (hand_list m)) full in omega arith);
+    counted = (let a = ok.agrees.counted in let b = length-append p.abandoned (n ∷ []) in let c = ap (λ m. length (hand_list m)) full in omega arith);
+  };
+  ended_is = ok.ended_is;
+  stop_seen_is = ok.stop_seen_is;
+})

@@ -13,3 +13,4 @@ mod Schedule
 mod Turns
 mod Desks
 mod Handing
+mod Gathering

@@ -24,6 +24,7 @@ pub record FitsDesk (k : Size) (w : Counters) (v : View) : Type 0 where
 -- finished and abandoned; `stop` is 1 where some view called stop, and else 0
 pub record DeskRule (k : Size) (w : Counters) (views : List View) : Type 0 where
   pub few_seats : k.members ≤ 65
+  pub no_claim : w.claimed ≡ 0
   pub parts : total (λ v. v.parts) views ≡ k.members
   pub done : w.done ≡ total (λ v. length v.finished) views
   pub lost : w.lost ≡ total (λ v. length v.abandoned) views

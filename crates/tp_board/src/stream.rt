@@ -203,14 +203,14 @@ impl<'p> StreamQueue<'p> {
     ) -> Result<StreamLedger, StreamCloseFault<'p>>
         requires feeder { IsFeederOf self feeder }
         requires hands { All (IsHandOf self) hands.items }
-        ensures all { IfOk result (λ l. length hands.items ≡ self.members) }
-        ensures ledger { IfOk result (λ l. Balances (length self.packets) (all_seen hands.items feeder) l.ledger) }
+        ensures all { IfOk result (λ l. length hands.items ≡ self.entry.members) }
+        ensures ledger { IfOk result (λ l. Balances (length self.entry.packets) (all_seen hands.items feeder) l.ledger) }
         ensures pushed { IfOk result (λ l. l.pushed ≡ feeder.turn.pushed) }
         ensures left { IfOk result (λ l. IsLeft (all_seen hands.items feeder) l.pushed l.ledger.drawn) }
-        ensures missing { IfErr result (λ f. length hands.items < self.members) }
-        ensures err { IfErr result (λ f. (f.stream ≡ self) × (f.feeder ≡ feeder) × (f.hands.items ≡ hands.items)) }
+        ensures missing { IfErr result (λ f. length hands.items < self.entry.members) }
+        ensures err { IfErr result (λ f. (f.stream ≡ self.entry) × (f.feeder ≡ feeder) × (f.hands.items ≡ hands.items)) }
     {
-        if hands.len() < self.members as usize {
+        if hands.len() < self.entry.members as usize {
             return Err(StreamCloseFault {
                 stream: self,
                 feeder,
