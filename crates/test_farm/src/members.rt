@@ -48,6 +48,24 @@ fn members_make_no_difference(rt: HostRuntime) -> Result<(), Fail> {
     Ok(())
 }
 
+/// How many packets: none, one, and about as many as the 32 places of the queue that hands them to members.
+const COUNTS: [u32; 6] = [0, 1, 31, 32, 33, 65];
+
+#[test]
+fn any_count_of_packets_is_run(rt: HostRuntime) -> Result<(), Fail> {
+    for count in COUNTS {
+        let words = count_up(rt.alloc(), count)?;
+        for members in [1, 2, 64] {
+            let collected = increments_by(&rt, rt.alloc(), &words, members, &OpenGate)?;
+            assert!(rt;
+                are_one_more(rt.alloc(), &words, &collected)?,
+                "{count} by {members}"
+            );
+        }
+    }
+    Ok(())
+}
+
 /// How many turns a thread is held for, at most.
 const MOST_TURNS: u64 = 1_000_000;
 

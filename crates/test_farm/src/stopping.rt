@@ -109,6 +109,37 @@ fn a_closed_gate_lets_nothing_through(rt: HostRuntime) -> Result<(), Fail> {
     Ok(())
 }
 
+/// How many of 1,024 packets are done, by so many members under a gate that says no at this ask and from there on; none where
+/// an entry is neither done nor stopped.
+fn done_before<R: Threads + Wait + Sync>(
+    rt: &R,
+    alloc: Global,
+    members: usize,
+    at: u64,
+) -> Result<Option<usize>, Fail> {
+    let collected = increments_by(rt, alloc, &[1; 1024], members, &Closing::at(at))?;
+    let all = all_told(alloc, &collected)?;
+    let done = count_of(&all, Told::Done(2));
+    let stopped = count_of(&all, Told::Stopped);
+    Ok((done.saturating_add(stopped) == 1024).then_some(done))
+}
+
+/// The queue that hands packets to members is full when they end, and nobody waits for room in it.
+#[test]
+fn a_full_queue_ends_with_its_members(rt: HostRuntime) -> Result<(), Fail> {
+    for members in [1, 2, 64] {
+        assert_eq!(rt;
+            done_before(&rt, rt.alloc(), members, 1)?,
+            Some(0),
+            "{members}"
+        );
+        let done = done_before(&rt, rt.alloc(), members, 3)?;
+        assert!(rt; done.is_some_and(|done| done <= 2), "{members}");
+    }
+    assert_eq!(rt; done_before(&rt, rt.alloc(), 1, 40)?, Some(39));
+    Ok(())
+}
+
 /// How many packets this is told of.
 fn count_of(all: &[Told], wanted: Told) -> usize {
     let mut count = 0usize;
