@@ -222,11 +222,15 @@ closes S k id v ws s most h e =
     let r = h.0.2 in
     let every : v.parts ≡ k.members = (let a = le_total (λ v. v.parts) s.views id v h.1 in let b = r.parts in omega arith) in
     let none = others_none (λ v. v.parts) s.views id v h.1 (r.parts ∙ sym every) in
-    let of = λ (f : View → ℕ) (g : (u : View) → FitsDesk k h.0.0 u → u.parts ≡ 0 → f u ≡ 0). all_of f s.views id v h.1 (λ j u apart there. g u (r.fits j u there) (none j u apart there)) in
-    (h.0.0, sym e ∙ h.0.1, record {
-      no_claim = r.no_claim;
-      done = r.done ∙ of (λ v. length v.finished) (λ u f e. ap length (f.idle e).0);
-      lost = r.lost ∙ of (λ v. length v.abandoned) (λ u f e. ap length (f.idle e).1);
-      stop = r.stop ∙ ap (λ n. min 1 n) (of (λ v. v.stop_callers) (λ u f e. (f.idle e).2));
-      seen = (r.fits id v h.1).seen;
-    }, every)
+    let of = λ (f : View → ℕ) (g : (u : View) → FitsDesk k h.0.0 u → u.parts ≡ 0 → f u ≡ 0). all_of f s.views id v h.1 (λ j u apart there. g u (r.fits j u there) (none j u apart there)) in (
+      h.0.0,
+      sym e ∙ h.0.1,
+      record {
+        no_claim = r.no_claim;
+        done = r.done ∙ of (λ v. length v.finished) (λ u f e. ap length (f.idle e).0);
+        lost = r.lost ∙ of (λ v. length v.abandoned) (λ u f e. ap length (f.idle e).1);
+        stop = r.stop ∙ ap (λ n. min 1 n) (of (λ v. v.stop_callers) (λ u f e. (f.idle e).2));
+        seen = (r.fits id v h.1).seen;
+      },
+      every,
+    )

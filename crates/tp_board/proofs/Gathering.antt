@@ -4,13 +4,15 @@ use Rattle.std.proofs.lemmas.Bool.{cases_lt}
 use Rattle.tp_board.specs.declared.line.Turn.{Turn}
 use Rattle.tp_board.specs.declared.view.Counters.{Counters}
 use Rattle.tp_board.specs.declared.view.View.{View}
-use Rattle.tp_board.specs.Counting.{times, once_below, hand_list}
+use mathlib.Core.Option.{some, some-injective}
+use lib.ListN.{get_elem?}
+use Rattle.tp_board.specs.Counting.{times, once_below, AreBelow}
 use Rattle.tp_board.specs.Ledgers.{join_of_all}
 use Rattle.tp_board.specs.Lines.{joined, LeftAt}
 use Rattle.tp_board.specs.Runs.{numbers_from}
-use Rattle.tp_board.specs.Streams.{HandView, hand_seen, seen_of, Agrees}
-use Rattle.tp_board.specs.Views.{join_of}
-use Rattle.tp_board.specs.Words.{size, counters}
+use Rattle.tp_board.specs.Streams.{HandView, hand_seen, seen_of, Agrees, IsLeft}
+use Rattle.tp_board.specs.Views.{join_of, all_drawn}
+use Rattle.tp_board.specs.Words.{size, counters, desk_words_of}
 use Rattle.tp_board.proofs.Closing.{folded_snoc}
 use Rattle.tp_board.proofs.Counting.{times-append, once_more}
 use Rattle.tp_board.proofs.Desks.{WholeDesk}
@@ -85,3 +87,18 @@ below_and_from x n (suc k) =
     let one = once_more x n in
     let same : once_below x (n + 1 + k) ≡ once_below x (n + suc k) = ap (once_below x) (let e : n + 1 + k ≡ n + suc k = omega arith in e) in
     omega arith
+
+-- the numbers popped, and those that the queue holds
+pub left_over : (views : List View) (t : Turn) (n : ℕ) → LeftAt t n → AreBelow (all_drawn views) n → IsLeft views t.pushed n
+left_over views t n left drew =
+    let behind = left.behind in
+    let all : n + (t.pushed - n) ≡ t.pushed = omega arith in (
+      left.items.0,
+      left.items.1,
+      left.items.2,
+      behind,
+      (λ x. let a = times-append x (all_drawn views) (numbers_from n (t.pushed - n)) in let b = below_and_from x n (t.pushed - n) in let c = drew x in let d = ap (once_below x) all in omega arith),
+    )
+
+pub desk_word_at : (ws : List ℕ) (w : Counters) (i a b : ℕ) → ws ≡ desk_words_of w → get_elem? (desk_words_of w) i ≡ some b → get_elem? ws i ≡ some a → a ≡ b
+desk_word_at ws w i a b e there here = some-injective a b (sym here ∙ ap (λ l. get_elem? l i) e ∙ there)

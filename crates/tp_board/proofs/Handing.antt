@@ -141,10 +141,13 @@ next_after v u w k work.NoMore none made_looks says going = ⊎_elim
     (λ known. let same = (looks_keep k v u none made_looks).0 in let a = known.0 in absurd (omega arith))
     (λ learnt. let same = (looks_keep k v u none made_looks).2 in let m = learnt.2.0 in let above = learnt.2.1 in inr (going, none, (m, omega arith, makes_then _ v _ u w made_looks learnt.2.2)))
     says
-next_after v u w k work.Stopped none made_looks says going = (going, ⊎_elim
-    (λ known. let same = (looks_keep k v u none made_looks).1 in let a = known.0 in absurd (omega arith))
-    (λ learnt. inr (none, makes_then _ v _ u w made_looks learnt.1))
-    says.1)
+next_after v u w k work.Stopped none made_looks says going = (
+  going,
+  ⊎_elim
+      (λ known. let same = (looks_keep k v u none made_looks).1 in let a = known.0 in absurd (omega arith))
+      (λ learnt. inr (none, makes_then _ v _ u w made_looks learnt.1))
+      says.1,
+)
 
 -- ---- what a call is to a source of work
 drew : (packets : List (List ℕ)) (v w : View) (k n : ℕ) (bytes : List ℕ) → v.hand ≡ [] → NoStop v → v.ended ≡ 0 → n < v.packets → slice_get packets n ≡ Some bytes
@@ -192,10 +195,13 @@ next_says packets v w work.NoMore empty (k, says) got = ⊎_elim
     let no_call : v.stop_callers ≡ 0 = let a = fresh.1 in omega arith in
     (inr (ap (nat_lt 0) learnt.1, ap (nat_lt 0) no_call), learnt_end v w k learnt.2.0 learnt.2.1 learnt.1 learnt.2.2))
     says
-next_says packets v w work.Stopped empty (k, (going, says)) got = (ap (nat_lt 0) going, ⊎_elim
-    (λ known. ap progress_of known.1 ∙ ap (λ b. record (progress_of v) { stop_seen = b }) (ap (nat_lt 0) known.0))
-    (λ learnt. saw_stop v w k learnt.1)
-    says)
+next_says packets v w work.Stopped empty (k, (going, says)) got = (
+  ap (nat_lt 0) going,
+  ⊎_elim
+      (λ known. ap progress_of known.1 ∙ ap (λ b. record (progress_of v) { stop_seen = b }) (ap (nat_lt 0) known.0))
+      (λ learnt. saw_stop v w k learnt.1)
+      says,
+)
 
 -- ---- the bytes
 pub get_map : {X Y : Type 0} (f : X → Y) (xs : List X) (n : ℕ) (d : X) → n < length xs → slice_get (map f xs) n ≡ Some (f (get_or xs n d))

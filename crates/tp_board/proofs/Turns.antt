@@ -219,10 +219,10 @@ module _ where
       (cases_lt r.ended r.marks))
       (cases_lt r.drawn r.pushed)
 
-  pub left : (id : ℕ) (v : Turn) → v.parts ≡ v.members + 1 → Learns Streamed id v (Left v)
+  pub left : (id : ℕ) (v : Turn) → v.members + 1 ≤ v.parts → Learns Streamed id v (Left v)
   left id v every items views r at =
       let size = (r.fits id v at).sizes (omega arith) in let size0 = size.0 in let size1 = size.1 in
-      let none = others_none (λ v. v.parts) views id v at (let a = r.parts in omega arith) in
+      let none = others_none (λ v. v.parts) views id v at (let a = r.parts in let b = le_total (λ v. v.parts) views id v at in omega arith) in
       let of = λ (f : Turn → ℕ) (h : (u : Turn) → FitsLine r.packets r.members u → u.parts ≡ 0 → f u ≡ 0). all_of f views id v at (λ j u apart there. h u (r.fits j u there) (none j u apart there)) in
       let pushed : r.pushed ≡ v.pushed = sym r.pushed_is ∙ of (λ v. v.pushed) (λ u f e. (f.fed (f.idle e).0).0) in
       let marks : r.marks ≡ v.marks = sym r.marks_is ∙ of (λ v. v.marks) (λ u f e. (f.fed (f.idle e).0).1) in

@@ -94,6 +94,7 @@ IsFeederOf q f = (f.line ≡ q.line) × (f.desk ≡ q.desk) × (f.turn.packets �
 -- room for 32 items
 pub record IsStream (desk : TableId) (key : Size) (capacity packets members : ℕ) : Type 0 where
   pub words : desk.words ≡ 3
+  pub slots : desk.slots ≡ 0
   pub told : key ≡ size packets (members + 1)
   pub room : capacity ≡ 32
   pub in_range : InRange packets members

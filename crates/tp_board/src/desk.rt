@@ -73,7 +73,7 @@ pub type Token = Seat<(), View>;
 /// The words of a stream for so many packets, with so many seats in one.
 pub fn open_desk(alloc: Global, packets: u32, seats: u32) -> Result<(Desk, Token), AllocError>
     requires { seats ≤ 65 }
-    ensures words { IfOk result (λ r. r.0.shared.table_id.words ≡ 3) }
+    ensures words { IfOk result (λ r. (r.0.shared.table_id.words ≡ 3) × (r.0.shared.table_id.slots ≡ 0)) }
     ensures told { IfOk result (λ r. r.0.shared.key ≡ size packets seats) }
     ensures own { IfOk result (λ r. r.1.table_id ≡ r.0.shared.table_id) }
     ensures me { IfOk result (λ r. r.1.me ≡ (newcomer packets seats, [])) }

@@ -209,7 +209,7 @@ pub fn take<R: Wait>(rt: &R, line: &Line, pass: &mut Place) -> Option<Item>
 // The same for the pass with every part: at None the queue holds nothing.
 fn drain<R: Wait>(rt: &R, line: &Line, pass: &mut Place) -> Option<Item>
     requires queue { IsPassOf line.now pass.old }
-    requires parts { (view pass.old).parts ≡ (view pass.old).members + 1 }
+    requires parts { (view pass.old).members + 1 ≤ (view pass.old).parts }
     ensures { IsSamePass pass.old pass.new × MatchOption result ((view pass.new ≡ view pass.old) × Left (view pass.old) []) (λ x. Took (view pass.old) x (view pass.new)) }
 {
     line.pop_as::<Rest, R>(rt, pass)
@@ -219,7 +219,7 @@ fn drain<R: Wait>(rt: &R, line: &Line, pass: &mut Place) -> Option<Item>
 /// popped before: those below it.
 pub fn drained<R: Wait>(rt: &R, line: &Line, pass: &mut Place, pushed: u32) -> u32
     requires queue { IsPassOf line.now pass.old }
-    requires parts { (view pass.old).parts ≡ (view pass.old).members + 1 }
+    requires parts { (view pass.old).members + 1 ≤ (view pass.old).parts }
     requires pushed { ((view pass.old).pushed ≡ pushed) × ((view pass.old).packets ≤ 1024) }
     ensures { LeftAt (view pass.old) result }
 {

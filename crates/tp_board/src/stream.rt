@@ -16,8 +16,10 @@ ghost use Rattle.tp_board.specs.Streams.{NextAfter, NextMakes, HasBytes, FeedSay
 
 use crate::answer::{BoardFault, Ledger, MAX_MEMBERS, MAX_PACKETS};
 use crate::board_source::copied;
-use crate::desk::{DONE, Desk, LOST, STOP, Token};
-use crate::desk::{another_seat, join_seats, look_stop, open_desk, report_done, report_lost, set_stop};
+use crate::desk::{
+    DONE, Desk, LOST, STOP, Token, another_seat, join_seats, look_stop, open_desk, report_done,
+    report_lost, set_stop,
+};
 use crate::line::{Item, Line, Place, drained, feed, join, new_hand, opened, take};
 use crate::source::{Packet, Work, WorkSource};
 use crate::stream_hand::{Fed, Feeder, StreamHand, StreamLedger};
@@ -210,7 +212,7 @@ impl<'p> StreamQueue<'p> {
         ensures missing { IfErr result (λ f. length hands.items < self.entry.members) }
         ensures err { IfErr result (λ f. (f.stream ≡ self.entry) × (f.feeder ≡ feeder) × (f.hands.items ≡ hands.items)) }
     {
-        if hands.len() < self.entry.members as usize {
+        if hands.len() < self.members as usize {
             return Err(StreamCloseFault {
                 stream: self,
                 feeder,
