@@ -11,7 +11,8 @@ use Rattle.tp_board.specs.Counting.{times, once_below}
 use Rattle.tp_board.specs.Views as view
 use Rattle.tp_board.specs.Rule.{total}
 use Rattle.tp_board.specs.Ledgers.{Balances}
-use Rattle.tp_board.specs.Sources.{progress_of}
+use Rattle.tp_board.specs.Sources.{Progress, progress_of}
+use Rattle.tp_board.specs.Streams.{HandView, FeederView, hand_seen, feeder_seen, all_seen}
 use Rattle.tp_farm.specs.Closing.{all_finished, all_abandoned, put_down, IsBorneOut, AddsUp}
 use Rattle.tp_farm.specs.Feeding.{HasOnlyFed}
 use Rattle.tp_farm.proofs.Numbers.{times-append}
@@ -85,7 +86,7 @@ module _ (n : ℕ) (views : List View) (l : Ledger) (b : Balances n views l) whe
 -- ---- a hand that has put nothing down, behind the others
 
 times_finished : (x : ℕ) (ps : List Progress) (last : Progress) → times x (all_finished (ps ++ last ∷ [])) ≡ times x (all_finished ps) + times x last.finished
-times_finished x [] last = times-append x last.finished [] ∙ omega arith
+times_finished x [] last = omega (arith, times-append x last.finished [])
 times_finished x (p ∷ ps) last =
     omega (
       arith,
@@ -95,7 +96,7 @@ times_finished x (p ∷ ps) last =
     )
 
 times_abandoned : (x : ℕ) (ps : List Progress) (last : Progress) → times x (all_abandoned (ps ++ last ∷ [])) ≡ times x (all_abandoned ps) + times x last.abandoned
-times_abandoned x [] last = times-append x last.abandoned [] ∙ omega arith
+times_abandoned x [] last = omega (arith, times-append x last.abandoned [])
 times_abandoned x (p ∷ ps) last =
     omega (
       arith,

@@ -92,7 +92,7 @@ fn close_stream<R: Wait>(
     requires feeder { IsFeederOf stream feeder }
     requires own { All (IsHandOf stream) hands.items }
     requires all { length hands.items ≡ stream.members }
-    ensures { Balances (length stream.packets) (all_seen hands.items feeder) result }
+    ensures { Balances (length stream.entry.packets) (all_seen hands.items feeder) result }
 {
     match stream.close(rt, feeder, hands) {
         Ok(closed) => closed.ledger,

@@ -147,7 +147,7 @@ fn join_all<R: Threads + Wait, D: LinkDevice, G: Gate, S: WorkSource>(
 ) -> Result<Vec<Returned<S::Hand, Filed, D>>, FarmFault>
 where
     S::Hand: Drop,
-    ensures joined { IfOk result (λ rs. (started.all_started ≡ true) × AllZip (λ h r. HasWorked D.state (S.is_own h.promise.shop.now.source.now) S.progress (work_of G.open_for_good h.promise.shop.now) h.promise.before.value r) started.handles.items rs.items) }
+    ensures joined { IfOk result (λ rs. (started.entry.all_started ≡ true) × AllZip (λ h r. HasWorked D.state (S.is_own h.promise.shop.now.source.now) S.progress (work_of G.open_for_good h.promise.shop.now) h.promise.before.value r) started.entry.handles.items rs.items) }
     ensures err { IfErr result IsFromOutside }
 {
     match join_promised(rt, started.handles) {

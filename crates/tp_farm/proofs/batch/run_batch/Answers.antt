@@ -34,18 +34,18 @@ run_members-requires-clause-fed g c κs within = fresh_feeder _ _ c.in-Ok.ensure
 pub settle-requires-clause-members : goal.settle-requires-clause-members
 settle-requires-clause-members g c κs within =
     let long = AllZip-long _ _ _ c.in_ok-returned.ensures.worked in
-    omega (arith, ap (λ q. q.members) c.in-Ok.ensures.stream, long, c.in_ok-returned.field-0.returned.ok.0, c.args.links.ok.0, c.len-3.ensures)
+    omega (arith, ap (λ q. q.members) c.in-Ok.ensures.stream, long, c.in_ok-returned.returned.ok.0, c.args.links.ok.0, c.len-3.ensures)
 
 pub settle-requires-clause-some : goal.settle-requires-clause-some
 settle-requires-clause-some g c κs within =
     let long = AllZip-long _ _ _ c.in_ok-returned.ensures.worked in
     let some = (begun c.len.result (batch_of c.args.job.now) (sym c.job_fault.ensures ∙ c.in_default.is)).some in
-    omega (arith, some, long, c.in_ok-returned.field-0.returned.ok.0, c.args.links.ok.0, c.len.ensures)
+    omega (arith, some, long, c.in_ok-returned.returned.ok.0, c.args.links.ok.0, c.len.ensures)
 
 pub settle-requires-clause-room : goal.settle-requires-clause-room
 settle-requires-clause-room g c κs within =
     let long = AllZip-long _ _ _ c.in_ok-returned.ensures.worked in
-    subst (λ n. HasRoom n c.in_ok-room.room) (omega (arith, long, c.in_ok-returned.field-0.returned.ok.0, c.args.links.ok.0, c.len-2.ensures)) c.in_ok-room.ensures
+    subst (λ n. HasRoom n c.in_ok-room.room) (omega (arith, long, c.in_ok-returned.returned.ok.0, c.args.links.ok.0, c.len-2.ensures)) c.in_ok-room.ensures
 
 pub returns-clause-batch : goal.returns-clause-batch
 returns-clause-batch g c =
@@ -64,7 +64,8 @@ returns-clause-goes_well g c packets = if_ok _ _ c.settle.result c.settle.ensure
 pub settle-requires-clause-worked : goal.settle-requires-clause-worked
 settle-requires-clause-worked g c κs within =
     let work = work_on g.G.Gate.open_for_good c.args.job.now c.args.gate.now in
-    subst (λ v. AllZip (HasWorked g.D.LinkDevice.state (IsHandOf _) (λ h. progress_of (hand_seen h)) work) v.items _) (sym c.of-before.ensures) c.in_ok-returned.ensures.worked
+    let stream = c.in-Ok.stream in
+    subst (λ v. AllZip (HasWorked g.D.LinkDevice.state (IsHandOf stream) (λ h. progress_of (hand_seen h)) work) v.items c.in_ok-returned.returned.items) (sym c.of-before.ensures) c.in_ok-returned.ensures.worked
 
 pub returns-then-is_empty-clause-batch : goal.returns-then-is_empty-clause-batch
 returns-then-is_empty-clause-batch g c =

@@ -1,4 +1,4 @@
-use Rattle.std.proofs.Common.{subst}
+use Rattle.std.proofs.Common.{◌≡◌, subst}
 use Rattle.std.specs.List.{AllZip}
 use Rattle.tp_board.specs.Sources.{progress_of}
 use Rattle.tp_board.specs.Streams.{IsHandOf, hand_seen}
