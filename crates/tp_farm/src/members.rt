@@ -4,7 +4,7 @@ ghost use Rattle.std.specs.Prelude.{◌≡◌, ◌≤◌, ◌+◌, ◌++◌, ◌
 ghost use Rattle.std.specs.List.{AllZip};
 ghost use Rattle.tp_board.specs.Sources.{progress_of};
 ghost use Rattle.tp_board.specs.Streams.{IsHandOf, IsFeederOf, hand_seen};
-ghost use Rattle.tp_farm.specs.Feeding.{HasOnlyFed};
+ghost use Rattle.tp_farm.specs.Feeding.{HasOnlyFed, HasEnded};
 ghost use Rattle.tp_farm.specs.Refused.{IsFromOutside};
 ghost use Rattle.tp_farm.specs.Working.{IsSet, IsFresh, HasWorked, work_of};
 
@@ -130,6 +130,7 @@ fn feed_all<R: Wait>(rt: &R, stream: &StreamQueue<'_>, feeder: &mut Feeder)
     requires fed { HasOnlyFed feeder.old }
     ensures own { IsFeederOf stream.now feeder.new }
     ensures fed { HasOnlyFed feeder.new }
+    ensures ends { HasEnded feeder.new }
 {
     for _ in rt.forever() {
         match stream.feed(rt, feeder) {
