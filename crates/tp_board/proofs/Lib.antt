@@ -14,3 +14,4 @@ mod Turns
 mod Desks
 mod Handing
 mod Gathering
+mod Stages
