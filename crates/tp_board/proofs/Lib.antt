@@ -15,3 +15,4 @@ mod Desks
 mod Handing
 mod Gathering
 mod Stages
+mod StreamSteps

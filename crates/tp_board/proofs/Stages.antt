@@ -12,7 +12,7 @@ use Rattle.tp_board.specs.Stages.{Stand, stand_seen, StandsSo, KeepsStream, pops
 use Rattle.tp_board.specs.Words.{size, counters}
 use Rattle.tp_board.proofs.Gathering.{claims_at}
 
-total_map : {X Y : Type 0} (f : Y → ℕ) (g : X → Y) (xs : List X) → total f (map g xs) ≡ total (λ x. f (g x)) xs
+pub total_map : {X Y : Type 0} (f : Y → ℕ) (g : X → Y) (xs : List X) → total f (map g xs) ≡ total (λ x. f (g x)) xs
 total_map f g [] = refl
 total_map f g (x ∷ xs) = ap (λ n. f (g x) + n) (total_map f g xs)
 
@@ -20,23 +20,31 @@ total_two : {X : Type 0} (f g : X → ℕ) (xs : List X) → total (λ x. f x + 
 total_two f g [] = refl
 total_two f g (x ∷ xs) = let ih = total_two f g xs in omega arith
 
-at_map : {X Y : Type 0} (g : X → Y) (xs : List X) (id : ℕ) (y : Y) → get_elem? (map g xs) id ≡ some y → (x : X) × (get_elem? xs id ≡ some x) × (g x ≡ y)
+pub at_map : {X Y : Type 0} (g : X → Y) (xs : List X) (id : ℕ) (y : Y) → get_elem? (map g xs) id ≡ some y → (x : X) × (get_elem? xs id ≡ some x) × (g x ≡ y)
 at_map g [] id y at = absurd (some-ne-none y (sym at))
 at_map g (x ∷ xs) zero y at = (x, refl, some-injective (g x) y at)
 at_map g (x ∷ xs) (suc id) y at = at_map g xs id y at
 
-map_at : {X Y : Type 0} (g : X → Y) (xs : List X) (id : ℕ) (x : X) → get_elem? xs id ≡ some x → get_elem? (map g xs) id ≡ some (g x)
+pub map_at : {X Y : Type 0} (g : X → Y) (xs : List X) (id : ℕ) (x : X) → get_elem? xs id ≡ some x → get_elem? (map g xs) id ≡ some (g x)
 map_at g [] id x at = absurd (some-ne-none x (sym at))
 map_at g (y ∷ ys) zero x at = ap (λ z. some (g z)) (some-injective y x at)
 map_at g (y ∷ ys) (suc id) x at = map_at g ys id x at
 
 -- the queue's rule is over these packets, since somebody has a stand
-sizes_told : (packets members : ℕ) (items : List Item) (words : List ℕ) (stands : List Stand) → (h : KeepsStream packets members items words stands) → h.line.packets ≡ packets
+pub sizes_told : (packets members : ℕ) (items : List Item) (words : List ℕ) (stands : List Stand) → (h : KeepsStream packets members items words stands) → h.line.packets ≡ packets
 sizes_told packets members items words [] h = let a = h.line.parts in absurd (omega arith)
 sizes_told packets members items words (s ∷ ss) h =
     let so = h.each 0 s refl in
     let one = so.one_pass in
     sym ((h.line.fits 0 s.turn refl).sizes (omega arith)).0 ∙ so.packets_is
+
+pub pops_are : (packets members : ℕ) (items : List Item) (words : List ℕ) (stands : List Stand) → (h : KeepsStream packets members items words stands) → pops stands ≡ h.line.drawn + h.line.ended
+pops_are packets members items words stands h =
+    let r = h.line in
+    let popped = sym (total_map (λ (t : Turn). length t.popped) (λ (s : Stand). s.turn) stands) ∙ r.counted in
+    let ended = sym (total_map (λ (t : Turn). t.ended) (λ (s : Stand). s.turn) stands) ∙ r.ended_is in
+    let both = total_two (λ (s : Stand). length s.turn.popped) (λ (s : Stand). s.turn.ended) stands in
+    omega arith
 
 pub stand_law : StandLaw
 stand_law packets members items words stands h =
@@ -49,7 +57,7 @@ stand_law packets members items words stands h =
     let claims = claims_at r.drawn r.ended packets (let a = r.behind in let b = r.within in omega arith) (λ some_end. let t = r.taken in let a = r.marks_last (omega arith) in let b = r.ends_last some_end in omega arith) in
     let least = claims.0 in
     let over = claims.1 in
-    let all : pops stands ≡ r.drawn + r.ended = (let a = total_two (λ (s : Stand). length s.turn.popped) (λ (s : Stand). s.turn.ended) stands in omega arith) in
+    let all = pops_are packets members items words stands h in
     let drawn : min (pops stands) packets ≡ r.drawn = ap (λ n. min n packets) all ∙ least in
     let place = λ (f : View → ℕ). sym (total_map f (λ (s : Stand). s.place) stands) in
     let fits = λ (id : ℕ) (v : View) (at : get_elem? (map stand_seen stands) id ≡ some v).

@@ -1,14 +1,21 @@
 -- A stream's queue and words together, and the board that they stand for.
-use Rattle.std.specs.Prelude.{◌≡◌, ℕ, ◌+◌, List, ◌∷◌, length, map}
+use Rattle.std.specs.Prelude.{◌≡◌, ℕ, ◌+◌, List, [], ◌∷◌, ◌++◌, length, map, slice_set}
 use mathlib.Core.Option.{some}
 use lib.ListN.{get_elem?}
+use Rattle.tp_board.specs.declared.event.Event.{Event}
+use Rattle.tp_board.specs.declared.event.Event.TheVariants.{Claim}
+use Rattle.tp_board.specs.declared.event.Reply.{Reply}
+use Rattle.tp_board.specs.declared.event.Reply.TheVariants as reply
 use Rattle.tp_board.specs.declared.line.Item.{Item}
+use Rattle.tp_board.specs.declared.line.Item.TheVariants.{Number, End}
 use Rattle.tp_board.specs.declared.line.Turn.{Turn}
 use Rattle.tp_board.specs.declared.view.View.{View}
 use Rattle.tp_board.specs.Desks.{KeepsDesk}
-use Rattle.tp_board.specs.Lines.{Streamed}
+use Rattle.tp_board.specs.Laws.{IsEvent}
+use Rattle.tp_board.specs.Lines.{Streamed, MayPut, item_of, put, took}
 use Rattle.tp_board.specs.Openings.{InRange}
 use Rattle.tp_board.specs.Rule.{total, KeepsRule}
+use Rattle.tp_board.specs.Steps.{MayStep}
 use Rattle.tp_board.specs.Streams.{seen_of, Agrees}
 use Rattle.tp_board.specs.Words.{size}
 
@@ -58,26 +65,11 @@ after_pop s x = record s { turn = took s.turn x; numbers = s.numbers ++ numbers_
 abbrev pub after_push : Stand → Item → Stand
 after_push s x = record s { turn = put s.turn x }
 
--- at the words: the board's row, of the view that has these numbers in its hand
-abbrev pub after_word : Stand → Event → ℕ → Stand
-after_word s event found = let v = (row_of event).view (holding s.place s.numbers) found in record s { place = v; numbers = v.hand }
-
--- the event's number is drawn at the queue; its other words stand in the table
-abbrev pub IsWordEvent : Event → Type 0
-IsWordEvent Claim = ⊥
-IsWordEvent Finish = Unit {0}
-IsWordEvent Abandon = Unit {0}
-IsWordEvent Stop = Unit {0}
-IsWordEvent (Look shown.Claimed) = ⊥
-IsWordEvent (Look shown.Done) = Unit {0}
-IsWordEvent (Look shown.Lost) = Unit {0}
-IsWordEvent (Look shown.Stop) = Unit {0}
-
 -- the stream that a step leaves keeps its rules, and the board that it stands for is what this event
 -- makes of the board before, with this reply
 pub record IsStreamEvent (packets members : ℕ) (words : List ℕ) (stands : List Stand) (items' : List Item) (words' : List ℕ) (stands' : List Stand) (id : ℕ) (event : Event) (reply : Reply) : Type 0 where
   pub rule : KeepsStream packets members items' words' stands'
-  pub event : IsEvent (size packets (members + 1)) (pops stands ∷ words) (map stand_seen stands) (pops stands' ∷ words') (map stand_seen stands') id event reply
+  pub made : IsEvent (size packets (members + 1)) (pops stands ∷ words) (map stand_seen stands) (pops stands' ∷ words') (map stand_seen stands') id event reply
 
 -- a pop of a packet is Claim answered with its number, and a pop of an end mark Claim answered NoMore,
 -- by one who has nothing in hand and has not learnt the end

@@ -6,7 +6,7 @@ ghost use Rattle.tp_board.specs.declared.event.Shown.{Shown};
 ghost use Rattle.tp_board.specs.Laws.{StepLaw, AccountsLaw};
 ghost use Rattle.tp_board.specs.Openings.{OpeningLaw};
 ghost use Rattle.tp_board.specs.Schedules.{ScheduleLaw};
-ghost use Rattle.tp_board.specs.Stages.{StandLaw};
+ghost use Rattle.tp_board.specs.Stages.{StandLaw, PopLaw, PushLaw};
 
 /// Every list of events draws the numbers in order, keeps each of them once, and takes nothing back.
 pub fn runs_keep_accounts()
@@ -57,4 +57,14 @@ pub fn rule_keeps_accounts()
 /// rule.
 pub fn stream_stands_for_board()
     ensures { StandLaw }
+{}
+
+/// A pop of a packet is Claim answered with its number, and a pop of an end mark Claim answered NoMore.
+pub fn pop_is_one_event()
+    ensures { PopLaw }
+{}
+
+/// A push leaves the board that a stream stands for as it was.
+pub fn push_is_no_event()
+    ensures { PushLaw }
 {}
