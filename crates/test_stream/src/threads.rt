@@ -40,12 +40,12 @@ fn worked<R: Wait>(rt: &R, stream: &StreamQueue, mut hand: StreamHand) -> Stream
     hand
 }
 
-fn started<'s, 'e, 'p, R: Wait + Copy + Send + Sync>(
-    rt: R,
+fn started<'s, 'e, R: Wait + Sync>(
+    rt: &'e R,
     scope: &'s Scope<'s, &'e ()>,
-    stream: &'e StreamQueue<'p>,
+    stream: &'e StreamQueue<'e>,
     hand: StreamHand,
-) -> Option<PromisedHandle<StreamHand, HandBack<'p>>>
+) -> Option<PromisedHandle<StreamHand, HandBack<'e>>>
     requires { IsHandOf stream.now hand }
     ensures { IfSome result (λ h. h.promise.0.value ≡ stream.now) }
 {
@@ -56,7 +56,7 @@ fn started<'s, 'e, 'p, R: Wait + Copy + Send + Sync>(
             move || -> StreamHand
                 requires { IsHandOf stream.now hand }
                 ensures { IsHandOf stream.entry.now result }
-            { worked(&rt, stream, hand) },
+            { worked(rt, stream, hand) },
         )
         .ok()
 }
@@ -76,10 +76,10 @@ fn fed<R: Wait>(rt: &R, stream: &StreamQueue, feeder: &mut Feeder)
 }
 
 // Two members' threads, and this one that feeds.
-fn both_worked<'s, 'e, 'p, R: Threads + Wait + Copy + Send + Sync>(
-    rt: &R,
+fn both_worked<'s, 'e, R: Threads + Wait + Sync>(
+    rt: &'e R,
     scope: &'s Scope<'s, &'e ()>,
-    stream: &'e StreamQueue<'p>,
+    stream: &'e StreamQueue<'e>,
     feeder: &mut Feeder,
     hands: (StreamHand, StreamHand),
 ) -> Option<(StreamHand, StreamHand)>
@@ -89,8 +89,8 @@ fn both_worked<'s, 'e, 'p, R: Threads + Wait + Copy + Send + Sync>(
     ensures hands { IfSome result (λ h. IsHandOf stream.now h.0 × IsHandOf stream.now h.1) }
 {
     let (a, b) = hands;
-    let a = started(*rt, scope, stream, a)?;
-    let b = started(*rt, scope, stream, b)?;
+    let a = started(rt, scope, stream, a)?;
+    let b = started(rt, scope, stream, b)?;
     fed(rt, stream, feeder);
     Some((a.join(rt), b.join(rt)))
 }

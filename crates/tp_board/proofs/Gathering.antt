@@ -44,7 +44,7 @@ gathered_hand v w old new y e is =
 
 -- ---- the end
 -- the count of claims that the pops stand for
-claims_at : (n ended packets : ℕ) → n ≤ packets → (0 < ended → n ≡ packets) → (min (n + ended) packets ≡ n) × (ended ≡ n + ended - packets)
+pub claims_at : (n ended packets : ℕ) → n ≤ packets → (0 < ended → n ≡ packets) → (min (n + ended) packets ≡ n) × (ended ≡ n + ended - packets)
 claims_at n ended packets within last = ⊎_elim
     (λ (some_end : 0 < ended). let a = last some_end in (omega arith, omega arith))
     (λ (none : ended ≤ 0). (omega arith, omega arith))

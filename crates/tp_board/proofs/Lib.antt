@@ -14,3 +14,5 @@ mod Turns
 mod Desks
 mod Handing
 mod Gathering
+mod Stages
+mod StreamSteps

@@ -20,3 +20,4 @@ pub mod Sources
 pub mod Lines
 pub mod Desks
 pub mod Streams
+pub mod Stages

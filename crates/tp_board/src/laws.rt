@@ -6,6 +6,7 @@ ghost use Rattle.tp_board.specs.declared.event.Shown.{Shown};
 ghost use Rattle.tp_board.specs.Laws.{StepLaw, AccountsLaw};
 ghost use Rattle.tp_board.specs.Openings.{OpeningLaw};
 ghost use Rattle.tp_board.specs.Schedules.{ScheduleLaw};
+ghost use Rattle.tp_board.specs.Stages.{StandLaw, PopLaw, PushLaw};
 
 /// Every list of events draws the numbers in order, keeps each of them once, and takes nothing back.
 pub fn runs_keep_accounts()
@@ -50,4 +51,20 @@ pub fn board_opens_as_core()
 /// Whatever the rule allows, the board has each number drawn so far once.
 pub fn rule_keeps_accounts()
     ensures { AccountsLaw }
+{}
+
+/// Whatever a stream's two rules allow, its queue and its words stand for a board under the board's
+/// rule.
+pub fn stream_stands_for_board()
+    ensures { StandLaw }
+{}
+
+/// A pop of a packet is Claim answered with its number, and a pop of an end mark Claim answered NoMore.
+pub fn pop_is_one_event()
+    ensures { PopLaw }
+{}
+
+/// A push leaves the board that a stream stands for as it was.
+pub fn push_is_no_event()
+    ensures { PushLaw }
 {}

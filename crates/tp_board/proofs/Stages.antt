@@ -1,0 +1,94 @@
+-- A stream's queue and words stand for a board under the board's rule.
+use Rattle.std.proofs.Common.{◌≡◌, ℕ, zero, suc, ◌+◌, ◌-◌, ◌<◌, ◌≤◌, min, List, [], ◌∷◌, length, map, sym, refl, ap, ◌∙◌, subst, arith}
+use mathlib.Core.Option.{some, some-ne-none, some-injective}
+use lib.ListN.{get_elem?}
+use Rattle.tp_board.specs.declared.line.Item.{Item}
+use Rattle.tp_board.specs.declared.line.Turn.{Turn}
+use Rattle.tp_board.specs.declared.view.Counters.{Counters}
+use Rattle.tp_board.specs.declared.view.View.{View}
+use Rattle.tp_board.specs.Counting.{times, once_below}
+use Rattle.tp_board.specs.Rule.{total, Fits}
+use Rattle.tp_board.specs.Stages.{Stand, stand_seen, StandsSo, KeepsStream, pops, StandLaw}
+use Rattle.tp_board.specs.Words.{size, counters}
+use Rattle.tp_board.proofs.Gathering.{claims_at}
+
+pub total_map : {X Y : Type 0} (f : Y → ℕ) (g : X → Y) (xs : List X) → total f (map g xs) ≡ total (λ x. f (g x)) xs
+total_map f g [] = refl
+total_map f g (x ∷ xs) = ap (λ n. f (g x) + n) (total_map f g xs)
+
+total_two : {X : Type 0} (f g : X → ℕ) (xs : List X) → total (λ x. f x + g x) xs ≡ total f xs + total g xs
+total_two f g [] = refl
+total_two f g (x ∷ xs) = let ih = total_two f g xs in omega arith
+
+pub at_map : {X Y : Type 0} (g : X → Y) (xs : List X) (id : ℕ) (y : Y) → get_elem? (map g xs) id ≡ some y → (x : X) × (get_elem? xs id ≡ some x) × (g x ≡ y)
+at_map g [] id y at = absurd (some-ne-none y (sym at))
+at_map g (x ∷ xs) zero y at = (x, refl, some-injective (g x) y at)
+at_map g (x ∷ xs) (suc id) y at = at_map g xs id y at
+
+pub map_at : {X Y : Type 0} (g : X → Y) (xs : List X) (id : ℕ) (x : X) → get_elem? xs id ≡ some x → get_elem? (map g xs) id ≡ some (g x)
+map_at g [] id x at = absurd (some-ne-none x (sym at))
+map_at g (y ∷ ys) zero x at = ap (λ z. some (g z)) (some-injective y x at)
+map_at g (y ∷ ys) (suc id) x at = map_at g ys id x at
+
+-- the queue's rule is over these packets, since somebody has a stand
+pub sizes_told : (packets members : ℕ) (items : List Item) (words : List ℕ) (stands : List Stand) → (h : KeepsStream packets members items words stands) → h.line.packets ≡ packets
+sizes_told packets members items words [] h = let a = h.line.parts in absurd (omega arith)
+sizes_told packets members items words (s ∷ ss) h =
+    let so = h.each 0 s refl in
+    let one = so.one_pass in
+    sym ((h.line.fits 0 s.turn refl).sizes (omega arith)).0 ∙ so.packets_is
+
+pub pops_are : (packets members : ℕ) (items : List Item) (words : List ℕ) (stands : List Stand) → (h : KeepsStream packets members items words stands) → pops stands ≡ h.line.drawn + h.line.ended
+pops_are packets members items words stands h =
+    let r = h.line in
+    let popped = sym (total_map (λ (t : Turn). length t.popped) (λ (s : Stand). s.turn) stands) ∙ r.counted in
+    let ended = sym (total_map (λ (t : Turn). t.ended) (λ (s : Stand). s.turn) stands) ∙ r.ended_is in
+    let both = total_two (λ (s : Stand). length s.turn.popped) (λ (s : Stand). s.turn.ended) stands in
+    omega arith
+
+pub stand_law : StandLaw
+stand_law packets members items words stands h =
+    let r = h.line in
+    let d = h.desk.2 in
+    let w : Counters = counters (pops stands) h.desk.0.done h.desk.0.lost h.desk.0.stop in
+    let told = sizes_told packets members items words stands h in
+    let popped = sym (total_map (λ (t : Turn). length t.popped) (λ (s : Stand). s.turn) stands) ∙ r.counted in
+    let ended = sym (total_map (λ (t : Turn). t.ended) (λ (s : Stand). s.turn) stands) ∙ r.ended_is in
+    let claims = claims_at r.drawn r.ended packets (let a = r.behind in let b = r.within in omega arith) (λ some_end. let t = r.taken in let a = r.marks_last (omega arith) in let b = r.ends_last some_end in omega arith) in
+    let least = claims.0 in
+    let over = claims.1 in
+    let all = pops_are packets members items words stands h in
+    let drawn : min (pops stands) packets ≡ r.drawn = ap (λ n. min n packets) all ∙ least in
+    let place = λ (f : View → ℕ). sym (total_map f (λ (s : Stand). s.place) stands) in
+    let fits = λ (id : ℕ) (v : View) (at : get_elem? (map stand_seen stands) id ≡ some v).
+    let s = at_map stand_seen stands id v at in
+    let so = h.each id s.0 s.1 in
+    let one = so.one_seat in
+    let seen = (d.fits id s.0.place (map_at (λ (s : Stand). s.place) stands id s.0 s.1)).seen in
+    let none = d.no_claim in
+    let first = seen.claimed in
+    let f : Fits (size packets (members + 1)) w (stand_seen s.0) = record {
+      packets = (λ _. so.packets_is);
+      ended = so.agrees.ended;
+      in_hand = so.agrees.in_hand;
+      each_once = so.agrees.each_once;
+      counted = so.agrees.counted;
+      seen = record { claimed = omega arith; done = seen.done; lost = seen.lost; stop = seen.stop };
+      idle = (λ e. absurd (omega arith));
+    } in
+    subst (Fits (size packets (members + 1)) w) s.2 f in (
+      w,
+      ap (λ l. pops stands ∷ l) h.desk.1,
+      record {
+        few_packets = h.in_range.2;
+        few_members = (let a = h.in_range.1 in omega arith);
+        parts = total_map (λ (v : View). v.parts) stand_seen stands ∙ place (λ (v : View). v.parts) ∙ d.parts;
+        each_once = (λ x. total_map (λ (v : View). times x v.drawn) stand_seen stands ∙ sym (total_map (λ (t : Turn). times x t.popped) (λ (s : Stand). s.turn) stands) ∙ r.each_once x ∙ ap (once_below x) (sym drawn));
+        drawn = total_map (λ (v : View). length v.drawn) stand_seen stands ∙ popped ∙ sym drawn;
+        ended = (let a = total_map (λ (v : View). v.ended) stand_seen stands in let b = ended in omega arith);
+        done = d.done ∙ sym (total_map (λ (v : View). length v.finished) stand_seen stands ∙ place (λ (v : View). length v.finished));
+        lost = d.lost ∙ sym (total_map (λ (v : View). length v.abandoned) stand_seen stands ∙ place (λ (v : View). length v.abandoned));
+        stop = d.stop ∙ ap (min 1) (sym (total_map (λ (v : View). v.stop_callers) stand_seen stands ∙ place (λ (v : View). v.stop_callers)));
+        fits = fits;
+      },
+    )

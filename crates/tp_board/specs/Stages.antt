@@ -1,0 +1,98 @@
+-- A stream's queue and words together, and the board that they stand for.
+use Rattle.std.specs.Prelude.{◌≡◌, ℕ, ◌+◌, List, [], ◌∷◌, ◌++◌, length, map, slice_set}
+use mathlib.Core.Option.{some}
+use lib.ListN.{get_elem?}
+use Rattle.tp_board.specs.declared.event.Event.{Event}
+use Rattle.tp_board.specs.declared.event.Event.TheVariants.{Claim}
+use Rattle.tp_board.specs.declared.event.Reply.{Reply}
+use Rattle.tp_board.specs.declared.event.Reply.TheVariants as reply
+use Rattle.tp_board.specs.declared.line.Item.{Item}
+use Rattle.tp_board.specs.declared.line.Item.TheVariants.{Number, End}
+use Rattle.tp_board.specs.declared.line.Turn.{Turn}
+use Rattle.tp_board.specs.declared.view.View.{View}
+use Rattle.tp_board.specs.Desks.{KeepsDesk}
+use Rattle.tp_board.specs.Laws.{IsEvent}
+use Rattle.tp_board.specs.Lines.{Streamed, MayPut, item_of, put, took}
+use Rattle.tp_board.specs.Openings.{InRange}
+use Rattle.tp_board.specs.Rule.{total, KeepsRule}
+use Rattle.tp_board.specs.Steps.{MayStep}
+use Rattle.tp_board.specs.Streams.{seen_of, Agrees}
+use Rattle.tp_board.specs.Words.{size}
+
+-- what one member, or the feeder, knows of queue and words, with the numbers in hand
+pub record Stand : Type 0 where
+  pub turn : Turn
+  pub place : View
+  pub numbers : List ℕ
+
+abbrev pub stand_seen : Stand → View
+stand_seen s = seen_of s.turn s.place s.numbers
+
+pub record StandsSo (packets : ℕ) (s : Stand) : Type 0 where
+  pub packets_is : s.turn.packets ≡ packets
+  pub one_pass : s.turn.parts ≡ 1
+  pub one_seat : s.place.parts ≡ 1
+  pub agrees : Agrees (stand_seen s)
+
+-- the queue and the words keep their rules, and each stand joins the two
+pub record KeepsStream (packets members : ℕ) (items : List Item) (words : List ℕ) (stands : List Stand) : Type 0 where
+  pub in_range : InRange packets members
+  pub line : Streamed items (map (λ s. s.turn) stands)
+  pub desk : KeepsDesk (size packets (members + 1)) words (map (λ s. s.place) stands)
+  pub each : (id : ℕ) (s : Stand) → get_elem? stands id ≡ some s → StandsSo packets s
+
+-- how many pops there were
+abbrev pub pops : List Stand → ℕ
+pops stands = total (λ s. length s.turn.popped + s.turn.ended) stands
+
+-- queue and words stand for a board, of which the feeder has a seat: its count of claims is the count
+-- of pops, of packets and of marks
+abbrev pub StandLaw : Type 0
+StandLaw =
+    (packets members : ℕ) (items : List Item) (words : List ℕ) (stands : List Stand)
+    → KeepsStream packets members items words stands
+    → KeepsRule (size packets (members + 1)) (pops stands ∷ words) (map stand_seen stands)
+
+-- ---- steps
+-- what each step makes of the one that takes it
+abbrev pub numbers_in : Item → List ℕ
+numbers_in (Number n) = n ∷ []
+numbers_in End = []
+
+abbrev pub after_pop : Stand → Item → Stand
+after_pop s x = record s { turn = took s.turn x; numbers = s.numbers ++ numbers_in x }
+
+abbrev pub after_push : Stand → Item → Stand
+after_push s x = record s { turn = put s.turn x }
+
+-- the stream that a step leaves keeps its rules, and the board that it stands for is what this event
+-- makes of the board before, with this reply
+pub record IsStreamEvent (packets members : ℕ) (words : List ℕ) (stands : List Stand) (items' : List Item) (words' : List ℕ) (stands' : List Stand) (id : ℕ) (event : Event) (reply : Reply) : Type 0 where
+  pub rule : KeepsStream packets members items' words' stands'
+  pub made : IsEvent (size packets (members + 1)) (pops stands ∷ words) (map stand_seen stands) (pops stands' ∷ words') (map stand_seen stands') id event reply
+
+-- a pop of a packet is Claim answered with its number, and a pop of an end mark Claim answered NoMore,
+-- by one who has nothing in hand and has not learnt the end
+abbrev pub pop_reply : Item → Reply
+pop_reply (Number n) = reply.Number n
+pop_reply End = reply.NoMore
+
+abbrev pub PopLaw : Type 0
+PopLaw =
+    (packets members : ℕ) (x : Item) (items : List Item) (words : List ℕ) (stands : List Stand) (id : ℕ) (s : Stand)
+    → KeepsStream packets members (x ∷ items) words stands
+    → get_elem? stands id ≡ some s
+    → MayStep Claim (stand_seen s)
+    → IsStreamEvent packets members words stands items words (slice_set stands id (after_pop s x)) id Claim (pop_reply x)
+
+-- a push of the next item leaves the board as it was
+abbrev pub PushLaw : Type 0
+PushLaw =
+    (packets members : ℕ) (items : List Item) (words : List ℕ) (stands : List Stand) (id : ℕ) (s : Stand)
+    → KeepsStream packets members items words stands
+    → get_elem? stands id ≡ some s
+    → MayPut s.turn
+    → let stands' = slice_set stands id (after_push s (item_of s.turn)) in
+    KeepsStream packets members (items ++ item_of s.turn ∷ []) words stands'
+    × (pops stands' ≡ pops stands)
+    × (map stand_seen stands' ≡ map stand_seen stands)
