@@ -1,5 +1,7 @@
 //! Lists of events of the farm core, with their replies.
 
+ghost use Rattle.tp_board.specs.Runs.{AllMembers};
+
 use std::test::Fail;
 use tp_board::{Core, Event, Reply, Shown};
 
@@ -43,5 +45,25 @@ fn core_of_two_packets(rt: HostRuntime) -> Result<(), Fail> {
 fn core_of_no_packets(rt: HostRuntime) -> Result<(), Fail> {
     let mut core = Core::new(rt.alloc(), 0, 1)?;
     assert_eq!(rt; core.step(0, Event::Claim)?, Reply::NoMore);
+    Ok(())
+}
+
+/// 300 claims by member 0.
+#[tactic(auto, using(crate::proofs::Claims::are_members))]
+fn claims() -> [(u32, Event); 300]
+    ensures { AllMembers 1 result }
+{
+    [(0, Event::Claim); 300]
+}
+
+/// A list of 300 events has as many replies, the last of which is made as the second.
+#[test]
+fn core_plays_long_lists(rt: HostRuntime) -> Result<(), Fail> {
+    let mut core = Core::new(rt.alloc(), 2, 1)?;
+    let replies = core.play(rt.alloc(), &claims())?;
+    assert_eq!(rt; replies.len(), 300);
+    let (first, rest) = replies.split_first().ok_or("no reply")?;
+    assert_eq!(rt; *first, Reply::Number(0));
+    assert!(rt; rest.iter().all(|reply| *reply == Reply::Busy(0)));
     Ok(())
 }

@@ -95,13 +95,13 @@ const INPUT: &[u8] = b"LIST 604F\nHELLO\nLIST 24F2\r\nLIST 41F3";
 
 const OUTPUT: &[u8] = b"0 604f ldc -1\nDONE 1\nNO E1 2\n0 24f2 mint\nDONE 1\nNO D3 1\n";
 
-/// What is written for an input that is read and written a byte at a time.
+/// What a writer that takes a byte a call takes for an input that is read a byte at a time.
 fn served_by_bytes<T: Threads + Wait + Sync>(
     rt: &T,
     alloc: Global,
     members: usize,
     input: &[u8],
-) -> Result<Vec<u8>, ServeFault> {
+) -> Result<Narrow, ServeFault> {
     let mut reader = Trickle {
         rest: input,
         calls: 0,
@@ -113,13 +113,15 @@ fn served_by_bytes<T: Threads + Wait + Sync>(
         failing: 0,
     };
     serve_on(rt, alloc, members, false, &mut reader, &mut writer)?;
-    Ok(writer.taken)
+    Ok(writer)
 }
 
+/// 56 bytes and 4 flushes.
 #[test]
 fn a_byte_at_a_time(rt: HostRuntime) -> Result<(), Fail> {
-    let written = served_by_bytes(&rt, rt.alloc(), 1, INPUT)?;
-    assert!(rt; written.as_slice() == OUTPUT);
+    let writer = served_by_bytes(&rt, rt.alloc(), 1, INPUT)?;
+    assert!(rt; writer.taken.as_slice() == OUTPUT);
+    assert_eq!(rt; writer.calls, 60);
     assert!(rt; answers(&rt, rt.alloc(), 1, INPUT, OUTPUT)?);
     Ok(())
 }
@@ -242,10 +244,12 @@ fn told_after(read: usize) -> usize {
     told
 }
 
+/// 99 bytes and 6 flushes.
 #[test]
 fn a_session_a_byte_at_a_time(rt: HostRuntime) -> Result<(), Fail> {
-    let written = served_by_bytes(&rt, rt.alloc(), 4, SESSION)?;
-    assert!(rt; written.as_slice() == TOLD);
+    let writer = served_by_bytes(&rt, rt.alloc(), 4, SESSION)?;
+    assert!(rt; writer.taken.as_slice() == TOLD);
+    assert_eq!(rt; writer.calls, 105);
     Ok(())
 }
 
