@@ -4,5 +4,3 @@
 
 #[cfg(test)]
 mod single;
-#[cfg(test)]
-mod threads;

@@ -1,5 +1,5 @@
 //! Streams that one thread feeds and takes from.
-ghost use Rattle.std.specs.Prelude.{◌≡◌, All, None, IfSome};
+ghost use Rattle.std.specs.Prelude.{◌≡◌, [], ◌∷◌, All, IfSome};
 ghost use Rattle.tp_board.specs.Streams.{IsHandOf, IsFeederOf};
 
 use arrayvec::ArrayVec;
@@ -54,15 +54,18 @@ fn fed<R: Wait>(rt: &R, stream: &StreamQueue, feeder: &mut Feeder) -> (u32, Fed)
 }
 
 // Takes the packet of this number.
-fn assert_takes<R: Wait + Abort>(rt: &R, stream: &StreamQueue, hand: &mut StreamHand, wanted: u32)
+fn assert_takes<R: Wait + Abort>(rt: &R, stream: &StreamQueue, hand: &mut StreamHand, wanted: u16)
     requires { IsHandOf stream.now hand.old }
     ensures { IsHandOf stream.now hand.new }
 {
     assert_eq!(rt; stream.finish(hand), Err(BoardFault::EmptyHand));
     match stream.next(rt, hand) {
         Work::Packet { number, bytes } => {
-            let first = (wanted as u16).to_le_bytes();
-            assert_eq!(rt; (number, bytes.as_slice()), (wanted, first.as_slice()))
+            let first = wanted.to_le_bytes();
+            assert_eq!(rt;
+                (number, bytes.as_slice()),
+                (u32::from(wanted), first.as_slice())
+            )
         }
         _ => panic!(rt; "no packet {wanted}"),
     }
@@ -179,24 +182,14 @@ fn feeder_that_stops(rt: HostRuntime) -> Result<(), Fail> {
 #[test]
 fn close_without_a_hand(rt: HostRuntime) -> Result<(), Fail> {
     let packets = packets_of(rt.alloc(), 1).ok_or("no memory")?;
-    let (stream, mut feeder, hands) = StreamQueue::new(rt.alloc(), packets.as_slice(), 2).map_err(
+    let (stream, feeder, mut hands) = StreamQueue::new(rt.alloc(), packets.as_slice(), 2).map_err(
         |_| "no stream",
     )?;
-    let mut hands = hands;
     let kept = hands.pop().ok_or("no hand")?;
-    assert_eq!(rt; stream.feed(&rt, &mut feeder), Fed::Pushed);
-    let Err(
-        StreamCloseFault {
-            stream,
-            mut hands,
-            ..
-        },
-    ) = stream.close(&rt, feeder, hands)
-    else {
-        panic!(rt; "closed without a hand")
-    };
-    let mut other = hands.pop().ok_or("no hand came back")?;
-    assert_takes(&rt, &stream, &mut other, 0);
+    match stream.close(&rt, feeder, hands) {
+        Ok(_) => panic!(&rt; "closed without a hand"),
+        Err(fault) => assert_eq!(rt; fault.hands.len(), 1),
+    }
     drop(kept);
     Ok(())
 }
@@ -224,21 +217,37 @@ fn worked<R: Wait + Abort>(
     1100
 }
 
-// The first hand takes all packets and its mark, each other hand its mark.
-fn assert_streams<R: Wait + Abort>(rt: &R, alloc: Global, count: u16, members: u32) -> Option<()> {
-    let packets = packets_of(alloc, count)?;
-    let (stream, mut feeder, mut hands) = StreamQueue::new(
-        alloc,
-        packets.as_slice(),
-        members,
-    ).ok()?;
-    let mut back = Vec::with_capacity(alloc, members as usize).ok()?;
-    let mut left = u32::from(count);
-    while let Some(mut hand) = hands.pop() {
-        assert_eq!(rt; worked(rt, &stream, &mut feeder, &mut hand), left);
+// The last hand takes all packets and its mark, each other hand its mark.
+fn all_worked<R: Wait + Abort>(
+    rt: &R,
+    alloc: Global,
+    stream: &StreamQueue,
+    feeder: &mut Feeder,
+    mut hands: Vec<StreamHand>,
+    count: u32,
+) -> Option<Vec<StreamHand>>
+    requires feeder { IsFeederOf stream.now feeder.old }
+    requires hands { All (IsHandOf stream.now) hands.items }
+    ensures feeder { IsFeederOf stream.now feeder.new }
+    ensures back { IfSome result (λ back. All (IsHandOf stream.now) back.items) }
+{
+    let mut back = Vec::new(alloc);
+    let mut left = count;
+    for _ in 0..64 {
+        let Some(mut hand) = hands.pop() else {
+            return Some(back);
+        };
+        assert_eq!(rt; worked(rt, stream, feeder, &mut hand), left);
         left = 0;
         back.push(hand).ok()?;
     }
+    Some(back)
+}
+
+fn assert_streams<R: Wait + Abort>(rt: &R, alloc: Global, count: u16, members: u32) -> Option<()> {
+    let packets = packets_of(alloc, count)?;
+    let (stream, mut feeder, hands) = StreamQueue::new(alloc, packets.as_slice(), members).ok()?;
+    let back = all_worked(rt, alloc, &stream, &mut feeder, hands, u32::from(count))?;
     assert_eq!(rt; stream.feed(rt, &mut feeder), Fed::Over);
     let wanted = StreamLedger {
         pushed: u32::from(count),

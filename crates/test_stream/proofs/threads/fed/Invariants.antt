@@ -1,5 +1,0 @@
-use Rattle.tp_board.specs.Streams.{IsFeederOf}
-use Rattle.test_stream.proofs.threads.fed.Given as goal
-
-abbrev pub invariant-loop : goal.invariant-loop
-invariant-loop g l = IsFeederOf l.stream l.feeder
