@@ -14,12 +14,13 @@ pub fn same_if(test: bool) -> Answer {
     if test { Answer::Same } else { Answer::Other }
 }
 
-/// How often each was answered.
+/// How often each was answered, and how much serving has written.
 #[derive(Drop)]
 pub struct Tally {
     pub same: u32,
     pub memory: u32,
     pub other: u32,
+    pub written: usize,
 }
 
 impl Tally {
@@ -29,6 +30,7 @@ impl Tally {
             same: 0,
             memory: 0,
             other: 0,
+            written: 0,
         }
     }
 

@@ -23,7 +23,9 @@ use tp_state::{Cell, StateFault};
 /// Makes every call, and counts the answers.
 pub fn all<R: Threads + Wait + Sync>(rt: &R, alloc: Global) -> Tally {
     let mut tally = Tally::new();
-    tally.add(served(rt, alloc));
+    let (answer, written) = served(rt, alloc);
+    tally.add(answer);
+    tally.written = written;
     listings(alloc, &mut tally);
     images(alloc, &mut tally);
     tally.add(verified(alloc));
@@ -47,6 +49,9 @@ const OUTPUT: &[u8] =
 /// How much of the output is written before each line.
 const BEFORE: [usize; 11] = [0, 21, 29, 78, 86, 94, 104, 111, 118, 125, 186];
 
+/// And before each line that asks for a run.
+const BEFORE_RUNS: [usize; 2] = [125, 186];
+
 /// A farm of one member.
 fn farm<'a>(
     alloc: Global,
@@ -63,35 +68,53 @@ fn farm<'a>(
     Ok(Farm::new(links, false))
 }
 
-/// Serving, over a farm of one member.
-fn served<T: Threads + Wait + Sync>(rt: &T, alloc: Global) -> Answer {
+/// Serving, over a farm of one member, and how much is written.
+fn served<T: Threads + Wait + Sync>(rt: &T, alloc: Global) -> (Answer, usize) {
     let Ok(mut source) = Medium::new(alloc, 256) else {
-        return Answer::Memory;
+        return (Answer::Memory, 0);
     };
     let Ok(mut sink) = Medium::new(alloc, 256) else {
-        return Answer::Memory;
+        return (Answer::Memory, 0);
     };
     let Ok(mut trace) = Medium::new(alloc, 256) else {
-        return Answer::Memory;
+        return (Answer::Memory, 0);
     };
     match farm(alloc, &mut source, &mut sink, &mut trace) {
         Ok(farm) => served_on(rt, alloc, farm),
-        Err(_) => Answer::Memory,
+        Err(_) => (Answer::Memory, 0),
     }
 }
 
-/// Serving. After Memory, and where a thread was refused for it, the answers to some of the first lines are written, each
-/// of them whole.
-fn served_on<T: Threads + Wait + Sync>(rt: &T, alloc: Global, farm: Farm<Wire<'_>>) -> Answer {
+/// Serving, and how much is written. After Memory, and where a thread was refused for it, the answers to some of the first
+/// lines are written, each of them whole.
+fn served_on<T: Threads + Wait + Sync>(
+    rt: &T,
+    alloc: Global,
+    farm: Farm<Wire<'_>>,
+) -> (Answer, usize) {
     let mut reader = INPUT;
     let mut page = Page::new();
     let result = serve(rt, alloc, &mut reader, &mut page, farm);
     let written = page.written();
-    match result {
+    let answer = match result {
         Ok(()) => same_if(written == OUTPUT),
-        Err(ServeFault::Memory | ServeFault::Thread)
-            if OUTPUT.starts_with(written) && BEFORE.contains(&written.len()) => Answer::Memory,
+        Err(fault) if OUTPUT.starts_with(written) => want_at(fault, written.len()),
         Err(_) => Answer::Other,
+    };
+    (answer, written.len())
+}
+
+/// A fault after so much was written. A line for which a thread was refused asks for a run.
+fn want_at(fault: ServeFault, written: usize) -> Answer {
+    let is_want = match fault {
+        ServeFault::Memory => BEFORE.contains(&written),
+        ServeFault::Thread => BEFORE_RUNS.contains(&written),
+        _ => false,
+    };
+    if is_want {
+        Answer::Memory
+    } else {
+        Answer::Other
     }
 }
 

@@ -3,7 +3,8 @@
 //!
 //! Standard input is a number n. The program makes allocations of its own until the n-th one from then on is its
 //! allocation number 1,000, the one that `rt try --fail-alloc 1000` refuses. It prints how many calls answered as with
-//! ample memory, how many answered Memory, and how many answered anything else. `./memory-refused` runs it with n from 1 on.
+//! ample memory, how many answered Memory, how many answered anything else, and how many bytes serving has written.
+//! `./memory-refused` runs it with n from 1 on.
 #![tactic(auto)]
 
 mod answer;
@@ -46,5 +47,6 @@ fn main(rt: HostRuntime) -> io::Result<()> {
     spend(rt.alloc(), REFUSED.saturating_sub(number));
     let tally = calls::all(&rt, rt.alloc());
     let (same, memory, other) = (tally.same, tally.memory, tally.other);
-    println!(rt; "same {same}, memory {memory}, other {other}")
+    let written = tally.written;
+    println!(rt; "same {same}, memory {memory}, other {other}, written {written}")
 }
