@@ -5,8 +5,8 @@
 
 ghost use Rattle.worked_steps.specs.Rows.{AreSo};
 
-use crate::rows::Expected::{Leads, Sticks};
-use crate::rows::Setting::{Filled, Holding, Lacking, One, Three, Two, WithoutAreg};
+use crate::rows::Expected::{Leads, Shows, Sticks};
+use crate::rows::Setting::{Filled, Holding, Lacking, LackingByte, One, Three, Two, WithoutAreg};
 use crate::rows::{Row, Worker, rows, worker};
 
 /// lb (`F1`): each byte of a word, the last of the workspace, and what is no byte of it.
@@ -48,6 +48,20 @@ pub fn sb() -> &'static [Row]
         above: [0x23, 0xFB], [Three(0x80000088, 1, 9)] => Sticks;
         below: [0x23, 0xFB], [Three(0x80000047, 1, 9)] => Sticks;
         undefined: [0x23, 0xFB], [One(0x80000068)] => Sticks;
+    };
+    ROWS
+}
+
+/// sb (`23 FB`) where bytes of the word are undefined: the one that it writes is defined after it, and no other.
+pub fn sb_undefined() -> &'static [Row]
+    ensures { AreSo result.now }
+{
+    const ROWS: &[Row] = rows! {
+        last_byte: [0x23, 0xFB], [Three(0x80000068, 0x1234AB, 9), Holding(8, &[0x44332211]), LackingByte(0x80000068)]
+            => Shows(2, 2, &[(8, Some(0x443322AB))]);
+        other_byte: [0x23, 0xFB], [Three(0x80000068, 0x1234AB, 9), Holding(8, &[0x44332211]), LackingByte(0x80000069)]
+            => Shows(2, 2, &[(8, None)]);
+        whole_word: [0x23, 0xFB], [Three(0x80000068, 0x1234AB, 9), Lacking(8, 1)] => Shows(2, 2, &[(8, None)]);
     };
     ROWS
 }

@@ -231,7 +231,7 @@ pub fn samples() -> [Sample; 13] {
 }
 
 /// The short runs, by instruction.
-pub fn short_runs() -> [Group; 45]
+pub fn short_runs() -> [Group; 46]
     ensures { AllAreSo result }
 {
     [
@@ -265,6 +265,7 @@ pub fn short_runs() -> [Group; 45]
         Group("rev", locals::rev()),
         Group("lb", bytes::lb()),
         Group("sb", bytes::sb()),
+        Group("sb_undefined", bytes::sb_undefined()),
         Group("bsub", bytes::bsub()),
         Group("wsub", bytes::wsub()),
         Group("j", control::j()),
