@@ -1,4 +1,4 @@
-//! The ranges of an image's fields, and where the fields stand.
+//! The limits of the fields of an image.
 
 /// The most code bytes of a version 1 image.
 pub const CODE_BYTES_1: u32 = 2048;
