@@ -3,13 +3,13 @@
 # image in the same run: the increment, a straight code of 8,000 bytes, 4,000 conditional jumps, and codes made to keep the
 # passes going: a loop that moves the words of its workspace on by one place, the same in three others, and sixteen such loops
 # one behind the other. Outcomes are also given for each edge, of which there are at most 1 + 1,024 and one for each change of
-# a register. Then the program's peak of memory. Ends with status 1 where an image takes more than 8 seconds or the program
+# a register. Then the program's peak of memory. Ends with status 1 where an image takes more than 4 seconds or the program
 # more than 64 MiB.
 cd "$(dirname "$0")/../crates/bench" && rt run >/dev/null || exit 1
 python3 - <<'PY'
 import re, resource, subprocess, sys
 
-MOST_MICROSECONDS = 8_000_000
+MOST_MICROSECONDS = 4_000_000
 MOST_KIB = 64 * 1024
 
 told = subprocess.run(["out/bench", "check"], stdout=subprocess.PIPE, text=True, check=True).stdout
