@@ -48,15 +48,6 @@ pub flag_is : (b : Bool) → from_bool b ≡ flag b
 flag_is true = refl
 flag_is false = refl
 
-regrouped_more : (a b c d e f g h i : List ℕ) → a ++ (b ++ (c ++ (d ++ (e ++ (f ++ (g ++ (h ++ i))))))) ≡ (((((((a ++ b) ++ c) ++ d) ++ e) ++ f) ++ g) ++ h) ++ i
-regrouped_more a b c d e f g h i = simp append_assoc
-
-pub result_told : (n : ℕ) (run : Run) (f : ℕ) (bytes : List ℕ) → f ≡ flag run.error → bytes ≡ encode_lower run.result → codes "R " ++ (decimal n ++ (codes " " ++ (decimal f ++ (codes " " ++ (decimal run.steps ++ (codes " " ++ (bytes ++ codes "\n"))))))) ≡ result_line n run
-result_told n run f bytes e b =
-    regrouped_more (codes "R ") (decimal n) (codes " ") (decimal f) (codes " ") (decimal run.steps) (codes " ") bytes (codes "\n")
-    ∙ ap (λ f. written (codes "R " ++ decimal n ++ codes " " ++ decimal f ++ codes " " ++ decimal run.steps ++ codes " " ++ bytes)) e
-    ∙ ap (λ bytes. written (codes "R " ++ decimal n ++ codes " " ++ decimal (flag run.error) ++ codes " " ++ decimal run.steps ++ codes " " ++ bytes)) b
-
 text_of_none : (trace : List ℕ) → true ≡ nat_eq (length trace) 0 → trace_text trace ≡ codes "-"
 text_of_none [] e = refl
 text_of_none (b ∷ trace) e = absurd (grind (arith, nat_tests, e))
@@ -65,15 +56,9 @@ text_of_some : (trace : List ℕ) → false ≡ nat_eq (length trace) 0 → trac
 text_of_some [] e = cc
 text_of_some (b ∷ trace) e = refl
 
-pub no_trace_told : (n : ℕ) (run : Run) → true ≡ nat_eq (length run.trace) 0 → codes "T " ++ (decimal n ++ codes " -\n") ≡ trace_line n run
-no_trace_told n run none =
-    let split : codes " -\n" ≡ codes " " ++ (codes "-" ++ codes "\n") = refl in
-    ap (λ end. codes "T " ++ (decimal n ++ end)) split ∙ regrouped (codes "T ") (decimal n) (codes " ") (codes "-") (codes "\n")
-    ∙ sym (ap (λ text. written (codes "T " ++ decimal n ++ codes " " ++ text)) (text_of_none run.trace none))
-
-pub trace_told : (n : ℕ) (run : Run) (bytes : List ℕ) → false ≡ nat_eq (length run.trace) 0 → bytes ≡ encode_lower run.trace → codes "T " ++ (decimal n ++ (codes " " ++ (bytes ++ codes "\n"))) ≡ trace_line n run
-trace_told n run bytes some is =
-    regrouped (codes "T ") (decimal n) (codes " ") bytes (codes "\n") ∙ ap (λ text. written (codes "T " ++ decimal n ++ codes " " ++ text)) (is ∙ sym (text_of_some run.trace some))
+-- the bytes of a trace, or a dash
+pub text_of_trace : (trace : List ℕ) → (true ≡ nat_eq (length trace) 0 → trace_text trace ≡ codes "-") × (false ≡ nat_eq (length trace) 0 → trace_text trace ≡ encode_lower trace)
+text_of_trace trace = (text_of_none trace, text_of_some trace)
 
 -- numbers that are bytes
 pub all_bytes : (xs : List ℕ) → ((i : ℕ) → Fits w8 (get_or xs i 0)) → list_all (λ b. nat_lt b 256) xs ≡ true

@@ -12,4 +12,4 @@ mod telling;
 pub use answers::{close, keep, list, open, refusal};
 pub use session::Kept;
 pub use sessions::Sessions;
-pub use telling::entries_text;
+pub use telling::{tell_done, tell_entries};

@@ -1,62 +1,98 @@
 //! What is told of a batch.
 
-ghost use Rattle.std.specs.Prelude.{◌≡◌, IfOk, string_bytes};
+ghost use Rattle.std.specs.Prelude.{◌≡◌, ◌++◌, ◌≤◌, length, OnOk};
+ghost use Rattle.hex.specs.Hex.{encode_lower};
 ghost use Rattle.tp_collect.specs.DoneValue.{run_of_done};
-ghost use Rattle.tp_answers.specs.Told.{result_line, trace_line};
+ghost use Rattle.tp_answers.specs.Told.{result_line, trace_text, trace_line, done_line};
 ghost use Rattle.tp_answers.specs.Entries.{entry_told, entries_told};
 
-use std::alloc::{AllocError, Global};
+use std::alloc::AllocError;
+use std::io::Write;
 use tp_collect::{Done, Entry};
 
-/// The line of a result.
-fn result_line(alloc: Global, number: usize, done: &Done) -> Result<String, AllocError>
-    ensures { IfOk result (λ text. string_bytes text ≡ result_line number (run_of_done done.now)) }
+/// Writes bytes in hexadecimal.
+fn tell_hex(text: &mut Vec<u8>, bytes: &[u8]) -> Result<(), AllocError>
+    requires { length bytes.now ≤ 256 }
+    ensures { OnOk result (text.new.items ≡ text.old.items ++ encode_lower bytes.now) }
 {
-    let bytes = hex::encode(alloc, done.result.as_slice())?;
+    let start = text.len();
+    text.resize(start + 2 * bytes.len(), 0)?;
+    match hex::encode_to_slice(bytes, &mut text[start..]) {
+        Ok(()) => Ok(()),
+        Err(_) => unreachable!(),
+    }
+}
+
+/// Writes the line of a result.
+fn tell_result(text: &mut Vec<u8>, number: usize, done: &Done) -> Result<(), AllocError>
+    ensures { OnOk result (text.new.items ≡ text.old.items ++ result_line number (run_of_done done.now)) }
+{
     let flag = u8::from(done.error);
     let steps = done.steps;
-    format!(in alloc; "R {number} {flag} {steps} {bytes}\n")
+    write!(text, "R {number} {flag} {steps} ").or(Err(AllocError))?;
+    tell_hex(text, done.result.as_slice())?;
+    text.push(b'\n')?;
+    Ok(())
 }
 
-/// The line of its trace.
-fn trace_line(alloc: Global, number: usize, done: &Done) -> Result<String, AllocError>
-    ensures { IfOk result (λ text. string_bytes text ≡ trace_line number (run_of_done done.now)) }
+/// Writes the bytes of a trace.
+#[tactic(auto, using(crate::proofs::Texts::text_of_trace))]
+fn tell_trace_bytes(text: &mut Vec<u8>, trace: &[u8]) -> Result<(), AllocError>
+    requires { length trace.now ≤ 256 }
+    ensures { OnOk result (text.new.items ≡ text.old.items ++ trace_text trace.now) }
 {
-    if done.trace.is_empty() {
-        return format!(in alloc; "T {number} -\n");
+    if trace.is_empty() {
+        text.push(b'-')?;
+        return Ok(());
     }
-    let bytes = hex::encode(alloc, done.trace.as_slice())?;
-    format!(in alloc; "T {number} {bytes}\n")
+    tell_hex(text, trace)
 }
 
-/// What is told of an entry.
-fn entry_text(
-    alloc: Global,
+/// Writes the line of its trace.
+fn tell_trace(text: &mut Vec<u8>, number: usize, done: &Done) -> Result<(), AllocError>
+    ensures { OnOk result (text.new.items ≡ text.old.items ++ trace_line number (run_of_done done.now)) }
+{
+    write!(text, "T {number} ").or(Err(AllocError))?;
+    tell_trace_bytes(text, done.trace.as_slice())?;
+    text.push(b'\n')?;
+    Ok(())
+}
+
+/// Writes what is told of an entry.
+fn tell_entry(
+    text: &mut Vec<u8>,
     trace: bool,
     number: usize,
     entry: &Entry,
-) -> Result<String, AllocError>
-    ensures { IfOk result (λ text. string_bytes text ≡ entry_told trace number entry.now) }
+) -> Result<(), AllocError>
+    ensures { OnOk result (text.new.items ≡ text.old.items ++ entry_told trace number entry.now) }
 {
     match entry {
         Entry::Done(done) => {
-            let mut text = result_line(alloc, number, done)?;
+            tell_result(text, number, done)?;
             if trace {
-                text.push_str(trace_line(alloc, number, done)?.as_str())?;
+                tell_trace(text, number, done)?;
             }
-            Ok(text)
+            Ok(())
         }
-        Entry::Lost(_) => format!(in alloc; "LOST {number}\n"),
+        Entry::Lost(_) => write!(text, "LOST {number}\n").or(Err(AllocError)),
     }
 }
 
-/// What is told of the entries of a batch.
-pub fn entries_text(alloc: Global, trace: bool, entries: &[Entry]) -> Result<String, AllocError>
-    ensures { IfOk result (λ text. string_bytes text ≡ entries_told trace 0 entries.now) }
+/// Writes what is told of the entries of a batch, behind what the text says already. Where a growth is refused, some of it is
+/// written.
+pub fn tell_entries(text: &mut Vec<u8>, trace: bool, entries: &[Entry]) -> Result<(), AllocError>
+    ensures { OnOk result (text.new.items ≡ text.old.items ++ entries_told trace 0 entries.now) }
 {
-    let mut text = String::new(alloc);
     for (number, entry) in entries.iter().enumerate() {
-        text.push_str(entry_text(alloc, trace, number, entry)?.as_str())?;
+        tell_entry(text, trace, number, entry)?;
     }
-    Ok(text)
+    Ok(())
+}
+
+/// Writes how many packets a batch had.
+pub fn tell_done(text: &mut Vec<u8>, packets: usize) -> Result<(), AllocError>
+    ensures { OnOk result (text.new.items ≡ text.old.items ++ done_line packets) }
+{
+    write!(text, "DONE {packets}\n").or(Err(AllocError))
 }

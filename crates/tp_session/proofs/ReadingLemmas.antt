@@ -1,5 +1,5 @@
 -- What reading has told.
-use Rattle.std.proofs.Common.{◌≡◌, ◌≢◌, ℕ, ◌+◌, ◌≤◌, ◌<◌, nat_lt, nat_eq, Bool, true, false, List, [], ◌∷◌, ◌++◌, length, take, drop, Option, Result, Ok, Err, OnOk, OnErr, IfErr, refl, ap, sym, subst, ◌∙◌, arith, append_assoc, length-append}
+use Rattle.std.proofs.Common.{◌≡◌, ◌≢◌, ℕ, zero, suc, ◌+◌, ◌-◌, ◌≤◌, ◌<◌, min, nat_lt, nat_eq, Bool, true, false, ◌||◌, List, [], ◌∷◌, ◌++◌, length, take, drop, Option, Result, Ok, Err, OnOk, OnErr, IfErr, refl, ap, sym, subst, ◌∙◌, arith, append_assoc, length-append}
 use Rattle.std.specs.Io.KnownBytes.{Appends}
 use Rattle.std.proofs.lemmas.Bool.Decides.{nat_tests}
 use Rattle.std.proofs.lemmas.List.{append-nil, take-append-drop, take-append-le, length-take}
@@ -14,12 +14,36 @@ use Rattle.tp_session.specs.declared.progress.Progress.{Progress}
 use Rattle.tp_session.specs.declared.service.Service.{Service}
 use Rattle.tp_session.specs.Served.{most_line, asked_in, next_number, nothing_open, AreTold}
 use Rattle.tp_session.specs.Standing.{standing_of, StaysOn, IsWant}
-use Rattle.tp_session.specs.Stand.{Stand, number_after, Keeps, IsAt, HasToldEnded, Fails, FailsAtEnd, HasToldAll, GoesOn}
+use Rattle.tp_session.specs.Stand.{Stand, number_after, IsPlain, Keeps, IsAt, HasToldEnded, Fails, FailsAtEnd, HasToldAll, GoesOn}
 use Rattle.tp_session.proofs.KnownBytes.{appends_more, appends_same, appends_front}
 use Rattle.tp_session.proofs.LineLemmas.{take_all}
-use Rattle.tp_session.proofs.StandLemmas.{answers_more, number_more, with_byte, stands_more, line_now, lines_now, with_line, begins_line, stands_line, told_ended, told_whole, told_rest}
+use Rattle.tp_session.proofs.StandLemmas.{answers_more, number_more, with_bytes, stands_more, line_now, lines_now, with_line, begins_line, stands_line, told_ended, told_whole, told_rest}
 
 -- ---- a line that is kept whole, or in part
+
+pub or_true : (a b : Bool) → b ≡ true → true ≡ (a || b)
+or_true true b e = refl
+or_true false b e = sym e
+
+pub or_false : (a b : Bool) → b ≡ false → a ≡ (a || b)
+or_false true b e = refl
+or_false false b e = sym e
+
+take_fewer : (xs : List ℕ) (kept most : ℕ) → kept ≡ min (length xs) most → take kept xs ≡ take most xs
+take_fewer [] kept most is = take_all kept [] (omega arith) ∙ sym (take_all most [] (omega arith))
+take_fewer (x ∷ xs) zero zero is = refl
+take_fewer (x ∷ xs) zero (suc most) is = absurd (omega (arith, is))
+take_fewer (x ∷ xs) (suc kept) zero is = absurd (omega (arith, is))
+take_fewer (x ∷ xs) (suc kept) (suc most) is = ap (λ l. x ∷ l) (take_fewer xs kept most (omega (arith, is)))
+
+kept_line : (most : ℕ) (line bytes : List ℕ) (kept : ℕ) → kept ≡ min (length bytes) (most - length line) → take most line ++ take kept bytes ≡ take most (line ++ bytes)
+kept_line zero line bytes zero is = refl
+kept_line zero line bytes (suc kept) is = absurd (omega (arith, is))
+kept_line (suc most) [] bytes kept is = take_fewer bytes kept (suc most) (omega (arith, is))
+kept_line (suc most) (b ∷ line) bytes kept is = ap (λ l. b ∷ l) (kept_line most line bytes kept (omega (arith, is)))
+
+kept_long : (most line bytes kept : ℕ) → kept ≡ min bytes (most - line) → (nat_lt most line || nat_lt kept bytes) ≡ nat_lt most (line + bytes)
+kept_long most line bytes kept is = grind (arith, nat_tests, is)
 
 pub kept_whole : (p : Progress) (number : ℕ) (line : List ℕ) → Keeps p number line → p.long ≡ false → (p.line.items ≡ line) × (nat_lt most_line (length line) ≡ false)
 kept_whole p number line keeps short =
@@ -39,29 +63,15 @@ answered_now trace p number line says ended before told after keeps short is ans
     let said = subst (λ l. Answers trace number (asked_by l) before told after) is numbered in
     rw short said
 
--- one byte more of a line that is kept whole, and of one that is too long
-pub keeps_more : (p q : Progress) (number : ℕ) (line : List ℕ) (b : ℕ) → Keeps p number line → length p.line.items < most_line → q.number ≡ p.number → q.line.items ≡ p.line.items ++ b ∷ [] → q.long ≡ p.long → Keeps q number (line ++ b ∷ [])
-keeps_more p q number line b keeps room number_is line_is long_is =
-    let few : length line < most_line = omega (arith, length-take most_line line, ap length keeps.line_is) in
-    let one : length (line ++ b ∷ []) ≡ length line + 1 = length-append line (b ∷ []) in
-    let whole : p.line.items ≡ line = keeps.line_is ∙ take_all most_line line (omega arith) in
-    let test : nat_lt most_line (length line) ≡ false = grind (arith, nat_tests) in
-    let test' : nat_lt most_line (length (line ++ b ∷ [])) ≡ false = grind (arith, nat_tests) in
+-- more of a line, of which so much is kept as there is room for
+pub keeps_more : (p q : Progress) (number : ℕ) (line bytes : List ℕ) (kept : ℕ) → Keeps p number line → kept ≡ min (length bytes) (most_line - length p.line.items) → q.number ≡ p.number → q.line.items ≡ p.line.items ++ take kept bytes
+    → q.long ≡ (p.long || nat_lt kept (length bytes)) → Keeps q number (line ++ bytes)
+keeps_more p q number line bytes kept keeps many number_is line_is long_is =
+    let had : length p.line.items ≡ min most_line (length line) = ap length keeps.line_is ∙ length-take most_line line in
     record {
       number_is = number_is ∙ keeps.number_is;
-      line_is = line_is ∙ ap (λ l. l ++ b ∷ []) whole ∙ sym (take_all most_line (line ++ b ∷ []) (omega arith));
-      long_is = long_is ∙ keeps.long_is ∙ test ∙ sym test';
-    }
-
-pub keeps_front : (p q : Progress) (number : ℕ) (line : List ℕ) (b : ℕ) → Keeps p number line → most_line ≤ length p.line.items → q.number ≡ p.number → q.line.items ≡ p.line.items → q.long ≡ true → Keeps q number (line ++ b ∷ [])
-keeps_front p q number line b keeps full number_is line_is long_is =
-    let many : most_line ≤ length line = omega (arith, length-take most_line line, ap length keeps.line_is) in
-    let one : length (line ++ b ∷ []) ≡ length line + 1 = length-append line (b ∷ []) in
-    let test : nat_lt most_line (length (line ++ b ∷ [])) ≡ true = grind (arith, nat_tests) in
-    record {
-      number_is = number_is ∙ keeps.number_is;
-      line_is = line_is ∙ keeps.line_is ∙ sym (take-append-le most_line line (b ∷ []) many);
-      long_is = long_is ∙ sym test;
+      line_is = line_is ∙ ap (λ l. l ++ take kept bytes) keeps.line_is ∙ kept_line most_line line bytes kept (omega (arith, had, many));
+      long_is = long_is ∙ ap (λ b. b || nat_lt kept (length bytes)) keeps.long_is ∙ kept_long most_line (length line) (length bytes) kept (omega (arith, had, many)) ∙ ap (nat_lt most_line) (sym (length-append line bytes));
     }
 
 pub nothing_left : (line kept : List ℕ) (n : ℕ) → kept ≡ take most_line line → n ≡ length kept → true ≡ nat_eq n 0 → line ≡ []
@@ -128,11 +138,11 @@ module _ {D : Type 0} (state : D → DeviceState) (trace : Bool) (begun now : Op
     };
   }
 
-  pub goes_byte : (q : Progress) (b : ℕ) → b ≢ line_feed → Keeps q (number_after 1 s.lines) (s.line ++ b ∷ []) → GoesOn state trace begun q service now (s.taken ++ b ∷ [])
-  goes_byte q b other keeps = record {
-    stand = with_byte s b;
+  pub goes_plain : (q : Progress) (bytes : List ℕ) → IsPlain bytes → Keeps q (number_after 1 s.lines) (s.line ++ bytes) → GoesOn state trace begun q service now (s.taken ++ bytes)
+  goes_plain q bytes plain keeps = record {
+    stand = with_bytes s bytes;
     taken_is = refl;
-    is = record { stands = stands_more trace s b at.stands other; keeps = keeps; standing = at.standing; trace_is = at.trace_is; fit = at.fit; wrote = at.wrote };
+    is = record { stands = stands_more trace s bytes at.stands plain; keeps = keeps; standing = at.standing; trace_is = at.trace_is; fit = at.fit; wrote = at.wrote };
   }
 
   -- the end of the input
@@ -161,38 +171,36 @@ module _ {D : Type 0} (state : D → DeviceState) (trace : Bool) (begun now : Op
 pub goes_same : {D : Type 0} (state : D → DeviceState) (trace : Bool) (begun now : Option (List ℕ)) (p : Progress) (service : Service D) (xs ys : List ℕ) → xs ≡ ys → GoesOn state trace begun p service now xs → GoesOn state trace begun p service now ys
 goes_same state trace begun now p service xs ys e goes = record { stand = goes.stand; taken_is = goes.taken_is ∙ e; is = goes.is }
 
-pub goes_nowhere : {D : Type 0} (state : D → DeviceState) (trace : Bool) (begun now : Option (List ℕ)) (p : Progress) (service : Service D) (s : Stand) → IsAt state trace begun p service now s → GoesOn state trace begun p service now (s.taken ++ [])
-goes_nowhere state trace begun now p service s at = record { stand = s; taken_is = sym (append-nil s.taken); is = at }
-
-before_more : (trace : Bool) (first taken front rest bytes : List ℕ) (b : ℕ) (begun now : Option (List ℕ)) → taken ≡ first ++ front → bytes ≡ front ++ b ∷ rest
-    → (n : ℕ) × HasToldEnded trace (taken ++ take n (b ∷ [])) begun now → (n : ℕ) × HasToldEnded trace (first ++ take n bytes) begun now
-before_more trace first taken front rest bytes b begun now is split (n, told) =
-    let xs = front ++ take n (b ∷ []) in
-    let all : bytes ≡ xs ++ (drop n (b ∷ []) ++ rest) =
-    split ∙ ap (λ l. front ++ (l ++ rest)) (sym (take-append-drop n (b ∷ []))) ∙ ap (λ l. front ++ l) (append_assoc (take n (b ∷ [])) (drop n (b ∷ [])) rest)
-    ∙ sym (append_assoc front (take n (b ∷ [])) (drop n (b ∷ []) ++ rest)) in
-    let same : taken ++ take n (b ∷ []) ≡ first ++ take (length xs) bytes =
-    ap (λ l. l ++ take n (b ∷ [])) is ∙ append_assoc first front (take n (b ∷ []))
-    ∙ ap (λ l. first ++ l) (sym (ap (take (length xs)) all ∙ take-append_seam xs (drop n (b ∷ []) ++ rest))) in
+-- the lines that some of the first bytes end were told
+before_more : (trace : Bool) (first taken front middle rest bytes : List ℕ) (begun now : Option (List ℕ)) → taken ≡ first ++ front → bytes ≡ front ++ (middle ++ rest)
+    → (n : ℕ) × HasToldEnded trace (taken ++ take n middle) begun now → (n : ℕ) × HasToldEnded trace (first ++ take n bytes) begun now
+before_more trace first taken front middle rest bytes begun now is split (n, told) =
+    let xs = front ++ take n middle in
+    let all : bytes ≡ xs ++ (drop n middle ++ rest) =
+    split ∙ ap (λ l. front ++ (l ++ rest)) (sym (take-append-drop n middle)) ∙ ap (λ l. front ++ l) (append_assoc (take n middle) (drop n middle) rest)
+    ∙ sym (append_assoc front (take n middle) (drop n middle ++ rest)) in
+    let same : taken ++ take n middle ≡ first ++ take (length xs) bytes =
+    ap (λ l. l ++ take n middle) is ∙ append_assoc first front (take n middle)
+    ∙ ap (λ l. first ++ l) (sym (ap (take (length xs)) all ∙ take-append_seam xs (drop n middle ++ rest))) in
     (length xs, subst (λ l. HasToldEnded trace l begun now) same told)
 
--- an error at a byte behind some others
-pub fails_more : (trace : Bool) (first taken front rest bytes : List ℕ) (b : ℕ) (begun now : Option (List ℕ)) (e : ServeFault) → taken ≡ first ++ front → bytes ≡ front ++ b ∷ rest → Fails trace taken (b ∷ []) begun now e → Fails trace first bytes begun now e
-fails_more trace first taken front rest bytes b begun now Read is split fails = absurd fails
-fails_more trace first taken front rest bytes b begun now Write is split fails = (
+-- an error at bytes behind some others
+pub fails_more : (trace : Bool) (first taken front middle rest bytes : List ℕ) (begun now : Option (List ℕ)) (e : ServeFault) → taken ≡ first ++ front → bytes ≡ front ++ (middle ++ rest) → Fails trace taken middle begun now e → Fails trace first bytes begun now e
+fails_more trace first taken front middle rest bytes begun now Read is split fails = absurd fails
+fails_more trace first taken front middle rest bytes begun now Write is split fails = (
   fails.0,
   record {
     rest = λ more. fails.1.rest (rest ++ more);
     is = λ more.
         ap lines_of (
-        ap (λ l. (first ++ l) ++ more) split ∙ append_assoc first (front ++ b ∷ rest) more ∙ ap (λ l. first ++ l) (append_assoc front (b ∷ rest) more)
-        ∙ sym (append_assoc first front (b ∷ rest ++ more)) ∙ ap (λ l. l ++ (b ∷ rest ++ more)) (sym is) ∙ sym (append_assoc taken (b ∷ []) (rest ++ more))
+        ap (λ l. (first ++ l) ++ more) split ∙ append_assoc first (front ++ (middle ++ rest)) more ∙ ap (λ l. first ++ l) (append_assoc front (middle ++ rest) more)
+        ∙ sym (append_assoc first front ((middle ++ rest) ++ more)) ∙ ap (λ l. (first ++ front) ++ l) (append_assoc middle rest more) ∙ ap (λ l. l ++ (middle ++ (rest ++ more))) (sym is) ∙ sym (append_assoc taken middle (rest ++ more))
         ) ∙ fails.1.is (rest ++ more);
   },
   fails.2,
 )
-fails_more trace first taken front rest bytes b begun now Memory is split fails = before_more trace first taken front rest bytes b begun now is split fails
-fails_more trace first taken front rest bytes b begun now Thread is split fails = before_more trace first taken front rest bytes b begun now is split fails
+fails_more trace first taken front middle rest bytes begun now Memory is split fails = before_more trace first taken front middle rest bytes begun now is split fails
+fails_more trace first taken front middle rest bytes begun now Thread is split fails = before_more trace first taken front middle rest bytes begun now is split fails
 
 pub some_of : (now now' : Option (List ℕ)) (xs ys : List ℕ) → xs ≡ ys → (n : ℕ) × Appends now now' (take n xs) → (n : ℕ) × Appends now now' (take n ys)
 some_of now now' xs ys e (n, wrote) = (n, appends_same now now' (take n xs) (take n ys) (ap (take n) e) wrote)

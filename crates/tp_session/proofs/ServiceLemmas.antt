@@ -1,5 +1,5 @@
 -- The sessions of a service, and what is asked of it.
-use Rattle.std.proofs.Common.{◌≡◌, ℕ, zero, suc, ◌+◌, ◌%◌, ◌^◌, ◌≤◌, ◌<◌, nat_eq, not, ◌&&◌, Bool, true, false, if◌then◌else◌, List, [], ◌∷◌, ◌++◌, length, take, drop, map, codes, slice_get, slice_set, Option, Some, None, Result, Ok, Err, OnOk, IfOk, refl, ap, sym, ◌∙◌, arith, append_assoc}
+use Rattle.std.proofs.Common.{◌≡◌, ℕ, zero, suc, ◌+◌, ◌%◌, ◌^◌, ◌≤◌, ◌<◌, nat_eq, not, ◌&&◌, Bool, true, false, if◌then◌else◌, List, [], ◌∷◌, ◌++◌, length, take, drop, map, codes, slice_get, slice_set, Option, Some, None, Result, Ok, Err, refl, ap, sym, subst, ◌∙◌, arith, append_assoc}
 use Rattle.std.specs.Option.{option_map}
 use Rattle.std.proofs.Math.Nat.{mod-add-mod}
 use Rattle.std.proofs.lemmas.Option.{same_Some}
@@ -12,7 +12,9 @@ use Rattle.tp_requests.specs.Requests.{Asked, ToList, ToOpen, ToKeep, ToRun, ToR
 use Rattle.tp_answers.specs.Sessions.{Session, with_session, without_packets}
 use Rattle.tp_answers.specs.Told.{refusal, of_line}
 use Rattle.tp_answers.specs.Answers.{Standing, standing, batches_more, IsRun, AnswersRun, AreRuns}
-use Rattle.tp_session.specs.Standing.{IsListable}
+use Rattle.tp_answers.specs.declared.session.Kept.{Kept}
+use Rattle.tp_answers.specs.Open.{session_of}
+use Rattle.tp_session.specs.Standing.{IsListable, GoesOnWith}
 
 -- ---- a code that is to be listed is no longer than its line
 
@@ -116,15 +118,19 @@ asked_known value o r a h e = sym h ∙ ap (option_map value) e
 
 -- ---- one session's run
 
-pub run_of_none : {S : Type 0} (bytes : S → List ℕ) (t : S) (o : Option Session) (trace : Bool) (number : ℕ) (before : Standing) → o ≡ None → bytes t ≡ refusal (codes "P2") number → AnswersRun o trace number before (bytes t) before
-run_of_none bytes t o trace number before none told = rw none (told, refl)
+pub run_of_none : (told : List ℕ) (o : Option Session) (trace : Bool) (number : ℕ) (before : Standing) → o ≡ None → told ≡ refusal (codes "P2") number → AnswersRun o trace number before told before
+run_of_none told o trace number before none is = rw none (is, refl)
 
-pub ran : {S E : Type 0} (bytes : S → List ℕ) (r : Result S E) (o : Option Session) (s : Session) (trace : Bool) (number : ℕ) (sessions sessions' : List Session) (batches batches' : ℕ)
-    → o ≡ Some s → IfOk r (λ t. IsRun trace s (bytes t)) → OnOk r (sessions' ≡ with_session (without_packets s) sessions) → OnOk r (batches' ≡ batches_more 1 batches)
-    → IfOk r (λ t. AnswersRun o trace number (standing sessions batches) (bytes t) (standing sessions' batches'))
-ran bytes (Ok t) o s trace number sessions sessions' batches batches' is run forgotten counted =
-    rw is record { run = run; forgotten = ap (λ ss. standing ss batches') forgotten ∙ ap (standing (with_session (without_packets s) sessions)) counted }
-ran bytes (Err e) o s trace number sessions sessions' batches batches' is run forgotten counted = tt
+pub ran : (trace : Bool) (number : ℕ) (s : Session) (sessions sessions' : List Session) (batches batches' : ℕ) (empty text : List ℕ) {o : Option Session}
+    → o ≡ Some s → empty ≡ [] → GoesOnWith (IsRun trace s) empty text → sessions' ≡ with_session (without_packets s) sessions → batches' ≡ batches_more 1 batches
+    → AnswersRun o trace number (standing sessions batches) text (standing sessions' batches')
+ran trace number s sessions sessions' batches batches' empty text is none (told, goes, run) forgotten counted =
+    let all : told ≡ text = sym (goes ∙ ap (λ l. l ++ told) none) in
+    rw is record { run = subst (IsRun trace s) all run; forgotten = ap (λ ss. standing ss batches') forgotten ∙ ap (standing (with_session (without_packets s) sessions)) counted }
+
+-- what is told of what is kept is told of its session
+pub run_of_named : (trace : Bool) (s : Session) (kept : Kept) (before after : List ℕ) → s ≡ session_of s.name kept → GoesOnWith (IsRun trace (session_of s.name kept)) before after → GoesOnWith (IsRun trace s) before after
+run_of_named trace s kept before after is (told, goes, run) = (told, goes, subst (λ session. IsRun trace session told) (sym is) run)
 
 -- ---- the runs of all sessions
 

@@ -50,15 +50,15 @@ pub starts : (trace : Bool) → Stands trace start
 unfolding start
 starts trace = record { ended = refl; goes = λ more. refl; plain = refl; answered = (refl, refl) }
 
--- one byte more of a line
-abbrev pub with_byte : Stand → ℕ → Stand
-with_byte s b = record s { taken = s.taken ++ b ∷ []; line = s.line ++ b ∷ [] }
+-- more of a line
+abbrev pub with_bytes : Stand → List ℕ → Stand
+with_bytes s bytes = record s { taken = s.taken ++ bytes; line = s.line ++ bytes }
 
-pub stands_more : (trace : Bool) (s : Stand) (b : ℕ) → Stands trace s → b ≢ line_feed → Stands trace (with_byte s b)
-stands_more trace s b stands other = record {
+pub stands_more : (trace : Bool) (s : Stand) (bytes : List ℕ) → Stands trace s → IsPlain bytes → Stands trace (with_bytes s bytes)
+stands_more trace s bytes stands plain = record {
   ended = stands.ended;
-  goes = λ more. ap lines_of (append_assoc s.taken (b ∷ []) more) ∙ stands.goes (b ∷ more) ∙ ap (λ l. s.lines ++ lines_of l) (sym (append_assoc s.line (b ∷ []) more));
-  plain = plain_more s.line b stands.plain other;
+  goes = λ more. ap lines_of (append_assoc s.taken bytes more) ∙ stands.goes (bytes ++ more) ∙ ap (λ l. s.lines ++ lines_of l) (sym (append_assoc s.line bytes more));
+  plain = plain_more s.line bytes stands.plain plain;
   answered = stands.answered;
 }
 

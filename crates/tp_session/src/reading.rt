@@ -1,19 +1,19 @@
-//! Reading lines byte by byte, and answering each.
+//! Reading lines, and answering each.
 
-ghost use Rattle.std.specs.Prelude.{◌≡◌, ℕ, Bool, List, Option, Some, [], ◌∷◌, ◌++◌, OnOk, OnErr, IfOk, IfErr, take};
+ghost use Rattle.std.specs.Prelude.{◌≡◌, ℕ, Bool, List, Option, Some, [], ◌∷◌, ◌++◌, OnOk, OnErr, IfOk, IfErr, IfSome, MatchOption, position, ◌==◌, ◌<◌, length, take};
 ghost use Rattle.std.specs.Io.KnownBytes.{Appends};
-ghost use Rattle.tp_requests.specs.Lines.{without_return};
+ghost use Rattle.tp_requests.specs.Lines.{line_feed, without_return};
 ghost use Rattle.tp_answers.specs.Answers.{Answers};
 ghost use Rattle.tp_session.specs.Served.{asked_in};
 ghost use Rattle.tp_session.specs.Fitness.{AreFit, HasMembers, AreAsMany};
 ghost use Rattle.tp_session.specs.Standing.{standing_of, StaysOn, IsWant};
-ghost use Rattle.tp_session.specs.Stand.{Stand, Keeps, IsAt, GoesOn, Fails, FailsAtEnd, HasToldAll};
+ghost use Rattle.tp_session.specs.Stand.{Stand, IsPlain, Keeps, IsAt, GoesOn, Fails, FailsAtEnd, HasToldAll};
 
 use crate::MAX_LINE;
 use crate::fault::ServeFault;
 use crate::progress::Progress;
 use crate::service::Service;
-use std::alloc::Global;
+use std::alloc::{AllocError, Global};
 use std::io::Write;
 use std::sync::Wait;
 use std::thread::Threads;
@@ -108,28 +108,31 @@ fn end_line<R: Threads + Wait + Sync, D: LinkDevice + Send, W: Write>(
     Ok(())
 }
 
-/// Takes a byte of the input, and answers the line that it ends.
-fn take_byte<R: Threads + Wait + Sync, D: LinkDevice + Send, W: Write>(
-    progress: &mut Progress,
-    service: &mut Service<D>,
-    rt: &R,
-    alloc: Global,
-    writer: &mut W,
-    byte: u8,
-) -> Result<(), ServeFault>
-    requires { HasMembers service.old.links.items }
-    ensures ok { (trace : Bool) (begun : Option (List ℕ)) (s : Stand) → IsAt D.state trace begun progress.old service.old (W.contents writer.old) s →
-        OnOk result (GoesOn D.state trace begun progress.new service.new (W.contents writer.new) (s.taken ++ byte ∷ [])) }
-    ensures err { (trace : Bool) (begun : Option (List ℕ)) (s : Stand) → IsAt D.state trace begun progress.old service.old (W.contents writer.old) s →
-        IfErr result (Fails trace s.taken (byte ∷ []) begun (W.contents writer.new)) }
-    ensures members { OnOk result (AreAsMany service.old.links.items service.new.links.items) }
+/// The place of the first line feed.
+fn first_line_feed(bytes: &[u8]) -> Option<usize>
+    ensures value { result ≡ position (λ b. b == line_feed) bytes.now }
+    ensures within { IfSome result (λ i. i < length bytes.now) }
 {
-    if byte == b'\n' {
-        return end_line(progress, service, rt, alloc, writer);
+    bytes.iter().position(|byte| *byte == b'\n')
+}
+
+/// The bytes before the first line feed, and those behind it.
+fn split_line(bytes: &[u8]) -> Option<(&[u8], &[u8])>
+    ensures { MatchOption result (IsPlain bytes.now) (λ parts. IsPlain parts.0.now × (bytes.now ≡ parts.0.now ++ line_feed ∷ parts.1.now)) }
+{
+    match first_line_feed(bytes) {
+        Some(at) => Some((&bytes[..at], &bytes[at + 1..])),
+        None => None,
     }
-    if progress.line.len() < MAX_LINE {
-        progress.line.push(byte)?;
-    } else {
+}
+
+/// Takes more of the line that is being read.
+fn take_plain(progress: &mut Progress, bytes: &[u8]) -> Result<(), AllocError>
+    ensures kept { (number : ℕ) (line : List ℕ) → Keeps progress.old number line → OnOk result (Keeps progress.new number (line ++ bytes.now)) }
+{
+    let kept = bytes.len().min(MAX_LINE - progress.line.len());
+    progress.line.extend_from_slice(&bytes[..kept])?;
+    if kept < bytes.len() {
         progress.long = true;
     }
     Ok(())
@@ -151,9 +154,13 @@ pub(crate) fn feed<R: Threads + Wait + Sync, D: LinkDevice + Send, W: Write>(
         IfErr result (Fails trace s.taken bytes.now begun (W.contents writer.new)) }
     ensures members { OnOk result (AreAsMany service.old.links.items service.new.links.items) }
 {
-    for byte in bytes {
-        take_byte(progress, service, rt, alloc, writer, *byte)?;
+    let mut rest = bytes;
+    while let Some((line, behind)) = split_line(rest) {
+        take_plain(progress, line)?;
+        end_line(progress, service, rt, alloc, writer)?;
+        rest = behind;
     }
+    take_plain(progress, rest)?;
     Ok(())
 }
 

@@ -1,6 +1,6 @@
 //! Running the packets of a session.
 
-ghost use Rattle.std.specs.Prelude.{◌≡◌, ◌≤◌, ℕ, List, IfOk, IfErr, OnOk, None, string_bytes, length};
+ghost use Rattle.std.specs.Prelude.{◌≡◌, ◌≤◌, ℕ, List, IfOk, IfErr, OnOk, None, length};
 ghost use Rattle.tp_farm.specs.Jobs.{batch_of};
 ghost use Rattle.tp_farm.specs.Refused.{job_fault, IsFromOutside};
 ghost use Rattle.tp_farm.specs.Promised.{ArePackets};
@@ -8,14 +8,14 @@ ghost use Rattle.tp_answers.specs.Answers.{IsRun};
 ghost use Rattle.tp_answers.specs.Open.{session_of};
 ghost use Rattle.tp_answers.specs.Entries.{AreOutcomes};
 ghost use Rattle.tp_session.specs.Fitness.{AreFit, HasMembers, AreAsMany};
-ghost use Rattle.tp_session.specs.Standing.{IsWant};
+ghost use Rattle.tp_session.specs.Standing.{IsWant, GoesOnWith};
 
 use crate::fault::ServeFault;
 use std::alloc::Global;
 use std::mem;
 use std::sync::Wait;
 use std::thread::Threads;
-use tp_answers::{Kept, entries_text};
+use tp_answers::{Kept, tell_done, tell_entries};
 use tp_collect::Collected;
 use tp_farm::laws::long_traces_alone_are_lost;
 use tp_farm::{FarmFault, Job, OpenGate, run_batch};
@@ -61,7 +61,7 @@ fn run_packets<R: Threads + Wait + Sync, D: LinkDevice + Send>(
     }
 }
 
-/// Runs the packets of a session, and tells what became of each.
+/// Runs the packets of a session, and tells what became of each, behind what the text says already.
 pub(crate) fn run_session<R: Threads + Wait + Sync, D: LinkDevice + Send>(
     rt: &R,
     alloc: Global,
@@ -69,9 +69,11 @@ pub(crate) fn run_session<R: Threads + Wait + Sync, D: LinkDevice + Send>(
     batch: u64,
     trace: bool,
     kept: &Kept,
-) -> Result<String, ServeFault>
+    text: &mut Vec<u8>,
+) -> Result<(), ServeFault>
     requires members { HasMembers links.old.items }
-    ensures run { AreFit D.state links.old.items → (name : List ℕ) → IfOk result (λ told. IsRun trace (session_of name kept.now) (string_bytes told)) }
+    ensures run { AreFit D.state links.old.items → (name : List ℕ) →
+        OnOk result (GoesOnWith (IsRun trace (session_of name kept.now)) text.old.items text.new.items) }
     ensures members { OnOk result (AreAsMany links.old.items links.new.items) }
     ensures fit { AreFit D.state links.old.items → OnOk result (AreFit D.state links.new.items) }
     ensures want { IfErr result IsWant }
@@ -82,8 +84,7 @@ pub(crate) fn run_session<R: Threads + Wait + Sync, D: LinkDevice + Send>(
         packets: &kept.packets,
     };
     let collected = run_packets(rt, alloc, links, &job)?;
-    let mut text = entries_text(alloc, trace, &collected.entries)?;
-    let count = kept.packets.len();
-    text.push_str(format!(in alloc; "DONE {count}\n")?.as_str())?;
-    Ok(text)
+    tell_entries(text, trace, &collected.entries)?;
+    tell_done(text, kept.packets.len())?;
+    Ok(())
 }

@@ -3,16 +3,17 @@
 ghost use Rattle.std.specs.Prelude.{◌≡◌, ◌≤◌, ◌<◌, ◌++◌, Some, length, slice_get, slice_set, IfOk, IfErr, OnOk, string_bytes};
 ghost use Rattle.tp_requests.specs.Requests.{asked, asked_by};
 ghost use Rattle.tp_answers.specs.Sessions.{Session, named, without_packets};
-ghost use Rattle.tp_answers.specs.Told.{of_line};
+ghost use Rattle.tp_answers.specs.Told.{of_line, all_line};
 ghost use Rattle.tp_answers.specs.Answers.{Answers, AnswersRun, AreRunAndForgotten, IsRun, batches_more};
 ghost use Rattle.tp_session.specs.Served.{most_line};
 ghost use Rattle.tp_answers.specs.Open.{sessions_of};
 ghost use Rattle.tp_session.specs.Fitness.{AreFit, HasMembers};
-ghost use Rattle.tp_session.specs.Standing.{standing_of, StaysOn, IsWant, IsListable};
+ghost use Rattle.tp_session.specs.Standing.{standing_of, StaysOn, IsWant, IsListable, GoesOnWith};
 
 use crate::fault::ServeFault;
 use crate::running::run_session;
 use std::alloc::{AllocError, Global};
+use std::io::Write;
 use std::sync::Wait;
 use std::thread::Threads;
 use tp_answers::{Sessions, close, keep, list, open, refusal};
@@ -39,18 +40,26 @@ fn tell_name(text: &mut Vec<u8>, name: &Name) -> Result<(), AllocError>
     Ok(())
 }
 
+/// Tells how many sessions were run.
+fn tell_all(text: &mut Vec<u8>, sessions: usize) -> Result<(), AllocError>
+    ensures { OnOk result (text.new.items ≡ text.old.items ++ all_line sessions) }
+{
+    write!(text, "ALL {sessions}\n").or(Err(AllocError))
+}
+
 impl<D: LinkDevice + Send> Service<D> {
-    /// Runs the packets of the session at a place, which are forgotten.
+    /// Runs the packets of the session at a place, which are forgotten, and tells of them behind what the text says already.
     fn run_at<R: Threads + Wait + Sync>(
         &mut self,
         rt: &R,
         alloc: Global,
         index: usize,
-    ) -> Result<String, ServeFault>
+        text: &mut Vec<u8>,
+    ) -> Result<(), ServeFault>
         requires there { index < length (sessions_of self.old.sessions) }
         requires members { HasMembers self.old.links.items }
         ensures run { AreFit D.state self.old.links.items → (s : Session) → slice_get (sessions_of self.old.sessions) index ≡ Some s →
-            IfOk result (λ told. IsRun self.old.trace s (string_bytes told)) }
+            OnOk result (GoesOnWith (IsRun self.old.trace s) text.old.items text.new.items) }
         ensures forgotten { (s : Session) → slice_get (sessions_of self.old.sessions) index ≡ Some s →
             OnOk result (sessions_of self.new.sessions ≡ slice_set (sessions_of self.old.sessions) index (without_packets s)) }
         ensures counted { OnOk result (self.new.batches ≡ batches_more 1 self.old.batches) }
@@ -58,10 +67,18 @@ impl<D: LinkDevice + Send> Service<D> {
         ensures want { IfErr result IsWant }
     {
         let kept = self.sessions.at(index);
-        let text = run_session(rt, alloc, &mut self.links, self.batches, self.trace, kept)?;
+        run_session(
+            rt,
+            alloc,
+            &mut self.links,
+            self.batches,
+            self.trace,
+            kept,
+            text,
+        )?;
         self.sessions.forget(index);
         self.batches = self.batches.wrapping_add(1);
-        Ok(text)
+        Ok(())
     }
 
     /// Runs the packets of a session.
@@ -71,17 +88,19 @@ impl<D: LinkDevice + Send> Service<D> {
         alloc: Global,
         number: u64,
         name: &Name,
-    ) -> Result<String, ServeFault>
+    ) -> Result<Vec<u8>, ServeFault>
         requires { HasMembers self.old.links.items }
         ensures told { AreFit D.state self.old.links.items → IfOk result (λ told.
-            AnswersRun (named name.now.items (sessions_of self.old.sessions)) self.old.trace number (standing_of self.old) (string_bytes told) (standing_of self.new)) }
+            AnswersRun (named name.now.items (sessions_of self.old.sessions)) self.old.trace number (standing_of self.old) told.items (standing_of self.new)) }
         ensures stays { OnOk result (StaysOn D.state self.old self.new) }
         ensures want { IfErr result IsWant }
     {
-        match self.sessions.find(name) {
-            Some(index) => self.run_at(rt, alloc, index),
-            None => Ok(refusal(alloc, "P2", number)?),
-        }
+        let Some(index) = self.sessions.find(name) else {
+            return Ok(refusal(alloc, "P2", number)?.into_bytes());
+        };
+        let mut text = Vec::new(alloc);
+        self.run_at(rt, alloc, index, &mut text)?;
+        Ok(text)
     }
 
     /// Runs the packets of all sessions, in the order in which they were opened.
@@ -100,11 +119,9 @@ impl<D: LinkDevice + Send> Service<D> {
         let mut text = Vec::new(alloc);
         for index in 0..count {
             tell_name(&mut text, self.sessions.name_at(index))?;
-            let run = self.run_at(rt, alloc, index)?;
-            text.extend_from_slice(run.as_bytes())?;
+            self.run_at(rt, alloc, index, &mut text)?;
         }
-        let all = format!(in alloc; "ALL {count}\n")?;
-        text.extend_from_slice(all.as_bytes())?;
+        tell_all(&mut text, count)?;
         Ok(text)
     }
 
@@ -127,7 +144,7 @@ impl<D: LinkDevice + Send> Service<D> {
             Request::List(code) => list(alloc, &code)?,
             Request::Image(name, text) => open(&mut self.sessions, alloc, number, name, text)?,
             Request::Packet(name, bytes) => keep(&mut self.sessions, alloc, number, &name, &bytes)?,
-            Request::Run(name) => self.run(rt, alloc, number, &name)?,
+            Request::Run(name) => return self.run(rt, alloc, number, &name),
             Request::RunAll => return self.run_all(rt, alloc),
             Request::Close(name) => close(&mut self.sessions, alloc, number, &name)?,
         };

@@ -1,13 +1,18 @@
-use Rattle.std.proofs.Common.{◌++◌, ℕ, Bool, List, Option, take}
+use Rattle.std.proofs.Common.{◌≡◌, ◌++◌, ℕ, Bool, List, Option, length}
 use Rattle.tp_session.specs.Fitness.{HasMembers, AreAsMany}
 use Rattle.tp_session.specs.Stand.{Stand, IsAt, GoesOn}
 use Rattle.tp_session.proofs.reading.feed.Given as goal
 
 -- the lines that the bytes so far end are answered, and all members are there
-abbrev pub invariant-loop-byte : goal.invariant-loop-byte
-invariant-loop-byte g l = record {
+abbrev pub invariant-loop-line : goal.invariant-loop-line
+invariant-loop-line g l = record {
   members : HasMembers l.service.links.items;
   as_many : AreAsMany l.fn.service.links.items l.service.links.items;
+  front : List ℕ;
+  parted : l.bytes ≡ front ++ l.rest;
   goes : (trace : Bool) (begun : Option (List ℕ)) (s : Stand) → IsAt g.D.LinkDevice.state trace begun l.fn.progress l.fn.service (g.W.Write.contents l.fn.writer) s →
-      GoesOn g.D.LinkDevice.state trace begun l.progress l.service (g.W.Write.contents l.writer) (s.taken ++ take l.byte-index l.bytes);
+      GoesOn g.D.LinkDevice.state trace begun l.progress l.service (g.W.Write.contents l.writer) (s.taken ++ front);
 }
+
+abbrev pub decreases-loop-line : goal.decreases-loop-line
+decreases-loop-line g l = length l.rest

@@ -1,9 +1,7 @@
-use Rattle.std.proofs.Common.{◌≡◌, ◌++◌, codes, string_bytes, map, ap, ◌∙◌}
-use Rattle.std.specs.Fmt.{decimal}
+use Rattle.std.proofs.Common.{◌≡◌, ◌++◌, length, map, refl, ap, ◌∙◌, append_assoc}
 use Rattle.tp_answers.specs.Told.{done_line}
 use Rattle.tp_answers.specs.Entries.{entries_told}
 use Rattle.tp_answers.specs.Open.{session_of}
-use Rattle.tp_answers.proofs.Texts.{done_told}
 use Rattle.tp_answers.proofs.EntryLemmas.{answers_all}
 use Rattle.tp_session.proofs.RunLemmas.{may_begin, whole_packets, kept_whole, kept_few, kept_count, of_kept}
 use Rattle.tp_session.proofs.running.run_session.Goals as goal
@@ -23,13 +21,11 @@ returns-clause-run g c fit name =
     let kept = c.args.kept.now in
     let s = session_of name kept in
     let collected = c.in_ok-collected.collected in
+    let before = c.args.text.now.items in
     let answers = entries_told c.args.trace 0 collected in
-    let text : string_bytes c.in_ok-text.text ≡ answers = c.in_ok-text.ensures ∙ ap (entries_told c.args.trace 0) (c.deref-2.ensures.value ∙ c.collected.view_is) in
-    let done : string_bytes c.in_ok-format.field-0 ≡ codes "DONE " ++ (decimal c.len-count.result ++ codes "\n") = c.in_ok-format.ensures.ok in
-    record {
-      answers = answers;
-      each = answers_all c.args.trace s.image 0 s.packets collected (of_kept kept c.deref.result.now collected c.deref.ensures.value (c.in_ok-collected.ensures.outcomes fit));
-      told_is =
-          c.in_ok-push_str.ensures.bytes ∙ ap (λ l. l ++ c.as_str.result.now) text
-          ∙ ap (λ l. answers ++ l) (c.as_str.ensures.value ∙ done ∙ done_told c.len-count.result ∙ ap done_line (kept_count kept c.len-count.result c.len-count.ensures));
-    }
+    let entries : c.tell_entries.new.text.items ≡ before ++ answers = c.in_ok-tell_entries.ensures ∙ ap (λ es. before ++ entries_told c.args.trace 0 es) (c.deref-2.ensures.value ∙ c.collected.view_is) in
+    let count = ap done_line (kept_count kept c.len.result c.len.ensures) in (
+      answers ++ done_line (length s.packets),
+      c.in_ok-tell_done.ensures ∙ ap (λ l. l ++ done_line c.len.result) entries ∙ append_assoc before answers (done_line c.len.result) ∙ ap (λ l. before ++ (answers ++ l)) count,
+      record { answers = answers; each = answers_all c.args.trace s.image 0 s.packets collected (of_kept kept c.deref.result.now collected c.deref.ensures.value (c.in_ok-collected.ensures.outcomes fit)); told_is = refl },
+    )

@@ -16,17 +16,16 @@ loop-index-preserved g c =
     let s = at.0 in
     let now_at : slice_get (sessions_of c.loop-index.self.sessions) i ≡ Some s = ap (λ l. slice_get l i) was.forgotten ∙ partly_at all i s at.1 in
     let trace = c.args.self.now.trace in
-    let here = string_bytes c.in_ok-run.run' in
     let more : take i all ++ s ∷ [] ≡ take (i + 1) all = sym (ap (λ n. take n all) (add-one i) ∙ taken_more all i s at.1) in
-    let text : c.loop-index.text.items ++ (of_line s.name ++ here) ≡ c.extend_from_slice.new.self.items =
-    sym (c.in_ok-extend_from_slice.ensures.items ∙ ap (λ l. c.tell_name.new.text.items ++ l) c.as_bytes.ensures.value ∙ ap (λ l. l ++ here) (c.in_ok-tell_name.ensures ∙ ap (λ n. c.loop-index.text.items ++ of_line n) (sym (c.name_at.ensures s now_at)))
-    ∙ append_assoc c.loop-index.text.items (of_line s.name) here) in
+    let named : c.tell_name.new.text.items ≡ c.loop-index.text.items ++ of_line s.name = c.in_ok-tell_name.ensures ∙ ap (λ n. c.loop-index.text.items ++ of_line n) (sym (c.name_at.ensures s now_at)) in
     record {
-      stays = record { members = c.in_ok-run.ensures.stays.members ∙ was.stays.members; fit = λ fit. c.in_ok-run.ensures.stays.fit (was.stays.fit fit); trace = c.in_ok-run.ensures.stays.trace ∙ was.stays.trace };
+      stays = record { members = c.in_ok-run_at.ensures.stays.members ∙ was.stays.members; fit = λ fit. c.in_ok-run_at.ensures.stays.fit (was.stays.fit fit); trace = c.in_ok-run_at.ensures.stays.trace ∙ was.stays.trace };
       runs = λ fit.
-          let run = subst (λ t. IsRun t s here) was.stays.trace (c.in_ok-run.ensures.run (was.stays.fit fit) s now_at) in
-          subst (λ l. AreRuns trace l c.extend_from_slice.new.self.items) more (subst (λ l. AreRuns trace (take i all ++ s ∷ []) l) text (runs_more trace (take i all) c.loop-index.text.items s here (was.runs fit) run));
-      forgotten = c.in_ok-run.ensures.forgotten s now_at ∙ ap (λ l. slice_set l i (without_packets s)) was.forgotten ∙ partly_more all i s at.1 ∙ ap (partly all) (sym (add-one i));
-      counted = c.in_ok-run.ensures.counted ∙ ap (batches_more 1) was.counted ∙ counted_more c.args.self.now.batches i;
+          let ran = c.in_ok-run_at.ensures.run (was.stays.fit fit) s now_at in
+          let run = subst (λ t. IsRun t s ran.0) was.stays.trace ran.2 in
+          let text : c.loop-index.text.items ++ (of_line s.name ++ ran.0) ≡ c.run_at.new.text.items = sym (ran.1 ∙ ap (λ l. l ++ ran.0) named ∙ append_assoc c.loop-index.text.items (of_line s.name) ran.0) in
+          subst (λ l. AreRuns trace l c.run_at.new.text.items) more (subst (λ l. AreRuns trace (take i all ++ s ∷ []) l) text (runs_more trace (take i all) c.loop-index.text.items s ran.0 (was.runs fit) run));
+      forgotten = c.in_ok-run_at.ensures.forgotten s now_at ∙ ap (λ l. slice_set l i (without_packets s)) was.forgotten ∙ partly_more all i s at.1 ∙ ap (partly all) (sym (add-one i));
+      counted = c.in_ok-run_at.ensures.counted ∙ ap (batches_more 1) was.counted ∙ counted_more c.args.self.now.batches i;
       all = was.all;
     }
