@@ -1,4 +1,4 @@
--- Where the reading of an input stands: between two of its bytes.
+-- Where the reading of an input stands: between two stretches of its bytes.
 use Rattle.std.specs.Prelude.{◌≡◌, ℕ, nat_lt, nat_eq, not, Bool, true, List, [], ◌∷◌, ◌++◌, length, take, Option}
 use Rattle.std.specs.List.{list_all, filter}
 use Rattle.std.specs.Io.KnownBytes.{Appends}
