@@ -18,3 +18,4 @@ pub mod HeldPacket
 pub mod Kept
 pub mod Alone
 pub mod PromiseKept
+pub mod Reading

@@ -1,6 +1,6 @@
 //! Messages.
 
-ghost use Rattle.std.specs.Prelude.{◌≡◌, ◌+◌, ◌-◌, ◌≤◌, MatchResult, take, drop};
+ghost use Rattle.std.specs.Prelude.{◌≡◌, ◌+◌, ◌-◌, ◌≤◌, ◌⊎◌, MatchResult, take, drop};
 ghost use Rattle.tp_decode.specs.declared.instr.Instr.TheVariants.{Input, Output, MoveBytes};
 ghost use Rattle.tp_link.specs.Device.{after_receive, MayAnswerReceive};
 ghost use Rattle.tp_machine.specs.Devices.{devices};
@@ -47,22 +47,31 @@ fn message(workspace: &[u8; 2048], a: u32, n: u32) -> &[u8]
     &workspace[i..i + n as usize]
 }
 
-/// Copies n bytes of the workspace.
+/// Copies n bytes of the workspace to others that lie apart from them.
+#[inline(never)]
 fn copy(workspace: &mut [u8; 2048], target: u32, source: u32, n: u32)
     requires target_low { mem_start ≤ target }
     requires target_high { target + n ≤ mem_start + 2048 }
     requires source_low { mem_start ≤ source }
     requires source_high { source + n ≤ mem_start + 2048 }
+    requires apart { (target + n ≤ source) ⊎ (source + n ≤ target) }
     ensures { workspace.new ≡ put workspace.old (target - mem_start) (take n (drop (source - mem_start) workspace.old)) }
 {
     let from = (source - MEM_START) as usize;
     let to = (target - MEM_START) as usize;
-    workspace.copy_within(from..from + n as usize, to);
+    let count = n as usize;
+    if to < from {
+        let (low, high) = workspace.split_at_mut(from);
+        low[to..to + count].copy_from_slice(&high[..count]);
+    } else {
+        let (low, high) = workspace.split_at_mut(to);
+        high[..count].copy_from_slice(&low[from..from + count]);
+    }
 }
 
 impl Registers {
     /// move, move message
-    #[inline(never)]
+    #[inline(always)]
     pub(crate) fn move_bytes(self, workspace: &mut [u8; 2048])
         requires { Goes MoveBytes self workspace.old }
         ensures { Leads MoveBytes self self workspace.old workspace.new }

@@ -14,6 +14,9 @@ copy-requires-clause-source_low c = (move_within c.args.self c.args.workspace.no
 pub copy-requires-clause-source_high : goal.copy-requires-clause-source_high
 copy-requires-clause-source_high c = (move_within c.args.self c.args.workspace.now c.requires).source_high
 
+pub copy-requires-clause-apart : goal.copy-requires-clause-apart
+copy-requires-clause-apart c = (move_within c.args.self c.args.workspace.now c.requires).apart
+
 pub returns : goal.returns
 returns c =
     let long : length c.args.workspace.now ≡ 2048 = search rules in
