@@ -5,16 +5,16 @@ use mathlib.Core.Option.{some, none, some-ne-none, some-injective}
 use lib.ListN.{get_elem?}
 use Rattle.atomic_table.specs.Table.{State, Me, keeps, step, Allows, Splits, Joins, Seen, opening}
 use Rattle.atomic_table.proofs.Lists.{at_set, at_snoc}
-use Rattle.tp_board.specs.declared.event.Event.{Event}
 use Rattle.tp_board.specs.declared.event.Event.TheVariants.{Finish, Abandon, Stop, Look}
+use Rattle.tp_board.specs.declared.event.Shown.{Shown}
 use Rattle.tp_board.specs.declared.event.Shown.TheVariants as shown
 use Rattle.tp_board.specs.declared.view.Counters.{Counters}
 use Rattle.tp_board.specs.declared.view.View.{View}
 use Rattle.tp_board.specs.declared.rule.Size.{Size}
-use Rattle.tp_board.specs.Words.{size, counters, desk_words_of}
+use Rattle.tp_board.specs.Words.{size, counters, desk_words_of, place_of, desk_place_of}
 use Rattle.tp_board.specs.Views.{newcomer, nothing_seen, join_of}
 use Rattle.tp_board.specs.Rule.{total, AtMost}
-use Rattle.tp_board.specs.Steps.{after_finish, after_abandon, after_stop, after_look}
+use Rattle.tp_board.specs.Steps.{after_finish, after_abandon, after_stop, after_look, with_seen}
 use Rattle.tp_board.specs.Plays.{Tells}
 use Rattle.tp_board.specs.Desks.{FitsDesk, DeskRule, KeepsDesk, DeskHolds, holding, Reports}
 use Rattle.tp_board.proofs.Moves.{added, one_or, set_same}
@@ -95,18 +95,24 @@ module _ (k : Size) (words : List ℕ) (views : List View) (id : ℕ) (v : View)
             (record { few = f.few; seen = wider v.seen w w' f.seen more; idle = (λ e. absurd (omega arith)) }),
       )
 
-  pub look_keeps : KeepsDesk k (slice_set words 2 (slice_index words 2)) (set views id (after_look v shown.Stop (slice_index words 2)))
-  look_keeps =
-      let w = h.0 in let r = h.2 in let f = r.fits id v at in let s = f.seen in
-      let found : slice_index words 2 ≡ w.stop = ap (λ ws. slice_index ws 2) h.1 in
-      let same : AtMost w w = record { claimed = omega arith; done = omega arith; lost = omega arith; stop = omega arith } in
-      let u = after_look v shown.Stop w.stop in
-      subst (λ n. KeepsDesk k (slice_set words 2 (slice_index words 2)) (set views id (after_look v shown.Stop n))) (sym found) (
-        w,
-        set_same 2 words ∙ h.1,
-        changed k w w views id v u r at r.no_claim refl (omega arith) (omega arith) (let a = total_set (λ v. v.stop_callers) views id v u at in let b = r.stop in omega arith) same
-            (record { few = f.few; seen = (record { claimed = s.claimed; done = s.done; lost = s.lost; stop = omega arith }); idle = f.idle }),
-      )
+  pub look_keeps : (what : Shown) → 0 < place_of what → let n = slice_index words (desk_place_of what) in KeepsDesk k (slice_set words (desk_place_of what) n) (set views id (after_look v what n))
+  look_keeps what kept =
+      let place = desk_place_of what in
+      subst (λ ws. KeepsDesk k ws (set views id (after_look v what (slice_index words place)))) (sym (set_same place words))
+      (subst (λ ws. KeepsDesk k words (set views id (after_look v what (slice_index ws place)))) (sym h.1) (h.0, h.1, looked h.0 h.2 what kept))
+    where
+      saw : (w : Counters) → DeskRule k w views → (seen : Counters) → AtMost seen w → DeskRule k w (set views id (with_seen v seen))
+      saw w r seen least =
+          let f = r.fits id v at in let u = with_seen v seen in
+          let same : AtMost w w = record { claimed = omega arith; done = omega arith; lost = omega arith; stop = omega arith } in
+          changed k w w views id v u r at r.no_claim refl (omega arith) (omega arith) (let a = total_set (λ v. v.stop_callers) views id v u at in let b = r.stop in omega arith) same
+          (record { few = f.few; seen = least; idle = f.idle })
+
+      looked : (w : Counters) → DeskRule k w views → (what : Shown) → 0 < place_of what → DeskRule k w (set views id (after_look v what (slice_index (desk_words_of w) (desk_place_of what))))
+      looked w r shown.Claimed kept = absurd (omega arith)
+      looked w r shown.Done kept = let s = (r.fits id v at).seen in saw w r (counters v.seen.claimed w.done v.seen.lost v.seen.stop) (record { claimed = s.claimed; done = omega arith; lost = s.lost; stop = s.stop })
+      looked w r shown.Lost kept = let s = (r.fits id v at).seen in saw w r (counters v.seen.claimed v.seen.done w.lost v.seen.stop) (record { claimed = s.claimed; done = s.done; lost = omega arith; stop = s.stop })
+      looked w r shown.Stop kept = let s = (r.fits id v at).seen in saw w r (counters v.seen.claimed v.seen.done v.seen.lost w.stop) (record { claimed = s.claimed; done = s.done; lost = s.lost; stop = omega arith })
 
   pub stop_fresh : let n = slice_index words 2 in (v.seen.stop ≤ n) × (min 1 v.stop_callers ≤ n) × (n ≤ 1)
   stop_fresh =
@@ -141,9 +147,9 @@ module _ {S : Type 0} (k : Size) (slots id : ℕ) (me : Me S View) where
 
   pub looks : Allows (DeskHolds k) slots id me 2 (λ n. n) (Tells (Look shown.Stop) (step slots 2 0 0 none) me)
   looks s h _ at _ =
-      (after_look me.0 shown.Stop (slice_index s.words 2), keeps, tt, look_keeps k s.words s.views id me.0 h at, (refl, tt, stop_fresh k s.words s.views id me.0 h at))
+      (after_look me.0 shown.Stop (slice_index s.words 2), keeps, tt, look_keeps k s.words s.views id me.0 h at shown.Stop (omega arith), (refl, tt, stop_fresh k s.words s.views id me.0 h at))
 
-newcomer_fits : (k : Size) (w : Counters) (p m : ℕ) → FitsDesk k w (newcomer p m)
+pub newcomer_fits : (k : Size) (w : Counters) (p m : ℕ) → FitsDesk k w (newcomer p m)
 newcomer_fits k w p m = record {
   few = omega arith;
   seen = record { claimed = omega arith; done = omega arith; lost = omega arith; stop = omega arith };

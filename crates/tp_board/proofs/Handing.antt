@@ -18,7 +18,7 @@ use Rattle.tp_board.specs.Sources.{progress_of, NextSays}
 use Rattle.tp_board.specs.Views.{first_of}
 use Rattle.tp_board.specs.Desks.{holding}
 use Rattle.tp_board.specs.Steps.{with_number, with_end, after_draw, after_finish, after_abandon, after_look}
-use Rattle.tp_board.specs.Streams.{seen_of, Agrees, IsHand, NextAfter, NextMakes, HasBytes}
+use Rattle.tp_board.specs.Streams.{seen_of, IsHand, NextAfter, NextMakes, HasBytes}
 use Rattle.tp_board.proofs.Counting.{times-append}
 
 pub no_number : (m : Option ℕ) → first_of (hand_list m) ≡ None → m ≡ None

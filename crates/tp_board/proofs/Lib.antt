@@ -16,3 +16,5 @@ mod Handing
 mod Gathering
 mod Stages
 mod StreamSteps
+mod StreamWords
+mod StreamRuns

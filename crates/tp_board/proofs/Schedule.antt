@@ -31,7 +31,7 @@ seat_there (v ∷ vs) zero one = refl
 seat_there (v ∷ vs) (suc id) one = seat_there vs id one
 
 -- farms that are one but for an order run alike
-same_after : (s t : Farm) (events : List (ℕ × Event)) → IsSame s t → IsSame (farm_after s events) (farm_after t events) × (replies s events ≡ replies t events)
+pub same_after : (s t : Farm) (events : List (ℕ × Event)) → IsSame s t → IsSame (farm_after s events) (farm_after t events) × (replies s events ≡ replies t events)
 same_after s t [] h = (h, refl)
 same_after s t (e ∷ es) h =
     let first = same_step s t e.0 e.1 h in

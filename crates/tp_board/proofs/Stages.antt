@@ -1,5 +1,5 @@
 -- A stream's queue and words stand for a board under the board's rule.
-use Rattle.std.proofs.Common.{◌≡◌, ℕ, zero, suc, ◌+◌, ◌-◌, ◌<◌, ◌≤◌, min, List, [], ◌∷◌, length, map, sym, refl, ap, ◌∙◌, subst, arith}
+use Rattle.std.proofs.Common.{◌≡◌, ℕ, zero, suc, ◌+◌, min, List, [], ◌∷◌, length, map, sym, refl, ap, ◌∙◌, subst, arith}
 use mathlib.Core.Option.{some, some-ne-none, some-injective}
 use lib.ListN.{get_elem?}
 use Rattle.tp_board.specs.declared.line.Item.{Item}
@@ -8,7 +8,7 @@ use Rattle.tp_board.specs.declared.view.Counters.{Counters}
 use Rattle.tp_board.specs.declared.view.View.{View}
 use Rattle.tp_board.specs.Counting.{times, once_below}
 use Rattle.tp_board.specs.Rule.{total, Fits}
-use Rattle.tp_board.specs.Stages.{Stand, stand_seen, StandsSo, KeepsStream, pops, StandLaw}
+use Rattle.tp_board.specs.Stages.{Stand, stand_seen, KeepsStream, pops, StandLaw}
 use Rattle.tp_board.specs.Words.{size, counters}
 use Rattle.tp_board.proofs.Gathering.{claims_at}
 

@@ -1,10 +1,10 @@
 -- The steps at a stream's queue: a pop is Claim at the board that the stream stands for, and a push
 -- leaves that board as it was.
-use Rattle.std.proofs.Common.{◌≡◌, ◌≢◌, ℕ, zero, suc, ◌+◌, ◌-◌, ◌<◌, ◌≤◌, Bool, List, [], ◌∷◌, ◌++◌, length, map, set, sym, refl, ap, ◌∙◌, subst, ⊎_elim, arith, length-append}
-use Rattle.std.specs.Prelude.{slice_index, slice_set, if◌then◌else◌}
+use Rattle.std.proofs.Common.{◌≡◌, ℕ, zero, suc, ◌+◌, ◌-◌, ◌<◌, ◌≤◌, Bool, List, [], ◌∷◌, ◌++◌, length, map, set, sym, refl, ap, ◌∙◌, subst, ⊎_elim, arith, length-append}
+use Rattle.std.specs.Prelude.{slice_index, if◌then◌else◌}
 use Rattle.std.proofs.lemmas.Bool.{lt-ltb, le-ltb, cases_lt}
 use Rattle.std.proofs.lemmas.List.{append-nil}
-use mathlib.Core.Option.{some, some-ne-none, some-injective}
+use mathlib.Core.Option.{some, some-injective}
 use lib.ListN.{get_elem?}
 use Rattle.tp_board.specs.declared.event.Event.TheVariants.{Claim}
 use Rattle.tp_board.specs.declared.event.Reply.{Reply}
@@ -12,13 +12,10 @@ use Rattle.tp_board.specs.declared.event.Reply.TheVariants as reply
 use Rattle.tp_board.specs.declared.line.Item.{Item}
 use Rattle.tp_board.specs.declared.line.Item.TheVariants.{Number, End}
 use Rattle.tp_board.specs.declared.line.Turn.{Turn}
-use Rattle.tp_board.specs.declared.view.View.{View}
-use Rattle.tp_board.specs.Counting.{times}
 use Rattle.tp_board.specs.Desks.{KeepsDesk}
 use Rattle.tp_board.specs.Laws.{IsEvent}
-use Rattle.tp_board.specs.Lines.{line, item_of, MayPut, put, took, Streamed}
-use Rattle.tp_board.specs.Rule.{total}
-use Rattle.tp_board.specs.Stages.{Stand, stand_seen, StandsSo, KeepsStream, pops, after_pop, after_push, numbers_in, pop_reply, IsStreamEvent, PopLaw, PushLaw}
+use Rattle.tp_board.specs.Lines.{line, item_of, Streamed}
+use Rattle.tp_board.specs.Stages.{Stand, stand_seen, StandsSo, KeepsStream, pops, after_pop, after_push, IsStreamEvent, PopLaw, PushLaw}
 use Rattle.tp_board.specs.Steps.{MayStep, with_number, with_end, after_draw}
 use Rattle.tp_board.specs.Words.{size, one_more}
 use Rattle.tp_board.proofs.Counting.{times-append}
@@ -28,12 +25,12 @@ use Rattle.tp_board.proofs.Stages.{map_at, pops_are, sizes_told, stand_law}
 use Rattle.tp_board.proofs.Totals.{total_set, each_set}
 use Rattle.tp_board.proofs.Turns.{feeds, takes}
 
-map_set : {X Y : Type 0} (g : X → Y) (xs : List X) (id : ℕ) (x : X) → map g (set xs id x) ≡ set (map g xs) id (g x)
+pub map_set : {X Y : Type 0} (g : X → Y) (xs : List X) (id : ℕ) (x : X) → map g (set xs id x) ≡ set (map g xs) id (g x)
 map_set g [] id x = refl
 map_set g (y ∷ ys) zero x = refl
 map_set g (y ∷ ys) (suc id) x = ap (λ l. g y ∷ l) (map_set g ys id x)
 
-map_same : {X Y : Type 0} (g : X → Y) (xs : List X) (id : ℕ) (x y : X) → get_elem? xs id ≡ some x → g y ≡ g x → map g (set xs id y) ≡ map g xs
+pub map_same : {X Y : Type 0} (g : X → Y) (xs : List X) (id : ℕ) (x y : X) → get_elem? xs id ≡ some x → g y ≡ g x → map g (set xs id y) ≡ map g xs
 map_same g [] id x y at e = refl
 map_same g (z ∷ zs) zero x y at e = ap (λ w. w ∷ map g zs) (e ∙ ap g (sym (some-injective z x at)))
 map_same g (z ∷ zs) (suc id) x y at e = ap (λ l. g z ∷ l) (map_same g zs id x y at e)

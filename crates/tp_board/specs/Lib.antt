@@ -21,3 +21,4 @@ pub mod Lines
 pub mod Desks
 pub mod Streams
 pub mod Stages
+pub mod StreamRuns

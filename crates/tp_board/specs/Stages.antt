@@ -1,23 +1,24 @@
 -- A stream's queue and words together, and the board that they stand for.
-use Rattle.std.specs.Prelude.{◌≡◌, ℕ, ◌+◌, List, [], ◌∷◌, ◌++◌, length, map, slice_set}
+use Rattle.std.specs.Prelude.{◌≡◌, ℕ, ◌+◌, ◌<◌, List, [], ◌∷◌, ◌++◌, length, map, slice_index, slice_set}
 use mathlib.Core.Option.{some}
 use lib.ListN.{get_elem?}
 use Rattle.tp_board.specs.declared.event.Event.{Event}
-use Rattle.tp_board.specs.declared.event.Event.TheVariants.{Claim}
+use Rattle.tp_board.specs.declared.event.Event.TheVariants.{Claim, Finish, Abandon, Stop, Look}
 use Rattle.tp_board.specs.declared.event.Reply.{Reply}
 use Rattle.tp_board.specs.declared.event.Reply.TheVariants as reply
 use Rattle.tp_board.specs.declared.line.Item.{Item}
 use Rattle.tp_board.specs.declared.line.Item.TheVariants.{Number, End}
 use Rattle.tp_board.specs.declared.line.Turn.{Turn}
 use Rattle.tp_board.specs.declared.view.View.{View}
-use Rattle.tp_board.specs.Desks.{KeepsDesk}
+use Rattle.tp_board.specs.Desks.{KeepsDesk, holding}
+use Rattle.tp_board.specs.Freshness.{IsFresh}
 use Rattle.tp_board.specs.Laws.{IsEvent}
 use Rattle.tp_board.specs.Lines.{Streamed, MayPut, item_of, put, took}
 use Rattle.tp_board.specs.Openings.{InRange}
 use Rattle.tp_board.specs.Rule.{total, KeepsRule}
-use Rattle.tp_board.specs.Steps.{MayStep}
+use Rattle.tp_board.specs.Steps.{row_of, MayStep}
 use Rattle.tp_board.specs.Streams.{seen_of, Agrees}
-use Rattle.tp_board.specs.Words.{size}
+use Rattle.tp_board.specs.Words.{size, place_of, desk_place_of}
 
 -- what one member, or the feeder, knows of queue and words, with the numbers in hand
 pub record Stand : Type 0 where
@@ -96,3 +97,45 @@ PushLaw =
     KeepsStream packets members (items ++ item_of s.turn ∷ []) words stands'
     × (pops stands' ≡ pops stands)
     × (map stand_seen stands' ≡ map stand_seen stands)
+
+-- ---- steps at the words
+-- the event's word is one of the three that a stream keeps
+abbrev pub IsAtWords : Event → Type 0
+IsAtWords event = 0 < place_of (row_of event).word
+
+-- what its word is
+abbrev pub found_at : Event → List ℕ → ℕ
+found_at event words = slice_index words (desk_place_of (row_of event).word)
+
+-- the three words after it
+abbrev pub words_with : Event → List ℕ → List ℕ
+words_with event words = slice_set words (desk_place_of (row_of event).word) ((row_of event).change (found_at event words))
+
+-- what the seat at the words takes the step with: a report is of the number in hand, which the seat
+-- does not know
+abbrev pub place_for : Event → Stand → View
+place_for Finish s = holding s.place s.numbers
+place_for Abandon s = holding s.place s.numbers
+place_for Claim s = s.place
+place_for Stop s = s.place
+place_for (Look what) s = s.place
+
+-- the step's word was n
+abbrev pub after_event : Stand → Event → ℕ → Stand
+after_event s event n = record s {
+  place = (row_of event).view (place_for event s) n;
+  numbers = ((row_of event).view (stand_seen s) n).hand;
+}
+
+-- a step at the words by one who may make it finds its word fresh, and is this event of the board,
+-- with the reply that the board's row gives
+abbrev pub WordLaw : Event → Type 0
+WordLaw event =
+    (packets members : ℕ) (items : List Item) (words : List ℕ) (stands : List Stand) (id : ℕ) (s : Stand)
+    → KeepsStream packets members items words stands
+    → get_elem? stands id ≡ some s
+    → MayStep event (stand_seen s)
+    → let n = found_at event words in
+    let row = row_of event in
+    IsFresh (stand_seen s) row.word n
+    × IsStreamEvent packets members words stands items (words_with event words) (slice_set stands id (after_event s event n)) id event (row.reply (stand_seen s) n)

@@ -1,4 +1,4 @@
-use Rattle.std.proofs.Common.{◌≡◌, ◌-◌, length, ap, arith}
+use Rattle.std.proofs.Common.{◌-◌, length, ap, arith}
 use Rattle.crossbeam_queue.specs.Passes.{view}
 use Rattle.tp_board.specs.declared.line.Turn.{Turn}
 use Rattle.tp_board.proofs.Turns.{left, left_at, all_popped}
