@@ -33,17 +33,27 @@ not_both x y b other = let no : (x == y) ≡ false = grind (arith, nat_tests) in
 not_same : (x y : ℕ) → ((x == y) && true) ≡ false → x ≢ y
 not_same x y e same = let yes : (x == y) ≡ true = grind (arith, nat_tests) in absurd (let no : true ≡ false = sym (ap (λ c. c && true) yes) ∙ e in cc)
 
--- all but the marks, the states that are kept and the working states is as before
-pub record IsAfter (old new : Passes) : Type 0 where
-  pub carried : new.carried ≡ old.carried
+-- all but the marks, the states that are kept and the working states is as before; the state that is carried too, unless the
+-- edge was the last
+pub record IsAfter (image : ImageValue) (place : Placed) (done : ℕ) (old new : Passes) : Type 0 where
+  pub kept : done + 1 < length (asked place.instr) → new.carried ≡ old.carried
+  pub carried : IsPlaced image new.carried
   pub is_carried : new.is_carried ≡ old.is_carried
   pub ahead : new.ahead ≡ old.ahead
+
+-- a state that is kept, or given away for another
+pub still_placed : (image : ImageValue) (gives : Bool) (old other new : State) → (gives ≡ false → new ≡ old) → (gives ≡ true → new ≡ other) → IsPlaced image old → IsPlaced image other → IsPlaced image new
+still_placed image true old other new kept given fits also = rw (given refl) also
+still_placed image false old other new kept given fits also = rw (kept refl) fits
 
 module _ (image : ImageValue) (joins : ℕ → Bool) (old : Passes) (place : Placed) (edge : Edge) (done : ℕ) (amid : AreAmidst image joins old place done)
     (lt : done < length (asked place.instr)) (at_edge : slice_index_or (asked place.instr) done edge ≡ edge) (may : MayBeTaken image (length old.slots) place)
     (v : State) (goes : after image place.at place.next place.instr edge old.carried ≡ Ok v) (fits : IsPlaced image v) where
   abbrev whole : Table
   whole = amid.whole
+
+  stood : amid.whole place.at ≡ Some old.carried
+  stood = amid.amidst.here lt
 
   own_edge : (k : ℕ) (d : Edge) → k < length (asked place.instr) → IsAmong (edges_in amid.cuts) (place, slice_index_or (asked place.instr) k d)
   own_edge k d less = edge_there (placed_from 0 amid.cuts) amid.number place amid.stands k d less
@@ -66,25 +76,25 @@ module _ (image : ImageValue) (joins : ℕ → Bool) (old : Passes) (place : Pla
       still (placed_cut x cut) (slice_index_or (asked cut.instr) k d) (among amid.cuts x cut stands k d less) (amid.amidst.others x cut other stands k d less)
 
   -- it leads nowhere
-  pub nowhere : (new : Passes) → new.slots ≡ old.slots → new.changed.items ≡ old.changed.items → IsAfter old new → new.outcome ≡ v → target_of image (place, edge) ≡ None
+  pub nowhere : (new : Passes) → new.slots ≡ old.slots → new.changed.items ≡ old.changed.items → IsAfter image place done old new → new.outcome ≡ v → target_of image (place, edge) ≡ None
       → Carries {X = Bool} (Ok false) (over image joins ((place, edge) ∷ []) amid.whole) (IsAmidst image amid.cuts joins new place (done + 1))
   nowhere new slots changed rest outcome leads = (
     amid.whole,
-    over_nowhere image joins place edge amid.whole old.carried amid.amidst.here v goes leads,
+    over_nowhere image joins place edge amid.whole old.carried stood v goes leads,
     record {
       way = record {
         flags = ap length changed ∙ amid.amidst.way.flags ∙ ap length (sym slots);
-        carried = rw rest.carried amid.amidst.way.carried;
+        carried = rest.carried;
         ahead = rw rest.ahead amid.amidst.way.ahead;
         outcome = rw outcome fits;
         slots = λ at is. amid.amidst.way.slots at is ∙ ap (λ states. table_of states at) (sym slots);
         grown = amid.amidst.way.grown;
       };
-      here = rw rest.carried amid.amidst.here;
+      here = λ less. rw (rest.kept less) stood;
       next = λ sure. let before = amid.amidst.next (sym rest.is_carried ∙ sure) in (before.0, before.1 ∙ ap Some (sym rest.ahead));
       others = all_others (marks joins new place.next) amid.whole (λ q way is taken. λ mark. taken (keeps q.at mark).0);
       own = all_own (marks joins new place.next) amid.whole (λ way is taken. λ mark. taken (keeps place.at mark).0)
-          (settled_nowhere image amid.cuts joins amid.join place edge one amid.whole amid.amidst.way.grown old.carried v amid.amidst.here goes (marks joins old place.next) (marks joins new place.next) keeps leads);
+          (settled_nowhere image amid.cuts joins amid.join place edge one amid.whole amid.amidst.way.grown old.carried v stood goes (marks joins old place.next) (marks joins new place.next) keeps leads);
     },
   )
     where
@@ -93,13 +103,13 @@ module _ (image : ImageValue) (joins : ℕ → Bool) (old : Passes) (place : Pla
 
   module _ (to : ℕ) (leads : target_of image (place, edge) ≡ Some to) where
     stands_there : IsPlacedAt image to v
-    stands_there = arrives_at image place edge (length old.slots) to amid.whole old.carried v may amid.amidst.way.grown amid.amidst.here goes fits leads
+    stands_there = arrives_at image place edge (length old.slots) to amid.whole old.carried v may amid.amidst.way.grown stood goes fits leads
 
     inside : to < length old.changed.items
     inside = let le = may.targets edge to leads in let long = amid.amidst.way.flags in omega (arith, le, long)
 
     -- it leads to where edges join
-    module _ (is_joined : joins to ≡ true) (new : Passes) (rest : IsAfter old new) (outcome : new.outcome ≡ v) where
+    module _ (is_joined : joins to ≡ true) (new : Passes) (rest : IsAfter image place done old new) (outcome : new.outcome ≡ v) where
       module _ (moved : Bool) (comes : enter (Some to) v (table_of old.slots) ≡ Ok (table_of new.slots)) (flags : new.changed.items ≡ marked moved to old.changed.items) (moves : Moves image moved old.slots new.slots) where
         same_there : amid.whole to ≡ table_of old.slots to
         same_there = amid.amidst.way.slots to is_joined
@@ -139,17 +149,17 @@ module _ (image : ImageValue) (joins : ℕ → Bool) (old : Passes) (place : Pla
           amidst_joined = record {
             way = record {
               flags = ap length flags ∙ long moved ∙ amid.amidst.way.flags ∙ sym moves.sized;
-              carried = rw rest.carried amid.amidst.way.carried;
+              carried = rest.carried;
               ahead = rw rest.ahead amid.amidst.way.ahead;
               outcome = rw outcome fits;
               slots = made;
               grown = grows image amid.whole to v amid.amidst.way.grown stands_there table it;
             };
-            here = elsewhere amid.whole to v table place.at it (λ same. may.elsewhere edge to leads (sym same)) ∙ rw rest.carried amid.amidst.here;
+            here = λ less. elsewhere amid.whole to v table place.at it (λ same. may.elsewhere edge to leads (sym same)) ∙ rw (rest.kept less) stood;
             next = λ sure. let before = amid.amidst.next (sym rest.is_carried ∙ sure) in (before.0, elsewhere amid.whole to v table place.next it (λ same. absurd (let no : false ≡ true = sym before.0 ∙ ap joins same ∙ is_joined in cc)) ∙ before.1 ∙ ap Some (sym rest.ahead));
-            others = all_others (marks joins new place.next) table (λ q way is taken. taken_joined image amid.cuts joins amid.join place edge one amid.whole amid.amidst.way.grown old.carried v amid.amidst.here goes to leads stands_there is_joined table it (marks joins old place.next) (marks joins new place.next) keeps q.at q.next q.instr way taken);
-            own = all_own (marks joins new place.next) table (λ way is taken. taken_joined image amid.cuts joins amid.join place edge one amid.whole amid.amidst.way.grown old.carried v amid.amidst.here goes to leads stands_there is_joined table it (marks joins old place.next) (marks joins new place.next) keeps place.at place.next place.instr way taken)
-                (settled_joined image amid.cuts joins amid.join place edge one amid.whole amid.amidst.way.grown old.carried v amid.amidst.here goes to leads stands_there is_joined table it (marks joins old place.next) (marks joins new place.next) keeps);
+            others = all_others (marks joins new place.next) table (λ q way is taken. taken_joined image amid.cuts joins amid.join place edge one amid.whole amid.amidst.way.grown old.carried v stood goes to leads stands_there is_joined table it (marks joins old place.next) (marks joins new place.next) keeps q.at q.next q.instr way taken);
+            own = all_own (marks joins new place.next) table (λ way is taken. taken_joined image amid.cuts joins amid.join place edge one amid.whole amid.amidst.way.grown old.carried v stood goes to leads stands_there is_joined table it (marks joins old place.next) (marks joins new place.next) keeps place.at place.next place.instr way taken)
+                (settled_joined image amid.cuts joins amid.join place edge one amid.whole amid.amidst.way.grown old.carried v stood goes to leads stands_there is_joined table it (marks joins old place.next) (marks joins new place.next) keeps);
           }
             where
               long : (b : Bool) → length (marked b to old.changed.items) ≡ length old.changed.items
@@ -159,7 +169,7 @@ module _ (image : ImageValue) (joins : ℕ → Bool) (old : Passes) (place : Pla
         at_join : Carries {X = Bool} (Ok moved) (over image joins ((place, edge) ∷ []) amid.whole) (IsAmidst image amid.cuts joins new place (done + 1))
         at_join =
             let alike = enters_alike to v amid.whole (table_of old.slots) (table_of new.slots) same_there comes in
-            let gives = over_joined image joins place edge amid.whole old.carried amid.amidst.here v goes to leads is_joined ∙ alike.enters in
+            let gives = over_joined image joins place edge amid.whole old.carried stood v goes to leads is_joined ∙ alike.enters in
             let e = entered amid.whole to v (with_state to alike.state amid.whole) alike.enters in
             (with_state to alike.state amid.whole, gives, amidst_joined (with_state to alike.state amid.whole) e (λ x is. at_place alike.state alike.is x is (cases_eq x to)))
           where
@@ -171,11 +181,11 @@ module _ (image : ImageValue) (joins : ℕ → Bool) (old : Passes) (place : Pla
           → Carries r (over image joins ((place, edge) ∷ []) amid.whole) (IsAmidst image amid.cuts joins new place (done + 1))
       to_join (Ok moved) gives flags moves = at_join moved gives flags moves
       to_join (Err (Refused code at)) gives flags moves =
-          over_joined image joins place edge amid.whole old.carried amid.amidst.here v goes to leads is_joined ∙ refuses_alike to v amid.whole (table_of old.slots) (Refused code at) (amid.amidst.way.slots to is_joined) gives
+          over_joined image joins place edge amid.whole old.carried stood v goes to leads is_joined ∙ refuses_alike to v amid.whole (table_of old.slots) (Refused code at) (amid.amidst.way.slots to is_joined) gives
       to_join (Err Memory) gives flags moves = tt
 
     -- it alone leads there: control falls to the next instruction
-    module _ (is_alone : joins to ≡ false) (new : Passes) (slots : new.slots ≡ old.slots) (changed : new.changed.items ≡ old.changed.items) (carried : new.carried ≡ old.carried) (is_carried : new.is_carried ≡ true) (ahead : new.ahead ≡ v) (outcome : IsPlaced image new.outcome) where
+    module _ (is_alone : joins to ≡ false) (new : Passes) (slots : new.slots ≡ old.slots) (changed : new.changed.items ≡ old.changed.items) (kept : done + 1 < length (asked place.instr) → new.carried ≡ old.carried) (carried : IsPlaced image new.carried) (is_carried : new.is_carried ≡ true) (ahead : new.ahead ≡ v) (outcome : IsPlaced image new.outcome) where
       falls : to ≡ place.next
       falls = amid.join.falls (place, edge) to one is_alone leads
 
@@ -199,21 +209,21 @@ module _ (image : ImageValue) (joins : ℕ → Bool) (old : Passes) (place : Pla
       pub to_next : Carries {X = Bool} (Ok false) (over image joins ((place, edge) ∷ []) amid.whole) (IsAmidst image amid.cuts joins new place (done + 1))
       to_next = (
         with_state to v amid.whole,
-        over_alone image joins place edge amid.whole old.carried amid.amidst.here v goes to leads is_alone,
+        over_alone image joins place edge amid.whole old.carried stood v goes to leads is_alone,
         record {
           way = record {
             flags = ap length changed ∙ amid.amidst.way.flags ∙ ap length (sym slots);
-            carried = rw carried amid.amidst.way.carried;
+            carried = carried;
             ahead = rw ahead fits;
             outcome = outcome;
             slots = λ at is. with_elsewhere to v amid.whole at (differ_too joins at to is is_alone) ∙ amid.amidst.way.slots at is ∙ ap (λ states. table_of states at) (sym slots);
-            grown = grows_alone image amid.cuts joins amid.join place edge one amid.whole amid.amidst.way.grown old.carried v amid.amidst.here goes to leads stands_there is_alone (marks joins old place.next) (marks joins new place.next) keeps_alone;
+            grown = grows_alone image amid.cuts joins amid.join place edge one amid.whole amid.amidst.way.grown old.carried v stood goes to leads stands_there is_alone (marks joins old place.next) (marks joins new place.next) keeps_alone;
           };
-          here = with_elsewhere to v amid.whole place.at (λ same. may.elsewhere edge to leads (sym same)) ∙ rw carried amid.amidst.here;
+          here = λ less. with_elsewhere to v amid.whole place.at (λ same. may.elsewhere edge to leads (sym same)) ∙ rw (kept less) stood;
           next = λ sure. (ap joins (sym falls) ∙ is_alone, ap (with_state to v amid.whole) (sym falls) ∙ with_there to v amid.whole ∙ ap Some (sym ahead));
-          others = all_others (marks joins new place.next) (with_state to v amid.whole) (λ q way is taken. taken_alone image amid.cuts joins amid.join place edge one amid.whole amid.amidst.way.grown old.carried v amid.amidst.here goes to leads stands_there is_alone (marks joins old place.next) (marks joins new place.next) keeps_alone q way is taken);
-          own = all_own (marks joins new place.next) (with_state to v amid.whole) (λ way is taken. taken_alone image amid.cuts joins amid.join place edge one amid.whole amid.amidst.way.grown old.carried v amid.amidst.here goes to leads stands_there is_alone (marks joins old place.next) (marks joins new place.next) keeps_alone place way is taken)
-              (settled_alone image amid.cuts joins amid.join place edge one amid.whole amid.amidst.way.grown old.carried v amid.amidst.here goes to leads stands_there is_alone (marks joins old place.next) (marks joins new place.next) keeps_alone);
+          others = all_others (marks joins new place.next) (with_state to v amid.whole) (λ q way is taken. taken_alone image amid.cuts joins amid.join place edge one amid.whole amid.amidst.way.grown old.carried v stood goes to leads stands_there is_alone (marks joins old place.next) (marks joins new place.next) keeps_alone q way is taken);
+          own = all_own (marks joins new place.next) (with_state to v amid.whole) (λ way is taken. taken_alone image amid.cuts joins amid.join place edge one amid.whole amid.amidst.way.grown old.carried v stood goes to leads stands_there is_alone (marks joins old place.next) (marks joins new place.next) keeps_alone place way is taken)
+              (settled_alone image amid.cuts joins amid.join place edge one amid.whole amid.amidst.way.grown old.carried v stood goes to leads stands_there is_alone (marks joins old place.next) (marks joins new place.next) keeps_alone);
         },
       )
 

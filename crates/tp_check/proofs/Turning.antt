@@ -171,7 +171,7 @@ module _ (image : ImageValue) (cuts : List Cut) (joins : ℕ → Bool) (mid : Pa
       slots = λ x is. now.way.slots x is ∙ ap (λ states. table_of states x) (sym slots);
       grown = now.way.grown;
     };
-    here = now.here on ∙ ap Some (sym carried);
+    here = λ _. now.here on ∙ ap Some (sym carried);
     next = λ sure. absurd (let no : false ≡ true = sym rests ∙ sure in cc);
     others = λ x cut other there k d lt m. now.others x cut other there k d lt (quiet x (joins x) refl m);
     own = λ k d lt. absurd (omega (arith, lt));

@@ -1,6 +1,7 @@
 -- The edges of an instruction, one after another.
-use Rattle.std.proofs.Common.{◌≡◌, ℕ, ◌+◌, ◌<◌, ◌≤◌, Bool, List, [], ◌∷◌, length, drop, slice_index_or, Result, Ok, Err, sym, ap, ◌∙◌, subst, rules, arith}
+use Rattle.std.proofs.Common.{◌≡◌, ℕ, ◌+◌, ◌<◌, ◌≤◌, ◌==◌, Bool, false, List, [], ◌∷◌, length, drop, slice_index_or, Result, Ok, Err, sym, ap, ◌∙◌, subst, rules, arith}
 use Rattle.std.specs.Prelude.{IsErrAnd}
+use Rattle.std.proofs.lemmas.Bool.Decides.{nat_tests}
 use Rattle.std.proofs.lemmas.List.{drop_all}
 use Rattle.tp_decode.specs.declared.placed.Placed.{Placed}
 use Rattle.tp_decode.specs.Cutting.{Cut}
@@ -23,6 +24,9 @@ amid_of image joins first now place begun done way whole amidst = record { cuts 
 pub at_way : (ways asks : List Edge) → ways ≡ asks → (i : ℕ) (d : Edge) → i < length ways → slice_index_or asks i (slice_index_or ways i d) ≡ slice_index_or ways i d
 at_way ways asks same i d lt = ap (λ xs. slice_index_or xs i (slice_index_or ways i d)) (sym same) ∙ get_in ways i (slice_index_or ways i d) d lt
 
+pub not_last : (i n m : ℕ) → n ≡ m → i + 1 < m → (i + 1 == n) ≡ false
+not_last i n m same lt = grind (arith, nat_tests)
+
 -- a fault that is handed on
 pub carried_on : {X : Type 0} (r : Result X StateFault) (e : StateFault) (wanted : Result Table StateFault) (P Q : Table → Type 0) → IsErrAnd r (λ x. x ≡ e) → Carries {X = Bool} (Err e) wanted P → Carries r wanted Q
 carried_on (Ok x) e wanted P Q is carries = absurd (search rules)
@@ -34,7 +38,7 @@ pub then_more : (e : StateFault) (wanted first : Result Table StateFault) (more 
 then_more (Refused code place) wanted first more P Q is refuses = is ∙ ap (λ r. r >>= more) refuses
 then_more Memory wanted first more P Q is refuses = tt
 
-module _ (image : ImageValue) (joins : ℕ → Bool) (first now : Passes) (place : Placed) (ways : List Edge) (same : ways ≡ asked place.instr) (i : ℕ) (d : Edge) (lt : i < length ways) (way : AreAmidst image joins first place 0)
+module _ (image : ImageValue) (joins : ℕ → Bool) (first now : Passes) (place : Placed) (ways : List Edge) (same : ways ≡ asked place.instr) (i : ℕ) (d : Edge) (is_last : Bool) (lt : i < length ways) (last : i + 1 < length (asked place.instr) → is_last ≡ false) (way : AreAmidst image joins first place 0)
     (on : (whole : Table) × (over image joins (edges_of place) way.whole ≡ over image joins (from place (drop i (asked place.instr))) whole) × IsAmidst image way.cuts joins now place i whole) where
   edge : Edge
   edge = slice_index_or ways i d
@@ -44,14 +48,14 @@ module _ (image : ImageValue) (joins : ℕ → Bool) (first now : Passes) (place
 
   abbrev Edges : Passes → Result Bool StateFault → Type 0
   Edges new r =
-      (done : ℕ) (amid : AreAmidst image joins now place done) → done < length (asked place.instr) → slice_index_or (asked place.instr) done (slice_index_or ways i d) ≡ slice_index_or ways i d
+      (done : ℕ) (amid : AreAmidst image joins now place done) → done < length (asked place.instr) → slice_index_or (asked place.instr) done (slice_index_or ways i d) ≡ slice_index_or ways i d → (done + 1 < length (asked place.instr) → is_last ≡ false)
       → Carries r (over image joins ((place, slice_index_or ways i d) ∷ []) amid.whole) (IsAmidst image amid.cuts joins new place (done + 1))
 
   next : over image joins (edges_of place) way.whole ≡ (over image joins ((place, slice_index_or ways i d) ∷ []) on.0 >>= over image joins (from place (drop (i + 1) (asked place.instr))))
   next = on.1 ∙ over_way image joins place (asked place.instr) i (slice_index_or ways i d) less on.0 ∙ ap (λ e. over image joins ((place, e) ∷ []) on.0 >>= over image joins (from place (drop (i + 1) (asked place.instr)))) (at_way ways (asked place.instr) same i d lt)
 
   at_edge : (new : Passes) (r : Result Bool StateFault) → Edges new r → Carries r (over image joins ((place, slice_index_or ways i d) ∷ []) on.0) (IsAmidst image way.cuts joins new place (i + 1))
-  at_edge new r gives = gives i (amid_of image joins first now place 0 i way on.0 on.2) less (at_way ways (asked place.instr) same i d lt)
+  at_edge new r gives = gives i (amid_of image joins first now place 0 i way on.0 on.2) less (at_way ways (asked place.instr) same i d lt) last
 
   pub go_on : (new : Passes) (moved : Bool) → Edges new (Ok moved)
       → (whole : Table) × (over image joins (edges_of place) way.whole ≡ over image joins (from place (drop (i + 1) (asked place.instr))) whole) × IsAmidst image way.cuts joins new place (i + 1) whole

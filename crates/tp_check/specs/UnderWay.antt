@@ -114,7 +114,8 @@ pub record IsReady (image : ImageValue) (cuts : List Cut) (joins : ℕ → Bool)
 -- between two edges of an instruction, so many of which have been taken
 pub record IsAmidst (image : ImageValue) (cuts : List Cut) (joins : ℕ → Bool) (p : Passes) (place : Placed) (done : ℕ) (whole : Table) : Type 0 where
   pub way : IsUnderWay image joins p whole
-  pub here : whole place.at ≡ Some p.carried
+  -- the last edge takes the state that is carried away
+  pub here : done < length (asked place.instr) → whole place.at ≡ Some p.carried
   pub next : p.is_carried ≡ true → (joins place.next ≡ false) × (whole place.next ≡ Some p.ahead)
   pub others : (x : ℕ) (cut : Cut) → x ≢ place.at → cut_at cuts x ≡ Some cut → TakenAt image joins (marks joins p place.next) whole x cut
   pub own : (k : ℕ) (d : Edge) → k < done → IsTaken image joins (marks joins p place.next) whole place.at place.next place.instr (slice_index_or (asked place.instr) k d)

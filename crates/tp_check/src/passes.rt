@@ -236,15 +236,16 @@ impl Passes {
     {
         let edges = asked(place.instr);
         let mut moved = false;
-        for edge in edges {
-            if self.take_edge(alloc, image, nest, ways, place, *edge)? {
+        for i in 0..edges.len() {
+            let is_last = i + 1 == edges.len();
+            if self.take_edge(alloc, image, nest, ways, place, edges[i], is_last)? {
                 moved = true;
             }
         }
         Ok(moved)
     }
 
-    /// An edge is taken: what is known after it comes to its target.
+    /// An edge is taken: what is known after it comes to its target. The last one takes the state that is carried away.
     fn take_edge(
         &mut self,
         alloc: Global,
@@ -253,17 +254,18 @@ impl Passes {
         ways: &Ways,
         place: Placed,
         edge: Edge,
+        is_last: bool,
     ) -> Result<bool, StateFault>
         requires nest { nest.now ≡ ranges image.now.loops }
         requires place { MayBeTaken image.now (length self.old.slots) place }
         requires way { (done : ℕ) × AreAmidst image.now (joins_at ways.now) self.old place done }
         ensures gives { (done : ℕ) (way : AreAmidst image.now (joins_at ways.now) self.old place done) → done < length (asked place.instr) →
-            slice_index_or (asked place.instr) done edge ≡ edge →
+            slice_index_or (asked place.instr) done edge ≡ edge → (done + 1 < length (asked place.instr) → is_last ≡ false) →
             Carries result (over image.now (joins_at ways.now) ((place, edge) ∷ []) way.whole)
             (IsAmidst image.now way.cuts (joins_at ways.now) self.new place (done + 1)) }
         ensures moves { IfOk result (λ moved. Moves image.now moved self.old.slots self.new.slots) }
     {
-        self.outcome.set_to(&self.carried);
+        hand_out(&mut self.carried, &mut self.outcome, is_last);
         self.outcomes = self.outcomes.saturating_add(1);
         let Placed { at, instr, next } = place;
         if let Err(code) = self.outcome.go_on(at, next, instr, edge, image, nest) {
@@ -296,6 +298,20 @@ impl Passes {
             self.changed[to] = true;
         }
         Ok(moved)
+    }
+}
+
+/// A state is copied; or it is given away, and another stands in its place.
+fn hand_out(carried: &mut State, outcome: &mut State, is_last: bool)
+    requires { length carried.old.cells ≡ length outcome.old.cells }
+    ensures outcome { outcome.new ≡ carried.old }
+    ensures kept { is_last ≡ false → carried.new ≡ carried.old }
+    ensures given { is_last ≡ true → carried.new ≡ outcome.old }
+{
+    if is_last {
+        mem::swap(carried, outcome);
+    } else {
+        outcome.set_to(carried);
     }
 }
 

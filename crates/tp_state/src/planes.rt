@@ -161,6 +161,13 @@ impl Bits {
         }
     }
 
+    /// The words that are neither known nor live control words here or there: their values mean nothing.
+    fn closed(self, other: Bits) -> u64
+        ensures { result ≡ bit_or self.first other.first }
+    {
+        self.first | other.first
+    }
+
     /// The words of which it does not say as much as the other or more, where it is told which values differ.
     fn failing(self, other: Bits, differ: u64) -> u64
         ensures { result ≡ failing_bits differ self other }
@@ -324,7 +331,7 @@ pub(crate) fn join_planes(
 {
     let mut changed = false;
     for w in 0..planes.len() {
-        let differ = differing(values, other_values, w);
+        let differ = differing(values, other_values, w, planes[w].closed(others[w]));
         if join_bits(&mut planes[w], others[w], differ) {
             changed = true;
         }
@@ -346,7 +353,7 @@ pub(crate) fn planes_below(
     ensures no { result ≡ false → (i : ℕ) × (i < 64 * length planes.now) × (cell_below (cell_in values.now planes.now i) (cell_in other_values.now others.now i) ≡ false) }
 {
     for w in 0..planes.len() {
-        let differ = differing(values, other_values, w);
+        let differ = differing(values, other_values, w, planes[w].closed(others[w]));
         if planes[w].failing(others[w], differ) != 0 {
             return false;
         }

@@ -1,17 +1,20 @@
 //! The values that are kept of words, one beside another.
 
-ghost use Rattle.std.specs.Prelude.{◌≡◌, ℕ, ◌+◌, ◌*◌, ◌<◌, ◌≤◌, ◌==◌, not, length, slice_index_or};
+ghost use Rattle.std.specs.Prelude.{◌≡◌, ℕ, ◌+◌, ◌*◌, ◌<◌, ◌≤◌, ◌==◌, false, not, length, slice_index_or};
 ghost use Rattle.tp_state.specs.Planes.{is_set};
 
 use crate::planes::{WORDS, one};
 use std::simd::prelude::*;
 
-/// Which values differ, of those that word w of a plane tells of.
-pub(crate) fn differing(values: &[u32], others: &[u32], w: usize) -> u64
+/// Which values differ, of those that word w of a plane tells of; of those whose bits are set in a mask nothing is told.
+pub(crate) fn differing(values: &[u32], others: &[u32], w: usize, closed: u64) -> u64
     requires same { length others.now ≡ length values.now }
     requires some { 64 * w < length values.now }
-    ensures { (j : ℕ) → j < 64 → 64 * w + j < length values.now → is_set result j ≡ not (slice_index_or values.now (64 * w + j) 0 == slice_index_or others.now (64 * w + j) 0) }
+    ensures { (j : ℕ) → j < 64 → 64 * w + j < length values.now → is_set closed j ≡ false → is_set result j ≡ not (slice_index_or values.now (64 * w + j) 0 == slice_index_or others.now (64 * w + j) 0) }
 {
+    if closed == u64::MAX {
+        return 0;
+    }
     let values = &values[WORDS * w..];
     let others = &others[WORDS * w..];
     if values.len() < WORDS {

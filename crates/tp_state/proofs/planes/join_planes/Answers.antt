@@ -8,7 +8,7 @@ loop-w-preserved c =
     let room : c.loop-w.w < length c.loop-w.planes = omega arith in
     elim c.if-join_bits.branch [
       | then-join_bits w ↦
-          rw w.changed-is (joins_moved c.args.values.now c.args.other_values.now c.args.planes.now c.args.others.now c.loop-w.planes c.loop-w.w c.differing-differ.result c.join_bits.new.bits c.loop-w.changed c.requires.whole.padded (λ i. (c.type_inv.values i).fits) (λ i. (c.type_inv.other_values i).fits) c.differing-differ.ensures room c.loop-w.invariant c.join_bits.ensures.value (c.join_bits.ensures.moves w.if-join_bits.true))
+          rw w.changed-is (joins_moved c.args.values.now c.args.other_values.now c.args.planes.now c.args.others.now c.loop-w.planes c.loop-w.w c.closed.result c.differing-differ.result c.join_bits.new.bits c.loop-w.changed c.requires.whole.padded (λ i. (c.type_inv.values i).fits) (λ i. (c.type_inv.other_values i).fits) c.differing-differ.ensures c.closed.ensures room c.loop-w.invariant c.join_bits.ensures.value (c.join_bits.ensures.moves w.if-join_bits.true))
       | else-join_bits w ↦
-          rw w.changed-is (joins_kept c.args.values.now c.args.other_values.now c.args.planes.now c.args.others.now c.loop-w.planes c.loop-w.w c.differing-differ.result c.join_bits.new.bits c.loop-w.changed c.requires.whole.padded (λ i. (c.type_inv.values i).fits) (λ i. (c.type_inv.other_values i).fits) c.differing-differ.ensures room c.loop-w.invariant c.join_bits.ensures.value (c.join_bits.ensures.stays w.if-join_bits.false))
+          rw w.changed-is (joins_kept c.args.values.now c.args.other_values.now c.args.planes.now c.args.others.now c.loop-w.planes c.loop-w.w c.closed.result c.differing-differ.result c.join_bits.new.bits c.loop-w.changed c.requires.whole.padded (λ i. (c.type_inv.values i).fits) (λ i. (c.type_inv.other_values i).fits) c.differing-differ.ensures c.closed.ensures room c.loop-w.invariant c.join_bits.ensures.value (c.join_bits.ensures.stays w.if-join_bits.false))
     ]

@@ -6,11 +6,11 @@ use Rattle.tp_check.specs.Joining.{joins_at}
 use Rattle.tp_check.specs.UnderWay.{AreAmidst, IsAmidst, Moves}
 use Rattle.tp_check.proofs.passes.Passes.take_edges.Given as goal
 
-abbrev pub invariant-loop-edge : goal.invariant-loop-edge
-invariant-loop-edge l = record {
+abbrev pub invariant-loop-i : goal.invariant-loop-i
+invariant-loop-i l = record {
   edges : l.edges ≡ asked l.place.instr;
-  inside : l.edge-index ≤ length l.edges;
+  inside : l.i ≤ length l.edges;
   gives : (way : AreAmidst l.image (joins_at l.ways) l.initial.self l.place 0)
-      → (whole : Table) × (over l.image (joins_at l.ways) (edges_of l.place) way.whole ≡ over l.image (joins_at l.ways) (from l.place (drop l.edge-index (asked l.place.instr))) whole) × IsAmidst l.image way.cuts (joins_at l.ways) l.self l.place l.edge-index whole;
+      → (whole : Table) × (over l.image (joins_at l.ways) (edges_of l.place) way.whole ≡ over l.image (joins_at l.ways) (from l.place (drop l.i (asked l.place.instr))) whole) × IsAmidst l.image way.cuts (joins_at l.ways) l.self l.place l.i whole;
   moves : Moves l.image l.moved l.initial.self.slots l.self.slots;
 }
