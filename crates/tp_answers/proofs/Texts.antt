@@ -9,8 +9,7 @@ use Rattle.tp_decode.specs.Lines.{lines_from}
 use Rattle.hex.specs.Hex.{encode_lower}
 use Rattle.std.specs.Fmt.{decimal}
 use Rattle.std.specs.Int.{from_bool, w8}
-use Rattle.tp_step.specs.Runs.{Run}
-use Rattle.tp_answers.specs.Told.{written, kept_line, flag, result_line, trace_text, trace_line, done_line}
+use Rattle.tp_answers.specs.Told.{written, kept_line, flag, trace_text, done_line}
 
 -- a text that is said to have bytes has bytes that equal them
 pub told : {S E : Type 0} (bytes : S → List ℕ) (r : Result S E) (x y : List ℕ) → IfOk r (λ s. bytes s ≡ x) → x ≡ y → IfOk r (λ s. bytes s ≡ y)

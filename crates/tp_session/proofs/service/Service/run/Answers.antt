@@ -1,6 +1,5 @@
-use Rattle.std.proofs.Common.{sym, ◌∙◌, ◌++◌, [], ap}
+use Rattle.std.proofs.Common.{sym, ◌∙◌, ap}
 use Rattle.tp_answers.specs.Sessions.{without_packets}
-use Rattle.tp_answers.specs.Answers.{AnswersRun}
 use Rattle.tp_answers.specs.Open.{sessions_of}
 use Rattle.tp_answers.proofs.SessionLemmas.{placed, absent}
 use Rattle.tp_session.specs.Standing.{standing_of}

@@ -1,4 +1,4 @@
-use Rattle.std.proofs.Common.{◌≡◌, ◌+◌, ◌<◌, ◌++◌, Some, length, take, ◌∷◌, [], slice_get, slice_set, string_bytes, sym, ap, subst, ◌∙◌, add-one, arith, append_assoc}
+use Rattle.std.proofs.Common.{◌≡◌, ◌+◌, ◌<◌, ◌++◌, Some, length, take, ◌∷◌, [], slice_get, slice_set, sym, ap, subst, ◌∙◌, add-one, arith, append_assoc}
 use Rattle.tp_answers.specs.Sessions.{without_packets}
 use Rattle.tp_answers.specs.Told.{of_line}
 use Rattle.tp_answers.specs.Answers.{batches_more, IsRun, AreRuns}

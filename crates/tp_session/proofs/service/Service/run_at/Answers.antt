@@ -1,4 +1,3 @@
-use Rattle.std.proofs.Common.{subst}
 use Rattle.tp_session.proofs.ServiceLemmas.{run_of_named}
 use Rattle.tp_session.proofs.service.Service.run_at.Goals as goal
 
