@@ -16,7 +16,8 @@ use std::alloc::{AllocError, Global};
 use std::snapshot::Snapshot;
 use std::sync::Wait;
 use std::thread;
-use std::thread::{Promise, PromisedHandle, Scope, Threads, join_promised};
+use std::thread::{Parker, Promise, PromisedHandle, Scope, Threads, join_promised};
+use std::time::Duration;
 use tp_board::{Fed, Feeder, StreamHand, StreamQueue, WorkSource};
 use tp_link::{LinkDevice, Links};
 
@@ -124,6 +125,25 @@ where
     })
 }
 
+/// So many tries may find the queue full before the feeder rests at each.
+const TRIES_BEFORE_REST: u32 = 256;
+
+/// So many of these tries a packet that was pushed earns again: where runs are short the feeder does not come to a rest.
+const TRIES_EARNED: u32 = 16;
+
+/// The longest rest, in microseconds. It is less than four members take for a full queue of long runs.
+const REST: u64 = 200;
+
+/// Leaves the processor to the members after a try that found the queue full: at first by a yield, which costs little where
+/// runs are short, then by a rest.
+fn give_way<R: Wait>(rt: &R, parker: &Parker, tries: u32) {
+    if tries < TRIES_BEFORE_REST {
+        thread::yield_now();
+    } else {
+        parker.park_timeout(rt, Duration::from_micros(REST));
+    }
+}
+
 /// Feeds a stream until all is pushed, or a member has stopped it.
 fn feed_all<R: Wait>(rt: &R, stream: &StreamQueue<'_>, feeder: &mut Feeder)
     requires own { IsFeederOf stream.now feeder.old }
@@ -132,10 +152,15 @@ fn feed_all<R: Wait>(rt: &R, stream: &StreamQueue<'_>, feeder: &mut Feeder)
     ensures fed { HasOnlyFed feeder.new }
     ensures ends { HasEnded feeder.new }
 {
+    let parker = Parker::new();
+    let mut tries = 0u32;
     for _ in rt.forever() {
         match stream.feed(rt, feeder) {
-            Fed::Pushed => {}
-            Fed::Full => thread::yield_now(),
+            Fed::Pushed => tries = tries.saturating_sub(TRIES_EARNED),
+            Fed::Full => {
+                give_way(rt, &parker, tries);
+                tries = TRIES_BEFORE_REST.min(tries.saturating_add(1));
+            }
             Fed::Stopped | Fed::Over => return,
         }
     }
