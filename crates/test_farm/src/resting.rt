@@ -36,7 +36,7 @@ fn the_feeder_rests_at_a_full_queue(rt: HostRuntime) -> Result<(), Fail> {
         links,
         &OpenGate,
     )?;
-    let rests = rests_so_far(&rt)? - before;
+    let rests = rests_so_far(&rt)?.saturating_sub(before);
     assert_eq!(rt; collected.entries.len(), 1024);
     assert!(rt; rests >= 10, "{rests} rests");
     Ok(())
