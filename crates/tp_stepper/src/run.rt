@@ -137,6 +137,16 @@ impl Progress {
     }
 }
 
+/// How a run is left by what became of an instruction, if it is.
+fn left(turn: Option<Turn>, stood: Stood<'_>) -> Option<End> {
+    match turn {
+        None => Some(End::Stopped),
+        Some(Turn::Made) => None,
+        Some(Turn::Refused(fault)) => Some(End::Refused(fault)),
+        Some(Turn::Stuck) => Some(End::Stuck(stood.registers.iptr, why(stood))),
+    }
+}
+
 /// Makes one instruction, and tells it where the span has it. How the run is left comes back, if it is.
 fn tell_one<D: LinkDevice, W: Write>(
     alloc: Global,
@@ -150,19 +160,15 @@ fn tell_one<D: LinkDevice, W: Write>(
     let at = registers.iptr;
     let phase = stepper.phase();
     let before = Workspace::of(alloc, stepper)?;
-    match stepper.next(links) {
-        None => return Ok(Some(End::Stopped)),
-        Some(Turn::Made) => {}
-        Some(Turn::Refused(fault)) => return Ok(Some(End::Refused(fault))),
-        Some(Turn::Stuck) => {
-            let reason = why(Stood {
-                image: stepper.image(),
-                registers,
-                phase,
-                workspace: &before,
-            });
-            return Ok(Some(End::Stuck(at, reason)));
-        }
+    let turn = stepper.next(links);
+    let stood = Stood {
+        image: stepper.image(),
+        registers,
+        phase,
+        workspace: &before,
+    };
+    if let Some(end) = left(turn, stood) {
+        return Ok(Some(end));
     }
     let code = stepper.image().code.as_slice();
     let bytes = (prefixes_at(code, at) as u64).saturating_add(1);
