@@ -5,7 +5,8 @@
 //! answers [`RunFault::Stuck`]. Nothing of the product stands on it: accepted images run on `tp_machine`.
 //!
 //! [`Machine::resume`] goes on from where a debugger or a test has set the machine: its [`Registers`], and the bytes of the
-//! workspace by [`Machine::put`] and [`Machine::undefine`], which [`Machine::cell`] reads.
+//! workspace by [`Machine::put`] and [`Machine::undefine`], which [`Machine::cell`] reads. [`Machine::start`] sets it to the
+//! beginning of a packet's run, and [`Machine::step`] makes one step, which its [`Turn`] tells.
 #![tactic(auto)]
 
 mod arithmetic;
@@ -31,3 +32,4 @@ pub use fault::RunFault;
 pub use machine::{Machine, WORKSPACE_BYTES};
 pub use phase::Phase;
 pub use registers::Registers;
+pub use turn::Turn;

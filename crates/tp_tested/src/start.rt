@@ -64,9 +64,9 @@ impl Machine {
         }
     }
 
-    /// The start of a packet's run, whatever ran before.
+    /// The start of a packet's run, whatever ran before: with it goes [`Phase::BeforePacket`](crate::Phase::BeforePacket).
     #[tactic(auto, unfolding(tp_step::specs::Runs::start))]
-    pub(crate) fn start(&mut self, image: &Image)
+    pub fn start(&mut self, image: &Image)
         ensures { (packet : List ℕ) → state_of self.new record { phase = BeforePacket; to_come = packet; sent = []; traced = [] } ≡ start image.now packet }
     {
         self.fill_workspace(image);

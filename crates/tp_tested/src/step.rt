@@ -131,9 +131,13 @@ impl Machine {
         self.oreg = 0;
     }
 
-    /// One instruction byte, while the worker has not stopped.
+    /// One instruction byte, while the worker has not stopped: a step of the step relation. A prefix is one, and leaves Oreg
+    /// for the byte after it.
+    ///
+    /// Where it is made, the machine and the phase stand for the state after it, and the devices have the bytes that it
+    /// moved. Where none exists, the machine is left between two states, and the devices as they were.
     #[tactic(auto, unfolding(tp_step::specs::Steps::step))]
-    pub(crate) fn step<D: LinkDevice>(
+    pub fn step<D: LinkDevice>(
         &mut self,
         image: &Image,
         links: &mut Links<D>,

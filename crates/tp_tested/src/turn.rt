@@ -2,7 +2,7 @@ use tp_link::LinkFault;
 
 /// What became of an instruction byte.
 #[derive(Clone, Copy, Debug, PartialEq, Eq)]
-pub(crate) enum Turn {
+pub enum Turn {
     /// The step was made.
     Made,
     /// There is no step.

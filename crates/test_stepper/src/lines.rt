@@ -1,0 +1,117 @@
+//! Lines and ends of three workers: a checksum, a sort, and Fibonacci numbers with a trace.
+
+use crate::told::{WHOLE, told};
+use std::test::Fail;
+use tp_stepper::{End, Place, Span};
+
+/// CRC-32 of sixteen words: a loop of 32 turns in one of 16.
+const CRC: &[u8] =
+    b"545057315d001b00050010000100020024004700180020000000000012004d0016001000000000001024f2542440f7604f21d04021d1214021d2217110fa30217023f321d04021d3224021d421704124f621d521704124f021d02175ae217021222427272c6d4023f321d02113224522f12111234d22f1217023f221d0211024f244fb21f5";
+
+/// Fibonacci numbers: as many are traced as the packet says, of 47 at most, and the next is the result.
+const FIBONACCI: &[u8] =
+    b"545057312c000a0005000100010001000f00230008002f00000000001024f25444f740d141d240d3224fd47073f9ad1124f25144fb717225f272d1d213214622f11124f244fb21f5";
+
+/// Eight words are sorted, as signed numbers.
+const SORT: &[u8] =
+    b"545057313900130005000800080002000f002a000f000700000000000b002f000d000700000000001024f2542240f740d847d940da47db7a10fa30dc7a10fa31dd7c7df9aa7d7a10fae07c7a10fae11a214d22f118224622f11024f22240fb21f5";
+
+/// The first five instructions of the checksum: local 0 is word 5, at 0x8000005C, and link 0 receives at 0x80000010. The packet
+/// is received into the words 5 to 20, and the five words below Wptr are undefined then.
+#[test]
+fn the_first_lines(rt: HostRuntime) -> Result<(), Fail> {
+    let image = hex::decode(rt.alloc(), CRC)?;
+    let mut packet = [0; 64];
+    packet[0] = 7;
+    packet[63] = 0x80;
+    let span = Span {
+        from: None,
+        until: Some(Place::Address(7)),
+    };
+    let (end, text) = told(rt.alloc(), image.as_slice(), &packet, span)?;
+    assert_eq!(rt; end, End::Left);
+    let wanted = "\
+1 0 ldlp 0: A -2147483556 B - C - Wptr 5 flag 0
+3 1 mint: A -2147483648 B -2147483556 C - Wptr 5 flag 0
+4 3 ldnlp 4: A -2147483632 B -2147483556 C - Wptr 5 flag 0
+6 4 ldc 64: A 64 B -2147483632 C -2147483556 Wptr 5 flag 0
+7 6 in: A - B - C - Wptr 5 flag 0 w0=- w1=- w2=- w3=- w4=- w5=7 w20=-2147483648
+left at 7
+result 
+trace 
+flag 0
+count 7
+";
+    assert_eq!(rt; text.as_slice(), wanted.as_bytes());
+    Ok(())
+}
+
+/// The checksum of the bytes 0 to 63 is 0x100ECE8C, as zlib has it. 18 bytes come before the loops and 14 behind them; a turn of
+/// the outer loop has 24 of its own, and one of the inner 23, or 37 where a 1 is shifted out: 15,860 in all.
+#[test]
+fn the_checksum(rt: HostRuntime) -> Result<(), Fail> {
+    let image = hex::decode(rt.alloc(), CRC)?;
+    let mut packet = [0; 64];
+    for (byte, value) in packet.iter_mut().zip(0u8..64) {
+        *byte = value;
+    }
+    let span = Span {
+        from: Some(Place::Address(90)),
+        until: None,
+    };
+    let (end, text) = told(rt.alloc(), image.as_slice(), &packet, span)?;
+    assert_eq!(rt; end, End::Stopped);
+    let wanted = "\
+15858 90 out: A - B - C - Wptr 5 flag 0 result 8cce0e10
+15860 91 stopp: A - B - C - Wptr 5 flag 0
+stopped
+result 8cce0e10
+trace 
+flag 0
+count 15860
+";
+    assert_eq!(rt; text.as_slice(), wanted.as_bytes());
+    Ok(())
+}
+
+/// Three numbers are traced, 0, 1 and 1, and 2 is the result. Before the loop stand 15 bytes and behind it 7; three turns have
+/// 22 bytes and 44 have 9.
+#[test]
+fn the_trace(rt: HostRuntime) -> Result<(), Fail> {
+    let image = hex::decode(rt.alloc(), FIBONACCI)?;
+    let span = Span {
+        from: Some(Place::Count(482)),
+        until: None,
+    };
+    let (end, text) = told(rt.alloc(), image.as_slice(), &[3, 0, 0, 0], span)?;
+    assert_eq!(rt; end, End::Stopped);
+    let wanted = "\
+484 42 stopp: A - B - C - Wptr 5 flag 0
+stopped
+result 02000000
+trace 000000000100000001000000
+flag 0
+count 484
+";
+    assert_eq!(rt; text.as_slice(), wanted.as_bytes());
+    Ok(())
+}
+
+/// The numbers -1, 3, 2, 0, 7, -5, 1 and 1 in order.
+#[test]
+fn the_sort(rt: HostRuntime) -> Result<(), Fail> {
+    let image = hex::decode(rt.alloc(), SORT)?;
+    let packet = hex::decode(
+        rt.alloc(),
+        b"FFFFFFFF03000000020000000000000007000000FBFFFFFF0100000001000000",
+    )?;
+    let (end, text) = told(rt.alloc(), image.as_slice(), packet.as_slice(), WHOLE)?;
+    assert_eq!(rt; end, End::Stopped);
+    let wanted = b"\nresult fbffffffffffffff0000000001000000010000000200000003000000\
+07000000\ntrace \n";
+    assert!(rt;
+        text.windows(wanted.len())
+            .any(|part| part == wanted.as_slice())
+    );
+    Ok(())
+}

@@ -1,0 +1,12 @@
+use Rattle.std.proofs.Common.{◌≡◌}
+use Rattle.tp_machine.specs.Devices.{devices}
+use Rattle.tp_stepper.proofs.Along.{Along}
+use Rattle.tp_stepper.proofs.stepper.Stepper.next.Given as goal
+
+abbrev pub invariant-loop : goal.invariant-loop
+invariant-loop g l =
+    (l.self.image ≡ l.fn.self.image)
+    × Along l.fn.self.image l.prefixes l.fn.self.machine l.fn.self.phase
+    (devices (g.D.LinkDevice.state l.fn.links.source) (g.D.LinkDevice.state l.fn.links.sink) (g.D.LinkDevice.state l.fn.links.trace))
+    l.counter l.self.machine l.self.phase
+    (devices (g.D.LinkDevice.state l.links.source) (g.D.LinkDevice.state l.links.sink) (g.D.LinkDevice.state l.links.trace))

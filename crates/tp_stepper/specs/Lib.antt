@@ -1,0 +1,5 @@
+pub mod Stepping
+pub use Rattle.tp_tested.specs.Meaning
+pub use Rattle.tp_step.specs.State
+pub use Rattle.tp_step.specs.Steps
+pub use Rattle.tp_step.specs.Runs

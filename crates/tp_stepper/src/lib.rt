@@ -1,0 +1,19 @@
+//! A packet's run of any image, accepted or not, an instruction at a time, for tools of those who write workers.
+//!
+//! A [`Stepper`] holds an image and a tested machine. [`Stepper::next`] makes an instruction of the step relation.
+#![tactic(auto)]
+
+mod prefixes;
+mod reason;
+mod run;
+mod span;
+mod stepper;
+mod value;
+mod workspace;
+
+pub use reason::Reason;
+pub use run::{End, TellFault, tell};
+pub use span::{Place, Span};
+pub use stepper::Stepper;
+pub use value::Value;
+pub use workspace::{Workspace, Written};
