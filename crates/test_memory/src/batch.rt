@@ -1,21 +1,21 @@
-//! A batch of two packets by two members.
+//! Batches: two packets by two members, and by one member more than a queue holds.
 
 use crate::answer::{Answer, same_if};
 use crate::calls::INCREMENT;
 use arrayvec::ArrayVec;
-use std::alloc::Global;
+use std::alloc::{AllocError, Global};
 use std::sync::Wait;
 use std::thread::Threads;
 use tp_accept::{Accepted, Refusal, accept};
 use tp_board::Packet;
 use tp_collect::{Collected, Entry};
 use tp_farm::{FarmFault, Job, OpenGate, run_batch};
-use tp_media::Media;
+use tp_media::{boxed, media_of};
 
 /// The room of each medium in bytes.
 const ROOM: usize = 16;
 
-/// Running a batch. A thread that cannot be started for want of memory is answered as G4, and counts as memory refused.
+/// Running both batches. A thread that cannot be started for want of memory is answered as G4, and counts as memory refused.
 pub fn batch<R: Threads + Wait + Sync>(rt: &R, alloc: Global) -> Answer {
     let Ok(text) = Vec::from_slice(alloc, INCREMENT) else {
         return Answer::Memory;
@@ -25,29 +25,62 @@ pub fn batch<R: Threads + Wait + Sync>(rt: &R, alloc: Global) -> Answer {
         Err(Refusal::Memory) => return Answer::Memory,
         Err(_) => return Answer::Other,
     };
-    match increments(rt, alloc, &image) {
-        Ok(collected) => same_if(are_one_more(&collected)),
+    match both(rt, alloc, &image) {
+        Ok(right) => same_if(right),
         Err(FarmFault::Memory | FarmFault::Thread) => Answer::Memory,
         Err(_) => Answer::Other,
     }
+}
+
+/// Whether both batches give the packets plus one.
+fn both<R: Threads + Wait + Sync>(
+    rt: &R,
+    alloc: Global,
+    image: &Accepted,
+) -> Result<bool, FarmFault> {
+    let two = [1u32, 0x7FFF_FFFF];
+    let many = count_up(alloc, MANY)?;
+    let few = increments(rt, alloc, image, two.as_slice(), 2)?;
+    let streamed = increments(rt, alloc, image, many.as_slice(), 1)?;
+    Ok(are_one_more(&few, two.as_slice()) && are_one_more(&streamed, many.as_slice()))
+}
+
+/// More packets than a queue holds, so that it is full where its member is refused memory.
+const MANY: u32 = 70;
+
+/// So many words in a row, from 0.
+fn count_up(alloc: Global, count: u32) -> Result<Vec<u32>, AllocError> {
+    let mut words = Vec::new(alloc);
+    for word in 0..count {
+        words.push(word)?;
+    }
+    Ok(words)
 }
 
 fn packet(word: u32) -> Packet {
     ArrayVec::try_from(word.to_le_bytes().as_slice()).unwrap_or(ArrayVec::new())
 }
 
-/// 1 and the greatest number, each plus one.
+/// A packet of each of these words.
+fn packets_of(alloc: Global, words: &[u32]) -> Result<Vec<Packet>, AllocError> {
+    let mut packets = Vec::with_capacity(alloc, words.len())?;
+    for word in words {
+        packets.push(packet(*word))?;
+    }
+    Ok(packets)
+}
+
+/// The batch of packets of these words, by so many members.
 fn increments<R: Threads + Wait + Sync>(
     rt: &R,
     alloc: Global,
     image: &Accepted,
+    words: &[u32],
+    members: usize,
 ) -> Result<Collected, FarmFault> {
-    let mut first = Media::new(alloc, ROOM)?;
-    let mut second = Media::new(alloc, ROOM)?;
-    let mut links = Vec::with_capacity(alloc, 2)?;
-    links.push_reserved(first.wires());
-    links.push_reserved(second.wires());
-    let packets = [packet(1), packet(0x7FFF_FFFF)];
+    let mut media = media_of(alloc, members, ROOM)?;
+    let links = boxed(alloc, &mut media)?;
+    let packets = packets_of(alloc, words)?;
     let job = Job {
         batch: 0,
         image,
@@ -56,14 +89,14 @@ fn increments<R: Threads + Wait + Sync>(
     Ok(run_batch(rt, alloc, &job, links, &OpenGate)?.collected)
 }
 
-fn are_one_more(collected: &Collected) -> bool {
-    match collected.entries.as_slice() {
-        [Entry::Done(one), Entry::Done(other)] => {
-            one.result.as_slice() == [2, 0, 0, 0].as_slice()
-                && !one.error
-                && other.result.as_slice() == [0, 0, 0, 0x80].as_slice()
-                && other.error
+/// Whether these are the words plus one, each with the error flag where the sum is too great to be read signed.
+fn are_one_more(collected: &Collected, words: &[u32]) -> bool {
+    let are_equal = collected.entries.iter().zip(words).all(|(entry, word)| match entry {
+        Entry::Done(done) => {
+            done.result.as_slice() == word.wrapping_add(1).to_le_bytes().as_slice()
+                && done.error == (*word == 0x7FFF_FFFF)
         }
-        _ => false,
-    }
+        Entry::Lost(_) => false,
+    });
+    are_equal && collected.entries.len() == words.len()
 }
