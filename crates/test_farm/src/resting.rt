@@ -1,10 +1,9 @@
 //! How the feeder of a batch waits at a full queue, as the system counts it.
 
 use crate::batches::{ROOM, count_up, run_on};
-use std::fs;
-use std::io;
 use std::rt::Files;
 use std::test::Fail;
+use std::{fs, io};
 use tp_farm::OpenGate;
 use tp_media::{boxed, media_of};
 use tp_samples::SUM_TO_TEN_THOUSAND;
