@@ -13,8 +13,6 @@ mod recording;
 #[cfg(test)]
 mod refusing;
 #[cfg(test)]
-mod resting;
-#[cfg(test)]
 mod stopping;
 #[cfg(test)]
 mod tracing;
