@@ -33,6 +33,10 @@ fn main(rt: HostRuntime) -> Result<()> {
         "machine" => machine::measure(&rt, true),
         "board" => board::measure(&rt, true),
         "farm" => farm::measure(&rt, true),
-        _ => bail!("the words are flow, states, check, accept, machine, board, farm"),
+        "farm-queue" => farm::run_once(&rt, farm::Source::Queue),
+        "farm-board" => farm::run_once(&rt, farm::Source::Board),
+        _ => bail!(
+            "the words are flow, states, check, accept, machine, board, farm, farm-queue, farm-board"
+        ),
     }
 }

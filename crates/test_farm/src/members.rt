@@ -24,7 +24,11 @@ fn increments_by_one<R: Threads + Wait + Sync>(
 }
 
 /// Each entry tells its word plus one.
-fn are_one_more(alloc: Global, words: &[u32], collected: &Collected) -> Result<bool, Fail> {
+pub(crate) fn are_one_more(
+    alloc: Global,
+    words: &[u32],
+    collected: &Collected,
+) -> Result<bool, Fail> {
     let all = all_told(alloc, collected)?;
     for (one, word) in all.iter().zip(words.iter()) {
         if *one != Told::Done(word.wrapping_add(1)) {

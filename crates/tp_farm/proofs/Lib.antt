@@ -13,4 +13,5 @@ pub mod Settled
 pub mod Nothing
 pub mod Feeding
 pub mod Views
+pub mod Seats
 pub mod Promising

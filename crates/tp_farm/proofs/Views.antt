@@ -74,7 +74,7 @@ module _ (n : ℕ) (views : List View) (l : Ledger) (b : Balances n views l) whe
       })
       (borne_out (k + 1) vs (λ i u is. subst (λ j. get_elem? views j ≡ some u) (omega arith) (at (suc i) u is)) (omega (arith, ended)) (omega (arith, length-append v.drawn (view.all_drawn vs), drawn)))
 
-  adds_up : AddsUp n (map progress_of views) l
+  pub adds_up : AddsUp n (map progress_of views) l
   adds_up = record {
     within = b.within;
     few = λ x. omega (arith, went x);

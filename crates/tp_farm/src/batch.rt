@@ -46,7 +46,7 @@ fn first_other(packets: &[Packet], bytes: usize) -> Option<usize>
 }
 
 /// Why a batch does not begin: the first that holds of G1, G2 and G3.
-fn job_fault(job: &Job<'_>, members: usize) -> Option<FarmFault>
+pub(crate) fn job_fault(job: &Job<'_>, members: usize) -> Option<FarmFault>
     ensures { result ≡ job_fault members (batch_of job.now) }
 {
     if members == 0 || members > MAX_MEMBERS as usize {
@@ -63,15 +63,15 @@ fn job_fault(job: &Job<'_>, members: usize) -> Option<FarmFault>
 
 /// Room for what the members give back.
 #[derive(Drop)]
-struct Room<H, D> {
-    hands: Vec<H>,
-    kept: Vec<Kept<D>>,
-    links: Vec<Links<D>>,
+pub(crate) struct Room<H, D> {
+    pub(crate) hands: Vec<H>,
+    pub(crate) kept: Vec<Kept<D>>,
+    pub(crate) links: Vec<Links<D>>,
 }
 
 impl<H: Drop, D: Drop> Room<H, D> {
     /// Room for so many members.
-    fn for_members(alloc: Global, members: usize) -> Result<Room<H, D>, AllocError>
+    pub(crate) fn for_members(alloc: Global, members: usize) -> Result<Room<H, D>, AllocError>
         ensures { IfOk result (HasRoom members) }
     {
         Ok(Room {

@@ -78,7 +78,7 @@ where
 
 /// Members that were started.
 #[derive(Drop)]
-struct Started<'e, G: Gate, D: LinkDevice, S: WorkSource>
+pub(crate) struct Started<'e, G: Gate, D: LinkDevice, S: WorkSource>
 where
     S::Hand: Drop,
 {
@@ -87,7 +87,14 @@ where
 }
 
 /// Starts a member for each of the links in turn, up to the first for which no thread could be started.
-fn start_all<'s, 'e, R: Wait + Sync, D: LinkDevice + Send + 'e, G: Gate, S: WorkSource + Sync>(
+pub(crate) fn start_all<
+    's,
+    'e,
+    R: Wait + Sync,
+    D: LinkDevice + Send + 'e,
+    G: Gate,
+    S: WorkSource + Sync,
+>(
     rt: &'e R,
     scope: &'s Scope<'s, &'e ()>,
     alloc: Global,
@@ -167,7 +174,7 @@ fn feed_all<R: Wait>(rt: &R, stream: &StreamQueue<'_>, feeder: &mut Feeder)
 }
 
 /// Joins the members that were started.
-fn join_all<R: Threads + Wait, D: LinkDevice, G: Gate, S: WorkSource>(
+pub(crate) fn join_all<R: Threads + Wait, D: LinkDevice, G: Gate, S: WorkSource>(
     rt: &R,
     started: Started<'_, G, D, S>,
 ) -> Result<Vec<Returned<S::Hand, Filed, D>>, FarmFault>

@@ -1,0 +1,65 @@
+//! A batch over a board in place of the stream: what becomes of the packets is the same.
+
+use crate::batches::{
+    BATCH, ROOM, Told, all_told, alone, count_up, failing, increments_by, packets, run_on, same,
+};
+use crate::members::are_one_more;
+use std::alloc::Global;
+use std::sync::Wait;
+use std::test::Fail;
+use std::thread::Threads;
+use tp_accept::accept;
+use tp_collect::Collected;
+use tp_farm::{Gate, Job, OpenGate, run_batch_over_board};
+use tp_link::{DeviceFault, Link, LinkDevice, Links};
+use tp_media::{Media, boxed, media_of};
+use tp_samples::INCREMENT;
+
+/// What becomes of the increments of these words, over a board.
+fn over_board<R: Threads + Wait + Sync, D: LinkDevice + Send, G: Gate>(
+    rt: &R,
+    alloc: Global,
+    words: &[u32],
+    links: Vec<Links<D>>,
+    gate: &G,
+) -> Result<Collected, Fail> {
+    let image = accept(alloc, Vec::from_slice(alloc, INCREMENT)?)?;
+    let packets = packets(alloc, words)?;
+    let job = Job {
+        batch: BATCH,
+        image: &image,
+        packets: &packets,
+    };
+    Ok(run_batch_over_board(rt, alloc, &job, links, gate)?.collected)
+}
+
+#[test]
+fn a_board_makes_no_difference(rt: HostRuntime) -> Result<(), Fail> {
+    for (count, members) in [(0, 1), (1, 64), (33, 2), (1024, 3)] {
+        let words = count_up(rt.alloc(), count)?;
+        let mut media = media_of(rt.alloc(), members, ROOM)?;
+        let links = boxed(rt.alloc(), &mut media)?;
+        let by_board = over_board(&rt, rt.alloc(), &words, links, &OpenGate)?;
+        let by_queue = increments_by(&rt, rt.alloc(), &words, members, &OpenGate)?;
+        assert!(rt; are_one_more(rt.alloc(), &words, &by_board)?);
+        assert!(rt; same(&by_board, &by_queue), "{count} by {members}");
+    }
+    Ok(())
+}
+
+/// A packet that is done takes two calls of the sink; the third fails.
+#[test]
+fn nor_where_a_device_fails(rt: HostRuntime) -> Result<(), Fail> {
+    let words = [5, 6, 7];
+    let mut media = Media::new(rt.alloc(), ROOM)?;
+    let links = alone(rt.alloc(), failing(&mut media, [0, 3, 0]))?;
+    let by_board = over_board(&rt, rt.alloc(), &words, links, &OpenGate)?;
+    let mut media = Media::new(rt.alloc(), ROOM)?;
+    let links = alone(rt.alloc(), failing(&mut media, [0, 3, 0]))?;
+    let by_queue = run_on(&rt, rt.alloc(), INCREMENT, &words, links, &OpenGate)?;
+    let lost = Told::Lost(Link::Sink, DeviceFault::Failed);
+    let told = all_told(rt.alloc(), &by_board)?;
+    assert!(rt; told.as_slice() == [Told::Done(6), lost, Told::Done(8)].as_slice());
+    assert!(rt; same(&by_board, &by_queue));
+    Ok(())
+}

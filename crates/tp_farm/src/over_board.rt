@@ -1,0 +1,179 @@
+//! A batch over a board, whose packets are all there before the first member starts: the answers are those of [`run_batch`],
+//! beside which it is tested and measured.
+//!
+//! [`run_batch`]: crate::run_batch
+
+ghost use Rattle.std.specs.Prelude.{◌≡◌, ◌≤◌, ◌<◌, None, Some, Err, All, map, replicate, IfSome, IfOk, IfErr, OnOk, length, vec_len};
+ghost use Rattle.std.specs.List.{AllZip};
+ghost use Rattle.tp_board.specs.Boards.{IsSeatOf, views_of};
+ghost use Rattle.tp_board.specs.Sources.{progress_of};
+ghost use Rattle.tp_board.specs.Ledgers.{Balances};
+ghost use Rattle.tp_collect.specs.Collecting.{vacant};
+ghost use Rattle.tp_farm.specs.Jobs.{batch_of};
+ghost use Rattle.tp_farm.specs.Stages.{of_links};
+ghost use Rattle.tp_farm.specs.Working.{IsSet, IsFresh, HasWorked, work_on, work_of};
+ghost use Rattle.tp_farm.specs.Refused.{job_fault, IsFromOutside};
+ghost use Rattle.tp_farm.specs.Batches.{IsBatch};
+ghost use Rattle.tp_farm.specs.Promised.{ArePackets, GoesWell};
+ghost use Rattle.tp_farm.specs.Rooms.{HasRoom};
+
+use crate::batch::{Batch, Room, job_fault};
+use crate::fault::FarmFault;
+use crate::gate::Gate;
+use crate::gathering::{gather_all, take_hands};
+use crate::job::Job;
+use crate::member::Filed;
+use crate::members::{join_all, start_all};
+use crate::worker::{Returned, Shop};
+use std::alloc::Global;
+use std::snapshot::Snapshot;
+use std::sync::Wait;
+use std::thread;
+use std::thread::{Scope, Threads};
+use tp_board::{Board, BoardSource, Ledger, Seat, WorkSource};
+use tp_collect::Collector;
+use tp_link::{LinkDevice, Links};
+
+/// Starts the members, and joins those that were started.
+fn start_and_join<
+    's,
+    'e,
+    R: Threads + Wait + Sync,
+    D: LinkDevice + Send + 'e,
+    G: Gate,
+    S: WorkSource + Sync,
+>(
+    rt: &'e R,
+    scope: &'s Scope<'s, &'e ()>,
+    alloc: Global,
+    shop: &'e Shop<'e, G, S>,
+    hands: Vec<S::Hand>,
+    all: Vec<Links<D>>,
+) -> Result<Vec<Returned<S::Hand, Filed, D>>, FarmFault>
+where
+    S::Hand: Drop + Send + 'e,
+    requires set { IsSet S.packets shop.now }
+    requires fresh { All (IsFresh (S.is_own shop.now.source.now) S.progress) hands.items }
+    requires hands { vec_len hands ≡ vec_len all }
+    requires members { vec_len all ≤ 64 }
+    ensures worked { IfOk result (λ rs. AllZip (HasWorked D.state (S.is_own shop.now.source.now) S.progress (work_of G.open_for_good shop.now)) all.items rs.items) }
+    ensures err { IfErr result IsFromOutside }
+{
+    let started = start_all(rt, scope, alloc, shop, hands, all)?;
+    join_all(rt, started)
+}
+
+/// Runs the members, each in a thread of its own, until all have ended. What they give back comes in the order of the links.
+fn run_all<R: Threads + Wait + Sync, D: LinkDevice + Send, G: Gate, S: WorkSource + Sync>(
+    rt: &R,
+    alloc: Global,
+    shop: &Shop<'_, G, S>,
+    hands: Vec<S::Hand>,
+    all: Vec<Links<D>>,
+) -> Result<Vec<Returned<S::Hand, Filed, D>>, FarmFault>
+where
+    S::Hand: Drop + Send,
+    requires set { IsSet S.packets shop.now }
+    requires fresh { All (IsFresh (S.is_own shop.now.source.now) S.progress) hands.items }
+    requires hands { vec_len hands ≡ vec_len all }
+    requires members { vec_len all ≤ 64 }
+    ensures worked { IfOk result (λ rs. AllZip (HasWorked D.state (S.is_own shop.now.source.now) S.progress (work_of G.open_for_good shop.now)) all.items rs.items) }
+    ensures err { IfErr result IsFromOutside }
+{
+    thread::scope(
+        thread::scope_env(),
+        rt,
+        |scope| -> Result<Vec<Returned<S::Hand, Filed, D>>, FarmFault>
+            requires set { IsSet S.packets shop.now }
+            requires fresh { All (IsFresh (S.is_own shop.now.source.now) S.progress) hands.items }
+            requires hands { vec_len hands ≡ vec_len all }
+            requires members { vec_len all ≤ 64 }
+            ensures worked { IfOk result (λ rs. AllZip (HasWorked D.state (S.is_own shop.entry.now.source.now) S.progress (work_of G.open_for_good shop.entry.now)) all.items rs.items) }
+            ensures err { IfErr result IsFromOutside }
+        { start_and_join(rt, scope, alloc, shop, hands, all) },
+    )
+}
+
+/// Closes a board whose seats are all here.
+fn close_board(board: Board, seats: Vec<Seat>) -> Ledger
+    requires own { All (IsSeatOf board) seats.items }
+    requires all { length seats.items ≡ board.members }
+    ensures { Balances board.packets (views_of seats.items) result }
+{
+    match board.close(seats) {
+        Ok(ledger) => ledger,
+        Err(_) => unreachable!(),
+    }
+}
+
+/// Makes one batch of what the members give back: the board is closed, which accounts for each number once, and all that
+/// was filed is gathered. The first fault of a member is the answer.
+fn settle<D: LinkDevice, G: Gate>(
+    _job: &Job<'_>,
+    _gate: &G,
+    board: Board,
+    mut collector: Collector<'_>,
+    returned: Vec<Returned<Seat, Filed, D>>,
+    mut room: Room<Seat, D>,
+    _before: Snapshot<Vec<Links<D>>>,
+) -> Result<Batch<D>, FarmFault>
+    requires worked { AllZip (HasWorked D.state (IsSeatOf board) (λ s. progress_of s.view) (work_on G.open_for_good _job.now _gate.now)) _before.value.items returned.items }
+    requires members { vec_len returned ≡ board.members }
+    requires some { 0 < vec_len returned }
+    requires packets { board.packets ≡ length (batch_of _job.now).packets }
+    requires collector { collector ≡ record { batch = batch_of _job.now; entries = replicate board.packets vacant } }
+    requires room { HasRoom (vec_len returned) room }
+    ensures batch { IfOk result (λ b. IsBatch (batch_of _job.now) (G.open_for_good _gate.now) (map (of_links D.state) _before.value.items) (map (of_links D.state) b.links.items) b.collected) }
+    ensures err { IfErr result IsFromOutside }
+{
+    take_hands(returned, &mut room.hands, &mut room.kept)?;
+    let _ledger = close_board(board, room.hands);
+    gather_all(&mut collector, room.kept, &mut room.links);
+    Ok(Batch {
+        collected: collector.finish(),
+        links: room.links,
+    })
+}
+
+/// As [`run_batch`](crate::run_batch), with the same answers, from a board in place of a stream: nothing is fed while the
+/// members run.
+pub fn run_batch_over_board<'j, R: Threads + Wait + Sync, D: LinkDevice + Send, G: Gate>(
+    rt: &R,
+    alloc: Global,
+    job: &'j Job<'j>,
+    links: Vec<Links<D>>,
+    gate: &'j G,
+) -> Result<Batch<D>, FarmFault>
+    ensures batch { IfOk result (λ b. IsBatch (batch_of job.now) (G.open_for_good gate.now) (map (of_links D.state) links.items) (map (of_links D.state) b.links.items) b.collected) }
+    ensures goes_well { ArePackets (batch_of job.now) →
+        IfOk result (λ b. GoesWell (batch_of job.now) job.now.image.now.budget b.collected) }
+    ensures begins { OnOk result (job_fault (length links.items) (batch_of job.now) ≡ None) }
+    ensures refused { IfSome (job_fault (length links.items) (batch_of job.now)) (λ fault. result ≡ Err fault) }
+    ensures err { job_fault (length links.items) (batch_of job.now) ≡ None → IfErr result IsFromOutside }
+{
+    if let Some(fault) = job_fault(job, links.len()) {
+        return Err(fault);
+    }
+    let collector = Collector::new(alloc, job.batch, job.image.image(), job.packets)?;
+    if job.packets.is_empty() {
+        return Ok(Batch {
+            collected: collector.finish(),
+            links,
+        });
+    }
+    let room = Room::for_members(alloc, links.len())?;
+    let made = Board::new(alloc, job.packets.len() as u32, links.len() as u32);
+    let Ok((board, seats)) = made else {
+        return Err(FarmFault::Memory);
+    };
+    let source = BoardSource::new(board, job.packets);
+    let before = Snapshot::of(&links);
+    let shop = Shop {
+        job: &*job,
+        gate: &*gate,
+        source: &source,
+    };
+    let returned = run_all(rt, alloc, &shop, seats, links)?;
+    let board = source.into_board();
+    settle(job, gate, board, collector, returned, room, before)
+}
