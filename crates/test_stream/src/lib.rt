@@ -4,3 +4,5 @@
 
 #[cfg(test)]
 mod single;
+#[cfg(test)]
+mod threads;
