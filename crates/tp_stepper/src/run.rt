@@ -33,8 +33,10 @@ pub enum End {
     Stuck(i64, Reason),
     /// A device refused a call.
     Refused(LinkFault),
-    /// It came to the place at which it was to be left, or the most instructions were run.
+    /// It came to the place at which it was to be left.
     Left,
+    /// The most instructions were run.
+    Unended,
 }
 
 /// Why a run could not be told.
@@ -205,6 +207,12 @@ fn tell_end<W: Write>(
         End::Stuck(at, reason) => writeln!(writer, "stuck at {at}: {reason}"),
         End::Refused(fault) => writeln!(writer, "refused: {fault}"),
         End::Left => writeln!(writer, "left at {at}"),
+        End::Unended => {
+            writeln!(
+                writer,
+                "not ended after {MOST_INSTRUCTIONS} instructions, at {at}"
+            )
+        }
     };
     written.map_err(|_| TellFault::Write)?;
     let result = hex::encode(alloc, sent.result.as_slice())?;
@@ -236,9 +244,10 @@ pub fn tell<W: Write>(
         count: 0,
         is_told: false,
     };
-    let mut end = End::Left;
+    let mut end = End::Unended;
     for _ in 0..MOST_INSTRUCTIONS {
         if progress.comes_to(span, stepper.registers().iptr) {
+            end = End::Left;
             break;
         }
         let left = tell_one(

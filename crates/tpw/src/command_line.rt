@@ -1,0 +1,111 @@
+//! What a command line asks for.
+
+use crate::ending::Ending;
+use crate::place::place_of;
+use crate::stepping::Stepping;
+use clap::{Arg, ArgAction, ArgMatches, Command, Error};
+use hex::FromHexError;
+use std::alloc::Global;
+use std::convert::AsStr;
+use tp_stepper::{Place, Span};
+
+/// The name of the command that tells a run.
+const STEP: &str = "step";
+
+/// The names of its options.
+const PACKET: &str = "packet";
+
+const FROM: &str = "from";
+
+const UNTIL: &str = "until";
+
+/// What `tpw step --help` says below the options.
+const STEP_LINES: &str = "\
+Reads an image as hexadecimal on standard input: one line; line ends, and white space at the ends, are passed over.
+A PLACE is an address, as 36 or 0x24, or a count of steps, as +100.
+Status 0: the worker stopped, or was left at --until. Status 1: it is stuck, or does not end, or standard input is no image.
+docs/WORKERS.md reads a run.";
+
+/// What a command line asks for.
+#[derive(Drop)]
+pub enum Task {
+    Step(Stepping),
+}
+
+/// An option that takes a place.
+fn place_argument<'a>(alloc: Global, name: &'static str, help: &'static str) -> Arg<'a> {
+    Arg::new(alloc, name)
+        .long(name)
+        .value_name("PLACE")
+        .action(ArgAction::Set)
+        .help(help)
+}
+
+/// `step`, as the command line has it.
+fn step_command<'a>(alloc: Global) -> Result<Command<'a>, Error> {
+    let packet = Arg::new(alloc, PACKET)
+        .long(PACKET)
+        .value_name("HEX")
+        .action(ArgAction::Set)
+        .help("The packet, as hexadecimal; an empty one where none is given");
+    let command = Command::new(alloc, STEP)
+        .about("Runs an image an instruction at a time, accepted by the verifier or not")
+        .after_help(STEP_LINES)
+        .arg(packet)?
+        .arg(place_argument(alloc, FROM, "The first instruction that is told"))?
+        .arg(place_argument(alloc, UNTIL, "Where the run is left"))?;
+    Ok(command)
+}
+
+/// The command line that the program knows.
+fn command<'a>(alloc: Global) -> Result<Command<'a>, Error> {
+    let command = Command::new(alloc, "tpw")
+        .version("0.1")
+        .about("Tools for those who write workers")
+        .subcommand_required(true)
+        .subcommand(step_command(alloc)?)?;
+    Ok(command)
+}
+
+/// The packet of `step`.
+fn packet_of(alloc: Global, matches: &ArgMatches<'_>) -> Result<Vec<u8>, Ending> {
+    let Some(text) = matches.get_str(PACKET) else {
+        return Ok(Vec::new(alloc));
+    };
+    match hex::decode(alloc, text) {
+        Ok(bytes) => Ok(bytes),
+        Err(FromHexError::OutOfMemory) => Err(Ending::Memory),
+        Err(_) => Err(Ending::NoPacket),
+    }
+}
+
+/// The place that an option gives, if it is given.
+fn place_given(matches: &ArgMatches<'_>, name: &'static str) -> Result<Option<Place>, Ending> {
+    let Some(text) = matches.get_str(name) else {
+        return Ok(None);
+    };
+    match place_of(text) {
+        Some(place) => Ok(Some(place)),
+        None => Err(Ending::NoPlace(name)),
+    }
+}
+
+/// What `step` is asked for.
+fn stepping(alloc: Global, matches: &ArgMatches<'_>) -> Result<Stepping, Ending> {
+    let packet = packet_of(alloc, matches)?;
+    let from = place_given(matches, FROM)?;
+    let until = place_given(matches, UNTIL)?;
+    Ok(Stepping {
+        packet,
+        span: Span { from, until },
+    })
+}
+
+/// What words ask for, the first of which names the program.
+pub fn task_of<S: AsStr>(alloc: Global, words: &[S]) -> Result<Task, Ending> {
+    let matches = command(alloc)?.try_get_matches_from(words)?;
+    match matches.subcommand_matches(STEP) {
+        Some(found) => Ok(Task::Step(stepping(alloc, found)?)),
+        None => Err(Ending::NoCommand),
+    }
+}

@@ -1,0 +1,142 @@
+//! How the program ends: its statuses, and the texts of what ends it early.
+
+use crate::input::TextFault;
+use clap::error::ErrorKind;
+use std::alloc::{AllocError, AllocFailed};
+use std::process::ExitCode;
+use thiserror::Error;
+use tp_image::ImageFault;
+use tp_stepper::{End, TellFault};
+
+/// What the program ends with.
+#[derive(Clone, Copy, Debug, PartialEq, Eq)]
+pub enum Status {
+    /// It has done what it was asked for.
+    Done,
+    /// It could not, or the run that it told has no end.
+    Failed,
+    /// Its command line is refused.
+    Refused,
+}
+
+impl From<Status> for ExitCode {
+    fn from(status: Status) -> ExitCode {
+        match status {
+            Status::Done => ExitCode::SUCCESS,
+            Status::Failed => ExitCode::from(1),
+            Status::Refused => ExitCode::from(2),
+        }
+    }
+}
+
+impl From<End> for Status {
+    fn from(end: End) -> Status {
+        match end {
+            End::Stopped | End::Left => Status::Done,
+            End::Stuck(_, _) | End::Refused(_) | End::Unended => Status::Failed,
+        }
+    }
+}
+
+/// Why the program ends before it has done what it was asked for, with the text that tells it.
+#[derive(Debug, Drop, Error)]
+pub enum Ending {
+    /// The command line asks for a text alone: for help, or for the version.
+    #[error("{0}")]
+    Shown(clap::Error),
+    /// The command line is refused.
+    #[error("{0}")]
+    Refused(clap::Error),
+    /// A word of the command line is not UTF-8.
+    #[error("error: a word of the command line is not UTF-8\n")]
+    NotText,
+    /// The command line has no command.
+    #[error("error: no command is given\n")]
+    NoCommand,
+    /// The packet of the command line is not hexadecimal.
+    #[error("error: invalid value for '--packet <HEX>': it takes hexadecimal digits, an even number\n")]
+    NoPacket,
+    /// An option of the command line has a text that names no place.
+    #[error("error: invalid value for '--{0} <PLACE>': it takes an address, as 36 or 0x24, or a count of steps, as +100\n")]
+    NoPlace(&'static str),
+    /// Standard input is not hexadecimal.
+    #[error("tpw: standard input: {0}\n")]
+    Text(TextFault),
+    /// Standard input is no image.
+    #[error("tpw: standard input: no image: {0}\n")]
+    Image(ImageFault),
+    /// Standard input could not be read.
+    #[error("tpw: read\n")]
+    Read,
+    /// Standard output could not be written.
+    #[error("tpw: write\n")]
+    Write,
+    /// A growth was refused.
+    #[error("tpw: memory\n")]
+    Memory,
+}
+
+impl Ending {
+    /// The status that the program ends with.
+    pub fn status(&self) -> Status {
+        match self {
+            Ending::Shown(_) => Status::Done,
+            Ending::Text(_) | Ending::Image(_) | Ending::Read | Ending::Write | Ending::Memory =>
+                Status::Failed,
+            Ending::Refused(_)
+            | Ending::NotText
+            | Ending::NoCommand
+            | Ending::NoPacket
+            | Ending::NoPlace(_) => Status::Refused,
+        }
+    }
+}
+
+impl From<clap::Error> for Ending {
+    fn from(error: clap::Error) -> Self {
+        match error.kind() {
+            ErrorKind::OutOfMemory => Ending::Memory,
+            ErrorKind::DisplayHelp | ErrorKind::DisplayVersion => Ending::Shown(error),
+            _ => Ending::Refused(error),
+        }
+    }
+}
+
+impl From<TextFault> for Ending {
+    fn from(fault: TextFault) -> Self {
+        match fault {
+            TextFault::Memory => Ending::Memory,
+            _ => Ending::Text(fault),
+        }
+    }
+}
+
+impl From<ImageFault> for Ending {
+    fn from(fault: ImageFault) -> Self {
+        match fault {
+            ImageFault::Memory => Ending::Memory,
+            ImageFault::Refused { .. } => Ending::Image(fault),
+        }
+    }
+}
+
+impl From<TellFault> for Ending {
+    fn from(fault: TellFault) -> Self {
+        match fault {
+            TellFault::Memory => Ending::Memory,
+            TellFault::Write => Ending::Write,
+        }
+    }
+}
+
+impl From<AllocError> for Ending {
+    fn from(_: AllocError) -> Self {
+        Ending::Memory
+    }
+}
+
+impl<T: Drop> From<AllocFailed<T>> for Ending {
+    fn from(_: AllocFailed<T>) -> Self {
+        Ending::Memory
+    }
+}

@@ -1,0 +1,366 @@
+//! What the program writes and ends with: of runs, of inputs and of command lines that it does not take.
+
+use crate::ending::{Ending, Status};
+use crate::input::{TextFault, bytes_of};
+use crate::place::place_of;
+use crate::program::run;
+use std::alloc::{AllocError, Global};
+use std::env::{Env, FillError};
+use std::io;
+use std::io::{ErrorKind, Read, Write};
+use std::process::ExitCode;
+use std::test::Fail;
+use tp_stepper::{End, Place};
+
+/// The words of a command line.
+#[derive(Drop)]
+struct Words<'a>(&'a [&'a str]);
+
+impl Env for Words<'_> {
+    fn arg(&self, i: usize, buf: &mut [u8]) -> Result<usize, FillError> {
+        let Some(word) = self.0.get(i) else {
+            return Err(FillError::NotPresent);
+        };
+        if buf.len() < word.len() {
+            return Err(FillError::TooLong);
+        }
+        buf[..word.len()].copy_from_slice(word.as_bytes());
+        Ok(word.len())
+    }
+
+    fn var(&self, _name: &str, _buf: &mut [u8]) -> Result<usize, FillError> {
+        Err(FillError::NotPresent)
+    }
+
+    fn var_at(&self, _i: usize, _buf: &mut [u8]) -> Result<usize, FillError> {
+        Err(FillError::NotPresent)
+    }
+}
+
+/// A reader and a writer that always fail.
+#[derive(Drop)]
+struct Broken;
+
+impl Read for Broken {
+    fn read(&mut self, _buf: &mut [u8]) -> io::Result<usize> {
+        Err(io::Error::from(ErrorKind::BrokenPipe))
+    }
+}
+
+impl Write for Broken {
+    fn write(&mut self, _buf: &[u8]) -> io::Result<usize> {
+        Err(io::Error::from(ErrorKind::BrokenPipe))
+    }
+
+    fn flush(&mut self) -> io::Result<()> {
+        Err(io::Error::from(ErrorKind::BrokenPipe))
+    }
+}
+
+/// Takes what it is given, and fails where it is to be flushed.
+#[derive(Drop)]
+struct Unflushed;
+
+impl Write for Unflushed {
+    fn write(&mut self, buf: &[u8]) -> io::Result<usize> {
+        Ok(buf.len())
+    }
+
+    fn flush(&mut self) -> io::Result<()> {
+        Err(io::Error::from(ErrorKind::BrokenPipe))
+    }
+}
+
+/// What the program ended with, and what it wrote to standard error.
+#[derive(Drop)]
+struct Ended {
+    status: ExitCode,
+    errors: Vec<u8>,
+}
+
+/// Runs the program on a command line, a reader and a writer.
+fn ran<R: Read, W: Write>(alloc: Global, words: &[&str], input: &mut R, output: &mut W) -> Ended {
+    let mut errors = Vec::new(alloc);
+    let status = run(&Words(words), alloc, input, output, &mut errors);
+    Ended { status, errors }
+}
+
+/// A worker that adds one to its packet: ldlp 0, mint, ldnlp 4, ldc 4, in, ldl 0, adc 1, stl 0, ldlp 0, mint, ldc 4, out, stopp.
+const INCREMENT: &str = "5450573110000C0008000100010000001024F25444F77081D01024F244FB21F5\n";
+
+/// ldc 1, add.
+const STUCK: &str = "5450573102000C00080001000100000041F5";
+
+/// How runs are told, and the statuses that they end with.
+#[test]
+fn runs(rt: HostRuntime) -> Result<(), Fail> {
+    let cases = [
+        (
+            INCREMENT,
+            ["tpw", "step", "--packet", "29000000", "--from", "12"].as_slice(),
+            0,
+            "\
+13 12 ldc 4: A 4 B -2147483648 C -2147483544 Wptr 8 flag 0
+14 13 out: A - B - C - Wptr 8 flag 0 result 2a000000
+16 14 stopp: A - B - C - Wptr 8 flag 0
+stopped
+result 2a000000
+trace \nflag 0
+count 16
+",
+        ),
+        (
+            INCREMENT,
+            ["tpw", "step", "--from=+2", "--until", "0x4"].as_slice(),
+            0,
+            "\
+4 3 ldnlp 4: A -2147483632 B -2147483544 C - Wptr 8 flag 0
+left at 4
+result \ntrace \nflag 0
+count 4
+",
+        ),
+        (
+            STUCK,
+            ["tpw", "step"].as_slice(),
+            1,
+            "\
+1 0 ldc 1: A 1 B - C - Wptr 8 flag 0
+stuck at 1: Breg is undefined
+result \ntrace \nflag 0
+count 1
+",
+        ),
+    ];
+    for (image, words, status, told) in cases {
+        let mut output = Vec::new(rt.alloc());
+        let mut input = image.as_bytes();
+        let ended = ran(rt.alloc(), words, &mut input, &mut output);
+        assert_eq!(rt; str::from_utf8(&output).map_err(|_| "no text")?, told);
+        assert_eq!(rt; ended.status, ExitCode::from(status));
+        assert!(rt; ended.errors.is_empty());
+    }
+    Ok(())
+}
+
+/// What ends early: nothing is written but why.
+#[test]
+fn refusals(rt: HostRuntime) -> Result<(), Fail> {
+    let cases = [
+        (
+            "zz",
+            ["tpw", "step"].as_slice(),
+            1,
+            "tpw: standard input: no hexadecimal digit in column 1\n",
+        ),
+        (
+            "5450573",
+            ["tpw", "step"].as_slice(),
+            1,
+            "tpw: standard input: the second digit of a byte is missing in column 8\n",
+        ),
+        (
+            "54505732",
+            ["tpw", "step"].as_slice(),
+            1,
+            "tpw: standard input: no image: F2 at byte 4\n",
+        ),
+        (
+            INCREMENT,
+            ["tpw", "step", "--packet", "290"].as_slice(),
+            2,
+            "error: invalid value for '--packet <HEX>': it takes hexadecimal digits, an even number\n",
+        ),
+        (
+            INCREMENT,
+            ["tpw", "step", "--until", "-1"].as_slice(),
+            2,
+            "error: unexpected argument '-1' found\n",
+        ),
+        (
+            INCREMENT,
+            ["tpw", "step", "--until", "start"].as_slice(),
+            2,
+            "error: invalid value for '--until <PLACE>': it takes an address, as 36 or 0x24, or a count of steps, as +100\n",
+        ),
+        (
+            INCREMENT,
+            ["tpw"].as_slice(),
+            2,
+            "error: 'tpw' requires a subcommand but one was not provided\n",
+        ),
+        (
+            INCREMENT,
+            ["tpw", "walk"].as_slice(),
+            2,
+            "error: unrecognized subcommand 'walk'\n",
+        ),
+    ];
+    for (input, words, status, told) in cases {
+        let mut output = Vec::new(rt.alloc());
+        let mut input = input.as_bytes();
+        let ended = ran(rt.alloc(), words, &mut input, &mut output);
+        let errors = str::from_utf8(&ended.errors).map_err(|_| "no text")?;
+        assert!(rt; errors.starts_with(told), "{errors}");
+        assert_eq!(rt; ended.status, ExitCode::from(status), "{told}");
+        assert!(rt; output.is_empty());
+    }
+    Ok(())
+}
+
+/// All that `--help` says.
+const HELP: &str = "\
+Tools for those who write workers
+
+Usage: tpw <COMMAND>
+
+Commands:
+  step  Runs an image an instruction at a time, accepted by the verifier or not
+  help  Print this message or the help of the given subcommand(s)
+
+Options:
+  -h, --help     Print help
+  -V, --version  Print version
+";
+
+/// All that `step --help` says.
+const STEP_HELP: &str = "\
+Runs an image an instruction at a time, accepted by the verifier or not
+
+Usage: tpw step [OPTIONS]
+
+Options:
+      --packet <HEX>   The packet, as hexadecimal; an empty one where none is given
+      --from <PLACE>   The first instruction that is told
+      --until <PLACE>  Where the run is left
+  -h, --help           Print help
+
+Reads an image as hexadecimal on standard input: one line; line ends, and white space at the ends, are passed over.
+A PLACE is an address, as 36 or 0x24, or a count of steps, as +100.
+Status 0: the worker stopped, or was left at --until. Status 1: it is stuck, or does not end, or standard input is no image.
+docs/WORKERS.md reads a run.
+";
+
+#[test]
+fn help_and_version(rt: HostRuntime) -> Result<(), Fail> {
+    let cases = [
+        (["tpw", "--version"].as_slice(), "tpw 0.1\n"),
+        (["tpw", "--help"].as_slice(), HELP),
+        (["tpw", "step", "--help"].as_slice(), STEP_HELP),
+    ];
+    for (words, answer) in cases {
+        let mut output = Vec::new(rt.alloc());
+        let ended = ran(rt.alloc(), words, &mut Broken, &mut output);
+        assert_eq!(rt; str::from_utf8(&output).map_err(|_| "no text")?, answer);
+        assert_eq!(rt; ended.status, ExitCode::SUCCESS);
+        assert!(rt; ended.errors.is_empty());
+    }
+    Ok(())
+}
+
+#[test]
+fn tells_a_failed_read(rt: HostRuntime) {
+    let mut output = Vec::new(rt.alloc());
+    let ended = ran(rt.alloc(), &["tpw", "step"], &mut Broken, &mut output);
+    assert_eq!(rt; ended.status, ExitCode::from(1));
+    assert!(rt; output.is_empty());
+    assert!(rt; ended.errors.as_slice() == b"tpw: read\n".as_slice());
+}
+
+/// A run, help and the version where the output cannot be written, or not be flushed.
+#[test]
+fn tells_a_failed_write(rt: HostRuntime) {
+    for words in [
+        ["tpw", "step"].as_slice(),
+        ["tpw", "--help"].as_slice(),
+        ["tpw", "--version"].as_slice(),
+    ] {
+        let mut input = INCREMENT.as_bytes();
+        let broken = ran(rt.alloc(), words, &mut input, &mut Broken);
+        let mut input = INCREMENT.as_bytes();
+        let unflushed = ran(rt.alloc(), words, &mut input, &mut Unflushed);
+        for ended in [broken, unflushed] {
+            assert_eq!(rt; ended.status, ExitCode::from(1));
+            assert!(rt; ended.errors.as_slice() == b"tpw: write\n".as_slice());
+        }
+    }
+}
+
+/// Which words name which places.
+#[test]
+fn places(rt: HostRuntime) {
+    let cases = [
+        ("36", Some(Place::Address(36))),
+        ("0x24", Some(Place::Address(36))),
+        ("0xfF", Some(Place::Address(255))),
+        ("4294967295", Some(Place::Address(u32::MAX))),
+        ("4294967296", None),
+        ("+100", Some(Place::Count(100))),
+        ("+4294967296", Some(Place::Count(4_294_967_296))),
+        ("+18446744073709551616", None),
+        ("", None),
+        ("+", None),
+        ("0x", None),
+        ("++1", None),
+        ("0x+1", None),
+        ("24h", None),
+        (" 1", None),
+    ];
+    for (word, place) in cases {
+        assert_eq!(rt; place_of(word), place, "{word}");
+    }
+}
+
+/// Which texts say which bytes, and where others have their first fault.
+#[test]
+fn texts(rt: HostRuntime) {
+    let cases = [
+        ("", Ok([].as_slice())),
+        ("54 ", Ok([0x54].as_slice())),
+        (" \t54\n5\r\n0aF\r\n", Ok([0x54, 0x50, 0xAF].as_slice())),
+        ("54 50", Err(TextFault::NotADigit(3))),
+        ("  5g4", Err(TextFault::NotADigit(4))),
+        ("0x54", Err(TextFault::NotADigit(2))),
+        ("545\n", Err(TextFault::HalfAByte(4))),
+    ];
+    for (text, said) in cases {
+        match (bytes_of(rt.alloc(), text.as_bytes()), said) {
+            (Ok(bytes), Ok(wanted)) => assert!(rt; bytes.as_slice() == wanted, "{text}"),
+            (Err(fault), Err(wanted)) => assert_eq!(rt; fault, wanted, "{text}"),
+            _ => assert!(rt; false, "{text}"),
+        }
+    }
+}
+
+/// The status of each end of a run that is not run here, and what is told where memory is missing or a word is no text.
+#[test]
+fn endings(rt: HostRuntime) -> Result<(), Fail> {
+    assert_eq!(rt; Status::from(End::Unended), Status::Failed);
+    let endings = [
+        (
+            Ending::NotText,
+            Status::Refused,
+            "error: a word of the command line is not UTF-8\n",
+        ),
+        (
+            Ending::NoCommand,
+            Status::Refused,
+            "error: no command is given\n",
+        ),
+        (
+            Ending::from(clap::Error::from(AllocError)),
+            Status::Failed,
+            "tpw: memory\n",
+        ),
+        (
+            Ending::from(TextFault::Memory),
+            Status::Failed,
+            "tpw: memory\n",
+        ),
+    ];
+    for (ending, status, text) in &endings {
+        assert_eq!(rt; ending.status(), *status);
+        assert_eq!(rt; format!(in rt.alloc(); "{ending}")?.as_str(), *text);
+    }
+    Ok(())
+}
