@@ -93,9 +93,6 @@ pub left_over : (views : List View) (t : Turn) (n : ℕ) → LeftAt t n → AreB
 left_over views t n left drew =
     let behind = left.behind in
     let all : n + (t.pushed - n) ≡ t.pushed = omega arith in (
-      left.items.0,
-      left.items.1,
-      left.items.2,
       behind,
       (λ x. let a = times-append x (all_drawn views) (numbers_from n (t.pushed - n)) in let b = below_and_from x n (t.pushed - n) in let c = drew x in let d = ap (once_below x) all in omega arith),
     )

@@ -52,7 +52,7 @@ pop_made : (packets members id : ℕ) (items : List Item) (words : List ℕ) (st
 pop_made packets members id [] words stands h there may = absurd may
 pop_made packets members id (x ∷ items) words stands h there may =
     let law = pop_law packets members x items words stands id (slice_index_or stands id no_stand) h (stand_there stands id there) may in
-    (law.rule, law.made.farm, ap (λ r. r ∷ []) (sym law.made.answered))
+    (law.1.rule, law.1.made.farm, ap (λ r. r ∷ []) (sym law.1.made.answered))
 
 step_made : (packets members : ℕ) (g : Stage) (e : ℕ × StreamStep) → KeepsStage packets members g → MayMake g e → One packets members g e
 step_made packets members g (id, push) h (there, may) =

@@ -184,11 +184,13 @@ pop_law packets members (Number n) items words stands id s h at may =
     let count : n ≡ pops stands = omega arith in
     let below : pops stands < s.turn.packets = omega arith in
     let law = claim_law k (pops stands ∷ words) (map stand_seen stands) id (stand_seen s) (stand_law packets members (Number n ∷ items) words stands h, map_at stand_seen stands id s at, one) may in
-    let answer = ap (λ (b : Bool). if b then reply.Number (pops stands) else reply.NoMore) (lt-ltb (pops stands) s.turn.packets below) ∙ ap (λ m. reply.Number m) (sym count) in
-    popped packets members (Number n) items words stands id s (reply.Number n) h at may (so_number packets n s may.0 so)
-    (let a = length-append s.turn.popped (n ∷ []) in omega arith)
-    (seen_number s n (omega arith) ∙ ap (after_draw (stand_seen s)) count)
-    (subst (IsEvent k (pops stands ∷ words) (map stand_seen stands) (one_more (pops stands) ∷ words) (set (map stand_seen stands) id (after_draw (stand_seen s) (pops stands))) id Claim) answer law.1)
+    let answer = ap (λ (b : Bool). if b then reply.Number (pops stands) else reply.NoMore) (lt-ltb (pops stands) s.turn.packets below) ∙ ap (λ m. reply.Number m) (sym count) in (
+      law.0,
+      popped packets members (Number n) items words stands id s (reply.Number n) h at may (so_number packets n s may.0 so)
+          (let a = length-append s.turn.popped (n ∷ []) in omega arith)
+          (seen_number s n (omega arith) ∙ ap (after_draw (stand_seen s)) count)
+          (subst (IsEvent k (pops stands ∷ words) (map stand_seen stands) (one_more (pops stands) ∷ words) (set (map stand_seen stands) id (after_draw (stand_seen s) (pops stands))) id Claim) answer law.1),
+    )
 pop_law packets members End items words stands id s h at may =
     let r = h.line in
     let k = size packets (members + 1) in
@@ -203,8 +205,10 @@ pop_law packets members End items words stands id s h at may =
     let last = r.marks_last (omega arith) in
     let above : s.turn.packets ≤ pops stands = omega arith in
     let law = claim_law k (pops stands ∷ words) (map stand_seen stands) id (stand_seen s) (stand_law packets members (End ∷ items) words stands h, map_at stand_seen stands id s at, one) may in
-    let answer = ap (λ (b : Bool). if b then reply.Number (pops stands) else reply.NoMore) (le-ltb (pops stands) s.turn.packets above) in
-    popped packets members End items words stands id s reply.NoMore h at may (so_end packets s may.1 so)
-    (omega arith)
-    (seen_end s (pops stands) above)
-    (subst (IsEvent k (pops stands ∷ words) (map stand_seen stands) (one_more (pops stands) ∷ words) (set (map stand_seen stands) id (after_draw (stand_seen s) (pops stands))) id Claim) answer law.1)
+    let answer = ap (λ (b : Bool). if b then reply.Number (pops stands) else reply.NoMore) (le-ltb (pops stands) s.turn.packets above) in (
+      law.0,
+      popped packets members End items words stands id s reply.NoMore h at may (so_end packets s may.1 so)
+          (omega arith)
+          (seen_end s (pops stands) above)
+          (subst (IsEvent k (pops stands ∷ words) (map stand_seen stands) (one_more (pops stands) ∷ words) (set (map stand_seen stands) id (after_draw (stand_seen s) (pops stands))) id Claim) answer law.1),
+    )

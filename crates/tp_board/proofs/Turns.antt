@@ -377,7 +377,6 @@ pub left_at : (v : Turn) (n : ℕ) → length v.popped ≡ n → (items : List I
 left_at v n popped h =
     let l = h.1 in
     let same : l.0 ≡ n = sym l.4 ∙ popped in record {
-      items = (h.0, v.marks - v.ended, l.1 ∙ ap (λ d. line d (v.pushed - d) (v.marks - v.ended)) same);
       behind = (let a = l.2 in omega arith);
       each_once = (λ x. l.3 x ∙ ap (once_below x) same);
       counted = popped;

@@ -114,9 +114,8 @@ Left v items =
     × (v.pushed ≤ v.packets)
     × (0 < v.ended → drawn ≡ v.packets)
 
--- the same, where the numbers popped are those below n
+-- what stays true of it where it drains the queue: the numbers popped are those below n
 pub record LeftAt (v : Turn) (n : ℕ) : Type 0 where
-  pub items : (items : List Item) × (m : ℕ) × (items ≡ line n (v.pushed - n) m)
   pub behind : n ≤ v.pushed
   pub each_once : AreBelow v.popped n
   pub counted : length v.popped ≡ n

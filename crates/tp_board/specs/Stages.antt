@@ -4,6 +4,7 @@ use mathlib.Core.Option.{some}
 use lib.ListN.{get_elem?}
 use Rattle.tp_board.specs.declared.event.Event.{Event}
 use Rattle.tp_board.specs.declared.event.Event.TheVariants.{Claim, Finish, Abandon, Stop, Look}
+use Rattle.tp_board.specs.declared.event.Shown.TheVariants.{Claimed}
 use Rattle.tp_board.specs.declared.event.Reply.{Reply}
 use Rattle.tp_board.specs.declared.event.Reply.TheVariants as reply
 use Rattle.tp_board.specs.declared.line.Item.{Item}
@@ -73,7 +74,7 @@ pub record IsStreamEvent (packets members : ℕ) (words : List ℕ) (stands : Li
   pub made : IsEvent (size packets (members + 1)) (pops stands ∷ words) (map stand_seen stands) (pops stands' ∷ words') (map stand_seen stands') id event reply
 
 -- a pop of a packet is Claim answered with its number, and a pop of an end mark Claim answered NoMore,
--- by one who has nothing in hand and has not learnt the end
+-- by one who has nothing in hand and has not learnt the end, and who finds the count of pops fresh
 abbrev pub pop_reply : Item → Reply
 pop_reply (Number n) = reply.Number n
 pop_reply End = reply.NoMore
@@ -84,7 +85,8 @@ PopLaw =
     → KeepsStream packets members (x ∷ items) words stands
     → get_elem? stands id ≡ some s
     → MayStep Claim (stand_seen s)
-    → IsStreamEvent packets members words stands items words (slice_set stands id (after_pop s x)) id Claim (pop_reply x)
+    → IsFresh (stand_seen s) Claimed (pops stands)
+    × IsStreamEvent packets members words stands items words (slice_set stands id (after_pop s x)) id Claim (pop_reply x)
 
 -- a push of the next item leaves the board as it was
 abbrev pub PushLaw : Type 0

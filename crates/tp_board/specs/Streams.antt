@@ -15,7 +15,7 @@ use Rattle.tp_board.specs.declared.stream_hand.Fed.TheVariants as fed
 use Rattle.tp_board.specs.declared.view.View.{View}
 use Rattle.tp_board.specs.Calls.{MadeStep, made, Makes, sees_no_stop, sees_stop}
 use Rattle.tp_board.specs.Counting.{times, hand_list, AreBelow}
-use Rattle.tp_board.specs.Lines.{line, hand, feeder, item_of, put, MayPut, Waits}
+use Rattle.tp_board.specs.Lines.{hand, feeder, item_of, put, MayPut, Waits}
 use Rattle.tp_board.specs.Openings.{InRange}
 use Rattle.tp_board.specs.Runs.{numbers_from}
 use Rattle.tp_board.specs.Views.{newcomer, all_drawn}
@@ -180,11 +180,7 @@ FeedSays f fed.Stopped g = Makes (feeder_seen f) (sees_stop ∷ []) (feeder_seen
 FeedSays f fed.Over g = LooksOnly f g × (f.turn.pushed ≡ f.turn.packets) × (f.turn.marks ≡ f.turn.members)
 
 -- ---- the close
--- the queue held these items: the numbers from `drawn` to `pushed`, and then marks; the numbers that
--- the hands drew and those left in the queue are the numbers below `pushed`, each once
+-- the numbers that the hands drew and those left in the queue, from `drawn` to `pushed`, are the
+-- numbers below `pushed`, each once
 abbrev pub IsLeft : List View → ℕ → ℕ → Type 0
-IsLeft views pushed drawn =
-    (items : List Item) × (marks : ℕ)
-    × (items ≡ line drawn (pushed - drawn) marks)
-    × (drawn ≤ pushed)
-    × AreBelow (all_drawn views ++ numbers_from drawn (pushed - drawn)) pushed
+IsLeft views pushed drawn = (drawn ≤ pushed) × AreBelow (all_drawn views ++ numbers_from drawn (pushed - drawn)) pushed
