@@ -220,7 +220,7 @@ impl Rates {
 }
 
 /// The rates of a worker's batches by so many members, from the queue and from the board, taken in turn.
-fn rates<R: Runtime<A = Global> + Threads + Wait + Sync>(
+fn both_rates<R: Runtime<A = Global> + Threads + Wait + Sync>(
     rt: &R,
     image: &Accepted,
     members: u32,
@@ -258,7 +258,7 @@ fn timed<R: Runtime<A = Global> + Threads + Wait + Sync>(rt: &R, worker: &Worker
     let name = worker.name;
     let mut one_member = None;
     for members in MEMBERS {
-        let (queue, board) = rates(rt, &image, members)?;
+        let (queue, board) = both_rates(rt, &image, members)?;
         let what = format!(in rt.alloc(); "{name}, members {members}, queue")?;
         tell(
             rt,
