@@ -36,11 +36,26 @@ cell_at-joined cells others i long = by_place (cases_lt i (length cells))
         get_or-eq_default (joined_cells cells others) Undef past_all
         ∙ sym (ap (λ c. join_cells c (cell_at others i)) (get_or-eq_default cells Undef past) ∙ ap (λ c. join_cells Undef c) (get_or-eq_default others Undef past_others))
 
+-- whether any register of a state changed
+pub tells_any : (s : State) (a' b' c' : Kind) (a b c : Bool) → TellsChange a s.a a' → TellsChange b s.b b' → TellsChange c s.c c'
+    → TellsChange (a || b || c) s (record s { a = a'; b = b'; c = c' })
+tells_any s a' b' c' true b c ha hb hc = record { stays = λ e. absurd (cc); moves = λ e all. ha.moves refl (ap (λ t. t.a) all) }
+tells_any s a' b' c' false true c ha hb hc = record { stays = λ e. absurd (cc); moves = λ e all. hb.moves refl (ap (λ t. t.b) all) }
+tells_any s a' b' c' false false true ha hb hc = record { stays = λ e. absurd (cc); moves = λ e all. hc.moves refl (ap (λ t. t.c) all) }
+tells_any s a' b' c' false false false ha hb hc = record { stays = λ e. rw (ha.stays refl, hb.stays refl, hc.stays refl) refl; moves = λ e. absurd (cc) }
+
 -- whether any part of a state changed
-pub tells_any : (s : State) (a' b' c' : Kind) (cells' : List Cell) (cells a b c : Bool) → TellsChange cells s.cells cells' → TellsChange a s.a a' → TellsChange b s.b b' → TellsChange c s.c c'
-    → TellsChange (cells || a || b || c) s (record s { a = a'; b = b'; c = c'; cells = cells' })
-tells_any s a' b' c' cells' true a b c h ha hb hc = record { stays = λ e. absurd (cc); moves = λ e all. h.moves refl (ap (λ t. t.cells) all) }
-tells_any s a' b' c' cells' false true b c h ha hb hc = record { stays = λ e. absurd (cc); moves = λ e all. ha.moves refl (ap (λ t. t.a) all) }
-tells_any s a' b' c' cells' false false true c h ha hb hc = record { stays = λ e. absurd (cc); moves = λ e all. hb.moves refl (ap (λ t. t.b) all) }
-tells_any s a' b' c' cells' false false false true h ha hb hc = record { stays = λ e. absurd (cc); moves = λ e all. hc.moves refl (ap (λ t. t.c) all) }
-tells_any s a' b' c' cells' false false false false h ha hb hc = record { stays = λ e. rw (h.stays refl, ha.stays refl, hb.stays refl, hc.stays refl) refl; moves = λ e. absurd (cc) }
+pub tells_either : (s : State) (a' b' c' : Kind) (cells' : List Cell) (registers cells : Bool) → TellsChange cells s.cells cells'
+    → TellsChange registers (record s { cells = cells' }) (record s { a = a'; b = b'; c = c'; cells = cells' })
+    → TellsChange (registers || cells) s (record s { a = a'; b = b'; c = c'; cells = cells' })
+tells_either s a' b' c' cells' true cells h hr = record {
+  stays = λ e. absurd (cc);
+  moves = λ e all.
+      let alike : cells' ≡ s.cells = ap (λ t. t.cells) all in
+      hr.moves refl (all ∙ ap (λ words. let t : State = record s { cells = words } in t) (sym alike));
+}
+tells_either s a' b' c' cells' false true h hr = record { stays = λ e. absurd (cc); moves = λ e all. h.moves refl (ap (λ t. t.cells) all) }
+tells_either s a' b' c' cells' false false h hr = record {
+  stays = λ e. hr.stays refl ∙ ap (λ words. let t : State = record s { cells = words } in t) (h.stays refl);
+  moves = λ e. absurd (cc);
+}

@@ -124,7 +124,7 @@ true_test : (b : Bool) → IsTrue b → b ≡ true
 true_test true h = refl
 true_test false h = absurd (search rules)
 
-same_test : (v : ℕ) → not (v == v) ≡ false
+pub same_test : (v : ℕ) → not (v == v) ≡ false
 same_test v = grind (arith, nat_tests)
 
 other_test : (v u : ℕ) → (v ≡ u → ⊥) → not (v == u) ≡ true

@@ -45,15 +45,15 @@ some_moved new old e small =
 
 -- ---- two cells of one value are alike only where their bits are
 
-known_not_live : (n v : ℕ) → LiveWays v → live_of v ≡ cell_of false false n → ⊥
+pub known_not_live : (n v : ℕ) → LiveWays v → live_of v ≡ cell_of false false n → ⊥
 known_not_live n v (inl (is, _)) e = absurd (cc)
 known_not_live n v (inr (is, _)) e = absurd (cc)
 
-any_not_live : (v : ℕ) → LiveWays v → live_of v ≡ Any → ⊥
+pub any_not_live : (v : ℕ) → LiveWays v → live_of v ≡ Any → ⊥
 any_not_live v (inl (is, _)) e = absurd (cc)
 any_not_live v (inr (is, _)) e = absurd (cc)
 
-undef_not_live : (v : ℕ) → LiveWays v → live_of v ≡ Undef → ⊥
+pub undef_not_live : (v : ℕ) → LiveWays v → live_of v ≡ Undef → ⊥
 undef_not_live v (inl (is, _)) e = absurd (cc)
 undef_not_live v (inr (is, _)) e = absurd (cc)
 
@@ -94,6 +94,44 @@ all_closed k j full lt clear =
     let on : nat_lt j 64 ≡ true = grind (arith, nat_tests) in
     false≢true (sym clear ∙ ap (λ n. is_set n j) full ∙ set_ones 64 j ∙ on)
 
+-- of words that have a value in both of two planes' words, it is told which values differ
+abbrev pub TellsDiffer : List ℕ → List ℕ → (w d : ℕ) → Bits → Bits → Type 0
+TellsDiffer values others w d b c = (p : ℕ) → p / 64 ≡ w → is_set b.first (p % 64) ≡ false → is_set c.first (p % 64) ≡ false → is_set d (p % 64) ≡ not (get_or values p 0 == get_or others p 0)
+
+-- words behind the workspace have none
+open_inside : (values : List ℕ) (planes : List Bits) (w p : ℕ) → ((x : ℕ) → length values ≤ x → x / 64 ≡ w → cell_in values planes x ≡ Undef) → p / 64 ≡ w → is_set (get_or planes w no_bits).first (p % 64) ≡ false → p < length values
+open_inside values planes w p padded here clear = by_place (cases_lt p (length values))
+  where
+    by_place : (p < length values) ⊎ (length values ≤ p) → p < length values
+    by_place (inl lt) = lt
+    by_place (inr past) =
+        let undefined : bits_cell (get_or planes w no_bits) (p % 64) (get_or values p 0) ≡ Undef = sym (cell_in-word values planes p w here) ∙ padded p past here in
+        let on : is_set (get_or planes w no_bits).first (p % 64) ≡ true = (same_bits (is_set (get_or planes w no_bits).first (p % 64)) (is_set (get_or planes w no_bits).second (p % 64)) true true (get_or values p 0) undefined).0 in
+        absurd (false≢true (sym clear ∙ on))
+
+tells_inside : (values others : List ℕ) (w k d : ℕ) (b c : Bits) → DifferAt values others w k d → Closes k b c → (p : ℕ) → p / 64 ≡ w → p < length values → is_set b.first (p % 64) ≡ false → is_set c.first (p % 64) ≡ false → is_set d (p % 64) ≡ not (get_or values p 0 == get_or others p 0)
+tells_inside values others w k d b c differ closes p here lt clear other =
+    let back : 64 * w + p % 64 ≡ p = omega (arith, here) in
+    differ (p % 64) (in_word p) (omega (arith, back, lt)) (not_closed k b c (p % 64) closes clear other) ∙ ap (λ i. not (get_or values i 0 == get_or others i 0)) back
+
+-- where values are compared
+pub tells_joining : (values other_values : List ℕ) (old others mid : List Bits) (w k d : ℕ) → ((x : ℕ) → length values ≤ x → x < 64 * length old → cell_in values old x ≡ Undef) → w < length mid
+    → ChangesPlanes values old mid (λ i c. join_cells c (cell_in other_values others i)) 0 (min (64 * length old) (64 * w))
+    → DifferAt values other_values w k d → Closes k (get_or mid w no_bits) (get_or others w no_bits)
+    → TellsDiffer values other_values w d (get_or mid w no_bits) (get_or others w no_bits)
+tells_joining values other_values old others mid w k d padded room h differ closes p here clear other = tells_inside values other_values w k d (get_or mid w no_bits) (get_or others w no_bits) differ closes p here (open_inside values mid w p still here clear) clear other
+  where
+    -- the words from w on are as they were
+    still : (x : ℕ) → length values ≤ x → x / 64 ≡ w → cell_in values mid x ≡ Undef
+    still x past at = h.outside x (inr (omega (arith, at))) ∙ padded x past (omega (arith, at, room, h.long))
+
+pub tells_comparing : (values other_values : List ℕ) (planes others : List Bits) (w k d : ℕ) → ((x : ℕ) → length other_values ≤ x → x < 64 * length others → cell_in other_values others x ≡ Undef) → w < length others → length other_values ≡ length values
+    → DifferAt values other_values w k d → Closes k (get_or planes w no_bits) (get_or others w no_bits)
+    → TellsDiffer values other_values w d (get_or planes w no_bits) (get_or others w no_bits)
+tells_comparing values other_values planes others w k d padded room long differ closes p here clear other =
+    let inside : p < length other_values = open_inside other_values others w p (λ x past at. padded x past (omega (arith, at, room))) here other in
+    tells_inside values other_values w k d (get_or planes w no_bits) (get_or others w no_bits) differ closes p here (omega (arith, inside, long)) clear other
+
 abbrev pub AreWords : List ℕ → Type 0
 AreWords values = (i : ℕ) → get_or values i 0 < 2 ^ 32
 
@@ -103,37 +141,20 @@ pub record JoinsPlanes (values other_values : List ℕ) (old others new : List B
   pub stays : changed ≡ false → new ≡ old
   pub moves : changed ≡ true → (i : ℕ) × (i < 64 * w) × ¬ (cell_in values new i ≡ cell_in values old i)
 
-pub joined_more : (values other_values : List ℕ) (old others mid : List Bits) (w k d : ℕ) (b : Bits)
-    → ((x : ℕ) → length values ≤ x → x < 64 * length old → cell_in values old x ≡ Undef)
-    → AreWords values → AreWords other_values → DifferAt values other_values w k d → Closes k (get_or mid w no_bits) (get_or others w no_bits) → w < length mid
+pub joined_more : (values other_values : List ℕ) (old others mid : List Bits) (w d : ℕ) (b : Bits)
+    → AreWords values → AreWords other_values → TellsDiffer values other_values w d (get_or mid w no_bits) (get_or others w no_bits) → w < length mid
     → ChangesPlanes values old mid (λ i c. join_cells c (cell_in other_values others i)) 0 (min (64 * length old) (64 * w))
     → b ≡ joined_bits d (get_or mid w no_bits) (get_or others w no_bits)
     → ChangesPlanes values old (slice_set mid w b) (λ i c. join_cells c (cell_in other_values others i)) 0 (min (64 * length old) (64 * (w + 1)))
-joined_more values other_values old others mid w k d b padded words other_words differ closes room h is = changes_more values old mid (λ i c. join_cells c (cell_in other_values others i)) 0 (64 * length old) w b h room takes keeps
+joined_more values other_values old others mid w d b words other_words tells room h is = changes_more values old mid (λ i c. join_cells c (cell_in other_values others i)) 0 (64 * length old) w b h room takes keeps
   where
     was : Bits
     was = get_or mid w no_bits
 
-    -- the words from w on are as they were
-    still : (x : ℕ) → length values ≤ x → x < 64 * length mid → x / 64 ≡ w → cell_in values mid x ≡ Undef
-    still x past lt here = h.outside x (inr (omega (arith, here))) ∙ padded x past (omega (arith, lt, h.long))
-
-    tells : (p : ℕ) → p / 64 ≡ w → is_set was.first (p % 64) ≡ false → is_set (get_or others w no_bits).first (p % 64) ≡ false → is_set d (p % 64) ≡ not (get_or values p 0 == get_or other_values p 0)
-    tells p here clear other = by_place (cases_lt p (length values))
-      where
-        by_place : (p < length values) ⊎ (length values ≤ p) → is_set d (p % 64) ≡ not (get_or values p 0 == get_or other_values p 0)
-        by_place (inl lt) =
-            let back : 64 * w + p % 64 ≡ p = omega (arith, here) in
-            differ (p % 64) (in_word p) (omega (arith, back, lt)) (not_closed k was (get_or others w no_bits) (p % 64) closes clear other) ∙ ap (λ i. not (get_or values i 0 == get_or other_values i 0)) back
-        by_place (inr past) =
-            let undefined : bits_cell was (p % 64) (get_or values p 0) ≡ Undef = sym (cell_in-word values mid p w here) ∙ still p past (omega (arith, here, room)) here in
-            let on : is_set was.first (p % 64) ≡ true = (same_bits (is_set was.first (p % 64)) (is_set was.second (p % 64)) true true (get_or values p 0) undefined).0 in
-            absurd (false≢true (sym clear ∙ on))
-
     takes : (p : ℕ) → p / 64 ≡ w → 0 ≤ p → p < 64 * length old → bits_cell b (p % 64) (get_or values p 0) ≡ join_cells (bits_cell was (p % 64) (get_or values p 0)) (cell_in other_values others p)
     takes p here low high =
         ap (λ c. bits_cell c (p % 64) (get_or values p 0)) is
-        ∙ joined_where d was (get_or others w no_bits) (p % 64) (get_or values p 0) (get_or other_values p 0) (words p) (other_words p) (λ clear other. tells p here clear other)
+        ∙ joined_where d was (get_or others w no_bits) (p % 64) (get_or values p 0) (get_or other_values p 0) (words p) (other_words p) (tells p here)
         ∙ ap (λ c. join_cells (bits_cell was (p % 64) (get_or values p 0)) c) (sym (cell_in-word other_values others p w here))
 
     keeps : (p : ℕ) → p / 64 ≡ w → (p < 0) ⊎ (64 * length old ≤ p) → bits_cell b (p % 64) (get_or values p 0) ≡ bits_cell was (p % 64) (get_or values p 0)
@@ -161,14 +182,13 @@ joins_none values other_values old others = record {
 }
 
 -- one more, which moves
-pub joins_moved : (values other_values : List ℕ) (old others mid : List Bits) (w k d : ℕ) (b : Bits) (changed : Bool)
-    → ((x : ℕ) → length values ≤ x → x < 64 * length old → cell_in values old x ≡ Undef)
-    → AreWords values → AreWords other_values → DifferAt values other_values w k d → Closes k (get_or mid w no_bits) (get_or others w no_bits) → w < length mid
+pub joins_moved : (values other_values : List ℕ) (old others mid : List Bits) (w d : ℕ) (b : Bits) (changed : Bool)
+    → AreWords values → AreWords other_values → TellsDiffer values other_values w d (get_or mid w no_bits) (get_or others w no_bits) → w < length mid
     → JoinsPlanes values other_values old others mid w changed
     → b ≡ joined_bits d (get_or mid w no_bits) (get_or others w no_bits) → Moves (get_or mid w no_bits) b
     → JoinsPlanes values other_values old others (slice_set mid w b) (w + 1) true
-joins_moved values other_values old others mid w k d b changed padded words other_words differ closes room h is moves = record {
-  joined = joined_more values other_values old others mid w k d b padded words other_words differ closes room h.joined is;
+joins_moved values other_values old others mid w d b changed words other_words tells room h is moves = record {
+  joined = joined_more values other_values old others mid w d b words other_words tells room h.joined is;
   stays = λ e. absurd (false≢true (sym e));
   moves = λ _. here (moved_cell values mid w b room moves);
 }
@@ -177,14 +197,13 @@ joins_moved values other_values old others mid w k d b changed padded words othe
     here (i, word_of, other) = (i, omega (arith, word_of), λ same. other (same ∙ sym (h.joined.outside i (inr (omega (arith, word_of))))))
 
 -- one more, which stays
-pub joins_kept : (values other_values : List ℕ) (old others mid : List Bits) (w k d : ℕ) (b : Bits) (changed : Bool)
-    → ((x : ℕ) → length values ≤ x → x < 64 * length old → cell_in values old x ≡ Undef)
-    → AreWords values → AreWords other_values → DifferAt values other_values w k d → Closes k (get_or mid w no_bits) (get_or others w no_bits) → w < length mid
+pub joins_kept : (values other_values : List ℕ) (old others mid : List Bits) (w d : ℕ) (b : Bits) (changed : Bool)
+    → AreWords values → AreWords other_values → TellsDiffer values other_values w d (get_or mid w no_bits) (get_or others w no_bits) → w < length mid
     → JoinsPlanes values other_values old others mid w changed
     → b ≡ joined_bits d (get_or mid w no_bits) (get_or others w no_bits) → b ≡ get_or mid w no_bits
     → JoinsPlanes values other_values old others (slice_set mid w b) (w + 1) changed
-joins_kept values other_values old others mid w k d b changed padded words other_words differ closes room h is kept = record {
-  joined = joined_more values other_values old others mid w k d b padded words other_words differ closes room h.joined is;
+joins_kept values other_values old others mid w d b changed words other_words tells room h is kept = record {
+  joined = joined_more values other_values old others mid w d b words other_words tells room h.joined is;
   stays = λ e. same ∙ h.stays e;
   moves = λ e. before (h.moves e);
 }
@@ -202,47 +221,32 @@ joined_end values other_values old others new w changed h end =
 
 -- ---- words that are compared, one after another
 
-fails_here : (values other_values : List ℕ) (planes others : List Bits) (w k d n p : ℕ)
-    → ((x : ℕ) → length other_values ≤ x → x < 64 * length others → cell_in other_values others x ≡ Undef)
-    → AreWords values → AreWords other_values → DifferAt values other_values w k d → Closes k (get_or planes w no_bits) (get_or others w no_bits) → length other_values ≡ length values → w < length others
+fails_here : (values other_values : List ℕ) (planes others : List Bits) (w d n p : ℕ)
+    → AreWords values → AreWords other_values → TellsDiffer values other_values w d (get_or planes w no_bits) (get_or others w no_bits) → w < length others
     → n ≡ failing_bits d (get_or planes w no_bits) (get_or others w no_bits) → p / 64 ≡ w
     → is_set n (p % 64) ≡ not (cell_below (cell_in values planes p) (cell_in other_values others p))
-fails_here values other_values planes others w k d n p padded words other_words differ closes long room is here =
+fails_here values other_values planes others w d n p words other_words tells room is here =
     ap (λ m. is_set m (p % 64)) is
-    ∙ failing_where d (get_or planes w no_bits) (get_or others w no_bits) (p % 64) (get_or values p 0) (get_or other_values p 0) (words p) (other_words p) (λ clear other. tells clear other)
+    ∙ failing_where d (get_or planes w no_bits) (get_or others w no_bits) (p % 64) (get_or values p 0) (get_or other_values p 0) (words p) (other_words p) (tells p here)
     ∙ ap (λ c. not (cell_below c (bits_cell (get_or others w no_bits) (p % 64) (get_or other_values p 0)))) (sym (cell_in-word values planes p w here))
     ∙ ap (λ c. not (cell_below (cell_in values planes p) c)) (sym (cell_in-word other_values others p w here))
-  where
-    tells : is_set (get_or planes w no_bits).first (p % 64) ≡ false → is_set (get_or others w no_bits).first (p % 64) ≡ false → is_set d (p % 64) ≡ not (get_or values p 0 == get_or other_values p 0)
-    tells clear other = by_place (cases_lt p (length values))
-      where
-        by_place : (p < length values) ⊎ (length values ≤ p) → is_set d (p % 64) ≡ not (get_or values p 0 == get_or other_values p 0)
-        by_place (inl lt) =
-            let back : 64 * w + p % 64 ≡ p = omega (arith, here) in
-            differ (p % 64) (in_word p) (omega (arith, back, lt)) (not_closed k (get_or planes w no_bits) (get_or others w no_bits) (p % 64) closes clear other) ∙ ap (λ i. not (get_or values i 0 == get_or other_values i 0)) back
-        by_place (inr past) =
-            let undefined : bits_cell (get_or others w no_bits) (p % 64) (get_or other_values p 0) ≡ Undef = sym (cell_in-word other_values others p w here) ∙ padded p (omega (arith, past, long)) (omega (arith, here, room)) in
-            let on : is_set (get_or others w no_bits).first (p % 64) ≡ true = (same_bits (is_set (get_or others w no_bits).first (p % 64)) (is_set (get_or others w no_bits).second (p % 64)) true true (get_or other_values p 0) undefined).0 in
-            absurd (false≢true (sym other ∙ on))
 
-pub below_more : (values other_values : List ℕ) (planes others : List Bits) (w k d n : ℕ)
-    → ((x : ℕ) → length other_values ≤ x → x < 64 * length others → cell_in other_values others x ≡ Undef)
-    → AreWords values → AreWords other_values → DifferAt values other_values w k d → Closes k (get_or planes w no_bits) (get_or others w no_bits) → length other_values ≡ length values → w < length others
+pub below_more : (values other_values : List ℕ) (planes others : List Bits) (w d n : ℕ)
+    → AreWords values → AreWords other_values → TellsDiffer values other_values w d (get_or planes w no_bits) (get_or others w no_bits) → w < length others
     → n ≡ failing_bits d (get_or planes w no_bits) (get_or others w no_bits) → n ≡ 0
     → ((i : ℕ) → i < 64 * w → cell_below (cell_in values planes i) (cell_in other_values others i) ≡ true)
     → (i : ℕ) → i < 64 * (w + 1) → cell_below (cell_in values planes i) (cell_in other_values others i) ≡ true
-below_more values other_values planes others w k d n padded words other_words differ closes long room is none h i lt = by_word (cases_eq (i / 64) w)
+below_more values other_values planes others w d n words other_words tells room is none h i lt = by_word (cases_eq (i / 64) w)
   where
     by_word : (i / 64 ≡ w) ⊎ (i / 64 ≡ w → ⊥) → cell_below (cell_in values planes i) (cell_in other_values others i) ≡ true
-    by_word (inl at) = not_false (cell_below (cell_in values planes i) (cell_in other_values others i)) (sym (fails_here values other_values planes others w k d n i padded words other_words differ closes long room is at) ∙ ap (λ m. is_set m (i % 64)) none ∙ none_set (i % 64))
+    by_word (inl at) = not_false (cell_below (cell_in values planes i) (cell_in other_values others i)) (sym (fails_here values other_values planes others w d n i words other_words tells room is at) ∙ ap (λ m. is_set m (i % 64)) none ∙ none_set (i % 64))
     by_word (inr other) = h i (omega (arith, lt, other))
 
-pub below_found : (values other_values : List ℕ) (planes others : List Bits) (w k d n : ℕ)
-    → ((x : ℕ) → length other_values ≤ x → x < 64 * length others → cell_in other_values others x ≡ Undef)
-    → AreWords values → AreWords other_values → DifferAt values other_values w k d → Closes k (get_or planes w no_bits) (get_or others w no_bits) → length other_values ≡ length values → w < length others
+pub below_found : (values other_values : List ℕ) (planes others : List Bits) (w d n : ℕ)
+    → AreWords values → AreWords other_values → TellsDiffer values other_values w d (get_or planes w no_bits) (get_or others w no_bits) → w < length others
     → n ≡ failing_bits d (get_or planes w no_bits) (get_or others w no_bits) → n < 2 ^ 64 → (n ≡ 0 → ⊥)
     → (i : ℕ) × (i < 64 * length others) × (cell_below (cell_in values planes i) (cell_in other_values others i) ≡ false)
-below_found values other_values planes others w k d n padded words other_words differ closes long room is small some =
+below_found values other_values planes others w d n words other_words tells room is small some =
     let found = some_set n (omega (arith, some)) small in
     at found.0 found.1 found.2
   where
@@ -250,7 +254,7 @@ below_found values other_values planes others w k d n padded words other_words d
     at j lt on =
         let word_of : (64 * w + j) / 64 ≡ w = omega (arith, lt) in
         let bit_of : (64 * w + j) % 64 ≡ j = omega (arith, lt) in
-        let fails : not (cell_below (cell_in values planes (64 * w + j)) (cell_in other_values others (64 * w + j))) ≡ true = sym (fails_here values other_values planes others w k d n (64 * w + j) padded words other_words differ closes long room is word_of) ∙ ap (λ k. is_set n k) bit_of ∙ on in
+        let fails : not (cell_below (cell_in values planes (64 * w + j)) (cell_in other_values others (64 * w + j))) ≡ true = sym (fails_here values other_values planes others w d n (64 * w + j) words other_words tells room is word_of) ∙ ap (λ k. is_set n k) bit_of ∙ on in
         (64 * w + j, omega (arith, lt, room), not_true (cell_below (cell_in values planes (64 * w + j)) (cell_in other_values others (64 * w + j))) fails)
 
 -- bits that say Undef say it with any value

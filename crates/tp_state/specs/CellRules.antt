@@ -41,6 +41,12 @@ is_defined cell = true
 abbrev pub are_defined : List Cell → Bool
 are_defined cells = list_all is_defined cells
 
+-- one value of the word, or the live loop that it is of, is known
+abbrev pub has_value : Cell → Bool
+has_value Undef = false
+has_value Any = false
+has_value cell = true
+
 -- what is read from a word; the index of a live loop goes from its start over its turns, and its count from 1
 unfoldable pub read : List LoopRow → Cell → Result Kind StateCode
 read rows Undef = Err S4

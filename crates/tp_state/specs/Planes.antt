@@ -6,6 +6,7 @@ use Rattle.tp_decode.specs.Words.{signed}
 use Rattle.tp_state.specs.declared.cell.Cell.{Cell}
 use Rattle.tp_state.specs.declared.cell.Cell.TheVariants.{Undef, Any, Known, Index, Count}
 use Rattle.tp_state.specs.declared.planes.Bits.{Bits}
+use Rattle.tp_state.specs.CellRules.{has_value}
 
 -- ---- one word
 
@@ -95,6 +96,12 @@ pub record ChangesPlanes (values : List ℕ) (old new : List Bits) (f : ℕ → 
   pub long : length new ≡ length old
   pub inside : (i : ℕ) → x ≤ i → i < end → cell_in values new i ≡ f i (cell_in values old i)
   pub outside : (i : ℕ) → (i < x) ⊎ (end ≤ i) → cell_in values new i ≡ cell_in values old i
+
+-- words that have a value in both have the same, and all values are words
+pub record Agree (values other_values : List ℕ) (planes others : List Bits) : Type 0 where
+  pub words : (i : ℕ) → slice_index_or values i 0 < 2 ^ 32
+  pub other_words : (i : ℕ) → slice_index_or other_values i 0 < 2 ^ 32
+  pub alike : (i : ℕ) → i < 64 * length planes → has_value (cell_in values planes i) ≡ true → has_value (cell_in other_values others i) ≡ true → cell_in values planes i ≡ cell_in other_values others i
 
 -- these words of two planes' words differ in a bit
 abbrev pub Moves : Bits → Bits → Type 0

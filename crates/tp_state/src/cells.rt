@@ -1,7 +1,7 @@
 //! What is known of the words of a workspace.
 
 ghost use Rattle.std.specs.Prelude.{◌≡◌, ◌+◌, ◌≤◌, ◌<◌, length, map, replicate, take, drop, slice_set, min, IsTrue, IfOk, pos, ◌++◌, ◌-◌, ℕ, true, false};
-ghost use Rattle.tp_state.specs.CellRules.{cell_at, cells_from, with_cells, are_free, are_defined, blurred, copied};
+ghost use Rattle.tp_state.specs.CellRules.{cell_at, cells_from, with_cells, are_free, are_defined, has_value, blurred, copied};
 ghost use Rattle.tp_state.specs.Rules.{are_apart};
 ghost use Rattle.tp_state.specs.Order.{cell_below, joined_cells, TellsChange};
 ghost use Rattle.tp_state.specs.Planes.{seen, IsWhole};
@@ -9,8 +9,8 @@ ghost use Rattle.tp_state.specs.Entry.{first_cells};
 
 use crate::cell::Cell;
 use crate::planes::{
-    Bits, Kept, WORDS, all_defined, all_free, blur_all, join_planes, planes_below, put_all,
-    put_one, whole_planes,
+    Bits, Kept, WORDS, all_defined, all_free, blur_all, join_agreeing_planes, join_planes,
+    planes_below, put_all, put_one, set_planes, whole_planes,
 };
 use std::alloc::{AllocError, Global};
 use std::marker::Model;
@@ -85,6 +85,15 @@ impl Cells {
         );
     }
 
+    /// It takes the value of cells that say as much or less: a value that means something there stands here already.
+    pub(crate) fn rise_to(&mut self, others: &Cells)
+        requires sized { length others.now ≡ length self.old }
+        requires below { (i : ℕ) → IsTrue (cell_below (cell_at self.old i) (cell_at others.now i)) }
+        ensures { self.new ≡ others.now }
+    {
+        set_planes(&mut self.planes, &others.planes);
+    }
+
     /// What holds of both, word by word. It answers whether anything changed.
     pub(crate) fn join(&mut self, others: &Cells) -> bool
         requires { length others.now ≡ length self.old }
@@ -92,6 +101,22 @@ impl Cells {
         ensures changed { TellsChange result self.old self.new }
     {
         join_words(
+            &self.values,
+            &mut self.planes,
+            &others.values,
+            &others.planes,
+        )
+    }
+
+    /// What holds of both, word by word, where words that have a value in both have the same. It answers whether anything
+    /// changed.
+    pub(crate) fn join_agreeing(&mut self, others: &Cells) -> bool
+        requires sized { length others.now ≡ length self.old }
+        requires agree { (i : ℕ) → has_value (cell_at self.old i) ≡ true → has_value (cell_at others.now i) ≡ true → cell_at self.old i ≡ cell_at others.now i }
+        ensures value { self.new ≡ joined_cells self.old others.now }
+        ensures changed { TellsChange result self.old self.new }
+    {
+        join_agreeing_words(
             &self.values,
             &mut self.planes,
             &others.values,
@@ -195,7 +220,7 @@ fn set_words(values: &mut [u32], planes: &mut [Bits], other_values: &[u32], othe
     ensures planes { planes.new ≡ others.now }
 {
     values.copy_from_slice(other_values);
-    planes.copy_from_slice(others);
+    set_planes(planes, others);
 }
 
 /// The values of an image's first words, and of the others, which begin with 0.
@@ -221,6 +246,26 @@ fn join_words(values: &[u32], planes: &mut [Bits], other_values: &[u32], others:
     ensures changed { TellsChange result (seen values.now planes.old) (seen values.now planes.new) }
 {
     join_planes(planes, others, values, other_values)
+}
+
+/// What holds of both, word by word, where words that have a value in both have the same: no value is looked at. It
+/// answers whether anything changed.
+#[tactic(auto, using(crate::proofs::SeenLemmas::length_seen))]
+fn join_agreeing_words(
+    values: &[u32],
+    planes: &mut [Bits],
+    other_values: &[u32],
+    others: &[Bits],
+) -> bool
+    requires whole { IsWhole values.now planes.old }
+    requires others { IsWhole other_values.now others.now }
+    requires long { length (seen other_values.now others.now) ≡ length (seen values.now planes.old) }
+    requires agree { (i : ℕ) → has_value (cell_at (seen values.now planes.old) i) ≡ true → has_value (cell_at (seen other_values.now others.now) i) ≡ true → cell_at (seen values.now planes.old) i ≡ cell_at (seen other_values.now others.now) i }
+    ensures whole { IsWhole values.now planes.new }
+    ensures value { seen values.now planes.new ≡ joined_cells (seen values.now planes.old) (seen other_values.now others.now) }
+    ensures changed { TellsChange result (seen values.now planes.old) (seen values.now planes.new) }
+{
+    join_agreeing_planes(planes, others)
 }
 
 /// Whether each word says as much as the other's of the same number or more.

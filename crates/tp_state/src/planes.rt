@@ -3,7 +3,7 @@
 ghost use Rattle.std.specs.Prelude.{◌≡◌, ℕ, ◌+◌, ◌-◌, ◌*◌, ◌^◌, ◌<◌, ◌≤◌, ◌==◌, ◌&&◌, nat_le, nat_lt, length, List, IfOk, true, false, if◌then◌else◌, slice_index_or, bit_or, bit_xor};
 ghost use Rattle.tp_state.specs.declared.cell.Cell.TheVariants.{Undef};
 ghost use Rattle.tp_state.specs.CellRules.{blurred, is_free, is_defined};
-ghost use Rattle.tp_state.specs.Planes.{is_set, live_of, cell_of, bits_cell, HasByteRow, with_mask, blurred_bits, live_bits, undefined_bits, joined_bits, failing_bits, no_bits, cell_in, IsWhole, ChangesPlanes, Moves};
+ghost use Rattle.tp_state.specs.Planes.{is_set, live_of, cell_of, bits_cell, HasByteRow, with_mask, blurred_bits, live_bits, undefined_bits, joined_bits, failing_bits, no_bits, cell_in, IsWhole, ChangesPlanes, Agree, Moves};
 ghost use Rattle.tp_state.specs.Order.{join_cells, cell_below};
 
 use crate::cell::Cell;
@@ -315,6 +315,14 @@ pub(crate) fn all_defined(planes: &[Bits], x: usize, end: usize) -> bool
     true
 }
 
+/// All words take the bits of others.
+pub(crate) fn set_planes(planes: &mut [Bits], others: &[Bits])
+    requires { length others.now ≡ length planes.old }
+    ensures { planes.new ≡ others.now }
+{
+    planes.copy_from_slice(others);
+}
+
 /// What holds of both, word by word. It answers whether anything changed.
 pub(crate) fn join_planes(
     planes: &mut [Bits],
@@ -333,6 +341,23 @@ pub(crate) fn join_planes(
     for w in 0..planes.len() {
         let differ = differing(values, other_values, w, planes[w].closed(others[w]));
         if join_bits(&mut planes[w], others[w], differ) {
+            changed = true;
+        }
+    }
+    changed
+}
+
+/// What holds of both, word by word, where words that have a value in both have the same: no value is looked at. It
+/// answers whether anything changed.
+pub(crate) fn join_agreeing_planes(planes: &mut [Bits], others: &[Bits]) -> bool
+    requires { length others.now ≡ length planes.old }
+    ensures joined { (values other_values : List ℕ) → Agree values other_values planes.old others.now → ChangesPlanes values planes.old planes.new (λ i c. join_cells c (cell_in other_values others.now i)) 0 (64 * length planes.old) }
+    ensures stays { result ≡ false → planes.new ≡ planes.old }
+    ensures moves { result ≡ true → (values other_values : List ℕ) → Agree values other_values planes.old others.now → (i : ℕ) × (i < 64 * length planes.old) × ¬ (cell_in values planes.new i ≡ cell_in values planes.old i) }
+{
+    let mut changed = false;
+    for w in 0..planes.len() {
+        if join_bits(&mut planes[w], others[w], 0) {
             changed = true;
         }
     }

@@ -82,6 +82,18 @@ impl State {
         self.cells.set_to(&other.cells);
     }
 
+    /// It takes the value of a state that says as much or less. It takes no memory, and no word's value is copied: a word
+    /// that has a value there has it here.
+    pub fn rise_to(&mut self, other: &State)
+        requires { IsBelow self.old other.now }
+        ensures { self.new ≡ other.now }
+    {
+        self.a = other.a;
+        self.b = other.b;
+        self.c = other.c;
+        self.cells.rise_to(&other.cells);
+    }
+
     /// A law: the ends of its registers' ranges are words.
     pub fn has_word_ends(&self)
         ensures a { HasWordEnds self.now.a }
@@ -110,6 +122,17 @@ impl State {
         Ok(self.join_known(other))
     }
 
+    /// What holds of both states, where some state is below both: the state itself takes it. They meet, and a word that has
+    /// a value in both has one, so no values are compared. It answers whether anything changed. It takes no memory.
+    pub fn join_agreeing(&mut self, other: &State) -> bool
+        requires { (t : State) × IsBelow t self.old × IsBelow t other.now }
+        ensures value { self.new ≡ join self.old other.now }
+        ensures changed { TellsChange result self.old self.new }
+    {
+        let cells = self.cells.join_agreeing(&other.cells);
+        self.join_registers(other) || cells
+    }
+
     /// Whether the state says as much as the other or more.
     pub fn is_below(&self, other: &State) -> bool
         requires { length other.now.cells ≡ length self.now.cells }
@@ -131,10 +154,18 @@ impl State {
         ensures changed { TellsChange result self.old self.new }
     {
         let cells = self.cells.join(&other.cells);
+        self.join_registers(other) || cells
+    }
+
+    /// What holds of both, of registers alone. It answers whether any changed.
+    fn join_registers(&mut self, other: &State) -> bool
+        ensures value { self.new ≡ record self.old { a = join_kinds self.old.a other.now.a; b = join_kinds self.old.b other.now.b; c = join_kinds self.old.c other.now.c } }
+        ensures changed { TellsChange result self.old self.new }
+    {
         let a = join_kind(&mut self.a, other.a);
         let b = join_kind(&mut self.b, other.b);
         let c = join_kind(&mut self.c, other.c);
-        cells || a || b || c
+        a || b || c
     }
 
     pub(crate) fn push(&mut self, kind: Kind)
