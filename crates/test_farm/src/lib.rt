@@ -15,4 +15,6 @@ mod refusing;
 #[cfg(test)]
 mod stopping;
 #[cfg(test)]
+mod streaming;
+#[cfg(test)]
 mod tracing;
