@@ -17,4 +17,6 @@ mod refusing;
 #[cfg(test)]
 mod stopping;
 #[cfg(test)]
+mod streaming;
+#[cfg(test)]
 mod tracing;

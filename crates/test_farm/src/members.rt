@@ -52,8 +52,8 @@ fn members_make_no_difference(rt: HostRuntime) -> Result<(), Fail> {
     Ok(())
 }
 
-/// How many packets: none, one, and about as many as the 32 places of the queue that hands them to members.
-const COUNTS: [u32; 6] = [0, 1, 31, 32, 33, 65];
+/// How many packets: none, one, about as many as the 32 places of the queue that hands them to members, and most.
+const COUNTS: [u32; 7] = [0, 1, 31, 32, 33, 65, 1024];
 
 #[test]
 fn any_count_of_packets_is_run(rt: HostRuntime) -> Result<(), Fail> {

@@ -13,13 +13,13 @@ use tp_samples::*;
 
 /// Lets members go on until it is asked for the time that is given.
 #[derive(Drop)]
-struct Closing {
+pub(crate) struct Closing {
     at: u64,
     asks: AtomicU64,
 }
 
 impl Closing {
-    fn at(at: u64) -> Closing {
+    pub(crate) fn at(at: u64) -> Closing {
         Closing {
             at,
             asks: AtomicU64::new(0),
