@@ -9,8 +9,8 @@ ghost use Rattle.tp_state.specs.Entry.{first_cells};
 
 use crate::cell::Cell;
 use crate::planes::{
-    Bits, Kept, WORDS, all_defined, all_free, blur_all, join_agreeing_planes, join_planes,
-    planes_below, put_all, put_one, set_planes, whole_planes,
+    Bits, Kept, Planes, WORDS, all_defined, all_free, blur_all, copied_planes,
+    join_agreeing_planes, join_planes, planes_below, put_all, put_one, set_planes, whole_planes,
 };
 use std::alloc::{AllocError, Global};
 use std::marker::Model;
@@ -23,7 +23,7 @@ use tp_image::Image;
 #[derive(Drop)]
 pub struct Cells {
     values: Vec<u32>,
-    planes: Vec<Bits>,
+    planes: Planes,
 }
 
 impl Model for Cells {
@@ -59,7 +59,7 @@ impl Cells {
     {
         let words = image.workspace as usize;
         let values = first_values(alloc, &image.initial, words)?;
-        let planes = whole_planes(alloc, words)?;
+        let planes = whole_planes(words);
         Ok(Cells { values, planes })
     }
 
@@ -68,7 +68,7 @@ impl Cells {
         ensures { IfOk result (λ cells. cells ≡ self.now) }
     {
         let values = Vec::from_slice(alloc, &self.values)?;
-        let planes = Vec::from_slice(alloc, &self.planes)?;
+        let planes = copied_planes(&self.planes);
         Ok(Cells { values, planes })
     }
 

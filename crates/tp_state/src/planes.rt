@@ -8,17 +8,23 @@ ghost use Rattle.tp_state.specs.Order.{join_cells, cell_below};
 
 use crate::cell::Cell;
 use crate::values::differing;
-use std::alloc::{AllocError, Global};
+use arrayvec::ArrayVec;
 
 /// How many words a word of a plane tells of.
 pub(crate) const WORDS: usize = 64;
+
+/// How many words a plane has at most: a workspace has no more than 512 words.
+pub(crate) const PLANES: usize = 8;
+
+/// The two planes of a workspace.
+pub(crate) type Planes = ArrayVec<Bits, PLANES>;
 
 /// The first of the values that tell a loop's count, and not its index.
 const COUNTS: u32 = 256;
 
 /// Two bits of each of 64 words: Known has 00, Any 10, Undef 11, and a live control word 01. So a join is an OR, and the
 /// first bit of words that differ.
-#[derive(Clone, Copy, Debug, PartialEq, Eq)]
+#[derive(Clone, Copy, Debug, Default, PartialEq, Eq)]
 pub(crate) struct Bits {
     pub(crate) first: u64,
     pub(crate) second: u64,
@@ -201,30 +207,40 @@ impl Bits {
 }
 
 /// The planes of so many words whose values are known.
-pub(crate) fn whole_planes(alloc: Global, words: usize) -> Result<Vec<Bits>, AllocError>
-    requires { words < 2 ^ 32 }
-    ensures enough { IfOk result (λ planes. words ≤ 64 * length planes.items) }
-    ensures no_more { IfOk result (λ planes. 64 * length planes.items < words + 64) }
-    ensures known { IfOk result (λ planes. (values : List ℕ) (i : ℕ) → i < words → cell_in values planes.items i ≡ cell_of false false (slice_index_or values i 0)) }
-    ensures padded { IfOk result (λ planes. (values : List ℕ) (i : ℕ) → words ≤ i → i < 64 * length planes.items → cell_in values planes.items i ≡ Undef) }
+pub(crate) fn whole_planes(words: usize) -> Planes
+    requires { words ≤ 512 }
+    ensures enough { words ≤ 64 * length result.items }
+    ensures no_more { 64 * length result.items < words + 64 }
+    ensures known { (values : List ℕ) (i : ℕ) → i < words → cell_in values result.items i ≡ cell_of false false (slice_index_or values i 0) }
+    ensures padded { (values : List ℕ) (i : ℕ) → words ≤ i → i < 64 * length result.items → cell_in values result.items i ≡ Undef }
 {
-    let mut planes = clear_planes(alloc, (words + WORDS - 1) / WORDS)?;
+    let mut planes = clear_planes((words + WORDS - 1) / WORDS);
     close_planes(&mut planes, words);
-    Ok(planes)
+    planes
 }
 
 /// Planes of so many words, with no bit set.
-fn clear_planes(alloc: Global, many: usize) -> Result<Vec<Bits>, AllocError>
-    ensures long { IfOk result (λ planes. length planes.items ≡ many) }
-    ensures clear { IfOk result (λ planes. (k : ℕ) → k < many → slice_index_or planes.items k no_bits ≡ no_bits) }
+fn clear_planes(many: usize) -> Planes
+    requires { many ≤ 8 }
+    ensures long { length result.items ≡ many }
+    ensures clear { (k : ℕ) → k < many → slice_index_or result.items k no_bits ≡ no_bits }
 {
     let clear = Bits {
         first: 0,
         second: 0,
     };
-    let mut planes = Vec::with_capacity(alloc, many)?;
-    planes.resize(many, clear)?;
-    Ok(planes)
+    let mut planes = ArrayVec::from([clear; PLANES]);
+    planes.truncate(many);
+    planes
+}
+
+/// The same planes.
+pub(crate) fn copied_planes(planes: &Planes) -> Planes
+    ensures { result.items ≡ planes.now.items }
+{
+    let mut copy = ArrayVec::new();
+    let _ = copy.try_extend_from_slice(planes.as_slice());
+    copy
 }
 
 /// Behind so many words the bits of planes that have none say that nothing is known.
