@@ -8,7 +8,7 @@ use Rattle.tp_board.specs.declared.view.Counters.{Counters}
 use Rattle.tp_board.specs.declared.view.View.{View}
 use Rattle.tp_board.specs.Counting.{times, once_below}
 use Rattle.tp_board.specs.Rule.{total, Fits}
-use Rattle.tp_board.specs.Stages.{Stand, stand_seen, KeepsStream, pops, StandLaw}
+use Rattle.tp_board.specs.Stages.{HandState, hand_seen, KeepsStream, pops, StreamIsBoardLaw}
 use Rattle.tp_board.specs.Words.{size, counters}
 use Rattle.tp_board.proofs.Gathering.{claims_at}
 
@@ -31,43 +31,43 @@ map_at g (y ∷ ys) zero x at = ap (λ z. some (g z)) (some-injective y x at)
 map_at g (y ∷ ys) (suc id) x at = map_at g ys id x at
 
 -- the queue's rule is over these packets, since somebody has a stand
-pub sizes_told : (packets members : ℕ) (items : List Item) (words : List ℕ) (stands : List Stand) → (h : KeepsStream packets members items words stands) → h.line.packets ≡ packets
+pub sizes_told : (packets members : ℕ) (items : List Item) (words : List ℕ) (stands : List HandState) → (h : KeepsStream packets members items words stands) → h.line.packets ≡ packets
 sizes_told packets members items words [] h = let a = h.line.parts in absurd (omega arith)
 sizes_told packets members items words (s ∷ ss) h =
     let so = h.each 0 s refl in
     let one = so.one_pass in
     sym ((h.line.fits 0 s.turn refl).sizes (omega arith)).0 ∙ so.packets_is
 
-pub pops_are : (packets members : ℕ) (items : List Item) (words : List ℕ) (stands : List Stand) → (h : KeepsStream packets members items words stands) → pops stands ≡ h.line.drawn + h.line.ended
+pub pops_are : (packets members : ℕ) (items : List Item) (words : List ℕ) (stands : List HandState) → (h : KeepsStream packets members items words stands) → pops stands ≡ h.line.drawn + h.line.ended
 pops_are packets members items words stands h =
     let r = h.line in
-    let popped = sym (total_map (λ (t : Turn). length t.popped) (λ (s : Stand). s.turn) stands) ∙ r.counted in
-    let ended = sym (total_map (λ (t : Turn). t.ended) (λ (s : Stand). s.turn) stands) ∙ r.ended_is in
-    let both = total_two (λ (s : Stand). length s.turn.popped) (λ (s : Stand). s.turn.ended) stands in
+    let popped = sym (total_map (λ (t : Turn). length t.popped) (λ (s : HandState). s.turn) stands) ∙ r.counted in
+    let ended = sym (total_map (λ (t : Turn). t.ended) (λ (s : HandState). s.turn) stands) ∙ r.ended_is in
+    let both = total_two (λ (s : HandState). length s.turn.popped) (λ (s : HandState). s.turn.ended) stands in
     omega arith
 
-pub stand_law : StandLaw
+pub stand_law : StreamIsBoardLaw
 stand_law packets members items words stands h =
     let r = h.line in
     let d = h.desk.2 in
     let w : Counters = counters (pops stands) h.desk.0.done h.desk.0.lost h.desk.0.stop in
     let told = sizes_told packets members items words stands h in
-    let popped = sym (total_map (λ (t : Turn). length t.popped) (λ (s : Stand). s.turn) stands) ∙ r.counted in
-    let ended = sym (total_map (λ (t : Turn). t.ended) (λ (s : Stand). s.turn) stands) ∙ r.ended_is in
+    let popped = sym (total_map (λ (t : Turn). length t.popped) (λ (s : HandState). s.turn) stands) ∙ r.counted in
+    let ended = sym (total_map (λ (t : Turn). t.ended) (λ (s : HandState). s.turn) stands) ∙ r.ended_is in
     let claims = claims_at r.drawn r.ended packets (let a = r.behind in let b = r.within in omega arith) (λ some_end. let t = r.taken in let a = r.marks_last (omega arith) in let b = r.ends_last some_end in omega arith) in
     let least = claims.0 in
     let over = claims.1 in
     let all = pops_are packets members items words stands h in
     let drawn : min (pops stands) packets ≡ r.drawn = ap (λ n. min n packets) all ∙ least in
-    let place = λ (f : View → ℕ). sym (total_map f (λ (s : Stand). s.place) stands) in
-    let fits = λ (id : ℕ) (v : View) (at : get_elem? (map stand_seen stands) id ≡ some v).
-    let s = at_map stand_seen stands id v at in
+    let place = λ (f : View → ℕ). sym (total_map f (λ (s : HandState). s.place) stands) in
+    let fits = λ (id : ℕ) (v : View) (at : get_elem? (map hand_seen stands) id ≡ some v).
+    let s = at_map hand_seen stands id v at in
     let so = h.each id s.0 s.1 in
     let one = so.one_seat in
-    let seen = (d.fits id s.0.place (map_at (λ (s : Stand). s.place) stands id s.0 s.1)).seen in
+    let seen = (d.fits id s.0.place (map_at (λ (s : HandState). s.place) stands id s.0 s.1)).seen in
     let none = d.no_claim in
     let first = seen.claimed in
-    let f : Fits (size packets (members + 1)) w (stand_seen s.0) = record {
+    let f : Fits (size packets (members + 1)) w (hand_seen s.0) = record {
       packets = (λ _. so.packets_is);
       ended = so.agrees.ended;
       in_hand = so.agrees.in_hand;
@@ -82,13 +82,13 @@ stand_law packets members items words stands h =
       record {
         few_packets = h.in_range.2;
         few_members = (let a = h.in_range.1 in omega arith);
-        parts = total_map (λ (v : View). v.parts) stand_seen stands ∙ place (λ (v : View). v.parts) ∙ d.parts;
-        each_once = (λ x. total_map (λ (v : View). times x v.drawn) stand_seen stands ∙ sym (total_map (λ (t : Turn). times x t.popped) (λ (s : Stand). s.turn) stands) ∙ r.each_once x ∙ ap (once_below x) (sym drawn));
-        drawn = total_map (λ (v : View). length v.drawn) stand_seen stands ∙ popped ∙ sym drawn;
-        ended = (let a = total_map (λ (v : View). v.ended) stand_seen stands in let b = ended in omega arith);
-        done = d.done ∙ sym (total_map (λ (v : View). length v.finished) stand_seen stands ∙ place (λ (v : View). length v.finished));
-        lost = d.lost ∙ sym (total_map (λ (v : View). length v.abandoned) stand_seen stands ∙ place (λ (v : View). length v.abandoned));
-        stop = d.stop ∙ ap (min 1) (sym (total_map (λ (v : View). v.stop_callers) stand_seen stands ∙ place (λ (v : View). v.stop_callers)));
+        parts = total_map (λ (v : View). v.parts) hand_seen stands ∙ place (λ (v : View). v.parts) ∙ d.parts;
+        each_once = (λ x. total_map (λ (v : View). times x v.drawn) hand_seen stands ∙ sym (total_map (λ (t : Turn). times x t.popped) (λ (s : HandState). s.turn) stands) ∙ r.each_once x ∙ ap (once_below x) (sym drawn));
+        drawn = total_map (λ (v : View). length v.drawn) hand_seen stands ∙ popped ∙ sym drawn;
+        ended = (let a = total_map (λ (v : View). v.ended) hand_seen stands in let b = ended in omega arith);
+        done = d.done ∙ sym (total_map (λ (v : View). length v.finished) hand_seen stands ∙ place (λ (v : View). length v.finished));
+        lost = d.lost ∙ sym (total_map (λ (v : View). length v.abandoned) hand_seen stands ∙ place (λ (v : View). length v.abandoned));
+        stop = d.stop ∙ ap (min 1) (sym (total_map (λ (v : View). v.stop_callers) hand_seen stands ∙ place (λ (v : View). v.stop_callers)));
         fits = fits;
       },
     )

@@ -22,38 +22,38 @@ use Rattle.tp_board.specs.Streams.{seen_of, Agrees}
 use Rattle.tp_board.specs.Words.{size, place_of, desk_place_of}
 
 -- what one member, or the feeder, knows of queue and words, with the numbers in hand
-pub record Stand : Type 0 where
+pub record HandState : Type 0 where
   pub turn : Turn
   pub place : View
   pub numbers : List ℕ
 
-abbrev pub stand_seen : Stand → View
-stand_seen s = seen_of s.turn s.place s.numbers
+abbrev pub hand_seen : HandState → View
+hand_seen s = seen_of s.turn s.place s.numbers
 
-pub record StandsSo (packets : ℕ) (s : Stand) : Type 0 where
+pub record IsHandState (packets : ℕ) (s : HandState) : Type 0 where
   pub packets_is : s.turn.packets ≡ packets
   pub one_pass : s.turn.parts ≡ 1
   pub one_seat : s.place.parts ≡ 1
-  pub agrees : Agrees (stand_seen s)
+  pub agrees : Agrees (hand_seen s)
 
 -- the queue and the words keep their rules, and each stand joins the two
-pub record KeepsStream (packets members : ℕ) (items : List Item) (words : List ℕ) (stands : List Stand) : Type 0 where
+pub record KeepsStream (packets members : ℕ) (items : List Item) (words : List ℕ) (stands : List HandState) : Type 0 where
   pub in_range : InRange packets members
   pub line : Streamed items (map (λ s. s.turn) stands)
   pub desk : KeepsDesk (size packets (members + 1)) words (map (λ s. s.place) stands)
-  pub each : (id : ℕ) (s : Stand) → get_elem? stands id ≡ some s → StandsSo packets s
+  pub each : (id : ℕ) (s : HandState) → get_elem? stands id ≡ some s → IsHandState packets s
 
 -- how many pops there were
-abbrev pub pops : List Stand → ℕ
+abbrev pub pops : List HandState → ℕ
 pops stands = total (λ s. length s.turn.popped + s.turn.ended) stands
 
 -- queue and words stand for a board, of which the feeder has a seat: its count of claims is the count
 -- of pops, of packets and of marks
-abbrev pub StandLaw : Type 0
-StandLaw =
-    (packets members : ℕ) (items : List Item) (words : List ℕ) (stands : List Stand)
+abbrev pub StreamIsBoardLaw : Type 0
+StreamIsBoardLaw =
+    (packets members : ℕ) (items : List Item) (words : List ℕ) (stands : List HandState)
     → KeepsStream packets members items words stands
-    → KeepsRule (size packets (members + 1)) (pops stands ∷ words) (map stand_seen stands)
+    → KeepsRule (size packets (members + 1)) (pops stands ∷ words) (map hand_seen stands)
 
 -- ---- steps
 -- what each step makes of the one that takes it
@@ -61,17 +61,17 @@ abbrev pub numbers_in : Item → List ℕ
 numbers_in (Number n) = n ∷ []
 numbers_in End = []
 
-abbrev pub after_pop : Stand → Item → Stand
+abbrev pub after_pop : HandState → Item → HandState
 after_pop s x = record s { turn = took s.turn x; numbers = s.numbers ++ numbers_in x }
 
-abbrev pub after_push : Stand → Item → Stand
+abbrev pub after_push : HandState → Item → HandState
 after_push s x = record s { turn = put s.turn x }
 
 -- the stream that a step leaves keeps its rules, and the board that it stands for is what this event
 -- makes of the board before, with this reply
-pub record IsStreamEvent (packets members : ℕ) (words : List ℕ) (stands : List Stand) (items' : List Item) (words' : List ℕ) (stands' : List Stand) (id : ℕ) (event : Event) (reply : Reply) : Type 0 where
+pub record IsStreamEvent (packets members : ℕ) (words : List ℕ) (stands : List HandState) (items' : List Item) (words' : List ℕ) (stands' : List HandState) (id : ℕ) (event : Event) (reply : Reply) : Type 0 where
   pub rule : KeepsStream packets members items' words' stands'
-  pub made : IsEvent (size packets (members + 1)) (pops stands ∷ words) (map stand_seen stands) (pops stands' ∷ words') (map stand_seen stands') id event reply
+  pub made : IsEvent (size packets (members + 1)) (pops stands ∷ words) (map hand_seen stands) (pops stands' ∷ words') (map hand_seen stands') id event reply
 
 -- a pop of a packet is Claim answered with its number, and a pop of an end mark Claim answered NoMore,
 -- by one who has nothing in hand and has not learnt the end, and who finds the count of pops fresh
@@ -81,24 +81,24 @@ pop_reply End = reply.NoMore
 
 abbrev pub PopLaw : Type 0
 PopLaw =
-    (packets members : ℕ) (x : Item) (items : List Item) (words : List ℕ) (stands : List Stand) (id : ℕ) (s : Stand)
+    (packets members : ℕ) (x : Item) (items : List Item) (words : List ℕ) (stands : List HandState) (id : ℕ) (s : HandState)
     → KeepsStream packets members (x ∷ items) words stands
     → get_elem? stands id ≡ some s
-    → MayStep Claim (stand_seen s)
-    → IsFresh (stand_seen s) Claimed (pops stands)
+    → MayStep Claim (hand_seen s)
+    → IsFresh (hand_seen s) Claimed (pops stands)
     × IsStreamEvent packets members words stands items words (slice_set stands id (after_pop s x)) id Claim (pop_reply x)
 
 -- a push of the next item leaves the board as it was
 abbrev pub PushLaw : Type 0
 PushLaw =
-    (packets members : ℕ) (items : List Item) (words : List ℕ) (stands : List Stand) (id : ℕ) (s : Stand)
+    (packets members : ℕ) (items : List Item) (words : List ℕ) (stands : List HandState) (id : ℕ) (s : HandState)
     → KeepsStream packets members items words stands
     → get_elem? stands id ≡ some s
     → MayPut s.turn
     → let stands' = slice_set stands id (after_push s (item_of s.turn)) in
     KeepsStream packets members (items ++ item_of s.turn ∷ []) words stands'
     × (pops stands' ≡ pops stands)
-    × (map stand_seen stands' ≡ map stand_seen stands)
+    × (map hand_seen stands' ≡ map hand_seen stands)
 
 -- ---- steps at the words
 -- the event's word is one of the three that a stream keeps
@@ -115,7 +115,7 @@ words_with event words = slice_set words (desk_place_of (row_of event).word) ((r
 
 -- what the seat at the words takes the step with: a report is of the number in hand, which the seat
 -- does not know
-abbrev pub place_for : Event → Stand → View
+abbrev pub place_for : Event → HandState → View
 place_for Finish s = holding s.place s.numbers
 place_for Abandon s = holding s.place s.numbers
 place_for Claim s = s.place
@@ -123,21 +123,21 @@ place_for Stop s = s.place
 place_for (Look what) s = s.place
 
 -- the step's word was n
-abbrev pub after_event : Stand → Event → ℕ → Stand
+abbrev pub after_event : HandState → Event → ℕ → HandState
 after_event s event n = record s {
   place = (row_of event).view (place_for event s) n;
-  numbers = ((row_of event).view (stand_seen s) n).hand;
+  numbers = ((row_of event).view (hand_seen s) n).hand;
 }
 
 -- a step at the words by one who may make it finds its word fresh, and is this event of the board,
 -- with the reply that the board's row gives
 abbrev pub WordLaw : Event → Type 0
 WordLaw event =
-    (packets members : ℕ) (items : List Item) (words : List ℕ) (stands : List Stand) (id : ℕ) (s : Stand)
+    (packets members : ℕ) (items : List Item) (words : List ℕ) (stands : List HandState) (id : ℕ) (s : HandState)
     → KeepsStream packets members items words stands
     → get_elem? stands id ≡ some s
-    → MayStep event (stand_seen s)
+    → MayStep event (hand_seen s)
     → let n = found_at event words in
     let row = row_of event in
-    IsFresh (stand_seen s) row.word n
-    × IsStreamEvent packets members words stands items (words_with event words) (slice_set stands id (after_event s event n)) id event (row.reply (stand_seen s) n)
+    IsFresh (hand_seen s) row.word n
+    × IsStreamEvent packets members words stands items (words_with event words) (slice_set stands id (after_event s event n)) id event (row.reply (hand_seen s) n)

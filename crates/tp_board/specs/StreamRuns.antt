@@ -9,7 +9,7 @@ use Rattle.tp_board.specs.FarmOf.{farm_of, IsSame}
 use Rattle.tp_board.specs.Lines.{MayPut, item_of, feeder, hand, nobody}
 use Rattle.tp_board.specs.Openings.{InRange}
 use Rattle.tp_board.specs.Runs.{farm_after, replies, DrawsInOrder}
-use Rattle.tp_board.specs.Stages.{Stand, stand_seen, KeepsStream, pops, after_pop, after_push, pop_reply, IsAtWords, found_at, words_with, after_event}
+use Rattle.tp_board.specs.Stages.{HandState, hand_seen, KeepsStream, pops, after_pop, after_push, pop_reply, IsAtWords, found_at, words_with, after_event}
 use Rattle.tp_board.specs.Steps.{row_of, MayStep}
 use Rattle.tp_board.specs.Views.{newcomer, spent_view}
 use Rattle.tp_board.specs.Words.{size}
@@ -26,9 +26,9 @@ pub data StreamStep : Type 0 where
 pub record Stage : Type 0 where
   pub items : List Item
   pub words : List ℕ
-  pub stands : List Stand
+  pub stands : List HandState
 
-abbrev pub stage : List Item → List ℕ → List Stand → Stage
+abbrev pub stage : List Item → List ℕ → List HandState → Stage
 stage items words stands = record { items = items; words = words; stands = stands }
 
 abbrev pub KeepsStage : ℕ → ℕ → Stage → Type 0
@@ -36,40 +36,40 @@ KeepsStage packets members g = KeepsStream packets members g.items g.words g.sta
 
 -- the farm of the board that the stage stands for, of which the feeder has a seat
 abbrev pub farm_at : ℕ → ℕ → Stage → Farm
-farm_at packets members g = farm_of (size packets (members + 1)) (pops g.stands ∷ g.words) (map stand_seen g.stands)
+farm_at packets members g = farm_of (size packets (members + 1)) (pops g.stands ∷ g.words) (map hand_seen g.stands)
 
 -- one that is nobody's
-abbrev pub no_stand : Stand
-no_stand = record { turn = nobody; place = spent_view; numbers = [] }
+abbrev pub no_hand_state : HandState
+no_hand_state = record { turn = nobody; place = spent_view; numbers = [] }
 
-abbrev pub stand_at : Stage → ℕ → Stand
-stand_at g id = slice_index_or g.stands id no_stand
+abbrev pub hand_state_at : Stage → ℕ → HandState
+hand_state_at g id = slice_index_or g.stands id no_hand_state
 
-abbrev pub stands_with : Stage → ℕ → Stand → List Stand
-stands_with g id s = slice_set g.stands id s
+abbrev pub hand_states_with : Stage → ℕ → HandState → List HandState
+hand_states_with g id s = slice_set g.stands id s
 
 -- ---- one step
 -- something is in the queue, and this one may draw
-abbrev pub MayPop : List Item → Stand → Type 0
+abbrev pub MayPop : List Item → HandState → Type 0
 MayPop [] s = ⊥
-MayPop (x ∷ items) s = MayStep Claim (stand_seen s)
+MayPop (x ∷ items) s = MayStep Claim (hand_seen s)
 
 -- the step is made by one that has a stand, which may make it
 abbrev pub MayMake : Stage → ℕ × StreamStep → Type 0
-MayMake g (id, push) = ((stand_at g id).turn.parts ≡ 1) × MayPut (stand_at g id).turn
-MayMake g (id, pop) = ((stand_at g id).turn.parts ≡ 1) × MayPop g.items (stand_at g id)
-MayMake g (id, at_words event) = ((stand_at g id).turn.parts ≡ 1) × IsAtWords event × MayStep event (stand_seen (stand_at g id))
+MayMake g (id, push) = ((hand_state_at g id).turn.parts ≡ 1) × MayPut (hand_state_at g id).turn
+MayMake g (id, pop) = ((hand_state_at g id).turn.parts ≡ 1) × MayPop g.items (hand_state_at g id)
+MayMake g (id, at_words event) = ((hand_state_at g id).turn.parts ≡ 1) × IsAtWords event × MayStep event (hand_seen (hand_state_at g id))
 
 abbrev pub popped_from : Stage → ℕ → List Item → Stage
 popped_from g id [] = g
-popped_from g id (x ∷ items) = stage items g.words (stands_with g id (after_pop (stand_at g id) x))
+popped_from g id (x ∷ items) = stage items g.words (hand_states_with g id (after_pop (hand_state_at g id) x))
 
 abbrev pub stage_after : Stage → ℕ × StreamStep → Stage
 stage_after g (id, push) =
-    let x = item_of (stand_at g id).turn in stage (g.items ++ x ∷ []) g.words (stands_with g id (after_push (stand_at g id) x))
+    let x = item_of (hand_state_at g id).turn in stage (g.items ++ x ∷ []) g.words (hand_states_with g id (after_push (hand_state_at g id) x))
 stage_after g (id, pop) = popped_from g id g.items
 stage_after g (id, at_words event) =
-    stage g.items (words_with event g.words) (stands_with g id (after_event (stand_at g id) event (found_at event g.words)))
+    stage g.items (words_with event g.words) (hand_states_with g id (after_event (hand_state_at g id) event (found_at event g.words)))
 
 -- the event of the core that it is; a push is none
 abbrev pub event_of : ℕ × StreamStep → List (ℕ × Event)
@@ -85,7 +85,7 @@ pop_replies (x ∷ items) = pop_reply x ∷ []
 abbrev pub reply_to : Stage → ℕ × StreamStep → List Reply
 reply_to g (id, push) = []
 reply_to g (id, pop) = pop_replies g.items
-reply_to g (id, at_words event) = (row_of event).reply (stand_seen (stand_at g id)) (found_at event g.words) ∷ []
+reply_to g (id, at_words event) = (row_of event).reply (hand_seen (hand_state_at g id)) (found_at event g.words) ∷ []
 
 -- ---- many steps
 -- each may be made when its turn comes
@@ -124,14 +124,14 @@ StreamScheduleLaw =
 
 -- ---- the start
 -- the feeder, and then the members
-abbrev pub opening_stands : ℕ → ℕ → List Stand
-opening_stands packets members =
+abbrev pub opening_hand_states : ℕ → ℕ → List HandState
+opening_hand_states packets members =
     record { turn = feeder packets members 1; place = newcomer packets 1; numbers = [] }
     ∷ replicate members (record { turn = hand packets members; place = newcomer packets 1; numbers = [] })
 
 -- the queue is empty, and the words are 0
 abbrev pub opening_stage : ℕ → ℕ → Stage
-opening_stage packets members = stage [] (0 ∷ 0 ∷ 0 ∷ []) (opening_stands packets members)
+opening_stage packets members = stage [] (0 ∷ 0 ∷ 0 ∷ []) (opening_hand_states packets members)
 
 -- a new stream keeps both rules, and stands for the opening farm
 abbrev pub StreamOpeningLaw : Type 0

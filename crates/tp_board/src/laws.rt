@@ -6,7 +6,7 @@ ghost use Rattle.tp_board.specs.declared.event.Shown.{Shown};
 ghost use Rattle.tp_board.specs.Laws.{StepLaw, AccountsLaw};
 ghost use Rattle.tp_board.specs.Openings.{OpeningLaw};
 ghost use Rattle.tp_board.specs.Schedules.{ScheduleLaw};
-ghost use Rattle.tp_board.specs.Stages.{StandLaw, PopLaw, PushLaw, WordLaw, IsAtWords};
+ghost use Rattle.tp_board.specs.Stages.{StreamIsBoardLaw, PopLaw, PushLaw, WordLaw, IsAtWords};
 ghost use Rattle.tp_board.specs.StreamRuns.{StreamScheduleLaw, StreamOpeningLaw};
 
 /// Every list of events draws the numbers in order, keeps each of them once, and takes nothing back.
@@ -57,7 +57,7 @@ pub fn rule_keeps_accounts()
 /// Whatever a stream's two rules allow, its queue and its words stand for a board under the board's
 /// rule.
 pub fn stream_stands_for_board()
-    ensures { StandLaw }
+    ensures { StreamIsBoardLaw }
 {}
 
 /// A pop of a packet is Claim answered with its number, and a pop of an end mark Claim answered NoMore.

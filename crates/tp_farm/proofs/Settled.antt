@@ -8,14 +8,14 @@ use Rattle.tp_board.specs.Sources.{Progress}
 use Rattle.tp_collect.specs.declared.collected.Entry.{Entry}
 use Rattle.tp_collect.specs.Collected.{IsCollected}
 use Rattle.tp_collect.specs.Collecting.{Collection, vacant}
+use Rattle.tp_machine.specs.Devices.{devices_of}
 use Rattle.tp_farm.specs.declared.member.Filed.{Filed}
 use Rattle.tp_farm.specs.declared.worker.Returned.{Returned}
-use Rattle.tp_farm.specs.declared.gathering.Kept.{Kept}
-use Rattle.tp_farm.specs.Stages.{of_links}
+use Rattle.tp_farm.specs.declared.gathering.MemberResults.{MemberResults}
 use Rattle.tp_farm.specs.Working.{Work, HasWorked}
 use Rattle.tp_farm.specs.Gathering.{fault_of_end, all_filed, filed_in, FindVacant, IsOfBatch}
 use Rattle.tp_farm.specs.Closing.{AddsUp}
-use Rattle.tp_farm.specs.Apart.{kept_of}
+use Rattle.tp_farm.specs.MemberResults.{member_results}
 use Rattle.tp_farm.specs.Batches.{IsBatch}
 use Rattle.tp_farm.proofs.Settling.{Member, AllDidWell, hands, everything, all_vacant, settled}
 use Rattle.tp_farm.proofs.Together.{members_of, did_well, before_is, after_is, hands_is, filed_is, length_is, hands_own, all_of_batch}
@@ -28,14 +28,14 @@ module _ {H D : Type 0} (state : D → DeviceState) (own : H → Type 0) (progre
   pub own_hands : (old new : List H) → old ≡ [] → new ≡ old ++ map (λ r. r.hand) rs → All own new
   own_hands old new none is = subst (All own) (sym (came old new (map (λ r. r.hand) rs) none is)) (hands_own state own progress work bs rs worked)
 
-  module _ (c : Collection) (n : ℕ) (begins : c ≡ record { batch = work.batch; entries = replicate n vacant }) (old new : List (Kept D)) (none : old ≡ []) (kept : new ≡ old ++ map kept_of rs) where
-    kept_is : new ≡ map kept_of rs
-    kept_is = came old new (map kept_of rs) none kept
+  module _ (c : Collection) (n : ℕ) (begins : c ≡ record { batch = work.batch; entries = replicate n vacant }) (old new : List (MemberResults D)) (none : old ≡ []) (kept : new ≡ old ++ map member_results rs) where
+    kept_is : new ≡ map member_results rs
+    kept_is = came old new (map member_results rs) none kept
 
     pub kept_of_batch : All (λ k. All (IsOfBatch c.batch) k.filed.items) new
     kept_of_batch =
         subst (λ ks. All (λ k. All (IsOfBatch c.batch) k.filed.items) ks) (sym kept_is)
-        (subst (λ b. All (λ k. All (IsOfBatch b) k.filed.items) (map kept_of rs)) (sym (ap (λ x. x.batch) begins)) (all_of_batch state own progress work bs rs worked))
+        (subst (λ b. All (λ k. All (IsOfBatch b) k.filed.items) (map member_results rs)) (sym (ap (λ x. x.batch) begins)) (all_of_batch state own progress work bs rs worked))
 
     module _ (well : All (λ r. fault_of_end r.end ≡ None) rs) (hands0 hands1 : List H) (no_hands : hands0 ≡ []) (came_in : hands1 ≡ hands0 ++ map (λ r. r.hand) rs) (l : Ledger) (adds_up : AddsUp n (map progress hands1) l) (sized : n ≡ length work.batch.packets) where
       ms : List Member
@@ -68,17 +68,17 @@ module _ {H D : Type 0} (state : D → DeviceState) (own : H → Type 0) (progre
         batch_same : c'.batch ≡ work.batch
         batch_same = ap (λ x. x.batch) filed ∙ ap (λ x. x.batch) begins
 
-        links_is : links1 ≡ map (λ k. k.links) (map kept_of rs)
+        links_is : links1 ≡ map (λ k. k.links) (map member_results rs)
         links_is = came links0 links1 (map (λ k. k.links) new) no_links links ∙ ap (map (λ k. k.links)) kept_is
 
         some_members : 0 < length ms
         unfolding ms
         some_members = subst (λ k. 0 < k) (sym (length_is state own progress work bs rs worked)) any
 
-        pub is_batch : IsBatch work.batch work.open_for_good (map (of_links state) bs) (map (of_links state) links1) entries
+        pub is_batch : IsBatch work.batch work.open_for_good (map (devices_of state) bs) (map (devices_of state) links1) entries
         unfolding ms
         is_batch =
             let it = settled work.batch work.open_for_good n l ms all_well added_up sized entries entries_filed (subst (λ b. IsCollected b entries) batch_same collected) some_members in
-            subst (λ xs. IsBatch work.batch work.open_for_good (map (of_links state) bs) (map (of_links state) xs) entries) (sym links_is)
-            (subst (λ xs. IsBatch work.batch work.open_for_good (map (of_links state) bs) xs entries) (after_is state own progress work bs rs worked)
+            subst (λ xs. IsBatch work.batch work.open_for_good (map (devices_of state) bs) (map (devices_of state) xs) entries) (sym links_is)
+            (subst (λ xs. IsBatch work.batch work.open_for_good (map (devices_of state) bs) xs entries) (after_is state own progress work bs rs worked)
             (subst (λ xs. IsBatch work.batch work.open_for_good xs (map (λ m. m.after) ms) entries) (before_is state own progress work bs rs worked) it))

@@ -10,9 +10,9 @@ pub mod Refused
 pub mod Gathering
 pub mod Closing
 pub mod Feeding
-pub mod Apart
+pub mod MemberResults
 pub mod Batches
-pub mod Rooms
+pub mod Reserved
 pub mod Promised
 pub use Rattle.tp_machine.specs.Devices
 pub use Rattle.tp_collect.specs.Collected

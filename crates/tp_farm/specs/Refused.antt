@@ -2,15 +2,13 @@
 use Rattle.std.specs.Prelude.{ℕ, ◌*◌, ◌==◌, not, ◌||◌, nat_lt, if◌then◌else◌, length, position, Option, Some}
 use Rattle.std.specs.Option.{option_map}
 use Rattle.tp_collect.specs.Collected.{Batch}
+use Rattle.tp_collect.specs.Collecting.{most_packets}
 use Rattle.tp_farm.specs.declared.fault.FarmFault.{FarmFault}
 use Rattle.tp_farm.specs.declared.fault.FarmFault.TheVariants.{Members, Packets, Length, Thread, Memory}
 
--- the most members, and the most packets
+-- the most members
 abbrev pub most_members : ℕ
 most_members = 64
-
-abbrev pub most_packets : ℕ
-most_packets = 1024
 
 -- the number of the first packet that has another length than the image's
 abbrev pub first_other : Batch → Option ℕ

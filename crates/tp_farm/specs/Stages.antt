@@ -1,15 +1,9 @@
 -- The devices of a member, before and after a packet's run.
 use Rattle.std.specs.Prelude.{◌≡◌, ℕ, List, []}
-use Rattle.tp_link.specs.Device.{DeviceState}
-use Rattle.tp_link.specs.declared.links.Links.{Links}
 use Rattle.tp_image.specs.Image.{ImageValue}
 use Rattle.tp_step.specs.Runs.{Run, RunsAlone}
-use Rattle.tp_machine.specs.Devices.{Devices, devices}
+use Rattle.tp_machine.specs.Devices.{Devices}
 use Rattle.tp_machine.specs.declared.outcome.Outcome.{Outcome}
-
--- what the devices of a member mean
-abbrev pub of_links : {D : Type 0} → (D → DeviceState) → Links D → Devices
-of_links state links = devices (state links.source) (state links.sink) (state links.trace)
 
 -- the source holds the packet, and the others nothing
 pub record IsReady (packet : List ℕ) (now : Devices) : Type 0 where

@@ -4,13 +4,13 @@ use Rattle.tp_link.specs.Device.{DeviceState}
 use Rattle.tp_link.specs.declared.links.Links.{Links}
 use Rattle.tp_board.specs.Sources.{Progress}
 use Rattle.tp_collect.specs.Collected.{Batch}
+use Rattle.tp_machine.specs.Devices.{devices_of}
 use Rattle.tp_farm.specs.declared.job.Job.{Job}
 use Rattle.tp_farm.specs.declared.member.Filed.{Filed}
 use Rattle.tp_farm.specs.declared.worker.Returned.{Returned}
-use Rattle.tp_farm.specs.declared.worker.Shop.{Shop}
+use Rattle.tp_farm.specs.declared.worker.Shared.{Shared}
 use Rattle.tp_farm.specs.Jobs.{batch_of, AreWhole}
 use Rattle.tp_farm.specs.Turns.{no_progress}
-use Rattle.tp_farm.specs.Stages.{of_links}
 use Rattle.tp_farm.specs.Members.{KeepsAccounts, EndsBy}
 
 -- what all members work on: the batch, and whether its gate is open for good
@@ -24,13 +24,13 @@ work_on open_for_good job gate = record {
   open_for_good = open_for_good gate;
 }
 
-abbrev pub work_of : {G S : Type 0} → (G → Bool) → Shop G S → Work
-work_of open_for_good shop = work_on open_for_good shop.job.now shop.gate.now
+abbrev pub work_of : {G S : Type 0} → (G → Bool) → Shared G S → Work
+work_of open_for_good shared = work_on open_for_good shared.job.now shared.gate.now
 
--- the shop's source has the batch's packets, and each packet has its length
-pub record IsSet {G S : Type 0} (packets_of : S → List (List ℕ)) (shop : Shop G S) : Type 0 where
-  pub packets : packets_of shop.source.now ≡ (batch_of shop.job.now).packets
-  pub whole : AreWhole (batch_of shop.job.now)
+-- the shared's source has the batch's packets, and each packet has its length
+pub record IsSet {G S : Type 0} (packets_of : S → List (List ℕ)) (shared : Shared G S) : Type 0 where
+  pub packets : packets_of shared.source.now ≡ (batch_of shared.job.now).packets
+  pub whole : AreWhole (batch_of shared.job.now)
 
 -- a hand of the source that has done nothing
 pub record IsFresh {H : Type 0} (own : H → Type 0) (progress : H → Progress) (hand : H) : Type 0 where
@@ -41,5 +41,5 @@ pub record IsFresh {H : Type 0} (own : H → Type 0) (progress : H → Progress)
 -- ended as it says
 pub record HasWorked {H D : Type 0} (state : D → DeviceState) (own : H → Type 0) (progress : H → Progress) (work : Work) (before : Links D) (r : Returned H Filed D) : Type 0 where
   pub is_own : own r.hand
-  pub accounts : KeepsAccounts work.batch (of_links state before) (of_links state r.links) (progress r.hand) r.filed.items
+  pub accounts : KeepsAccounts work.batch (devices_of state before) (devices_of state r.links) (progress r.hand) r.filed.items
   pub ends : EndsBy work.batch work.open_for_good (progress r.hand) r.end

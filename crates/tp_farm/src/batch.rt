@@ -5,23 +5,23 @@ ghost use Rattle.std.specs.List.{AllZip};
 ghost use Rattle.tp_board.specs.Ledgers.{Balances};
 ghost use Rattle.tp_board.specs.Sources.{progress_of};
 ghost use Rattle.tp_board.specs.Streams.{IsHandOf, IsFeederOf, hand_seen, all_seen};
+ghost use Rattle.tp_machine.specs.Devices.{devices_of};
 ghost use Rattle.tp_farm.specs.Feeding.{HasOnlyFed};
 ghost use Rattle.tp_collect.specs.Collecting.{vacant};
 ghost use Rattle.tp_farm.specs.Jobs.{batch_of};
-ghost use Rattle.tp_farm.specs.Stages.{of_links};
 ghost use Rattle.tp_farm.specs.Working.{HasWorked, work_on};
 ghost use Rattle.tp_farm.specs.Refused.{job_fault, IsFromOutside};
 ghost use Rattle.tp_farm.specs.Batches.{IsBatch};
 ghost use Rattle.tp_farm.specs.Promised.{ArePackets, GoesWell};
-ghost use Rattle.tp_farm.specs.Rooms.{HasRoom};
+ghost use Rattle.tp_farm.specs.Reserved.{HasRoom};
 
 use crate::fault::FarmFault;
 use crate::gate::Gate;
-use crate::gathering::{Kept, gather_all, take_hands};
+use crate::gathering::{MemberResults, gather_all, take_hands};
 use crate::job::Job;
 use crate::member::Filed;
 use crate::members::run_members;
-use crate::worker::{Returned, Shop};
+use crate::worker::{Returned, Shared};
 use std::alloc::{AllocError, Global};
 use std::snapshot::Snapshot;
 use std::sync::Wait;
@@ -61,20 +61,20 @@ pub(crate) fn job_fault(job: &Job<'_>, members: usize) -> Option<FarmFault>
     }
 }
 
-/// Room for what the members give back.
+/// Reserved for what the members give back.
 #[derive(Drop)]
-pub(crate) struct Room<H, D> {
+pub(crate) struct Reserved<H, D> {
     pub(crate) hands: Vec<H>,
-    pub(crate) kept: Vec<Kept<D>>,
+    pub(crate) kept: Vec<MemberResults<D>>,
     pub(crate) links: Vec<Links<D>>,
 }
 
-impl<H: Drop, D: Drop> Room<H, D> {
-    /// Room for so many members.
-    pub(crate) fn for_members(alloc: Global, members: usize) -> Result<Room<H, D>, AllocError>
+impl<H: Drop, D: Drop> Reserved<H, D> {
+    /// Reserved for so many members.
+    pub(crate) fn for_members(alloc: Global, members: usize) -> Result<Reserved<H, D>, AllocError>
         ensures { IfOk result (HasRoom members) }
     {
-        Ok(Room {
+        Ok(Reserved {
             hands: Vec::with_capacity(alloc, members)?,
             kept: Vec::with_capacity(alloc, members)?,
             links: Vec::with_capacity(alloc, members)?,
@@ -110,7 +110,7 @@ fn settle<R: Wait, D: LinkDevice, G: Gate>(
     feeder: Feeder,
     mut collector: Collector<'_>,
     returned: Vec<Returned<StreamHand, Filed, D>>,
-    mut room: Room<StreamHand, D>,
+    mut room: Reserved<StreamHand, D>,
     _before: Snapshot<Vec<Links<D>>>,
 ) -> Result<Batch<D>, FarmFault>
     requires worked { AllZip (HasWorked D.state (IsHandOf stream) (λ h. progress_of (hand_seen h)) (work_on G.open_for_good _job.now _gate.now)) _before.value.items returned.items }
@@ -121,7 +121,7 @@ fn settle<R: Wait, D: LinkDevice, G: Gate>(
     requires packets { stream.packets ≡ (batch_of _job.now).packets }
     requires collector { collector ≡ record { batch = batch_of _job.now; entries = replicate (length stream.packets) vacant } }
     requires room { HasRoom (vec_len returned) room }
-    ensures batch { IfOk result (λ b. IsBatch (batch_of _job.now) (G.open_for_good _gate.now) (map (of_links D.state) _before.value.items) (map (of_links D.state) b.links.items) b.collected) }
+    ensures batch { IfOk result (λ b. IsBatch (batch_of _job.now) (G.open_for_good _gate.now) (map (devices_of D.state) _before.value.items) (map (devices_of D.state) b.links.items) b.collected) }
     ensures err { IfErr result IsFromOutside }
 {
     take_hands(returned, &mut room.hands, &mut room.kept)?;
@@ -148,7 +148,7 @@ pub fn run_batch<'j, R: Threads + Wait + Sync, D: LinkDevice + Send, G: Gate>(
     links: Vec<Links<D>>,
     gate: &'j G,
 ) -> Result<Batch<D>, FarmFault>
-    ensures batch { IfOk result (λ b. IsBatch (batch_of job.now) (G.open_for_good gate.now) (map (of_links D.state) links.items) (map (of_links D.state) b.links.items) b.collected) }
+    ensures batch { IfOk result (λ b. IsBatch (batch_of job.now) (G.open_for_good gate.now) (map (devices_of D.state) links.items) (map (devices_of D.state) b.links.items) b.collected) }
     ensures goes_well { ArePackets (batch_of job.now) →
         IfOk result (λ b. GoesWell (batch_of job.now) job.now.image.now.budget b.collected) }
     ensures begins { OnOk result (job_fault (length links.items) (batch_of job.now) ≡ None) }
@@ -165,18 +165,18 @@ pub fn run_batch<'j, R: Threads + Wait + Sync, D: LinkDevice + Send, G: Gate>(
             links,
         });
     }
-    let room = Room::for_members(alloc, links.len())?;
+    let room = Reserved::for_members(alloc, links.len())?;
     let made = StreamQueue::new(alloc, job.packets, links.len() as u32);
     let Ok((stream, feeder, hands)) = made else {
         return Err(FarmFault::Memory);
     };
     let before = Snapshot::of(&links);
-    let shop = Shop {
+    let shared = Shared {
         job: &*job,
         gate: &*gate,
         source: &stream,
     };
-    let (returned, feeder) = run_members(rt, alloc, &shop, feeder, hands, links)?;
+    let (returned, feeder) = run_members(rt, alloc, &shared, feeder, hands, links)?;
     settle(
         rt, job, gate, stream, feeder, collector, returned, room, before,
     )

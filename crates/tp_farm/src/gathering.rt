@@ -5,7 +5,7 @@ ghost use Rattle.tp_collect.specs.Collected.{Batch};
 ghost use Rattle.tp_collect.specs.Collecting.{vacant};
 ghost use Rattle.tp_farm.specs.Refused.{IsFromOutside};
 ghost use Rattle.tp_farm.specs.Gathering.{number_of, entry_of, IsOfBatch, filed_in, FindVacant, all_filed, fault_of_end};
-ghost use Rattle.tp_farm.specs.Apart.{kept_of};
+ghost use Rattle.tp_farm.specs.MemberResults.{member_results};
 
 use crate::fault::FarmFault;
 use crate::member::{End, Filed};
@@ -15,7 +15,7 @@ use tp_link::{LinkDevice, Links};
 
 /// What is left of a member when its hand is gone.
 #[derive(Drop)]
-pub(crate) struct Kept<D> {
+pub(crate) struct MemberResults<D> {
     pub(crate) links: Links<D>,
     pub(crate) filed: Vec<Filed>,
 }
@@ -34,12 +34,12 @@ fn fault_of_end(end: End) -> Option<FarmFault>
 pub(crate) fn take_hands<H: Drop, D: LinkDevice>(
     returned: Vec<Returned<H, Filed, D>>,
     hands: &mut Vec<H>,
-    kept: &mut Vec<Kept<D>>,
+    kept: &mut Vec<MemberResults<D>>,
 ) -> Result<(), FarmFault>
     requires hands { vec_len hands.old + vec_len returned ≤ vec_capacity hands.old }
     requires kept { vec_len kept.old + vec_len returned ≤ vec_capacity kept.old }
     ensures hands { OnOk result (hands.new.items ≡ hands.old.items ++ map (λ r. r.hand) returned.items) }
-    ensures kept { OnOk result (kept.new.items ≡ kept.old.items ++ map kept_of returned.items) }
+    ensures kept { OnOk result (kept.new.items ≡ kept.old.items ++ map member_results returned.items) }
     ensures well { OnOk result (All (λ r. fault_of_end r.end ≡ None) returned.items) }
     ensures err { IfErr result IsFromOutside }
 {
@@ -48,7 +48,7 @@ pub(crate) fn take_hands<H: Drop, D: LinkDevice>(
             return Err(fault);
         }
         hands.push_reserved(one.hand);
-        kept.push_reserved(Kept {
+        kept.push_reserved(MemberResults {
             links: one.links,
             filed: one.filed,
         });
@@ -86,7 +86,7 @@ fn gather(collector: &mut Collector<'_>, filed: Vec<Filed>)
 /// Files what all members filed, and gives back their devices in order.
 pub(crate) fn gather_all<D: LinkDevice>(
     collector: &mut Collector<'_>,
-    kept: Vec<Kept<D>>,
+    kept: Vec<MemberResults<D>>,
     links: &mut Vec<Links<D>>,
 )
     requires of { All (λ k. All (IsOfBatch collector.old.batch) k.filed.items) kept.items }

@@ -2,11 +2,11 @@
 
 ghost use Rattle.std.specs.Prelude.{◌≡◌, ℕ, ◌*◌, ◌+◌, ◌≤◌, ◌<◌, length, [], slice_get, OnOk, IfOk, IfErr, Ok, Err, Some};
 ghost use Rattle.tp_link.specs.Device.{failures};
-ghost use Rattle.tp_machine.specs.Devices.{devices};
+ghost use Rattle.tp_machine.specs.Devices.{devices_of};
 ghost use Rattle.tp_collect.specs.Collected.{IsResult};
 ghost use Rattle.tp_farm.specs.Settings.{SameDevice, SameSettings, Rises, failures_of};
 ghost use Rattle.tp_farm.specs.Losses.{HasCause};
-ghost use Rattle.tp_farm.specs.Stages.{of_links, IsReady, HasGiven, HasTraced};
+ghost use Rattle.tp_farm.specs.Stages.{IsReady, HasGiven, HasTraced};
 ghost use Rattle.tp_farm.specs.Jobs.{batch_of};
 ghost use Rattle.tp_farm.specs.Handled.{on_link, HasReason, failed_in};
 
@@ -15,11 +15,11 @@ use arrayvec::ArrayVec;
 use tp_accept::Accepted;
 use tp_board::Packet;
 use tp_collect::Done;
+use tp_collect::limits::MESSAGE_BYTES;
 use tp_link::{DeviceFault, Link, LinkDevice, LinkFault, Links};
 use tp_machine::{Machine, Outcome};
 
 /// The most bytes that one call receives.
-const MOST_RECEIVED: usize = 256;
 
 /// A device's refusal, with its link.
 fn of_link<T>(link: Link, answer: Result<T, DeviceFault>) -> Result<T, LinkFault>
@@ -38,9 +38,9 @@ fn empty<D: LinkDevice>(device: &mut D) -> Result<(), DeviceFault>
     ensures emptied { OnOk result ((D.state device.new).held ≡ []) }
     ensures cause { IfErr result (HasCause (D.state device.old) ⊥) }
 {
-    let mut scratch = [0u8; MOST_RECEIVED];
+    let mut scratch = [0u8; MESSAGE_BYTES];
     while device.held() > 0 {
-        let n = device.held().min(MOST_RECEIVED);
+        let n = device.held().min(MESSAGE_BYTES);
         device.receive(&mut scratch[..n])?;
     }
     Ok(())
@@ -53,10 +53,10 @@ fn prepare<D: LinkDevice>(
     links: &mut Links<D>,
 ) -> Result<(), LinkFault>
     requires { length packet.now.items ≡ 4 * _accepted.now.image.packet }
-    ensures settings { SameSettings (of_links D.state links.old) (of_links D.state links.new) }
-    ensures rises { Rises (of_links D.state links.old) (of_links D.state links.new) (λ which. failed_in which result) }
-    ensures ready { OnOk result (IsReady packet.now.items (of_links D.state links.new)) }
-    ensures reason { IfErr result (HasReason _accepted.now.image packet.now.items (of_links D.state links.old)) }
+    ensures settings { SameSettings (devices_of D.state links.old) (devices_of D.state links.new) }
+    ensures rises { Rises (devices_of D.state links.old) (devices_of D.state links.new) (λ which. failed_in which result) }
+    ensures ready { OnOk result (IsReady packet.now.items (devices_of D.state links.new)) }
+    ensures reason { IfErr result (HasReason _accepted.now.image packet.now.items (devices_of D.state links.old)) }
 {
     of_link(Link::Source, empty(&mut links.source))?;
     of_link(Link::Sink, empty(&mut links.sink))?;
@@ -71,12 +71,12 @@ fn run_on<D: LinkDevice>(
     _packet: &Packet,
     links: &mut Links<D>,
 ) -> Result<Outcome, LinkFault>
-    requires ready { IsReady _packet.now.items (of_links D.state links.old) }
+    requires ready { IsReady _packet.now.items (devices_of D.state links.old) }
     requires length { length _packet.now.items ≡ 4 * accepted.now.image.packet }
-    ensures settings { SameSettings (of_links D.state links.old) (of_links D.state links.new) }
-    ensures rises { Rises (of_links D.state links.old) (of_links D.state links.new) (λ which. failed_in which result) }
-    ensures given { IfOk result (λ outcome. HasGiven accepted.now.image _packet.now.items outcome (of_links D.state links.new)) }
-    ensures reason { IfErr result (HasReason accepted.now.image _packet.now.items (of_links D.state links.old)) }
+    ensures settings { SameSettings (devices_of D.state links.old) (devices_of D.state links.new) }
+    ensures rises { Rises (devices_of D.state links.old) (devices_of D.state links.new) (λ which. failed_in which result) }
+    ensures given { IfOk result (λ outcome. HasGiven accepted.now.image _packet.now.items outcome (devices_of D.state links.new)) }
+    ensures reason { IfErr result (HasReason accepted.now.image _packet.now.items (devices_of D.state links.old)) }
 {
     machine.run(accepted, links)
 }
@@ -90,7 +90,7 @@ fn received<D: LinkDevice>(device: &mut D, n: usize) -> Result<Packet, DeviceFau
     ensures bytes { IfOk result (λ bytes. bytes.items ≡ (D.state device.old).held) }
     ensures cause { IfErr result (HasCause (D.state device.old) ⊥) }
 {
-    let mut bytes = [0u8; MOST_RECEIVED];
+    let mut bytes = [0u8; MESSAGE_BYTES];
     if n > 0 {
         device.receive(&mut bytes[..n])?;
     }
@@ -104,13 +104,13 @@ fn trace_held<D: LinkDevice>(
     links: &mut Links<D>,
 ) -> Result<Packet, LinkFault>
     requires { HasTraced _accepted.now.image _packet.now.items (D.state links.old.trace).held }
-    ensures settings { SameSettings (of_links D.state links.old) (of_links D.state links.new) }
-    ensures rises { Rises (of_links D.state links.old) (of_links D.state links.new) (λ which. failed_in which result) }
+    ensures settings { SameSettings (devices_of D.state links.old) (devices_of D.state links.new) }
+    ensures rises { Rises (devices_of D.state links.old) (devices_of D.state links.new) (λ which. failed_in which result) }
     ensures bytes { IfOk result (λ bytes. bytes.items ≡ (D.state links.old.trace).held) }
-    ensures reason { IfErr result (HasReason _accepted.now.image _packet.now.items (of_links D.state links.old)) }
+    ensures reason { IfErr result (HasReason _accepted.now.image _packet.now.items (devices_of D.state links.old)) }
 {
     let n = links.trace.held();
-    if n > MOST_RECEIVED {
+    if n > MESSAGE_BYTES {
         return Err(LinkFault {
             link: Link::Trace,
             code: DeviceFault::Full,
@@ -132,10 +132,10 @@ pub(crate) fn handle<D: LinkDevice>(
 ) -> Result<Done, LinkFault>
     requires packet { slice_get (batch_of job.now).packets number ≡ Some packet.now.items }
     requires length { length packet.now.items ≡ 4 * job.now.image.now.image.packet }
-    ensures settings { SameSettings (of_links D.state links.old) (of_links D.state links.new) }
-    ensures rises { Rises (of_links D.state links.old) (of_links D.state links.new) (λ which. failed_in which result) }
+    ensures settings { SameSettings (devices_of D.state links.old) (devices_of D.state links.new) }
+    ensures rises { Rises (devices_of D.state links.old) (devices_of D.state links.new) (λ which. failed_in which result) }
     ensures done { IfOk result (IsResult (batch_of job.now) number) }
-    ensures reason { IfErr result (HasReason job.now.image.now.image packet.now.items (of_links D.state links.old)) }
+    ensures reason { IfErr result (HasReason job.now.image.now.image packet.now.items (devices_of D.state links.old)) }
 {
     prepare(job.image, packet, links)?;
     let outcome = run_on(machine, job.image, packet, links)?;

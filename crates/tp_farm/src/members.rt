@@ -11,7 +11,7 @@ ghost use Rattle.tp_farm.specs.Working.{IsSet, IsFresh, HasWorked, work_of};
 use crate::fault::FarmFault;
 use crate::gate::Gate;
 use crate::member::Filed;
-use crate::worker::{Returned, Shop, work_as};
+use crate::worker::{Returned, Shared, work_as};
 use std::alloc::{AllocError, Global};
 use std::snapshot::Snapshot;
 use std::sync::Wait;
@@ -21,51 +21,51 @@ use std::time::Duration;
 use tp_board::{Fed, Feeder, StreamHand, StreamQueue, WorkSource};
 use tp_link::{LinkDevice, Links};
 
-/// What a member's thread keeps: it has done the shop's work with the devices that it had.
+/// What a member's thread keeps: it has done the shared's work with the devices that it had.
 #[derive(Drop)]
-struct WorkOf<'j, G, D, S> {
-    shop: &'j Shop<'j, G, S>,
+struct MemberPromise<'j, G, D, S> {
+    shared: &'j Shared<'j, G, S>,
     before: Snapshot<Links<D>>,
 }
 
 impl<'j, G: Gate, D: LinkDevice, S: WorkSource> Promise<Returned<S::Hand, Filed, D>>
-    for WorkOf<'j, G, D, S> {
+    for MemberPromise<'j, G, D, S> {
     ghost use Rattle.tp_farm.specs.Working.{HasWorked, work_of};
 
-    ghost kept_by = { λ p r. HasWorked D.state (S.is_own p.shop.now.source.now) S.progress (work_of G.open_for_good p.shop.now) p.before.value r };
+    ghost kept_by = { λ p r. HasWorked D.state (S.is_own p.shared.now.source.now) S.progress (work_of G.open_for_good p.shared.now) p.before.value r };
 }
 
 /// A member's thread.
-type Handle<'e, G, D, S, H> = PromisedHandle<Returned<H, Filed, D>, WorkOf<'e, G, D, S>>;
+type Handle<'e, G, D, S, H> = PromisedHandle<Returned<H, Filed, D>, MemberPromise<'e, G, D, S>>;
 
 /// Starts the member of a number.
 fn start<'s, 'e, R: Wait + Sync, D: LinkDevice + Send + 'e, G: Gate, S: WorkSource + Sync>(
     rt: &'e R,
     scope: &'s Scope<'s, &'e ()>,
     alloc: Global,
-    shop: &'e Shop<'e, G, S>,
+    shared: &'e Shared<'e, G, S>,
     number: u32,
     hand: S::Hand,
     links: Links<D>,
 ) -> Option<Handle<'e, G, D, S, S::Hand>>
 where
     S::Hand: Drop + Send + 'e,
-    requires set { IsSet S.packets shop.now }
-    requires fresh { IsFresh (S.is_own shop.now.source.now) S.progress hand }
-    ensures shop { IfSome result (λ h. h.promise.shop.now ≡ shop.now) }
+    requires set { IsSet S.packets shared.now }
+    requires fresh { IsFresh (S.is_own shared.now.source.now) S.progress hand }
+    ensures shared { IfSome result (λ h. h.promise.shared.now ≡ shared.now) }
     ensures before { IfSome result (λ h. h.promise.before.value ≡ links) }
 {
-    let promise = WorkOf {
-        shop,
+    let promise = MemberPromise {
+        shared,
         before: Snapshot::of(&links),
     };
     let started = scope.spawn_with(
         promise,
         move || -> Returned<S::Hand, Filed, D>
-            requires set { IsSet S.packets shop.now }
-            requires fresh { IsFresh (S.is_own shop.now.source.now) S.progress hand }
-            ensures worked { HasWorked D.state (S.is_own shop.entry.now.source.now) S.progress (work_of G.open_for_good shop.entry.now) links result }
-        { work_as(rt, alloc, shop, number, hand, links) },
+            requires set { IsSet S.packets shared.now }
+            requires fresh { IsFresh (S.is_own shared.now.source.now) S.progress hand }
+            ensures worked { HasWorked D.state (S.is_own shared.entry.now.source.now) S.progress (work_of G.open_for_good shared.entry.now) links result }
+        { work_as(rt, alloc, shared, number, hand, links) },
     );
     match started {
         Ok(handle) => Some(handle),
@@ -98,18 +98,18 @@ pub(crate) fn start_all<
     rt: &'e R,
     scope: &'s Scope<'s, &'e ()>,
     alloc: Global,
-    shop: &'e Shop<'e, G, S>,
+    shared: &'e Shared<'e, G, S>,
     mut hands: Vec<S::Hand>,
     all: Vec<Links<D>>,
 ) -> Result<Started<'e, G, D, S>, AllocError>
 where
     S::Hand: Drop + Send + 'e,
-    requires set { IsSet S.packets shop.now }
-    requires fresh { All (IsFresh (S.is_own shop.now.source.now) S.progress) hands.items }
+    requires set { IsSet S.packets shared.now }
+    requires fresh { All (IsFresh (S.is_own shared.now.source.now) S.progress) hands.items }
     requires hands { vec_len hands ≡ vec_len all }
     requires members { vec_len all ≤ 64 }
     ensures before { IfOk result (λ s. s.all_started ≡ true → map (λ h. h.promise.before.value) s.handles.items ≡ all.items) }
-    ensures shop { IfOk result (λ s. All (λ h. h.promise.shop.now ≡ shop.now) s.handles.items) }
+    ensures shared { IfOk result (λ s. All (λ h. h.promise.shared.now ≡ shared.now) s.handles.items) }
 {
     let mut handles = Vec::with_capacity(alloc, all.len())?;
     let mut number = 0u32;
@@ -117,7 +117,7 @@ where
         let Some(hand) = hands.pop() else {
             unreachable!()
         };
-        let Some(handle) = start(rt, scope, alloc, shop, number, hand, links) else {
+        let Some(handle) = start(rt, scope, alloc, shared, number, hand, links) else {
             return Ok(Started {
                 handles,
                 all_started: false,
@@ -180,7 +180,7 @@ pub(crate) fn join_all<R: Threads + Wait, D: LinkDevice, G: Gate, S: WorkSource>
 ) -> Result<Vec<Returned<S::Hand, Filed, D>>, FarmFault>
 where
     S::Hand: Drop,
-    ensures joined { IfOk result (λ rs. (started.entry.all_started ≡ true) × AllZip (λ h r. HasWorked D.state (S.is_own h.promise.shop.now.source.now) S.progress (work_of G.open_for_good h.promise.shop.now) h.promise.before.value r) started.entry.handles.items rs.items) }
+    ensures joined { IfOk result (λ rs. (started.entry.all_started ≡ true) × AllZip (λ h r. HasWorked D.state (S.is_own h.promise.shared.now.source.now) S.progress (work_of G.open_for_good h.promise.shared.now) h.promise.before.value r) started.entry.handles.items rs.items) }
     ensures err { IfErr result IsFromOutside }
 {
     match join_promised(rt, started.handles) {
@@ -206,26 +206,26 @@ fn start_feed_and_join<'s, 'e, R: Threads + Wait + Sync, D: LinkDevice + Send + 
     rt: &'e R,
     scope: &'s Scope<'s, &'e ()>,
     alloc: Global,
-    shop: &'e Shop<'e, G, StreamQueue<'e>>,
+    shared: &'e Shared<'e, G, StreamQueue<'e>>,
     mut feeder: Feeder,
     hands: Vec<StreamHand>,
     all: Vec<Links<D>>,
 ) -> Result<(Vec<Returned<StreamHand, Filed, D>>, Feeder), FarmFault>
-    requires set { IsSet (λ s. s.packets) shop.now }
-    requires fresh { All (IsFresh (IsHandOf shop.now.source.now) (λ h. progress_of (hand_seen h))) hands.items }
-    requires feeder { IsFeederOf shop.now.source.now feeder }
+    requires set { IsSet (λ s. s.packets) shared.now }
+    requires fresh { All (IsFresh (IsHandOf shared.now.source.now) (λ h. progress_of (hand_seen h))) hands.items }
+    requires feeder { IsFeederOf shared.now.source.now feeder }
     requires fed { HasOnlyFed feeder }
     requires hands { vec_len hands ≡ vec_len all }
     requires members { vec_len all ≤ 64 }
-    ensures worked { IfOk result (λ r. AllZip (HasWorked D.state (IsHandOf shop.now.source.now) (λ h. progress_of (hand_seen h)) (work_of G.open_for_good shop.now)) all.items r.0.items) }
-    ensures feeder { IfOk result (λ r. IsFeederOf shop.now.source.now r.1 × HasOnlyFed r.1) }
+    ensures worked { IfOk result (λ r. AllZip (HasWorked D.state (IsHandOf shared.now.source.now) (λ h. progress_of (hand_seen h)) (work_of G.open_for_good shared.now)) all.items r.0.items) }
+    ensures feeder { IfOk result (λ r. IsFeederOf shared.now.source.now r.1 × HasOnlyFed r.1) }
     ensures err { IfErr result IsFromOutside }
 {
-    let started = start_all(rt, scope, alloc, shop, hands, all)?;
+    let started = start_all(rt, scope, alloc, shared, hands, all)?;
     if started.all_started {
-        feed_all(rt, shop.source, &mut feeder);
+        feed_all(rt, shared.source, &mut feeder);
     } else {
-        shop.source.stop_feeding(&mut feeder);
+        shared.source.stop_feeding(&mut feeder);
     }
     let returned = join_all(rt, started)?;
     Ok((returned, feeder))
@@ -236,34 +236,34 @@ fn start_feed_and_join<'s, 'e, R: Threads + Wait + Sync, D: LinkDevice + Send + 
 pub(crate) fn run_members<R: Threads + Wait + Sync, D: LinkDevice + Send, G: Gate>(
     rt: &R,
     alloc: Global,
-    shop: &Shop<'_, G, StreamQueue<'_>>,
+    shared: &Shared<'_, G, StreamQueue<'_>>,
     feeder: Feeder,
     hands: Vec<StreamHand>,
     all: Vec<Links<D>>,
 ) -> Result<(Vec<Returned<StreamHand, Filed, D>>, Feeder), FarmFault>
-    requires set { IsSet (λ s. s.packets) shop.now }
-    requires fresh { All (IsFresh (IsHandOf shop.now.source.now) (λ h. progress_of (hand_seen h))) hands.items }
-    requires feeder { IsFeederOf shop.now.source.now feeder }
+    requires set { IsSet (λ s. s.packets) shared.now }
+    requires fresh { All (IsFresh (IsHandOf shared.now.source.now) (λ h. progress_of (hand_seen h))) hands.items }
+    requires feeder { IsFeederOf shared.now.source.now feeder }
     requires fed { HasOnlyFed feeder }
     requires hands { vec_len hands ≡ vec_len all }
     requires members { vec_len all ≤ 64 }
-    ensures worked { IfOk result (λ r. AllZip (HasWorked D.state (IsHandOf shop.now.source.now) (λ h. progress_of (hand_seen h)) (work_of G.open_for_good shop.now)) all.items r.0.items) }
-    ensures feeder { IfOk result (λ r. IsFeederOf shop.now.source.now r.1 × HasOnlyFed r.1) }
+    ensures worked { IfOk result (λ r. AllZip (HasWorked D.state (IsHandOf shared.now.source.now) (λ h. progress_of (hand_seen h)) (work_of G.open_for_good shared.now)) all.items r.0.items) }
+    ensures feeder { IfOk result (λ r. IsFeederOf shared.now.source.now r.1 × HasOnlyFed r.1) }
     ensures err { IfErr result IsFromOutside }
 {
     thread::scope(
         thread::scope_env(),
         rt,
         |scope| -> Result<(Vec<Returned<StreamHand, Filed, D>>, Feeder), FarmFault>
-            requires set { IsSet (λ s. s.packets) shop.now }
-            requires fresh { All (IsFresh (IsHandOf shop.now.source.now) (λ h. progress_of (hand_seen h))) hands.items }
-            requires feeder { IsFeederOf shop.now.source.now feeder }
+            requires set { IsSet (λ s. s.packets) shared.now }
+            requires fresh { All (IsFresh (IsHandOf shared.now.source.now) (λ h. progress_of (hand_seen h))) hands.items }
+            requires feeder { IsFeederOf shared.now.source.now feeder }
             requires fed { HasOnlyFed feeder }
             requires hands { vec_len hands ≡ vec_len all }
             requires members { vec_len all ≤ 64 }
-            ensures worked { IfOk result (λ r. AllZip (HasWorked D.state (IsHandOf shop.entry.now.source.now) (λ h. progress_of (hand_seen h)) (work_of G.open_for_good shop.entry.now)) all.items r.0.items) }
-            ensures feeder { IfOk result (λ r. IsFeederOf shop.entry.now.source.now r.1 × HasOnlyFed r.1) }
+            ensures worked { IfOk result (λ r. AllZip (HasWorked D.state (IsHandOf shared.entry.now.source.now) (λ h. progress_of (hand_seen h)) (work_of G.open_for_good shared.entry.now)) all.items r.0.items) }
+            ensures feeder { IfOk result (λ r. IsFeederOf shared.entry.now.source.now r.1 × HasOnlyFed r.1) }
             ensures err { IfErr result IsFromOutside }
-        { start_feed_and_join(rt, scope, alloc, shop, feeder, hands, all) },
+        { start_feed_and_join(rt, scope, alloc, shared, feeder, hands, all) },
     )
 }

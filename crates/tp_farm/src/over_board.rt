@@ -9,22 +9,22 @@ ghost use Rattle.tp_board.specs.Boards.{IsSeatOf, views_of};
 ghost use Rattle.tp_board.specs.Sources.{progress_of};
 ghost use Rattle.tp_board.specs.Ledgers.{Balances};
 ghost use Rattle.tp_collect.specs.Collecting.{vacant};
+ghost use Rattle.tp_machine.specs.Devices.{devices_of};
 ghost use Rattle.tp_farm.specs.Jobs.{batch_of};
-ghost use Rattle.tp_farm.specs.Stages.{of_links};
 ghost use Rattle.tp_farm.specs.Working.{IsSet, IsFresh, HasWorked, work_on, work_of};
 ghost use Rattle.tp_farm.specs.Refused.{job_fault, IsFromOutside};
 ghost use Rattle.tp_farm.specs.Batches.{IsBatch};
 ghost use Rattle.tp_farm.specs.Promised.{ArePackets, GoesWell};
-ghost use Rattle.tp_farm.specs.Rooms.{HasRoom};
+ghost use Rattle.tp_farm.specs.Reserved.{HasRoom};
 
-use crate::batch::{Batch, Room, job_fault};
+use crate::batch::{Batch, Reserved, job_fault};
 use crate::fault::FarmFault;
 use crate::gate::Gate;
 use crate::gathering::{gather_all, take_hands};
 use crate::job::Job;
 use crate::member::Filed;
 use crate::members::{join_all, start_all};
-use crate::worker::{Returned, Shop};
+use crate::worker::{Returned, Shared};
 use std::alloc::Global;
 use std::snapshot::Snapshot;
 use std::sync::Wait;
@@ -46,20 +46,20 @@ fn start_and_join<
     rt: &'e R,
     scope: &'s Scope<'s, &'e ()>,
     alloc: Global,
-    shop: &'e Shop<'e, G, S>,
+    shared: &'e Shared<'e, G, S>,
     hands: Vec<S::Hand>,
     all: Vec<Links<D>>,
 ) -> Result<Vec<Returned<S::Hand, Filed, D>>, FarmFault>
 where
     S::Hand: Drop + Send + 'e,
-    requires set { IsSet S.packets shop.now }
-    requires fresh { All (IsFresh (S.is_own shop.now.source.now) S.progress) hands.items }
+    requires set { IsSet S.packets shared.now }
+    requires fresh { All (IsFresh (S.is_own shared.now.source.now) S.progress) hands.items }
     requires hands { vec_len hands ≡ vec_len all }
     requires members { vec_len all ≤ 64 }
-    ensures worked { IfOk result (λ rs. AllZip (HasWorked D.state (S.is_own shop.now.source.now) S.progress (work_of G.open_for_good shop.now)) all.items rs.items) }
+    ensures worked { IfOk result (λ rs. AllZip (HasWorked D.state (S.is_own shared.now.source.now) S.progress (work_of G.open_for_good shared.now)) all.items rs.items) }
     ensures err { IfErr result IsFromOutside }
 {
-    let started = start_all(rt, scope, alloc, shop, hands, all)?;
+    let started = start_all(rt, scope, alloc, shared, hands, all)?;
     join_all(rt, started)
 }
 
@@ -67,30 +67,30 @@ where
 fn run_all<R: Threads + Wait + Sync, D: LinkDevice + Send, G: Gate, S: WorkSource + Sync>(
     rt: &R,
     alloc: Global,
-    shop: &Shop<'_, G, S>,
+    shared: &Shared<'_, G, S>,
     hands: Vec<S::Hand>,
     all: Vec<Links<D>>,
 ) -> Result<Vec<Returned<S::Hand, Filed, D>>, FarmFault>
 where
     S::Hand: Drop + Send,
-    requires set { IsSet S.packets shop.now }
-    requires fresh { All (IsFresh (S.is_own shop.now.source.now) S.progress) hands.items }
+    requires set { IsSet S.packets shared.now }
+    requires fresh { All (IsFresh (S.is_own shared.now.source.now) S.progress) hands.items }
     requires hands { vec_len hands ≡ vec_len all }
     requires members { vec_len all ≤ 64 }
-    ensures worked { IfOk result (λ rs. AllZip (HasWorked D.state (S.is_own shop.now.source.now) S.progress (work_of G.open_for_good shop.now)) all.items rs.items) }
+    ensures worked { IfOk result (λ rs. AllZip (HasWorked D.state (S.is_own shared.now.source.now) S.progress (work_of G.open_for_good shared.now)) all.items rs.items) }
     ensures err { IfErr result IsFromOutside }
 {
     thread::scope(
         thread::scope_env(),
         rt,
         |scope| -> Result<Vec<Returned<S::Hand, Filed, D>>, FarmFault>
-            requires set { IsSet S.packets shop.now }
-            requires fresh { All (IsFresh (S.is_own shop.now.source.now) S.progress) hands.items }
+            requires set { IsSet S.packets shared.now }
+            requires fresh { All (IsFresh (S.is_own shared.now.source.now) S.progress) hands.items }
             requires hands { vec_len hands ≡ vec_len all }
             requires members { vec_len all ≤ 64 }
-            ensures worked { IfOk result (λ rs. AllZip (HasWorked D.state (S.is_own shop.entry.now.source.now) S.progress (work_of G.open_for_good shop.entry.now)) all.items rs.items) }
+            ensures worked { IfOk result (λ rs. AllZip (HasWorked D.state (S.is_own shared.entry.now.source.now) S.progress (work_of G.open_for_good shared.entry.now)) all.items rs.items) }
             ensures err { IfErr result IsFromOutside }
-        { start_and_join(rt, scope, alloc, shop, hands, all) },
+        { start_and_join(rt, scope, alloc, shared, hands, all) },
     )
 }
 
@@ -114,7 +114,7 @@ fn settle<D: LinkDevice, G: Gate>(
     board: Board,
     mut collector: Collector<'_>,
     returned: Vec<Returned<Seat, Filed, D>>,
-    mut room: Room<Seat, D>,
+    mut room: Reserved<Seat, D>,
     _before: Snapshot<Vec<Links<D>>>,
 ) -> Result<Batch<D>, FarmFault>
     requires worked { AllZip (HasWorked D.state (IsSeatOf board) (λ s. progress_of s.view) (work_on G.open_for_good _job.now _gate.now)) _before.value.items returned.items }
@@ -123,7 +123,7 @@ fn settle<D: LinkDevice, G: Gate>(
     requires packets { board.packets ≡ length (batch_of _job.now).packets }
     requires collector { collector ≡ record { batch = batch_of _job.now; entries = replicate board.packets vacant } }
     requires room { HasRoom (vec_len returned) room }
-    ensures batch { IfOk result (λ b. IsBatch (batch_of _job.now) (G.open_for_good _gate.now) (map (of_links D.state) _before.value.items) (map (of_links D.state) b.links.items) b.collected) }
+    ensures batch { IfOk result (λ b. IsBatch (batch_of _job.now) (G.open_for_good _gate.now) (map (devices_of D.state) _before.value.items) (map (devices_of D.state) b.links.items) b.collected) }
     ensures err { IfErr result IsFromOutside }
 {
     take_hands(returned, &mut room.hands, &mut room.kept)?;
@@ -144,7 +144,7 @@ pub fn run_batch_over_board<'j, R: Threads + Wait + Sync, D: LinkDevice + Send, 
     links: Vec<Links<D>>,
     gate: &'j G,
 ) -> Result<Batch<D>, FarmFault>
-    ensures batch { IfOk result (λ b. IsBatch (batch_of job.now) (G.open_for_good gate.now) (map (of_links D.state) links.items) (map (of_links D.state) b.links.items) b.collected) }
+    ensures batch { IfOk result (λ b. IsBatch (batch_of job.now) (G.open_for_good gate.now) (map (devices_of D.state) links.items) (map (devices_of D.state) b.links.items) b.collected) }
     ensures goes_well { ArePackets (batch_of job.now) →
         IfOk result (λ b. GoesWell (batch_of job.now) job.now.image.now.budget b.collected) }
     ensures begins { OnOk result (job_fault (length links.items) (batch_of job.now) ≡ None) }
@@ -161,19 +161,19 @@ pub fn run_batch_over_board<'j, R: Threads + Wait + Sync, D: LinkDevice + Send, 
             links,
         });
     }
-    let room = Room::for_members(alloc, links.len())?;
+    let room = Reserved::for_members(alloc, links.len())?;
     let made = Board::new(alloc, job.packets.len() as u32, links.len() as u32);
     let Ok((board, seats)) = made else {
         return Err(FarmFault::Memory);
     };
     let source = BoardSource::new(board, job.packets);
     let before = Snapshot::of(&links);
-    let shop = Shop {
+    let shared = Shared {
         job: &*job,
         gate: &*gate,
         source: &source,
     };
-    let returned = run_all(rt, alloc, &shop, seats, links)?;
+    let returned = run_all(rt, alloc, &shared, seats, links)?;
     let board = source.into_board();
     settle(job, gate, board, collector, returned, room, before)
 }

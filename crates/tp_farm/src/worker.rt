@@ -24,7 +24,7 @@ pub(crate) struct Returned<H, F, D> {
 
 /// What all members work with.
 #[derive(Drop)]
-pub(crate) struct Shop<'j, G, S> {
+pub(crate) struct Shared<'j, G, S> {
     pub(crate) job: &'j Job<'j>,
     pub(crate) gate: &'j G,
     pub(crate) source: &'j S,
@@ -34,14 +34,14 @@ pub(crate) struct Shop<'j, G, S> {
 pub(crate) fn work_as<S: WorkSource, D: LinkDevice, G: Gate>(
     rt: &impl Wait,
     alloc: Global,
-    shop: &Shop<'_, G, S>,
+    shared: &Shared<'_, G, S>,
     number: u32,
     hand: S::Hand,
     links: Links<D>,
 ) -> Returned<S::Hand, Filed, D>
-    requires set { IsSet S.packets shop.now }
-    requires fresh { IsFresh (S.is_own shop.now.source.now) S.progress hand }
-    ensures { HasWorked D.state (S.is_own shop.now.source.now) S.progress (work_of G.open_for_good shop.now) links result }
+    requires set { IsSet S.packets shared.now }
+    requires fresh { IsFresh (S.is_own shared.now.source.now) S.progress hand }
+    ensures { HasWorked D.state (S.is_own shared.now.source.now) S.progress (work_of G.open_for_good shared.now) links result }
 {
     let entry = Snapshot::of(&links);
     let mut member = Member {
@@ -52,7 +52,7 @@ pub(crate) fn work_as<S: WorkSource, D: LinkDevice, G: Gate>(
         filed: Vec::new(alloc),
         entry,
     };
-    let end = work(rt, shop.job, shop.gate, shop.source, &mut member);
+    let end = work(rt, shared.job, shared.gate, shared.source, &mut member);
     let Member {
         hand,
         links,

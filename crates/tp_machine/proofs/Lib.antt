@@ -3,7 +3,7 @@ pub mod DeviceLemmas
 pub mod StartLemmas
 pub mod Inversions
 pub mod Held
-pub mod Standing
+pub mod Represented
 pub mod Stepping
 pub mod Operating
 pub mod Moving

@@ -2,7 +2,7 @@ pub mod Devices
 pub mod Answers
 pub mod Promise
 pub mod Bytes
-pub mod Stands
+pub mod Representation
 pub mod Turning
 pub mod Running
 pub use Rattle.tp_step.specs.State

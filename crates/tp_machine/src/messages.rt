@@ -3,11 +3,11 @@
 ghost use Rattle.std.specs.Prelude.{◌≡◌, ◌+◌, ◌-◌, ◌≤◌, ◌⊎◌, MatchResult, take, drop};
 ghost use Rattle.tp_decode.specs.declared.instr.Instr.TheVariants.{Input, Output, MoveBytes};
 ghost use Rattle.tp_link.specs.Device.{after_receive, MayAnswerReceive};
-ghost use Rattle.tp_machine.specs.Devices.{devices};
+ghost use Rattle.tp_machine.specs.Devices.{devices_of};
 ghost use Rattle.tp_step.specs.Effects.{effect};
 ghost use Rattle.tp_step.specs.State.{mem_start};
 ghost use Rattle.tp_machine.specs.Bytes.{put};
-ghost use Rattle.tp_machine.specs.Stands.{Goes, Leads};
+ghost use Rattle.tp_machine.specs.Representation.{Goes, Leads};
 ghost use Rattle.tp_machine.specs.Turning.{CanTurn, Turned};
 
 use crate::memory::MEM_START;
@@ -88,8 +88,8 @@ impl Registers {
     ) -> Turn
         requires { CanTurn (λ image. effect image Input) self workspace.old }
         ensures { Turned (λ image. effect image Input) self self workspace.old workspace.new
-            (devices (D.state links.old.source) (D.state links.old.sink) (D.state links.old.trace))
-            (devices (D.state links.new.source) (D.state links.new.sink) (D.state links.new.trace)) result }
+            (devices_of D.state links.old)
+            (devices_of D.state links.new) result }
     {
         match receive(workspace, &mut links.source, self.c, self.a) {
             Ok(()) => Turn::Made,
@@ -105,8 +105,8 @@ impl Registers {
     pub(crate) fn output<D: LinkDevice>(self, workspace: &[u8; 2048], links: &mut Links<D>) -> Turn
         requires { CanTurn (λ image. effect image Output) self workspace.now }
         ensures { Turned (λ image. effect image Output) self self workspace.now workspace.now
-            (devices (D.state links.old.source) (D.state links.old.sink) (D.state links.old.trace))
-            (devices (D.state links.new.source) (D.state links.new.sink) (D.state links.new.trace)) result }
+            (devices_of D.state links.old)
+            (devices_of D.state links.new) result }
     {
         let message = message(workspace, self.c, self.a);
         if self.b == LINK0_OUTPUT {

@@ -5,7 +5,7 @@ ghost use Rattle.std.specs.Int.{w32, to_le_bytes};
 ghost use Rattle.tp_step.specs.Memory.{nothing_defined, with_bytes};
 ghost use Rattle.tp_step.specs.State.{mem_start};
 ghost use Rattle.tp_step.specs.Runs.{first_words};
-ghost use Rattle.tp_machine.specs.Stands.{Holds};
+ghost use Rattle.tp_machine.specs.Representation.{Holds};
 
 use crate::memory::{MEM_START, store};
 use tp_image::Image;

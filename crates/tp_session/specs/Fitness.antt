@@ -2,8 +2,7 @@
 use Rattle.std.specs.Prelude.{◌≡◌, ◌≤◌, true, false, List, length, map, All}
 use Rattle.tp_link.specs.Device.{DeviceState}
 use Rattle.tp_link.specs.declared.links.Links.{Links}
-use Rattle.tp_machine.specs.Devices.{Devices}
-use Rattle.tp_farm.specs.Stages.{of_links}
+use Rattle.tp_machine.specs.Devices.{Devices, devices_of}
 
 -- open, with room for each packet, result and trace, and it cannot fail
 pub record IsFit (device : DeviceState) : Type 0 where
@@ -19,7 +18,7 @@ pub record AreFitOf (devices : Devices) : Type 0 where
 
 -- those of all members are
 abbrev pub AreFit : {D : Type 0} → (D → DeviceState) → List (Links D) → Type 0
-AreFit state links = All AreFitOf (map (of_links state) links)
+AreFit state links = All AreFitOf (map (devices_of state) links)
 
 -- 1 to 64 members
 pub record HasMembers {D : Type 0} (links : List (Links D)) : Type 0 where

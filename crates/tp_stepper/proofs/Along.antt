@@ -17,7 +17,7 @@ use Rattle.tp_tested.specs.declared.phase.Phase.{Phase}
 use Rattle.tp_tested.specs.declared.phase.Phase.TheVariants.{Stopped}
 use Rattle.tp_tested.specs.declared.turn.Turn.TheVariants as turn
 use Rattle.tp_tested.specs.Phases.{is_stopped}
-use Rattle.tp_tested.specs.Meaning.{Messages, state_of, Standing, Turned}
+use Rattle.tp_tested.specs.Meaning.{Messages, state_of, HasExchanged, Turned}
 use Rattle.tp_tested.proofs.RunLemmas.{begins}
 use Rattle.tp_tested.proofs.TurnLemmas.{not_stopped}
 use Rattle.tp_stepper.specs.Stepping.{has_prefix, ArePrefixes, Came}
@@ -44,8 +44,8 @@ prefix_keeps image s t is e = go (not s.stopped) (code_byte image.code s.iptr) i
 module _ (image : ImageValue) (prefixes : ℕ) (first : Machine) (phase : Phase) (now : Devices) where
   -- i bytes of the instruction have led to this machine, in this phase and over these devices
   pub record Along (i : ℕ) (m : Machine) (later : Phase) (after : Devices) : Type 0 where
-    pub goes : (before : Devices) (p : Messages) → Standing image before phase p now
-        → (q : Messages) × (steps image i (state_of first p) ≡ Some (state_of m q)) × Standing image before later q after
+    pub goes : (before : Devices) (p : Messages) → HasExchanged image before phase p now
+        → (q : Messages) × (steps image i (state_of first p) ≡ Some (state_of m q)) × HasExchanged image before later q after
     pub place : i ≤ prefixes → m.iptr ≡ first.iptr +ℤ pos i
     pub running : i ≤ prefixes → is_stopped later ≡ false
 
@@ -86,7 +86,7 @@ module _ (image : ImageValue) (prefixes : ℕ) (first : Machine) (phase : Phase)
       (x.0, record { prefixes = prefixes; are = are; leads = ap (λ k. steps image k (state_of first p)) (omega (arith, all)) ∙ x.1 }, x.2)
 
   come : (i : ℕ) (m : Machine) (later : Phase) (before after : Devices) (p q : Messages) → steps image i (state_of first p) ≡ Some (state_of m q)
-      → Standing image before later q after → HasCome image (state_of first p) before i (state_of m q) after
+      → HasExchanged image before later q after → HasCome image (state_of first p) before i (state_of m q) after
   come i m later before after p q leads h = record {
     leads = leads;
     devices = record { source = h.source; sink = h.sink; trace = h.trace };

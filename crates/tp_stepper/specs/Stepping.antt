@@ -12,7 +12,7 @@ use Rattle.tp_tested.specs.declared.phase.Phase.{Phase}
 use Rattle.tp_tested.specs.declared.phase.Phase.TheVariants.{Stopped}
 use Rattle.tp_tested.specs.declared.turn.Turn.{Turn}
 use Rattle.tp_tested.specs.declared.turn.Turn.TheVariants as turn
-use Rattle.tp_tested.specs.Meaning.{Messages, Standing}
+use Rattle.tp_tested.specs.Meaning.{Messages, HasExchanged}
 
 -- a prefix stands at an address of a code
 abbrev pub has_prefix : List ℕ → ℤ → Bool
@@ -51,9 +51,9 @@ abbrev pub Came : ImageValue → (old new : Messages → State) → (phase later
 Came image old new phase later now after None =
     (phase ≡ Stopped) × (later ≡ phase) × (after ≡ now) × ((p : Messages) → new p ≡ old p)
 Came image old new phase later now after (Some turn.Made) =
-    (before : Devices) (p : Messages) → Standing image before phase p now →
-    (q : Messages) × IsInstruction image (old p) (new q) × Standing image before later q after
+    (before : Devices) (p : Messages) → HasExchanged image before phase p now →
+    (q : Messages) × IsInstruction image (old p) (new q) × HasExchanged image before later q after
 Came image old new phase later now after (Some turn.Stuck) =
-    (before : Devices) (p : Messages) → Standing image before phase p now → StuckFrom image (old p) before after
+    (before : Devices) (p : Messages) → HasExchanged image before phase p now → StuckFrom image (old p) before after
 Came image old new phase later now after (Some (turn.Refused fault)) =
-    (before : Devices) (p : Messages) → Standing image before phase p now → RefusedFrom image (old p) before fault after
+    (before : Devices) (p : Messages) → HasExchanged image before phase p now → RefusedFrom image (old p) before fault after

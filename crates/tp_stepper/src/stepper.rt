@@ -4,7 +4,7 @@ ghost use Rattle.std.specs.Prelude.{◌≡◌, ◌<◌, ℕ, ◌+◌, ◌*◌, L
 ghost use Rattle.tp_step.specs.Memory.{word_at};
 ghost use Rattle.tp_step.specs.State.{mem_start};
 ghost use Rattle.tp_step.specs.Runs.{start};
-ghost use Rattle.tp_machine.specs.Devices.{devices};
+ghost use Rattle.tp_machine.specs.Devices.{devices_of};
 ghost use Rattle.tp_tested.specs.declared.phase.Phase.TheVariants.{BeforePacket};
 ghost use Rattle.tp_tested.specs.Meaning.{memory_of, state_of};
 ghost use Rattle.tp_stepper.specs.Stepping.{Came};
@@ -44,8 +44,8 @@ impl Stepper {
     /// Where there is no step, or a device refuses its call, the run has ended, and the machine is left between two states.
     pub fn next<D: LinkDevice>(&mut self, links: &mut Links<D>) -> Option<Turn>
         ensures comes { Came self.old.image (state_of self.old.machine) (state_of self.new.machine) self.old.phase self.new.phase
-            (devices (D.state links.old.source) (D.state links.old.sink) (D.state links.old.trace))
-            (devices (D.state links.new.source) (D.state links.new.sink) (D.state links.new.trace)) result }
+            (devices_of D.state links.old)
+            (devices_of D.state links.new) result }
         ensures image { self.new.image ≡ self.old.image }
     {
         if let Phase::Stopped = self.phase {

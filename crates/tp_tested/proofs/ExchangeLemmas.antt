@@ -15,7 +15,7 @@ use Rattle.tp_tested.specs.declared.phase.Phase.TheVariants.{BeforePacket, Befor
 use Rattle.tp_machine.specs.Devices.{Devices}
 use Rattle.tp_machine.specs.Answers.{RefusedReceive, RefusedSend}
 use Rattle.tp_tested.specs.Phases.{phase_number}
-use Rattle.tp_tested.specs.Meaning.{Messages, Standing, memory_of, state_of}
+use Rattle.tp_tested.specs.Meaning.{Messages, HasExchanged, memory_of, state_of}
 use Rattle.tp_machine.proofs.DeviceLemmas.{took_more}
 use Rattle.tp_machine.proofs.Receiving as receiving
 
@@ -57,7 +57,7 @@ output_sends image s t n channel source message a_is b_is c_is inside place read
 
 -- ---- the devices
 
-module _ (image : ImageValue) (before now : Devices) (p : Messages) (h : Standing image before BeforePacket p now) where
+module _ (image : ImageValue) (before now : Devices) (p : Messages) (h : HasExchanged image before BeforePacket p now) where
   pub to_come_length : length p.to_come ≡ 4 * image.packet
   to_come_length = receiving.to_come_length image before.source now.source p.to_come (h.to_come refl) h.source
 
@@ -67,7 +67,7 @@ module _ (image : ImageValue) (before now : Devices) (p : Messages) (h : Standin
 
   -- what stands after the packet
   pub standing_received : (source : DeviceState) → plain_receive now.source (4 * image.packet) ≡ Ok tt → source ≡ after_receive now.source (4 * image.packet) (Ok tt)
-      → Standing image before BeforeResult (record p { phase = BeforeResult; to_come = drop (4 * image.packet) p.to_come }) (record now { source = source })
+      → HasExchanged image before BeforeResult (record p { phase = BeforeResult; to_come = drop (4 * image.packet) p.to_come }) (record now { source = source })
   standing_received source can is = record {
     phase_is = refl;
     to_come = λ e. cc;
@@ -81,8 +81,8 @@ module _ (image : ImageValue) (before now : Devices) (p : Messages) (h : Standin
   refused_receive = receiving.refused_receive image before.source now.source p.to_come (h.to_come refl) h.source
 
 -- what stands after the result, and after a trace message
-pub standing_sent : (image : ImageValue) (before now : Devices) (p : Messages) (message : List ℕ) (sink : DeviceState) → Standing image before BeforeResult p now → plain_send now.sink message ≡ Ok tt → sink ≡ after_send now.sink message (Ok tt)
-    → Standing image before AfterResult (record p { phase = AfterResult; sent = p.sent ++ message }) (record now { sink = sink })
+pub standing_sent : (image : ImageValue) (before now : Devices) (p : Messages) (message : List ℕ) (sink : DeviceState) → HasExchanged image before BeforeResult p now → plain_send now.sink message ≡ Ok tt → sink ≡ after_send now.sink message (Ok tt)
+    → HasExchanged image before AfterResult (record p { phase = AfterResult; sent = p.sent ++ message }) (record now { sink = sink })
 standing_sent image before now p message sink h can is = record {
   phase_is = refl;
   to_come = λ e. cc;
@@ -91,8 +91,8 @@ standing_sent image before now p message sink h can is = record {
   trace = h.trace;
 }
 
-pub standing_traced : (image : ImageValue) (before now : Devices) (phase : Phase) (p : Messages) (message : List ℕ) (trace : DeviceState) → Standing image before phase p now → plain_send now.trace message ≡ Ok tt → trace ≡ after_send now.trace message (Ok tt)
-    → Standing image before phase (record p { traced = p.traced ++ message }) (record now { trace = trace })
+pub standing_traced : (image : ImageValue) (before now : Devices) (phase : Phase) (p : Messages) (message : List ℕ) (trace : DeviceState) → HasExchanged image before phase p now → plain_send now.trace message ≡ Ok tt → trace ≡ after_send now.trace message (Ok tt)
+    → HasExchanged image before phase (record p { traced = p.traced ++ message }) (record now { trace = trace })
 standing_traced image before now phase p message trace h can is = record {
   phase_is = h.phase_is;
   to_come = h.to_come;
@@ -141,7 +141,7 @@ is_result_at image m p channel n phase b is e = rw is (sym e)
 
 -- ---- in, on a machine
 
-module _ (image : ImageValue) (m : Machine) (n channel target : ℕ) (a_is : m.areg ≡ Some n) (b_is : m.breg ≡ Some channel) (c_is : m.creg ≡ Some target) (inside : in_workspace image target n ≡ true) (place : in_workspace image (m.wptr - 20) 20 ≡ true) (before now : Devices) (p : Messages) (h : Standing image before BeforePacket p now) (n_is : n ≡ 4 * image.packet) (test : is_packet image channel n (state_of m p) ≡ true) where
+module _ (image : ImageValue) (m : Machine) (n channel target : ℕ) (a_is : m.areg ≡ Some n) (b_is : m.breg ≡ Some channel) (c_is : m.creg ≡ Some target) (inside : in_workspace image target n ≡ true) (place : in_workspace image (m.wptr - 20) 20 ≡ true) (before now : Devices) (p : Messages) (h : HasExchanged image before BeforePacket p now) (n_is : n ≡ 4 * image.packet) (test : is_packet image channel n (state_of m p) ≡ true) where
   after_input : Messages
   after_input = record p { phase = BeforeResult; to_come = drop n p.to_come }
 
@@ -160,7 +160,7 @@ module _ (image : ImageValue) (m : Machine) (n channel target : ℕ) (a_is : m.a
       → memory_of m1.defined m1.bytes ≡ with_bytes (memory_of m.defined m.bytes) target (take n now.source.held)
       → m2 ≡ record m1 { areg = None; breg = None; creg = None; defined = m2.defined }
       → memory_of m2.defined m2.bytes ≡ undefined (memory_of m1.defined m1.bytes) (m1.wptr - 20) 20
-      → (q : Messages) × (effect image Input (state_of m p) ≡ Some (state_of m2 q)) × Standing image before BeforeResult q (record now { source = source })
+      → (q : Messages) × (effect image Input (state_of m p) ≡ Some (state_of m2 q)) × HasExchanged image before BeforeResult q (record now { source = source })
   unfolding after_input
   input_received source m1 m2 may is same1 memory1 same2 memory2 =
       let can : plain_receive now.source n ≡ Ok tt = sym (may.plainly refl) in
@@ -176,7 +176,7 @@ module _ (image : ImageValue) (m : Machine) (n channel target : ℕ) (a_is : m.a
       let lands : state_of m2 after_input ≡ record (state_of m p) { areg = None; breg = None; creg = None; memory = undefined (with_bytes (memory_of m.defined m.bytes) target (take n p.to_come)) (m.wptr - 20) 20; phase = 1; to_come = drop n p.to_come } =
       let over : Memory → State = λ x. record (state_of m2 after_input) { memory = x } in
       ap over memory ∙ rw (same, h.phase_is) refl in
-      (after_input, input_leads ∙ ap Some (sym lands), subst (λ k. Standing image before BeforeResult (record p { phase = BeforeResult; to_come = drop k p.to_come }) (record now { source = source })) (sym n_is) (standing_received image before now p h source can' is'))
+      (after_input, input_leads ∙ ap Some (sym lands), subst (λ k. HasExchanged image before BeforeResult (record p { phase = BeforeResult; to_come = drop k p.to_come }) (record now { source = source })) (sym n_is) (standing_received image before now p h source can' is'))
 
 -- ---- out, on a machine
 
@@ -194,16 +194,16 @@ module _ (image : ImageValue) (m m1 : Machine) (n channel source : ℕ) (message
   output_leads : (p : Messages) → effect image Output (state_of m p) ≡ sent_on image channel message (state_of m1 p)
   output_leads p = output_sends image (state_of m p) (state_of m1 p) n channel source message a_is b_is c_is inside (place p) read
 
-  module _ (before now : Devices) (phase : Phase) (p : Messages) (h : Standing image before phase p now) (some : 0 < n) where
+  module _ (before now : Devices) (phase : Phase) (p : Messages) (h : HasExchanged image before phase p now) (some : 0 < n) where
     some_bytes : 0 < length message
     some_bytes = omega arith
 
     module _ (test : (nat_eq channel link0_output && nat_eq n (4 * image.result) && nat_eq (phase_number phase) 1) ≡ true) where
       pub result_sent : (sink : DeviceState) → MayAnswerSend now.sink message (Ok tt) → sink ≡ after_send now.sink message (Ok tt)
-          → (q : Messages) × (effect image Output (state_of m p) ≡ Some (state_of m1 q)) × Standing image before AfterResult q (record now { sink = sink })
+          → (q : Messages) × (effect image Output (state_of m p) ≡ Some (state_of m1 q)) × HasExchanged image before AfterResult q (record now { sink = sink })
       result_sent sink may is =
           let second = (result_is image channel n phase test).1 in
-          let h' = subst (λ phase. Standing image before phase p now) second h in
+          let h' = subst (λ phase. HasExchanged image before phase p now) second h in
           let here : is_result image channel n (state_of m1 p) ≡ true = is_result_at image m1 p channel n phase true h.phase_is (sym test) in
           (record p { phase = AfterResult; sent = p.sent ++ message }, output_result image (state_of m p) (state_of m1 p) n channel source message (output_leads p) long here ∙ rw h'.phase_is refl, standing_sent image before now p message sink h' (sym (may.plainly refl)) is)
 
@@ -215,7 +215,7 @@ module _ (image : ImageValue) (m m1 : Machine) (n channel source : ℕ) (message
 
     module _ (test : (nat_eq channel link0_output && nat_eq n (4 * image.result) && nat_eq (phase_number phase) 1) ≡ false) (is_it : is_trace channel n ≡ true) where
       pub trace_sent : (trace : DeviceState) → MayAnswerSend now.trace message (Ok tt) → trace ≡ after_send now.trace message (Ok tt)
-          → (q : Messages) × (effect image Output (state_of m p) ≡ Some (state_of m1 q)) × Standing image before phase q (record now { trace = trace })
+          → (q : Messages) × (effect image Output (state_of m p) ≡ Some (state_of m1 q)) × HasExchanged image before phase q (record now { trace = trace })
       trace_sent trace may is =
           let here : is_result image channel n (state_of m1 p) ≡ false = is_result_at image m1 p channel n phase false h.phase_is (sym test) in
           (record p { traced = p.traced ++ message }, output_trace image (state_of m p) (state_of m1 p) n channel source message (output_leads p) long here is_it, standing_traced image before now phase p message trace h (sym (may.plainly refl)) is)

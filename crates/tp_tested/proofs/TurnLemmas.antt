@@ -17,7 +17,7 @@ use Rattle.tp_machine.specs.Devices.{Devices}
 use Rattle.tp_machine.specs.Answers.{RefusedReceive, RefusedSend, RefusedAt}
 use Rattle.tp_machine.specs.Turning.{is_quiet}
 use Rattle.tp_tested.specs.Phases.{phase_number, is_stopped}
-use Rattle.tp_tested.specs.Meaning.{Messages, state_of, Made, Turned, Standing}
+use Rattle.tp_tested.specs.Meaning.{Messages, state_of, Made, Turned, HasExchanged}
 
 pub quiet_rest : (i : Instr) → (i ≡ Input → ⊥) → (i ≡ Output → ⊥) → (i ≡ Stopp → ⊥) → is_quiet i ≡ true
 quiet_rest Input a b c = absurd (a refl)
@@ -48,8 +48,8 @@ not_stopped BeforeResult other = refl
 not_stopped AfterResult other = refl
 not_stopped Stopped other = absurd (other refl)
 
-pub stopp_made : (image : ImageValue) (m : Machine) (before now : Devices) (phase : Phase) (p : Messages) → phase_number phase ≡ 2 → Standing image before phase p now
-    → (q : Messages) × (effect image Stopp (state_of m p) ≡ Some (state_of m q)) × Standing image before Stopped q now
+pub stopp_made : (image : ImageValue) (m : Machine) (before now : Devices) (phase : Phase) (p : Messages) → phase_number phase ≡ 2 → HasExchanged image before phase p now
+    → (q : Messages) × (effect image Stopp (state_of m p) ≡ Some (state_of m q)) × HasExchanged image before Stopped q now
 unfolding effect
 stopp_made image m before now phase p last h =
     (record p { phase = Stopped }, rw (h.phase_is, last) refl, record { phase_is = refl; to_come = λ e. cc; source = h.source; sink = h.sink; trace = h.trace })

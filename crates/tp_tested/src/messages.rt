@@ -7,7 +7,7 @@ ghost use Rattle.tp_link.specs.Device.{after_receive, MayAnswerReceive};
 ghost use Rattle.tp_step.specs.Memory.{bytes_at, with_bytes};
 ghost use Rattle.tp_step.specs.State.{mem_start};
 ghost use Rattle.tp_step.specs.Effects.{effect, is_trace, link0_output, link1_output, link0_input, may_move, has_move};
-ghost use Rattle.tp_machine.specs.Devices.{devices};
+ghost use Rattle.tp_machine.specs.Devices.{devices_of};
 ghost use Rattle.tp_tested.specs.Phases.{phase_number};
 
 use crate::machine::Machine;
@@ -163,8 +163,8 @@ impl Machine {
         phase: &mut Phase,
     ) -> Turn
         ensures { Turned image.now (effect image.now Input) (state_of self.old) (state_of self.new) phase.old phase.new
-            (devices (D.state links.old.source) (D.state links.old.sink) (D.state links.old.trace))
-            (devices (D.state links.new.source) (D.state links.new.sink) (D.state links.new.trace)) result }
+            (devices_of D.state links.old)
+            (devices_of D.state links.new) result }
     {
         let (Some(n), Some(channel), Some(target)) = (self.areg, self.breg, self.creg) else {
             return Turn::Stuck;
@@ -193,8 +193,8 @@ impl Machine {
         phase: &mut Phase,
     ) -> Turn
         ensures { Turned image.now (effect image.now Output) (state_of self.old) (state_of self.new) phase.old phase.new
-            (devices (D.state links.old.source) (D.state links.old.sink) (D.state links.old.trace))
-            (devices (D.state links.new.source) (D.state links.new.sink) (D.state links.new.trace)) result }
+            (devices_of D.state links.old)
+            (devices_of D.state links.new) result }
     {
         let (Some(n), Some(channel), Some(source)) = (self.areg, self.breg, self.creg) else {
             return Turn::Stuck;

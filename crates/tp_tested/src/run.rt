@@ -1,8 +1,8 @@
 //! Runs.
 
-ghost use Rattle.tp_machine.specs.Devices.{devices};
+ghost use Rattle.tp_machine.specs.Devices.{devices_of};
 ghost use Rattle.tp_tested.specs.Answers.{Answered};
-ghost use Rattle.tp_tested.specs.Resuming.{nothing_sent, Resumed, LeftStanding};
+ghost use Rattle.tp_tested.specs.Resuming.{nothing_sent, Resumed, LeavesMachine};
 
 use crate::fault::RunFault;
 use crate::machine::Machine;
@@ -28,11 +28,11 @@ impl Machine {
         limit: u32,
     ) -> Result<Outcome, RunFault>
         ensures answered { Answered image.now limit
-            (devices (D.state links.old.source) (D.state links.old.sink) (D.state links.old.trace))
-            (devices (D.state links.new.source) (D.state links.new.sink) (D.state links.new.trace)) result }
-        ensures stands { LeftStanding image.now limit
-            (devices (D.state links.old.source) (D.state links.old.sink) (D.state links.old.trace))
-            (devices (D.state links.new.source) (D.state links.new.sink) (D.state links.new.trace)) self.new result }
+            (devices_of D.state links.old)
+            (devices_of D.state links.new) result }
+        ensures stands { LeavesMachine image.now limit
+            (devices_of D.state links.old)
+            (devices_of D.state links.new) self.new result }
     {
         self.start(image);
         let mut phase = Phase::BeforePacket;
@@ -53,8 +53,8 @@ impl Machine {
         limit: u32,
     ) -> Result<Outcome, RunFault>
         ensures { Resumed image.now (state_of self.old (nothing_sent image.now phase.old (D.state links.old.source))) limit
-            (devices (D.state links.old.source) (D.state links.old.sink) (D.state links.old.trace))
-            (devices (D.state links.new.source) (D.state links.new.sink) (D.state links.new.trace))
+            (devices_of D.state links.old)
+            (devices_of D.state links.new)
             self.new phase.new result }
     {
         for steps in 0..limit {

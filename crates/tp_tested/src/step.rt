@@ -4,7 +4,7 @@ ghost use Rattle.std.specs.Prelude.{◌≡◌, ◌+ℤ◌, ◌≤ℤ◌, ◌^◌
 ghost use Rattle.tp_decode.specs.declared.instr.Instr.TheVariants.{Stopp};
 ghost use Rattle.tp_step.specs.Effects.{effect};
 ghost use Rattle.tp_step.specs.Steps.{step};
-ghost use Rattle.tp_machine.specs.Devices.{devices};
+ghost use Rattle.tp_machine.specs.Devices.{devices_of};
 ghost use Rattle.tp_machine.specs.Turning.{is_quiet};
 
 use crate::decode::instruction;
@@ -24,8 +24,8 @@ impl Machine {
     #[tactic(auto, unfolding(tp_step::specs::Effects::effect))]
     fn stopp<D: LinkDevice>(&self, image: &Image, links: &Links<D>, phase: &mut Phase) -> Turn
         ensures { Turned image.now (effect image.now Stopp) (state_of self.now) (state_of self.now) phase.old phase.new
-            (devices (D.state links.now.source) (D.state links.now.sink) (D.state links.now.trace))
-            (devices (D.state links.now.source) (D.state links.now.sink) (D.state links.now.trace)) result }
+            (devices_of D.state links.now)
+            (devices_of D.state links.now) result }
     {
         match *phase {
             Phase::BeforePacket | Phase::BeforeResult => Turn::Stuck,
@@ -97,8 +97,8 @@ impl Machine {
         requires low { pos 0 ≤ℤ self.old.iptr }
         requires high { self.old.iptr ≤ℤ pos (2 ^ 32) }
         ensures { Turned image.now (effect image.now instr) (state_of self.old) (state_of self.new) phase.old phase.new
-            (devices (D.state links.old.source) (D.state links.old.sink) (D.state links.old.trace))
-            (devices (D.state links.new.source) (D.state links.new.sink) (D.state links.new.trace)) result }
+            (devices_of D.state links.old)
+            (devices_of D.state links.new) result }
     {
         match instr {
             Instr::Input => self.input(image, links, phase),
@@ -144,8 +144,8 @@ impl Machine {
         phase: &mut Phase,
     ) -> Turn
         ensures { Turned image.now (step image.now) (state_of self.old) (state_of self.new) phase.old phase.new
-            (devices (D.state links.old.source) (D.state links.old.sink) (D.state links.old.trace))
-            (devices (D.state links.new.source) (D.state links.new.sink) (D.state links.new.trace)) result }
+            (devices_of D.state links.old)
+            (devices_of D.state links.new) result }
     {
         if let Phase::Stopped = *phase {
             return Turn::Stuck;

@@ -2,7 +2,7 @@ use Rattle.std.proofs.Common.{◌≡◌, None, arith, sym, ◌∙◌, subst}
 use Rattle.std.proofs.lemmas.List.Elements.{All-cons}
 use Rattle.std.specs.List.{All}
 use Rattle.tp_farm.specs.Gathering.{fault_of_end}
-use Rattle.tp_farm.specs.Apart.{kept_of}
+use Rattle.tp_farm.specs.MemberResults.{member_results}
 use Rattle.tp_farm.proofs.Filing.{moved}
 use Rattle.tp_farm.proofs.Ending.{fault_reason}
 use Rattle.tp_farm.proofs.gathering.take_hands.Goals as goal
@@ -16,7 +16,7 @@ loop-one-preserved g c =
       omega (arith, was.2, step.1, c.push_reserved.ensures.len, c.push_reserved.ensures.capacity),
       omega (arith, was.3, step.1, c.push_reserved-in-loop-one.ensures.len, c.push_reserved-in-loop-one.ensures.capacity),
       moved (λ r. r.hand) _ _ _ c.in-Some.one _ _ c.push_reserved.ensures.items step.0 was.4,
-      moved kept_of _ _ _ c.in-Some.one _ _ c.push_reserved-in-loop-one.ensures.items step.0 was.5,
+      moved member_results _ _ _ c.in-Some.one _ _ c.push_reserved-in-loop-one.ensures.items step.0 was.5,
       λ more. was.6 (subst (All (λ r. fault_of_end r.end ≡ None)) (sym step.0) (All-cons (λ r. fault_of_end r.end ≡ None) c.in-Some.one _ well more)),
     )
 

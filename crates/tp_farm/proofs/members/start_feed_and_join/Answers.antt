@@ -10,6 +10,6 @@ pub returns-clause-worked : goal.returns-clause-worked
 returns-clause-worked g c =
     let hs = c.in_ok-started.started.handles in let rs = c.in_ok-returned.returned in
     let joined = c.in_ok-returned.ensures.joined in
-    let R = HasWorked g.D.LinkDevice.state (IsHandOf c.args.shop.now.source.now) (λ h. progress_of (hand_seen h)) (work_of g.G.Gate.open_for_good c.args.shop.now) in
+    let R = HasWorked g.D.LinkDevice.state (IsHandOf c.args.shared.now.source.now) (λ h. progress_of (hand_seen h)) (work_of g.G.Gate.open_for_good c.args.shared.now) in
     subst (λ v. AllZip R v rs.items) (c.in_ok-started.ensures.before joined.0)
-    (joined_zip (λ h. h.promise.before.value) _ R (λ h. h.promise.shop.now ≡ c.args.shop.now) (λ h r e k. subst (λ s. HasWorked g.D.LinkDevice.state (IsHandOf s.source.now) (λ h. progress_of (hand_seen h)) (work_of g.G.Gate.open_for_good s) h.promise.before.value r) e k) hs.items rs.items c.in_ok-started.ensures.shop joined.1)
+    (joined_zip (λ h. h.promise.before.value) _ R (λ h. h.promise.shared.now ≡ c.args.shared.now) (λ h r e k. subst (λ s. HasWorked g.D.LinkDevice.state (IsHandOf s.source.now) (λ h. progress_of (hand_seen h)) (work_of g.G.Gate.open_for_good s) h.promise.before.value r) e k) hs.items rs.items c.in_ok-started.ensures.shared joined.1)

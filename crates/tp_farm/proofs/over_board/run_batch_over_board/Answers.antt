@@ -3,11 +3,11 @@ use Rattle.std.proofs.lemmas.List.{length-map}
 use Rattle.std.proofs.Common.{◌≡◌, length, map, IfOk, sym, ap, ◌∙◌, subst, arith}
 use Rattle.std.proofs.lemmas.Slice.Zip.{AllZip-long}
 use Rattle.std.specs.List.{AllZip}
+use Rattle.tp_machine.specs.Devices.{devices_of}
 use Rattle.tp_farm.specs.Jobs.{batch_of}
-use Rattle.tp_farm.specs.Stages.{of_links}
 use Rattle.tp_farm.specs.Refused.{job_fault}
 use Rattle.tp_farm.specs.Batches.{IsBatch}
-use Rattle.tp_farm.specs.Rooms.{HasRoom}
+use Rattle.tp_farm.specs.Reserved.{HasRoom}
 use Rattle.tp_accept.proofs.NeverWrong.{never_goes_wrong_of}
 use Rattle.tp_farm.proofs.Beginning.{begun, on_ok, if_ok}
 use Rattle.tp_farm.proofs.Promising.{goes_well}
@@ -43,7 +43,7 @@ settle-requires-clause-room g c κs within =
 
 pub returns-clause-batch : goal.returns-clause-batch
 returns-clause-batch g c =
-    subst (λ v. IfOk c.settle.result (λ b. IsBatch (batch_of c.args.job.now) (g.G.Gate.open_for_good c.args.gate.now) (map (of_links g.D.LinkDevice.state) v.items) (map (of_links g.D.LinkDevice.state) b.links.items) b.collected)) c.of-before.ensures c.settle.ensures.batch
+    subst (λ v. IfOk c.settle.result (λ b. IsBatch (batch_of c.args.job.now) (g.G.Gate.open_for_good c.args.gate.now) (map (devices_of g.D.LinkDevice.state) v.items) (map (devices_of g.D.LinkDevice.state) b.links.items) b.collected)) c.of-before.ensures c.settle.ensures.batch
 
 pub returns-clause-begins : goal.returns-clause-begins
 returns-clause-begins g c =

@@ -6,7 +6,7 @@ use Rattle.tp_step.specs.Memory.{with_bytes, nothing_defined}
 use Rattle.tp_step.specs.State.{mem_start}
 use Rattle.tp_machine.proofs.StartLemmas.{with_none, word_more, all_words}
 use Rattle.tp_machine.specs.Bytes.{put}
-use Rattle.tp_machine.specs.Stands.{Holds}
+use Rattle.tp_machine.specs.Representation.{Holds}
 use Rattle.tp_machine.proofs.Held.{held_put}
 use Rattle.tp_machine.proofs.Kept.{usual}
 use Rattle.tp_machine.proofs.start.fill.Goals as goal

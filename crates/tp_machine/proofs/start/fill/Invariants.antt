@@ -4,7 +4,7 @@ use Rattle.std.specs.Int.{w32, to_le_bytes}
 use Rattle.tp_step.specs.Memory.{nothing_defined, with_bytes}
 use Rattle.tp_step.specs.State.{mem_start}
 use Rattle.tp_step.specs.Runs.{first_words}
-use Rattle.tp_machine.specs.Stands.{Holds}
+use Rattle.tp_machine.specs.Representation.{Holds}
 use Rattle.tp_machine.proofs.start.fill.Given as goal
 
 abbrev pub invariant-loop-i : goal.invariant-loop-i

@@ -4,8 +4,8 @@ use Rattle.std.specs.Int.{w32, to_le_bytes}
 use Rattle.tp_step.specs.Memory.{with_bytes, nothing_defined}
 use Rattle.tp_step.specs.State.{mem_start}
 use Rattle.tp_step.specs.Runs.{first_words}
-use Rattle.tp_machine.specs.Devices.{devices}
-use Rattle.tp_machine.specs.Stands.{Holds}
+use Rattle.tp_machine.specs.Devices.{devices_of}
+use Rattle.tp_machine.specs.Representation.{Holds}
 use Rattle.tp_machine.proofs.Kept.{begins, ends}
 use Rattle.tp_machine.proofs.Alone.{answered_alone}
 use Rattle.tp_machine.proofs.PromiseKept.{keeps_promise}
@@ -14,14 +14,14 @@ use Rattle.tp_machine.proofs.machine.Machine.run.Goals as goal
 pub go-answer-requires-clause-starts : goal.go-answer-requires-clause-starts
 go-answer-requires-clause-starts g c =
     let image = c.args.accepted.now.image in
-    let before = devices (g.D.LinkDevice.state c.args.links.now.source) (g.D.LinkDevice.state c.args.links.now.sink) (g.D.LinkDevice.state c.args.links.now.trace) in
+    let before = devices_of g.D.LinkDevice.state c.args.links.now in
     let first : 2147483720 + 4 * c.image.inside.start ≡ mem_start + 4 * image.start = ap (λ i. mem_start + 4 * i.start) (c.image.view_is ∙ c.image-image.ensures) in
     let held = subst (λ i. Holds (with_bytes nothing_defined mem_start (flat_map (to_le_bytes w32) (first_words i))) c.fill.new.workspace) c.image-image.ensures c.fill.ensures in
     begins image before _ c.fill.new.workspace refl refl first refl held
 
 pub go-answer-requires-clause-promise : goal.go-answer-requires-clause-promise
 go-answer-requires-clause-promise g c =
-    let before = devices (g.D.LinkDevice.state c.args.links.now.source) (g.D.LinkDevice.state c.args.links.now.sink) (g.D.LinkDevice.state c.args.links.now.trace) in
+    let before = devices_of g.D.LinkDevice.state c.args.links.now in
     ends c.args.accepted.now.image c.args.accepted.now.budget before (rw c.budget-budget.ensures.value at c.budget-budget.ensures.ends) c.held-held.ensures.bytes
 
 pub returns-clause-alone : goal.returns-clause-alone

@@ -1,5 +1,5 @@
 use Rattle.std.proofs.Common.{◌≡◌}
-use Rattle.tp_machine.specs.Devices.{devices}
+use Rattle.tp_machine.specs.Devices.{devices_of}
 use Rattle.tp_stepper.proofs.Along.{Along}
 use Rattle.tp_stepper.proofs.stepper.Stepper.next.Given as goal
 
@@ -7,6 +7,6 @@ abbrev pub invariant-loop : goal.invariant-loop
 invariant-loop g l =
     (l.self.image ≡ l.fn.self.image)
     × Along l.fn.self.image l.prefixes l.fn.self.machine l.fn.self.phase
-    (devices (g.D.LinkDevice.state l.fn.links.source) (g.D.LinkDevice.state l.fn.links.sink) (g.D.LinkDevice.state l.fn.links.trace))
+    (devices_of g.D.LinkDevice.state l.fn.links)
     l.counter l.self.machine l.self.phase
-    (devices (g.D.LinkDevice.state l.links.source) (g.D.LinkDevice.state l.links.sink) (g.D.LinkDevice.state l.links.trace))
+    (devices_of g.D.LinkDevice.state l.links)
