@@ -316,7 +316,7 @@ fn hand_out(carried: &mut State, outcome: &mut State, is_last: bool)
 }
 
 /// How many addresses there are, up to that of the last instruction: at least one.
-fn places_of(listing: &Listing) -> usize
+pub fn places_of(listing: &Listing) -> usize
     ensures some { 0 < result }
     ensures few { result ≤ 2 ^ 32 }
     ensures all { HasPlaces listing.now result }

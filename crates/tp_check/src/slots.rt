@@ -1,6 +1,6 @@
 //! The states that the passes keep.
 
-ghost use Rattle.std.specs.Prelude.{◌≡◌, ◌<◌, ◌≤◌, ◌^◌, ℕ, Some, length, IfOk, IfSome, IsTrue};
+ghost use Rattle.std.specs.Prelude.{◌≡◌, ◌<◌, ◌≤◌, ◌^◌, ℕ, Some, length, IfOk, IfSome, IsTrue, OnErr};
 ghost use Rattle.std.specs.Option.{option_copied};
 ghost use Rattle.tp_state.specs.Conditions.{IsPlaced};
 ghost use Rattle.tp_check.specs.Tables.{table_of};
@@ -14,7 +14,7 @@ use tp_state::{State, StateFault};
 
 /// What is known before some instructions of a code: a contract sees the state of each address that has one.
 #[derive(Drop)]
-pub(crate) struct Slots {
+pub struct Slots {
     /// By address.
     states: Vec<Option<State>>,
 }
@@ -30,7 +30,7 @@ impl Model for Slots {
 
 impl Slots {
     /// The first instruction alone has a state, of so many addresses.
-    pub(crate) fn first(alloc: Global, image: &Image, places: usize) -> Result<Slots, AllocError>
+    pub fn first(alloc: Global, image: &Image, places: usize) -> Result<Slots, AllocError>
         requires { 0 < places }
         ensures sized { IfOk result (λ slots. length slots ≡ places) }
         ensures value { IfOk result (λ slots. table_of slots ≡ first_table image.now) }
@@ -45,7 +45,7 @@ impl Slots {
     }
 
     /// A state comes to an address. It answers whether anything changed there.
-    pub(crate) fn enter(
+    pub fn enter(
         &mut self,
         alloc: Global,
         image: &Image,
@@ -57,12 +57,13 @@ impl Slots {
         requires state { IsPlaced image.now state.now }
         ensures gives { Gives result (table_of self.new) (enter (Some to) state.now (table_of self.old)) }
         ensures moves { IfOk result (λ moved. Moves image.now moved self.old self.new) }
+        ensures kept { OnErr result (self.new ≡ self.old) }
     {
         meet(&mut self.states[to], alloc, image, to, state)
     }
 
     /// What is known before the instruction at an address.
-    pub(crate) fn at(&self, addr: usize) -> Option<&State>
+    pub fn at(&self, addr: usize) -> Option<&State>
         ensures { option_copied result ≡ table_of self.now addr }
     {
         match self.states.get(addr) {
@@ -72,14 +73,14 @@ impl Slots {
     }
 
     /// How many addresses there may be states at.
-    pub(crate) fn len(&self) -> usize
+    pub fn len(&self) -> usize
         ensures { result ≡ length self.now }
     {
         self.states.len()
     }
 
     /// The same, given up: the slot is empty from here on.
-    pub(crate) fn take(&mut self, addr: usize) -> Option<State>
+    pub fn take(&mut self, addr: usize) -> Option<State>
         requires { addr < length self.old }
         ensures value { result ≡ table_of self.old addr }
         ensures sized { length self.new ≡ length self.old }
@@ -101,6 +102,7 @@ fn meet(
     requires state { IsPlaced image.now state.now }
     ensures gives { GivesState result there.new (placed to (met there.old state.now)) }
     ensures moves { IfOk result (λ moved. MovesState image.now moved there.old there.new) }
+    ensures kept { OnErr result (there.new ≡ there.old) }
 {
     state.has_word_ends();
     match there {

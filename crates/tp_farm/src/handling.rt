@@ -19,8 +19,6 @@ use tp_collect::limits::MESSAGE_BYTES;
 use tp_link::{DeviceFault, Link, LinkDevice, LinkFault, Links};
 use tp_machine::{Machine, Outcome};
 
-/// The most bytes that one call receives.
-
 /// A device's refusal, with its link.
 fn of_link<T>(link: Link, answer: Result<T, DeviceFault>) -> Result<T, LinkFault>
     ensures { result ≡ on_link link answer }

@@ -1,0 +1,158 @@
+//! The passes over whole tables, up to the first refusal.
+
+ghost use Rattle.std.specs.Prelude.{◌≡◌, ◌++◌, length, None, IfOk, IfSome, OnOk, OnErr, All};
+ghost use Rattle.tp_flow.specs.NestKept.{KeepsNest};
+ghost use Rattle.tp_flow.specs.NestRanges.{ranges};
+ghost use Rattle.tp_state.specs.Conditions.{HasGoodLoops};
+ghost use Rattle.tp_check.specs.Tables.{asked, table_of, HasPlacedStates};
+ghost use Rattle.tp_check.specs.Passes.{edges_in, edges_of, go_along};
+ghost use Rattle.tp_check.specs.UnderWay.{MayBeTaken, Gives};
+ghost use Rattle.tp_reasons.specs.FirstRefusals.{IsFirstRefusal, RefusesNothing, EndsAs, Stays};
+
+use crate::refusal::{EdgeRefusal, FirstRefusal};
+use std::alloc::{AllocError, Global};
+use tp_check::{Slots, places_of};
+use tp_decode::{Instr, Listing, Placed};
+use tp_flow::{Edge, Nest, edges};
+use tp_image::Image;
+use tp_state::{StateFault, after};
+
+/// An instruction, and an edge that its rule is asked on.
+type Asked = (Placed, Edge);
+
+/// What a pass comes to.
+#[derive(Clone, Copy)]
+enum Came {
+    /// It refuses nothing; and whether a state has changed.
+    On(bool),
+    /// It refuses an edge.
+    ToRefusal(EdgeRefusal),
+}
+
+/// The first refusal of the verifier's passes over a code whose flow has passed, with what is known then; or none, where
+/// 2^64 - 1 passes refuse nothing. It makes the passes over whole tables, with a state for each address of the code.
+pub fn first_refusal(
+    alloc: Global,
+    image: &Image,
+    listing: &Listing,
+    nest: &Nest,
+) -> Result<Option<FirstRefusal>, AllocError>
+    requires kept { KeepsNest image.now.loops image.now.workspace listing.now }
+    requires nest { nest.now ≡ ranges image.now.loops }
+    ensures first { IfOk result (λ found. IfSome found (IsFirstRefusal image.now listing.now)) }
+    ensures none { IfOk result (λ found. found ≡ None → RefusesNothing image.now listing.now) }
+{
+    let asked = edges_of_code(alloc, listing)?;
+    let mut table = Slots::first(alloc, image, places_of(listing))?;
+    for passes in 0..u64::MAX {
+        match pass(alloc, image, nest, &asked, &mut table)? {
+            Came::On(true) => {}
+            Came::On(false) => return Ok(None),
+            Came::ToRefusal(refusal) => {
+                return Ok(Some(FirstRefusal {
+                    passes,
+                    refusal,
+                    table,
+                }));
+            }
+        }
+    }
+    Ok(None)
+}
+
+/// The edges that the passes over a code take, in their order.
+fn edges_of_code(alloc: Global, listing: &Listing) -> Result<Vec<Asked>, AllocError>
+    ensures { IfOk result (λ all. all.items ≡ edges_in listing.now) }
+{
+    let mut all = Vec::new(alloc);
+    for i in 0..listing.len() {
+        if let Some(place) = listing.get(i) {
+            add_edges(&mut all, place)?;
+        }
+    }
+    Ok(all)
+}
+
+/// The edges of an instruction come behind others.
+fn add_edges(all: &mut Vec<Asked>, place: Placed) -> Result<(), AllocError>
+    ensures { OnOk result (all.new.items ≡ all.old.items ++ edges_of place) }
+{
+    for edge in asked(place.instr) {
+        all.push((place, *edge))?;
+    }
+    Ok(())
+}
+
+/// The edges that an instruction's rule is asked on.
+fn asked(instr: Instr) -> &'static [Edge]
+    ensures { result.now ≡ asked instr }
+{
+    match instr {
+        Instr::Stopp => &[Edge::Next],
+        instr => edges(instr),
+    }
+}
+
+/// One pass: each edge in turn, up to the first that is refused.
+fn pass(
+    alloc: Global,
+    image: &Image,
+    nest: &Nest,
+    asked: &[Asked],
+    table: &mut Slots,
+) -> Result<Came, AllocError>
+    requires good { HasGoodLoops image.now }
+    requires nest { nest.now ≡ ranges image.now.loops }
+    requires places { All (λ e. MayBeTaken image.now (length table.old) e.0) asked.now }
+    requires placed { HasPlacedStates image.now (table_of table.old) }
+    ensures sized { length table.new ≡ length table.old }
+    ensures placed { HasPlacedStates image.now (table_of table.new) }
+    ensures ends { IfOk result (EndsAs image.now asked.now (table_of table.old) (table_of table.new)) }
+{
+    let mut has_moved = false;
+    for (instruction, edge) in asked {
+        match take(alloc, image, nest, *instruction, *edge, table) {
+            Ok(moved) => has_moved = has_moved || moved,
+            Err(StateFault::Refused { code, place }) => {
+                return Ok(Came::ToRefusal(EdgeRefusal {
+                    instruction: *instruction,
+                    edge: *edge,
+                    code,
+                    place,
+                }));
+            }
+            Err(StateFault::Memory) => return Err(AllocError),
+        }
+    }
+    Ok(Came::On(has_moved))
+}
+
+/// An edge is taken: where a state stands before its instruction, what is known after it comes to its target. It answers whether
+/// a state has changed.
+fn take(
+    alloc: Global,
+    image: &Image,
+    nest: &Nest,
+    instruction: Placed,
+    edge: Edge,
+    table: &mut Slots,
+) -> Result<bool, StateFault>
+    requires good { HasGoodLoops image.now }
+    requires nest { nest.now ≡ ranges image.now.loops }
+    requires places { MayBeTaken image.now (length table.old) instruction }
+    requires placed { HasPlacedStates image.now (table_of table.old) }
+    ensures sized { length table.new ≡ length table.old }
+    ensures placed { HasPlacedStates image.now (table_of table.new) }
+    ensures gives { Gives result (table_of table.new) (go_along image.now instruction edge (table_of table.old instruction.at) (table_of table.old)) }
+    ensures stays { Stays result table.old table.new }
+{
+    let Placed { at, instr, next } = instruction;
+    let Some(before) = table.at(at) else {
+        return Ok(false);
+    };
+    let outcome = after(alloc, before, at, next, instr, edge, image, nest)?;
+    match nest.target(at, next, instr, edge) {
+        Some(to) => table.enter(alloc, image, to, &outcome),
+        None => Ok(false),
+    }
+}

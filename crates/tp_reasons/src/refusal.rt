@@ -1,0 +1,30 @@
+//! A refusal of the passes.
+
+use tp_check::Slots;
+use tp_decode::Placed;
+use tp_flow::Edge;
+use tp_state::StateCode;
+
+/// A refusal: the edge on which it comes, and what is refused.
+#[derive(Clone, Copy, Debug, PartialEq, Eq)]
+pub struct EdgeRefusal {
+    /// The instruction.
+    pub instruction: Placed,
+    /// The edge on which its rule was asked.
+    pub edge: Edge,
+    /// What is refused.
+    pub code: StateCode,
+    /// Where: the instruction's address in the code, in bytes; or where two edges may not meet, the address of their target.
+    pub place: usize,
+}
+
+/// The first refusal of the passes, with what is known at that moment.
+#[derive(Drop)]
+pub struct FirstRefusal {
+    /// How many passes have refused nothing before.
+    pub passes: u64,
+    /// The edge that is refused in the next one.
+    pub refusal: EdgeRefusal,
+    /// What is known before the instructions when that edge is taken: by address.
+    pub table: Slots,
+}
