@@ -3,6 +3,8 @@ use Rattle.std.proofs.Common.{◌≡◌, ◌≢◌, ℕ, ◌+◌, ◌<◌, ◌�
 use Rattle.std.specs.Prelude.{IfOk, IfSome}
 use Rattle.std.proofs.lemmas.Bool.{cases_eq}
 use Rattle.std.proofs.lemmas.Bool.Decides.{nat_tests}
+use Rattle.std.proofs.lemmas.Option.{same_Some}
+use Rattle.tp_decode.specs.declared.instr.Instr.{Instr}
 use Rattle.tp_decode.specs.declared.placed.Placed.{Placed}
 use Rattle.tp_decode.specs.Cutting.{Cut, cut_at, placed_from}
 use Rattle.tp_decode.proofs.NumberLemmas.{placed as placed_cut}
@@ -12,12 +14,16 @@ use Rattle.tp_state.specs.declared.state.State.{State}
 use Rattle.tp_state.specs.declared.fault.StateFault.{StateFault}
 use Rattle.tp_state.specs.declared.fault.StateFault.TheVariants.{Refused, Memory}
 use Rattle.tp_state.specs.Conditions.{IsPlaced}
+use Rattle.tp_state.specs.Order.{IsBelow}
+use Rattle.tp_state.specs.Sound.{IsSound}
+use Rattle.tp_state.proofs.StateOrder.{is_below-self}
 use Rattle.tp_state.specs.After.{after}
 use Rattle.tp_check.specs.declared.passes.Passes.{Passes}
 use Rattle.tp_check.specs.Tables.{Table, table_of, with_state, asked}
 use Rattle.tp_check.specs.Passes.{enter, edges_in}
 use Rattle.tp_check.specs.Carried.{target_of, over, IsAmong}
-use Rattle.tp_check.specs.UnderWay.{IsPlacedAt, MayBeTaken, is_in, IsTaken, TakenAt, marks, IsUnderWay, IsAmidst, AreAmidst, Carries, Gives, Moves, marked}
+use Rattle.tp_check.specs.UnderWay.{IsPlacedAt, MayBeTaken, is_in, Settles, IsTaken, TakenAt, WasTaken, WasTakenAt, CameBefore, KeepsSound, marks, IsUnderWay, IsAmidst, AreAmidst, Carries, Gives, Moves, marked}
+use Rattle.tp_check.proofs.Again.{rises_after, sound_after, fewer, was_joined, sound_joined, was_elsewhere, was_there, was_own, sound_alone}
 use Rattle.tp_check.proofs.Entering.{Entered, entered, elsewhere, grows}
 use Rattle.tp_check.proofs.Taking.{arrives_at}
 use Rattle.tp_check.proofs.Moving.{way_more}
@@ -30,6 +36,10 @@ same_marks joins old new ahead x changed carried = rw (changed, carried) refl
 pub not_both : (x y : ℕ) (b : Bool) → x ≢ y → ((x == y) && b) ≡ false
 not_both x y b other = let no : (x == y) ≡ false = grind (arith, nat_tests) in ap (λ c. c && b) no
 
+pub and_false : (b c : Bool) → c ≡ false → (b && c) ≡ false
+and_false true c e = e
+and_false false c e = refl
+
 not_same : (x y : ℕ) → ((x == y) && true) ≡ false → x ≢ y
 not_same x y e same = let yes : (x == y) ≡ true = grind (arith, nat_tests) in absurd (let no : true ≡ false = sym (ap (λ c. c && true) yes) ∙ e in cc)
 
@@ -40,6 +50,8 @@ pub record IsAfter (image : ImageValue) (place : Placed) (done : ℕ) (old new :
   pub carried : IsPlaced image new.carried
   pub is_carried : new.is_carried ≡ old.is_carried
   pub ahead : new.ahead ≡ old.ahead
+  pub is_again : new.is_again ≡ old.is_again
+  pub taken : new.taken.items ≡ old.taken.items
 
 -- a state that is kept, or given away for another
 pub still_placed : (image : ImageValue) (gives : Bool) (old other new : State) → (gives ≡ false → new ≡ old) → (gives ≡ true → new ≡ other) → IsPlaced image old → IsPlaced image other → IsPlaced image new
@@ -47,13 +59,34 @@ still_placed image true old other new kept given fits also = rw (given refl) als
 still_placed image false old other new kept given fits also = rw (kept refl) fits
 
 module _ (image : ImageValue) (joins : ℕ → Bool) (old : Passes) (place : Placed) (edge : Edge) (done : ℕ) (amid : AreAmidst image joins old place done)
-    (lt : done < length (asked place.instr)) (at_edge : slice_index_or (asked place.instr) done edge ≡ edge) (may : MayBeTaken image (length old.slots) place)
+    (lt : done < length (asked place.instr)) (at_edge : slice_index_or (asked place.instr) done edge ≡ edge) (may : MayBeTaken image (length old.slots) place) (sure : KeepsSound image place)
     (v : State) (goes : after image place.at place.next place.instr edge old.carried ≡ Ok v) (fits : IsPlaced image v) where
   abbrev whole : Table
   whole = amid.whole
 
   stood : amid.whole place.at ≡ Some old.carried
   stood = amid.amidst.here lt
+
+  sound_v : IsSound image v
+  sound_v = sound_after image sure.range may.around.good place.at place.next place.instr edge old.carried v sure.loads (amid.amidst.way.sound place.at old.carried stood) goes
+
+  off : (to : ℕ) → target_of image (place, edge) ≡ Some to → place.at ≢ to
+  off to leads same = may.elsewhere edge to leads (sym same)
+
+  -- what came of the edge when it was taken before
+  module _ (again : old.is_again ≡ true) where
+    settled_before : Settles image joins amid.whole place.at place.next place.instr (amid.amidst.again again).before edge
+    settled_before = subst (Settles image joins amid.whole place.at place.next place.instr (amid.amidst.again again).before) at_edge ((amid.amidst.again again).each done edge (omega arith) lt)
+
+    rose : IsBelow settled_before.outcome v
+    rose =
+        let w = amid.amidst.again again in
+        rises_after image sure.range may.around.good place.at place.next place.instr edge w.before old.carried settled_before.outcome v w.sound (subst (IsBelow w.before) (same_Some _ _ (sym w.above.there ∙ stood)) w.above.below) settled_before.goes_on goes
+
+    pub came_before : (to : ℕ) → target_of image (place, edge) ≡ Some to → joins to ≡ true → CameBefore (table_of old.slots to) v
+    came_before to leads is =
+        let above = settled_before.meets to leads is in
+        record { before = settled_before.outcome; state = above.state; is = sym (amid.amidst.way.slots to is) ∙ above.there; rose = above.below; below = rose }
 
   own_edge : (k : ℕ) (d : Edge) → k < length (asked place.instr) → IsAmong (edges_in amid.cuts) (place, slice_index_or (asked place.instr) k d)
   own_edge k d less = edge_there (placed_from 0 amid.cuts) amid.number place amid.stands k d less
@@ -84,17 +117,24 @@ module _ (image : ImageValue) (joins : ℕ → Bool) (old : Passes) (place : Pla
     record {
       way = record {
         flags = ap length changed ∙ amid.amidst.way.flags ∙ ap length (sym slots);
+        takes = ap length rest.taken ∙ amid.amidst.way.takes ∙ ap length (sym slots);
         carried = rest.carried;
         ahead = rw rest.ahead amid.amidst.way.ahead;
         outcome = rw outcome fits;
         slots = λ at is. amid.amidst.way.slots at is ∙ ap (λ states. table_of states at) (sym slots);
         grown = amid.amidst.way.grown;
+        sound = amid.amidst.way.sound;
       };
       here = λ less. rw (rest.kept less) stood;
       next = λ sure. let before = amid.amidst.next (sym rest.is_carried ∙ sure) in (before.0, before.1 ∙ ap Some (sym rest.ahead));
       others = all_others (marks joins new place.next) amid.whole (λ q way is taken. λ mark. taken (keeps q.at mark).0);
       own = all_own (marks joins new place.next) amid.whole (λ way is taken. λ mark. taken (keeps place.at mark).0)
           (settled_nowhere image amid.cuts joins amid.join place edge one amid.whole amid.amidst.way.grown old.carried v stood goes (marks joins old place.next) (marks joins new place.next) keeps leads);
+      stands = amid.amidst.stands;
+      quiet = λ is. ap (λ items. is_in items place.at) changed ∙ amid.amidst.quiet is;
+      again = λ on. fewer image joins amid.whole place.at place.next place.instr done (amid.amidst.again (sym rest.is_again ∙ on));
+      ahead = λ goes on. amid.amidst.ahead (sym rest.is_carried ∙ goes) (sym rest.is_again ∙ on);
+      early = λ x cut other is on. amid.amidst.early x cut other is (sym (ap (λ items. is_in items x) rest.taken) ∙ on);
     },
   )
     where
@@ -149,19 +189,33 @@ module _ (image : ImageValue) (joins : ℕ → Bool) (old : Passes) (place : Pla
           amidst_joined = record {
             way = record {
               flags = ap length flags ∙ long moved ∙ amid.amidst.way.flags ∙ sym moves.sized;
+              takes = ap length rest.taken ∙ amid.amidst.way.takes ∙ sym moves.sized;
               carried = rest.carried;
               ahead = rw rest.ahead amid.amidst.way.ahead;
               outcome = rw outcome fits;
               slots = made;
               grown = grows image amid.whole to v amid.amidst.way.grown stands_there table it;
+              sound = sound_joined image joins amid.whole to v amid.amidst.way.grown stands_there table it amid.amidst.way.sound sound_v;
             };
             here = λ less. elsewhere amid.whole to v table place.at it (λ same. may.elsewhere edge to leads (sym same)) ∙ rw (rest.kept less) stood;
             next = λ sure. let before = amid.amidst.next (sym rest.is_carried ∙ sure) in (before.0, elsewhere amid.whole to v table place.next it (λ same. absurd (let no : false ≡ true = sym before.0 ∙ ap joins same ∙ is_joined in cc)) ∙ before.1 ∙ ap Some (sym rest.ahead));
             others = all_others (marks joins new place.next) table (λ q way is taken. taken_joined image amid.cuts joins amid.join place edge one amid.whole amid.amidst.way.grown old.carried v stood goes to leads stands_there is_joined table it (marks joins old place.next) (marks joins new place.next) keeps q.at q.next q.instr way taken);
             own = all_own (marks joins new place.next) table (λ way is taken. taken_joined image amid.cuts joins amid.join place edge one amid.whole amid.amidst.way.grown old.carried v stood goes to leads stands_there is_joined table it (marks joins old place.next) (marks joins new place.next) keeps place.at place.next place.instr way taken)
                 (settled_joined image amid.cuts joins amid.join place edge one amid.whole amid.amidst.way.grown old.carried v stood goes to leads stands_there is_joined table it (marks joins old place.next) (marks joins new place.next) keeps);
+            stands = (amid.amidst.stands.0, elsewhere amid.whole to v table place.at it (off to leads) ∙ amid.amidst.stands.1);
+            quiet = λ is. ap (λ items. is_in items place.at) flags ∙ unmarked moved ∙ amid.amidst.quiet is;
+            again = λ on. still place.at place.next place.instr (done + 1) (fewer image joins amid.whole place.at place.next place.instr done (amid.amidst.again (sym rest.is_again ∙ on)));
+            ahead = λ goes on cut there. still place.next (place.next + length cut.bytes) cut.instr 0 (amid.amidst.ahead (sym rest.is_carried ∙ goes) (sym rest.is_again ∙ on) cut there);
+            early = λ x cut other is on there. still x (x + length cut.bytes) cut.instr 0 (amid.amidst.early x cut other is (sym (ap (λ items. is_in items x) rest.taken) ∙ on) there);
           }
             where
+              still : (at next : ℕ) (instr : Instr) (n : ℕ) → WasTaken image joins amid.whole at next instr n → WasTaken image joins table at next instr n
+              still = was_joined image joins amid.whole to v amid.amidst.way.grown stands_there table it is_joined
+
+              unmarked : (b : Bool) → is_in (marked b to old.changed.items) place.at ≡ is_in old.changed.items place.at
+              unmarked true = get_or-set_other old.changed.items to place.at true false (off to leads)
+              unmarked false = refl
+
               long : (b : Bool) → length (marked b to old.changed.items) ≡ length old.changed.items
               long true = length-set old.changed.items to true
               long false = refl
@@ -185,7 +239,7 @@ module _ (image : ImageValue) (joins : ℕ → Bool) (old : Passes) (place : Pla
       to_join (Err Memory) gives flags moves = tt
 
     -- it alone leads there: control falls to the next instruction
-    module _ (is_alone : joins to ≡ false) (new : Passes) (slots : new.slots ≡ old.slots) (changed : new.changed.items ≡ old.changed.items) (kept : done + 1 < length (asked place.instr) → new.carried ≡ old.carried) (carried : IsPlaced image new.carried) (is_carried : new.is_carried ≡ true) (ahead : new.ahead ≡ v) (outcome : IsPlaced image new.outcome) where
+    module _ (is_alone : joins to ≡ false) (new : Passes) (slots : new.slots ≡ old.slots) (changed : new.changed.items ≡ old.changed.items) (kept : done + 1 < length (asked place.instr) → new.carried ≡ old.carried) (carried : IsPlaced image new.carried) (is_carried : new.is_carried ≡ true) (ahead : new.ahead ≡ v) (outcome : IsPlaced image new.outcome) (is_again : new.is_again ≡ old.is_again) (takes : new.taken.items ≡ old.taken.items) where
       falls : to ≡ place.next
       falls = amid.join.falls (place, edge) to one is_alone leads
 
@@ -206,6 +260,26 @@ module _ (image : ImageValue) (joins : ℕ → Bool) (old : Passes) (place : Pla
               let other : x ≢ place.next = not_same x place.next (new_mark false f) in
               (ap old_mark f ∙ not_both x place.next old.is_carried other, with_elsewhere to v amid.whole x (λ same. other (same ∙ falls)))
 
+      was_target : old.is_again ≡ true → (cut : Cut) → cut_at amid.cuts to ≡ Some cut → WasTakenAt image joins (with_state to v amid.whole) to cut
+      was_target on cut stands =
+          was_there image amid.cuts joins amid.join place edge one amid.whole to v leads is_alone cut (may.elsewhere edge to leads) stands
+          (λ u is. subst (λ t. IsBelow t v) (same_Some _ _ (sym settled ∙ is)) (rose on)) (by_carried old.is_carried refl)
+        where
+          settled : amid.whole to ≡ Some (settled_before on).outcome
+          settled = (settled_before on).sets to leads is_alone
+
+          by_carried : (b : Bool) → old.is_carried ≡ b → WasTakenAt image joins amid.whole to cut
+          by_carried true e = subst (λ y. WasTakenAt image joins amid.whole y cut) (sym falls) (amid.amidst.ahead e on cut (sym (ap (cut_at amid.cuts) falls) ∙ stands))
+          by_carried false e = record {
+            before = (settled_before on).outcome;
+            sound = amid.amidst.way.sound to (settled_before on).outcome settled;
+            above = record { state = (settled_before on).outcome; there = settled; below = is_below-self (settled_before on).outcome };
+            each = λ k d le less. amid.amidst.others to cut (may.elsewhere edge to leads) stands k d less unmarked (settled_before on).outcome settled;
+          }
+            where
+              unmarked : marks joins old place.next to ≡ false
+              unmarked = ap (λ c. if c then is_in old.changed.items to else (to == place.next) && old.is_carried) is_alone ∙ and_false (to == place.next) old.is_carried e
+
       pub to_next : Carries {X = Bool} (Ok false) (over image joins ((place, edge) ∷ []) amid.whole) (IsAmidst image amid.cuts joins new place (done + 1))
       to_next = (
         with_state to v amid.whole,
@@ -213,17 +287,24 @@ module _ (image : ImageValue) (joins : ℕ → Bool) (old : Passes) (place : Pla
         record {
           way = record {
             flags = ap length changed ∙ amid.amidst.way.flags ∙ ap length (sym slots);
+            takes = ap length takes ∙ amid.amidst.way.takes ∙ ap length (sym slots);
             carried = carried;
             ahead = rw ahead fits;
             outcome = outcome;
             slots = λ at is. with_elsewhere to v amid.whole at (differ_too joins at to is is_alone) ∙ amid.amidst.way.slots at is ∙ ap (λ states. table_of states at) (sym slots);
             grown = grows_alone image amid.cuts joins amid.join place edge one amid.whole amid.amidst.way.grown old.carried v stood goes to leads stands_there is_alone (marks joins old place.next) (marks joins new place.next) keeps_alone;
+            sound = sound_alone image amid.cuts joins amid.join place edge one amid.whole to v leads is_alone amid.amidst.way.sound sound_v;
           };
           here = λ less. with_elsewhere to v amid.whole place.at (λ same. may.elsewhere edge to leads (sym same)) ∙ rw (kept less) stood;
           next = λ sure. (ap joins (sym falls) ∙ is_alone, ap (with_state to v amid.whole) (sym falls) ∙ with_there to v amid.whole ∙ ap Some (sym ahead));
           others = all_others (marks joins new place.next) (with_state to v amid.whole) (λ q way is taken. taken_alone image amid.cuts joins amid.join place edge one amid.whole amid.amidst.way.grown old.carried v stood goes to leads stands_there is_alone (marks joins old place.next) (marks joins new place.next) keeps_alone q way is taken);
           own = all_own (marks joins new place.next) (with_state to v amid.whole) (λ way is taken. taken_alone image amid.cuts joins amid.join place edge one amid.whole amid.amidst.way.grown old.carried v stood goes to leads stands_there is_alone (marks joins old place.next) (marks joins new place.next) keeps_alone place way is taken)
               (settled_alone image amid.cuts joins amid.join place edge one amid.whole amid.amidst.way.grown old.carried v stood goes to leads stands_there is_alone (marks joins old place.next) (marks joins new place.next) keeps_alone);
+          stands = (amid.amidst.stands.0, with_elsewhere to v amid.whole place.at (off to leads) ∙ amid.amidst.stands.1);
+          quiet = λ is. ap (λ items. is_in items place.at) changed ∙ amid.amidst.quiet is;
+          again = λ on. was_own image amid.cuts joins amid.join place edge one amid.whole to v leads is_alone done lt at_edge (off to leads) own_edge (amid.amidst.again (sym is_again ∙ on));
+          ahead = λ goes on. subst (λ y. (cut : Cut) → cut_at amid.cuts y ≡ Some cut → WasTakenAt image joins (with_state to v amid.whole) y cut) falls (was_target (sym is_again ∙ on));
+          early = λ x cut other is on there. was_elsewhere image amid.cuts joins amid.join place edge one amid.whole to v leads is_alone x cut other (differ_too joins x to is is_alone) there (amid.amidst.early x cut other is (sym (ap (λ items. is_in items x) takes) ∙ on) there);
         },
       )
 

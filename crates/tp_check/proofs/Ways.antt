@@ -14,7 +14,7 @@ use Rattle.tp_check.specs.declared.passes.Passes.{Passes}
 use Rattle.tp_check.specs.Tables.{Table, asked}
 use Rattle.tp_check.specs.Passes.{from, edges_of}
 use Rattle.tp_check.specs.Carried.{over}
-use Rattle.tp_check.specs.UnderWay.{IsAmidst, AreAmidst, Carries}
+use Rattle.tp_check.specs.UnderWay.{IsAmidst, AreAmidst, Carries, IsNumberOf}
 use Rattle.tp_check.proofs.Moving.{get_in}
 use Rattle.tp_check.proofs.Turning.{over_way}
 
@@ -48,14 +48,14 @@ module _ (image : ImageValue) (joins : ℕ → Bool) (first now : Passes) (place
 
   abbrev Edges : Passes → Result Bool StateFault → Type 0
   Edges new r =
-      (done : ℕ) (amid : AreAmidst image joins now place done) → done < length (asked place.instr) → slice_index_or (asked place.instr) done (slice_index_or ways i d) ≡ slice_index_or ways i d → (done + 1 < length (asked place.instr) → is_last ≡ false)
+      (done : ℕ) (amid : AreAmidst image joins now place done) → IsNumberOf place.instr (slice_index_or ways i d) done → (done + 1 < length (asked place.instr) → is_last ≡ false)
       → Carries r (over image joins ((place, slice_index_or ways i d) ∷ []) amid.whole) (IsAmidst image amid.cuts joins new place (done + 1))
 
   next : over image joins (edges_of place) way.whole ≡ (over image joins ((place, slice_index_or ways i d) ∷ []) on.0 >>= over image joins (from place (drop (i + 1) (asked place.instr))))
   next = on.1 ∙ over_way image joins place (asked place.instr) i (slice_index_or ways i d) less on.0 ∙ ap (λ e. over image joins ((place, e) ∷ []) on.0 >>= over image joins (from place (drop (i + 1) (asked place.instr)))) (at_way ways (asked place.instr) same i d lt)
 
   at_edge : (new : Passes) (r : Result Bool StateFault) → Edges new r → Carries r (over image joins ((place, slice_index_or ways i d) ∷ []) on.0) (IsAmidst image way.cuts joins new place (i + 1))
-  at_edge new r gives = gives i (amid_of image joins first now place 0 i way on.0 on.2) less (at_way ways (asked place.instr) same i d lt) last
+  at_edge new r gives = gives i (amid_of image joins first now place 0 i way on.0 on.2) (record { inside = less; is = at_way ways (asked place.instr) same i d lt }) last
 
   pub go_on : (new : Passes) (moved : Bool) → Edges new (Ok moved)
       → (whole : Table) × (over image joins (edges_of place) way.whole ≡ over image joins (from place (drop (i + 1) (asked place.instr))) whole) × IsAmidst image way.cuts joins new place (i + 1) whole

@@ -1,5 +1,5 @@
 -- What holds while the passes are made.
-use Rattle.std.specs.Prelude.{◌≡◌, ◌≢◌, ℕ, ◌+◌, ◌*◌, ◌-◌, ◌^◌, ◌<◌, ◌==◌, ◌&&◌, Bool, true, false, if◌then◌else◌, ℤ, pos, negsuc, ◌+ℤ◌, ◌-ℤ◌, List, length, sum_by, slice_get, slice_index_or, slice_set, All, ◌⊎◌, Option, Some, None, Result, Ok, Err, IsTrue}
+use Rattle.std.specs.Prelude.{◌≡◌, ◌≢◌, ℕ, ◌+◌, ◌*◌, ◌-◌, ◌^◌, ◌<◌, ◌≤◌, ◌==◌, ◌&&◌, Bool, true, false, if◌then◌else◌, ℤ, pos, negsuc, ◌+ℤ◌, ◌-ℤ◌, List, length, sum_by, slice_get, slice_index_or, slice_set, All, ◌⊎◌, Option, Some, None, Result, Ok, Err, IsTrue}
 use Rattle.tp_decode.specs.declared.instr.Instr.{Instr}
 use Rattle.tp_decode.specs.declared.placed.Placed.{Placed}
 use Rattle.tp_decode.specs.Cutting.{Cut, cut_at, placed_from}
@@ -9,7 +9,7 @@ use Rattle.tp_flow.specs.LoopsAround.{is_around}
 use Rattle.tp_flow.specs.AroundKept.{KeepsAround}
 use Rattle.tp_flow.specs.Edges.{target}
 use Rattle.tp_flow.specs.RowRules.{is_start}
-use Rattle.tp_image.specs.Image.{ImageValue}
+use Rattle.tp_image.specs.Image.{ImageValue, InRange}
 use Rattle.tp_state.specs.declared.kind.Kind.{Kind}
 use Rattle.tp_state.specs.declared.kind.Kind.TheVariants as kind
 use Rattle.tp_state.specs.declared.cell.Cell.{Cell}
@@ -19,6 +19,8 @@ use Rattle.tp_state.specs.declared.fault.StateFault.{StateFault}
 use Rattle.tp_state.specs.declared.fault.StateFault.TheVariants.{Refused, Memory}
 use Rattle.tp_state.specs.Conditions.{IsPlaced}
 use Rattle.tp_state.specs.Entry.{entry}
+use Rattle.tp_state.specs.Order.{IsBelow}
+use Rattle.tp_state.specs.Sound.{IsSound, LoadsWord}
 use Rattle.tp_state.specs.Live.{LiveWordsAre}
 use Rattle.tp_state.specs.After.{after}
 use Rattle.tp_check.specs.declared.passes.Passes.{Passes}
@@ -78,6 +80,25 @@ abbrev pub TakenAt : ImageValue → (ℕ → Bool) → (ℕ → Bool) → Table 
 TakenAt image joins marks table at cut =
     All (IsTaken image joins marks table at (at + length cut.bytes) cut.instr) (asked cut.instr)
 
+-- From one of its edges on, an instruction's edges were taken before from a state below the one that stands at its address
+-- now, and they have settled.
+pub record WasTaken (image : ImageValue) (joins : ℕ → Bool) (table : Table) (at next : ℕ) (instr : Instr) (done : ℕ) : Type 0 where
+  pub before : State
+  pub sound : IsSound image before
+  pub above : HasAbove table at before
+  pub each : (k : ℕ) (d : Edge) → done ≤ k → k < length (asked instr) → Settles image joins table at next instr before (slice_index_or (asked instr) k d)
+
+abbrev pub WasTakenAt : ImageValue → (ℕ → Bool) → Table → ℕ → Cut → Type 0
+WasTakenAt image joins table at cut = WasTaken image joins table at (at + length cut.bytes) cut.instr 0
+
+-- something came to an address before that is below what comes now
+pub record CameBefore (there : Option State) (s : State) : Type 0 where
+  pub before : State
+  pub state : State
+  pub is : there ≡ Some state
+  pub rose : IsBelow before state
+  pub below : IsBelow before s
+
 -- what is marked: where edges join, what has changed since its edges were last taken; and the address to which a state is
 -- carried
 abbrev pub marks : (ℕ → Bool) → Passes → ℕ → (ℕ → Bool)
@@ -88,17 +109,21 @@ marks joins p ahead at = if joins at then is_in p.changed.items at else (at == a
 -- Where edges join the passes keep the states of a whole table.
 pub record IsUnderWay (image : ImageValue) (joins : ℕ → Bool) (p : Passes) (whole : Table) : Type 0 where
   pub flags : length p.changed.items ≡ length p.slots
+  pub takes : length p.taken.items ≡ length p.slots
   pub carried : IsPlaced image p.carried
   pub ahead : IsPlaced image p.ahead
   pub outcome : IsPlaced image p.outcome
   pub slots : (at : ℕ) → joins at ≡ true → whole at ≡ table_of p.slots at
   pub grown : HasGrown image whole
+  pub sound : (at : ℕ) (s : State) → whole at ≡ Some s → IsSound image s
 
 -- before the instruction at an address
 pub record IsBefore (image : ImageValue) (cuts : List Cut) (joins : ℕ → Bool) (p : Passes) (at : ℕ) (whole : Table) : Type 0 where
   pub way : IsUnderWay image joins p whole
   pub here : p.is_carried ≡ true → (joins at ≡ false) × (whole at ≡ Some p.carried)
   pub taken : (x : ℕ) (cut : Cut) → cut_at cuts x ≡ Some cut → TakenAt image joins (marks joins p at) whole x cut
+  pub again : p.is_carried ≡ true → p.is_again ≡ true → (cut : Cut) → cut_at cuts at ≡ Some cut → WasTakenAt image joins whole at cut
+  pub early : (x : ℕ) (cut : Cut) → joins x ≡ true → is_in p.taken.items x ≡ true → cut_at cuts x ≡ Some cut → WasTakenAt image joins whole x cut
 
 -- where edges join, marks alone
 abbrev pub flags : (ℕ → Bool) → Passes → (ℕ → Bool)
@@ -110,6 +135,9 @@ pub record IsReady (image : ImageValue) (cuts : List Cut) (joins : ℕ → Bool)
   pub here : p.is_carried ≡ true → whole at ≡ Some p.carried
   pub others : (x : ℕ) (cut : Cut) → x ≢ at → cut_at cuts x ≡ Some cut → TakenAt image joins (flags joins p) whole x cut
   pub own : p.is_carried ≡ false → (cut : Cut) → cut_at cuts at ≡ Some cut → (k : ℕ) (d : Edge) → k < length (asked cut.instr) → (s : State) → whole at ≡ Some s → Settles image joins whole at (at + length cut.bytes) cut.instr s (slice_index_or (asked cut.instr) k d)
+  pub quiet : joins at ≡ true → p.is_carried ≡ true → is_in p.changed.items at ≡ false
+  pub again : p.is_carried ≡ true → p.is_again ≡ true → (cut : Cut) → cut_at cuts at ≡ Some cut → WasTakenAt image joins whole at cut
+  pub early : (x : ℕ) (cut : Cut) → (x ≡ at → p.is_carried ≡ false) → joins x ≡ true → is_in p.taken.items x ≡ true → cut_at cuts x ≡ Some cut → WasTakenAt image joins whole x cut
 
 -- between two edges of an instruction, so many of which have been taken
 pub record IsAmidst (image : ImageValue) (cuts : List Cut) (joins : ℕ → Bool) (p : Passes) (place : Placed) (done : ℕ) (whole : Table) : Type 0 where
@@ -119,6 +147,12 @@ pub record IsAmidst (image : ImageValue) (cuts : List Cut) (joins : ℕ → Bool
   pub next : p.is_carried ≡ true → (joins place.next ≡ false) × (whole place.next ≡ Some p.ahead)
   pub others : (x : ℕ) (cut : Cut) → x ≢ place.at → cut_at cuts x ≡ Some cut → TakenAt image joins (marks joins p place.next) whole x cut
   pub own : (k : ℕ) (d : Edge) → k < done → IsTaken image joins (marks joins p place.next) whole place.at place.next place.instr (slice_index_or (asked place.instr) k d)
+  pub stands : (s : State) × (whole place.at ≡ Some s)
+  pub quiet : joins place.at ≡ true → is_in p.changed.items place.at ≡ false
+  -- the edges that are left, and those of the next instruction, if a state is carried there
+  pub again : p.is_again ≡ true → WasTaken image joins whole place.at place.next place.instr done
+  pub ahead : p.is_carried ≡ true → p.is_again ≡ true → (cut : Cut) → cut_at cuts place.next ≡ Some cut → WasTakenAt image joins whole place.next cut
+  pub early : (x : ℕ) (cut : Cut) → x ≢ place.at → joins x ≡ true → is_in p.taken.items x ≡ true → cut_at cuts x ≡ Some cut → WasTakenAt image joins whole x cut
 
 -- a step's answer is the definition's, or a want of memory; and of the table that it comes to, this holds
 abbrev pub Carries : {X : Type 0} → Result X StateFault → Result Table StateFault → (Table → Type 0) → Type 0
@@ -134,6 +168,16 @@ pub record StandsIn (cuts : List Cut) (place : Placed) : Type 0 where
   pub there : cut_at cuts place.at ≡ Some cut
   pub next : place.next ≡ place.at + length cut.bytes
   pub instr : place.instr ≡ cut.instr
+
+-- what is known after an instruction is sound where what was known before it is
+pub record KeepsSound (image : ImageValue) (place : Placed) : Type 0 where
+  pub range : InRange image
+  pub loads : LoadsWord place.instr
+
+-- an edge's number among those of an instruction
+pub record IsNumberOf (instr : Instr) (edge : Edge) (number : ℕ) : Type 0 where
+  pub inside : number < length (asked instr)
+  pub is : slice_index_or (asked instr) number edge ≡ edge
 
 -- an instruction of a code, with a whole table between two of its edges
 pub record AreAmidst (image : ImageValue) (joins : ℕ → Bool) (p : Passes) (place : Placed) (done : ℕ) : Type 0 where
@@ -215,12 +259,18 @@ pub record SameButSlots (old new : Passes) : Type 0 where
   pub carried : new.carried ≡ old.carried
   pub ahead : new.ahead ≡ old.ahead
   pub outcome : new.outcome ≡ old.outcome
+  pub is_again : new.is_again ≡ old.is_again
+  pub taken : new.taken.items ≡ old.taken.items
 
--- the state that is kept at an address is carried, if it was marked and there is one; it is not marked any more
+-- the state that is kept at an address is carried, if it was marked and there is one: its edges are taken, again where they
+-- were before; it is not marked any more
 pub record IsStarted (at : ℕ) (old new : Passes) : Type 0 where
   pub slots : new.slots ≡ old.slots
   pub changed : new.changed.items ≡ slice_set old.changed.items at false
   pub ahead : new.ahead ≡ old.ahead
   pub outcome : new.outcome ≡ old.outcome
   pub yes : new.is_carried ≡ true → table_of old.slots at ≡ Some new.carried
+  pub again : new.is_carried ≡ true → new.is_again ≡ is_in old.taken.items at
+  pub takes : new.is_carried ≡ true → new.taken.items ≡ slice_set old.taken.items at true
+  pub rests : new.is_carried ≡ false → new.taken.items ≡ old.taken.items
   pub no : new.is_carried ≡ false → (new.carried ≡ old.carried) × ((is_in old.changed.items at ≡ false) ⊎ (table_of old.slots at ≡ None))

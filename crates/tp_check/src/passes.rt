@@ -1,7 +1,8 @@
 //! The passes: a table is made edge by edge until a pass changes nothing.
 
 ghost use Rattle.std.specs.Prelude.{◌≡◌, ◌≢◌, ◌<◌, ◌≤◌, ◌+◌, ◌^◌, ◌∷◌, [], ℕ, true, false, length, List, slice_index_or, Some, IfOk, IfErr, IfSome, OnOk};
-ghost use Rattle.tp_decode.specs.Cutting.{Cut};
+ghost use Rattle.std.specs.List.{AllByRecursion};
+ghost use Rattle.tp_decode.specs.Cutting.{Cut, IsSpelled};
 ghost use Rattle.tp_decode.specs.declared.instr.Instr.{Instr as AnInstr};
 ghost use Rattle.tp_flow.specs.declared.edge.Edge.{Edge as AnEdge};
 ghost use Rattle.tp_flow.specs.NestRanges.{ranges};
@@ -16,7 +17,7 @@ ghost use Rattle.tp_check.specs.Passes.{first_table, enter, edges_of, edges_in, 
 ghost use Rattle.tp_check.specs.Carried.{over, IsTableOf};
 ghost use Rattle.tp_check.specs.StatesThere.{AreStatesThere};
 ghost use Rattle.tp_check.specs.Joining.{joins_at, keeps_at};
-ghost use Rattle.tp_check.specs.UnderWay.{AreJoins, HasPlaces, MayBeTaken, StandsIn, IsBefore, IsAmidst, AreAmidst, Carries, Gives, Moves, marked, SameButSlots, IsStarted};
+ghost use Rattle.tp_check.specs.UnderWay.{AreJoins, HasPlaces, MayBeTaken, StandsIn, IsBefore, IsAmidst, AreAmidst, Carries, Gives, Moves, marked, SameButSlots, IsStarted, KeepsSound, IsNumberOf, CameBefore};
 
 use crate::effort::Effort;
 use crate::slots::Slots;
@@ -88,8 +89,13 @@ struct Passes {
     slots: Slots,
     /// Whether the state where edges join has changed since the edges from there were last taken; at first, of each.
     changed: Vec<bool>,
+    /// Whether the edges from there were taken before.
+    taken: Vec<bool>,
     /// Whether a state is carried to the instruction that comes next, in a state of its own.
     is_carried: bool,
+    /// Whether the edges of the instruction that is being taken were taken before; and so of the next one, to which its
+    /// state is carried.
+    is_again: bool,
     /// What is known before the instruction that is being taken.
     carried: State,
     /// What is known before the next one.
@@ -108,6 +114,8 @@ impl Passes {
         ensures sized { IfOk result (λ p. length p.slots ≡ places) }
         ensures flags { IfOk result (λ p. length p.changed.items ≡ places) }
         ensures marked { IfOk result (λ p. (at : ℕ) → at < places → slice_index_or p.changed.items at false ≡ true) }
+        ensures takes { IfOk result (λ p. length p.taken.items ≡ places) }
+        ensures fresh { IfOk result (λ p. (at : ℕ) → at < places → slice_index_or p.taken.items at false ≡ false) }
         ensures rests { IfOk result (λ p. p.is_carried ≡ false) }
         ensures carried { IfOk result (λ p. IsPlaced image.now p.carried) }
         ensures ahead { IfOk result (λ p. IsPlaced image.now p.ahead) }
@@ -119,13 +127,16 @@ impl Passes {
         let _ = &image.code;
         let slots = Slots::first(alloc, image, places)?;
         let changed = vec![in alloc; true; places]?;
+        let taken = vec![in alloc; false; places]?;
         let carried = State::entry(alloc, image)?;
         let ahead = State::entry(alloc, image)?;
         let outcome = State::entry(alloc, image)?;
         Ok(Passes {
             slots,
             changed,
+            taken,
             is_carried: false,
+            is_again: false,
             carried,
             ahead,
             outcome,
@@ -142,7 +153,9 @@ impl Passes {
         nest: &Nest,
         ways: &Ways,
     ) -> Result<bool, StateFault>
+        requires range { InRange image.now }
         requires kept { KeepsNest image.now.loops image.now.workspace listing.now }
+        requires spelled { AllByRecursion IsSpelled listing.now }
         requires nest { nest.now ≡ ranges image.now.loops }
         requires join { AreJoins image.now listing.now (joins_at ways.now) }
         requires places { HasPlaces listing.now (length self.old.slots) }
@@ -177,6 +190,7 @@ impl Passes {
     ) -> Result<bool, StateFault>
         requires nest { nest.now ≡ ranges image.now.loops }
         requires place { MayBeTaken image.now (length self.old.slots) place }
+        requires sound { KeepsSound image.now place }
         requires way { (cuts : List Cut) × StandsIn cuts place × AreJoins image.now cuts (joins_at ways.now) ×
             (whole : WholeTable) × IsBefore image.now cuts (joins_at ways.now) self.old place.at whole }
         ensures gives { (cuts : List Cut) (whole : WholeTable) → StandsIn cuts place → AreJoins image.now cuts (joins_at ways.now) →
@@ -197,6 +211,7 @@ impl Passes {
     /// Where edges join, the state that is kept is carried from here on, if it has changed since it last was.
     fn start(&mut self, ways: &Ways, at: usize)
         requires inside { at < length self.old.changed.items }
+        requires takes { at < length self.old.taken.items }
         requires sized { joins_at ways.now at ≡ true → IfSome (table_of self.old.slots at) (λ s. length s.cells ≡ length self.old.carried.cells) }
         ensures started { joins_at ways.now at ≡ true → IsStarted at self.old self.new }
         ensures other { joins_at ways.now at ≡ false → self.new ≡ self.old }
@@ -214,6 +229,8 @@ impl Passes {
         if let Some(state) = self.slots.at(at) {
             self.carried.set_to(state);
             self.is_carried = true;
+            self.is_again = self.taken[at];
+            self.taken[at] = true;
         }
     }
 
@@ -228,6 +245,7 @@ impl Passes {
     ) -> Result<bool, StateFault>
         requires nest { nest.now ≡ ranges image.now.loops }
         requires place { MayBeTaken image.now (length self.old.slots) place }
+        requires sound { KeepsSound image.now place }
         requires way { AreAmidst image.now (joins_at ways.now) self.old place 0 }
         ensures gives { (way : AreAmidst image.now (joins_at ways.now) self.old place 0) →
             Carries result (over image.now (joins_at ways.now) (edges_of place) way.whole)
@@ -258,9 +276,9 @@ impl Passes {
     ) -> Result<bool, StateFault>
         requires nest { nest.now ≡ ranges image.now.loops }
         requires place { MayBeTaken image.now (length self.old.slots) place }
-        requires way { (done : ℕ) × AreAmidst image.now (joins_at ways.now) self.old place done }
-        ensures gives { (done : ℕ) (way : AreAmidst image.now (joins_at ways.now) self.old place done) → done < length (asked place.instr) →
-            slice_index_or (asked place.instr) done edge ≡ edge → (done + 1 < length (asked place.instr) → is_last ≡ false) →
+        requires sound { KeepsSound image.now place }
+        requires way { (done : ℕ) × AreAmidst image.now (joins_at ways.now) self.old place done × IsNumberOf place.instr edge done }
+        ensures gives { (done : ℕ) (way : AreAmidst image.now (joins_at ways.now) self.old place done) → IsNumberOf place.instr edge done → (done + 1 < length (asked place.instr) → is_last ≡ false) →
             Carries result (over image.now (joins_at ways.now) ((place, edge) ∷ []) way.whole)
             (IsAmidst image.now way.cuts (joins_at ways.now) self.new place (done + 1)) }
         ensures moves { IfOk result (λ moved. Moves image.now moved self.old.slots self.new.slots) }
@@ -288,12 +306,15 @@ impl Passes {
         requires flags { length self.old.changed.items ≡ length self.old.slots }
         requires placed { IfSome (table_of self.old.slots to) (IsPlaced image.now) }
         requires outcome { IsPlaced image.now self.old.outcome }
+        requires again { self.old.is_again ≡ true → CameBefore (table_of self.old.slots to) self.old.outcome }
         ensures gives { Gives result (table_of self.new.slots) (enter (Some to) self.old.outcome (table_of self.old.slots)) }
         ensures marks { IfOk result (λ moved. self.new.changed.items ≡ marked moved to self.old.changed.items) }
         ensures rest { SameButSlots self.old self.new }
         ensures moves { IfOk result (λ moved. Moves image.now moved self.old.slots self.new.slots) }
     {
-        let moved = self.slots.enter(alloc, image, to, &self.outcome)?;
+        let moved = self
+            .slots
+            .enter(alloc, image, to, &self.outcome, self.is_again)?;
         if moved {
             self.changed[to] = true;
         }

@@ -3,7 +3,7 @@ use Rattle.tp_check.specs.Tables.{asked}
 use Rattle.tp_check.specs.UnderWay.{Moves}
 use Rattle.tp_check.specs.Joining.{joins_at}
 use Rattle.tp_check.proofs.Moving.{moves_none, moves_more, moves_no_more}
-use Rattle.tp_check.proofs.Ways.{not_last, go_on, stop, all_ways, amid_of, carried_on}
+use Rattle.tp_check.proofs.Ways.{at_way, not_last, go_on, stop, all_ways, amid_of, carried_on}
 use Rattle.tp_check.proofs.passes.Passes.take_edges.Goals as goal
 use Rattle.tp_check.proofs.passes.Passes.take_edges.Goals.{then-branch, else-branch}
 
@@ -19,7 +19,10 @@ pub take_edge-requires-clause-place : goal.take_edge-requires-clause-place
 take_edge-requires-clause-place c = rw c.loop-i.invariant.moves.sized c.requires.place
 
 pub take_edge-requires-clause-way : goal.take_edge-requires-clause-way
-take_edge-requires-clause-way c = let on = c.loop-i.invariant.gives c.requires.way in (c.loop-i.i, amid_of c.args.image.now (joins_at c.args.ways.now) c.args.self.now c.loop-i.self c.args.place 0 c.loop-i.i c.requires.way on.0 on.2)
+take_edge-requires-clause-way c = let on = c.loop-i.invariant.gives c.requires.way in (c.loop-i.i, amid_of c.args.image.now (joins_at c.args.ways.now) c.args.self.now c.loop-i.self c.args.place 0 c.loop-i.i c.requires.way on.0 on.2, record { inside = subst (λ xs. c.loop-i.i < length xs) c.asked-edges.ensures inside; is = at_way c.asked-edges.result.now (asked c.args.place.instr) c.asked-edges.ensures c.loop-i.i _ inside })
+  where
+    inside : c.loop-i.i < length c.asked-edges.result.now
+    inside = omega arith
 
 pub loop-i-preserved : goal.loop-i-preserved
 loop-i-preserved c = record {
