@@ -34,7 +34,7 @@ use Rattle.tp_check.proofs.Settling.{among, differ, differ_too, with_there, with
 -- ---- an instruction's edges
 
 -- no two edges of a list are the same
-abbrev AreApart : List Edge → Type 0
+abbrev pub AreApart : List Edge → Type 0
 AreApart ways = (i j : ℕ) (d d' : Edge) → i < length ways → j < length ways → i ≢ j → get_or ways i d ≢ get_or ways j d'
 
 one_apart : (e : Edge) → AreApart (e ∷ [])
@@ -55,7 +55,7 @@ two_apart e f unlike i j d d' lt less other = by_first (cases_eq i 0) (cases_eq 
     by_first (inr off) (inl also) = λ same. unlike (sym (sym (at i 1 d (second i lt off)) ∙ same ∙ at j 0 d' also))
     by_first (inr off) (inr also) = absurd (other (second i lt off ∙ sym (second j less also)))
 
-asked_apart : (instr : Instr) → AreApart (asked instr)
+pub asked_apart : (instr : Instr) → AreApart (asked instr)
 asked_apart (Jump n) = one_apart Taken
 asked_apart (Cj n) = two_apart Next Taken (λ e. cc)
 asked_apart Lend = two_apart Back Out (λ e. cc)

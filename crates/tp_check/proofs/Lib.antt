@@ -21,6 +21,7 @@ mod Again
 mod Stepping
 mod Turning
 mod Ways
+mod Two
 mod Verdict
 mod Counting
 mod Keeping

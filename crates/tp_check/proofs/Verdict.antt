@@ -122,9 +122,9 @@ module _ (image : ImageValue) (cuts : List Cut) (joins : ℕ → Bool) where
           passed j q lt there (inr other) = let less = on.past j q (omega (arith, lt, other)) there in let here = on.next p is in omega (arith, longer, less, here)
 
   -- after all of them
-  pub come_all : (first now new : Passes) (i : ℕ) (begun : Table) → length cuts ≤ i → Comes first now i begun → new.slots ≡ now.slots → new.changed.items ≡ now.changed.items → new.carried ≡ now.carried → new.ahead ≡ now.ahead → new.outcome ≡ now.outcome → new.taken.items ≡ now.taken.items → new.is_carried ≡ false → (moved : Bool)
+  pub come_all : (first now new : Passes) (i : ℕ) (begun : Table) → length cuts ≤ i → Comes first now i begun → new.slots ≡ now.slots → new.changed.items ≡ now.changed.items → new.carried ≡ now.carried → new.spare ≡ now.spare → new.taken.items ≡ now.taken.items → new.is_carried ≡ false → (moved : Bool)
       → Carries (Ok moved) (over image joins (edges_in cuts) begun) (IsBefore image cuts joins new 0)
-  come_all first now new i begun end on slots changed carried ahead outcome takes rests moved = (
+  come_all first now new i begun end on slots changed carried spare takes rests moved = (
     on.whole,
     on.gives ∙ ap (λ ps. over image joins (flat_map edges_of ps) on.whole) none,
     record {
@@ -132,15 +132,14 @@ module _ (image : ImageValue) (cuts : List Cut) (joins : ℕ → Bool) where
         flags = ap length changed ∙ on.before.way.flags ∙ ap length (sym slots);
         takes = ap length takes ∙ on.before.way.takes ∙ ap length (sym slots);
         carried = rw carried on.before.way.carried;
-        ahead = rw ahead on.before.way.ahead;
-        outcome = rw outcome on.before.way.outcome;
+        spare = rw spare on.before.way.spare;
         slots = λ x is. on.before.way.slots x is ∙ ap (λ states. table_of states x) (sym slots);
         grown = on.before.way.grown;
         sound = on.before.way.sound;
       };
       here = λ sure. absurd (let no : false ≡ true = sym rests ∙ sure in cc);
       taken = λ x cut there k d lt mark. on.before.taken x cut there k d lt (earlier x cut there (joins x) refl mark);
-      again = λ sure. absurd (let no : false ≡ true = sym rests ∙ sure in cc);
+      again = λ _ sure. absurd (let no : false ≡ true = sym rests ∙ sure in cc);
       early = λ x cut is sure there. on.before.early x cut is (sym (ap (λ items. is_in items x) takes) ∙ sure) there;
     },
   )
@@ -189,8 +188,8 @@ module _ (image : ImageValue) (cuts : List Cut) (range : InRange image) (spelled
 
   -- before the first pass
   pub none_made : (p : Passes) (places : ℕ) → HasPlaces cuts places → places ≤ 2 ^ 32 → length p.slots ≡ places → length p.changed.items ≡ places → table_of p.slots ≡ first_table image
-      → ((at : ℕ) → at < places → is_in p.changed.items at ≡ true) → length p.taken.items ≡ places → ((at : ℕ) → at < places → is_in p.taken.items at ≡ false) → p.is_carried ≡ false → IsPlaced image p.carried → IsPlaced image p.ahead → IsPlaced image p.outcome → IsBetween image cuts joins p true
-  none_made p places inside few sized flags table marked takes fresh rests carried ahead outcome = record {
+      → ((at : ℕ) → at < places → is_in p.changed.items at ≡ true) → length p.taken.items ≡ places → ((at : ℕ) → at < places → is_in p.taken.items at ≡ false) → p.is_carried ≡ false → IsPlaced image p.carried → IsPlaced image p.spare → IsBetween image cuts joins p true
+  none_made p places inside few sized flags table marked takes fresh rests carried spare = record {
     places = λ at starts. rw sized (inside at starts);
     few = rw sized few;
     rests = rests;
@@ -200,15 +199,14 @@ module _ (image : ImageValue) (cuts : List Cut) (range : InRange image) (spelled
         flags = flags ∙ sym sized;
         takes = takes ∙ sym sized;
         carried = carried;
-        ahead = ahead;
-        outcome = outcome;
+        spare = spare;
         slots = λ x is. sym (ap (λ (t : Table). t x) table);
         grown = first_grown image (first_table image) kept.begins (entry_sound image range).placed refl;
         sound = λ x s stood. sound_first x s stood (cases_eq x 0);
       };
       here = λ sure. absurd (let no : false ≡ true = sym rests ∙ sure in cc);
       taken = λ x cut there k d lt mark s stood. absurd (never x cut there s stood mark (cases_eq x 0));
-      again = λ sure. absurd (let no : false ≡ true = sym rests ∙ sure in cc);
+      again = λ _ sure. absurd (let no : false ≡ true = sym rests ∙ sure in cc);
       early = λ x cut is on there. absurd (let no : false ≡ true = sym (fresh x (inside x (ap is_some there))) ∙ on in cc);
     };
     number = 0;
