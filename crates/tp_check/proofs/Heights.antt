@@ -241,18 +241,18 @@ unfolding table_height
 table_sinks image states i new inside less = omega (arith, less, sum_by-set (height image) states i new None inside)
 
 -- a state that comes to another
-pub joined_moves : (image : ImageValue) (moved : Bool) (t s new : State) (answer : Result Bool StateCode) → HasWords s → length s.cells ≡ length t.cells → answer ≡ Ok moved → answered answer new ≡ meeting t s → TellsChange moved t new → MovesState image moved (Some t) (Some new)
-joined_moves image moved t s new answer words long is value tells = record {
+pub join_moves : (image : ImageValue) (moved : Bool) (t s new : State) → HasWords s → length s.cells ≡ length t.cells → new ≡ join t s → TellsChange moved t new → MovesState image moved (Some t) (Some new)
+join_moves image moved t s new words long joined tells = record {
   stays = λ same. ap Some (tells.stays same);
   falls = λ differs. falls (tells.moves differs) (state_sinks t s words long);
 }
   where
-    joined : new ≡ join t s
-    joined = meets_to t s new (sym (ap (λ r. answered r new) is) ∙ value)
-
     falls : new ≢ t → Sinks state_height t (join t s) → height image (Some new) < height image (Some t)
     falls differs (inl same) = absurd (differs (joined ∙ same))
     falls differs (inr less) = rw joined less
+
+pub joined_moves : (image : ImageValue) (moved : Bool) (t s new : State) (answer : Result Bool StateCode) → HasWords s → length s.cells ≡ length t.cells → answer ≡ Ok moved → answered answer new ≡ meeting t s → TellsChange moved t new → MovesState image moved (Some t) (Some new)
+joined_moves image moved t s new answer words long is value = join_moves image moved t s new words long (meets_to t s new (sym (ap (λ r. answered r new) is) ∙ value))
 
 -- and the first one
 pub first_moves : (image : ImageValue) (s : State) → HasWords s → length s.cells ≡ image.workspace → MovesState image true None (Some s)

@@ -17,9 +17,11 @@ mod CarriedPasses
 mod Staying
 pub mod Respected
 mod Settling
+mod Again
 mod Stepping
 mod Turning
 mod Ways
+mod Two
 mod Verdict
 mod Counting
 mod Keeping

@@ -1,5 +1,5 @@
 -- An instruction's turn in a pass.
-use Rattle.std.proofs.Common.{◌≡◌, ◌≢◌, ℕ, suc, ◌+◌, ◌<◌, ◌⊎◌, inl, inr, ◌==◌, ◌&&◌, if◌then◌else◌, Bool, true, false, List, [], ◌∷◌, length, slice_index_or, Option, Some, None, Result, Ok, Err, refl, sym, ap, ◌∙◌, subst, rules, arith, length-set, get_or-set_other, drop, get_or}
+use Rattle.std.proofs.Common.{◌≡◌, ◌≢◌, ℕ, suc, ◌+◌, ◌<◌, ◌⊎◌, inl, inr, ◌==◌, ◌&&◌, if◌then◌else◌, Bool, true, false, List, [], ◌∷◌, length, slice_index_or, Option, Some, None, Result, Ok, Err, refl, sym, ap, ◌∙◌, subst, rules, arith, length-set, get_or-set_same, get_or-set_other, drop, get_or}
 use Rattle.std.specs.Prelude.{IfSome}
 use Rattle.std.proofs.lemmas.Bool.{cases_eq}
 use Rattle.std.proofs.lemmas.Option.{same_Some}
@@ -12,15 +12,17 @@ use Rattle.tp_state.specs.declared.state.State.{State}
 use Rattle.tp_state.specs.declared.fault.StateFault.{StateFault}
 use Rattle.tp_state.specs.Answer.{◌>>=◌}
 use Rattle.tp_state.specs.Conditions.{IsPlaced}
+use Rattle.tp_state.specs.Order.{IsBelow}
+use Rattle.tp_state.proofs.StateOrder.{is_below-self}
 use Rattle.tp_check.specs.declared.passes.Passes.{Passes}
 use Rattle.tp_check.specs.Tables.{Table, table_of, asked}
 use Rattle.tp_check.specs.Passes.{from, edges_of}
 use Rattle.tp_check.specs.Carried.{target_of, over, go_over}
-use Rattle.tp_check.specs.UnderWay.{is_in, AreJoins, Settles, IsTaken, TakenAt, marks, flags, IsUnderWay, IsBefore, IsReady, IsAmidst, AreAmidst, StandsIn, Carries, IsStarted}
+use Rattle.tp_check.specs.UnderWay.{is_in, AreJoins, Settles, IsTaken, TakenAt, WasTaken, WasTakenAt, marks, flags, HasCome, IsBegun, IsUnderWay, IsBefore, IsReady, IsAmidst, AreAmidst, StandsIn, Carries, IsStarted}
 use Rattle.tp_check.proofs.Entering.{enters_below, same_there}
 use Rattle.tp_check.proofs.Moving.{next_way}
 use Rattle.tp_check.proofs.Settling.{over_none, over_nowhere, over_joined, over_alone}
-use Rattle.tp_check.proofs.Stepping.{same_marks, not_both}
+use Rattle.tp_check.proofs.Stepping.{not_both, and_false}
 
 -- ---- edges after edges
 
@@ -44,26 +46,34 @@ no_flag joins p at x other is = by_join (joins x) refl
     by_join true e = ap (λ c. if c then is_in p.changed.items x else (x == at) && p.is_carried) e ∙ sym (ap (λ c. if c then is_in p.changed.items x else false) e) ∙ is
     by_join false e = ap (λ c. if c then is_in p.changed.items x else (x == at) && p.is_carried) e ∙ not_both x at p.is_carried other
 
-and_false : (b c : Bool) → c ≡ false → (b && c) ≡ false
-and_false true c e = e
-and_false false c e = refl
-
-module _ (image : ImageValue) (cuts : List Cut) (joins : ℕ → Bool) (old mid : Passes) (at : ℕ) (whole : Table) (before : IsBefore image cuts joins old at whole) where
+module _ (image : ImageValue) (cuts : List Cut) (joins : ℕ → Bool) (old mid : Passes) (at : ℕ) (whole : Table) (before : IsBefore image cuts joins old at whole) (inside : at < length old.slots) where
   ready_joined : joins at ≡ true → IsStarted at old mid → IsReady image cuts joins mid at whole
   ready_joined is st = record {
     way = record {
       flags = ap length st.changed ∙ length-set old.changed.items at false ∙ before.way.flags ∙ ap length (sym st.slots);
+      takes = long mid.is_carried refl ∙ before.way.takes ∙ ap length (sym st.slots);
       carried = by_flag mid.is_carried refl;
-      ahead = rw st.ahead before.way.ahead;
-      outcome = rw st.outcome before.way.outcome;
+      spare = rw st.spare before.way.spare;
       slots = λ x sure. before.way.slots x sure ∙ ap (λ states. table_of states x) (sym st.slots);
       grown = before.way.grown;
+      sound = before.way.sound;
     };
     here = here;
     others = λ x cut other stands k d lt mark. before.taken x cut stands k d lt (by_join x other (joins x) refl mark);
     own = λ rests cut stands k d lt s stood. at_own (st.no rests).1 cut stands k d lt s stood;
+    quiet = λ _ on. ap (λ items. is_in items at) st.changed ∙ get_or-set_same old.changed.items at false false (omega (arith, inside, before.way.flags));
+    again = λ on sure cut stands. before.early at cut is (sym (st.again on) ∙ sure) stands;
+    early = λ x cut allows joined on stands. before.early x cut joined (was_taken x allows mid.is_carried refl ∙ on) stands;
   }
     where
+      long : (b : Bool) → mid.is_carried ≡ b → length mid.taken.items ≡ length old.taken.items
+      long true e = ap length (st.takes e) ∙ length-set old.taken.items at true
+      long false e = ap length (st.rests e)
+
+      was_taken : (x : ℕ) → (x ≡ at → mid.is_carried ≡ false) → (b : Bool) → mid.is_carried ≡ b → is_in old.taken.items x ≡ is_in mid.taken.items x
+      was_taken x allows true e = sym (ap (λ items. is_in items x) (st.takes e) ∙ get_or-set_other old.taken.items at x true false (λ same. absurd (let no : true ≡ false = sym e ∙ allows same in cc)))
+      was_taken x allows false e = sym (ap (λ items. is_in items x) (st.rests e))
+
       here : mid.is_carried ≡ true → whole at ≡ Some mid.carried
       here on = before.way.slots at is ∙ st.yes on
 
@@ -85,9 +95,12 @@ module _ (image : ImageValue) (cuts : List Cut) (joins : ℕ → Bool) (old mid 
   ready_alone : joins at ≡ false → IsReady image cuts joins old at whole
   ready_alone alone = record {
     way = before.way;
-    here = λ sure. (before.here sure).1;
+    here = λ sure. (before.here sure).alone alone;
     others = λ x cut other stands k d lt mark. before.taken x cut stands k d lt (no_flag joins old at x other mark);
     own = λ rests cut stands k d lt. before.taken at cut stands k d lt (ap (λ c. if c then is_in old.changed.items at else (at == at) && old.is_carried) alone ∙ and_false (at == at) old.is_carried rests);
+    quiet = λ is. absurd (let no : true ≡ false = sym is ∙ alone in cc);
+    again = before.again alone;
+    early = λ x cut allows. before.early x cut;
   }
 
   pub ready : (joins at ≡ true → IsStarted at old mid) → (joins at ≡ false → mid ≡ old) → IsReady image cuts joins mid at whole
@@ -96,6 +109,12 @@ module _ (image : ImageValue) (cuts : List Cut) (joins : ℕ → Bool) (old mid 
       by_join : (b : Bool) → joins at ≡ b → IsReady image cuts joins mid at whole
       by_join true e = ready_joined e (started e)
       by_join false e = subst (λ p. IsReady image cuts joins p at whole) (sym (other e)) (ready_alone e)
+
+-- a state that is carried to where edges join is below the one that is kept there
+pub rises_to : (image : ImageValue) (cuts : List Cut) (joins : ℕ → Bool) (p : Passes) (at : ℕ) (whole : Table) → IsBefore image cuts joins p at whole → joins at ≡ true → p.is_carried ≡ true → IfSome (table_of p.slots at) (IsBelow p.carried)
+rises_to image cuts joins p at whole before is on =
+    let above = (before.here on).joined is in
+    subst (λ o. IfSome o (IsBelow p.carried)) (sym above.there ∙ before.way.slots at is) above.below
 
 -- what a state that is kept and the one that is carried have as many words of
 pub as_long : (image : ImageValue) (joins : ℕ → Bool) (p : Passes) (whole : Table) → IsUnderWay image joins p whole → (at : ℕ) → joins at ≡ true → IfSome (table_of p.slots at) (λ s. length s.cells ≡ length p.carried.cells)
@@ -145,6 +164,8 @@ module _ (image : ImageValue) (cuts : List Cut) (joins : ℕ → Bool) (mid : Pa
       way = now.way;
       here = λ sure. absurd (let no : false ≡ true = sym rests ∙ sure in cc);
       taken = λ x cut there. at_place x cut there (cases_eq x place.at);
+      again = λ _ sure. absurd (let no : false ≡ true = sym rests ∙ sure in cc);
+      early = λ x cut. now.early x cut (λ _. rests);
     },
   )
     where
@@ -161,60 +182,78 @@ module _ (image : ImageValue) (cuts : List Cut) (joins : ℕ → Bool) (mid : Pa
 
   -- ---- a state is carried
 
-  pub begun : (new : Passes) → new.slots ≡ mid.slots → new.changed.items ≡ mid.changed.items → new.carried ≡ mid.carried → new.ahead ≡ mid.ahead → new.outcome ≡ mid.outcome → new.is_carried ≡ false → mid.is_carried ≡ true → IsAmidst image cuts joins new place 0 whole
-  begun new slots changed carried ahead outcome rests on = record {
+  pub begun : (new : Passes) → new.slots ≡ mid.slots → new.changed.items ≡ mid.changed.items → new.carried ≡ mid.carried → new.spare ≡ mid.spare → new.taken.items ≡ mid.taken.items → new.is_again ≡ mid.is_again → new.is_carried ≡ false → mid.is_carried ≡ true → IsAmidst image cuts joins new place 0 whole
+  begun new slots changed carried spare takes is_again rests on = record {
     way = record {
       flags = ap length changed ∙ now.way.flags ∙ ap length (sym slots);
+      takes = ap length takes ∙ now.way.takes ∙ ap length (sym slots);
       carried = rw carried now.way.carried;
-      ahead = rw ahead now.way.ahead;
-      outcome = rw outcome now.way.outcome;
+      spare = rw spare now.way.spare;
       slots = λ x is. now.way.slots x is ∙ ap (λ states. table_of states x) (sym slots);
       grown = now.way.grown;
+      sound = now.way.sound;
     };
-    here = λ _. now.here on ∙ ap Some (sym carried);
-    next = λ sure. absurd (let no : false ≡ true = sym rests ∙ sure in cc);
     others = λ x cut other there k d lt m. now.others x cut other there k d lt (quiet x (joins x) refl m);
     own = λ k d lt. absurd (omega (arith, lt));
+    stands = (mid.carried, now.here on);
+    quiet = λ is. ap (λ items. is_in items place.at) changed ∙ now.quiet is on;
+    again = λ sure. own_again (sym is_again ∙ sure);
+    ahead = λ _ sure. absurd (let no : false ≡ true = sym rests ∙ sure in cc);
+    early = λ x cut other is sure. now.early x cut (λ same. absurd (other same)) is (sym (ap (λ items. is_in items x) takes) ∙ sure);
   }
     where
+      own_again : mid.is_again ≡ true → WasTaken image joins whole place.at place.next place.instr 0
+      own_again sure = rw (stands.next, stands.instr) (now.again on sure stands.cut stands.there)
+
       quiet : (x : ℕ) (b : Bool) → joins x ≡ b → marks joins new place.next x ≡ false → flags joins mid x ≡ false
       quiet x true e m = ap (λ c. if c then is_in mid.changed.items x else false) e ∙ sym (ap (λ items. is_in items x) changed) ∙ sym (ap (λ c. if c then is_in new.changed.items x else (x == place.next) && new.is_carried) e) ∙ m
       quiet x false e m = ap (λ c. if c then is_in mid.changed.items x else false) e
 
-  abbrev pub begins : (new : Passes) → new.slots ≡ mid.slots → new.changed.items ≡ mid.changed.items → new.carried ≡ mid.carried → new.ahead ≡ mid.ahead → new.outcome ≡ mid.outcome → new.is_carried ≡ false → mid.is_carried ≡ true → AreJoins image cuts joins → AreAmidst image joins new place 0
-  begins new slots changed carried ahead outcome rests on join = record { cuts = cuts; number = stands.number; stands = stands.is; join = join; whole = whole; amidst = begun new slots changed carried ahead outcome rests on }
+  abbrev pub begins : (new : Passes) → new.slots ≡ mid.slots → new.changed.items ≡ mid.changed.items → new.carried ≡ mid.carried → new.spare ≡ mid.spare → new.taken.items ≡ mid.taken.items → new.is_again ≡ mid.is_again → new.is_carried ≡ false → mid.is_carried ≡ true → AreJoins image cuts joins → IsBegun image joins new place
+  begins new slots changed carried spare takes is_again rests on join = record {
+    amid = record { cuts = cuts; number = stands.number; stands = stands.is; join = join; whole = whole; amidst = begun new slots changed carried spare takes is_again rests on };
+    here = now.here on ∙ ap Some (sym carried);
+    rests = rests;
+  }
 
 -- ---- the turn ends
 
 in_place : (P : ℕ → Instr → Type 0) (next other : ℕ) (instr also : Instr) → next ≡ other → instr ≡ also → P next instr → P other also
 in_place P next other instr also same too holds = subst (P other) too (subst (λ n. P n instr) same holds)
 
-pub turned : (image : ImageValue) (cuts : List Cut) (joins : ℕ → Bool) (last new : Passes) (place : Placed) (stands : StandsIn cuts place) (whole : Table) → IsAmidst image cuts joins last place (length (asked place.instr)) whole
-    → new.slots ≡ last.slots → new.changed.items ≡ last.changed.items → new.carried ≡ last.ahead → new.ahead ≡ last.carried → new.outcome ≡ last.outcome → new.is_carried ≡ last.is_carried → IsBefore image cuts joins new place.next whole
-turned image cuts joins last new place stands whole now slots changed carried ahead outcome is_carried = record {
-  way = record {
-    flags = ap length changed ∙ now.way.flags ∙ ap length (sym slots);
-    carried = rw carried now.way.ahead;
-    ahead = rw ahead now.way.carried;
-    outcome = rw outcome now.way.outcome;
-    slots = λ x is. now.way.slots x is ∙ ap (λ states. table_of states x) (sym slots);
-    grown = now.way.grown;
-  };
-  here = λ sure. let on = now.next (sym is_carried ∙ sure) in (on.0, on.1 ∙ ap Some (sym carried));
+pub turned : (image : ImageValue) (cuts : List Cut) (joins : ℕ → Bool) (last : Passes) (place : Placed) (stands : StandsIn cuts place) (whole : Table) → IsAmidst image cuts joins last place (length (asked place.instr)) whole
+    → (last.is_carried ≡ true → HasCome joins whole place.next last.carried) → IsBefore image cuts joins last place.next whole
+turned image cuts joins last place stands whole now comes = record {
+  way = now.way;
+  here = comes;
   taken = λ x cut there. at_place x cut there (cases_eq x place.at);
+  again = now.ahead;
+  early = λ x cut is on there. early_at x cut is on there (cases_eq x place.at);
 }
   where
-    earlier : (x : ℕ) → marks joins new place.next x ≡ false → marks joins last place.next x ≡ false
-    earlier x m = sym (same_marks joins last new place.next x changed is_carried) ∙ m
+    own_early : joins place.at ≡ true → WasTaken image joins whole place.at place.next place.instr 0
+    own_early is = record {
+      before = now.stands.0;
+      sound = now.way.sound place.at now.stands.0 now.stands.1;
+      above = record { state = now.stands.0; there = now.stands.1; below = is_below-self now.stands.0 };
+      each = λ k d le lt. now.own k d lt (ap (λ c. if c then is_in last.changed.items place.at else (place.at == place.next) && last.is_carried) is ∙ now.quiet is) now.stands.0 now.stands.1;
+    }
 
-    now_own : (k : ℕ) (d : Edge) → k < length (asked place.instr) → IsTaken image joins (marks joins new place.next) whole place.at place.next place.instr (slice_index_or (asked place.instr) k d)
-    now_own k d lt m = now.own k d lt (earlier place.at m)
+    early_at : (x : ℕ) (cut : Cut) → joins x ≡ true → is_in last.taken.items x ≡ true → cut_at cuts x ≡ Some cut → (x ≡ place.at) ⊎ (x ≡ place.at → ⊥) → WasTakenAt image joins whole x cut
+    early_at x cut is on there (inl same) =
+        subst (λ y. WasTakenAt image joins whole y cut) (sym same)
+        (subst (λ c. WasTakenAt image joins whole place.at c) (same_Some stands.cut cut (sym stands.there ∙ sym (ap (cut_at cuts) same) ∙ there))
+        (in_place (λ next instr. WasTaken image joins whole place.at next instr 0) place.next (place.at + length stands.cut.bytes) place.instr stands.cut.instr stands.next stands.instr (own_early (sym (ap joins same) ∙ is))))
+    early_at x cut is on there (inr other) = now.early x cut other is on there
 
-    own : (cut : Cut) → cut_at cuts place.at ≡ Some cut → TakenAt image joins (marks joins new place.next) whole place.at cut
+    now_own : (k : ℕ) (d : Edge) → k < length (asked place.instr) → IsTaken image joins (marks joins last place.next) whole place.at place.next place.instr (slice_index_or (asked place.instr) k d)
+    now_own k d lt m = now.own k d lt m
+
+    own : (cut : Cut) → cut_at cuts place.at ≡ Some cut → TakenAt image joins (marks joins last place.next) whole place.at cut
     own cut there =
-        subst (λ c. TakenAt image joins (marks joins new place.next) whole place.at c) (same_Some stands.cut cut (sym stands.there ∙ there))
-        (in_place (λ next instr. (k : ℕ) (d : Edge) → k < length (asked instr) → IsTaken image joins (marks joins new place.next) whole place.at next instr (slice_index_or (asked instr) k d)) place.next (place.at + length stands.cut.bytes) place.instr stands.cut.instr stands.next stands.instr now_own)
+        subst (λ c. TakenAt image joins (marks joins last place.next) whole place.at c) (same_Some stands.cut cut (sym stands.there ∙ there))
+        (in_place (λ next instr. (k : ℕ) (d : Edge) → k < length (asked instr) → IsTaken image joins (marks joins last place.next) whole place.at next instr (slice_index_or (asked instr) k d)) place.next (place.at + length stands.cut.bytes) place.instr stands.cut.instr stands.next stands.instr now_own)
 
-    at_place : (x : ℕ) (cut : Cut) → cut_at cuts x ≡ Some cut → (x ≡ place.at) ⊎ (x ≡ place.at → ⊥) → TakenAt image joins (marks joins new place.next) whole x cut
-    at_place x cut there (inl same) = subst (λ y. TakenAt image joins (marks joins new place.next) whole y cut) (sym same) (own cut (sym (ap (cut_at cuts) same) ∙ there))
-    at_place x cut there (inr other) = λ k d lt m. now.others x cut other there k d lt (earlier x m)
+    at_place : (x : ℕ) (cut : Cut) → cut_at cuts x ≡ Some cut → (x ≡ place.at) ⊎ (x ≡ place.at → ⊥) → TakenAt image joins (marks joins last place.next) whole x cut
+    at_place x cut there (inl same) = subst (λ y. TakenAt image joins (marks joins last place.next) whole y cut) (sym same) (own cut (sym (ap (cut_at cuts) same) ∙ there))
+    at_place x cut there (inr other) = λ k d lt m. now.others x cut other there k d lt m

@@ -22,6 +22,7 @@ use Rattle.tp_state.specs.declared.fault.StateFault.TheVariants.{Refused, Memory
 use Rattle.tp_state.specs.Answer.{◌>>=◌}
 use Rattle.tp_state.specs.Conditions.{IsPlaced}
 use Rattle.tp_state.specs.Entry.{entry}
+use Rattle.tp_state.specs.Sound.{IsSound}
 use Rattle.tp_check.specs.declared.passes.Passes.{Passes}
 use Rattle.tp_check.specs.Tables.{Table, table_of}
 use Rattle.tp_check.specs.Passes.{edges_of, edges_in, first_table, pass, passes, IsVerdict, IsRefusalOf}
@@ -121,22 +122,25 @@ module _ (image : ImageValue) (cuts : List Cut) (joins : ℕ → Bool) where
           passed j q lt there (inr other) = let less = on.past j q (omega (arith, lt, other)) there in let here = on.next p is in omega (arith, longer, less, here)
 
   -- after all of them
-  pub come_all : (first now new : Passes) (i : ℕ) (begun : Table) → length cuts ≤ i → Comes first now i begun → new.slots ≡ now.slots → new.changed.items ≡ now.changed.items → new.carried ≡ now.carried → new.ahead ≡ now.ahead → new.outcome ≡ now.outcome → new.is_carried ≡ false → (moved : Bool)
+  pub come_all : (first now new : Passes) (i : ℕ) (begun : Table) → length cuts ≤ i → Comes first now i begun → new.slots ≡ now.slots → new.changed.items ≡ now.changed.items → new.carried ≡ now.carried → new.spare ≡ now.spare → new.taken.items ≡ now.taken.items → new.is_carried ≡ false → (moved : Bool)
       → Carries (Ok moved) (over image joins (edges_in cuts) begun) (IsBefore image cuts joins new 0)
-  come_all first now new i begun end on slots changed carried ahead outcome rests moved = (
+  come_all first now new i begun end on slots changed carried spare takes rests moved = (
     on.whole,
     on.gives ∙ ap (λ ps. over image joins (flat_map edges_of ps) on.whole) none,
     record {
       way = record {
         flags = ap length changed ∙ on.before.way.flags ∙ ap length (sym slots);
+        takes = ap length takes ∙ on.before.way.takes ∙ ap length (sym slots);
         carried = rw carried on.before.way.carried;
-        ahead = rw ahead on.before.way.ahead;
-        outcome = rw outcome on.before.way.outcome;
+        spare = rw spare on.before.way.spare;
         slots = λ x is. on.before.way.slots x is ∙ ap (λ states. table_of states x) (sym slots);
         grown = on.before.way.grown;
+        sound = on.before.way.sound;
       };
       here = λ sure. absurd (let no : false ≡ true = sym rests ∙ sure in cc);
       taken = λ x cut there k d lt mark. on.before.taken x cut there k d lt (earlier x cut there (joins x) refl mark);
+      again = λ _ sure. absurd (let no : false ≡ true = sym rests ∙ sure in cc);
+      early = λ x cut is sure there. on.before.early x cut is (sym (ap (λ items. is_in items x) takes) ∙ sure) there;
     },
   )
     where
@@ -184,8 +188,8 @@ module _ (image : ImageValue) (cuts : List Cut) (range : InRange image) (spelled
 
   -- before the first pass
   pub none_made : (p : Passes) (places : ℕ) → HasPlaces cuts places → places ≤ 2 ^ 32 → length p.slots ≡ places → length p.changed.items ≡ places → table_of p.slots ≡ first_table image
-      → ((at : ℕ) → at < places → is_in p.changed.items at ≡ true) → p.is_carried ≡ false → IsPlaced image p.carried → IsPlaced image p.ahead → IsPlaced image p.outcome → IsBetween image cuts joins p true
-  none_made p places inside few sized flags table marked rests carried ahead outcome = record {
+      → ((at : ℕ) → at < places → is_in p.changed.items at ≡ true) → length p.taken.items ≡ places → ((at : ℕ) → at < places → is_in p.taken.items at ≡ false) → p.is_carried ≡ false → IsPlaced image p.carried → IsPlaced image p.spare → IsBetween image cuts joins p true
+  none_made p places inside few sized flags table marked takes fresh rests carried spare = record {
     places = λ at starts. rw sized (inside at starts);
     few = rw sized few;
     rests = rests;
@@ -193,20 +197,29 @@ module _ (image : ImageValue) (cuts : List Cut) (range : InRange image) (spelled
     before = record {
       way = record {
         flags = flags ∙ sym sized;
+        takes = takes ∙ sym sized;
         carried = carried;
-        ahead = ahead;
-        outcome = outcome;
+        spare = spare;
         slots = λ x is. sym (ap (λ (t : Table). t x) table);
         grown = first_grown image (first_table image) kept.begins (entry_sound image range).placed refl;
+        sound = λ x s stood. sound_first x s stood (cases_eq x 0);
       };
       here = λ sure. absurd (let no : false ≡ true = sym rests ∙ sure in cc);
       taken = λ x cut there k d lt mark s stood. absurd (never x cut there s stood mark (cases_eq x 0));
+      again = λ _ sure. absurd (let no : false ≡ true = sym rests ∙ sure in cc);
+      early = λ x cut is on there. absurd (let no : false ≡ true = sym (fresh x (inside x (ap is_some there))) ∙ on in cc);
     };
     number = 0;
     comes = refl;
     stays = λ e. absurd cc;
   }
     where
+      sound_first : (x : ℕ) (s : State) → first_table image x ≡ Some s → (x ≡ 0) ⊎ (x ≡ 0 → ⊥) → IsSound image s
+      sound_first x s stood (inl same) = subst (IsSound image) (same_Some _ _ (sym (ap (first_table image) same) ∙ stood)) (entry_sound image range)
+      sound_first x s stood (inr other) =
+          let no : (x == 0) ≡ false = grind (arith, nat_tests) in
+          absurd (let none : None ≡ Some s = sym (ap (λ b. if b then Some (entry image) else None) no) ∙ stood in cc)
+
       never : (x : ℕ) (cut : Cut) → cut_at cuts x ≡ Some cut → (s : State) → first_table image x ≡ Some s → marks joins p 0 x ≡ false → (x ≡ 0) ⊎ (x ≡ 0 → ⊥) → ⊥
       never x cut there s stood mark (inl same) =
           let is : joins x ≡ true = ap joins same ∙ zero_joins in

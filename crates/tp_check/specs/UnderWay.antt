@@ -1,15 +1,19 @@
 -- What holds while the passes are made.
-use Rattle.std.specs.Prelude.{◌≡◌, ◌≢◌, ℕ, ◌+◌, ◌*◌, ◌-◌, ◌^◌, ◌<◌, ◌==◌, ◌&&◌, Bool, true, false, if◌then◌else◌, ℤ, pos, negsuc, ◌+ℤ◌, ◌-ℤ◌, List, length, sum_by, slice_get, slice_index_or, slice_set, All, ◌⊎◌, Option, Some, None, Result, Ok, Err, IsTrue}
+use Rattle.std.specs.Prelude.{◌≡◌, ◌≢◌, ℕ, ◌+◌, ◌*◌, ◌-◌, ◌^◌, ◌<◌, ◌≤◌, ◌==◌, ◌&&◌, Bool, true, false, if◌then◌else◌, ℤ, pos, negsuc, ◌+ℤ◌, ◌-ℤ◌, List, length, sum_by, slice_get, slice_index_or, slice_set, All, ◌⊎◌, Option, Some, None, Result, Ok, Err, IsTrue}
+use Rattle.std.specs.Option.{option_and_then}
 use Rattle.tp_decode.specs.declared.instr.Instr.{Instr}
+use Rattle.tp_decode.specs.declared.instr.Instr.TheVariants.{Cj}
 use Rattle.tp_decode.specs.declared.placed.Placed.{Placed}
 use Rattle.tp_decode.specs.Cutting.{Cut, cut_at, placed_from}
 use Rattle.tp_flow.specs.declared.edge.Edge.{Edge}
+use Rattle.tp_flow.specs.declared.edge.Edge.TheVariants.{Next, Taken}
+use Rattle.tp_flow.specs.declared.range.LoopRange.{LoopRange}
 use Rattle.tp_flow.specs.NestRanges.{ranges}
-use Rattle.tp_flow.specs.LoopsAround.{is_around}
+use Rattle.tp_flow.specs.LoopsAround.{is_around, entered_by}
 use Rattle.tp_flow.specs.AroundKept.{KeepsAround}
 use Rattle.tp_flow.specs.Edges.{target}
 use Rattle.tp_flow.specs.RowRules.{is_start}
-use Rattle.tp_image.specs.Image.{ImageValue}
+use Rattle.tp_image.specs.Image.{ImageValue, InRange}
 use Rattle.tp_state.specs.declared.kind.Kind.{Kind}
 use Rattle.tp_state.specs.declared.kind.Kind.TheVariants as kind
 use Rattle.tp_state.specs.declared.cell.Cell.{Cell}
@@ -19,6 +23,8 @@ use Rattle.tp_state.specs.declared.fault.StateFault.{StateFault}
 use Rattle.tp_state.specs.declared.fault.StateFault.TheVariants.{Refused, Memory}
 use Rattle.tp_state.specs.Conditions.{IsPlaced}
 use Rattle.tp_state.specs.Entry.{entry}
+use Rattle.tp_state.specs.Order.{IsBelow}
+use Rattle.tp_state.specs.Sound.{IsSound, LoadsWord}
 use Rattle.tp_state.specs.Live.{LiveWordsAre}
 use Rattle.tp_state.specs.After.{after}
 use Rattle.tp_check.specs.declared.passes.Passes.{Passes}
@@ -78,6 +84,25 @@ abbrev pub TakenAt : ImageValue → (ℕ → Bool) → (ℕ → Bool) → Table 
 TakenAt image joins marks table at cut =
     All (IsTaken image joins marks table at (at + length cut.bytes) cut.instr) (asked cut.instr)
 
+-- From one of its edges on, an instruction's edges were taken before from a state below the one that stands at its address
+-- now, and they have settled.
+pub record WasTaken (image : ImageValue) (joins : ℕ → Bool) (table : Table) (at next : ℕ) (instr : Instr) (done : ℕ) : Type 0 where
+  pub before : State
+  pub sound : IsSound image before
+  pub above : HasAbove table at before
+  pub each : (k : ℕ) (d : Edge) → done ≤ k → k < length (asked instr) → Settles image joins table at next instr before (slice_index_or (asked instr) k d)
+
+abbrev pub WasTakenAt : ImageValue → (ℕ → Bool) → Table → ℕ → Cut → Type 0
+WasTakenAt image joins table at cut = WasTaken image joins table at (at + length cut.bytes) cut.instr 0
+
+-- something came to an address before that is below what comes now
+pub record CameBefore (there : Option State) (s : State) : Type 0 where
+  pub before : State
+  pub state : State
+  pub is : there ≡ Some state
+  pub rose : IsBelow before state
+  pub below : IsBelow before s
+
 -- what is marked: where edges join, what has changed since its edges were last taken; and the address to which a state is
 -- carried
 abbrev pub marks : (ℕ → Bool) → Passes → ℕ → (ℕ → Bool)
@@ -88,17 +113,25 @@ marks joins p ahead at = if joins at then is_in p.changed.items at else (at == a
 -- Where edges join the passes keep the states of a whole table.
 pub record IsUnderWay (image : ImageValue) (joins : ℕ → Bool) (p : Passes) (whole : Table) : Type 0 where
   pub flags : length p.changed.items ≡ length p.slots
+  pub takes : length p.taken.items ≡ length p.slots
   pub carried : IsPlaced image p.carried
-  pub ahead : IsPlaced image p.ahead
-  pub outcome : IsPlaced image p.outcome
+  pub spare : IsPlaced image p.spare
   pub slots : (at : ℕ) → joins at ≡ true → whole at ≡ table_of p.slots at
   pub grown : HasGrown image whole
+  pub sound : (at : ℕ) (s : State) → whole at ≡ Some s → IsSound image s
+
+-- A state that came to an address is below the one that stands there; where it alone leads there, it is that one.
+pub record HasCome (joins : ℕ → Bool) (table : Table) (to : ℕ) (s : State) : Type 0 where
+  pub joined : joins to ≡ true → HasAbove table to s
+  pub alone : joins to ≡ false → table to ≡ Some s
 
 -- before the instruction at an address
 pub record IsBefore (image : ImageValue) (cuts : List Cut) (joins : ℕ → Bool) (p : Passes) (at : ℕ) (whole : Table) : Type 0 where
   pub way : IsUnderWay image joins p whole
-  pub here : p.is_carried ≡ true → (joins at ≡ false) × (whole at ≡ Some p.carried)
+  pub here : p.is_carried ≡ true → HasCome joins whole at p.carried
   pub taken : (x : ℕ) (cut : Cut) → cut_at cuts x ≡ Some cut → TakenAt image joins (marks joins p at) whole x cut
+  pub again : joins at ≡ false → p.is_carried ≡ true → p.is_again ≡ true → (cut : Cut) → cut_at cuts at ≡ Some cut → WasTakenAt image joins whole at cut
+  pub early : (x : ℕ) (cut : Cut) → joins x ≡ true → is_in p.taken.items x ≡ true → cut_at cuts x ≡ Some cut → WasTakenAt image joins whole x cut
 
 -- where edges join, marks alone
 abbrev pub flags : (ℕ → Bool) → Passes → (ℕ → Bool)
@@ -110,15 +143,21 @@ pub record IsReady (image : ImageValue) (cuts : List Cut) (joins : ℕ → Bool)
   pub here : p.is_carried ≡ true → whole at ≡ Some p.carried
   pub others : (x : ℕ) (cut : Cut) → x ≢ at → cut_at cuts x ≡ Some cut → TakenAt image joins (flags joins p) whole x cut
   pub own : p.is_carried ≡ false → (cut : Cut) → cut_at cuts at ≡ Some cut → (k : ℕ) (d : Edge) → k < length (asked cut.instr) → (s : State) → whole at ≡ Some s → Settles image joins whole at (at + length cut.bytes) cut.instr s (slice_index_or (asked cut.instr) k d)
+  pub quiet : joins at ≡ true → p.is_carried ≡ true → is_in p.changed.items at ≡ false
+  pub again : p.is_carried ≡ true → p.is_again ≡ true → (cut : Cut) → cut_at cuts at ≡ Some cut → WasTakenAt image joins whole at cut
+  pub early : (x : ℕ) (cut : Cut) → (x ≡ at → p.is_carried ≡ false) → joins x ≡ true → is_in p.taken.items x ≡ true → cut_at cuts x ≡ Some cut → WasTakenAt image joins whole x cut
 
 -- between two edges of an instruction, so many of which have been taken
 pub record IsAmidst (image : ImageValue) (cuts : List Cut) (joins : ℕ → Bool) (p : Passes) (place : Placed) (done : ℕ) (whole : Table) : Type 0 where
   pub way : IsUnderWay image joins p whole
-  -- the last edge takes the state that is carried away
-  pub here : done < length (asked place.instr) → whole place.at ≡ Some p.carried
-  pub next : p.is_carried ≡ true → (joins place.next ≡ false) × (whole place.next ≡ Some p.ahead)
   pub others : (x : ℕ) (cut : Cut) → x ≢ place.at → cut_at cuts x ≡ Some cut → TakenAt image joins (marks joins p place.next) whole x cut
   pub own : (k : ℕ) (d : Edge) → k < done → IsTaken image joins (marks joins p place.next) whole place.at place.next place.instr (slice_index_or (asked place.instr) k d)
+  pub stands : (s : State) × (whole place.at ≡ Some s)
+  pub quiet : joins place.at ≡ true → is_in p.changed.items place.at ≡ false
+  -- the edges that are left, and those of the next instruction, if a state is carried there
+  pub again : p.is_again ≡ true → WasTaken image joins whole place.at place.next place.instr done
+  pub ahead : joins place.next ≡ false → p.is_carried ≡ true → p.is_again ≡ true → (cut : Cut) → cut_at cuts place.next ≡ Some cut → WasTakenAt image joins whole place.next cut
+  pub early : (x : ℕ) (cut : Cut) → x ≢ place.at → joins x ≡ true → is_in p.taken.items x ≡ true → cut_at cuts x ≡ Some cut → WasTakenAt image joins whole x cut
 
 -- a step's answer is the definition's, or a want of memory; and of the table that it comes to, this holds
 abbrev pub Carries : {X : Type 0} → Result X StateFault → Result Table StateFault → (Table → Type 0) → Type 0
@@ -135,6 +174,16 @@ pub record StandsIn (cuts : List Cut) (place : Placed) : Type 0 where
   pub next : place.next ≡ place.at + length cut.bytes
   pub instr : place.instr ≡ cut.instr
 
+-- what is known after an instruction is sound where what was known before it is
+pub record KeepsSound (image : ImageValue) (place : Placed) : Type 0 where
+  pub range : InRange image
+  pub loads : LoadsWord place.instr
+
+-- an edge's number among those of an instruction
+pub record IsNumberOf (instr : Instr) (edge : Edge) (number : ℕ) : Type 0 where
+  pub inside : number < length (asked instr)
+  pub is : slice_index_or (asked instr) number edge ≡ edge
+
 -- an instruction of a code, with a whole table between two of its edges
 pub record AreAmidst (image : ImageValue) (joins : ℕ → Bool) (p : Passes) (place : Placed) (done : ℕ) : Type 0 where
   pub cuts : List Cut
@@ -143,6 +192,48 @@ pub record AreAmidst (image : ImageValue) (joins : ℕ → Bool) (p : Passes) (p
   pub join : AreJoins image cuts joins
   pub whole : Table
   pub amidst : IsAmidst image cuts joins p place done whole
+
+-- an instruction is about to be taken from the state that is carried
+pub record IsBegun (image : ImageValue) (joins : ℕ → Bool) (p : Passes) (place : Placed) : Type 0 where
+  pub amid : AreAmidst image joins p place 0
+  pub here : amid.whole place.at ≡ Some p.carried
+  pub rests : p.is_carried ≡ false
+
+-- an edge of it
+pub record IsOnEdge (image : ImageValue) (joins : ℕ → Bool) (p : Passes) (place : Placed) (edge : Edge) (done : ℕ) : Type 0 where
+  pub amid : AreAmidst image joins p place done
+  pub here : amid.whole place.at ≡ Some p.carried
+  pub number : IsNumberOf place.instr edge done
+
+-- An edge of an instruction was taken: what was carried has become what is known after it, which has come to its target, and
+-- elsewhere a state only rises, where edges join.
+pub record IsAfterEdge (image : ImageValue) (cuts : List Cut) (joins : ℕ → Bool) (old new : Passes) (place : Placed) (edge : Edge) (done : ℕ) (whole table : Table) : Type 0 where
+  pub amidst : IsAmidst image cuts joins new place (done + 1) table
+  pub gone : after image place.at place.next place.instr edge old.carried ≡ Ok new.carried
+  pub spare : new.spare ≡ old.spare
+  pub comes : (to : ℕ) → target_of image (place, edge) ≡ Some to → HasCome joins table to new.carried
+  pub here : table place.at ≡ whole place.at
+  pub rises : (x : ℕ) (s : State) → joins x ≡ true → HasAbove whole x s → HasAbove table x s
+  pub stays : (x : ℕ) → joins x ≡ false → target_of image (place, edge) ≢ Some x → table x ≡ whole x
+  pub goes : target_of image (place, edge) ≡ Some place.next → new.is_carried ≡ true
+  pub rests : target_of image (place, edge) ≢ Some place.next → new.is_carried ≡ old.is_carried
+
+-- what is carried is carried on, if it comes to the next instruction
+pub record IsLedOn (to there : ℕ) (old new : Passes) : Type 0 where
+  pub slots : new.slots ≡ old.slots
+  pub changed : new.changed.items ≡ old.changed.items
+  pub taken : new.taken.items ≡ old.taken.items
+  pub is_again : new.is_again ≡ old.is_again
+  pub carried : new.carried ≡ old.carried
+  pub spare : new.spare ≡ old.spare
+  pub next : to ≡ there → new.is_carried ≡ true
+  pub elsewhere : to ≢ there → new.is_carried ≡ old.is_carried
+
+-- both edges of an instruction leave words as they are: it is a cj, and neither enters a loop
+pub record LeavesWords (nest : List LoopRange) (place : Placed) : Type 0 where
+  pub is : (n : ℤ) × (place.instr ≡ Cj n)
+  pub next : option_and_then (entered_by nest place.at) (target nest place.at place.next place.instr Next) ≡ None
+  pub taken : option_and_then (entered_by nest place.at) (target nest place.at place.next place.instr Taken) ≡ None
 
 -- each instruction has its place
 abbrev pub HasPlaces : List Cut → ℕ → Type 0
@@ -213,14 +304,18 @@ marked moved to flags = if moved then slice_set flags to true else flags
 pub record SameButSlots (old new : Passes) : Type 0 where
   pub is_carried : new.is_carried ≡ old.is_carried
   pub carried : new.carried ≡ old.carried
-  pub ahead : new.ahead ≡ old.ahead
-  pub outcome : new.outcome ≡ old.outcome
+  pub spare : new.spare ≡ old.spare
+  pub is_again : new.is_again ≡ old.is_again
+  pub taken : new.taken.items ≡ old.taken.items
 
--- the state that is kept at an address is carried, if it was marked and there is one; it is not marked any more
+-- the state that is kept at an address is carried, if it was marked and there is one: its edges are taken, again where they
+-- were before; it is not marked any more
 pub record IsStarted (at : ℕ) (old new : Passes) : Type 0 where
   pub slots : new.slots ≡ old.slots
   pub changed : new.changed.items ≡ slice_set old.changed.items at false
-  pub ahead : new.ahead ≡ old.ahead
-  pub outcome : new.outcome ≡ old.outcome
+  pub spare : new.spare ≡ old.spare
   pub yes : new.is_carried ≡ true → table_of old.slots at ≡ Some new.carried
+  pub again : new.is_carried ≡ true → new.is_again ≡ is_in old.taken.items at
+  pub takes : new.is_carried ≡ true → new.taken.items ≡ slice_set old.taken.items at true
+  pub rests : new.is_carried ≡ false → new.taken.items ≡ old.taken.items
   pub no : new.is_carried ≡ false → (new.carried ≡ old.carried) × ((is_in old.changed.items at ≡ false) ⊎ (table_of old.slots at ≡ None))

@@ -4,6 +4,7 @@
 //! The laws are the contracts of the functions of [`laws`].
 #![tactic(auto)]
 
+mod aside;
 mod effort;
 pub mod laws;
 mod passes;

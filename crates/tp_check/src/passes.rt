@@ -1,7 +1,8 @@
 //! The passes: a table is made edge by edge until a pass changes nothing.
 
 ghost use Rattle.std.specs.Prelude.{◌≡◌, ◌≢◌, ◌<◌, ◌≤◌, ◌+◌, ◌^◌, ◌∷◌, [], ℕ, true, false, length, List, slice_index_or, Some, IfOk, IfErr, IfSome, OnOk};
-ghost use Rattle.tp_decode.specs.Cutting.{Cut};
+ghost use Rattle.std.specs.List.{AllByRecursion};
+ghost use Rattle.tp_decode.specs.Cutting.{Cut, IsSpelled};
 ghost use Rattle.tp_decode.specs.declared.instr.Instr.{Instr as AnInstr};
 ghost use Rattle.tp_flow.specs.declared.edge.Edge.{Edge as AnEdge};
 ghost use Rattle.tp_flow.specs.NestRanges.{ranges};
@@ -9,6 +10,7 @@ ghost use Rattle.tp_flow.specs.NestKept.{KeepsNest};
 ghost use Rattle.tp_flow.specs.RowRules.{is_start};
 ghost use Rattle.tp_image.specs.Image.{InRange};
 ghost use Rattle.tp_state.specs.Conditions.{IsPlaced};
+ghost use Rattle.tp_state.specs.Order.{IsBelow};
 ghost use Rattle.tp_state.specs.declared.fault.StateFault.TheVariants as fault;
 ghost use Rattle.tp_check.specs.Tables.{Table as WholeTable, table_of, asked};
 ghost use Rattle.tp_check.specs.EdgesRespect.{HasNoTable};
@@ -16,8 +18,9 @@ ghost use Rattle.tp_check.specs.Passes.{first_table, enter, edges_of, edges_in, 
 ghost use Rattle.tp_check.specs.Carried.{over, IsTableOf};
 ghost use Rattle.tp_check.specs.StatesThere.{AreStatesThere};
 ghost use Rattle.tp_check.specs.Joining.{joins_at, keeps_at};
-ghost use Rattle.tp_check.specs.UnderWay.{AreJoins, HasPlaces, MayBeTaken, StandsIn, IsBefore, IsAmidst, AreAmidst, Carries, Gives, Moves, marked, SameButSlots, IsStarted};
+ghost use Rattle.tp_check.specs.UnderWay.{AreJoins, HasPlaces, MayBeTaken, StandsIn, IsBefore, Carries, Gives, Moves, marked, SameButSlots, IsStarted, KeepsSound, CameBefore, IsBegun, IsOnEdge, IsAfterEdge, IsLedOn};
 
+use crate::aside::{Registers, leaves_words};
 use crate::effort::Effort;
 use crate::slots::Slots;
 use crate::table::Table;
@@ -88,14 +91,17 @@ struct Passes {
     slots: Slots,
     /// Whether the state where edges join has changed since the edges from there were last taken; at first, of each.
     changed: Vec<bool>,
-    /// Whether a state is carried to the instruction that comes next, in a state of its own.
+    /// Whether the edges from there were taken before.
+    taken: Vec<bool>,
+    /// Whether a state is carried to the instruction that comes next.
     is_carried: bool,
-    /// What is known before the instruction that is being taken.
+    /// Whether the edges of the instruction that is being taken were taken before; and so of the next one, to which its
+    /// state is carried.
+    is_again: bool,
+    /// What is known before the instruction that is being taken, and then after its edge.
     carried: State,
-    /// What is known before the next one.
-    ahead: State,
-    /// What is known after the edge that is being taken.
-    outcome: State,
+    /// Room for another, where an instruction has two edges.
+    spare: State,
     /// How many outcomes were worked out.
     outcomes: u64,
 }
@@ -108,10 +114,11 @@ impl Passes {
         ensures sized { IfOk result (λ p. length p.slots ≡ places) }
         ensures flags { IfOk result (λ p. length p.changed.items ≡ places) }
         ensures marked { IfOk result (λ p. (at : ℕ) → at < places → slice_index_or p.changed.items at false ≡ true) }
+        ensures takes { IfOk result (λ p. length p.taken.items ≡ places) }
+        ensures fresh { IfOk result (λ p. (at : ℕ) → at < places → slice_index_or p.taken.items at false ≡ false) }
         ensures rests { IfOk result (λ p. p.is_carried ≡ false) }
         ensures carried { IfOk result (λ p. IsPlaced image.now p.carried) }
-        ensures ahead { IfOk result (λ p. IsPlaced image.now p.ahead) }
-        ensures outcome { IfOk result (λ p. IsPlaced image.now p.outcome) }
+        ensures spare { IfOk result (λ p. IsPlaced image.now p.spare) }
         // This is known of every image.
         ensures in_range { InRange image.now }
     {
@@ -119,16 +126,17 @@ impl Passes {
         let _ = &image.code;
         let slots = Slots::first(alloc, image, places)?;
         let changed = vec![in alloc; true; places]?;
+        let taken = vec![in alloc; false; places]?;
         let carried = State::entry(alloc, image)?;
-        let ahead = State::entry(alloc, image)?;
-        let outcome = State::entry(alloc, image)?;
+        let spare = State::entry(alloc, image)?;
         Ok(Passes {
             slots,
             changed,
+            taken,
             is_carried: false,
+            is_again: false,
             carried,
-            ahead,
-            outcome,
+            spare,
             outcomes: 0,
         })
     }
@@ -142,7 +150,9 @@ impl Passes {
         nest: &Nest,
         ways: &Ways,
     ) -> Result<bool, StateFault>
+        requires range { InRange image.now }
         requires kept { KeepsNest image.now.loops image.now.workspace listing.now }
+        requires spelled { AllByRecursion IsSpelled listing.now }
         requires nest { nest.now ≡ ranges image.now.loops }
         requires join { AreJoins image.now listing.now (joins_at ways.now) }
         requires places { HasPlaces listing.now (length self.old.slots) }
@@ -177,6 +187,7 @@ impl Passes {
     ) -> Result<bool, StateFault>
         requires nest { nest.now ≡ ranges image.now.loops }
         requires place { MayBeTaken image.now (length self.old.slots) place }
+        requires sound { KeepsSound image.now place }
         requires way { (cuts : List Cut) × StandsIn cuts place × AreJoins image.now cuts (joins_at ways.now) ×
             (whole : WholeTable) × IsBefore image.now cuts (joins_at ways.now) self.old place.at whole }
         ensures gives { (cuts : List Cut) (whole : WholeTable) → StandsIn cuts place → AreJoins image.now cuts (joins_at ways.now) →
@@ -189,15 +200,16 @@ impl Passes {
             return Ok(false);
         }
         self.is_carried = false;
-        let moved = self.take_edges(alloc, image, nest, ways, place)?;
-        mem::swap(&mut self.carried, &mut self.ahead);
-        Ok(moved)
+        self.take_edges(alloc, image, nest, ways, place)
     }
 
-    /// Where edges join, the state that is kept is carried from here on, if it has changed since it last was.
+    /// Where edges join, the state that is kept is carried from here on, if it has changed since it last was. One that is
+    /// carried here is below it, and rises to it.
     fn start(&mut self, ways: &Ways, at: usize)
         requires inside { at < length self.old.changed.items }
+        requires takes { at < length self.old.taken.items }
         requires sized { joins_at ways.now at ≡ true → IfSome (table_of self.old.slots at) (λ s. length s.cells ≡ length self.old.carried.cells) }
+        requires below { joins_at ways.now at ≡ true → self.old.is_carried ≡ true → IfSome (table_of self.old.slots at) (IsBelow self.old.carried) }
         ensures started { joins_at ways.now at ≡ true → IsStarted at self.old self.new }
         ensures other { joins_at ways.now at ≡ false → self.new ≡ self.old }
         ensures slots { self.new.slots ≡ self.old.slots }
@@ -205,6 +217,7 @@ impl Passes {
         if !ways.joins(at) {
             return;
         }
+        let comes = self.is_carried;
         let is_marked = self.changed[at];
         self.changed[at] = false;
         self.is_carried = false;
@@ -212,8 +225,10 @@ impl Passes {
             return;
         }
         if let Some(state) = self.slots.at(at) {
-            self.carried.set_to(state);
+            rise(&mut self.carried, state, comes);
             self.is_carried = true;
+            self.is_again = self.taken[at];
+            self.taken[at] = true;
         }
     }
 
@@ -228,24 +243,80 @@ impl Passes {
     ) -> Result<bool, StateFault>
         requires nest { nest.now ≡ ranges image.now.loops }
         requires place { MayBeTaken image.now (length self.old.slots) place }
-        requires way { AreAmidst image.now (joins_at ways.now) self.old place 0 }
-        ensures gives { (way : AreAmidst image.now (joins_at ways.now) self.old place 0) →
-            Carries result (over image.now (joins_at ways.now) (edges_of place) way.whole)
-            (IsAmidst image.now way.cuts (joins_at ways.now) self.new place (length (asked place.instr))) }
+        requires sound { KeepsSound image.now place }
+        requires way { IsBegun image.now (joins_at ways.now) self.old place }
+        ensures gives { (way : IsBegun image.now (joins_at ways.now) self.old place) → StandsIn way.amid.cuts place →
+            Carries result (over image.now (joins_at ways.now) (edges_of place) way.amid.whole) (IsBefore image.now way.amid.cuts (joins_at ways.now) self.new place.next) }
         ensures moves { IfOk result (λ moved. Moves image.now moved self.old.slots self.new.slots) }
     {
-        let edges = asked(place.instr);
-        let mut moved = false;
-        for i in 0..edges.len() {
-            let is_last = i + 1 == edges.len();
-            if self.take_edge(alloc, image, nest, ways, place, edges[i], is_last)? {
-                moved = true;
-            }
+        match asked(place.instr) {
+            [edge] => self.take_edge(alloc, image, nest, ways, place, *edge),
+            [first, last] => self.take_two(alloc, image, nest, ways, place, *first, *last),
+            _ => Ok(false),
         }
-        Ok(moved)
     }
 
-    /// An edge is taken: what is known after it comes to its target. The last one takes the state that is carried away.
+    /// Two edges are taken, each from the state that is carried. A copy of it is put aside for the second one; or its
+    /// registers alone, where both leave words as they are.
+    fn take_two(
+        &mut self,
+        alloc: Global,
+        image: &Image,
+        nest: &Nest,
+        ways: &Ways,
+        place: Placed,
+        first: Edge,
+        last: Edge,
+    ) -> Result<bool, StateFault>
+        requires nest { nest.now ≡ ranges image.now.loops }
+        requires place { MayBeTaken image.now (length self.old.slots) place }
+        requires sound { KeepsSound image.now place }
+        requires edges { asked place.instr ≡ first ∷ last ∷ [] }
+        requires way { IsBegun image.now (joins_at ways.now) self.old place }
+        ensures gives { (way : IsBegun image.now (joins_at ways.now) self.old place) → StandsIn way.amid.cuts place →
+            Carries result (over image.now (joins_at ways.now) (edges_of place) way.amid.whole) (IsBefore image.now way.amid.cuts (joins_at ways.now) self.new place.next) }
+        ensures moves { IfOk result (λ moved. Moves image.now moved self.old.slots self.new.slots) }
+    {
+        let leaves_words = leaves_words(nest, place);
+        let before = Registers::of(&self.carried);
+        self.put_aside(leaves_words);
+        let moved = self.take_edge(alloc, image, nest, ways, place, first)?;
+        let is_next = self.is_carried;
+        let after = Registers::of(&self.carried);
+        self.put_back(before, leaves_words);
+        let also = self.take_edge(alloc, image, nest, ways, place, last)?;
+        if !is_next {
+            return Ok(moved || also);
+        }
+        self.put_back(after, leaves_words);
+        Ok(moved || also)
+    }
+
+    /// A copy of the state that is carried is put aside, unless words stay as they are.
+    fn put_aside(&mut self, leaves_words: bool)
+        requires { length self.old.carried.cells ≡ length self.old.spare.cells }
+        ensures light { leaves_words ≡ true → self.new ≡ self.old }
+        ensures copied { leaves_words ≡ false → self.new ≡ record self.old { spare = self.old.carried } }
+    {
+        if !leaves_words {
+            self.spare.set_to(&self.carried);
+        }
+    }
+
+    /// The state that was carried before is carried again: where words have stayed as they were, it is told by its registers;
+    /// else it was put aside, and changes places with what is carried now.
+    fn put_back(&mut self, registers: Registers, leaves_words: bool)
+        ensures light { leaves_words ≡ true → self.new ≡ record self.old { carried = record self.old.carried { a = registers.a; b = registers.b; c = registers.c } } }
+        ensures copied { leaves_words ≡ false → self.new ≡ record self.old { carried = self.old.spare; spare = self.old.carried } }
+    {
+        if leaves_words {
+            registers.put(&mut self.carried);
+        } else {
+            mem::swap(&mut self.carried, &mut self.spare);
+        }
+    }
+
+    /// An edge is taken: what is carried becomes what is known after it, and comes to its target.
     fn take_edge(
         &mut self,
         alloc: Global,
@@ -254,46 +325,65 @@ impl Passes {
         ways: &Ways,
         place: Placed,
         edge: Edge,
-        is_last: bool,
     ) -> Result<bool, StateFault>
         requires nest { nest.now ≡ ranges image.now.loops }
         requires place { MayBeTaken image.now (length self.old.slots) place }
-        requires way { (done : ℕ) × AreAmidst image.now (joins_at ways.now) self.old place done }
-        ensures gives { (done : ℕ) (way : AreAmidst image.now (joins_at ways.now) self.old place done) → done < length (asked place.instr) →
-            slice_index_or (asked place.instr) done edge ≡ edge → (done + 1 < length (asked place.instr) → is_last ≡ false) →
-            Carries result (over image.now (joins_at ways.now) ((place, edge) ∷ []) way.whole)
-            (IsAmidst image.now way.cuts (joins_at ways.now) self.new place (done + 1)) }
+        requires sound { KeepsSound image.now place }
+        requires way { (done : ℕ) × IsOnEdge image.now (joins_at ways.now) self.old place edge done }
+        ensures gives { (done : ℕ) (way : IsOnEdge image.now (joins_at ways.now) self.old place edge done) →
+            Carries result (over image.now (joins_at ways.now) ((place, edge) ∷ []) way.amid.whole)
+            (IsAfterEdge image.now way.amid.cuts (joins_at ways.now) self.old self.new place edge done way.amid.whole) }
         ensures moves { IfOk result (λ moved. Moves image.now moved self.old.slots self.new.slots) }
     {
-        hand_out(&mut self.carried, &mut self.outcome, is_last);
         self.outcomes = self.outcomes.saturating_add(1);
         let Placed { at, instr, next } = place;
-        if let Err(code) = self.outcome.go_on(at, next, instr, edge, image, nest) {
+        if let Err(code) = self.carried.go_on(at, next, instr, edge, image, nest) {
             return Err(StateFault::Refused { code, place: at });
         }
         match nest.target(at, next, instr, edge) {
-            Some(to) if ways.joins(to) => self.enter(alloc, image, to),
-            Some(_) => {
-                mem::swap(&mut self.ahead, &mut self.outcome);
-                self.is_carried = true;
-                Ok(false)
+            Some(to) => {
+                self.lead_on(to, next);
+                self.arrive(alloc, image, ways, to)
             }
             None => Ok(false),
         }
     }
 
-    /// The outcome comes to an address where edges join. It answers whether anything changed there.
-    fn enter(&mut self, alloc: Global, image: &Image, to: usize) -> Result<bool, StateFault>
+    /// What is carried is carried on, if it comes to the next instruction.
+    fn lead_on(&mut self, to: usize, next: usize)
+        ensures { IsLedOn to next self.old self.new }
+    {
+        if to == next {
+            self.is_carried = true;
+        }
+    }
+
+    /// What is carried comes to an address: it joins what is kept there, if edges join there. It answers whether anything
+    /// changed.
+    fn arrive(
+        &mut self,
+        alloc: Global,
+        image: &Image,
+        ways: &Ways,
+        to: usize,
+    ) -> Result<bool, StateFault>
         requires inside { to < length self.old.slots }
         requires flags { length self.old.changed.items ≡ length self.old.slots }
-        requires placed { IfSome (table_of self.old.slots to) (IsPlaced image.now) }
-        requires outcome { IsPlaced image.now self.old.outcome }
-        ensures gives { Gives result (table_of self.new.slots) (enter (Some to) self.old.outcome (table_of self.old.slots)) }
-        ensures marks { IfOk result (λ moved. self.new.changed.items ≡ marked moved to self.old.changed.items) }
+        requires placed { joins_at ways.now to ≡ true → IfSome (table_of self.old.slots to) (IsPlaced image.now) }
+        requires carried { IsPlaced image.now self.old.carried }
+        requires again { joins_at ways.now to ≡ true → self.old.is_again ≡ true → CameBefore (table_of self.old.slots to) self.old.carried }
+        ensures joins { joins_at ways.now to ≡ true → Gives result (table_of self.new.slots) (enter (Some to) self.old.carried (table_of self.old.slots)) }
+        ensures marks { joins_at ways.now to ≡ true → IfOk result (λ moved. self.new.changed.items ≡ marked moved to self.old.changed.items) }
         ensures rest { SameButSlots self.old self.new }
+        ensures alone { joins_at ways.now to ≡ false → (result ≡ Ok false) × (self.new ≡ self.old) }
         ensures moves { IfOk result (λ moved. Moves image.now moved self.old.slots self.new.slots) }
     {
-        let moved = self.slots.enter(alloc, image, to, &self.outcome)?;
+        if !ways.joins(to) {
+            return Ok(false);
+        }
+        let moved = self
+            .slots
+            .enter(alloc, image, to, &self.carried, self.is_again)?;
         if moved {
             self.changed[to] = true;
         }
@@ -301,17 +391,16 @@ impl Passes {
     }
 }
 
-/// A state is copied; or it is given away, and another stands in its place.
-fn hand_out(carried: &mut State, outcome: &mut State, is_last: bool)
-    requires { length carried.old.cells ≡ length outcome.old.cells }
-    ensures outcome { outcome.new ≡ carried.old }
-    ensures kept { is_last ≡ false → carried.new ≡ carried.old }
-    ensures given { is_last ≡ true → carried.new ≡ outcome.old }
+/// A state takes the value of another: one above it, where it comes there, or any.
+fn rise(carried: &mut State, state: &State, comes: bool)
+    requires sized { length state.now.cells ≡ length carried.old.cells }
+    requires below { comes ≡ true → IsBelow carried.old state.now }
+    ensures { carried.new ≡ state.now }
 {
-    if is_last {
-        mem::swap(carried, outcome);
+    if comes {
+        carried.rise_to(state);
     } else {
-        outcome.set_to(carried);
+        carried.set_to(state);
     }
 }
 

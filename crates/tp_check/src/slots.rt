@@ -1,11 +1,11 @@
 //! The states that the passes keep.
 
-ghost use Rattle.std.specs.Prelude.{◌≡◌, ◌<◌, ◌≤◌, ◌^◌, ℕ, Some, length, IfOk, IfSome, IsTrue, OnErr};
+ghost use Rattle.std.specs.Prelude.{◌≡◌, ◌<◌, ◌≤◌, ◌^◌, ℕ, Some, length, true, IfOk, IfSome, IsTrue, OnErr};
 ghost use Rattle.std.specs.Option.{option_copied};
 ghost use Rattle.tp_state.specs.Conditions.{IsPlaced};
 ghost use Rattle.tp_check.specs.Tables.{table_of};
 ghost use Rattle.tp_check.specs.Passes.{enter, first_table, met, placed};
-ghost use Rattle.tp_check.specs.UnderWay.{Gives, GivesState, MovesState, Moves};
+ghost use Rattle.tp_check.specs.UnderWay.{Gives, GivesState, MovesState, Moves, CameBefore};
 
 use std::alloc::{AllocError, Global};
 use std::marker::Model;
@@ -44,22 +44,25 @@ impl Slots {
         Ok(Slots { states })
     }
 
-    /// A state comes to an address. It answers whether anything changed there.
+    /// A state comes to an address. It answers whether anything changed there. No values are compared where it comes again:
+    /// where something below it came there before.
     pub fn enter(
         &mut self,
         alloc: Global,
         image: &Image,
         to: usize,
         state: &State,
+        is_again: bool,
     ) -> Result<bool, StateFault>
         requires inside { to < length self.old }
         requires placed { IfSome (table_of self.old to) (IsPlaced image.now) }
         requires state { IsPlaced image.now state.now }
+        requires again { is_again ≡ true → CameBefore (table_of self.old to) state.now }
         ensures gives { Gives result (table_of self.new) (enter (Some to) state.now (table_of self.old)) }
         ensures moves { IfOk result (λ moved. Moves image.now moved self.old self.new) }
         ensures kept { OnErr result (self.new ≡ self.old) }
     {
-        meet(&mut self.states[to], alloc, image, to, state)
+        meet(&mut self.states[to], alloc, image, to, state, is_again)
     }
 
     /// What is known before the instruction at an address.
@@ -97,15 +100,18 @@ fn meet(
     image: &Image,
     to: usize,
     state: &State,
+    is_again: bool,
 ) -> Result<bool, StateFault>
     requires placed { IfSome there.old (IsPlaced image.now) }
     requires state { IsPlaced image.now state.now }
+    requires again { is_again ≡ true → CameBefore there.old state.now }
     ensures gives { GivesState result there.new (placed to (met there.old state.now)) }
     ensures moves { IfOk result (λ moved. MovesState image.now moved there.old there.new) }
     ensures kept { OnErr result (there.new ≡ there.old) }
 {
     state.has_word_ends();
     match there {
+        Some(met) if is_again => Ok(met.join_agreeing(state)),
         Some(met) => match met.join(state) {
             Ok(moved) => Ok(moved),
             Err(code) => Err(StateFault::Refused { code, place: to }),

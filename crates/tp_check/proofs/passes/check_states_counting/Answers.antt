@@ -8,7 +8,7 @@ pub loop-moved-init : goal.loop-moved-init
 loop-moved-init c =
     rw c.ways.view_is
     (none_made c.args.image.now c.args.listing.now c.begin.ensures.in_range c.is_spelled.ensures c.requires.kept (joins_at c.in_ok-ways.ways) c.in_ok-ways.ensures.joins c.in_ok-passes.passes c.places_of-places.result c.places_of-places.ensures.all c.places_of-places.ensures.few
-    c.in_ok-passes.ensures.sized c.in_ok-passes.ensures.flags c.in_ok-passes.ensures.slots c.in_ok-passes.ensures.marked c.in_ok-passes.ensures.rests c.in_ok-passes.ensures.carried c.in_ok-passes.ensures.ahead c.in_ok-passes.ensures.outcome)
+    c.in_ok-passes.ensures.sized c.in_ok-passes.ensures.flags c.in_ok-passes.ensures.slots c.in_ok-passes.ensures.marked c.in_ok-passes.ensures.takes c.in_ok-passes.ensures.fresh c.in_ok-passes.ensures.rests c.in_ok-passes.ensures.carried c.in_ok-passes.ensures.spare)
 
 pub returns-in_err-moved-clause-refused : goal.returns-in_err-moved-clause-refused
 returns-in_err-moved-clause-refused c =

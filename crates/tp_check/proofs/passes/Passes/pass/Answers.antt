@@ -3,6 +3,7 @@ use Rattle.tp_check.specs.Joining.{joins_at}
 use Rattle.tp_check.specs.UnderWay.{Moves}
 use Rattle.tp_check.proofs.Moving.{moves_none, moves_more, moves_no_more}
 use Rattle.tp_check.proofs.Passing.{may_be_taken, no_instruction}
+use Rattle.tp_check.proofs.Loading.{loads_word}
 use Rattle.tp_check.proofs.Places.{stands_at}
 use Rattle.tp_check.proofs.Ways.{carried_on}
 use Rattle.tp_check.proofs.Verdict.{stands_in, none_come, here_before, stop_there, come_on, come_all}
@@ -19,6 +20,10 @@ pub take-requires-clause-place : goal.take-requires-clause-place
 take-requires-clause-place c =
     may_be_taken c.args.image.now c.args.listing.now _ c.in-Some.place c.requires.kept (λ at starts. rw c.loop-i.invariant.moves.sized (c.requires.places at starts))
     (stands_at c.args.listing.now c.loop-i.i c.in-Some.place c.requires.kept.spelled (sym c.in-Some.ensures))
+
+pub take-requires-clause-sound : goal.take-requires-clause-sound
+take-requires-clause-sound c =
+    record { range = c.requires.range; loads = loads_word c.args.listing.now c.requires.spelled c.in-Some.place (stands_at c.args.listing.now c.loop-i.i c.in-Some.place c.requires.kept.spelled (sym c.in-Some.ensures)) }
 
 pub take-requires-clause-way : goal.take-requires-clause-way
 take-requires-clause-way c =
