@@ -35,9 +35,9 @@ fn cut(alloc: Global, code: &[u8]) -> Result<Listing, DecodeFault>
     requires { length code.now ≤ MAX_CODE }
     ensures { Gives result (cutting code.now) }
 {
-    let mut starts = Vec::new(alloc);
-    let mut numbers = Vec::new(alloc);
-    let mut pieces = Vec::new(alloc);
+    let mut starts = Vec::with_capacity(alloc, code.len())?;
+    let mut numbers = Vec::with_capacity(alloc, code.len())?;
+    let mut pieces = Vec::with_capacity(alloc, code.len())?;
     let mut at = 0;
     while at < code.len() {
         let piece = piece_at(code, at)?;

@@ -10,7 +10,7 @@ use Rattle.tp_decode.proofs.decoding.cut.Goals as goal
 
 pub returns-in_err-piece : goal.returns-in_err-piece
 returns-in_err-piece c =
-    let p = err_from_is_err_and c.from_residual.result c.from_residual.ensures.1 in
+    let p = err_from_is_err_and c.from_residual-in_err-piece.result c.from_residual-in_err-piece.ensures.1 in
     rw (p.1, p.2) (stopped c.args.code.now c.loop-at.at (cuts_of c.loop-at.pieces.items) _ c.loop-at.invariant.so_far c.in_err-piece.ensures)
 
 pub loop-at-smaller : goal.loop-at-smaller
