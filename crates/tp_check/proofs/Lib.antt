@@ -1,18 +1,18 @@
 pub mod PassLemmas
 mod Heights
 mod TableSteps
-mod Places
+pub mod Places
 mod Loading
 mod Entering
 mod Taking
 mod Moving
-mod Passing
+pub mod Passing
 pub mod Ending
 pub mod Least
 mod Lone
 mod Trails
 mod Carrying
-mod Nests
+pub mod Nests
 mod CarriedPasses
 mod Staying
 pub mod Respected

@@ -79,7 +79,7 @@ ways_at p (w ∷ ways) e (zero, is) = let same : (p, w) ≡ e = same_Some (p, w)
 ways_at p (w ∷ ways) e (suc i, is) = ways_at p ways e (i, is)
 
 -- an edge of some instructions is one of an instruction of theirs
-among_placed : (ps : List Placed) (e : Placed × Edge) → IsAmong (flat_map edges_of ps) e → (i : ℕ) × (slice_get ps i ≡ Some e.0)
+pub among_placed : (ps : List Placed) (e : Placed × Edge) → IsAmong (flat_map edges_of ps) e → (i : ℕ) × (slice_get ps i ≡ Some e.0)
 among_placed [] e (i, is) = absurd cc
 among_placed (p ∷ ps) e among = by_way (among_placed ps e) (among_either (edges_of p) (flat_map edges_of ps) e (subst (λ es. IsAmong es e) (flat_map-cons edges_of p ps) among))
   where

@@ -3,6 +3,7 @@
 ghost use Rattle.std.specs.Prelude.{◌≡◌, ◌++◌, length, None, IfOk, IfSome, OnOk, OnErr, All};
 ghost use Rattle.tp_flow.specs.NestKept.{KeepsNest};
 ghost use Rattle.tp_flow.specs.NestRanges.{ranges};
+ghost use Rattle.tp_image.specs.Image.{InRange};
 ghost use Rattle.tp_state.specs.Conditions.{HasGoodLoops};
 ghost use Rattle.tp_check.specs.Tables.{asked, table_of, HasPlacedStates};
 ghost use Rattle.tp_check.specs.Passes.{edges_in, edges_of, go_along};
@@ -42,6 +43,7 @@ pub fn first_refusal(
     ensures first { IfOk result (λ found. IfSome found (IsFirstRefusal image.now listing.now)) }
     ensures none { IfOk result (λ found. found ≡ None → RefusesNothing image.now listing.now) }
 {
+    is_in_range(image);
     let asked = edges_of_code(alloc, listing)?;
     let mut table = Slots::first(alloc, image, places_of(listing))?;
     for passes in 0..u64::MAX {
@@ -58,6 +60,13 @@ pub fn first_refusal(
         }
     }
     Ok(None)
+}
+
+/// A law: an image's fields are in the ranges of its version.
+fn is_in_range(image: &Image)
+    ensures { InRange image.now }
+{
+    let _ = &image.code;
 }
 
 /// The edges that the passes over a code take, in their order.
