@@ -161,7 +161,7 @@ fn take(
     };
     let outcome = after(alloc, before, at, next, instr, edge, image, nest)?;
     match nest.target(at, next, instr, edge) {
-        Some(to) => table.enter(alloc, image, to, &outcome),
+        Some(to) => table.enter(alloc, image, to, &outcome, false),
         None => Ok(false),
     }
 }
