@@ -1,8 +1,22 @@
-//! Why the verifier refuses a code: the first refusal of its passes, with what is known before it.
+//! Why the verifier refuses an image: the refusal's meaning, what is known where it comes, and what helps.
+//!
+//! [`first_refusal`] makes the passes over whole tables up to their first refusal. [`tell`] judges an image and tells of it.
 #![tactic(auto)]
 
+mod asked;
+mod fields;
+mod flow;
+mod known;
+mod lines;
+mod meaning;
 mod passes;
 mod refusal;
+mod states;
+mod tell;
+mod telling;
 
+pub use meaning::{Meaning, meaning_of};
 pub use passes::first_refusal;
-pub use refusal::FirstRefusal;
+pub use refusal::{EdgeRefusal, FirstRefusal};
+pub use tell::tell;
+pub use telling::TellFault;

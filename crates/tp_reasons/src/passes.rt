@@ -41,6 +41,7 @@ pub fn first_refusal(
     requires kept { KeepsNest image.now.loops image.now.workspace listing.now }
     requires nest { nest.now ≡ ranges image.now.loops }
     ensures first { IfOk result (λ found. IfSome found (IsFirstRefusal image.now listing.now)) }
+    ensures placed { IfOk result (λ found. IfSome found (λ r. HasPlacedStates image.now (table_of r.table))) }
     ensures none { IfOk result (λ found. found ≡ None → RefusesNothing image.now listing.now) }
 {
     is_in_range(image);
@@ -93,7 +94,7 @@ fn add_edges(all: &mut Vec<Asked>, place: Placed) -> Result<(), AllocError>
 }
 
 /// The edges that an instruction's rule is asked on.
-fn asked(instr: Instr) -> &'static [Edge]
+pub(crate) fn asked(instr: Instr) -> &'static [Edge]
     ensures { result.now ≡ asked instr }
 {
     match instr {

@@ -12,8 +12,8 @@ pub loop-i-preserved : goal.loop-i-preserved
 loop-i-preserved c =
     elim c.match-get.branch [
       | in-Some+in_ok-add_edges w ↦ (
-        ap (λ v. v.items) w.all-is ∙ w.in_ok-add_edges.ensures ∙ ap (λ xs. xs ++ edges_of w.in-Some.place) c.loop-i.invariant
-        ∙ sym (flat_on edges_of (placed_from 0 c.args.listing.now) c.loop-i.i w.in-Some.place (sym w.in-Some.ensures)))
+          ap (λ v. v.items) w.all-is ∙ w.in_ok-add_edges.ensures ∙ ap (λ xs. xs ++ edges_of w.in-Some.place) c.loop-i.invariant
+          ∙ sym (flat_on edges_of (placed_from 0 c.args.listing.now) c.loop-i.i w.in-Some.place (sym w.in-Some.ensures)))
       | in_default w ↦ absurd (no_instruction c.args.listing.now c.loop-i.i (let e = c.len-i-end.ensures in let f = c.loop-i-test.true in omega (arith, e, f)) (sym w.in_default.ensures))
     ]
 

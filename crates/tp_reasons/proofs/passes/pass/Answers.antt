@@ -17,10 +17,10 @@ loop-instruction-preserved c = record {
   placed = c.in-Ok.ensures.placed;
   comes = one_on c.args.image.now c.args.asked.now c.loop-instruction.instruction-index _ (table_of c.args.table.now) (table_of c.loop-instruction.table) (table_of c.take.new.table) inside (read_any c.args.asked.now c.loop-instruction.instruction-index _ inside) c.loop-instruction.invariant.comes c.in-Ok.ensures.gives;
   stays =
-    elim c.if-has_moved.branch [
-      | then-has_moved w ↦ (λ stays. absurd (let never : true ≡ false = sym w.if-has_moved.true ∙ (sym w.has_moved-is ∙ stays) in cc))
-      | else-has_moved w ↦ (λ stays. stays_on c.in-Ok.moved c.loop-instruction.table c.take.new.table c.args.table.now (sym w.has_moved-is ∙ stays) c.in-Ok.ensures.stays (c.loop-instruction.invariant.stays w.if-has_moved.false))
-    ];
+      elim c.if-has_moved.branch [
+        | then-has_moved w ↦ (λ stays. absurd (let never : true ≡ false = sym w.if-has_moved.true ∙ (sym w.has_moved-is ∙ stays) in cc))
+        | else-has_moved w ↦ (λ stays. stays_on c.in-Ok.moved c.loop-instruction.table c.take.new.table c.args.table.now (sym w.has_moved-is ∙ stays) c.in-Ok.ensures.stays (c.loop-instruction.invariant.stays w.if-has_moved.false))
+      ];
 }
   where
     inside : c.loop-instruction.instruction-index < length c.args.asked.now

@@ -24,7 +24,7 @@ returns-in-Some-target-clause-placed c =
 pub returns-in-Some-target-clause-gives : goal.returns-in-Some-target-clause-gives
 returns-in-Some-target-clause-gives c =
     let leads : target (ranges c.args.image.now.loops) c.args.instruction.at c.args.instruction.next c.args.instruction.instr c.args.edge ≡ Some c.in-Some-target.to =
-        sym (c.target.ensures ∙ ap (λ nest. target nest c.args.instruction.at c.args.instruction.next c.args.instruction.instr c.args.edge) c.requires.nest) ∙ c.in-Some-target.is in
+    sym (c.target.ensures ∙ ap (λ nest. target nest c.args.instruction.at c.args.instruction.next c.args.instruction.instr c.args.edge) c.requires.nest) ∙ c.in-Some-target.is in
     subst (Gives c.enter.result (table_of c.enter.new.self))
     (sym (outcome_goes c.args.image.now c.args.instruction c.args.edge (table_of c.args.table.now) _ c.in-Some.before.now c.in_ok-outcome.outcome (search rules) c.in_ok-outcome.ensures.ok ∙ ap (λ to. enter to c.in_ok-outcome.outcome (table_of c.args.table.now)) leads))
     c.enter.ensures.gives
@@ -32,6 +32,6 @@ returns-in-Some-target-clause-gives c =
 pub returns-clause-gives : goal.returns-clause-gives
 returns-clause-gives c =
     let leads : target (ranges c.args.image.now.loops) c.args.instruction.at c.args.instruction.next c.args.instruction.instr c.args.edge ≡ None =
-        sym (c.target.ensures ∙ ap (λ nest. target nest c.args.instruction.at c.args.instruction.next c.args.instruction.instr c.args.edge) c.requires.nest) ∙ c.in-None.is in
+    sym (c.target.ensures ∙ ap (λ nest. target nest c.args.instruction.at c.args.instruction.next c.args.instruction.instr c.args.edge) c.requires.nest) ∙ c.in-None.is in
     outcome_goes c.args.image.now c.args.instruction c.args.edge (table_of c.args.table.now) _ c.in-Some.before.now c.in_ok-outcome.outcome (search rules) c.in_ok-outcome.ensures.ok
     ∙ nowhere_goes c.in_ok-outcome.outcome (table_of c.args.table.now) _ leads

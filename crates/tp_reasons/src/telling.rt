@@ -1,0 +1,27 @@
+//! The words in which a refusal is told.
+
+use std::alloc::{AllocError, AllocFailed};
+use std::fmt;
+use std::io::Write;
+use thiserror::Error;
+
+/// Why a refusal could not be told.
+#[derive(Clone, Copy, Debug, PartialEq, Eq, Error)]
+pub enum TellFault {
+    #[error("memory")]
+    Memory,
+    #[error("write")]
+    Write,
+}
+
+impl From<AllocError> for TellFault {
+    fn from(_: AllocError) -> Self {
+        TellFault::Memory
+    }
+}
+
+impl<T: Drop> From<AllocFailed<T>> for TellFault {
+    fn from(_: AllocFailed<T>) -> Self {
+        TellFault::Memory
+    }
+}
