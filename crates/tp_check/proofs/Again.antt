@@ -1,5 +1,5 @@
 -- What was known at an instruction when its edges were taken before.
-use Rattle.std.proofs.Common.{◌≡◌, ◌≢◌, ℕ, ◌+◌, ◌<◌, ◌≤◌, ◌⊎◌, inl, inr, Bool, true, false, List, [], ◌∷◌, length, get_or, slice_index_or, Option, Some, None, Result, Ok, Err, refl, sym, ap, ◌∙◌, subst, arith}
+use Rattle.std.proofs.Common.{◌≡◌, ◌≢◌, ℕ, ◌+◌, ◌<◌, ◌⊎◌, inl, inr, Bool, true, false, List, [], ◌∷◌, length, get_or, slice_index_or, Option, Some, None, Result, Ok, Err, refl, sym, ap, ◌∙◌, subst, arith}
 use Rattle.std.specs.Prelude.{All, IfOk}
 use Rattle.std.proofs.lemmas.Bool.{cases_eq}
 use Rattle.std.proofs.lemmas.Option.{same_Some}
@@ -15,7 +15,7 @@ use Rattle.tp_image.specs.Image.{ImageValue, InRange}
 use Rattle.tp_state.specs.declared.state.State.{State}
 use Rattle.tp_state.specs.declared.fault.StateCode.{StateCode}
 use Rattle.tp_state.specs.After.{after}
-use Rattle.tp_state.specs.Order.{IsBelow, join}
+use Rattle.tp_state.specs.Order.{IsBelow}
 use Rattle.tp_state.specs.Sound.{IsSound, LoadsWord}
 use Rattle.tp_state.proofs.StateOrder.{is_below-trans}
 use Rattle.tp_rules.proofs.Follows.{Follows}
@@ -28,7 +28,6 @@ use Rattle.tp_check.specs.Passes.{edges_in}
 use Rattle.tp_check.specs.Carried.{target_of, IsAmong}
 use Rattle.tp_check.specs.UnderWay.{IsPlacedAt, HasGrown, AreJoins, Settles, WasTaken, WasTakenAt}
 use Rattle.tp_check.proofs.Entering.{Becomes, Entered, elsewhere, there, rises}
-use Rattle.tp_check.proofs.Moving.{get_in}
 use Rattle.tp_check.proofs.Settling.{among, differ, differ_too, with_there, with_elsewhere}
 
 -- ---- an instruction's edges

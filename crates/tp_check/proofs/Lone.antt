@@ -2,12 +2,9 @@
 use Rattle.std.specs.Prelude.{◌≡◌, ◌≢◌, ℕ, Bool, false, List, [], ◌∷◌, Some, Ok}
 use Rattle.tp_decode.specs.declared.placed.Placed.{Placed}
 use Rattle.tp_flow.specs.declared.edge.Edge.{Edge}
-use Rattle.tp_flow.specs.NestRanges.{ranges}
-use Rattle.tp_flow.specs.LoopsAround.{is_around}
 use Rattle.tp_image.specs.Image.{ImageValue}
 use Rattle.tp_state.specs.declared.state.State.{State}
 use Rattle.tp_state.specs.Sound.{IsSound}
-use Rattle.tp_state.specs.Live.{LiveWordsAre}
 use Rattle.tp_state.specs.Order.{MayMeet, join}
 use Rattle.tp_check.specs.Carried.{target_of, outcome_of}
 pub use Rattle.tp_check.specs.Carried.{IsAmong, IsLone}

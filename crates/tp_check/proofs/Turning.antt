@@ -1,5 +1,5 @@
 -- An instruction's turn in a pass.
-use Rattle.std.proofs.Common.{◌≡◌, ◌≢◌, ℕ, suc, ◌+◌, ◌<◌, ◌⊎◌, inl, inr, ◌==◌, ◌&&◌, if◌then◌else◌, Bool, true, false, List, [], ◌∷◌, length, slice_index_or, Option, Some, None, Result, Ok, Err, refl, sym, ap, ◌∙◌, subst, rules, arith, length-set, get_or-set_same, get_or-set_other, drop, get_or}
+use Rattle.std.proofs.Common.{◌≡◌, ◌≢◌, ℕ, suc, ◌+◌, ◌<◌, ◌⊎◌, inl, inr, ◌==◌, ◌&&◌, if◌then◌else◌, Bool, true, false, List, [], ◌∷◌, length, slice_index_or, Option, Some, None, Result, Ok, Err, refl, sym, ap, ◌∙◌, subst, rules, arith, length-set, get_or-set_same, get_or-set_other}
 use Rattle.std.specs.Prelude.{IfSome}
 use Rattle.std.proofs.lemmas.Bool.{cases_eq}
 use Rattle.std.proofs.lemmas.Option.{same_Some}
@@ -18,9 +18,8 @@ use Rattle.tp_check.specs.declared.passes.Passes.{Passes}
 use Rattle.tp_check.specs.Tables.{Table, table_of, asked}
 use Rattle.tp_check.specs.Passes.{from, edges_of}
 use Rattle.tp_check.specs.Carried.{target_of, over, go_over}
-use Rattle.tp_check.specs.UnderWay.{is_in, AreJoins, Settles, IsTaken, TakenAt, WasTaken, WasTakenAt, marks, flags, HasCome, IsBegun, IsUnderWay, IsBefore, IsReady, IsAmidst, AreAmidst, StandsIn, Carries, IsStarted}
+use Rattle.tp_check.specs.UnderWay.{is_in, AreJoins, Settles, IsTaken, TakenAt, WasTaken, WasTakenAt, marks, flags, HasCome, IsBegun, IsUnderWay, IsBefore, IsReady, IsAmidst, StandsIn, Carries, IsStarted}
 use Rattle.tp_check.proofs.Entering.{enters_below, same_there}
-use Rattle.tp_check.proofs.Moving.{next_way}
 use Rattle.tp_check.proofs.Settling.{over_none, over_nowhere, over_joined, over_alone}
 use Rattle.tp_check.proofs.Stepping.{not_both, and_false}
 
@@ -32,10 +31,6 @@ over_one image joins e more table = in_turn (go_over image joins e (table e.0.at
     in_turn : (r : Result Table StateFault) → (r >>= over image joins more) ≡ ((r >>= over image joins []) >>= over image joins more)
     in_turn (Ok t) = refl
     in_turn (Err f) = refl
-
-pub over_way : (image : ImageValue) (joins : ℕ → Bool) (p : Placed) (ways : List Edge) (i : ℕ) (d : Edge) → i < length ways → (table : Table)
-    → over image joins (from p (drop i ways)) table ≡ (over image joins ((p, slice_index_or ways i d) ∷ []) table >>= over image joins (from p (drop (i + 1) ways)))
-over_way image joins p ways i d inside table = ap (λ es. over image joins es table) (next_way p ways i d inside) ∙ over_one image joins (p, get_or ways i d) (from p (drop (i + 1) ways)) table
 
 -- ---- the turn begins
 

@@ -1,5 +1,5 @@
 -- The edges of an instruction: one, or two.
-use Rattle.std.proofs.Common.{◌≡◌, ◌≢◌, ℕ, ◌+◌, ◌<◌, ◌≤◌, ◌⊎◌, inl, inr, ℤ, Bool, true, false, ◌||◌, List, [], ◌∷◌, length, slice_get, slice_index_or, Option, Some, None, Result, Ok, Err, refl, sym, ap, ◌∙◌, subst, arith}
+use Rattle.std.proofs.Common.{◌≡◌, ◌≢◌, ℕ, ◌<◌, ◌≤◌, ◌⊎◌, inl, inr, ℤ, Bool, true, false, ◌||◌, List, [], ◌∷◌, length, slice_index_or, Option, Some, None, Result, Ok, Err, refl, sym, ap, ◌∙◌, subst, arith}
 use Rattle.std.proofs.lemmas.Bool.{cases_eq}
 use Rattle.std.proofs.lemmas.Option.{same_Some}
 use Rattle.tp_decode.specs.declared.instr.Instr.{Instr}
@@ -16,8 +16,7 @@ use Rattle.tp_state.specs.declared.fault.StateFault.{StateFault}
 use Rattle.tp_state.specs.declared.fault.StateFault.TheVariants.{Refused, Memory}
 use Rattle.tp_state.specs.Answer.{◌>>=◌, ◌>>◌}
 use Rattle.tp_state.specs.Conditions.{IsPlaced}
-use Rattle.tp_state.specs.Rules.{rule, one_number, pop, set_areg}
-use Rattle.tp_state.specs.Kinds.{exactly}
+use Rattle.tp_state.specs.Rules.{rule, one_number, pop}
 use Rattle.tp_state.specs.After.{after, entered_at, entering}
 use Rattle.tp_state.proofs.Passing.{same_Ok}
 use Rattle.tp_check.specs.declared.passes.Passes.{Passes}
@@ -25,7 +24,7 @@ use Rattle.tp_check.specs.declared.aside.Registers.{Registers}
 use Rattle.tp_check.specs.Tables.{Table, asked}
 use Rattle.tp_check.specs.Passes.{from, edges_of, edges_in}
 use Rattle.tp_check.specs.Carried.{target_of, over, IsAmong}
-use Rattle.tp_check.specs.UnderWay.{IsNumberOf, HasCome, IsBefore, IsAmidst, IsBegun, IsOnEdge, IsAfterEdge, LeavesWords, Carries, StandsIn, Moves, table_height}
+use Rattle.tp_check.specs.UnderWay.{IsNumberOf, HasCome, IsBefore, IsAmidst, IsBegun, IsOnEdge, IsAfterEdge, LeavesWords, Carries, StandsIn, Moves}
 use Rattle.tp_check.proofs.Again.{asked_apart}
 use Rattle.tp_check.proofs.Moving.{table_le}
 use Rattle.tp_check.proofs.Respected.{edge_there}
