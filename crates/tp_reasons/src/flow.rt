@@ -89,7 +89,8 @@ fn tell_target<W: Write>(listing: &Listing, place: usize, writer: &mut W) -> Res
     let (Instr::Jump(distance) | Instr::Cj(distance)) = instr else {
         return Ok(());
     };
-    let target = (next as i64).saturating_add(i64::from(distance));
+    let behind = i64::try_from(next).unwrap_or(i64::MAX);
+    let target = behind.saturating_add(i64::from(distance));
     writeln!(
         writer,
         "known    the next instruction is at {next}, the target {distance} bytes on, at {target}"

@@ -12,11 +12,11 @@ mod meaning;
 mod passes;
 mod refusal;
 mod states;
-mod tell;
 mod telling;
+mod verdict;
 
 pub use meaning::{Meaning, meaning_of};
 pub use passes::first_refusal;
 pub use refusal::{EdgeRefusal, FirstRefusal};
-pub use tell::tell;
 pub use telling::TellFault;
+pub use verdict::tell;

@@ -12,6 +12,9 @@ use tp_stepper::{Place, Span};
 /// The name of the command that tells a run.
 const STEP: &str = "step";
 
+/// The name of the command that tells why an image is refused.
+const WHY: &str = "why";
+
 /// The names of its options.
 const PACKET: &str = "packet";
 
@@ -26,10 +29,17 @@ A PLACE is an address, as 36 or 0x24, or a count of steps, as +100.
 Status 0: the worker stopped, or was left at --until. Status 1: it is stuck, or does not end, or standard input is no image.
 docs/WORKERS.md reads a run.";
 
+/// What `tpw why --help` says below the options.
+const WHY_LINES: &str = "\
+Reads an image as hexadecimal on standard input: one line; line ends, and white space at the ends, are passed over.
+Status 0: the image is accepted. Status 1: it is refused, or standard input is not hexadecimal.
+docs/VERIFIER.md lists every refusal.";
+
 /// What a command line asks for.
 #[derive(Drop)]
 pub enum Task {
     Step(Stepping),
+    Why,
 }
 
 /// An option that takes a place.
@@ -57,13 +67,21 @@ fn step_command<'a>(alloc: Global) -> Result<Command<'a>, Error> {
     Ok(command)
 }
 
+/// `why`, as the command line has it.
+fn why_command<'a>(alloc: Global) -> Command<'a> {
+    Command::new(alloc, WHY)
+        .about("Judges an image as the verifier does, and tells why it is refused")
+        .after_help(WHY_LINES)
+}
+
 /// The command line that the program knows.
 fn command<'a>(alloc: Global) -> Result<Command<'a>, Error> {
     let command = Command::new(alloc, "tpw")
         .version("0.1")
         .about("Tools for those who write workers")
         .subcommand_required(true)
-        .subcommand(step_command(alloc)?)?;
+        .subcommand(step_command(alloc)?)?
+        .subcommand(why_command(alloc))?;
     Ok(command)
 }
 
@@ -104,8 +122,11 @@ fn stepping(alloc: Global, matches: &ArgMatches<'_>) -> Result<Stepping, Ending>
 /// What words ask for, the first of which names the program.
 pub fn task_of<S: AsStr>(alloc: Global, words: &[S]) -> Result<Task, Ending> {
     let matches = command(alloc)?.try_get_matches_from(words)?;
-    match matches.subcommand_matches(STEP) {
-        Some(found) => Ok(Task::Step(stepping(alloc, found)?)),
+    if let Some(found) = matches.subcommand_matches(STEP) {
+        return Ok(Task::Step(stepping(alloc, found)?));
+    }
+    match matches.subcommand_matches(WHY) {
+        Some(_) => Ok(Task::Why),
         None => Err(Ending::NoCommand),
     }
 }

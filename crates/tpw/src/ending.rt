@@ -129,6 +129,15 @@ impl From<TellFault> for Ending {
     }
 }
 
+impl From<tp_reasons::TellFault> for Ending {
+    fn from(fault: tp_reasons::TellFault) -> Self {
+        match fault {
+            tp_reasons::TellFault::Memory => Ending::Memory,
+            tp_reasons::TellFault::Write => Ending::Write,
+        }
+    }
+}
+
 impl From<AllocError> for Ending {
     fn from(_: AllocError) -> Self {
         Ending::Memory

@@ -87,14 +87,19 @@ pub fn bytes_of(alloc: Global, text: &[u8]) -> Result<Vec<u8>, TextFault>
     }
 }
 
-/// Reads an image, accepted by the verifier or not.
-pub fn image_from<R: Read>(alloc: Global, reader: &mut R) -> Result<Image, Ending> {
+/// Reads bytes: an image, or what is taken for one.
+pub fn bytes_from<R: Read>(alloc: Global, reader: &mut R) -> Result<Vec<u8>, Ending> {
     let mut text = Vec::new(alloc);
     match reader.read_to_end(&mut text) {
         Ok(_) => {}
         Err(error) if error.kind() == ErrorKind::OutOfMemory => return Err(Ending::Memory),
         Err(_) => return Err(Ending::Read),
     }
-    let bytes = bytes_of(alloc, &text)?;
+    Ok(bytes_of(alloc, &text)?)
+}
+
+/// Reads an image, accepted by the verifier or not.
+pub fn image_from<R: Read>(alloc: Global, reader: &mut R) -> Result<Image, Ending> {
+    let bytes = bytes_from(alloc, reader)?;
     Ok(read_image(alloc, &bytes)?)
 }

@@ -1,8 +1,9 @@
 //! `tpw`: tools for those who write workers. Text in, text out, and no files.
 //!
-//! `tpw step` runs an image an instruction at a time, and tells each. Status 0: it was told to its end, or help or the version was
-//! asked for. Status 1: the run has no end, or standard input is no image, or a read or a write failed; what failed is told on
-//! standard error behind `tpw: `. Status 2: the command line is refused.
+//! `tpw step` runs an image an instruction at a time, and tells each; `tpw why` judges an image, and tells why it is refused.
+//! Status 0: the run was told to its end, the image is accepted, or help or the version was asked for. Status 1: the run has no end,
+//! the image is refused, or standard input is no image, or a read or a write failed; what failed is told on standard error behind
+//! `tpw: `. Status 2: the command line is refused.
 #![tactic(auto)]
 
 mod command_line;
@@ -10,6 +11,7 @@ mod ending;
 mod input;
 mod place;
 mod program;
+mod refusing;
 mod stepping;
 #[cfg(test)]
 mod tests;

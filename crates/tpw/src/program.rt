@@ -2,6 +2,7 @@
 
 use crate::command_line::{Task, task_of};
 use crate::ending::{Ending, Status};
+use crate::refusing::why;
 use crate::stepping::step;
 use crate::words::words_of;
 use std::alloc::Global;
@@ -19,6 +20,7 @@ fn perform<R: Read, W: Write>(
     let words = words_of(words, alloc)?;
     match task_of(alloc, &words)? {
         Task::Step(stepping) => step(alloc, reader, writer, &stepping),
+        Task::Why => why(alloc, reader, writer),
     }
 }
 

@@ -1,5 +1,7 @@
 //! A verdict, told.
 
+ghost use Rattle.tp_decode.specs.Cutting.{IsCutting};
+
 use crate::fields::{tell_bytes, tell_field, tell_turns};
 use crate::flow::tell_flow;
 use crate::meaning::meaning_of;
@@ -70,7 +72,9 @@ fn tell_code<W: Write>(
     code: RefusalCode,
     place: usize,
     writer: &mut W,
-) -> Result<(), TellFault> {
+) -> Result<(), TellFault>
+    requires { IsCutting image.now.code listing.now }
+{
     match code {
         RefusalCode::Flow(code) => tell_flow(alloc, image, listing, code, place, writer),
         RefusalCode::State(_) => match check_flow(image, listing) {
