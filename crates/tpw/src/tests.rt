@@ -131,6 +131,30 @@ result \ntrace \nflag 0
 count 1
 ",
         ),
+        (INCREMENT, ["tpw", "why"].as_slice(), 0, "YES 16 16\n"),
+        (
+            STUCK,
+            ["tpw", "why"].as_slice(),
+            1,
+            "\
+NO J5 1
+refused  control goes on behind the last instruction
+         0 41 ldc 1
+>        1 f5 add
+instead  end the code by stopp
+",
+        ),
+        (
+            "54505732",
+            ["tpw", "why"].as_slice(),
+            1,
+            "\
+NO F2 4
+refused  the image is cut short
+known    the image has 4 bytes
+instead  send all its bytes; see that the header counts the rows, initial words and code bytes that follow
+",
+        ),
     ];
     for (image, words, status, told) in cases {
         let mut output = Vec::new(rt.alloc());
@@ -150,6 +174,12 @@ fn refusals(rt: HostRuntime) -> Result<(), Fail> {
         (
             "zz",
             ["tpw", "step"].as_slice(),
+            1,
+            "tpw: standard input: no hexadecimal digit in column 1\n",
+        ),
+        (
+            "zz",
+            ["tpw", "why"].as_slice(),
             1,
             "tpw: standard input: no hexadecimal digit in column 1\n",
         ),
@@ -216,6 +246,7 @@ Usage: tpw <COMMAND>
 
 Commands:
   step  Runs an image an instruction at a time, accepted by the verifier or not
+  why   Judges an image as the verifier does, and tells why it is refused
   help  Print this message or the help of the given subcommand(s)
 
 Options:
@@ -241,12 +272,27 @@ Status 0: the worker stopped, or was left at --until. Status 1: it is stuck, or 
 docs/WORKERS.md reads a run.
 ";
 
+/// All that `why --help` says.
+const WHY_HELP: &str = "\
+Judges an image as the verifier does, and tells why it is refused
+
+Usage: tpw why
+
+Options:
+  -h, --help  Print help
+
+Reads an image as hexadecimal on standard input: one line; line ends, and white space at the ends, are passed over.
+Status 0: the image is accepted. Status 1: it is refused, or standard input is not hexadecimal.
+docs/VERIFIER.md lists every refusal.
+";
+
 #[test]
 fn help_and_version(rt: HostRuntime) -> Result<(), Fail> {
     let cases = [
         (["tpw", "--version"].as_slice(), "tpw 0.1\n"),
         (["tpw", "--help"].as_slice(), HELP),
         (["tpw", "step", "--help"].as_slice(), STEP_HELP),
+        (["tpw", "why", "--help"].as_slice(), WHY_HELP),
     ];
     for (words, answer) in cases {
         let mut output = Vec::new(rt.alloc());
@@ -272,6 +318,7 @@ fn tells_a_failed_read(rt: HostRuntime) {
 fn tells_a_failed_write(rt: HostRuntime) {
     for words in [
         ["tpw", "step"].as_slice(),
+        ["tpw", "why"].as_slice(),
         ["tpw", "--help"].as_slice(),
         ["tpw", "--version"].as_slice(),
     ] {
