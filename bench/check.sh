@@ -3,20 +3,28 @@
 # image in the same run: the increment, a straight code of 8,000 bytes, 4,000 conditional jumps, and codes made to keep the
 # passes going: a loop that moves the words of its workspace on by one place, the same in three others, and sixteen such loops
 # one behind the other. Outcomes are also given for each edge, of which there are at most 1 + 1,024 and one for each change of
-# a register. Then the program's peak of memory. Ends with status 1 where an image takes more than 4 seconds or the program
-# more than 64 MiB.
+# a register. Then the program's peak of memory. All is done three times, and an image's time is the least of its three, since
+# others use the machine too. Ends with status 1 where an image takes more than half a second or the program more than 25 MiB.
 cd "$(dirname "$0")/../crates/bench" && rt run >/dev/null || exit 1
 python3 - <<'PY'
 import re, resource, subprocess, sys
 
-MOST_MICROSECONDS = 4_000_000
-MOST_KIB = 64 * 1024
+ROUNDS = 3
+MOST_MICROSECONDS = 500_000
+MOST_KIB = 25 * 1024
 
-told = subprocess.run(["out/bench", "check"], stdout=subprocess.PIPE, text=True, check=True).stdout
+least = {}
+for _ in range(ROUNDS):
+    told = subprocess.run(["out/bench", "check"], stdout=subprocess.PIPE, text=True, check=True).stdout
+    for line in told.splitlines():
+        name, time = re.match(r"(.*): (\d+) microseconds", line).groups()
+        if name not in least or int(time) < least[name][0]:
+            least[name] = int(time), line
 peak = resource.getrusage(resource.RUSAGE_CHILDREN).ru_maxrss
-print(told + f"peak {peak} KiB")
-slowest = max(int(n) for n in re.findall(r": (\d+) microseconds", told))
-if slowest > MOST_MICROSECONDS:
+for _, line in least.values():
+    print(line)
+print(f"peak {peak} KiB")
+if max(time for time, _ in least.values()) > MOST_MICROSECONDS:
     sys.exit("an image takes too long")
 if peak > MOST_KIB:
     sys.exit("too much memory")
