@@ -1,5 +1,5 @@
 -- Answers by what is found.
-use Rattle.std.proofs.Common.{◌≡◌, ◌≢◌, ℕ, ◌*◌, ◌≤◌, ◌<◌, nat_eq, nat_le, Bool, true, false, List, [], length, codes, Option, Some, None, Result, Ok, Err, IfOk, refl, ap, ◌∙◌, arith}
+use Rattle.std.proofs.Common.{◌≡◌, ◌≢◌, ℕ, ◌*◌, ◌≤◌, ◌<◌, nat_eq, nat_le, Bool, true, false, List, [], length, codes, Option, Some, None, Result, Ok, Err, OnOk, ◌++◌, refl, ap, ◌∙◌, arith}
 use Rattle.std.proofs.lemmas.Bool.Decides.{nat_tests}
 use Rattle.tp_image.specs.Image.{ImageValue}
 use Rattle.tp_image.specs.Text.{IsTextOf}
@@ -8,8 +8,14 @@ use Rattle.tp_accept.specs.declared.refusal.Refusal.TheVariants.{Refused}
 use Rattle.tp_accept.specs.Refusals.{refusal_code_text}
 use Rattle.tp_accept.specs.Verdict.{IsAnswer, allowed}
 use Rattle.tp_answers.specs.Sessions.{Session, most_packets, with_session, without_session, with_packet}
-use Rattle.tp_answers.specs.Told.{refusal, yes_line, kept_line, gone_line}
+use Rattle.tp_answers.specs.Told.{refusal, yes_line, kept_line, gone_line, GoesOnWith}
 use Rattle.tp_answers.specs.Answers.{Standing, IsJudged, AnswersImage, packet_refusal, AnswersPacket, AnswersDrop}
+
+-- ---- what is told goes on with an answer
+
+pub goes_with : {S E : Type 0} (r : Result S E) (says : List ℕ → Type 0) (before after told : List ℕ) → OnOk r (after ≡ before ++ told) → says told → OnOk r (GoesOnWith says before after)
+goes_with (Ok x) says before after told h is = (told, h, is)
+goes_with (Err e) says before after told h is = tt
 
 -- ---- why a packet is not kept
 
@@ -30,51 +36,36 @@ may_be_kept s packet long few =
     let full : nat_le most_packets (length s.packets) ≡ false = grind (arith, nat_tests) in
     rw (test, full) refl
 
--- ---- answers, as texts that may want memory
+-- ---- answers by what is found
 
-module _ {S E : Type 0} (bytes : S → List ℕ) (r : Result S E) where
-  refused : (code : List ℕ) (number : ℕ) (before : Standing) → IfOk r (λ t. bytes t ≡ refusal code number) → IfOk r (λ t. (bytes t ≡ refusal code number) × (before ≡ before))
-  refused code number before told = by_result r told
-    where
-      by_result : (r : Result S E) → IfOk r (λ t. bytes t ≡ refusal code number) → IfOk r (λ t. (bytes t ≡ refusal code number) × (before ≡ before))
-      by_result (Ok t) h = (h, refl)
-      by_result (Err e) h = tt
+pub packet_of_none : (o : Option Session) (number : ℕ) (packet : List ℕ) (before : Standing) → o ≡ None → AnswersPacket o number packet before (refusal (codes "P2") number) before
+packet_of_none o number packet before none = rw none (refl, refl)
 
-  pub packet_of_none : (o : Option Session) (number : ℕ) (packet : List ℕ) (before : Standing) → o ≡ None → IfOk r (λ t. bytes t ≡ refusal (codes "P2") number) → IfOk r (λ t. AnswersPacket o number packet before (bytes t) before)
-  packet_of_none o number packet before none told = rw none (refused (codes "P2") number before told)
+pub packet_refused : (o : Option Session) (s : Session) (code : List ℕ) (number : ℕ) (packet : List ℕ) (before : Standing) → o ≡ Some s → packet_refusal s packet ≡ Some code → AnswersPacket o number packet before (refusal code number) before
+packet_refused o s code number packet before is why = rw is (rw why (refl, refl))
 
-  pub packet_refused : (o : Option Session) (s : Session) (code : List ℕ) (number : ℕ) (packet : List ℕ) (before : Standing) → o ≡ Some s → packet_refusal s packet ≡ Some code → IfOk r (λ t. bytes t ≡ refusal code number) → IfOk r (λ t. AnswersPacket o number packet before (bytes t) before)
-  packet_refused o s code number packet before is why told = rw is (rw why (refused code number before told))
+pub packet_kept : (o : Option Session) (s : Session) (number : ℕ) (packet : List ℕ) (before after : Standing) → o ≡ Some s → packet_refusal s packet ≡ None → after ≡ record before { sessions = with_session (with_packet s packet) before.sessions } → AnswersPacket o number packet before (kept_line (length s.packets)) after
+packet_kept o s number packet before after is why changed = rw is (rw why (refl, changed))
 
-  pub packet_kept : (o : Option Session) (s : Session) (number : ℕ) (packet : List ℕ) (before after : Standing) → o ≡ Some s → packet_refusal s packet ≡ None → IfOk r (λ t. bytes t ≡ kept_line (length s.packets)) → after ≡ record before { sessions = with_session (with_packet s packet) before.sessions } → IfOk r (λ t. AnswersPacket o number packet before (bytes t) after)
-  packet_kept o s number packet before after is why told changed = rw is (rw why (by_result r told))
-    where
-      by_result : (r : Result S E) → IfOk r (λ t. bytes t ≡ kept_line (length s.packets)) → IfOk r (λ t. (bytes t ≡ kept_line (length s.packets)) × (after ≡ record before { sessions = with_session (with_packet s packet) before.sessions }))
-      by_result (Ok t) h = (h, changed)
-      by_result (Err e) h = tt
+pub drop_of_none : (o : Option Session) (number : ℕ) (name : List ℕ) (before : Standing) → o ≡ None → AnswersDrop o number name before (refusal (codes "P2") number) before
+drop_of_none o number name before none = rw none (refl, refl)
 
-  pub drop_of_none : (o : Option Session) (number : ℕ) (name : List ℕ) (before : Standing) → o ≡ None → IfOk r (λ t. bytes t ≡ refusal (codes "P2") number) → IfOk r (λ t. AnswersDrop o number name before (bytes t) before)
-  drop_of_none o number name before none told = rw none (refused (codes "P2") number before told)
+pub dropped : (o : Option Session) (s : Session) (number : ℕ) (name : List ℕ) (before after : Standing) → o ≡ Some s → after ≡ record before { sessions = without_session name before.sessions } → AnswersDrop o number name before gone_line after
+dropped o s number name before after is changed = rw is (refl, changed)
 
-  pub dropped : (o : Option Session) (s : Session) (number : ℕ) (name : List ℕ) (before after : Standing) → o ≡ Some s → IfOk r (λ t. bytes t ≡ gone_line) → after ≡ record before { sessions = without_session name before.sessions } → IfOk r (λ t. AnswersDrop o number name before (bytes t) after)
-  dropped o s number name before after is told changed = rw is (by_result r told)
-    where
-      by_result : (r : Result S E) → IfOk r (λ t. bytes t ≡ gone_line) → IfOk r (λ t. (bytes t ≡ gone_line) × (after ≡ record before { sessions = without_session name before.sessions }))
-      by_result (Ok t) h = (h, changed)
-      by_result (Err e) h = tt
+pub image_full : (full : Bool) (number : ℕ) (name text : List ℕ) (before : Standing) → full ≡ true → AnswersImage full number name text before (refusal (codes "E2") number) before
+image_full full number name text before is = rw is (refl, refl)
 
-  pub image_full : (full : Bool) (number : ℕ) (name text : List ℕ) (before : Standing) → full ≡ true → IfOk r (λ t. bytes t ≡ refusal (codes "E2") number) → IfOk r (λ t. AnswersImage full number name text before (bytes t) before)
-  image_full full number name text before is told = rw is (refused (codes "E2") number before told)
+image_judged_as : (full : Bool) (number : ℕ) (name text : List ℕ) (before : Standing) (told : List ℕ) (after : Standing) → full ≡ false → IsJudged name text before told after → AnswersImage full number name text before told after
+image_judged_as full number name text before told after is judged = rw is judged
 
-  pub image_judged : (full : Bool) (number : ℕ) (name text : List ℕ) (before after : Standing) → full ≡ false → IfOk r (λ t. IsJudged name text before (bytes t) after) → IfOk r (λ t. AnswersImage full number name text before (bytes t) after)
-  image_judged full number name text before after is judged = rw is judged
+pub image_judged : {S E : Type 0} (r : Result S E) (full : Bool) (number : ℕ) (name text : List ℕ) (before after : Standing) (was now : List ℕ) → full ≡ false
+    → OnOk r (GoesOnWith (λ line. IsJudged name text before line after) was now) → OnOk r (GoesOnWith (λ line. AnswersImage full number name text before line after) was now)
+image_judged (Ok x) full number name text before after was now is (told, goes, judged) = (told, goes, image_judged_as full number name text before told after is judged)
+image_judged (Err e) full number name text before after was now is h = tt
 
-  pub image_refused : (name text : List ℕ) (before : Standing) (code : RefusalCode) (place : ℕ) → IsAnswer text (Err (Refused code place)) → IfOk r (λ t. bytes t ≡ refusal (refusal_code_text code) place) → IfOk r (λ t. IsJudged name text before (bytes t) before)
-  image_refused name text before code place answer told = by_result r told
-    where
-      by_result : (r : Result S E) → IfOk r (λ t. bytes t ≡ refusal (refusal_code_text code) place) → IfOk r (λ t. IsJudged name text before (bytes t) before)
-      by_result (Ok t) h = record { verdict = Err (Refused code place); is = answer; answers = (h, refl) }
-      by_result (Err e) h = tt
+pub image_refused : (name text : List ℕ) (before : Standing) (code : RefusalCode) (place : ℕ) → IsAnswer text (Err (Refused code place)) → IsJudged name text before (refusal (refusal_code_text code) place) before
+image_refused name text before code place answer = record { verdict = Err (Refused code place); is = answer; answers = (refl, refl) }
 
 pub image_opened : (name text : List ℕ) (before after : Standing) (image : ImageValue) (budget : ℕ) (told : List ℕ) → IsAnswer text (Ok (allowed image budget)) → IsTextOf text image → told ≡ yes_line (allowed image budget)
     → after ≡ record before { sessions = with_session record { name = name; image = image; packets = [] } before.sessions } → IsJudged name text before told after

@@ -66,3 +66,10 @@ all_bytes (x ∷ xs) fit =
     let fits : Fits w8 x = fit zero in
     let test : nat_lt x 256 ≡ true = grind (arith, nat_tests, fits) in
     rw test (all_bytes xs (λ i. fit (suc i)))
+
+-- the parts of a result's line, one behind another
+pub result_told : (before number error steps result : List ℕ) {a b c d e f : List ℕ} → a ≡ before ++ codes "R " → b ≡ a ++ number ++ codes " " → c ≡ b ++ error ++ codes " " → d ≡ c ++ steps ++ codes " " → e ≡ d ++ result → f ≡ e ++ codes "\n"
+    → f ≡ before ++ written (codes "R " ++ number ++ codes " " ++ error ++ codes " " ++ steps ++ codes " " ++ result)
+result_told before number error steps result at_a at_b at_c at_d at_e at_f =
+    let field : List ℕ → List ℕ → List ℕ = λ n l. l ++ n ++ codes " " in
+    at_f ∙ ap (λ l. l ++ codes "\n") (at_e ∙ ap (λ l. l ++ result) (at_d ∙ ap (field steps) (at_c ∙ ap (field error) (at_b ∙ ap (field number) at_a)))) ∙ simp append_assoc

@@ -1,5 +1,5 @@
 -- The lines of answers.
-use Rattle.std.specs.Prelude.{ℕ, Bool, true, false, if◌then◌else◌, List, [], ◌∷◌, ◌++◌, length, codes, Result, Ok, Err}
+use Rattle.std.specs.Prelude.{◌≡◌, ℕ, Bool, true, false, if◌then◌else◌, List, [], ◌∷◌, ◌++◌, length, codes, Result, Ok, Err}
 use Rattle.std.specs.List.{flat_map}
 use Rattle.std.specs.Fmt.{decimal}
 use Rattle.hex.specs.Hex.{encode_lower}
@@ -15,6 +15,10 @@ use Rattle.tp_requests.specs.Lines.{line_feed}
 -- a text as a line
 abbrev pub written : List ℕ → List ℕ
 written text = text ++ line_feed ∷ []
+
+-- a text goes on with one of which this is so
+abbrev pub GoesOnWith : (List ℕ → Type 0) → (before after : List ℕ) → Type 0
+GoesOnWith says before after = (told : List ℕ) × (after ≡ before ++ told) × says told
 
 -- NO, a code and a place
 abbrev pub refusal : List ℕ → ℕ → List ℕ

@@ -1,19 +1,21 @@
 //! Answers to lines that run nothing.
 
-ghost use Rattle.std.specs.Prelude.{◌≡◌, ◌≤◌, ◌++◌, ℕ, nat_lt, length, IsTrue, IfOk, string_bytes};
+ghost use Rattle.std.specs.Prelude.{◌≡◌, ◌≤◌, ◌++◌, ℕ, nat_lt, length, IsTrue, OnOk};
 ghost use Rattle.std.specs.List.{flat_map, list_all};
 ghost use Rattle.tp_decode.specs.Lines.{lines_from};
 ghost use Rattle.tp_decode.specs.Cutting.{cutting};
 ghost use Rattle.tp_accept.specs.Refusals.{refusal_code_text};
 ghost use Rattle.tp_accept.specs.Verdict.{allowed};
 ghost use Rattle.tp_answers.specs.Sessions.{named};
-ghost use Rattle.tp_answers.specs.Told.{written, refusal, listing_answer, yes_line};
+ghost use Rattle.tp_answers.specs.Told.{written, refusal, listing_answer, yes_line, GoesOnWith};
 ghost use Rattle.tp_answers.specs.Answers.{is_full, IsJudged, AnswersImage, AnswersPacket, AnswersDrop, standing};
 ghost use Rattle.tp_answers.specs.Open.{sessions_of};
 
 use crate::session::Kept;
 use crate::sessions::Sessions;
+use crate::telling::{tell_done, tell_gone, tell_kept};
 use std::alloc::{AllocError, Global};
+use std::io::Write;
 use tp_accept::{Accepted, Refusal, RefusalCode, accept};
 use tp_board::Packet;
 use tp_decode::{DecodeFault, Listing, decode};
@@ -25,61 +27,56 @@ const MOST_SESSIONS: usize = 64;
 /// The most packets that a session keeps.
 const MOST_PACKETS: usize = 1024;
 
-/// A line that is refused: its code and the place.
-pub fn refusal(alloc: Global, code: &str, place: u64) -> Result<String, AllocError>
-    ensures { IfOk result (λ text. string_bytes text ≡ refusal code.now place) }
+/// A line that is refused: its code and the place, behind what is told already.
+pub fn refusal(told: &mut Vec<u8>, code: &str, place: u64) -> Result<(), AllocError>
+    ensures { OnOk result (told.new.items ≡ told.old.items ++ refusal code.now place) }
 {
-    format!(in alloc; "NO {code} {place}\n")
+    write!(told, "NO {code} {place}\n").or(Err(AllocError))
 }
 
 /// The lines of a listing.
-fn lines(alloc: Global, listing: &Listing) -> Result<String, AllocError>
-    ensures { IfOk result (λ text. string_bytes text ≡ flat_map written (lines_from 0 listing.now)) }
+fn lines(told: &mut Vec<u8>, alloc: Global, listing: &Listing) -> Result<(), AllocError>
+    ensures { OnOk result (told.new.items ≡ told.old.items ++ flat_map written (lines_from 0 listing.now)) }
 {
-    let mut text = String::new(alloc);
     for i in 0..listing.starts().len() {
-        text.push_str(listing.text(alloc, i)?.as_str())?;
-        text.push_str("\n")?;
+        told.extend_from_slice(listing.text(alloc, i)?.as_bytes())?;
+        told.push(b'\n')?;
     }
-    Ok(text)
+    Ok(())
 }
 
-/// The answer to a request for the listing of a code.
+/// The answer to a request for the listing of a code, behind what is told already.
 #[tactic(auto, unfolding(crate::specs::Told::listing_answer))]
-pub fn list(alloc: Global, code: &[u8]) -> Result<String, AllocError>
+pub fn list(told: &mut Vec<u8>, alloc: Global, code: &[u8]) -> Result<(), AllocError>
     requires { length code.now ≤ 65535 }
-    ensures { IfOk result (λ text. string_bytes text ≡ listing_answer (cutting code.now)) }
+    ensures { OnOk result (told.new.items ≡ told.old.items ++ listing_answer (cutting code.now)) }
 {
     match decode(alloc, code) {
         Ok(listing) => {
-            let mut text = lines(alloc, &listing)?;
-            let count = listing.starts().len();
-            text.push_str(format!(in alloc; "DONE {count}\n")?.as_str())?;
-            Ok(text)
+            lines(told, alloc, &listing)?;
+            tell_done(told, listing.starts().len())
         }
         Err(DecodeFault::Refused { code, place }) => {
-            let code = format!(in alloc; "{code}")?;
-            refusal(alloc, code.as_str(), place as u64)
+            write!(told, "NO {code} {place}\n").or(Err(AllocError))
         }
         Err(DecodeFault::Memory) => Err(AllocError),
     }
 }
 
 /// That an image may be run.
-fn yes_line(alloc: Global, image: &Accepted) -> Result<String, AllocError>
-    ensures { IfOk result (λ text. string_bytes text ≡ yes_line (allowed image.now.image image.now.budget)) }
+fn tell_yes(told: &mut Vec<u8>, image: &Accepted) -> Result<(), AllocError>
+    ensures { OnOk result (told.new.items ≡ told.old.items ++ yes_line (allowed image.now.image image.now.budget)) }
 {
     let bytes = image.code().len();
     let budget = image.budget();
-    format!(in alloc; "YES {bytes} {budget}\n")
+    write!(told, "YES {bytes} {budget}\n").or(Err(AllocError))
 }
 
 /// An image that is refused.
-fn refused(alloc: Global, code: RefusalCode, place: usize) -> Result<String, AllocError>
-    ensures { IfOk result (λ text. string_bytes text ≡ refusal (refusal_code_text code) place) }
+fn refused(told: &mut Vec<u8>, code: RefusalCode, place: usize) -> Result<(), AllocError>
+    ensures { OnOk result (told.new.items ≡ told.old.items ++ refusal (refusal_code_text code) place) }
 {
-    let code = format!(in alloc; "{code}")?;
-    refusal(alloc, code.as_str(), place as u64)
+    write!(told, "NO {code} {place}\n").or(Err(AllocError))
 }
 
 /// No more sessions may open.
@@ -95,40 +92,42 @@ fn is_full(sessions: &Sessions, name: &Name) -> bool
 /// Judges the text of an image. An image that may be run opens a session, or replaces the image of the session of this name.
 fn judge(
     sessions: &mut Sessions,
+    told: &mut Vec<u8>,
     alloc: Global,
     name: Name,
     text: Vec<u8>,
-) -> Result<String, AllocError>
-    ensures { (batches : ℕ) → IfOk result (λ told. IsJudged name.items text.items
-        (standing (sessions_of sessions.old) batches) (string_bytes told) (standing (sessions_of sessions.new) batches)) }
+) -> Result<(), AllocError>
+    ensures { (batches : ℕ) → OnOk result (GoesOnWith (λ line. IsJudged name.items text.items
+        (standing (sessions_of sessions.old) batches) line (standing (sessions_of sessions.new) batches)) told.old.items told.new.items) }
 {
     match accept(alloc, text) {
         Ok(image) => {
-            let answer = yes_line(alloc, &image)?;
+            tell_yes(told, &image)?;
             sessions.put(name, Kept::new(alloc, image))?;
-            Ok(answer)
+            Ok(())
         }
-        Err(Refusal::Refused { code, place }) => refused(alloc, code, place),
+        Err(Refusal::Refused { code, place }) => refused(told, code, place),
         Err(Refusal::Memory) => Err(AllocError),
     }
 }
 
-/// Opens a session with the image of a text, or replaces the image of the session of this name.
-#[tactic(auto, using(crate::proofs::AnswerLemmas::image_full))]
+/// Opens a session with the image of a text, or replaces the image of the session of this name. The answer comes behind what
+/// is told already.
 pub fn open(
     sessions: &mut Sessions,
+    told: &mut Vec<u8>,
     alloc: Global,
     number: u64,
     name: Name,
     text: Vec<u8>,
-) -> Result<String, AllocError>
-    ensures { (batches : ℕ) → IfOk result (λ told. AnswersImage (is_full name.items (sessions_of sessions.old)) number name.items text.items
-        (standing (sessions_of sessions.old) batches) (string_bytes told) (standing (sessions_of sessions.new) batches)) }
+) -> Result<(), AllocError>
+    ensures { (batches : ℕ) → OnOk result (GoesOnWith (λ line. AnswersImage (is_full name.items (sessions_of sessions.old)) number name.items text.items
+        (standing (sessions_of sessions.old) batches) line (standing (sessions_of sessions.new) batches)) told.old.items told.new.items) }
 {
     if is_full(sessions, &name) {
-        return refusal(alloc, "E2", number);
+        return refusal(told, "E2", number);
     }
-    judge(sessions, alloc, name, text)
+    judge(sessions, told, alloc, name, text)
 }
 
 /// The packet of some bytes.
@@ -144,45 +143,45 @@ fn packet_of(bytes: &[u8]) -> Packet
     }
 }
 
-/// A session keeps a packet.
+/// A session keeps a packet. The answer comes behind what is told already.
 pub fn keep(
     sessions: &mut Sessions,
-    alloc: Global,
+    told: &mut Vec<u8>,
     number: u64,
     name: &Name,
     bytes: &[u8],
-) -> Result<String, AllocError>
-    ensures { (batches : ℕ) → IfOk result (λ told. AnswersPacket (named name.now.items (sessions_of sessions.old)) number bytes.now
-        (standing (sessions_of sessions.old) batches) (string_bytes told) (standing (sessions_of sessions.new) batches)) }
+) -> Result<(), AllocError>
+    ensures { (batches : ℕ) → OnOk result (GoesOnWith (λ line. AnswersPacket (named name.now.items (sessions_of sessions.old)) number bytes.now
+        (standing (sessions_of sessions.old) batches) line (standing (sessions_of sessions.new) batches)) told.old.items told.new.items) }
 {
     let Some(index) = sessions.find(name) else {
-        return refusal(alloc, "P2", number);
+        return refusal(told, "P2", number);
     };
     let kept = sessions.at(index);
     if bytes.len() != kept.image.packet_bytes() {
-        return refusal(alloc, "P1", number);
+        return refusal(told, "P1", number);
     }
     let count = kept.packets.len();
     if count >= MOST_PACKETS {
-        return refusal(alloc, "P3", number);
+        return refusal(told, "P3", number);
     }
     sessions.keep(index, packet_of(bytes))?;
-    format!(in alloc; "KEPT {count}\n")
+    tell_kept(told, count)
 }
 
-/// A session ends.
+/// A session ends. The answer comes behind what is told already.
 pub fn close(
     sessions: &mut Sessions,
-    alloc: Global,
+    told: &mut Vec<u8>,
     number: u64,
     name: &Name,
-) -> Result<String, AllocError>
-    ensures { (batches : ℕ) → IfOk result (λ told. AnswersDrop (named name.now.items (sessions_of sessions.old)) number name.now.items
-        (standing (sessions_of sessions.old) batches) (string_bytes told) (standing (sessions_of sessions.new) batches)) }
+) -> Result<(), AllocError>
+    ensures { (batches : ℕ) → OnOk result (GoesOnWith (λ line. AnswersDrop (named name.now.items (sessions_of sessions.old)) number name.now.items
+        (standing (sessions_of sessions.old) batches) line (standing (sessions_of sessions.new) batches)) told.old.items told.new.items) }
 {
     let Some(index) = sessions.find(name) else {
-        return refusal(alloc, "P2", number);
+        return refusal(told, "P2", number);
     };
     sessions.remove(index);
-    String::from_str(alloc, "GONE\n")
+    tell_gone(told)
 }

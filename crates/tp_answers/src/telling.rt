@@ -1,11 +1,12 @@
 //! What is told of a batch.
 
-ghost use Rattle.std.specs.Prelude.{◌≡◌, ◌++◌, ◌≤◌, length, OnOk};
+ghost use Rattle.std.specs.Prelude.{◌≡◌, ◌++◌, ◌≤◌, codes, decimal, length, OnOk};
 ghost use Rattle.hex.specs.Hex.{encode_lower};
 ghost use Rattle.tp_collect.specs.DoneValue.{run_of_done};
-ghost use Rattle.tp_answers.specs.Told.{result_line, trace_text, trace_line, done_line};
+ghost use Rattle.tp_answers.specs.Told.{result_line, kept_line, gone_line, trace_text, trace_line, done_line};
 ghost use Rattle.tp_answers.specs.Entries.{entry_told, entries_told};
 
+use itoa::Buffer;
 use std::alloc::AllocError;
 use std::io::Write;
 use tp_collect::{Done, Entry};
@@ -23,13 +24,48 @@ fn tell_hex(text: &mut Vec<u8>, bytes: &[u8]) -> Result<(), AllocError>
     }
 }
 
+/// Writes a number in decimal.
+fn tell_number(text: &mut Vec<u8>, number: u64) -> Result<(), AllocError>
+    ensures { OnOk result (text.new.items ≡ text.old.items ++ decimal number) }
+{
+    let mut digits = Buffer::new();
+    text.extend_from_slice(digits.format(number).as_bytes())
+}
+
+/// Writes that a packet is kept under a number.
+pub(crate) fn tell_kept(text: &mut Vec<u8>, number: usize) -> Result<(), AllocError>
+    ensures { OnOk result (text.new.items ≡ text.old.items ++ kept_line number) }
+{
+    text.extend_from_slice(b"KEPT ")?;
+    tell_number(text, number as u64)?;
+    text.push(b'\n')?;
+    Ok(())
+}
+
+/// Writes that a session has ended.
+pub(crate) fn tell_gone(text: &mut Vec<u8>) -> Result<(), AllocError>
+    ensures { OnOk result (text.new.items ≡ text.old.items ++ gone_line) }
+{
+    text.extend_from_slice(b"GONE\n")
+}
+
+/// Writes a number in decimal, and a space.
+fn tell_field(text: &mut Vec<u8>, number: u64) -> Result<(), AllocError>
+    ensures { OnOk result (text.new.items ≡ text.old.items ++ decimal number ++ codes " ") }
+{
+    tell_number(text, number)?;
+    text.push(b' ')?;
+    Ok(())
+}
+
 /// Writes the line of a result.
 fn tell_result(text: &mut Vec<u8>, number: usize, done: &Done) -> Result<(), AllocError>
     ensures { OnOk result (text.new.items ≡ text.old.items ++ result_line number (run_of_done done.now)) }
 {
-    let flag = u8::from(done.error);
-    let steps = done.steps;
-    write!(text, "R {number} {flag} {steps} ").or(Err(AllocError))?;
+    text.extend_from_slice(b"R ")?;
+    tell_field(text, number as u64)?;
+    tell_field(text, u64::from(done.error))?;
+    tell_field(text, u64::from(done.steps))?;
     tell_hex(text, done.result.as_slice())?;
     text.push(b'\n')?;
     Ok(())

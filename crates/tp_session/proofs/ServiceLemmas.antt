@@ -1,5 +1,5 @@
 -- The sessions of a service, and what is asked of it.
-use Rattle.std.proofs.Common.{◌≡◌, ℕ, zero, suc, ◌+◌, ◌%◌, ◌^◌, ◌≤◌, ◌<◌, nat_eq, not, ◌&&◌, Bool, true, false, if◌then◌else◌, List, [], ◌∷◌, ◌++◌, length, take, drop, map, codes, slice_get, slice_set, Option, Some, None, Result, Ok, Err, refl, ap, sym, subst, ◌∙◌, arith, append_assoc}
+use Rattle.std.proofs.Common.{◌≡◌, ℕ, zero, suc, ◌+◌, ◌%◌, ◌^◌, ◌≤◌, ◌<◌, nat_eq, not, ◌&&◌, Bool, true, false, if◌then◌else◌, List, [], ◌∷◌, ◌++◌, length, take, drop, map, codes, slice_get, slice_set, Option, Some, None, Result, Ok, Err, OnOk, refl, ap, sym, subst, ◌∙◌, arith, append_assoc}
 use Rattle.std.specs.Option.{option_map}
 use Rattle.std.proofs.Math.Nat.{mod-add-mod}
 use Rattle.std.proofs.lemmas.Option.{same_Some}
@@ -10,11 +10,11 @@ use Rattle.hex.proofs.HexLemmas.{decode_of-ok}
 use Rattle.tp_requests.specs.Fields.{space, onto_first, fields_of, is_text, is_name, bytes_if_ok, hex_bytes}
 use Rattle.tp_requests.specs.Requests.{Asked, ToList, ToOpen, ToKeep, ToRun, ToRunAll, ToDrop, of_two, of_three, of_fields, asked_by}
 use Rattle.tp_answers.specs.Sessions.{Session, with_session, without_packets}
-use Rattle.tp_answers.specs.Told.{refusal, of_line}
+use Rattle.tp_answers.specs.Told.{refusal, of_line, GoesOnWith}
 use Rattle.tp_answers.specs.Answers.{Standing, standing, batches_more, IsRun, AnswersRun, AreRuns}
 use Rattle.tp_answers.specs.declared.session.Kept.{Kept}
 use Rattle.tp_answers.specs.Open.{session_of}
-use Rattle.tp_session.specs.Standing.{IsListable, GoesOnWith}
+use Rattle.tp_session.specs.Standing.{IsListable}
 
 -- ---- a code that is to be listed is no longer than its line
 
@@ -118,15 +118,21 @@ asked_known value o r a h e = sym h ∙ ap (option_map value) e
 
 -- ---- one session's run
 
-pub run_of_none : (told : List ℕ) (o : Option Session) (trace : Bool) (number : ℕ) (before : Standing) → o ≡ None → told ≡ refusal (codes "P2") number → AnswersRun o trace number before told before
-run_of_none told o trace number before none is = rw none (is, refl)
+pub run_of_none : (o : Option Session) (trace : Bool) (number : ℕ) (before : Standing) → o ≡ None → AnswersRun o trace number before (refusal (codes "P2") number) before
+run_of_none o trace number before none = rw none (refl, refl)
 
-pub ran : (trace : Bool) (number : ℕ) (s : Session) (sessions sessions' : List Session) (batches batches' : ℕ) (empty text : List ℕ) {o : Option Session}
-    → o ≡ Some s → empty ≡ [] → GoesOnWith (IsRun trace s) empty text → sessions' ≡ with_session (without_packets s) sessions → batches' ≡ batches_more 1 batches
-    → AnswersRun o trace number (standing sessions batches) text (standing sessions' batches')
-ran trace number s sessions sessions' batches batches' empty text is none (told, goes, run) forgotten counted =
-    let all : told ≡ text = sym (goes ∙ ap (λ l. l ++ told) none) in
-    rw is record { run = subst (IsRun trace s) all run; forgotten = ap (λ ss. standing ss batches') forgotten ∙ ap (standing (with_session (without_packets s) sessions)) counted }
+ran_to : (trace : Bool) (number : ℕ) (s : Session) (sessions sessions' : List Session) (batches batches' : ℕ) (told : List ℕ) {o : Option Session}
+    → o ≡ Some s → IsRun trace s told → sessions' ≡ with_session (without_packets s) sessions → batches' ≡ batches_more 1 batches
+    → AnswersRun o trace number (standing sessions batches) told (standing sessions' batches')
+ran_to trace number s sessions sessions' batches batches' told is run forgotten counted =
+    rw is record { run = run; forgotten = ap (λ ss. standing ss batches') forgotten ∙ ap (standing (with_session (without_packets s) sessions)) counted }
+
+pub ran : {S E : Type 0} (r : Result S E) (trace : Bool) (number : ℕ) (s : Session) (sessions sessions' : List Session) (batches batches' : ℕ) (before after : List ℕ) {o : Option Session}
+    → o ≡ Some s → OnOk r (GoesOnWith (IsRun trace s) before after) → OnOk r (sessions' ≡ with_session (without_packets s) sessions) → OnOk r (batches' ≡ batches_more 1 batches)
+    → OnOk r (GoesOnWith (λ line. AnswersRun o trace number (standing sessions batches) line (standing sessions' batches')) before after)
+ran (Ok x) trace number s sessions sessions' batches batches' before after is (told, goes, run) forgotten counted =
+    (told, goes, ran_to trace number s sessions sessions' batches batches' told is run forgotten counted)
+ran (Err e) trace number s sessions sessions' batches batches' before after is goes forgotten counted = tt
 
 -- what is told of what is kept is told of its session
 pub run_of_named : (trace : Bool) (s : Session) (kept : Kept) (before after : List ℕ) → s ≡ session_of s.name kept → GoesOnWith (IsRun trace (session_of s.name kept)) before after → GoesOnWith (IsRun trace s) before after
@@ -167,3 +173,16 @@ pub counted_more : (batches i : ℕ) → batches_more 1 (batches_more i batches)
 counted_more batches i =
     let sum : (batches + i) + 1 ≡ batches + (i + 1) = omega arith in
     mod-add-mod (batches + i) (2 ^ 64) 1 ∙ ap (λ n. n % 2 ^ 64) sum
+
+-- so many sessions were run behind what was told
+pub runs_on : (trace : Bool) (sessions : List Session) (before after now : List ℕ) (s : Session) (here : List ℕ) → GoesOnWith (AreRuns trace sessions) before after → now ≡ (after ++ of_line s.name) ++ here → IsRun trace s here
+    → GoesOnWith (AreRuns trace (sessions ++ s ∷ [])) before now
+runs_on trace sessions before after now s here (told, goes, runs) is run = (
+  told ++ (of_line s.name ++ here),
+  is ∙ append_assoc after (of_line s.name) here ∙ ap (λ l. l ++ (of_line s.name ++ here)) goes ∙ append_assoc before told (of_line s.name ++ here),
+  runs_more trace sessions told s here runs run,
+)
+
+-- what goes on with nothing before it is it
+pub from_nothing : (says : List ℕ → Type 0) (before after : List ℕ) → before ≡ [] → GoesOnWith says before after → says after
+from_nothing says before after none (told, goes, is) = subst says (sym (goes ∙ ap (λ l. l ++ told) none)) is

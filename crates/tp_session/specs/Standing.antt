@@ -1,5 +1,5 @@
 -- Where serving stands, as it is kept.
-use Rattle.std.specs.Prelude.{◌≡◌, ◌≤◌, ℕ, List, ◌++◌, length}
+use Rattle.std.specs.Prelude.{◌≡◌, ◌≤◌, length}
 use Rattle.tp_link.specs.Device.{DeviceState}
 use Rattle.tp_session.specs.declared.fault.ServeFault.{ServeFault}
 use Rattle.tp_session.specs.declared.fault.ServeFault.TheVariants.{Memory, Thread}
@@ -28,7 +28,3 @@ IsWant fault = ⊥
 abbrev pub IsListable : Asked → Type 0
 IsListable (ToList code) = length code ≤ 65535
 IsListable other = Unit {0}
-
--- a text goes on with one of which this is so
-abbrev pub GoesOnWith : (List ℕ → Type 0) → (before after : List ℕ) → Type 0
-GoesOnWith says before after = (told : List ℕ) × (after ≡ before ++ told) × says told

@@ -1,8 +1,9 @@
 //! Reading lines, and answering each.
 
-ghost use Rattle.std.specs.Prelude.{◌≡◌, ℕ, Bool, List, Option, Some, [], ◌∷◌, ◌++◌, OnOk, OnErr, IfOk, IfErr, IfSome, MatchOption, position, ◌==◌, ◌<◌, length, take};
+ghost use Rattle.std.specs.Prelude.{◌≡◌, ℕ, Bool, List, Option, Some, [], ◌∷◌, ◌++◌, OnOk, OnErr, IfErr, IfSome, MatchOption, position, ◌==◌, ◌<◌, length, take};
 ghost use Rattle.std.specs.Io.KnownBytes.{Appends};
 ghost use Rattle.tp_requests.specs.Lines.{line_feed, without_return};
+ghost use Rattle.tp_answers.specs.Told.{GoesOnWith};
 ghost use Rattle.tp_answers.specs.Answers.{Answers};
 ghost use Rattle.tp_session.specs.Served.{asked_in};
 ghost use Rattle.tp_session.specs.Fitness.{AreFit, HasMembers, AreAsMany};
@@ -41,27 +42,30 @@ fn without_return(line: &[u8]) -> &[u8]
     }
 }
 
-/// The answer to the line that is being read, which a line feed has ended or the end of the input.
+/// The answer to the line that is being read, which a line feed has ended or the end of the input, behind what is told already.
 fn answer<R: Threads + Wait + Sync, D: LinkDevice + Send>(
     service: &mut Service<D>,
     rt: &R,
     alloc: Global,
     progress: &Progress,
     ended: bool,
-) -> Result<Vec<u8>, ServeFault>
+    told: &mut Vec<u8>,
+) -> Result<(), ServeFault>
     requires { HasMembers service.old.links.items }
-    ensures told { AreFit D.state service.old.links.items → (number : ℕ) (line : List ℕ) → Keeps progress.now number line → IfOk result (λ told.
-        Answers service.old.trace number (asked_in record { bytes = line; ended = ended }) (standing_of service.old) told.items (standing_of service.new)) }
+    ensures told { AreFit D.state service.old.links.items → (number : ℕ) (line : List ℕ) → Keeps progress.now number line → OnOk result (GoesOnWith (λ lines.
+        Answers service.old.trace number (asked_in record { bytes = line; ended = ended }) (standing_of service.old) lines (standing_of service.new)) told.old.items told.new.items) }
     ensures stays { OnOk result (StaysOn D.state service.old service.new) }
     ensures want { IfErr result IsWant }
 {
     if progress.long {
-        return Ok(refusal(alloc, "E1", progress.number)?.into_bytes());
+        refusal(told, "E1", progress.number)?;
+        return Ok(());
     }
+    let line = progress.line.as_slice();
     if ended {
-        service.answer_line(rt, alloc, progress.number, without_return(&progress.line))
+        service.answer_line(rt, alloc, progress.number, without_return(line), told)
     } else {
-        service.answer_line(rt, alloc, progress.number, &progress.line)
+        service.answer_line(rt, alloc, progress.number, line, told)
     }
 }
 
@@ -85,13 +89,25 @@ fn write_whole<W: Write>(writer: &mut W, text: &[u8]) -> Result<(), ServeFault>
     }
 }
 
-/// Answers the line that is being read, which a line feed has ended, and begins the next.
+/// The most room for answers that is kept from one line to the next, in bytes.
+const KEPT_ROOM: usize = 4096;
+
+/// Gives back the room of a long answer.
+fn give_back(told: &mut Vec<u8>, alloc: Global) {
+    if told.capacity() > KEPT_ROOM {
+        *told = Vec::new(alloc);
+    }
+}
+
+/// Answers the line that is being read, which a line feed has ended, and begins the next. The answer takes the room of the one
+/// before.
 fn end_line<R: Threads + Wait + Sync, D: LinkDevice + Send, W: Write>(
     progress: &mut Progress,
     service: &mut Service<D>,
     rt: &R,
     alloc: Global,
     writer: &mut W,
+    told: &mut Vec<u8>,
 ) -> Result<(), ServeFault>
     requires { HasMembers service.old.links.items }
     ensures ok { (trace : Bool) (begun : Option (List ℕ)) (s : Stand) → IsAt D.state trace begun progress.old service.old (W.contents writer.old) s →
@@ -100,8 +116,10 @@ fn end_line<R: Threads + Wait + Sync, D: LinkDevice + Send, W: Write>(
         IfErr result (Fails trace s.taken (10 ∷ []) begun (W.contents writer.new)) }
     ensures members { OnOk result (AreAsMany service.old.links.items service.new.links.items) }
 {
-    let text = answer(service, rt, alloc, progress, true)?;
-    write_whole(writer, &text)?;
+    told.clear();
+    answer(service, rt, alloc, progress, true, told)?;
+    write_whole(writer, told.as_slice())?;
+    give_back(told, alloc);
     progress.line.clear();
     progress.long = false;
     progress.number = progress.number.saturating_add(1);
@@ -138,13 +156,14 @@ fn take_plain(progress: &mut Progress, bytes: &[u8]) -> Result<(), AllocError>
     Ok(())
 }
 
-/// Takes some bytes of the input, and answers the lines that they end.
+/// Takes some bytes of the input, and answers the lines that they end. What `told` says is thrown away.
 pub(crate) fn feed<R: Threads + Wait + Sync, D: LinkDevice + Send, W: Write>(
     progress: &mut Progress,
     service: &mut Service<D>,
     rt: &R,
     alloc: Global,
     writer: &mut W,
+    told: &mut Vec<u8>,
     bytes: &[u8],
 ) -> Result<(), ServeFault>
     requires { HasMembers service.old.links.items }
@@ -157,7 +176,7 @@ pub(crate) fn feed<R: Threads + Wait + Sync, D: LinkDevice + Send, W: Write>(
     let mut rest = bytes;
     while let Some((line, behind)) = split_line(rest) {
         take_plain(progress, line)?;
-        end_line(progress, service, rt, alloc, writer)?;
+        end_line(progress, service, rt, alloc, writer, told)?;
         rest = behind;
     }
     take_plain(progress, rest)?;
@@ -171,6 +190,7 @@ pub(crate) fn finish<R: Threads + Wait + Sync, D: LinkDevice + Send, W: Write>(
     rt: &R,
     alloc: Global,
     writer: &mut W,
+    told: &mut Vec<u8>,
 ) -> Result<(), ServeFault>
     requires { HasMembers service.old.links.items }
     ensures ok { (trace : Bool) (begun : Option (List ℕ)) (s : Stand) → IsAt D.state trace begun progress.now service.old (W.contents writer.old) s →
@@ -181,6 +201,7 @@ pub(crate) fn finish<R: Threads + Wait + Sync, D: LinkDevice + Send, W: Write>(
     if progress.line.is_empty() {
         return Ok(());
     }
-    let text = answer(service, rt, alloc, progress, false)?;
-    write_whole(writer, &text)
+    told.clear();
+    answer(service, rt, alloc, progress, false, told)?;
+    write_whole(writer, told.as_slice())
 }

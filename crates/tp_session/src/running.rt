@@ -4,11 +4,12 @@ ghost use Rattle.std.specs.Prelude.{◌≡◌, ◌≤◌, ℕ, List, IfOk, IfErr
 ghost use Rattle.tp_farm.specs.Jobs.{batch_of};
 ghost use Rattle.tp_farm.specs.Refused.{job_fault, IsFromOutside};
 ghost use Rattle.tp_farm.specs.Promised.{ArePackets};
+ghost use Rattle.tp_answers.specs.Told.{GoesOnWith};
 ghost use Rattle.tp_answers.specs.Answers.{IsRun};
 ghost use Rattle.tp_answers.specs.Open.{session_of};
 ghost use Rattle.tp_answers.specs.Entries.{AreOutcomes};
 ghost use Rattle.tp_session.specs.Fitness.{AreFit, HasMembers, AreAsMany};
-ghost use Rattle.tp_session.specs.Standing.{IsWant, GoesOnWith};
+ghost use Rattle.tp_session.specs.Standing.{IsWant};
 
 use crate::fault::ServeFault;
 use std::alloc::Global;

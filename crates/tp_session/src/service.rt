@@ -1,14 +1,14 @@
 //! The service: what is kept between two lines, and the answer to each.
 
-ghost use Rattle.std.specs.Prelude.{◌≡◌, ◌≤◌, ◌<◌, ◌++◌, Some, length, slice_get, slice_set, IfOk, IfErr, OnOk, string_bytes};
+ghost use Rattle.std.specs.Prelude.{◌≡◌, ◌≤◌, ◌<◌, ◌++◌, Some, length, slice_get, slice_set, IfErr, OnOk};
 ghost use Rattle.tp_requests.specs.Requests.{asked, asked_by};
 ghost use Rattle.tp_answers.specs.Sessions.{Session, named, without_packets};
-ghost use Rattle.tp_answers.specs.Told.{of_line, all_line};
+ghost use Rattle.tp_answers.specs.Told.{of_line, all_line, GoesOnWith};
 ghost use Rattle.tp_answers.specs.Answers.{Answers, AnswersRun, AreRunAndForgotten, IsRun, batches_more};
 ghost use Rattle.tp_session.specs.Served.{most_line};
 ghost use Rattle.tp_answers.specs.Open.{sessions_of};
 ghost use Rattle.tp_session.specs.Fitness.{AreFit, HasMembers};
-ghost use Rattle.tp_session.specs.Standing.{standing_of, StaysOn, IsWant, IsListable, GoesOnWith};
+ghost use Rattle.tp_session.specs.Standing.{standing_of, StaysOn, IsWant, IsListable};
 
 use crate::fault::ServeFault;
 use crate::running::run_session;
@@ -81,94 +81,101 @@ impl<D: LinkDevice + Send> Service<D> {
         Ok(())
     }
 
-    /// Runs the packets of a session.
+    /// Runs the packets of a session. The answer comes behind what is told already.
     fn run<R: Threads + Wait + Sync>(
         &mut self,
         rt: &R,
         alloc: Global,
         number: u64,
         name: &Name,
-    ) -> Result<Vec<u8>, ServeFault>
+        told: &mut Vec<u8>,
+    ) -> Result<(), ServeFault>
         requires { HasMembers self.old.links.items }
-        ensures told { AreFit D.state self.old.links.items → IfOk result (λ told.
-            AnswersRun (named name.now.items (sessions_of self.old.sessions)) self.old.trace number (standing_of self.old) told.items (standing_of self.new)) }
+        ensures told { AreFit D.state self.old.links.items → OnOk result (GoesOnWith (λ line.
+            AnswersRun (named name.now.items (sessions_of self.old.sessions)) self.old.trace number (standing_of self.old) line (standing_of self.new)) told.old.items told.new.items) }
         ensures stays { OnOk result (StaysOn D.state self.old self.new) }
         ensures want { IfErr result IsWant }
     {
         let Some(index) = self.sessions.find(name) else {
-            return Ok(refusal(alloc, "P2", number)?.into_bytes());
+            refusal(told, "P2", number)?;
+            return Ok(());
         };
-        let mut text = Vec::new(alloc);
-        self.run_at(rt, alloc, index, &mut text)?;
-        Ok(text)
+        self.run_at(rt, alloc, index, told)
     }
 
-    /// Runs the packets of all sessions, in the order in which they were opened.
+    /// Runs the packets of all sessions, in the order in which they were opened. The answer comes behind what is told already.
     fn run_all<R: Threads + Wait + Sync>(
         &mut self,
         rt: &R,
         alloc: Global,
-    ) -> Result<Vec<u8>, ServeFault>
+        told: &mut Vec<u8>,
+    ) -> Result<(), ServeFault>
         requires { HasMembers self.old.links.items }
-        ensures told { AreFit D.state self.old.links.items → IfOk result (λ told.
-            AreRunAndForgotten self.old.trace (standing_of self.old) told.items (standing_of self.new)) }
+        ensures told { AreFit D.state self.old.links.items → OnOk result (GoesOnWith (λ lines.
+            AreRunAndForgotten self.old.trace (standing_of self.old) lines (standing_of self.new)) told.old.items told.new.items) }
         ensures stays { OnOk result (StaysOn D.state self.old self.new) }
         ensures want { IfErr result IsWant }
     {
         let count = self.sessions.len();
-        let mut text = Vec::new(alloc);
         for index in 0..count {
-            tell_name(&mut text, self.sessions.name_at(index))?;
-            self.run_at(rt, alloc, index, &mut text)?;
+            tell_name(told, self.sessions.name_at(index))?;
+            self.run_at(rt, alloc, index, told)?;
         }
-        tell_all(&mut text, count)?;
-        Ok(text)
+        tell_all(told, count)?;
+        Ok(())
     }
 
-    /// The answer to a request.
+    /// The answer to a request, behind what is told already.
     fn answer<R: Threads + Wait + Sync>(
         &mut self,
         rt: &R,
         alloc: Global,
         number: u64,
         request: Request,
-    ) -> Result<Vec<u8>, ServeFault>
+        told: &mut Vec<u8>,
+    ) -> Result<(), ServeFault>
         requires members { HasMembers self.old.links.items }
         requires listed { IsListable (asked request) }
-        ensures told { AreFit D.state self.old.links.items → IfOk result (λ told.
-            Answers self.old.trace number (Some (asked request)) (standing_of self.old) told.items (standing_of self.new)) }
+        ensures told { AreFit D.state self.old.links.items → OnOk result (GoesOnWith (λ lines.
+            Answers self.old.trace number (Some (asked request)) (standing_of self.old) lines (standing_of self.new)) told.old.items told.new.items) }
         ensures stays { OnOk result (StaysOn D.state self.old self.new) }
         ensures want { IfErr result IsWant }
     {
-        let text = match request {
-            Request::List(code) => list(alloc, &code)?,
-            Request::Image(name, text) => open(&mut self.sessions, alloc, number, name, text)?,
-            Request::Packet(name, bytes) => keep(&mut self.sessions, alloc, number, &name, &bytes)?,
-            Request::Run(name) => return self.run(rt, alloc, number, &name),
-            Request::RunAll => return self.run_all(rt, alloc),
-            Request::Close(name) => close(&mut self.sessions, alloc, number, &name)?,
-        };
-        Ok(text.into_bytes())
+        match request {
+            Request::List(code) => list(told, alloc, &code)?,
+            Request::Image(name, text) => {
+                open(&mut self.sessions, told, alloc, number, name, text)?
+            }
+            Request::Packet(name, bytes) => keep(&mut self.sessions, told, number, &name, &bytes)?,
+            Request::Run(name) => return self.run(rt, alloc, number, &name, told),
+            Request::RunAll => return self.run_all(rt, alloc, told),
+            Request::Close(name) => close(&mut self.sessions, told, number, &name)?,
+        }
+        Ok(())
     }
 
-    /// The answer to what a line says.
+    /// The answer to what a line says, behind what is told already.
     pub(crate) fn answer_line<R: Threads + Wait + Sync>(
         &mut self,
         rt: &R,
         alloc: Global,
         number: u64,
         line: &[u8],
-    ) -> Result<Vec<u8>, ServeFault>
+        told: &mut Vec<u8>,
+    ) -> Result<(), ServeFault>
         requires members { HasMembers self.old.links.items }
         requires short { length line.now ≤ most_line }
-        ensures told { AreFit D.state self.old.links.items → IfOk result (λ told.
-            Answers self.old.trace number (asked_by line.now) (standing_of self.old) told.items (standing_of self.new)) }
+        ensures told { AreFit D.state self.old.links.items → OnOk result (GoesOnWith (λ lines.
+            Answers self.old.trace number (asked_by line.now) (standing_of self.old) lines (standing_of self.new)) told.old.items told.new.items) }
         ensures stays { OnOk result (StaysOn D.state self.old self.new) }
         ensures want { IfErr result IsWant }
     {
         match read_request(alloc, line)? {
-            Some(request) => self.answer(rt, alloc, number, request),
-            None => Ok(refusal(alloc, "E1", number)?.into_bytes()),
+            Some(request) => self.answer(rt, alloc, number, request, told),
+            None => {
+                refusal(told, "E1", number)?;
+                Ok(())
+            }
         }
     }
 }

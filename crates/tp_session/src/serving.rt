@@ -41,13 +41,14 @@ pub fn serve<T: Threads + Wait + Sync, D: LinkDevice + Send, R: Read, W: Write>(
         batches: 0,
     };
     let mut progress = begin(alloc);
+    let mut told = Vec::new(alloc);
     let mut buffer = [0; READ_SIZE];
     for _ in rt.forever() {
         let Ok(count) = reader.read(&mut buffer) else {
             return Err(ServeFault::Read);
         };
         if count == 0 {
-            return finish(&progress, &mut service, rt, alloc, writer);
+            return finish(&progress, &mut service, rt, alloc, writer, &mut told);
         }
         feed(
             &mut progress,
@@ -55,6 +56,7 @@ pub fn serve<T: Threads + Wait + Sync, D: LinkDevice + Send, R: Read, W: Write>(
             rt,
             alloc,
             writer,
+            &mut told,
             &buffer[..count],
         )?;
     }

@@ -1,26 +1,26 @@
-use Rattle.std.proofs.Common.{◌≡◌, ◌≢◌, ◌*◌, ◌≤◌, ◌<◌, ◌++◌, codes, length, string_bytes, IfOk, ap, sym, ◌∙◌, arith}
-use Rattle.std.specs.Fmt.{decimal}
+use Rattle.std.proofs.Common.{◌≡◌, ◌≢◌, ◌*◌, ◌≤◌, ◌<◌, codes, length, ap, sym, ◌∙◌, arith}
 use Rattle.tp_answers.specs.Sessions.{most_packets, with_packet, with_session}
 use Rattle.tp_answers.specs.Told.{kept_line}
 use Rattle.tp_answers.specs.Open.{sessions_of}
 use Rattle.tp_answers.specs.Answers.{standing}
-use Rattle.tp_answers.proofs.Texts.{told, kept_told}
 use Rattle.tp_answers.proofs.SessionLemmas.{placed, absent, packets_kept}
-use Rattle.tp_answers.proofs.AnswerLemmas.{wrong_length, too_many, may_be_kept, packet_of_none, packet_refused, packet_kept}
+use Rattle.tp_answers.proofs.AnswerLemmas.{goes_with, wrong_length, too_many, may_be_kept, packet_of_none, packet_refused, packet_kept}
 use Rattle.tp_answers.proofs.answers.keep.Goals as goal
 
 pub returns-in_default : goal.returns-in_default
 returns-in_default c batches =
-    packet_of_none string_bytes c.refusal.result _ c.args.number c.args.bytes.now (standing (sessions_of c.args.sessions.now) batches)
-    (absent c.args.name.now.items (sessions_of c.args.sessions.now) (sym c.find.ensures ∙ c.in_default.is)) c.refusal.ensures
+    goes_with c.refusal.result _ _ _ _ c.refusal.ensures
+    (packet_of_none _ c.args.number c.args.bytes.now (standing (sessions_of c.args.sessions.now) batches)
+    (absent c.args.name.now.items (sessions_of c.args.sessions.now) (sym c.find.ensures ∙ c.in_default.is)))
 
 pub returns-then-bytes-packet_bytes : goal.returns-then-bytes-packet_bytes
 returns-then-bytes-packet_bytes c batches =
     let it = placed c.args.name.now.items (sessions_of c.args.sessions.now) c.in-Some.index (sym c.find.ensures ∙ c.in-Some.is) in
     let packet = ap (λ s. s.image.packet) (c.at-kept.ensures it.session it.there) in
     let other : length c.args.bytes.now ≢ 4 * it.session.image.packet = λ e. c.if-bytes-packet_bytes.true (e ∙ ap (λ n. 4 * n) packet ∙ sym c.packet_bytes.ensures.value) in
-    packet_refused string_bytes c.refusal-then-bytes-packet_bytes.result _ it.session (codes "P1") c.args.number c.args.bytes.now (standing (sessions_of c.args.sessions.now) batches) it.is_named
-    (wrong_length it.session c.args.bytes.now other) c.refusal-then-bytes-packet_bytes.ensures
+    goes_with c.refusal-then-bytes-packet_bytes.result _ _ _ _ c.refusal-then-bytes-packet_bytes.ensures
+    (packet_refused _ it.session (codes "P1") c.args.number c.args.bytes.now (standing (sessions_of c.args.sessions.now) batches) it.is_named
+    (wrong_length it.session c.args.bytes.now other))
 
 pub returns-then-count-ge-MOST_PACKETS : goal.returns-then-count-ge-MOST_PACKETS
 returns-then-count-ge-MOST_PACKETS c batches =
@@ -28,8 +28,9 @@ returns-then-count-ge-MOST_PACKETS c batches =
     let is = c.at-kept.ensures it.session it.there in
     let long : length c.args.bytes.now ≡ 4 * it.session.image.packet = c.if-bytes-packet_bytes.false ∙ c.packet_bytes.ensures.value ∙ ap (λ n. 4 * n) (sym (ap (λ s. s.image.packet) is)) in
     let many : most_packets ≤ length it.session.packets = omega (arith, packets_kept it.session c.at-kept.result.now is, c.if-count-ge-MOST_PACKETS.true, c.len-count.ensures) in
-    packet_refused string_bytes c.refusal-then-count-ge-MOST_PACKETS.result _ it.session (codes "P3") c.args.number c.args.bytes.now (standing (sessions_of c.args.sessions.now) batches) it.is_named
-    (too_many it.session c.args.bytes.now long many) c.refusal-then-count-ge-MOST_PACKETS.ensures
+    goes_with c.refusal-then-count-ge-MOST_PACKETS.result _ _ _ _ c.refusal-then-count-ge-MOST_PACKETS.ensures
+    (packet_refused _ it.session (codes "P3") c.args.number c.args.bytes.now (standing (sessions_of c.args.sessions.now) batches) it.is_named
+    (too_many it.session c.args.bytes.now long many))
 
 pub returns : goal.returns
 returns c batches =
@@ -37,10 +38,10 @@ returns c batches =
     let is = c.at-kept.ensures it.session it.there in
     let long : length c.args.bytes.now ≡ 4 * it.session.image.packet = c.if-bytes-packet_bytes.false ∙ c.packet_bytes.ensures.value ∙ ap (λ n. 4 * n) (sym (ap (λ s. s.image.packet) is)) in
     let few : length it.session.packets < most_packets = omega (arith, packets_kept it.session c.at-kept.result.now is, c.if-count-ge-MOST_PACKETS.false, c.len-count.ensures) in
-    let h : IfOk c.format.result (λ s. string_bytes s ≡ codes "KEPT " ++ (decimal c.len-count.result ++ codes "\n")) = c.format.ensures.ok in
+    let count : kept_line c.len-count.result ≡ kept_line (length it.session.packets) = ap kept_line (c.len-count.ensures ∙ sym (packets_kept it.session c.at-kept.result.now is)) in
     let changed = c.in_ok-keep.ensures it.session it.there ∙ it.replaced (with_packet it.session c.packet_of.result.items) (sym it.name_is)
     ∙ ap (λ packet. with_session (with_packet it.session packet) (sessions_of c.args.sessions.now)) c.packet_of.ensures.items in
-    packet_kept string_bytes c.format.result _ it.session c.args.number c.args.bytes.now (standing (sessions_of c.args.sessions.now) batches) _ it.is_named
+    goes_with c.tell_kept.result _ _ _ (kept_line (length it.session.packets)) (rw (sym count) c.tell_kept.ensures)
+    (packet_kept _ it.session c.args.number c.args.bytes.now (standing (sessions_of c.args.sessions.now) batches) _ it.is_named
     (may_be_kept it.session c.args.bytes.now long few)
-    (told string_bytes c.format.result _ _ h (kept_told c.len-count.result ∙ ap kept_line (c.len-count.ensures ∙ sym (packets_kept it.session c.at-kept.result.now is))))
-    (ap (λ sessions. standing sessions batches) changed)
+    (ap (λ sessions. standing sessions batches) changed))
