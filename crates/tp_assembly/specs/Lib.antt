@@ -2,3 +2,4 @@ pub mod Layout
 pub mod Faults
 pub mod Outcome
 pub mod Assembly
+pub mod Telling

@@ -13,7 +13,7 @@ use std::alloc::{AllocError, Global};
 use tp_decode::Instr;
 
 /// The byte of `pfix 0`, which changes nothing at the front of a spelling.
-const PFIX_0: u8 = 0x20;
+pub const PFIX_0: u8 = 0x20;
 
 /// The most bytes of a code that is laid out.
 pub const MOST_BYTES: usize = 0xFFFF;

@@ -12,6 +12,7 @@ mod placing;
 mod program;
 mod rows;
 mod spelling;
+mod telling;
 
 pub use assembling::assemble;
 pub use fault::{AssemblyFault, LineFault};
