@@ -1,3 +1,4 @@
 pub mod LayoutLemmas
 pub mod AssemblyLemmas
 pub mod TellingLemmas
+pub mod RoundTrip

@@ -3,3 +3,4 @@ pub mod Faults
 pub mod Outcome
 pub mod Assembly
 pub mod Telling
+pub mod Labelling

@@ -5,8 +5,10 @@
 #![tactic(auto)]
 
 mod assembling;
+mod disassembling;
 mod fault;
 mod fields;
+mod labelling;
 mod layout;
 mod placing;
 mod program;
@@ -15,5 +17,6 @@ mod spelling;
 mod telling;
 
 pub use assembling::assemble;
+pub use disassembling::disassemble;
 pub use fault::{AssemblyFault, LineFault};
 pub use program::{Line, Loop, Operation, Program, Spot};
