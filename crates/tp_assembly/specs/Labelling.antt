@@ -6,7 +6,7 @@ use Rattle.tp_decode.specs.declared.instr.Instr.TheVariants.{Jump, Cj}
 use Rattle.tp_image.specs.declared.image.LoopRow.{LoopRow}
 use Rattle.tp_image.specs.Image.{ImageValue}
 use Rattle.tp_assembly.specs.declared.program.Operation.{Operation}
-use Rattle.tp_assembly.specs.declared.program.Operation.TheVariants.{Plain, JumpTo, CjTo, Distance}
+use Rattle.tp_assembly.specs.declared.program.Operation.TheVariants.{Plain, JumpTo, CjTo}
 use Rattle.tp_assembly.specs.declared.program.Line.{Line}
 use Rattle.tp_assembly.specs.declared.program.Line.TheVariants.{Byte, Spelled}
 use Rattle.tp_assembly.specs.declared.program.Spot.{Spot}

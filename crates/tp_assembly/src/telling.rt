@@ -73,7 +73,7 @@ fn found_at(code: &[u8], at: usize) -> Option<Found>
     requires { at ≤ length code.now }
     ensures { MatchOption result ((drop at code.now ≡ []) ⊎ ((e : DecodeFault) × Stops (drop at code.now) at e))
         (λ found. (at < found.next) × (found.next ≤ length code.now)
-            × BeginsWith (drop at code.now) (record { bytes = slice_range code.now at found.next; instr = found.instr })) }
+        × BeginsWith (drop at code.now) (record { bytes = slice_range code.now at found.next; instr = found.instr })) }
 {
     if at == code.len() {
         return None;

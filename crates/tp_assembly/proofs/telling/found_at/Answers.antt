@@ -1,4 +1,4 @@
-use Rattle.std.proofs.Common.{◌≡◌, ◌+◌, ◌-◌, ◌<◌, length, drop, inr, None, Some, refl, sym, ap, ◌∙◌, arith, rules, length-take, length-drop}
+use Rattle.std.proofs.Common.{◌≡◌, ◌-◌, drop, inr, None, Some, refl, sym, ap, ◌∙◌, arith, rules, length-take}
 use Rattle.std.proofs.lemmas.Int.{to_z-of_z}
 use mir.Val.{SFits}
 use mir.Syntax.{w32}
