@@ -170,7 +170,9 @@ impl<'a> Draft<'a> {
     /// The local word of a name, as an operand.
     pub fn local(&self, word: &Word<'_>) -> Result<i32, SourceFault> {
         match value_of(&self.locals, word) {
-            Some(value) => i32::try_from(value).ok().ok_or(word.fault(TextFault::OutOfRange)),
+            Some(value) => i32::try_from(value)
+                .ok()
+                .ok_or(word.fault(TextFault::OutOfRange)),
             None => Err(word.fault(TextFault::NoLocal)),
         }
     }

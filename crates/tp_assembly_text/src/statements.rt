@@ -100,11 +100,7 @@ fn locals<'a>(draft: &mut Draft<'a>, words: &[Word<'a>]) -> Result<(), SourceFau
 }
 
 /// `init WORD: VALUE, VALUE ..`
-fn initial(
-    draft: &mut Draft<'_>,
-    words: &[Word<'_>],
-    first: &Word<'_>,
-) -> Result<(), SourceFault> {
+fn initial(draft: &mut Draft<'_>, words: &[Word<'_>], first: &Word<'_>) -> Result<(), SourceFault> {
     let at = word_at(words, 1, first)?;
     let from = count_of(&at, crate::draft::MOST_WORDS)? as usize;
     expect(words, 2, &at, ":")?;
@@ -192,7 +188,11 @@ fn begin_loop<'a>(
 }
 
 /// `end NAME`: the innermost loop's `ldlp`, distance and `lend`, and its row.
-fn end_loop(draft: &mut Draft<'_>, words: &[Word<'_>], first: &Word<'_>) -> Result<(), SourceFault> {
+fn end_loop(
+    draft: &mut Draft<'_>,
+    words: &[Word<'_>],
+    first: &Word<'_>,
+) -> Result<(), SourceFault> {
     let name = word_at(words, 1, first)?;
     expect_end(words, 2)?;
     let Some(open) = draft.open.pop() else {
@@ -267,10 +267,7 @@ fn loop_row<'a>(
 }
 
 /// How many bytes are stated behind a `/`, and which word is the operand.
-fn stated<'a>(
-    words: &[Word<'a>],
-    first: &Word<'a>,
-) -> Result<(Option<u8>, usize), SourceFault> {
+fn stated<'a>(words: &[Word<'a>], first: &Word<'a>) -> Result<(Option<u8>, usize), SourceFault> {
     match words.get(1) {
         Some(mark) if mark.is("/") => {
             let word = word_at(words, 2, mark)?;
@@ -288,7 +285,12 @@ fn stated<'a>(
 }
 
 /// The operand that stands at a word: a number, or a local and maybe a number added to it.
-fn value_at(draft: &Draft<'_>, words: &[Word<'_>], i: usize, word: &Word<'_>) -> Result<i32, SourceFault> {
+fn value_at(
+    draft: &Draft<'_>,
+    words: &[Word<'_>],
+    i: usize,
+    word: &Word<'_>,
+) -> Result<i32, SourceFault> {
     if is_number(word) {
         expect_end(words, i.saturating_add(1))?;
         return number_of(word);
@@ -300,7 +302,9 @@ fn value_at(draft: &Draft<'_>, words: &[Word<'_>], i: usize, word: &Word<'_>) ->
             expect(words, i.saturating_add(1), word, "+")?;
             let more = number_of(&word_at(words, i.saturating_add(2), mark)?)?;
             expect_end(words, i.saturating_add(3))?;
-            local.checked_add(more).ok_or(mark.fault(TextFault::OutOfRange))
+            local
+                .checked_add(more)
+                .ok_or(mark.fault(TextFault::OutOfRange))
         }
     }
 }

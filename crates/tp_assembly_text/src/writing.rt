@@ -127,7 +127,10 @@ fn put_fields(text: &mut String, program: &Program) -> Result<(), AllocError> {
     let start = program.start;
     let packet = program.packet;
     let results = program.result;
-    writeln!(text, "workspace {workspace}\nstart {start}\npacket {packet}\nresult {results}")?;
+    writeln!(
+        text,
+        "workspace {workspace}\nstart {start}\npacket {packet}\nresult {results}"
+    )?;
     for (i, word) in program.initial.iter().enumerate() {
         let word = *word;
         writeln!(text, "init {i}: #{word:x}")?;
