@@ -1,0 +1,127 @@
+//! Each fault of a program, and which comes first.
+
+use crate::programs::{back, cj, plain, program, row, spelled};
+use std::alloc::Global;
+use std::process::Abort;
+use std::test::Fail;
+use tp_assembly::{AssemblyFault, Line, LineFault, Loop, Operation, Spot, assemble};
+use tp_decode::Instr;
+use tp_image::{ImageCode, Version};
+
+/// A program of these loops and lines has this fault.
+fn refused(
+    rt: &impl Abort,
+    alloc: Global,
+    loops: &[Loop],
+    lines: &[Line],
+    fault: AssemblyFault,
+) -> Result<(), Fail> {
+    let program = program(alloc, 8, 1, 1, loops, lines)?;
+    match assemble(alloc, &program) {
+        Ok(_) => assert!(rt; false, "{fault}"),
+        Err(found) => assert_eq!(rt; found, fault),
+    }
+    Ok(())
+}
+
+#[test]
+fn lines(rt: HostRuntime) -> Result<(), Fail> {
+    let stop = plain(Instr::Stopp);
+    let wide = spelled(Operation::Plain(Instr::Ldc(1)), Some(9));
+    let none = spelled(Operation::Plain(Instr::Ldc(1)), Some(0));
+    let narrow = spelled(Operation::Plain(Instr::Ldc(16)), Some(1));
+    let cases = [
+        (
+            [stop, wide, cj(0)],
+            AssemblyFault::Line(1, LineFault::TooWide),
+        ),
+        (
+            [cj(4), wide, stop],
+            AssemblyFault::Line(0, LineFault::NoPlace),
+        ),
+        (
+            [stop, cj(1), stop],
+            AssemblyFault::Line(1, LineFault::Backward),
+        ),
+        (
+            [stop, back(2, 1), stop],
+            AssemblyFault::Line(1, LineFault::Backward),
+        ),
+        (
+            [back(0, 4), stop, stop],
+            AssemblyFault::Line(0, LineFault::NoPlace),
+        ),
+        ([stop, none, narrow], AssemblyFault::Narrow(1)),
+        ([stop, narrow, none], AssemblyFault::Narrow(1)),
+    ];
+    for (lines, fault) in cases {
+        refused(&rt, rt.alloc(), &[], &lines, fault)?;
+    }
+    Ok(())
+}
+
+/// A label that is a place of the program's end is none of a fault; one behind it is.
+#[test]
+fn loops(rt: HostRuntime) -> Result<(), Fail> {
+    let lines = [plain(Instr::Stopp)];
+    let behind = Loop {
+        head: Spot::Address(0xFFFF),
+        lend: Spot::Place(2),
+        control: 5,
+        count: 1,
+        start: 0,
+    };
+    refused(
+        &rt,
+        rt.alloc(),
+        &[row(0, 1, 5, 1), behind],
+        &lines,
+        AssemblyFault::Row(1),
+    )?;
+    refused(
+        &rt,
+        rt.alloc(),
+        &[row(2, 0, 5, 1)],
+        &lines,
+        AssemblyFault::Row(0),
+    )?;
+    refused(
+        &rt,
+        rt.alloc(),
+        &[row(0, 1, 5, 1); 17],
+        &lines,
+        AssemblyFault::Field(ImageCode::F8),
+    )
+}
+
+/// Codes of no bytes, of the most bytes and of one more.
+#[test]
+fn sizes(rt: HostRuntime) -> Result<(), Fail> {
+    refused(
+        &rt,
+        rt.alloc(),
+        &[],
+        &[],
+        AssemblyFault::Field(ImageCode::F3),
+    )?;
+    let mut program = program(rt.alloc(), 8, 1, 1, &[], &[])?;
+    program.lines.resize(2048, plain(Instr::Ldc(0)))?;
+    assert!(rt; assemble(rt.alloc(), &program)?.code.len() == 2048);
+    program.lines.push(plain(Instr::Ldc(0)))?;
+    match assemble(rt.alloc(), &program) {
+        Ok(_) => assert!(rt; false),
+        Err(found) => assert_eq!(rt; found, AssemblyFault::TooLong),
+    }
+    program.version = Version::Two;
+    program.lines.resize(4096, plain(Instr::Mint))?;
+    program.lines.resize(5120, plain(Instr::Mint))?;
+    assert!(rt; assemble(rt.alloc(), &program)?.code.len() == 2049 + 2 * 3071);
+    program
+        .lines
+        .push(spelled(Operation::Plain(Instr::Mint), Some(3)))?;
+    match assemble(rt.alloc(), &program) {
+        Ok(_) => assert!(rt; false),
+        Err(found) => assert_eq!(rt; found, AssemblyFault::TooLong),
+    }
+    Ok(())
+}

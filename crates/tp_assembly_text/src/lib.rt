@@ -1,0 +1,17 @@
+//! Assembly text: what authors write, read as a program, and programs as text.
+#![tactic(auto)]
+
+mod draft;
+mod fault;
+mod finish;
+mod mnemonics;
+mod number;
+mod reading;
+mod statements;
+mod words;
+mod writing;
+
+pub use fault::{SourceFault, TextFault};
+pub use finish::Source;
+pub use reading::read_source;
+pub use writing::source_text;
