@@ -1,5 +1,5 @@
 -- Runs of the packets of a session.
-use Rattle.std.proofs.Common.{◌≡◌, ℕ, suc, ◌+◌, ◌*◌, ◌≤◌, ◌<◌, nat_eq, nat_lt, not, ◌&&◌, Bool, true, false, cond, List, [], ◌∷◌, length, map, position, slice_get, vec_len, All, Some, None, refl, ap, sym, subst, ◌∙◌, arith}
+use Rattle.std.proofs.Common.{◌≡◌, ℕ, zero, suc, ◌++◌, take, drop, ◌+◌, ◌*◌, ◌≤◌, ◌<◌, nat_eq, nat_lt, not, ◌&&◌, Bool, true, false, cond, List, [], ◌∷◌, length, map, position, slice_get, vec_len, All, Some, None, refl, ap, sym, subst, ◌∙◌, arith}
 use Rattle.std.specs.List.{list_all, AllZip, position_or_len}
 use Rattle.std.proofs.Math.Logic.{∥∥₁_elim}
 use Rattle.std.specs.Coded.{le_prop}
@@ -110,6 +110,21 @@ all_fit_still [] [] same fit = All-nil AreFitOf
 all_fit_still [] (e ∷ after) same fit = absurd same
 all_fit_still (d ∷ before) [] same fit = absurd same
 all_fit_still (d ∷ before) (e ∷ after) same fit = All-cons AreFitOf e after (fit_still d e same.0 (All-head AreFitOf d before fit)) (all_fit_still before after same.1 (All-rest AreFitOf d before (d ∷ before) refl fit))
+
+-- devices of the first members, and of the others
+pub fit_taken : {A : Type 0} (f : A → Devices) (n : ℕ) (links : List A) → All AreFitOf (map f links) → All AreFitOf (map f (take n links))
+fit_taken f zero links fit = All-nil AreFitOf
+fit_taken f (suc n) [] fit = All-nil AreFitOf
+fit_taken f (suc n) (l ∷ links) fit = All-cons AreFitOf (f l) (map f (take n links)) (All-head AreFitOf (f l) (map f links) fit) (fit_taken f n links (All-rest AreFitOf (f l) (map f links) (f l ∷ map f links) refl fit))
+
+pub fit_left : {A : Type 0} (f : A → Devices) (n : ℕ) (links : List A) → All AreFitOf (map f links) → All AreFitOf (map f (drop n links))
+fit_left f zero links fit = fit
+fit_left f (suc n) [] fit = All-nil AreFitOf
+fit_left f (suc n) (l ∷ links) fit = fit_left f n links (All-rest AreFitOf (f l) (map f links) (f l ∷ map f links) refl fit)
+
+pub fit_both : {A : Type 0} (f : A → Devices) (xs ys : List A) → All AreFitOf (map f xs) → All AreFitOf (map f ys) → All AreFitOf (map f (xs ++ ys))
+fit_both f [] ys one other = other
+fit_both f (x ∷ xs) ys one other = All-cons AreFitOf (f x) (map f (xs ++ ys)) (All-head AreFitOf (f x) (map f xs) one) (fit_both f xs ys (All-rest AreFitOf (f x) (map f xs) (f x ∷ map f xs) refl one) other)
 
 pub as_many : {A B : Type 0} (f : A → Devices) (g : B → Devices) (xs : List A) (ys : List B) → AllZip SameSettings (map f xs) (map g ys) → length ys ≡ length xs
 as_many f g xs ys same = sym (length-map ys g) ∙ AllZip-long SameSettings (map f xs) (map g ys) same ∙ length-map xs f

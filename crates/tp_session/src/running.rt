@@ -62,6 +62,29 @@ fn run_packets<R: Threads + Wait + Sync, D: LinkDevice + Send>(
     }
 }
 
+/// Runs the packets of a job on no more members than there are packets: the others rest. The links come back, as many as there
+/// were.
+fn run_on_enough<R: Threads + Wait + Sync, D: LinkDevice + Send>(
+    rt: &R,
+    alloc: Global,
+    links: &mut Vec<Links<D>>,
+    job: &Job<'_>,
+) -> Result<Collected, ServeFault>
+    requires members { HasMembers links.old.items }
+    requires begins { (members : ℕ) → 1 ≤ members → members ≤ 64 → job_fault members (batch_of job.now) ≡ None }
+    requires packets { ArePackets (batch_of job.now) }
+    ensures outcomes { AreFit D.state links.old.items → IfOk result (AreOutcomes (batch_of job.now).image (batch_of job.now).packets) }
+    ensures members { OnOk result (AreAsMany links.old.items links.new.items) }
+    ensures fit { AreFit D.state links.old.items → OnOk result (AreFit D.state links.new.items) }
+    ensures want { IfErr result IsWant }
+{
+    let enough = job.packets.len().max(1).min(links.len());
+    let mut resting = links.split_off(enough)?;
+    let collected = run_packets(rt, alloc, links, job)?;
+    links.append(&mut resting)?;
+    Ok(collected)
+}
+
 /// Runs the packets of a session, and tells what became of each, behind what the text says already.
 pub(crate) fn run_session<R: Threads + Wait + Sync, D: LinkDevice + Send>(
     rt: &R,
@@ -84,7 +107,7 @@ pub(crate) fn run_session<R: Threads + Wait + Sync, D: LinkDevice + Send>(
         image: &kept.image,
         packets: &kept.packets,
     };
-    let collected = run_packets(rt, alloc, links, &job)?;
+    let collected = run_on_enough(rt, alloc, links, &job)?;
     tell_entries(text, trace, &collected.entries)?;
     tell_done(text, kept.packets.len())?;
     Ok(())

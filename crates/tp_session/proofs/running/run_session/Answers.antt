@@ -6,13 +6,13 @@ use Rattle.tp_answers.proofs.EntryLemmas.{answers_all}
 use Rattle.tp_session.proofs.RunLemmas.{may_begin, whole_packets, kept_whole, kept_few, kept_count, of_kept}
 use Rattle.tp_session.proofs.running.run_session.Goals as goal
 
-pub run_packets-requires-clause-begins : goal.run_packets-requires-clause-begins
-run_packets-requires-clause-begins g c κs within =
+pub run_on_enough-requires-clause-begins : goal.run_on_enough-requires-clause-begins
+run_on_enough-requires-clause-begins g c κs within members least most =
     let kept = c.args.kept.now in
-    may_begin _ record { number = c.args.batch; image = kept.image.image; packets = map (λ p. p.items) c.deref.result.now } c.requires.members.least c.requires.members.most (kept_few kept c.deref.result.now c.deref.ensures.value) (kept_whole kept c.deref.result.now c.deref.ensures.value)
+    may_begin members record { number = c.args.batch; image = kept.image.image; packets = map (λ p. p.items) c.deref.result.now } least most (kept_few kept c.deref.result.now c.deref.ensures.value) (kept_whole kept c.deref.result.now c.deref.ensures.value)
 
-pub run_packets-requires-clause-packets : goal.run_packets-requires-clause-packets
-run_packets-requires-clause-packets g c κs within =
+pub run_on_enough-requires-clause-packets : goal.run_on_enough-requires-clause-packets
+run_on_enough-requires-clause-packets g c κs within =
     let kept = c.args.kept.now in
     whole_packets kept.image.image _ (kept_whole kept c.deref.result.now c.deref.ensures.value)
 
