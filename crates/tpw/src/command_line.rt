@@ -12,6 +12,25 @@ use tp_stepper::{Place, Span};
 /// The name of the command that tells a run.
 const STEP: &str = "step";
 
+/// The names of those that make an image of a text, and a text of an image.
+const ASM: &str = "asm";
+
+const DIS: &str = "dis";
+
+/// The name of an option of `asm`.
+const LINE: &str = "line";
+
+/// What `tpw asm --help` says below the options.
+const ASM_LINES: &str = "\
+Reads a text on standard input, and writes its image as hexadecimal on one line.
+Status 1: standard input says no worker; where and why is told.
+docs/WORKERS.md shows a text.";
+
+/// What `tpw dis --help` says below the options.
+const DIS_LINES: &str = "\
+Reads an image as hexadecimal on standard input, and writes a text that asm reads as the same image.
+Status 1: standard input is no image.";
+
 /// The names of its options.
 const PACKET: &str = "packet";
 
@@ -30,6 +49,9 @@ docs/WORKERS.md reads a run.";
 #[derive(Drop)]
 pub enum Task {
     Step(Stepping),
+    /// An image of a text, behind a name where one is given.
+    Assemble(Option<String>),
+    Disassemble,
 }
 
 /// An option that takes a place.
@@ -57,12 +79,35 @@ fn step_command<'a>(alloc: Global) -> Result<Command<'a>, Error> {
     Ok(command)
 }
 
+/// `asm`, as the command line has it.
+fn asm_command<'a>(alloc: Global) -> Result<Command<'a>, Error> {
+    let line = Arg::new(alloc, LINE)
+        .long(LINE)
+        .value_name("NAME")
+        .action(ArgAction::Set)
+        .help("Writes `NAME IMAGE` before the image, ready for farmd");
+    let command = Command::new(alloc, ASM)
+        .about("Makes an image of a text")
+        .after_help(ASM_LINES)
+        .arg(line)?;
+    Ok(command)
+}
+
+/// `dis`, as the command line has it.
+fn dis_command<'a>(alloc: Global) -> Command<'a> {
+    Command::new(alloc, DIS)
+        .about("Makes a text of an image")
+        .after_help(DIS_LINES)
+}
+
 /// The command line that the program knows.
 fn command<'a>(alloc: Global) -> Result<Command<'a>, Error> {
     let command = Command::new(alloc, "tpw")
         .version("0.1")
         .about("Tools for those who write workers")
         .subcommand_required(true)
+        .subcommand(asm_command(alloc)?)?
+        .subcommand(dis_command(alloc))?
         .subcommand(step_command(alloc)?)?;
     Ok(command)
 }
@@ -101,11 +146,25 @@ fn stepping(alloc: Global, matches: &ArgMatches<'_>) -> Result<Stepping, Ending>
     })
 }
 
+/// What `asm` is asked for.
+fn assembling(alloc: Global, matches: &ArgMatches<'_>) -> Result<Task, Ending> {
+    match matches.get_str(LINE) {
+        Some(name) => Ok(Task::Assemble(Some(String::from_str(alloc, name)?))),
+        None => Ok(Task::Assemble(None)),
+    }
+}
+
 /// What words ask for, the first of which names the program.
 pub fn task_of<S: AsStr>(alloc: Global, words: &[S]) -> Result<Task, Ending> {
     let matches = command(alloc)?.try_get_matches_from(words)?;
-    match matches.subcommand_matches(STEP) {
-        Some(found) => Ok(Task::Step(stepping(alloc, found)?)),
+    if let Some(found) = matches.subcommand_matches(STEP) {
+        return Ok(Task::Step(stepping(alloc, found)?));
+    }
+    if let Some(found) = matches.subcommand_matches(ASM) {
+        return assembling(alloc, found);
+    }
+    match matches.subcommand_matches(DIS) {
+        Some(_) => Ok(Task::Disassemble),
         None => Err(Ending::NoCommand),
     }
 }

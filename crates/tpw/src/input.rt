@@ -87,14 +87,19 @@ pub fn bytes_of(alloc: Global, text: &[u8]) -> Result<Vec<u8>, TextFault>
     }
 }
 
-/// Reads an image, accepted by the verifier or not.
-pub fn image_from<R: Read>(alloc: Global, reader: &mut R) -> Result<Image, Ending> {
+/// Reads all that there is.
+pub fn text_from<R: Read>(alloc: Global, reader: &mut R) -> Result<Vec<u8>, Ending> {
     let mut text = Vec::new(alloc);
     match reader.read_to_end(&mut text) {
-        Ok(_) => {}
-        Err(error) if error.kind() == ErrorKind::OutOfMemory => return Err(Ending::Memory),
-        Err(_) => return Err(Ending::Read),
+        Ok(_) => Ok(text),
+        Err(error) if error.kind() == ErrorKind::OutOfMemory => Err(Ending::Memory),
+        Err(_) => Err(Ending::Read),
     }
+}
+
+/// Reads an image, accepted by the verifier or not.
+pub fn image_from<R: Read>(alloc: Global, reader: &mut R) -> Result<Image, Ending> {
+    let text = text_from(alloc, reader)?;
     let bytes = bytes_of(alloc, &text)?;
     Ok(read_image(alloc, &bytes)?)
 }

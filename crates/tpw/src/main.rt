@@ -5,6 +5,7 @@
 //! standard error behind `tpw: `. Status 2: the command line is refused.
 #![tactic(auto)]
 
+mod assembly;
 mod command_line;
 mod ending;
 mod input;
