@@ -14,6 +14,24 @@ const STEP: &str = "step";
 
 /// The name of the command that tells why an image is refused.
 const WHY: &str = "why";
+/// The names of those that make an image of a text, and a text of an image.
+const ASM: &str = "asm";
+
+const DIS: &str = "dis";
+
+/// The name of an option of `asm`.
+const LINE: &str = "line";
+
+/// What `tpw asm --help` says below the options.
+const ASM_LINES: &str = "\
+Reads a text on standard input, and writes its image as hexadecimal on one line.
+Status 1: standard input says no worker; where and why is told.
+docs/WORKERS.md shows a text.";
+
+/// What `tpw dis --help` says below the options.
+const DIS_LINES: &str = "\
+Reads an image as hexadecimal on standard input, and writes a text that asm reads as the same image.
+Status 1: standard input is no image.";
 
 /// The names of its options.
 const PACKET: &str = "packet";
@@ -40,6 +58,9 @@ docs/VERIFIER.md lists every refusal.";
 pub enum Task {
     Step(Stepping),
     Why,
+    /// An image of a text, behind a name where one is given.
+    Assemble(Option<String>),
+    Disassemble,
 }
 
 /// An option that takes a place.
@@ -74,12 +95,35 @@ fn why_command<'a>(alloc: Global) -> Command<'a> {
         .after_help(WHY_LINES)
 }
 
+/// `asm`, as the command line has it.
+fn asm_command<'a>(alloc: Global) -> Result<Command<'a>, Error> {
+    let line = Arg::new(alloc, LINE)
+        .long(LINE)
+        .value_name("NAME")
+        .action(ArgAction::Set)
+        .help("Writes `NAME IMAGE` before the image, ready for farmd");
+    let command = Command::new(alloc, ASM)
+        .about("Makes an image of a text")
+        .after_help(ASM_LINES)
+        .arg(line)?;
+    Ok(command)
+}
+
+/// `dis`, as the command line has it.
+fn dis_command<'a>(alloc: Global) -> Command<'a> {
+    Command::new(alloc, DIS)
+        .about("Makes a text of an image")
+        .after_help(DIS_LINES)
+}
+
 /// The command line that the program knows.
 fn command<'a>(alloc: Global) -> Result<Command<'a>, Error> {
     let command = Command::new(alloc, "tpw")
         .version("0.1")
         .about("Tools for those who write workers")
         .subcommand_required(true)
+        .subcommand(asm_command(alloc)?)?
+        .subcommand(dis_command(alloc))?
         .subcommand(step_command(alloc)?)?
         .subcommand(why_command(alloc))?;
     Ok(command)
@@ -119,11 +163,25 @@ fn stepping(alloc: Global, matches: &ArgMatches<'_>) -> Result<Stepping, Ending>
     })
 }
 
+/// What `asm` is asked for.
+fn assembling(alloc: Global, matches: &ArgMatches<'_>) -> Result<Task, Ending> {
+    match matches.get_str(LINE) {
+        Some(name) => Ok(Task::Assemble(Some(String::from_str(alloc, name)?))),
+        None => Ok(Task::Assemble(None)),
+    }
+}
+
 /// What words ask for, the first of which names the program.
 pub fn task_of<S: AsStr>(alloc: Global, words: &[S]) -> Result<Task, Ending> {
     let matches = command(alloc)?.try_get_matches_from(words)?;
     if let Some(found) = matches.subcommand_matches(STEP) {
         return Ok(Task::Step(stepping(alloc, found)?));
+    }
+    if let Some(found) = matches.subcommand_matches(ASM) {
+        return assembling(alloc, found);
+    }
+    if matches.subcommand_matches(DIS).is_some() {
+        return Ok(Task::Disassemble);
     }
     match matches.subcommand_matches(WHY) {
         Some(_) => Ok(Task::Why),

@@ -5,6 +5,8 @@ use clap::error::ErrorKind;
 use std::alloc::{AllocError, AllocFailed};
 use std::process::ExitCode;
 use thiserror::Error;
+use tp_assembly::{AssemblyFault, LineFault};
+use tp_assembly_text::{SourceFault, TextFault as SourceKind};
 use tp_image::ImageFault;
 use tp_stepper::{End, TellFault};
 
@@ -65,6 +67,21 @@ pub enum Ending {
     /// Standard input is no image.
     #[error("tpw: standard input: no image: {0}\n")]
     Image(ImageFault),
+    /// Standard input is no text: a byte behind so many is not UTF-8.
+    #[error("tpw: standard input: no UTF-8 behind byte {0}\n")]
+    NotUtf8(usize),
+    /// Standard input says no program.
+    #[error("tpw: standard input:{0}\n")]
+    Source(SourceFault),
+    /// A line of standard input is wrong by itself.
+    #[error("tpw: standard input:{0}: {1}\n")]
+    Line(usize, LineFault),
+    /// A line of standard input is longer than it states.
+    #[error("tpw: standard input:{0}: its operand needs a longer spelling\n")]
+    Narrow(usize),
+    /// Standard input says a program that has no image.
+    #[error("tpw: standard input: {0}\n")]
+    Assembly(AssemblyFault),
     /// Standard input could not be read.
     #[error("tpw: read\n")]
     Read,
@@ -81,8 +98,16 @@ impl Ending {
     pub fn status(&self) -> Status {
         match self {
             Ending::Shown(_) => Status::Done,
-            Ending::Text(_) | Ending::Image(_) | Ending::Read | Ending::Write | Ending::Memory =>
-                Status::Failed,
+            Ending::Text(_)
+            | Ending::Image(_)
+            | Ending::NotUtf8(_)
+            | Ending::Source(_)
+            | Ending::Line(_, _)
+            | Ending::Narrow(_)
+            | Ending::Assembly(_)
+            | Ending::Read
+            | Ending::Write
+            | Ending::Memory => Status::Failed,
             Ending::Refused(_)
             | Ending::NotText
             | Ending::NoCommand
@@ -116,6 +141,15 @@ impl From<ImageFault> for Ending {
         match fault {
             ImageFault::Memory => Ending::Memory,
             ImageFault::Refused { .. } => Ending::Image(fault),
+        }
+    }
+}
+
+impl From<SourceFault> for Ending {
+    fn from(fault: SourceFault) -> Self {
+        match fault.fault {
+            SourceKind::Memory => Ending::Memory,
+            _ => Ending::Source(fault),
         }
     }
 }

@@ -87,14 +87,19 @@ pub fn bytes_of(alloc: Global, text: &[u8]) -> Result<Vec<u8>, TextFault>
     }
 }
 
-/// Reads bytes: an image, or what is taken for one.
-pub fn bytes_from<R: Read>(alloc: Global, reader: &mut R) -> Result<Vec<u8>, Ending> {
+/// Reads all that there is.
+pub fn text_from<R: Read>(alloc: Global, reader: &mut R) -> Result<Vec<u8>, Ending> {
     let mut text = Vec::new(alloc);
     match reader.read_to_end(&mut text) {
-        Ok(_) => {}
-        Err(error) if error.kind() == ErrorKind::OutOfMemory => return Err(Ending::Memory),
-        Err(_) => return Err(Ending::Read),
+        Ok(_) => Ok(text),
+        Err(error) if error.kind() == ErrorKind::OutOfMemory => Err(Ending::Memory),
+        Err(_) => Err(Ending::Read),
     }
+}
+
+/// Reads bytes: an image, or what is taken for one.
+pub fn bytes_from<R: Read>(alloc: Global, reader: &mut R) -> Result<Vec<u8>, Ending> {
+    let text = text_from(alloc, reader)?;
     Ok(bytes_of(alloc, &text)?)
 }
 

@@ -6,6 +6,7 @@
 //! `tpw: `. Status 2: the command line is refused.
 #![tactic(auto)]
 
+mod assembly;
 mod command_line;
 mod ending;
 mod input;

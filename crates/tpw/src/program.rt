@@ -1,5 +1,6 @@
 //! The program, from its words and streams to its status.
 
+use crate::assembly::{assemble_text, tell_image};
 use crate::command_line::{Task, task_of};
 use crate::ending::{Ending, Status};
 use crate::refusing::why;
@@ -21,6 +22,9 @@ fn perform<R: Read, W: Write>(
     match task_of(alloc, &words)? {
         Task::Step(stepping) => step(alloc, reader, writer, &stepping),
         Task::Why => why(alloc, reader, writer),
+        Task::Assemble(Some(name)) => assemble_text(alloc, reader, writer, Some(name.as_str())),
+        Task::Assemble(None) => assemble_text(alloc, reader, writer, None),
+        Task::Disassemble => tell_image(alloc, reader, writer),
     }
 }
 

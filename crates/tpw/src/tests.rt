@@ -167,6 +167,52 @@ instead  send all its bytes; see that the header counts the rows, initial words 
     Ok(())
 }
 
+/// Increment as text, with its locals by number.
+const INCREMENT_TEXT: &str = "\
+workspace 12
+start 8
+packet 1
+result 1
+        ldlp 0
+        mint
+        ldnlp 4
+        ldc 4
+        in
+        ldl 0
+        adc 1
+        stl 0
+        ldlp 0
+        mint
+        ldc 4
+        out
+        stopp
+";
+
+/// A text to its image, alone and behind a name, and back.
+#[test]
+fn texts_and_images(rt: HostRuntime) -> Result<(), Fail> {
+    let image = "5450573110000c0008000100010000001024f25444f77081d01024f244fb21f5\n";
+    let line = "inc IMAGE 5450573110000c0008000100010000001024f25444f77081d01024f244fb21f5\n";
+    let cases = [
+        (INCREMENT_TEXT, ["tpw", "asm"].as_slice(), image),
+        (
+            INCREMENT_TEXT,
+            ["tpw", "asm", "--line", "inc"].as_slice(),
+            line,
+        ),
+        (INCREMENT, ["tpw", "dis"].as_slice(), INCREMENT_TEXT),
+    ];
+    for (input, words, told) in cases {
+        let mut output = Vec::new(rt.alloc());
+        let mut input = input.as_bytes();
+        let ended = ran(rt.alloc(), words, &mut input, &mut output);
+        assert_eq!(rt; str::from_utf8(&output).map_err(|_| "no text")?, told);
+        assert_eq!(rt; ended.status, ExitCode::SUCCESS);
+        assert!(rt; ended.errors.is_empty());
+    }
+    Ok(())
+}
+
 /// What ends early: nothing is written but why.
 #[test]
 fn refusals(rt: HostRuntime) -> Result<(), Fail> {
@@ -192,6 +238,36 @@ fn refusals(rt: HostRuntime) -> Result<(), Fail> {
         (
             "54505732",
             ["tpw", "step"].as_slice(),
+            1,
+            "tpw: standard input: no image: F2 at byte 4\n",
+        ),
+        (
+            "mint\n  frob\n",
+            ["tpw", "asm"].as_slice(),
+            1,
+            "tpw: standard input:2:3: unknown instruction\n",
+        ),
+        (
+            "mint\n\nback: mint\n cj back\n",
+            ["tpw", "asm"].as_slice(),
+            1,
+            "tpw: standard input:4: its label lies before it; jumps go forward alone\n",
+        ),
+        (
+            "ldc/1 16\n",
+            ["tpw", "asm"].as_slice(),
+            1,
+            "tpw: standard input:1: its operand needs a longer spelling\n",
+        ),
+        (
+            "workspace 7\nstopp",
+            ["tpw", "asm"].as_slice(),
+            1,
+            "tpw: standard input: the image is out of range: F4\n",
+        ),
+        (
+            "54505732",
+            ["tpw", "dis"].as_slice(),
             1,
             "tpw: standard input: no image: F2 at byte 4\n",
         ),
@@ -245,6 +321,8 @@ Tools for those who write workers
 Usage: tpw <COMMAND>
 
 Commands:
+  asm   Makes an image of a text
+  dis   Makes a text of an image
   step  Runs an image an instruction at a time, accepted by the verifier or not
   why   Judges an image as the verifier does, and tells why it is refused
   help  Print this message or the help of the given subcommand(s)

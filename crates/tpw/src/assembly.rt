@@ -1,0 +1,75 @@
+//! The commands `asm` and `dis`: text to an image, and an image to text.
+
+use crate::ending::{Ending, Status};
+use crate::input::{image_from, text_from};
+use std::alloc::Global;
+use std::io::{Read, Write};
+use tp_assembly::{AssemblyFault, assemble, disassemble};
+use tp_assembly_text::{read_source, source_text};
+use tp_image::write_image;
+
+/// Why a program has no image, by the line of the text.
+fn ending_of(fault: AssemblyFault, numbers: &[usize]) -> Ending {
+    match fault {
+        AssemblyFault::Line(line, fault) => match numbers.get(line) {
+            Some(number) => Ending::Line(*number, fault),
+            None => Ending::Assembly(AssemblyFault::Line(line, fault)),
+        },
+        AssemblyFault::Narrow(line) => match numbers.get(line) {
+            Some(number) => Ending::Narrow(*number),
+            None => Ending::Assembly(fault),
+        },
+        AssemblyFault::Memory => Ending::Memory,
+        AssemblyFault::Row(_) | AssemblyFault::TooLong | AssemblyFault::Field(_) =>
+            Ending::Assembly(fault),
+    }
+}
+
+/// Writes a text, and flushes it.
+fn told<W: Write>(writer: &mut W, text: &str) -> Result<Status, Ending> {
+    match writer
+        .write_all(text.as_bytes())
+        .and_then(|()| writer.flush())
+    {
+        Ok(()) => Ok(Status::Done),
+        Err(_) => Err(Ending::Write),
+    }
+}
+
+/// Reads a text, and writes its image in hexadecimal on one line: behind `NAME IMAGE`, where a name is given.
+pub fn assemble_text<R: Read, W: Write>(
+    alloc: Global,
+    reader: &mut R,
+    writer: &mut W,
+    name: Option<&str>,
+) -> Result<Status, Ending> {
+    let bytes = text_from(alloc, reader)?;
+    let text = match str::from_utf8(&bytes) {
+        Ok(text) => text,
+        Err(error) => return Err(Ending::NotUtf8(error.valid_up_to())),
+    };
+    let source = read_source(alloc, text)?;
+    let image = match assemble(alloc, &source.program) {
+        Ok(image) => image,
+        Err(fault) => return Err(ending_of(fault, &source.numbers)),
+    };
+    let image = write_image(alloc, &image)?;
+    let digits = hex::encode(alloc, image.as_slice())?;
+    let line = match name {
+        Some(name) => format!(in alloc; "{name} IMAGE {digits}\n")?,
+        None => format!(in alloc; "{digits}\n")?,
+    };
+    told(writer, line.as_str())
+}
+
+/// Reads an image, and writes it as text.
+pub fn tell_image<R: Read, W: Write>(
+    alloc: Global,
+    reader: &mut R,
+    writer: &mut W,
+) -> Result<Status, Ending> {
+    let image = image_from(alloc, reader)?;
+    let program = disassemble(alloc, &image)?;
+    let text = source_text(alloc, &program)?;
+    told(writer, text.as_str())
+}
