@@ -36,6 +36,19 @@ fn told<W: Write>(writer: &mut W, text: &str) -> Result<Status, Ending> {
     }
 }
 
+/// The bytes of the image that an assembly text says.
+pub fn assembled(alloc: Global, bytes: &[u8]) -> Result<Vec<u8>, Ending> {
+    let text = match str::from_utf8(bytes) {
+        Ok(text) => text,
+        Err(error) => return Err(Ending::NotUtf8(error.valid_up_to())),
+    };
+    let source = read_source(alloc, text)?;
+    match assemble(alloc, &source.program) {
+        Ok(image) => Ok(write_image(alloc, &image)?),
+        Err(fault) => Err(ending_of(fault, &source.numbers)),
+    }
+}
+
 /// Reads a text, and writes its image in hexadecimal on one line: behind `NAME IMAGE`, where a name is given.
 pub fn assemble_text<R: Read, W: Write>(
     alloc: Global,
@@ -43,17 +56,8 @@ pub fn assemble_text<R: Read, W: Write>(
     writer: &mut W,
     name: Option<&str>,
 ) -> Result<Status, Ending> {
-    let bytes = text_from(alloc, reader)?;
-    let text = match str::from_utf8(&bytes) {
-        Ok(text) => text,
-        Err(error) => return Err(Ending::NotUtf8(error.valid_up_to())),
-    };
-    let source = read_source(alloc, text)?;
-    let image = match assemble(alloc, &source.program) {
-        Ok(image) => image,
-        Err(fault) => return Err(ending_of(fault, &source.numbers)),
-    };
-    let image = write_image(alloc, &image)?;
+    let text = text_from(alloc, reader)?;
+    let image = assembled(alloc, &text)?;
     let digits = hex::encode(alloc, image.as_slice())?;
     let line = match name {
         Some(name) => format!(in alloc; "{name} IMAGE {digits}\n")?,

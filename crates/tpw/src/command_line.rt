@@ -49,8 +49,8 @@ docs/WORKERS.md reads a run.";
 
 /// What `tpw why --help` says below the options.
 const WHY_LINES: &str = "\
-Reads an image as hexadecimal on standard input: one line; line ends, and white space at the ends, are passed over.
-Status 0: the image is accepted. Status 1: it is refused, or standard input is not hexadecimal.
+Reads an image as hexadecimal on standard input, one line, or a worker as assembly text.
+Status 0: the image is accepted. Status 1: it is refused, or standard input says none.
 docs/VERIFIER.md lists every refusal.";
 
 /// What a command line asks for.

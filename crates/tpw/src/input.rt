@@ -97,14 +97,9 @@ pub fn text_from<R: Read>(alloc: Global, reader: &mut R) -> Result<Vec<u8>, Endi
     }
 }
 
-/// Reads bytes: an image, or what is taken for one.
-pub fn bytes_from<R: Read>(alloc: Global, reader: &mut R) -> Result<Vec<u8>, Ending> {
-    let text = text_from(alloc, reader)?;
-    Ok(bytes_of(alloc, &text)?)
-}
-
 /// Reads an image, accepted by the verifier or not.
 pub fn image_from<R: Read>(alloc: Global, reader: &mut R) -> Result<Image, Ending> {
-    let bytes = bytes_from(alloc, reader)?;
+    let text = text_from(alloc, reader)?;
+    let bytes = bytes_of(alloc, &text)?;
     Ok(read_image(alloc, &bytes)?)
 }

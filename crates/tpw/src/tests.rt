@@ -145,6 +145,18 @@ instead  end the code by stopp
 ",
         ),
         (
+            "packet 1\nresult 1\nlocal n\nldl n\nadd\n",
+            ["tpw", "why"].as_slice(),
+            1,
+            "\
+NO J5 1
+refused  control goes on behind the last instruction
+         0 70 ldl 0
+>        1 f5 add
+instead  end the code by stopp
+",
+        ),
+        (
             "54505732",
             ["tpw", "why"].as_slice(),
             1,
@@ -227,7 +239,7 @@ fn refusals(rt: HostRuntime) -> Result<(), Fail> {
             "zz",
             ["tpw", "why"].as_slice(),
             1,
-            "tpw: standard input: no hexadecimal digit in column 1\n",
+            "tpw: standard input:1:1: unknown instruction\n",
         ),
         (
             "5450573",
@@ -359,8 +371,8 @@ Usage: tpw why
 Options:
   -h, --help  Print help
 
-Reads an image as hexadecimal on standard input: one line; line ends, and white space at the ends, are passed over.
-Status 0: the image is accepted. Status 1: it is refused, or standard input is not hexadecimal.
+Reads an image as hexadecimal on standard input, one line, or a worker as assembly text.
+Status 0: the image is accepted. Status 1: it is refused, or standard input says none.
 docs/VERIFIER.md lists every refusal.
 ";
 
