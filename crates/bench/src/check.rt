@@ -4,11 +4,13 @@
 //! The small and straight codes are judged once, and it is printed how many states are kept, how many passes were
 //! made, and how many outcomes were worked out; or all are judged, and the times are printed with these counts.
 
+pub(crate) mod climb;
 mod sample;
 
 ghost use Rattle.tp_decode.specs.Cutting.{IsCutting};
 
 use anyhow::{Result, anyhow, bail};
+use sample::Filling;
 use std::alloc::Global;
 use std::fmt;
 use std::rt::Runtime;
@@ -17,6 +19,7 @@ use tp_check::{Effort, check_states_counting};
 use tp_decode::{Instr, Listing, decode};
 use tp_flow::{check_flow, edges};
 use tp_image::{Image, read_image};
+use tp_state::StateFault;
 
 /// How often check_flow is timed: it is quick.
 const FLOW_ROUNDS: u32 = 100;
@@ -31,7 +34,26 @@ pub(crate) fn measure<R: Runtime<A = Global>>(rt: &R, is_timed: bool) -> Result<
     }
     told(rt, "one loop", &sample::moving(alloc, 1, 1)?, is_timed)?;
     told(rt, "four nested", &sample::moving(alloc, 1, 4)?, is_timed)?;
-    told(rt, "sixteen", &sample::moving(alloc, 16, 1)?, is_timed)
+    told(rt, "sixteen", &sample::moving(alloc, 16, 1)?, is_timed)?;
+    told(rt, "behind the loop", &sample::behind(alloc)?, is_timed)?;
+    told(
+        rt,
+        "strided stores",
+        &sample::filled(alloc, Filling::Stores)?,
+        is_timed,
+    )?;
+    told(
+        rt,
+        "growing range",
+        &sample::filled(alloc, Filling::Sum)?,
+        is_timed,
+    )?;
+    told(
+        rt,
+        "refused in the last pass",
+        &sample::refused(alloc)?,
+        is_timed,
+    )
 }
 
 /// Judges one image, and prints what was found, or how long it took.
@@ -43,7 +65,10 @@ fn told<R: Runtime<A = Global>>(rt: &R, name: &str, bytes: &[u8], is_timed: bool
     if is_timed {
         return timed(rt, name, &image, &listing);
     }
-    let Found { states, effort } = judged(rt.alloc(), &image, &listing)?;
+    let Some(Found { states, effort }) = judged(rt.alloc(), &image, &listing) else {
+        bail!("no nest");
+    };
+    let states = states.map_err(|fault| anyhow!("{fault}"))?;
     let instructions = listing.len();
     let Effort { passes, outcomes } = effort;
     println!(rt;
@@ -52,27 +77,41 @@ fn told<R: Runtime<A = Global>>(rt: &R, name: &str, bytes: &[u8], is_timed: bool
     Ok(())
 }
 
-/// How many states are kept, and what finding them took.
+/// How many states are kept, or the refusal, and what finding it took.
 #[derive(Clone, Copy)]
 struct Found {
-    states: usize,
+    states: Result<usize, StateFault>,
     effort: Effort,
 }
 
-fn judged(alloc: Global, image: &Image, listing: &Listing) -> Result<Found>
+/// What the passes find, where the flow passes.
+fn judged(alloc: Global, image: &Image, listing: &Listing) -> Option<Found>
     requires { IsCutting image.now.code listing.now }
 {
     let Ok(nest) = check_flow(image, listing) else {
-        bail!("no nest");
+        return None;
     };
     let mut effort = Effort::default();
-    let table = check_states_counting(alloc, image, listing, &nest, &mut effort).map_err(
-        |fault| anyhow!("{fault}"),
-    )?;
-    Ok(Found {
-        states: table.kept(),
-        effort,
-    })
+    let states = match check_states_counting(alloc, image, listing, &nest, &mut effort) {
+        Ok(table) => Ok(table.kept()),
+        Err(fault) => Err(fault),
+    };
+    Some(Found { states, effort })
+}
+
+/// The end of a line: how many states are kept, or the refusal.
+#[derive(Clone, Copy)]
+struct Ending {
+    states: Result<usize, StateFault>,
+}
+
+impl fmt::Display for Ending {
+    fn fmt<W: fmt::Write>(&self, f: &mut fmt::Formatter<W>) -> fmt::Result {
+        match self.states {
+            Ok(kept) => write!(f, "{kept} states kept"),
+            Err(fault) => write!(f, "refused, {fault}"),
+        }
+    }
 }
 
 /// How many edges a code's instructions are asked on.
@@ -123,7 +162,9 @@ fn timed<R: Runtime<A = Global>>(rt: &R, name: &str, image: &Image, listing: &Li
     }
     let flow = start.elapsed(rt)?.as_nanos() / u128::from(FLOW_ROUNDS);
     let start = Instant::now(rt)?;
-    let Found { effort, .. } = judged(rt.alloc(), image, listing)?;
+    let Some(Found { states, effort }) = judged(rt.alloc(), image, listing) else {
+        bail!("no nest");
+    };
     let both = start.elapsed(rt)?.as_nanos();
     let micros = both / 1000;
     let Effort { passes, outcomes } = effort;
@@ -132,8 +173,9 @@ fn timed<R: Runtime<A = Global>>(rt: &R, name: &str, image: &Image, listing: &Li
     let outcome = Ratio::of(both / u128::from(outcomes.max(1)), flow);
     let edges = edges_asked(listing);
     let each = outcomes / edges.max(1);
+    let ending = Ending { states };
     println!(rt;
-        "{name}: {micros} microseconds, {ratio} times check_flow; {passes} passes, each {pass} times; {outcomes} outcomes, each {outcome} times; {edges} edges, {each} outcomes on each"
+        "{name}: {micros} microseconds, {ratio} times check_flow; {passes} passes, each {pass} times; {outcomes} outcomes, each {outcome} times; {edges} edges, {each} outcomes on each; {ending}"
     )?;
     Ok(())
 }

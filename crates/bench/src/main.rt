@@ -29,6 +29,7 @@ fn main(rt: HostRuntime) -> Result<()> {
         "flow" => flow::measure(&rt, true),
         "states" => states::measure(&rt, true),
         "check" => check::measure(&rt, true),
+        "climb" => check::climb::measure(&rt),
         "accept" => accept::measure(&rt, true),
         "machine" => machine::measure(&rt, true),
         "board" => board::measure(&rt, true),
@@ -36,7 +37,7 @@ fn main(rt: HostRuntime) -> Result<()> {
         "farm-queue" => farm::run_once(&rt, farm::Source::Queue),
         "farm-board" => farm::run_once(&rt, farm::Source::Board),
         _ => bail!(
-            "the words are flow, states, check, accept, machine, board, farm, farm-queue, farm-board"
+            "the words are flow, states, check, climb, accept, machine, board, farm, farm-queue, farm-board"
         ),
     }
 }
