@@ -18,6 +18,9 @@ use workers::{WORKERS, Worker};
 /// How often each is timed, in turn with the others.
 const TIMES: u32 = 7;
 
+/// The rounds of the first worker that `turns` makes: the packets of four full batches.
+const ROUNDS_ALONE: u32 = 4096;
+
 /// The least times of a worker, in nanoseconds a round.
 #[derive(Clone, Copy)]
 struct Best {
@@ -37,6 +40,18 @@ pub(crate) fn measure<R: Runtime<A = Global>>(rt: &R, is_timed: bool) -> Result<
             counted(rt, worker, &accepted)?;
         }
     }
+    Ok(())
+}
+
+/// Runs the first worker alone, so that another program's processor time can be set beside this one's. What was counted is
+/// printed.
+pub(crate) fn turns<R: Runtime<A = Global>>(rt: &R) -> Result<()> {
+    let [worker, ..] = &WORKERS;
+    let text = Vec::from_slice(rt.alloc(), worker.image)?;
+    let accepted = accept(rt.alloc(), text).map_err(|refusal| anyhow!("{refusal}"))?;
+    let packet = accepted.packet_bytes();
+    let run = rounds(rt, &mut machine_with(&accepted), packet, ROUNDS_ALONE)?;
+    println!(rt; "{}: {} instruction bytes", worker.name, run.counted)?;
     Ok(())
 }
 

@@ -32,12 +32,13 @@ fn main(rt: HostRuntime) -> Result<()> {
         "climb" => check::climb::measure(&rt),
         "accept" => accept::measure(&rt, true),
         "machine" => machine::measure(&rt, true),
+        "turns" => machine::turns(&rt),
         "board" => board::measure(&rt, true),
         "farm" => farm::measure(&rt, true),
         "farm-queue" => farm::run_once(&rt, farm::Source::Queue),
         "farm-board" => farm::run_once(&rt, farm::Source::Board),
         _ => bail!(
-            "the words are flow, states, check, climb, accept, machine, board, farm, farm-queue, farm-board"
+            "the words are flow, states, check, climb, accept, machine, turns, board, farm, farm-queue, farm-board"
         ),
     }
 }
