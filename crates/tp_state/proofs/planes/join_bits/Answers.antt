@@ -1,5 +1,4 @@
-use Rattle.std.proofs.Common.{ap, ◌∙◌, ◌==◌, not, sym, arith}
-use Rattle.std.proofs.lemmas.Bool.Decides.{nat_tests}
+use Rattle.std.proofs.Common.{◌∙◌, sym}
 use Rattle.tp_state.proofs.PlaneJoins.{none_moved, some_moved, is_zero, is_positive}
 use Rattle.tp_state.proofs.planes.join_bits.Goals as goal
 
