@@ -2,7 +2,8 @@
 //! over codes that are made to keep the passes going.
 //!
 //! The small and straight codes are judged once, and it is printed how many states are kept, how many passes were
-//! made, and how many outcomes were worked out; or all are judged, and the times are printed with these counts.
+//! made, and how many outcomes were worked out; or all are judged, and the times are printed with these counts; or one is
+//! judged so often, for the processor time that it takes.
 
 pub(crate) mod climb;
 mod sample;
@@ -10,7 +11,7 @@ mod sample;
 ghost use Rattle.tp_decode.specs.Cutting.{IsCutting};
 
 use anyhow::{Result, anyhow, bail};
-use sample::Filling;
+use sample::named;
 use std::alloc::Global;
 use std::fmt;
 use std::rt::Runtime;
@@ -24,41 +25,57 @@ use tp_state::StateFault;
 /// How often check_flow is timed: it is quick.
 const FLOW_ROUNDS: u32 = 100;
 
+/// The images that are judged in small too.
+const USUAL: [&str; 3] = ["increment", "straight", "jumps"];
+
+/// The images that are made to keep the passes going.
+const HOSTILE: [&str; 7] = [
+    "one loop",
+    "four nested",
+    "sixteen",
+    "behind the loop",
+    "strided stores",
+    "growing range",
+    "refused in the last pass",
+];
+
 pub(crate) fn measure<R: Runtime<A = Global>>(rt: &R, is_timed: bool) -> Result<()> {
-    let alloc = rt.alloc();
-    told(rt, "increment", sample::INCREMENT, is_timed)?;
-    told(rt, "straight", &sample::straight(alloc)?, is_timed)?;
-    told(rt, "jumps", &sample::jumps(alloc)?, is_timed)?;
+    for name in USUAL {
+        told(rt, name, is_timed)?;
+    }
     if !is_timed {
         return Ok(());
     }
-    told(rt, "one loop", &sample::moving(alloc, 1, 1)?, is_timed)?;
-    told(rt, "four nested", &sample::moving(alloc, 1, 4)?, is_timed)?;
-    told(rt, "sixteen", &sample::moving(alloc, 16, 1)?, is_timed)?;
-    told(rt, "behind the loop", &sample::behind(alloc)?, is_timed)?;
-    told(
-        rt,
-        "strided stores",
-        &sample::filled(alloc, Filling::Stores)?,
-        is_timed,
-    )?;
-    told(
-        rt,
-        "growing range",
-        &sample::filled(alloc, Filling::Sum)?,
-        is_timed,
-    )?;
-    told(
-        rt,
-        "refused in the last pass",
-        &sample::refused(alloc)?,
-        is_timed,
-    )
+    for name in HOSTILE {
+        told(rt, name, is_timed)?;
+    }
+    Ok(())
+}
+
+/// Judges one image so often, and nothing else: what is printed is what was found, and the processor time that was taken is for
+/// the caller to see. With no rounds the image is made and its flow checked, and that is all.
+pub(crate) fn judge<R: Runtime<A = Global>>(rt: &R, name: &str, rounds: u32) -> Result<()> {
+    let image = read_image(rt.alloc(), &named(rt.alloc(), name)?)?;
+    let Ok(listing) = decode(rt.alloc(), &image.code) else {
+        bail!("no listing");
+    };
+    check_flow(&image, &listing).map_err(|fault| anyhow!("{fault}"))?;
+    for _ in 1..rounds {
+        judged(rt.alloc(), &image, &listing);
+    }
+    if rounds > 0
+        && let Some(Found { states, effort }) = judged(rt.alloc(), &image, &listing)
+    {
+        let Effort { passes, outcomes } = effort;
+        let ending = Ending { states };
+        println!(rt; "{name}: {passes} passes, {outcomes} outcomes; {ending}")?;
+    }
+    Ok(())
 }
 
 /// Judges one image, and prints what was found, or how long it took.
-fn told<R: Runtime<A = Global>>(rt: &R, name: &str, bytes: &[u8], is_timed: bool) -> Result<()> {
-    let image = read_image(rt.alloc(), bytes)?;
+fn told<R: Runtime<A = Global>>(rt: &R, name: &str, is_timed: bool) -> Result<()> {
+    let image = read_image(rt.alloc(), &named(rt.alloc(), name)?)?;
     let Ok(listing) = decode(rt.alloc(), &image.code) else {
         bail!("no listing");
     };

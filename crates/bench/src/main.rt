@@ -16,7 +16,8 @@ use anyhow::{Result, bail};
 use std::env;
 
 fn main(rt: HostRuntime) -> Result<()> {
-    let Some(word) = env::args(&rt)?.nth(1) else {
+    let mut words = env::args(&rt)?;
+    let Some(word) = words.nth(1) else {
         flow::measure(&rt, false)?;
         states::measure(&rt, false)?;
         check::measure(&rt, false)?;
@@ -30,6 +31,12 @@ fn main(rt: HostRuntime) -> Result<()> {
         "states" => states::measure(&rt, true),
         "check" => check::measure(&rt, true),
         "climb" => check::climb::measure(&rt),
+        "judge" => {
+            let (Some(name), Some(rounds)) = (words.next(), words.next()) else {
+                bail!("judge takes the name of an image, and how often it is judged");
+            };
+            check::judge(&rt, name.as_str(), rounds.parse().unwrap_or(1))
+        }
         "accept" => accept::measure(&rt, true),
         "machine" => machine::measure(&rt, true),
         "turns" => machine::turns(&rt),
@@ -38,7 +45,7 @@ fn main(rt: HostRuntime) -> Result<()> {
         "farm-queue" => farm::run_once(&rt, farm::Source::Queue),
         "farm-board" => farm::run_once(&rt, farm::Source::Board),
         _ => bail!(
-            "the words are flow, states, check, climb, accept, machine, turns, board, farm, farm-queue, farm-board"
+            "the words are flow, states, check, climb, judge, accept, machine, turns, board, farm, farm-queue, farm-board"
         ),
     }
 }

@@ -8,6 +8,7 @@ mod aside;
 mod effort;
 pub mod laws;
 mod passes;
+mod slot;
 mod slots;
 mod table;
 mod way;

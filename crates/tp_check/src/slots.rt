@@ -7,6 +7,7 @@ ghost use Rattle.tp_check.specs.Tables.{table_of};
 ghost use Rattle.tp_check.specs.Passes.{enter, first_table, met, placed};
 ghost use Rattle.tp_check.specs.UnderWay.{Gives, GivesState, MovesState, Moves, CameBefore};
 
+use crate::slot::Slot;
 use std::alloc::{AllocError, Global};
 use std::marker::Model;
 use tp_image::Image;
@@ -16,7 +17,7 @@ use tp_state::{State, StateFault};
 #[derive(Drop)]
 pub struct Slots {
     /// By address.
-    states: Vec<Option<State>>,
+    states: Vec<Slot>,
 }
 
 impl Model for Slots {
@@ -37,9 +38,10 @@ impl Slots {
     {
         let mut states = Vec::with_capacity(alloc, places)?;
         let first = State::entry(alloc, image)?;
-        states.push(Some(first))?;
+        let slot = Slot::holding(alloc, first)?;
+        states.push(slot)?;
         for _place in 1..places {
-            states.push(None)?;
+            states.push(Slot::empty())?;
         }
         Ok(Slots { states })
     }
@@ -62,7 +64,7 @@ impl Slots {
         ensures moves { IfOk result (λ moved. Moves image.now moved self.old self.new) }
         ensures kept { OnErr result (self.new ≡ self.old) }
     {
-        meet(&mut self.states[to], alloc, image, to, state, is_again)
+        self.states[to].meet(alloc, image, to, state, is_again)
     }
 
     /// What is known before the instruction at an address.
@@ -70,7 +72,7 @@ impl Slots {
         ensures { option_copied result ≡ table_of self.now addr }
     {
         match self.states.get(addr) {
-            Some(state) => state.as_ref(),
+            Some(slot) => slot.get(),
             None => None,
         }
     }
@@ -90,35 +92,5 @@ impl Slots {
         ensures others { (x : ℕ) → addr < x → table_of self.new x ≡ table_of self.old x }
     {
         self.states[addr].take()
-    }
-}
-
-/// A state comes to an address, where another may stand already. It answers whether anything changed.
-fn meet(
-    there: &mut Option<State>,
-    alloc: Global,
-    image: &Image,
-    to: usize,
-    state: &State,
-    is_again: bool,
-) -> Result<bool, StateFault>
-    requires placed { IfSome there.old (IsPlaced image.now) }
-    requires state { IsPlaced image.now state.now }
-    requires again { is_again ≡ true → CameBefore there.old state.now }
-    ensures gives { GivesState result there.new (placed to (met there.old state.now)) }
-    ensures moves { IfOk result (λ moved. MovesState image.now moved there.old there.new) }
-    ensures kept { OnErr result (there.new ≡ there.old) }
-{
-    state.has_word_ends();
-    match there {
-        Some(met) if is_again => Ok(met.join_agreeing(state)),
-        Some(met) => match met.join(state) {
-            Ok(moved) => Ok(moved),
-            Err(code) => Err(StateFault::Refused { code, place: to }),
-        },
-        None => {
-            *there = Some(state.copy_of(alloc)?);
-            Ok(true)
-        }
     }
 }

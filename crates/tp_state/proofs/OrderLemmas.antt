@@ -138,6 +138,24 @@ nat_least a b c d e f h g =
     let h1 = nat_high a b e f h in let h2 = nat_high c d e f g in
     nat_within (min a c) (max b d) e f (omega arith) (omega arith)
 
+int_min_same : (a : ℤ) → int_min a a ≡ a
+int_min_same a = omega (arith, ints, clamps)
+
+int_max_same : (a : ℤ) → int_max a a ≡ a
+int_max_same a = omega (arith, ints, clamps)
+
+min_same : (a : ℕ) → min a a ≡ a
+min_same a = omega arith
+
+max_same : (a : ℕ) → max a a ≡ a
+max_same a = omega arith
+
+pub join_kinds_same : (k : Kind) → join_kinds k k ≡ k
+join_kinds_same kind.Undef = refl
+join_kinds_same (kind.Int a b) = rw (int_min_same a, int_max_same b) refl
+join_kinds_same (kind.Ptr p q) = rw (min_same p, max_same q) refl
+join_kinds_same (kind.BytePtr p q) = rw (min_same p, max_same q) refl
+
 pub kind_below-join_left : (k l : Kind) → IsTrue (kind_below k (join_kinds k l))
 kind_below-join_left (kind.Int a b) (kind.Int c d) = int_left a b c d
 kind_below-join_left (kind.Ptr a b) (kind.Ptr c d) = nat_left a b c d

@@ -1,9 +1,10 @@
 -- Words of planes that are joined, or compared.
-use Rattle.std.proofs.Common.{◌≡◌, ◌⊎◌, inl, inr, ℕ, ◌+◌, ◌-◌, ◌*◌, ◌/◌, ◌%◌, ◌^◌, ◌<◌, ◌≤◌, ◌==◌, nat_lt, Bool, true, false, not, ◌||◌, List, length, min, slice_set, get_or, bit_or, bit_xor, refl, sym, ap, ◌∙◌, arith}
+use Rattle.std.proofs.Common.{◌≡◌, ◌⊎◌, inl, inr, ℕ, zero, suc, ◌+◌, ◌-◌, ◌*◌, ◌/◌, ◌%◌, ◌^◌, ◌<◌, ◌≤◌, ◌==◌, nat_lt, Bool, true, false, not, ◌||◌, List, length, min, slice_set, get_or, bit_or, bit_xor, refl, sym, ap, ◌∙◌, arith}
 use Rattle.std.proofs.lemmas.Bool.{cases_lt, cases_eq, false≢true}
 use Rattle.std.proofs.lemmas.Bool.Decides.{nat_tests}
 use Rattle.std.proofs.lemmas.List.{set-get_or}
 use Rattle.std.proofs.lemmas.Nat.{le_or_l, le_or_r}
+use Rattle.std.specs.Int.Bits.{or_zero_r}
 use Rattle.tp_state.specs.declared.cell.Cell.TheVariants.{Undef, Any}
 use Rattle.tp_state.specs.declared.planes.Bits.{Bits}
 use Rattle.tp_state.specs.Planes.{is_set, live_of, cell_of, bits_cell, no_bits, cell_in, Moves, ChangesPlanes, joined_bits, failing_bits}
@@ -20,6 +21,12 @@ is_none n e = grind (arith, nat_tests)
 
 is_some : (n : ℕ) → not (n == 0) ≡ true → 0 < n
 is_some n e = grind (arith, nat_tests)
+
+pub is_zero : (n : ℕ) → n ≡ 0 → not (n == 0) ≡ false
+is_zero n e = grind (arith, nat_tests)
+
+pub is_positive : (n : ℕ) → 0 < n → not (n == 0) ≡ true
+is_positive n h = grind (arith, nat_tests)
 
 pub none_moved : (new old : Bits) → not (bit_or (bit_xor new.first old.first) (bit_xor new.second old.second) == 0) ≡ false → new ≡ old
 none_moved new old e =
@@ -213,6 +220,25 @@ joins_kept values other_values old others mid w d b changed words other_words te
 
     before : ((i : ℕ) × (i < 64 * w) × ¬ (cell_in values mid i ≡ cell_in values old i)) → (i : ℕ) × (i < 64 * (w + 1)) × ¬ (cell_in values (slice_set mid w b) i ≡ cell_in values old i)
     before (i, lt, other) = (i, omega (arith, lt), λ e. other (sym (ap (λ planes. cell_in values planes i) same) ∙ e))
+
+-- so many bits in all that have changed, and then more
+pub none_before : (before moved : ℕ) → not (bit_or before moved == 0) ≡ false → (not (before == 0) ≡ false) × (moved ≡ 0)
+none_before before moved e =
+    let none : bit_or before moved ≡ 0 = is_none (bit_or before moved) e in
+    (is_zero before (omega (arith, le_or_l before moved, none)), omega (arith, le_or_r before moved, none))
+
+-- one more, whether it moves or not
+pub joins_more : (values other_values : List ℕ) (old others mid : List Bits) (w d : ℕ) (b : Bits) (before moved : ℕ)
+    → AreWords values → AreWords other_values → TellsDiffer values other_values w d (get_or mid w no_bits) (get_or others w no_bits) → w < length mid
+    → JoinsPlanes values other_values old others mid w (not (before == 0))
+    → b ≡ joined_bits d (get_or mid w no_bits) (get_or others w no_bits)
+    → (moved ≡ 0 → b ≡ get_or mid w no_bits) → (0 < moved → Moves (get_or mid w no_bits) b)
+    → JoinsPlanes values other_values old others (slice_set mid w b) (w + 1) (not (bit_or before moved == 0))
+joins_more values other_values old others mid w d b before zero words other_words tells room h is stays moves =
+    rw (or_zero_r before) (joins_kept values other_values old others mid w d b (not (before == 0)) words other_words tells room h is (stays refl))
+joins_more values other_values old others mid w d b before (suc m) words other_words tells room h is stays moves =
+    let some : 0 < bit_or before (suc m) = omega (arith, le_or_r before (suc m)) in
+    rw (is_positive (bit_or before (suc m)) some) (joins_moved values other_values old others mid w d b (not (before == 0)) words other_words tells room h is (moves (omega arith)))
 
 pub joined_end : (values other_values : List ℕ) (old others new : List Bits) (w : ℕ) (changed : Bool) → JoinsPlanes values other_values old others new w changed → w ≡ length old → ChangesPlanes values old new (λ i c. join_cells c (cell_in other_values others i)) 0 (64 * length old)
 joined_end values other_values old others new w changed h end =

@@ -255,16 +255,16 @@ fn close_planes(planes: &mut [Bits], words: usize)
     put_all(planes, words, end, Kept::of(Cell::Undef));
 }
 
-/// What holds of both, where it is told which values differ. It answers whether anything changed.
-fn join_bits(bits: &mut Bits, other: Bits, differ: u64) -> bool
+/// What holds of both, where it is told which values differ. It answers with a bit for each word that has changed.
+fn join_bits(bits: &mut Bits, other: Bits, differ: u64) -> u64
     ensures value { bits.new ≡ joined_bits differ bits.old other }
-    ensures stays { result ≡ false → bits.new ≡ bits.old }
-    ensures moves { result ≡ true → Moves bits.old bits.new }
+    ensures stays { result ≡ 0 → bits.new ≡ bits.old }
+    ensures moves { 0 < result → Moves bits.old bits.new }
 {
     let joined = bits.joined(other, differ);
     let moved = joined.changes(*bits);
     *bits = joined;
-    moved != 0
+    moved
 }
 
 /// The words from x to an end take a cell's bits.
@@ -353,14 +353,12 @@ pub(crate) fn join_planes(
     ensures stays { result ≡ false → planes.new ≡ planes.old }
     ensures moves { result ≡ true → (i : ℕ) × (i < 64 * length planes.old) × ¬ (cell_in values.now planes.new i ≡ cell_in values.now planes.old i) }
 {
-    let mut changed = false;
+    let mut moved = 0;
     for w in 0..planes.len() {
         let differ = differing(values, other_values, w, planes[w].closed(others[w]));
-        if join_bits(&mut planes[w], others[w], differ) {
-            changed = true;
-        }
+        moved |= join_bits(&mut planes[w], others[w], differ);
     }
-    changed
+    moved != 0
 }
 
 /// What holds of both, word by word, where words that have a value in both have the same: no value is looked at. It
@@ -371,13 +369,11 @@ pub(crate) fn join_agreeing_planes(planes: &mut [Bits], others: &[Bits]) -> bool
     ensures stays { result ≡ false → planes.new ≡ planes.old }
     ensures moves { result ≡ true → (values other_values : List ℕ) → Agree values other_values planes.old others.now → (i : ℕ) × (i < 64 * length planes.old) × ¬ (cell_in values planes.new i ≡ cell_in values planes.old i) }
 {
-    let mut changed = false;
+    let mut moved = 0;
     for w in 0..planes.len() {
-        if join_bits(&mut planes[w], others[w], 0) {
-            changed = true;
-        }
+        moved |= join_bits(&mut planes[w], others[w], 0);
     }
-    changed
+    moved != 0
 }
 
 /// Whether each word says as much as the other's of the same number or more.

@@ -1,6 +1,6 @@
 //! Images to judge.
 
-use anyhow::Result;
+use anyhow::{Result, bail};
 use std::alloc::Global;
 use tp_prefix::encode;
 pub(crate) use tp_samples::INCREMENT;
@@ -52,6 +52,26 @@ const LDC: u8 = 4;
 const LDL: u8 = 7;
 
 const STL: u8 = 13;
+
+/// The image of a name, or that whose bytes are told in hexadecimal.
+pub(crate) fn named(alloc: Global, name: &str) -> Result<Vec<u8>> {
+    match name {
+        "increment" => Ok(Vec::from_slice(alloc, INCREMENT)?),
+        "straight" => straight(alloc),
+        "jumps" => jumps(alloc),
+        "one loop" => moving(alloc, 1, 1),
+        "four nested" => moving(alloc, 1, 4),
+        "sixteen" => moving(alloc, 16, 1),
+        "behind the loop" => behind(alloc),
+        "strided stores" => filled(alloc, Filling::Stores),
+        "growing range" => filled(alloc, Filling::Sum),
+        "refused in the last pass" => refused(alloc),
+        _ => match hex::decode(alloc, name) {
+            Ok(bytes) => Ok(bytes),
+            Err(_) => bail!("no image has this name"),
+        },
+    }
+}
 
 /// A code of 8,000 bytes without jumps: ldl 0, stl 0 over and over.
 pub(crate) fn straight(alloc: Global) -> Result<Vec<u8>> {

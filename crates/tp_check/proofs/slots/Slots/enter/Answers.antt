@@ -10,7 +10,7 @@ meet-requires-clause-placed c = slot_placed c.args.image.now c.args.self.now c.a
 pub returns-clause-gives : goal.returns-clause-gives
 returns-clause-gives c =
     rw c.self.view_is
-    (enter_gives c.args.self.now c.args.to c.index_mut.result.now c.meet.new.there c.args.state.now c.meet.result c.requires.inside (in_slot c.args.self.now c.args.to c.index_mut.result.now c.index_mut.result.now c.requires.inside (c.index_mut.ensures.value ∙ ap (λ xs. slice_index_or xs c.args.to c.index_mut.result.now) c.self.view_is)) c.meet.ensures.gives)
+    (enter_gives c.args.self.now c.args.to c.index_mut.result.now c.meet.new.self c.args.state.now c.meet.result c.requires.inside (in_slot c.args.self.now c.args.to c.index_mut.result.now c.index_mut.result.now c.requires.inside (c.index_mut.ensures.value ∙ ap (λ xs. slice_index_or xs c.args.to c.index_mut.result.now) c.self.view_is)) c.meet.ensures.gives)
 
 pub returns-clause-moves : goal.returns-clause-moves
 returns-clause-moves c = rw c.self.view_is (by_answer c.meet.result c.meet.ensures.moves)
@@ -18,6 +18,6 @@ returns-clause-moves c = rw c.self.view_is (by_answer c.meet.result c.meet.ensur
     there : c.index_mut.result.now ≡ slice_index_or c.args.self.now c.args.to None
     there = in_slot c.args.self.now c.args.to c.index_mut.result.now c.index_mut.result.now c.requires.inside (c.index_mut.ensures.value ∙ ap (λ xs. slice_index_or xs c.args.to c.index_mut.result.now) c.self.view_is)
 
-    by_answer : (r : Result Bool StateFault) → IfOk r (λ moved. MovesState c.args.image.now moved c.index_mut.result.now c.meet.new.there) → IfOk r (λ moved. Moves c.args.image.now moved c.args.self.now (slice_set c.args.self.now c.args.to c.meet.new.there))
-    by_answer (Ok moved) h = enter_moves c.args.image.now c.args.self.now c.args.to c.index_mut.result.now c.meet.new.there moved c.requires.inside there h
+    by_answer : (r : Result Bool StateFault) → IfOk r (λ moved. MovesState c.args.image.now moved c.index_mut.result.now c.meet.new.self) → IfOk r (λ moved. Moves c.args.image.now moved c.args.self.now (slice_set c.args.self.now c.args.to c.meet.new.self))
+    by_answer (Ok moved) h = enter_moves c.args.image.now c.args.self.now c.args.to c.index_mut.result.now c.meet.new.self moved c.requires.inside there h
     by_answer (Err e) h = search rules
