@@ -20,7 +20,7 @@ const BASES: [&str; 3] = ["one loop", "strided stores", "growing range"];
 const TRIES: u32 = 24;
 
 /// How often a code is judged that may take longer: the least time counts.
-const ROUNDS: u32 = 3;
+const ROUNDS: u32 = 4;
 
 /// The bytes of a piece: of three jumps with what they test, or of a store that a jump passes by.
 const PIECE_BYTES: usize = 6;
@@ -75,13 +75,21 @@ impl Cost {
     fn is_above(self, other: Cost) -> bool {
         self.micros > other.micros.saturating_add(other.micros / 16)
     }
+
+    /// The less of two.
+    fn least(self, other: Option<Cost>) -> Cost {
+        match other {
+            Some(other) if other.micros < self.micros => other,
+            _ => self,
+        }
+    }
 }
 
 /// Climbs from an image.
 fn climbed<R: Runtime<A = Global>>(rt: &R, base: &str, seed: u64) -> Result<()> {
     let mut random = Random { state: seed };
     let mut best = named(rt.alloc(), base)?;
-    let Some(first) = least_cost(rt, &best)? else {
+    let Some(first) = cost_of(rt, &best)? else {
         bail!("refused");
     };
     let mut cost = first;
@@ -89,7 +97,7 @@ fn climbed<R: Runtime<A = Global>>(rt: &R, base: &str, seed: u64) -> Result<()> 
     for _ in 0..TRIES {
         let mut tried = Vec::from_slice(rt.alloc(), &best)?;
         change(&mut tried, &mut random);
-        if let Some(found) = cost_above(rt, &tried, cost)? {
+        if let Some(found) = cost_above(rt, &tried, &best)? {
             best = tried;
             cost = found;
             kept = kept.saturating_add(1);
@@ -104,28 +112,23 @@ fn climbed<R: Runtime<A = Global>>(rt: &R, base: &str, seed: u64) -> Result<()> 
     Ok(())
 }
 
-/// What judging an image takes, where it passes and takes longer than another.
-fn cost_above<R: Runtime<A = Global>>(rt: &R, bytes: &[u8], other: Cost) -> Result<Option<Cost>> {
-    let is_above = |cost: Cost| cost.is_above(other);
-    if !cost_of(rt, bytes)?.is_some_and(is_above) {
+/// What judging an image takes, where it passes and takes longer than another: the least of some times, in turn with those of
+/// the other, since the machine's speed goes up and down.
+fn cost_above<R: Runtime<A = Global>>(rt: &R, bytes: &[u8], other: &[u8]) -> Result<Option<Cost>> {
+    let Some(mut cost) = cost_of(rt, bytes)? else {
         return Ok(None);
-    }
-    Ok(least_cost(rt, bytes)?.filter(|cost| cost.is_above(other)))
-}
-
-/// What judging an image takes, where it passes: the least of some times.
-fn least_cost<R: Runtime<A = Global>>(rt: &R, bytes: &[u8]) -> Result<Option<Cost>> {
-    let Some(mut least) = cost_of(rt, bytes)? else {
+    };
+    let Some(mut least) = cost_of(rt, other)? else {
         return Ok(None);
     };
     for _ in 1..ROUNDS {
-        if let Some(cost) = cost_of(rt, bytes)?
-            && cost.micros < least.micros
-        {
-            least = cost;
+        if !cost.is_above(least) {
+            return Ok(None);
         }
+        cost = cost.least(cost_of(rt, bytes)?);
+        least = least.least(cost_of(rt, other)?);
     }
-    Ok(Some(least))
+    Ok(Some(cost).filter(|cost| cost.is_above(least)))
 }
 
 /// What judging an image takes once, where it passes.
