@@ -12,7 +12,7 @@ ghost use Rattle.tp_board.specs.Openings.{InRange};
 ghost use Rattle.tp_board.specs.Sources.{progress_of, NextSays};
 ghost use Rattle.tp_board.specs.Streams.{StreamView, stream_of, hand_of_parts, seen_of, hand_seen, feeder_seen, all_seen};
 ghost use Rattle.tp_board.specs.Streams.{IsStream, IsHandOf, IsFeederOf, new_hand_of, new_feeder_of};
-ghost use Rattle.tp_board.specs.Streams.{NextAfter, NextMakes, HasBytes, FeedSays, IsLeft, Agrees};
+ghost use Rattle.tp_board.specs.Streams.{NextAfter, NextMakes, HasBytes, FeedSays, IsLeft, Agrees, work_of};
 
 use crate::answer::{BoardFault, Ledger, MAX_MEMBERS, MAX_PACKETS};
 use crate::board_source::copied;
@@ -22,7 +22,7 @@ use crate::desk::{
 };
 use crate::line::{Item, Line, Place, drained, feed, join, new_hand, opened, take};
 use crate::source::{Packet, Work, WorkSource};
-use crate::stream_hand::{Fed, Feeder, StreamHand, StreamLedger};
+use crate::stream_hand::{Fed, Feeder, StreamHand, StreamLedger, Taken};
 use std::alloc::Global;
 use std::marker::Model;
 use std::sync::Wait;
@@ -158,8 +158,8 @@ impl<'p> StreamQueue<'p> {
             return Work::Stopped;
         }
         for _ in rt.forever() {
-            if let Some(work) = self.try_next(rt, hand) {
-                return work;
+            if let Some(taken) = self.try_next(rt, hand) {
+                return answered(taken);
             }
             thread::yield_now();
         }
@@ -167,29 +167,28 @@ impl<'p> StreamQueue<'p> {
     }
 
     // One load of the stop mark and, where that is clear, one try to pop. None only where the queue
-    // was empty.
-    fn try_next<R: Wait>(&self, rt: &R, hand: &mut StreamHand) -> Option<Work>
+    // was empty. A try that finds nothing copies no packet.
+    fn try_next<R: Wait>(&self, rt: &R, hand: &mut StreamHand) -> Option<Taken<'_>>
         requires own { IsHandOf self.now hand.old }
         requires empty { hand.old.number ≡ None }
         requires going { ((hand_seen hand.old).ended ≡ 0) × ((hand_seen hand.old).seen.stop ≡ 0) }
         ensures own { IsHandOf self.now hand.new }
         ensures none { result ≡ None → (hand.new.number ≡ None) × Makes (hand_seen hand.old) (sees_no_stop ∷ []) (hand_seen hand.new) }
-        ensures some { IfSome result (λ w. NextAfter [] (hand_seen hand.old) w (hand_seen hand.new)) }
-        ensures bytes { IfSome result (HasBytes self.now.packets) }
+        ensures some { IfSome result (λ t. NextAfter [] (hand_seen hand.old) (work_of t) (hand_seen hand.new)) }
+        ensures bytes { IfSome result (λ t. HasBytes self.now.packets (work_of t)) }
     {
         if look_stop(&self.desk, &mut hand.token) != 0 {
             hand.stop_seen = true;
-            return Some(Work::Stopped);
+            return Some(Taken::Stopped);
         }
         match take(rt, &self.line, &mut hand.pass) {
             Some(Item::Number(number)) => {
                 hand.number = Some(number);
-                let bytes = copied(&self.packets[number as usize]);
-                Some(Work::Packet { number, bytes })
+                Some(Taken::Packet(number, &self.packets[number as usize]))
             }
             Some(Item::End) => {
                 hand.ended = true;
-                Some(Work::NoMore)
+                Some(Taken::NoMore)
             }
             None => None,
         }
@@ -256,6 +255,20 @@ impl<'p> StreamQueue<'p> {
             join_seats(&self.desk, &mut token, next.token);
         }
         (pass, token)
+    }
+}
+
+// The answer to a request for work, with a packet's bytes.
+fn answered(taken: Taken<'_>) -> Work
+    ensures { result ≡ work_of taken.entry }
+{
+    match taken {
+        Taken::Packet(number, packet) => Work::Packet {
+            number,
+            bytes: copied(packet),
+        },
+        Taken::NoMore => Work::NoMore,
+        Taken::Stopped => Work::Stopped,
     }
 }
 

@@ -139,7 +139,7 @@ fn all_vacant(alloc: Global, count: usize) -> Result<Vec<Entry>, AllocError>
 {
     let mut entries = Vec::with_capacity(alloc, count)?;
     for _ in 0..count {
-        entries.push(Entry::Lost(LostCause::Stopped))?;
+        entries.push_reserved(Entry::Lost(LostCause::Stopped));
     }
     Ok(entries)
 }

@@ -1,7 +1,6 @@
 -- What a member keeps of its devices while it handles packets.
-use Rattle.std.specs.Prelude.{◌≡◌, ℕ, ◌+◌, ◌*◌, Result, Ok, Err}
+use Rattle.std.specs.Prelude.{◌≡◌, ℕ, ◌+◌, ◌*◌, Err}
 use Rattle.tp_link.specs.Device.{DeviceState, failures}
-use Rattle.tp_link.specs.declared.device.DeviceFault.{DeviceFault}
 use Rattle.tp_link.specs.declared.links.Link.{Link}
 use Rattle.tp_link.specs.declared.links.Link.TheVariants.{Source, Sink, Trace}
 use Rattle.tp_link.specs.declared.links.LinkFault.{LinkFault}
@@ -18,11 +17,6 @@ pub record SameSettings (before after : Devices) : Type 0 where
   pub source : SameDevice before.source after.source
   pub sink : SameDevice before.sink after.sink
   pub trace : SameDevice before.trace after.trace
-
--- 1 where a device failed in what gave this answer, else 0
-abbrev pub failures_of : {A : Type 0} → Result A DeviceFault → ℕ
-failures_of (Ok x) = 0
-failures_of (Err code) = failures (Err code)
 
 -- 1 where they are the same link, else 0
 abbrev pub same_link : Link → Link → ℕ

@@ -4,14 +4,13 @@ ghost use Rattle.std.specs.Prelude.{◌≡◌, ℕ, ◌*◌, ◌+◌, ◌≤◌,
 ghost use Rattle.tp_link.specs.Device.{failures};
 ghost use Rattle.tp_machine.specs.Devices.{devices_of};
 ghost use Rattle.tp_collect.specs.Collected.{IsResult};
-ghost use Rattle.tp_farm.specs.Settings.{SameDevice, SameSettings, Rises, failures_of};
+ghost use Rattle.tp_farm.specs.Settings.{SameDevice, SameSettings, Rises};
 ghost use Rattle.tp_farm.specs.Losses.{HasCause};
 ghost use Rattle.tp_farm.specs.Stages.{IsReady, HasGiven, HasTraced};
 ghost use Rattle.tp_farm.specs.Jobs.{batch_of};
 ghost use Rattle.tp_farm.specs.Handled.{on_link, HasReason, failed_in};
 
 use crate::job::Job;
-use arrayvec::ArrayVec;
 use tp_accept::Accepted;
 use tp_board::Packet;
 use tp_collect::Done;
@@ -79,32 +78,42 @@ fn run_on<D: LinkDevice>(
     machine.run(accepted, links)
 }
 
-/// The n bytes that a device holds.
-fn received<D: LinkDevice>(device: &mut D, n: usize) -> Result<Packet, DeviceFault>
+/// Receives the n bytes that a device holds, behind none. An answer that carried them would be copied at each call that hands it
+/// on.
+fn receive_held<D: LinkDevice>(
+    device: &mut D,
+    n: usize,
+    bytes: &mut Packet,
+) -> Result<(), DeviceFault>
     requires count { n ≡ length (D.state device.old).held }
     requires most { n ≤ 256 }
+    requires none { bytes.old.items ≡ [] }
     ensures settings { SameDevice (D.state device.old) (D.state device.new) }
-    ensures rises { (D.state device.new).faults ≡ (D.state device.old).faults + failures_of result }
-    ensures bytes { IfOk result (λ bytes. bytes.items ≡ (D.state device.old).held) }
+    ensures rises { (D.state device.new).faults ≡ (D.state device.old).faults + failures result }
+    ensures bytes { OnOk result (bytes.new.items ≡ (D.state device.old).held) }
     ensures cause { IfErr result (HasCause (D.state device.old) ⊥) }
 {
-    let mut bytes = [0u8; MESSAGE_BYTES];
-    if n > 0 {
-        device.receive(&mut bytes[..n])?;
+    if n == 0 {
+        return Ok(());
     }
-    Ok(ArrayVec::try_from(&bytes[..n]).unwrap())
+    let mut scratch = [0u8; MESSAGE_BYTES];
+    device.receive(&mut scratch[..n])?;
+    bytes.try_extend_from_slice(&scratch[..n]).unwrap();
+    Ok(())
 }
 
-/// The trace of a packet that was run, where that is no more than a trace may have.
-fn trace_held<D: LinkDevice>(
+/// Receives the trace of a packet that was run, where that is no more than a trace may have, behind none.
+fn receive_trace<D: LinkDevice>(
     _accepted: &Accepted,
     _packet: &Packet,
     links: &mut Links<D>,
-) -> Result<Packet, LinkFault>
-    requires { HasTraced _accepted.now.image _packet.now.items (D.state links.old.trace).held }
+    trace: &mut Packet,
+) -> Result<(), LinkFault>
+    requires none { trace.old.items ≡ [] }
+    requires traced { HasTraced _accepted.now.image _packet.now.items (D.state links.old.trace).held }
     ensures settings { SameSettings (devices_of D.state links.old) (devices_of D.state links.new) }
     ensures rises { Rises (devices_of D.state links.old) (devices_of D.state links.new) (λ which. failed_in which result) }
-    ensures bytes { IfOk result (λ bytes. bytes.items ≡ (D.state links.old.trace).held) }
+    ensures bytes { OnOk result (trace.new.items ≡ (D.state links.old.trace).held) }
     ensures reason { IfErr result (HasReason _accepted.now.image _packet.now.items (devices_of D.state links.old)) }
 {
     let n = links.trace.held();
@@ -114,7 +123,7 @@ fn trace_held<D: LinkDevice>(
             code: DeviceFault::Full,
         });
     }
-    of_link(Link::Trace, received(&mut links.trace, n))
+    of_link(Link::Trace, receive_held(&mut links.trace, n, trace))
 }
 
 /// Runs the worker on the packet of a number, over the member's devices: they are emptied, the packet is sent to the
@@ -137,11 +146,11 @@ pub(crate) fn handle<D: LinkDevice>(
 {
     prepare(job.image, packet, links)?;
     let outcome = run_on(machine, job.image, packet, links)?;
-    let result_bytes = of_link(
-        Link::Sink,
-        received(&mut links.sink, job.image.result_bytes()),
-    )?;
-    let trace = trace_held(job.image, packet, links)?;
+    let mut result_bytes = Packet::new();
+    let answer = receive_held(&mut links.sink, job.image.result_bytes(), &mut result_bytes);
+    of_link(Link::Sink, answer)?;
+    let mut trace = Packet::new();
+    receive_trace(job.image, packet, links, &mut trace)?;
     Ok(Done::new(
         job.batch,
         job.image.image(),

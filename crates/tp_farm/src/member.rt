@@ -115,9 +115,10 @@ fn take_turn<W: WorkSource, D: LinkDevice, G: Gate>(
         source.stop(&mut member.hand);
         return Some(End::Stopped);
     }
-    match source.next(rt, &mut member.hand) {
+    let work = source.next(rt, &mut member.hand);
+    match &work {
         Work::Packet { number, bytes } => {
-            file_packet(job, gate, source, member, number, &bytes);
+            file_packet(job, gate, source, member, *number, bytes);
             None
         }
         Work::NoMore => Some(End::Drained),

@@ -1,4 +1,4 @@
-use Rattle.std.proofs.Common.{◌≡◌, ℕ, ◌<◌, ◌∷◌, [], length, Some, refl, inr, sym, ap, ◌∙◌, subst, arith}
+use Rattle.std.proofs.Common.{◌≡◌, ℕ, ◌<◌, ◌∷◌, [], length, refl, inr, sym, ap, ◌∙◌, subst, arith}
 use Rattle.std.specs.Prelude.{slice_get}
 use Rattle.crossbeam_queue.specs.Passes.{view}
 use Rattle.tp_board.specs.declared.line.Item.{Item}
@@ -29,7 +29,7 @@ returns-in-Some-Number-clause-some g c =
     let none = ap (λ (h : HandView). h.place.seen.stop) is ∙ c.requires.going.1 in
     let popped = subst (λ (x : Item). Took (view c.hand.inside.pass) x (view c.take.new.pass)) c.in-Some-Number.field-0-is c.in-Some-Number.ensures.1 in
     let n : ℕ = c.in-Some-Number.number in
-    subst (λ (h : HandView). NextAfter [] (hand_seen h) (work.Packet n c.copied-bytes.result) (seen_of (view c.take.new.pass) c.look_stop.new.token.me.0 (n ∷ []))) is
+    subst (λ (h : HandView). NextAfter [] (hand_seen h) (work.Packet n c.index-self-number.result) (seen_of (view c.take.new.pass) c.look_stop.new.token.me.0 (n ∷ []))) is
     (going, none, popped.1.0, popped.1.2, says_number _ _ _ _ _ _ _ _ empty i.0 going c.if-look_stop-ne0.false looked.step.0 looked.step.2 n (n ∷ []) refl popped.0 popped.1)
 
 pub returns-in-Some-Number-clause-bytes : goal.returns-in-Some-Number-clause-bytes
@@ -40,7 +40,7 @@ returns-in-Some-Number-clause-bytes g c =
     let here = ap (λ (q : StreamView). length q.packets) c.self.view_is in
     let sizes = ap (λ (h : HandView). h.turn.packets) is ∙ c.requires.own.2 ∙ sym here in
     let below : n < length c.self.inside.packets.now = below_map _ c.self.inside.packets.now n _ sizes popped.1.0 in
-    ap (λ (q : StreamView). slice_get q.packets n) (sym c.self.view_is) ∙ get_map _ c.self.inside.packets.now n c.index-self-number.result below ∙ ap Some (sym c.copied-bytes.ensures)
+    ap (λ (q : StreamView). slice_get q.packets n) (sym c.self.view_is) ∙ get_map _ c.self.inside.packets.now n c.index-self-number.result below
 
 pub returns-in-Some-End-clause-some : goal.returns-in-Some-End-clause-some
 returns-in-Some-End-clause-some g c =
