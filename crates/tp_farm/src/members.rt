@@ -136,7 +136,7 @@ where
 const TRIES_BEFORE_REST: u32 = 256;
 
 /// So many of these tries a packet that was pushed earns again: where runs are short the feeder does not come to a rest.
-const TRIES_EARNED: u32 = 16;
+const TRIES_EARNED: u32 = 4;
 
 /// The longest rest, in microseconds. It is less than four members take for a full queue of long runs.
 const REST: u64 = 200;
