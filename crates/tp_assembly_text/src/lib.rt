@@ -12,6 +12,7 @@ mod words;
 mod writing;
 
 pub use fault::{SourceFault, TextFault};
-pub use finish::Source;
+pub use finish::{Label, Local, Source};
 pub use reading::read_source;
+pub use words::statement_of;
 pub use writing::source_text;

@@ -64,6 +64,27 @@ fn before_comment(text: &[u8]) -> &[u8] {
     text
 }
 
+/// Whether bytes are one word, with white space about it or not.
+fn is_one_word(text: &[u8]) -> bool {
+    let word = text.trim_ascii();
+    !word.is_empty()
+        && word
+            .iter()
+            .all(|byte| !byte.is_ascii_whitespace() && !is_mark(*byte))
+}
+
+/// The statement of a line, without its label and its comment, and without white space at its ends.
+pub fn statement_of<'a>(line: &'a str) -> &'a str {
+    let text = before_comment(line.as_bytes());
+    let statement = match text.iter().position(|byte| *byte == b':') {
+        Some(mark) if is_one_word(text.get(..mark).unwrap_or(text)) => {
+            text.get(mark.saturating_add(1)..).unwrap_or(text)
+        }
+        _ => text,
+    };
+    str::from_utf8(statement.trim_ascii()).unwrap_or(line)
+}
+
 /// The words of a line.
 pub fn words_of<'a>(
     alloc: Global,

@@ -5,6 +5,7 @@ ghost use Rattle.tp_decode.specs.Cutting.{IsCutting};
 use crate::fields::{tell_bytes, tell_field, tell_turns};
 use crate::flow::tell_flow;
 use crate::meaning::meaning_of;
+use crate::source::SourceText;
 use crate::states::tell_state;
 use crate::telling::TellFault;
 use std::alloc::Global;
@@ -15,8 +16,13 @@ use tp_flow::check_flow;
 use tp_image::{Image, read_image};
 
 /// Judges the bytes of an image, and writes the verdict: as farmd answers it, and of a refusal what it means, where it comes, and
-/// what helps. It answers whether the image is accepted.
-pub fn tell<W: Write>(alloc: Global, text: &[u8], writer: &mut W) -> Result<bool, TellFault> {
+/// what helps; the listing has what a text says of its lines. It answers whether the image is accepted.
+pub fn tell<W: Write>(
+    alloc: Global,
+    text: &[u8],
+    source: SourceText<'_>,
+    writer: &mut W,
+) -> Result<bool, TellFault> {
     let copy = Vec::from_slice(alloc, text)?;
     match accept(alloc, copy) {
         Ok(accepted) => {
@@ -27,7 +33,7 @@ pub fn tell<W: Write>(alloc: Global, text: &[u8], writer: &mut W) -> Result<bool
         }
         Err(Refusal::Memory) => Err(TellFault::Memory),
         Err(Refusal::Refused { code, place }) => {
-            tell_refusal(alloc, text, code, place, writer)?;
+            tell_refusal(alloc, text, source, code, place, writer)?;
             Ok(false)
         }
     }
@@ -37,6 +43,7 @@ pub fn tell<W: Write>(alloc: Global, text: &[u8], writer: &mut W) -> Result<bool
 fn tell_refusal<W: Write>(
     alloc: Global,
     text: &[u8],
+    source: SourceText<'_>,
     code: RefusalCode,
     place: usize,
     writer: &mut W,
@@ -55,7 +62,7 @@ fn tell_refusal<W: Write>(
         code => {
             if let Ok(image) = read_image(alloc, text) {
                 if let Ok(listing) = decode(alloc, &image.code) {
-                    tell_code(alloc, &image, &listing, code, place, writer)?;
+                    tell_code(alloc, &image, &listing, source, code, place, writer)?;
                 }
             }
         }
@@ -69,6 +76,7 @@ fn tell_code<W: Write>(
     alloc: Global,
     image: &Image,
     listing: &Listing,
+    source: SourceText<'_>,
     code: RefusalCode,
     place: usize,
     writer: &mut W,
@@ -76,9 +84,9 @@ fn tell_code<W: Write>(
     requires { IsCutting image.now.code listing.now }
 {
     match code {
-        RefusalCode::Flow(code) => tell_flow(alloc, image, listing, code, place, writer),
+        RefusalCode::Flow(code) => tell_flow(alloc, image, listing, source, code, place, writer),
         RefusalCode::State(_) => match check_flow(image, listing) {
-            Ok(nest) => tell_state(alloc, image, listing, &nest, writer),
+            Ok(nest) => tell_state(alloc, image, listing, &nest, source, writer),
             Err(_) => Ok(()),
         },
         RefusalCode::B1 => tell_turns(image, writer),

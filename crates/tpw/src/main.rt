@@ -10,6 +10,7 @@ mod assembly;
 mod command_line;
 mod ending;
 mod input;
+mod noting;
 mod place;
 mod program;
 mod refusing;
