@@ -1,5 +1,8 @@
 //! A line of text as words.
 
+ghost use Rattle.std.specs.Prelude.{◌≡◌};
+ghost use Rattle.std.specs.Str.{str_eq_ignore_ascii_case};
+
 use crate::fault::{SourceFault, TextFault};
 use std::alloc::{AllocError, Global};
 
@@ -13,7 +16,9 @@ pub struct Word<'a> {
 
 impl<'a> Word<'a> {
     /// Whether it is this word, in capitals or not.
-    pub fn is(&self, name: &str) -> bool {
+    pub fn is(&self, name: &str) -> bool
+        ensures { result ≡ str_eq_ignore_ascii_case self.now.text.now name.now }
+    {
         self.text.eq_ignore_ascii_case(name.as_bytes())
     }
 

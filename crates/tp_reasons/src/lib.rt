@@ -4,6 +4,7 @@
 #![tactic(auto)]
 
 mod asked;
+mod costs;
 mod fields;
 mod flow;
 mod known;
@@ -20,6 +21,7 @@ mod ways;
 mod writers;
 mod written;
 
+pub use costs::{Cost, Costs, LoopCost, costs_of};
 pub use meaning::{Meaning, meaning_of};
 pub use passes::first_refusal;
 pub use refusal::{EdgeRefusal, FirstRefusal};

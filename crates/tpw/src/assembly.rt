@@ -1,11 +1,11 @@
-//! The commands `asm` and `dis`: text to an image, and an image to text.
+//! The command `asm`: text to an image.
 
 use crate::ending::{Ending, Status};
-use crate::input::{image_from, text_from};
+use crate::input::text_from;
 use std::alloc::Global;
 use std::io::{Read, Write};
-use tp_assembly::{AssemblyFault, assemble, disassemble};
-use tp_assembly_text::{Source, read_source, source_text};
+use tp_assembly::{AssemblyFault, assemble};
+use tp_assembly_text::{Source, read_source};
 use tp_image::write_image;
 
 /// Why a program has no image, by the line of the text.
@@ -26,7 +26,7 @@ fn ending_of(fault: AssemblyFault, numbers: &[usize]) -> Ending {
 }
 
 /// Writes a text, and flushes it.
-fn told<W: Write>(writer: &mut W, text: &str) -> Result<Status, Ending> {
+pub fn told<W: Write>(writer: &mut W, text: &str) -> Result<Status, Ending> {
     match writer
         .write_all(text.as_bytes())
         .and_then(|()| writer.flush())
@@ -68,16 +68,4 @@ pub fn assemble_text<R: Read, W: Write>(
         None => format!(in alloc; "{digits}\n")?,
     };
     told(writer, line.as_str())
-}
-
-/// Reads an image, and writes it as text.
-pub fn tell_image<R: Read, W: Write>(
-    alloc: Global,
-    reader: &mut R,
-    writer: &mut W,
-) -> Result<Status, Ending> {
-    let image = image_from(alloc, reader)?;
-    let program = disassemble(alloc, &image)?;
-    let text = source_text(alloc, &program)?;
-    told(writer, text.as_str())
 }

@@ -15,6 +15,7 @@ mod place;
 mod program;
 mod refusing;
 mod stepping;
+mod telling;
 #[cfg(test)]
 mod tests;
 mod words;

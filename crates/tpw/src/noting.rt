@@ -2,7 +2,7 @@
 
 use crate::ending::Ending;
 use std::alloc::Global;
-use tp_assembly::{AssemblyFault, addresses};
+use tp_assembly::{AssemblyFault, Program, addresses};
 use tp_assembly_text::{Local, Source, statement_of};
 use tp_reasons::{Label, Named, SourceText, Statement};
 
@@ -15,8 +15,8 @@ pub struct Notes<'a> {
 }
 
 /// The address of each place of a program.
-fn places_of(alloc: Global, source: &Source<'_>) -> Result<Vec<u32>, Ending> {
-    match addresses(alloc, &source.program) {
+pub fn places_of(alloc: Global, program: &Program) -> Result<Vec<u32>, Ending> {
+    match addresses(alloc, program) {
         Ok(places) => Ok(places),
         Err(AssemblyFault::Memory) => Err(Ending::Memory),
         Err(fault) => Err(Ending::Assembly(fault)),
@@ -86,7 +86,7 @@ fn words_of<'a>(alloc: Global, source: &Source<'a>) -> Result<Vec<Named<'a>>, En
 impl<'a> Notes<'a> {
     /// What a text says of its code.
     pub fn new(alloc: Global, text: &'a str, source: &Source<'a>) -> Result<Notes<'a>, Ending> {
-        let places = places_of(alloc, source)?;
+        let places = places_of(alloc, &source.program)?;
         Ok(Notes {
             statements: statements_of(alloc, text, &source.numbers, &places)?,
             labels: labels_of(alloc, source, &places)?,
