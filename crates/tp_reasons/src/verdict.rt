@@ -11,9 +11,9 @@ use crate::telling::TellFault;
 use std::alloc::Global;
 use std::io::Write;
 use tp_accept::{Refusal, RefusalCode, accept};
-use tp_decode::{Listing, decode};
+use tp_decode::{DecodeFault, Listing, decode};
 use tp_flow::check_flow;
-use tp_image::{Image, read_image};
+use tp_image::{Image, ImageFault, read_image};
 
 /// Judges the bytes of an image, and writes the verdict: as farmd answers it, and of a refusal what it means, where it comes, and
 /// what helps; the listing has what a text says of its lines. It answers whether the image is accepted.
@@ -39,6 +39,15 @@ pub fn tell<W: Write>(
     }
 }
 
+/// The image that bytes are, if they are one.
+fn image_of(alloc: Global, text: &[u8]) -> Result<Option<Image>, TellFault> {
+    match read_image(alloc, text) {
+        Ok(image) => Ok(Some(image)),
+        Err(ImageFault::Memory) => Err(TellFault::Memory),
+        Err(ImageFault::Refused { .. }) => Ok(None),
+    }
+}
+
 /// Writes a refusal: its line, what it means, where it comes, and what helps.
 fn tell_refusal<W: Write>(
     alloc: Global,
@@ -55,14 +64,16 @@ fn tell_refusal<W: Write>(
     match code {
         RefusalCode::Image(code) => tell_field(text, code, place, writer)?,
         RefusalCode::Cutting(_) => {
-            if let Ok(image) = read_image(alloc, text) {
+            if let Some(image) = image_of(alloc, text)? {
                 tell_bytes(alloc, &image, place, writer)?;
             }
         }
         code => {
-            if let Ok(image) = read_image(alloc, text) {
-                if let Ok(listing) = decode(alloc, &image.code) {
-                    tell_code(alloc, &image, &listing, source, code, place, writer)?;
+            if let Some(image) = image_of(alloc, text)? {
+                match decode(alloc, &image.code) {
+                    Ok(listing) => tell_code(alloc, &image, &listing, source, code, place, writer)?,
+                    Err(DecodeFault::Memory) => return Err(TellFault::Memory),
+                    Err(DecodeFault::Refused { .. }) => {}
                 }
             }
         }
