@@ -68,6 +68,12 @@ pub record HasLengths (program : Program) (lengths : List ℕ) : Type 0 where
   pub layout : HasLayout program lengths
   pub stated : first_narrow 0 program.lines.items lengths ≡ None
 
+-- the addresses of the places of a program, in its least layout
+pub record AreItsAddresses (program : Program) (addresses : List ℕ) : Type 0 where
+  pub lengths : List ℕ
+  pub laid_out : HasLengths program lengths
+  pub placed : addresses ≡ addresses_from 0 lengths
+
 -- the header of a program with so many code bytes
 abbrev pub header_said : Program → ℕ → Header
 header_said program bytes = record {

@@ -3,7 +3,7 @@
 ghost use Rattle.std.specs.Prelude.{◌≡◌, IfOk, IfErr, MatchResult};
 ghost use Rattle.tp_image.specs.Image.{ImageValue};
 ghost use Rattle.tp_assembly.specs.Layout.{addresses_from};
-ghost use Rattle.tp_assembly.specs.Assembly.{HasLengths, IsAssembly, IsRefused};
+ghost use Rattle.tp_assembly.specs.Assembly.{AreItsAddresses, HasLengths, IsAssembly, IsRefused};
 
 use crate::fault::AssemblyFault;
 use crate::fields::{field_fault, image_of, most_of};
@@ -26,6 +26,14 @@ fn layout_of(alloc: Global, program: &Program) -> Result<Layout, AssemblyFault>
     let layout = least_layout(alloc, &program.lines, most as usize)?;
     check_lengths(&program.lines, &layout.lengths)?;
     Ok(layout)
+}
+
+/// The address of each place of a program, in its least layout: one more than there are lines. Or else why it has no such layout.
+pub fn addresses(alloc: Global, program: &Program) -> Result<Vec<u32>, AssemblyFault>
+    ensures addresses { IfOk result (λ found. AreItsAddresses program.now found.items) }
+    ensures refused { IfErr result (λ fault. IsRefused program.now fault) }
+{
+    Ok(layout_of(alloc, program)?.addresses)
 }
 
 /// The image of a program.

@@ -16,7 +16,7 @@ mod rows;
 mod spelling;
 mod telling;
 
-pub use assembling::assemble;
+pub use assembling::{addresses, assemble};
 pub use disassembling::disassemble;
 pub use fault::{AssemblyFault, LineFault};
 pub use program::{Line, Loop, Operation, Program, Spot};

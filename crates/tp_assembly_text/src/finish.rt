@@ -3,14 +3,31 @@
 use crate::draft::{Control, Draft, DraftLine, Name, Row, Target, value_of};
 use crate::fault::{SourceFault, TextFault};
 use crate::words::Word;
-use std::alloc::Global;
+use std::alloc::{AllocError, Global};
 use tp_assembly::{Line, Loop, Operation, Program, Spot};
 
-/// A program, and the line of the text that each of its lines comes from, counted from 1.
+/// A label of a text, and the place where it stands.
+#[derive(Clone, Copy, Debug, PartialEq, Eq)]
+pub struct Label<'a> {
+    pub name: &'a str,
+    pub place: usize,
+}
+
+/// A name of local words: of the first, and of those behind it.
+#[derive(Clone, Copy, Debug, PartialEq, Eq)]
+pub struct Local<'a> {
+    pub name: &'a str,
+    pub first: usize,
+    pub words: usize,
+}
+
+/// A program, the line of the text that each of its lines comes from, counted from 1, and the names that the text gives.
 #[derive(Drop)]
-pub struct Source {
+pub struct Source<'a> {
     pub program: Program,
     pub numbers: Vec<usize>,
+    pub labels: Vec<Label<'a>>,
+    pub locals: Vec<Local<'a>>,
 }
 
 /// The place of a label.
@@ -58,8 +75,44 @@ fn loop_of(labels: &[Name<'_>], start: u32, row: &Row<'_>) -> Result<Loop, Sourc
     })
 }
 
+/// The labels of a text.
+fn labels_of<'a>(alloc: Global, names: &[Name<'a>]) -> Result<Vec<Label<'a>>, AllocError> {
+    let mut labels = Vec::new(alloc);
+    for name in names {
+        if let Ok(text) = str::from_utf8(name.word.text) {
+            labels.push(Label {
+                name: text,
+                place: name.value,
+            })?;
+        }
+    }
+    Ok(labels)
+}
+
+/// The names of local words, so many of which have names. Each name has the words up to the next name's first.
+fn locals_of<'a>(
+    alloc: Global,
+    names: &[Name<'a>],
+    words: usize,
+) -> Result<Vec<Local<'a>>, AllocError> {
+    let mut locals = Vec::new(alloc);
+    for (i, name) in names.iter().enumerate() {
+        let end = names
+            .get(i.saturating_add(1))
+            .map_or(words, |next| next.value);
+        if let Ok(text) = str::from_utf8(name.word.text) {
+            locals.push(Local {
+                name: text,
+                first: name.value,
+                words: end.saturating_sub(name.value),
+            })?;
+        }
+    }
+    Ok(locals)
+}
+
 /// The program of a draft. The workspace is as large as the locals need, where nothing else is said.
-pub fn finish(alloc: Global, draft: Draft<'_>) -> Result<Source, SourceFault> {
+pub fn finish<'a>(alloc: Global, draft: Draft<'a>) -> Result<Source<'a>, SourceFault> {
     if let Some(open) = draft.open.last() {
         return Err(open.name.fault(TextFault::NoEnd));
     }
@@ -84,5 +137,7 @@ pub fn finish(alloc: Global, draft: Draft<'_>) -> Result<Source, SourceFault> {
             lines,
         },
         numbers: Vec::from_slice(alloc, &draft.numbers)?,
+        labels: labels_of(alloc, &draft.labels)?,
+        locals: locals_of(alloc, &draft.locals, draft.words as usize)?,
     })
 }

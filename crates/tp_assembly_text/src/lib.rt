@@ -7,11 +7,14 @@ mod finish;
 mod mnemonics;
 mod number;
 mod reading;
+mod remarks;
 mod statements;
 mod words;
 mod writing;
 
 pub use fault::{SourceFault, TextFault};
-pub use finish::Source;
+pub use finish::{Label, Local, Source};
 pub use reading::read_source;
+pub use remarks::{LineRemark, LoopRemark, Remarks};
+pub use words::statement_of;
 pub use writing::source_text;

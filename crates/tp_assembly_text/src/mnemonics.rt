@@ -1,57 +1,61 @@
 //! The names of instructions.
 
+ghost use Rattle.std.specs.Prelude.{◌≡◌};
+ghost use Rattle.tp_decode.specs.Table.{entry};
+ghost use Rattle.tp_assembly_text.specs.Names.{function_by_name, function_named, operation_named};
+
 use crate::words::Word;
 use tp_decode::Instr;
 
 /// The function of operations.
 const OPR: u8 = 0xf;
 
-/// The functions with an operand of their own.
-const FUNCTIONS: [(&str, u8); 12] = [
-    ("j", 0x0),
-    ("ldlp", 0x1),
-    ("ldnl", 0x3),
-    ("ldc", 0x4),
-    ("ldnlp", 0x5),
-    ("ldl", 0x7),
-    ("adc", 0x8),
-    ("cj", 0xa),
-    ("ajw", 0xb),
-    ("eqc", 0xc),
-    ("stl", 0xd),
-    ("stnl", 0xe),
+/// The instructions with an operand of their own, at the operand 0.
+const FUNCTIONS: [Instr; 12] = [
+    Instr::Jump(0),
+    Instr::Ldlp(0),
+    Instr::Ldnl(0),
+    Instr::Ldc(0),
+    Instr::Ldnlp(0),
+    Instr::Ldl(0),
+    Instr::Adc(0),
+    Instr::Cj(0),
+    Instr::Ajw(0),
+    Instr::Eqc(0),
+    Instr::Stl(0),
+    Instr::Stnl(0),
 ];
 
 /// The operations.
-const OPERATIONS: [(&str, i32); 28] = [
-    ("rev", 0x00),
-    ("lb", 0x01),
-    ("bsub", 0x02),
-    ("diff", 0x04),
-    ("add", 0x05),
-    ("in", 0x07),
-    ("prod", 0x08),
-    ("gt", 0x09),
-    ("wsub", 0x0a),
-    ("out", 0x0b),
-    ("sub", 0x0c),
-    ("seterr", 0x10),
-    ("csub0", 0x13),
-    ("stopp", 0x15),
-    ("rem", 0x1f),
-    ("lend", 0x21),
-    ("div", 0x2c),
-    ("not", 0x32),
-    ("xor", 0x33),
-    ("sb", 0x3b),
-    ("shr", 0x40),
-    ("shl", 0x41),
-    ("mint", 0x42),
-    ("and", 0x46),
-    ("move", 0x4a),
-    ("or", 0x4b),
-    ("sum", 0x52),
-    ("mul", 0x53),
+const OPERATIONS: [Instr; 28] = [
+    Instr::Rev,
+    Instr::Lb,
+    Instr::Bsub,
+    Instr::Diff,
+    Instr::Add,
+    Instr::Input,
+    Instr::Prod,
+    Instr::Gt,
+    Instr::Wsub,
+    Instr::Output,
+    Instr::Sub,
+    Instr::Seterr,
+    Instr::Csub0,
+    Instr::Stopp,
+    Instr::Rem,
+    Instr::Lend,
+    Instr::Div,
+    Instr::BitNot,
+    Instr::BitXor,
+    Instr::Sb,
+    Instr::Shr,
+    Instr::Shl,
+    Instr::Mint,
+    Instr::BitAnd,
+    Instr::MoveBytes,
+    Instr::BitOr,
+    Instr::Sum,
+    Instr::Mul,
 ];
 
 /// Instructions of the T414 that have no row in this profile, and two of later ones.
@@ -116,24 +120,100 @@ const LEFT_OUT: [&str; 58] = [
     "pop",
 ];
 
-/// The code of the function of this name.
-pub fn function_of(word: &Word<'_>) -> Option<u8> {
-    for (name, function) in FUNCTIONS {
-        if word.is(name) {
-            return Some(function);
-        }
+/// The name of an instruction.
+fn name_of(instr: Instr) -> &'static str
+    ensures { result.now ≡ (entry instr).name }
+{
+    match instr {
+        Instr::Jump(_) => "j",
+        Instr::Ldlp(_) => "ldlp",
+        Instr::Ldnl(_) => "ldnl",
+        Instr::Ldc(_) => "ldc",
+        Instr::Ldnlp(_) => "ldnlp",
+        Instr::Ldl(_) => "ldl",
+        Instr::Adc(_) => "adc",
+        Instr::Cj(_) => "cj",
+        Instr::Ajw(_) => "ajw",
+        Instr::Eqc(_) => "eqc",
+        Instr::Stl(_) => "stl",
+        Instr::Stnl(_) => "stnl",
+        Instr::Rev => "rev",
+        Instr::Lb => "lb",
+        Instr::Bsub => "bsub",
+        Instr::Diff => "diff",
+        Instr::Add => "add",
+        Instr::Input => "in",
+        Instr::Prod => "prod",
+        Instr::Gt => "gt",
+        Instr::Wsub => "wsub",
+        Instr::Output => "out",
+        Instr::Sub => "sub",
+        Instr::Seterr => "seterr",
+        Instr::Csub0 => "csub0",
+        Instr::Stopp => "stopp",
+        Instr::Rem => "rem",
+        Instr::Lend => "lend",
+        Instr::Div => "div",
+        Instr::BitNot => "not",
+        Instr::BitXor => "xor",
+        Instr::Sb => "sb",
+        Instr::Shr => "shr",
+        Instr::Shl => "shl",
+        Instr::Mint => "mint",
+        Instr::BitAnd => "and",
+        Instr::MoveBytes => "move",
+        Instr::BitOr => "or",
+        Instr::Sum => "sum",
+        Instr::Mul => "mul",
     }
-    None
+}
+
+/// The code of the function of an instruction.
+fn code_of(instr: Instr) -> u8
+    ensures { result ≡ (entry instr).function }
+{
+    match instr {
+        Instr::Jump(_) => 0x0,
+        Instr::Ldlp(_) => 0x1,
+        Instr::Ldnl(_) => 0x3,
+        Instr::Ldc(_) => 0x4,
+        Instr::Ldnlp(_) => 0x5,
+        Instr::Ldl(_) => 0x7,
+        Instr::Adc(_) => 0x8,
+        Instr::Cj(_) => 0xa,
+        Instr::Ajw(_) => 0xb,
+        Instr::Eqc(_) => 0xc,
+        Instr::Stl(_) => 0xd,
+        Instr::Stnl(_) => 0xe,
+        _ => OPR,
+    }
+}
+
+/// The instruction with an operand of its own that has this name, at the operand 0.
+#[tactic(auto, unfolding(crate::specs::Names::function_by_name))]
+fn function_by_name(word: &Word<'_>) -> Option<Instr>
+    ensures { result ≡ function_by_name word.now.text.now }
+{
+    FUNCTIONS.iter().copied().find(|i| word.is(name_of(*i)))
+}
+
+/// The code of the function of this name, of those with an operand of their own.
+#[tactic(auto, unfolding(crate::specs::Names::function_named))]
+pub fn function_of(word: &Word<'_>) -> Option<u8>
+    ensures { result ≡ function_named word.now.text.now }
+{
+    match function_by_name(word) {
+        Some(instr) => Some(code_of(instr)),
+        None => None,
+    }
 }
 
 /// The operation of this name.
-pub fn operation_of(word: &Word<'_>) -> Option<Instr> {
-    for (name, code) in OPERATIONS {
-        if word.is(name) {
-            return Instr::of(OPR, code);
-        }
-    }
-    None
+#[tactic(auto, unfolding(crate::specs::Names::operation_named))]
+pub fn operation_of(word: &Word<'_>) -> Option<Instr>
+    ensures { result ≡ operation_named word.now.text.now }
+{
+    OPERATIONS.iter().copied().find(|i| word.is(name_of(*i)))
 }
 
 /// Whether the profile leaves out the instruction of this name.

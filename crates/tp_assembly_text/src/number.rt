@@ -1,23 +1,34 @@
 //! Numbers of a text.
 
-ghost use Rattle.std.specs.Prelude.{◌≤◌, IfOk};
+ghost use Rattle.std.specs.Prelude.{◌≤◌, ◌<◌, ◌^◌, ℕ, IfOk, MatchOption};
+ghost use Rattle.tp_assembly_text.specs.Numbers.{Writes, WritesNatural};
 
 use crate::fault::{SourceFault, TextFault};
 use crate::words::Word;
 
-/// The magnitude that digits write: decimal, or hexadecimal behind `#` or `0x`.
-fn magnitude_of(digits: &str) -> Option<u32> {
-    let (digits, radix) = match digits.strip_prefix('#') {
-        Some(rest) => (rest, 16),
-        None => match digits.strip_prefix("0x") {
-            Some(rest) => (rest, 16),
-            None => (digits, 10),
-        },
-    };
-    if digits.starts_with('+') || digits.starts_with('-') {
+/// The number that digits of a radix write, if there are digits alone and it has 32 bits.
+fn digits_in(digits: &str, radix: u32) -> Option<u32>
+    requires least { 2 ≤ radix }
+    requires most { radix ≤ 16 }
+    ensures { MatchOption result ((number : ℕ) → number < 2 ^ 32 → Writes radix digits.now number → ⊥) (λ number. Writes radix digits.now number) }
+{
+    if digits.starts_with('+') {
         return None;
     }
     u32::from_str_radix(digits, radix).ok()
+}
+
+/// The number that a word writes, in decimal, or in hexadecimal behind `#` or `0x`.
+fn natural_of(word: &str) -> Option<u32>
+    ensures { MatchOption result ((number : ℕ) → number < 2 ^ 32 → WritesNatural word.now number → ⊥) (λ number. WritesNatural word.now number) }
+{
+    if let Some(digits) = word.strip_prefix('#') {
+        return digits_in(digits, 16);
+    }
+    match word.strip_prefix("0x") {
+        Some(digits) => digits_in(digits, 16),
+        None => digits_in(word, 10),
+    }
 }
 
 /// The word of 32 bits that a text writes, read as a signed number.
@@ -25,14 +36,14 @@ fn signed_of(text: &[u8]) -> Option<i32> {
     let text = str::from_utf8(text).ok()?;
     match text.strip_prefix('-') {
         Some(digits) => {
-            let magnitude = magnitude_of(digits)?;
+            let magnitude = natural_of(digits)?;
             if magnitude > 0x8000_0000 {
                 None
             } else {
                 Some(0_u32.wrapping_sub(magnitude).cast_signed())
             }
         }
-        None => Some(magnitude_of(text)?.cast_signed()),
+        None => Some(natural_of(text)?.cast_signed()),
     }
 }
 

@@ -25,7 +25,7 @@ fn read_line<'a>(draft: &mut Draft<'a>, words: &[Word<'a>]) -> Result<(), Source
 }
 
 /// The program that a text says, or its first fault.
-pub fn read_source(alloc: Global, text: &str) -> Result<Source, SourceFault> {
+pub fn read_source<'a>(alloc: Global, text: &'a str) -> Result<Source<'a>, SourceFault> {
     let mut draft = Draft::new(alloc);
     for (i, line) in text.lines().enumerate() {
         let words = words_of(alloc, line.as_bytes(), i.saturating_add(1))?;

@@ -1,5 +1,8 @@
 //! A line of text as words.
 
+ghost use Rattle.std.specs.Prelude.{◌≡◌};
+ghost use Rattle.std.specs.Str.{str_eq_ignore_ascii_case};
+
 use crate::fault::{SourceFault, TextFault};
 use std::alloc::{AllocError, Global};
 
@@ -13,7 +16,9 @@ pub struct Word<'a> {
 
 impl<'a> Word<'a> {
     /// Whether it is this word, in capitals or not.
-    pub fn is(&self, name: &str) -> bool {
+    pub fn is(&self, name: &str) -> bool
+        ensures { result ≡ str_eq_ignore_ascii_case self.now.text.now name.now }
+    {
         self.text.eq_ignore_ascii_case(name.as_bytes())
     }
 
@@ -62,6 +67,27 @@ fn before_comment(text: &[u8]) -> &[u8] {
         }
     }
     text
+}
+
+/// Whether bytes are one word, with white space about it or not.
+fn is_one_word(text: &[u8]) -> bool {
+    let word = text.trim_ascii();
+    !word.is_empty()
+        && word
+            .iter()
+            .all(|byte| !byte.is_ascii_whitespace() && !is_mark(*byte))
+}
+
+/// The statement of a line, without its label and its comment, and without white space at its ends.
+pub fn statement_of<'a>(line: &'a str) -> &'a str {
+    let text = before_comment(line.as_bytes());
+    let statement = match text.iter().position(|byte| *byte == b':') {
+        Some(mark) if is_one_word(text.get(..mark).unwrap_or(text)) => {
+            text.get(mark.saturating_add(1)..).unwrap_or(text)
+        }
+        _ => text,
+    };
+    str::from_utf8(statement.trim_ascii()).unwrap_or(line)
 }
 
 /// The words of a line.

@@ -1,5 +1,6 @@
 //! A program as text.
 
+use crate::remarks::{Remarks, end_line, put_above};
 use std::alloc::{AllocError, Global};
 use tp_assembly::{Line, Loop, Operation, Program, Spot};
 use tp_image::Version;
@@ -77,7 +78,7 @@ fn put_named(
         text.push_str(" ")?;
         text.push_str(operand)?;
     }
-    text.push_str("\n")
+    Ok(())
 }
 
 /// Appends an operation.
@@ -141,22 +142,33 @@ fn put_fields(text: &mut String, program: &Program) -> Result<(), AllocError> {
     Ok(())
 }
 
-/// A program as a text that is read as the same program. Its labels are `L` and a place's number.
-pub fn source_text(alloc: Global, program: &Program) -> Result<String, AllocError> {
+/// Appends a line, without its end.
+fn put_line(alloc: Global, text: &mut String, line: &Line) -> Result<(), AllocError> {
+    match line {
+        Line::Byte(byte) => {
+            let byte = *byte;
+            write!(text, "        byte #{byte:02x}")
+        }
+        Line::Spelled { operation, bytes } => put_operation(alloc, text, *operation, *bytes),
+    }
+}
+
+/// A program as a text that is read as the same program. Its labels are `L` and a place's number. Remarks stand in comments.
+pub fn source_text(
+    alloc: Global,
+    program: &Program,
+    remarks: Option<&Remarks<'_>>,
+) -> Result<String, AllocError> {
     let marks = marks_of(alloc, program)?;
     let mut text = String::new(alloc);
+    if let Some(remarks) = remarks {
+        put_above(&mut text, remarks)?;
+    }
     put_fields(&mut text, program)?;
     for (place, line) in program.lines.iter().enumerate() {
         put_label(&mut text, &marks, place)?;
-        match line {
-            Line::Byte(byte) => {
-                let byte = *byte;
-                writeln!(&mut text, "        byte #{byte:02x}")?;
-            }
-            Line::Spelled { operation, bytes } => {
-                put_operation(alloc, &mut text, *operation, *bytes)?;
-            }
-        }
+        put_line(alloc, &mut text, line)?;
+        end_line(&mut text, remarks, place)?;
     }
     put_label(&mut text, &marks, program.lines.len())?;
     Ok(text)

@@ -2,6 +2,7 @@
 
 use crate::known::ToldRow;
 use crate::lines::tell_around;
+use crate::source::SourceText;
 use crate::telling::TellFault;
 use std::alloc::Global;
 use std::io::Write;
@@ -103,12 +104,13 @@ pub(crate) fn tell_flow<W: Write>(
     alloc: Global,
     image: &Image,
     listing: &Listing,
+    source: SourceText<'_>,
     code: FlowCode,
     place: usize,
     writer: &mut W,
 ) -> Result<(), TellFault> {
     if code != FlowCode::J6 {
-        tell_around(alloc, image, listing, place, writer)?;
+        tell_around(alloc, image, listing, source, place, writer)?;
         return tell_target(listing, place, writer);
     }
     if let Some(row) = image.loops.get(place) {

@@ -4,19 +4,27 @@
 #![tactic(auto)]
 
 mod asked;
+mod costs;
 mod fields;
 mod flow;
 mod known;
 mod lines;
 mod meaning;
+mod origin;
 mod passes;
 mod refusal;
+mod source;
 mod states;
 mod telling;
 mod verdict;
+mod ways;
+mod writers;
+mod written;
 
+pub use costs::{Cost, Costs, LoopCost, costs_of};
 pub use meaning::{Meaning, meaning_of};
 pub use passes::first_refusal;
 pub use refusal::{EdgeRefusal, FirstRefusal};
+pub use source::{Label, Named, SourceText, Statement};
 pub use telling::TellFault;
 pub use verdict::tell;

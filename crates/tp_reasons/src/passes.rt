@@ -71,7 +71,7 @@ fn is_in_range(image: &Image)
 }
 
 /// The edges that the passes over a code take, in their order.
-fn edges_of_code(alloc: Global, listing: &Listing) -> Result<Vec<Asked>, AllocError>
+pub(crate) fn edges_of_code(alloc: Global, listing: &Listing) -> Result<Vec<Asked>, AllocError>
     ensures { IfOk result (λ all. all.items ≡ edges_in listing.now) }
 {
     let mut all = Vec::new(alloc);

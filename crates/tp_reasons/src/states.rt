@@ -11,7 +11,9 @@ use crate::known::{KnownPhase, KnownRegister, KnownWord};
 use crate::lines::tell_around;
 use crate::passes::{asked, first_refusal};
 use crate::refusal::{EdgeRefusal, FirstRefusal};
+use crate::source::SourceText;
 use crate::telling::TellFault;
+use crate::written::{Finding, tell_written};
 use std::alloc::Global;
 use std::io::Write;
 use tp_check::Slots;
@@ -43,6 +45,7 @@ fn tell_registers<W: Write>(state: &State, writer: &mut W) -> Result<(), TellFau
 
 /// Writes that words from one on up to another are known so.
 fn tell_stretch<W: Write>(
+    source: SourceText<'_>,
     first: usize,
     last: usize,
     cell: Cell,
@@ -50,7 +53,8 @@ fn tell_stretch<W: Write>(
 ) -> Result<(), TellFault> {
     let known = KnownWord(cell);
     let told = if first == last {
-        writeln!(writer, "         word {first}: {known}")
+        let word = source.word(first);
+        writeln!(writer, "         {word}: {known}")
     } else {
         writeln!(writer, "         words {first} to {last}: {known}")
     };
@@ -58,16 +62,22 @@ fn tell_stretch<W: Write>(
 }
 
 /// Writes what is known of the words of a workspace: of stretches of words of which the same is known.
-fn tell_words<W: Write>(state: &State, words: usize, writer: &mut W) -> Result<(), TellFault> {
+fn tell_words<W: Write>(
+    source: SourceText<'_>,
+    state: &State,
+    words: usize,
+    writer: &mut W,
+) -> Result<(), TellFault> {
     let mut first = 0;
     for word in 1..words {
         let cell = state.cells.get(first);
         if state.cells.get(word) != cell {
-            tell_stretch(first, word.saturating_sub(1), cell, writer)?;
+            tell_stretch(source, first, word.saturating_sub(1), cell, writer)?;
             first = word;
         }
     }
     tell_stretch(
+        source,
         first,
         words.saturating_sub(1),
         state.cells.get(first),
@@ -77,6 +87,7 @@ fn tell_words<W: Write>(state: &State, words: usize, writer: &mut W) -> Result<(
 
 /// Writes what is known before an instruction.
 fn tell_known<W: Write>(
+    source: SourceText<'_>,
     state: &State,
     image: &Image,
     nest: &Nest,
@@ -91,7 +102,7 @@ fn tell_known<W: Write>(
     for row in &nest.around(at) {
         writeln!(writer, "         in the loop of row {row}").map_err(|_| TellFault::Write)?;
     }
-    tell_words(state, image.workspace as usize, writer)
+    tell_words(source, state, image.workspace as usize, writer)
 }
 
 /// Whether a word is a live control word.
@@ -250,35 +261,42 @@ pub(crate) fn tell_state<W: Write>(
     image: &Image,
     listing: &Listing,
     nest: &Nest,
+    source: SourceText<'_>,
     writer: &mut W,
 ) -> Result<(), TellFault>
     requires kept { KeepsNest image.now.loops image.now.workspace listing.now }
     requires nest { nest.now ≡ ranges image.now.loops }
 {
-    let Some(
-        FirstRefusal {
-            passes,
-            refusal,
-            table,
-        },
-    ) = first_refusal(alloc, image, listing, nest)?
-    else {
+    let Some(found) = first_refusal(alloc, image, listing, nest)? else {
         return Ok(());
     };
+    let FirstRefusal {
+        passes,
+        refusal,
+        table,
+    } = &found;
     let at = refusal.instruction.at;
-    tell_around(alloc, image, listing, at, writer)?;
+    tell_around(alloc, image, listing, source, at, writer)?;
     let wanted = asked_by(refusal.instruction.instr);
     let name = name_of(refusal.edge);
     let pass = passes.saturating_add(1);
     writeln!(writer, "asked    {wanted}").map_err(|_| TellFault::Write)?;
     if let Some(before) = table.at(at) {
-        tell_known(before, image, nest, at, writer)?;
+        tell_known(source, before, image, nest, at, writer)?;
         if refusal.code == StateCode::S5 {
-            tell_loop(image, nest, &refusal, before, writer)?;
+            tell_loop(image, nest, refusal, before, writer)?;
         }
     }
-    tell_meeting(&table, &refusal, writer)?;
-    tell_arrivals(alloc, image, listing, nest, &table, at, writer)?;
+    let finding = Finding {
+        image,
+        listing,
+        nest,
+        source,
+        found: &found,
+    };
+    tell_written(alloc, finding, writer)?;
+    tell_meeting(table, refusal, writer)?;
+    tell_arrivals(alloc, image, listing, nest, table, at, writer)?;
     writeln!(
         writer,
         "found    in pass {pass}, on the edge {name} of the instruction at {at}"

@@ -5,18 +5,24 @@ ghost use Rattle.tp_decode.specs.Cutting.{IsCutting};
 use crate::fields::{tell_bytes, tell_field, tell_turns};
 use crate::flow::tell_flow;
 use crate::meaning::meaning_of;
+use crate::source::SourceText;
 use crate::states::tell_state;
 use crate::telling::TellFault;
 use std::alloc::Global;
 use std::io::Write;
 use tp_accept::{Refusal, RefusalCode, accept};
-use tp_decode::{Listing, decode};
+use tp_decode::{DecodeFault, Listing, decode};
 use tp_flow::check_flow;
-use tp_image::{Image, read_image};
+use tp_image::{Image, ImageFault, read_image};
 
 /// Judges the bytes of an image, and writes the verdict: as farmd answers it, and of a refusal what it means, where it comes, and
-/// what helps. It answers whether the image is accepted.
-pub fn tell<W: Write>(alloc: Global, text: &[u8], writer: &mut W) -> Result<bool, TellFault> {
+/// what helps; the listing has what a text says of its lines. It answers whether the image is accepted.
+pub fn tell<W: Write>(
+    alloc: Global,
+    text: &[u8],
+    source: SourceText<'_>,
+    writer: &mut W,
+) -> Result<bool, TellFault> {
     let copy = Vec::from_slice(alloc, text)?;
     match accept(alloc, copy) {
         Ok(accepted) => {
@@ -27,9 +33,18 @@ pub fn tell<W: Write>(alloc: Global, text: &[u8], writer: &mut W) -> Result<bool
         }
         Err(Refusal::Memory) => Err(TellFault::Memory),
         Err(Refusal::Refused { code, place }) => {
-            tell_refusal(alloc, text, code, place, writer)?;
+            tell_refusal(alloc, text, source, code, place, writer)?;
             Ok(false)
         }
+    }
+}
+
+/// The image that bytes are, if they are one.
+fn image_of(alloc: Global, text: &[u8]) -> Result<Option<Image>, TellFault> {
+    match read_image(alloc, text) {
+        Ok(image) => Ok(Some(image)),
+        Err(ImageFault::Memory) => Err(TellFault::Memory),
+        Err(ImageFault::Refused { .. }) => Ok(None),
     }
 }
 
@@ -37,6 +52,7 @@ pub fn tell<W: Write>(alloc: Global, text: &[u8], writer: &mut W) -> Result<bool
 fn tell_refusal<W: Write>(
     alloc: Global,
     text: &[u8],
+    source: SourceText<'_>,
     code: RefusalCode,
     place: usize,
     writer: &mut W,
@@ -48,14 +64,16 @@ fn tell_refusal<W: Write>(
     match code {
         RefusalCode::Image(code) => tell_field(text, code, place, writer)?,
         RefusalCode::Cutting(_) => {
-            if let Ok(image) = read_image(alloc, text) {
+            if let Some(image) = image_of(alloc, text)? {
                 tell_bytes(alloc, &image, place, writer)?;
             }
         }
         code => {
-            if let Ok(image) = read_image(alloc, text) {
-                if let Ok(listing) = decode(alloc, &image.code) {
-                    tell_code(alloc, &image, &listing, code, place, writer)?;
+            if let Some(image) = image_of(alloc, text)? {
+                match decode(alloc, &image.code) {
+                    Ok(listing) => tell_code(alloc, &image, &listing, source, code, place, writer)?,
+                    Err(DecodeFault::Memory) => return Err(TellFault::Memory),
+                    Err(DecodeFault::Refused { .. }) => {}
                 }
             }
         }
@@ -69,6 +87,7 @@ fn tell_code<W: Write>(
     alloc: Global,
     image: &Image,
     listing: &Listing,
+    source: SourceText<'_>,
     code: RefusalCode,
     place: usize,
     writer: &mut W,
@@ -76,9 +95,9 @@ fn tell_code<W: Write>(
     requires { IsCutting image.now.code listing.now }
 {
     match code {
-        RefusalCode::Flow(code) => tell_flow(alloc, image, listing, code, place, writer),
+        RefusalCode::Flow(code) => tell_flow(alloc, image, listing, source, code, place, writer),
         RefusalCode::State(_) => match check_flow(image, listing) {
-            Ok(nest) => tell_state(alloc, image, listing, &nest, writer),
+            Ok(nest) => tell_state(alloc, image, listing, &nest, source, writer),
             Err(_) => Ok(()),
         },
         RefusalCode::B1 => tell_turns(image, writer),

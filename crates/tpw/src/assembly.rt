@@ -1,11 +1,11 @@
-//! The commands `asm` and `dis`: text to an image, and an image to text.
+//! The command `asm`: text to an image.
 
 use crate::ending::{Ending, Status};
-use crate::input::{image_from, text_from};
+use crate::input::text_from;
 use std::alloc::Global;
 use std::io::{Read, Write};
-use tp_assembly::{AssemblyFault, assemble, disassemble};
-use tp_assembly_text::{read_source, source_text};
+use tp_assembly::{AssemblyFault, assemble};
+use tp_assembly_text::{Source, read_source};
 use tp_image::write_image;
 
 /// Why a program has no image, by the line of the text.
@@ -26,7 +26,7 @@ fn ending_of(fault: AssemblyFault, numbers: &[usize]) -> Ending {
 }
 
 /// Writes a text, and flushes it.
-fn told<W: Write>(writer: &mut W, text: &str) -> Result<Status, Ending> {
+pub fn told<W: Write>(writer: &mut W, text: &str) -> Result<Status, Ending> {
     match writer
         .write_all(text.as_bytes())
         .and_then(|()| writer.flush())
@@ -36,13 +36,16 @@ fn told<W: Write>(writer: &mut W, text: &str) -> Result<Status, Ending> {
     }
 }
 
-/// The bytes of the image that an assembly text says.
-pub fn assembled(alloc: Global, bytes: &[u8]) -> Result<Vec<u8>, Ending> {
-    let text = match str::from_utf8(bytes) {
-        Ok(text) => text,
-        Err(error) => return Err(Ending::NotUtf8(error.valid_up_to())),
-    };
-    let source = read_source(alloc, text)?;
+/// The text that bytes are.
+pub fn utf8(bytes: &[u8]) -> Result<&str, Ending> {
+    match str::from_utf8(bytes) {
+        Ok(text) => Ok(text),
+        Err(error) => Err(Ending::NotUtf8(error.valid_up_to())),
+    }
+}
+
+/// The bytes of the image of a program that a text says.
+pub fn assembled(alloc: Global, source: &Source<'_>) -> Result<Vec<u8>, Ending> {
     match assemble(alloc, &source.program) {
         Ok(image) => Ok(write_image(alloc, &image)?),
         Err(fault) => Err(ending_of(fault, &source.numbers)),
@@ -57,23 +60,12 @@ pub fn assemble_text<R: Read, W: Write>(
     name: Option<&str>,
 ) -> Result<Status, Ending> {
     let text = text_from(alloc, reader)?;
-    let image = assembled(alloc, &text)?;
+    let source = read_source(alloc, utf8(&text)?)?;
+    let image = assembled(alloc, &source)?;
     let digits = hex::encode(alloc, image.as_slice())?;
     let line = match name {
         Some(name) => format!(in alloc; "{name} IMAGE {digits}\n")?,
         None => format!(in alloc; "{digits}\n")?,
     };
     told(writer, line.as_str())
-}
-
-/// Reads an image, and writes it as text.
-pub fn tell_image<R: Read, W: Write>(
-    alloc: Global,
-    reader: &mut R,
-    writer: &mut W,
-) -> Result<Status, Ending> {
-    let image = image_from(alloc, reader)?;
-    let program = disassemble(alloc, &image)?;
-    let text = source_text(alloc, &program)?;
-    told(writer, text.as_str())
 }

@@ -10,10 +10,12 @@ mod assembly;
 mod command_line;
 mod ending;
 mod input;
+mod noting;
 mod place;
 mod program;
 mod refusing;
 mod stepping;
+mod telling;
 #[cfg(test)]
 mod tests;
 mod words;

@@ -1,10 +1,11 @@
 //! The program, from its words and streams to its status.
 
-use crate::assembly::{assemble_text, tell_image};
+use crate::assembly::assemble_text;
 use crate::command_line::{Task, task_of};
 use crate::ending::{Ending, Status};
 use crate::refusing::why;
 use crate::stepping::step;
+use crate::telling::tell_image;
 use crate::words::words_of;
 use std::alloc::Global;
 use std::env::Env;

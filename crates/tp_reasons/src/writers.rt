@@ -1,0 +1,239 @@
+//! Which instructions wrote a word last.
+
+use crate::known::KnownRegister;
+use crate::ways::Way;
+use std::alloc::{AllocError, Global};
+use std::fmt;
+use tp_check::Slots;
+use tp_decode::{Instr, Placed};
+use tp_flow::{Edge, Nest};
+use tp_image::Image;
+use tp_state::{Kind, State};
+
+/// The words below Wptr that are undefined after a place to deschedule.
+const FRAME_WORDS: i64 = 5;
+
+/// The bytes of a word.
+const WORD_BYTES: u32 = 4;
+
+/// What an instruction has done to a word.
+#[derive(Clone, Copy, Debug, PartialEq, Eq)]
+pub(crate) enum Wrote {
+    /// It stored what is known of a register.
+    Stored(Kind),
+    /// It stored that in this word, or in another.
+    MayHaveStored(Kind),
+    /// It stored a byte in this word, or in another.
+    Byte,
+    /// It received the packet there.
+    Received,
+    /// It copied a word there, or may have.
+    Copied,
+    /// It gave way, which leaves the words below Wptr undefined.
+    GaveWay,
+    /// It began another turn of the loop whose block has the word.
+    Turned,
+    /// It ended the loop whose block has the word.
+    Ended,
+}
+
+impl fmt::Display for Wrote {
+    fn fmt<W: fmt::Write>(&self, f: &mut fmt::Formatter<W>) -> fmt::Result {
+        match self {
+            Wrote::Stored(kind @ (Kind::Ptr(_, _) | Kind::BytePtr(_, _))) => {
+                let known = KnownRegister(*kind);
+                write!(f, "{known}; a word does not keep that it is an address")
+            }
+            Wrote::Stored(kind) => {
+                let known = KnownRegister(*kind);
+                write!(f, "{known}")
+            }
+            Wrote::MayHaveStored(kind) => {
+                let known = KnownRegister(*kind);
+                write!(f, "{known}, in this word or in another")
+            }
+            Wrote::Byte => f.write_str("a byte of this word or of another"),
+            Wrote::Received => f.write_str("a word of the packet"),
+            Wrote::Copied => f.write_str("a copy of another word"),
+            Wrote::GaveWay => f.write_str("left undefined, as the five words below Wptr are"),
+            Wrote::Turned => f.write_str("what the next turn begins with"),
+            Wrote::Ended => f.write_str("left undefined, as a loop's block is after its last turn"),
+        }
+    }
+}
+
+/// Whether a word is from the first up to so many behind the last.
+fn is_among(word: usize, first: i64, last: i64, more: i64) -> bool {
+    match i64::try_from(word) {
+        Ok(word) => first <= word && word <= last.saturating_add(more),
+        Err(_) => false,
+    }
+}
+
+/// Whether a word is one of the five below Wptr.
+fn is_below(state: &State, word: usize) -> bool {
+    let wptr = i64::from(state.wptr);
+    is_among(word, wptr - FRAME_WORDS, wptr, -1)
+}
+
+/// What a store of a register to a place does to a word.
+fn stored_at(place: Kind, further: i32, value: Kind, word: usize) -> Option<Wrote> {
+    let Kind::Ptr(first, last) = place else {
+        return None;
+    };
+    let from = i64::from(first) + i64::from(further);
+    let to = i64::from(last) + i64::from(further);
+    if !is_among(word, from, to, 0) {
+        None
+    } else if from == to {
+        Some(Wrote::Stored(value))
+    } else {
+        Some(Wrote::MayHaveStored(value))
+    }
+}
+
+/// What a store of a byte does to a word.
+fn byte_at(place: Kind, word: usize) -> Option<Wrote> {
+    let (first, last) = match place {
+        Kind::Ptr(first, last) => (first, last),
+        Kind::BytePtr(first, last) => (first / WORD_BYTES, last / WORD_BYTES),
+        Kind::Undef | Kind::Int(_, _) => return None,
+    };
+    is_among(word, i64::from(first), i64::from(last), 0).then_some(Wrote::Byte)
+}
+
+/// What a message or a copy of so many words to a place does to a word.
+fn block_at(place: Kind, words: i64, wrote: Wrote, word: usize) -> Option<Wrote> {
+    let Kind::Ptr(first, last) = place else {
+        return None;
+    };
+    is_among(
+        word,
+        i64::from(first),
+        i64::from(last),
+        words.saturating_sub(1),
+    )
+    .then_some(wrote)
+}
+
+/// What a `lend` does to a word.
+fn turned(image: &Image, nest: &Nest, at: usize, edge: Edge, word: usize) -> Option<Wrote> {
+    let row = image.loops.get(nest.lend_row(at)?)?;
+    let control = i64::from(row.control);
+    if !is_among(word, control, control, 1) {
+        None
+    } else if edge == Edge::Back {
+        Some(Wrote::Turned)
+    } else {
+        Some(Wrote::Ended)
+    }
+}
+
+/// The words that a number of bytes has at most.
+fn words_of(bytes: Kind) -> i64 {
+    match bytes {
+        Kind::Int(_, high) => i64::from(high) / i64::from(WORD_BYTES),
+        _ => 0,
+    }
+}
+
+/// What an instruction does to a word on an edge, from the state before it; none where it leaves it as it is.
+pub(crate) fn written_by(
+    image: &Image,
+    nest: &Nest,
+    from: Placed,
+    edge: Edge,
+    state: &State,
+    word: usize,
+) -> Option<Wrote> {
+    let gave_way = is_below(state, word).then_some(Wrote::GaveWay);
+    match from.instr {
+        Instr::Stl(n) => {
+            let to = i64::from(state.wptr) + i64::from(n);
+            is_among(word, to, to, 0).then_some(Wrote::Stored(state.a))
+        }
+        Instr::Stnl(n) => stored_at(state.a, n, state.b, word),
+        Instr::Sb => byte_at(state.a, word),
+        Instr::MoveBytes => block_at(state.b, words_of(state.a), Wrote::Copied, word),
+        Instr::Input => {
+            gave_way.or(block_at(state.c, i64::from(image.packet), Wrote::Received, word))
+        }
+        Instr::Lend => turned(image, nest, from.at, edge, word).or(gave_way),
+        Instr::Jump(_) | Instr::Output => gave_way,
+        _ => None,
+    }
+}
+
+/// What the way along an edge does to a word.
+fn wrote_along(image: &Image, nest: &Nest, table: &Slots, way: &Way, word: usize) -> Option<Wrote> {
+    written_by(
+        image,
+        nest,
+        way.from,
+        way.edge,
+        table.at(way.from.at)?,
+        word,
+    )
+}
+
+/// Marks each address from which an edge that leaves a word as it is leads to a marked one. Whether there is one more.
+fn mark_before(
+    image: &Image,
+    nest: &Nest,
+    table: &Slots,
+    ways: &[Way],
+    word: usize,
+    marks: &mut [bool],
+) -> bool {
+    let mut has_more = false;
+    for way in ways.iter().rev() {
+        if marks.get(way.to) == Some(&true)
+            && wrote_along(image, nest, table, way, word).is_none()
+        {
+            if let Some(mark) = marks.get_mut(way.from.at) {
+                has_more = has_more || !*mark;
+                *mark = true;
+            }
+        }
+    }
+    has_more
+}
+
+/// The addresses at which what a word has is what it has at one of them.
+pub(crate) fn same_before(
+    alloc: Global,
+    image: &Image,
+    nest: &Nest,
+    table: &Slots,
+    ways: &[Way],
+    word: usize,
+    at: usize,
+) -> Result<Vec<bool>, AllocError> {
+    let mut marks = Vec::new(alloc);
+    marks.resize(table.len(), false)?;
+    if let Some(mark) = marks.get_mut(at) {
+        *mark = true;
+    }
+    for _ in 0..table.len() {
+        if !mark_before(image, nest, table, ways, word, &mut marks) {
+            return Ok(marks);
+        }
+    }
+    Ok(marks)
+}
+
+/// The instruction that writes a word on an edge to a marked address, and what it does to it.
+pub(crate) fn writer_along(
+    image: &Image,
+    nest: &Nest,
+    table: &Slots,
+    way: &Way,
+    word: usize,
+    marks: &[bool],
+) -> Option<Wrote> {
+    if marks.get(way.to) == Some(&true) {
+        wrote_along(image, nest, table, way, word)
+    } else {
+        None
+    }
+}
