@@ -1,8 +1,9 @@
 #!/bin/sh
 # What the program adds to the machine: instruction bytes a second and member of a heavy worker (a loop of 10,000 turns), by the
-# program on four `RUN` of 1,024 packets by 1, 2 and 4 members, and by so many processes side by side that run the machine alone, in
-# turn, eleven times each: the best, the median, and the program's ratio to the machine alone. First by the clock, which is to be
-# read on a quiet machine alone, then by processor time (user and system), in which the thread that feeds the members is counted too.
+# program on four `RUN` of 1,024 packets for each of 1, 2 and 4 members, and by so many processes side by side that run the machine
+# alone, in turn, thirty-one times each: the best, the median, and the program's ratio to the machine alone, of the best, of the
+# medians, and the median of the ratios of each two that were measured one behind the other. First by the clock, which is to be read on
+# a quiet machine alone, then by processor time (user and system), in which the thread that feeds the members is counted too.
 # PROGRAM=FARMD measures that in place of the proved program of this checkout, BENCH=BENCH that in place of its `bench`.
 top=$(cd "$(dirname "$0")/.." && pwd) || exit 1
 if [ -z "$PROGRAM" ]; then
@@ -16,7 +17,7 @@ fi
 exec python3 - "$PROGRAM" "$BENCH" <<'PY'
 import os, statistics, sys, tempfile, time
 
-ROUNDS = 11
+ROUNDS = 31
 PACKETS = 1024
 BATCHES = 4
 # Of one packet: 22 bytes around 10,000 turns of 8.
@@ -25,7 +26,7 @@ IMAGE = (
     "545057311E0010000800010001000100" "0F0015000A00102700000000"
     "1024F25444F7" "40D140D222272140D3" "7172F5D1124822F1" "1124F244FB21F5"
 )
-ANSWERED = BATCHES * (PACKETS + PACKETS + 1) + 1
+ANSWERED = PACKETS + PACKETS + 1
 
 program, bench = sys.argv[1:]
 
@@ -53,12 +54,16 @@ def rates(members, runs, start):
 
 
 def by_program(members, given):
+    batches = members * BATCHES
+    given.seek(0)
+    given.truncate()
+    given.write(f"a IMAGE {IMAGE}\n".encode() + batches * (PACKETS * b"a PACKET 00000000\n" + b"a RUN\n"))
     given.seek(0)
     with tempfile.TemporaryFile() as told:
-        both = rates(members, BATCHES * PACKETS, lambda: [started([program, "--members", str(members)], given, told)])
+        both = rates(members, batches * PACKETS, lambda: [started([program, "--members", str(members)], given, told)])
         told.seek(0)
         lines = told.read().splitlines()
-    if len(lines) != ANSWERED or lines[-1] != b"DONE 1024" or not lines[-2].endswith(b" 80022 f8dcfa02"):
+    if len(lines) != batches * ANSWERED + 1 or lines[-1] != b"DONE 1024" or not lines[-2].endswith(b" 80022 f8dcfa02"):
         sys.exit(f"run.sh: {program}: another answer than expected")
     return both
 
@@ -73,15 +78,13 @@ def told(rates):
     return f"{max(rates) / 1e6:.0f} million a second, median {statistics.median(rates) / 1e6:.0f}"
 
 
-with tempfile.TemporaryFile() as given:
-    given.write(f"a IMAGE {IMAGE}\n".encode())
-    given.write(BATCHES * (PACKETS * b"a PACKET 00000000\n" + b"a RUN\n"))
-    given.flush()
+with tempfile.TemporaryFile(buffering=0) as given:
     for members in 1, 2, 4:
         pairs = [(by_program(members, given), alone(members, given)) for _ in range(ROUNDS)]
         for at, kind in enumerate(("the clock", "processor time")):
             ours, machine = [it[0][at] for it in pairs], [it[1][at] for it in pairs]
             best, median = max(ours) / max(machine), statistics.median(ours) / statistics.median(machine)
             print(f"members {members}, by {kind}: RUN {told(ours)}; the machine alone {told(machine)}", end="; ")
-            print(f"ratio {100 * best:.1f} percent, of medians {100 * median:.1f}", flush=True)
+            pair = statistics.median(a / b for a, b in zip(ours, machine))
+            print(f"ratio {100 * best:.1f} percent, of medians {100 * median:.1f}, of pairs {100 * pair:.1f}", flush=True)
 PY
