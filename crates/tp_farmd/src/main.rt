@@ -5,16 +5,9 @@
 //! its reason there, and status 2.
 #![tactic(auto)]
 
-mod ending;
-mod members;
-mod program;
-#[cfg(test)]
-mod tests;
-mod words;
-
-use program::run;
 use std::io;
 use std::process::ExitCode;
+use tp_program::run;
 
 fn main(rt: HostRuntime) -> ExitCode {
     let mut reader = rt.reader();

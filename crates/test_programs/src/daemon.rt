@@ -1,7 +1,6 @@
 //! Each way in which the program ends: its status, and what it writes.
 
-use crate::ending::Ending;
-use crate::program::run;
+use crate::streams::{Broken, Ended, Unflushed, Words};
 use std::alloc::{AllocError, Global};
 use std::env::{Env, FillError};
 use std::io;
@@ -10,34 +9,10 @@ use std::process::{Abort, ExitCode};
 use std::sync::Wait;
 use std::test::Fail;
 use std::thread::Threads;
+use tp_program::{Ending, run};
 use tp_session::ServeFault;
 
 mod threads;
-
-/// The words of a command line.
-#[derive(Drop)]
-struct Words<'a>(&'a [&'a str]);
-
-impl Env for Words<'_> {
-    fn arg(&self, i: usize, buf: &mut [u8]) -> Result<usize, FillError> {
-        let Some(word) = self.0.get(i) else {
-            return Err(FillError::NotPresent);
-        };
-        if buf.len() < word.len() {
-            return Err(FillError::TooLong);
-        }
-        buf[..word.len()].copy_from_slice(word.as_bytes());
-        Ok(word.len())
-    }
-
-    fn var(&self, _name: &str, _buf: &mut [u8]) -> Result<usize, FillError> {
-        Err(FillError::NotPresent)
-    }
-
-    fn var_at(&self, _i: usize, _buf: &mut [u8]) -> Result<usize, FillError> {
-        Err(FillError::NotPresent)
-    }
-}
 
 /// A command line with a word that is no text.
 #[derive(Drop)]
@@ -66,33 +41,6 @@ impl Env for NoText {
     fn var_at(&self, _i: usize, _buf: &mut [u8]) -> Result<usize, FillError> {
         Err(FillError::NotPresent)
     }
-}
-
-/// A reader and a writer that always fail.
-#[derive(Drop)]
-struct Broken;
-
-impl Read for Broken {
-    fn read(&mut self, _buf: &mut [u8]) -> io::Result<usize> {
-        Err(io::Error::from(ErrorKind::BrokenPipe))
-    }
-}
-
-impl Write for Broken {
-    fn write(&mut self, _buf: &[u8]) -> io::Result<usize> {
-        Err(io::Error::from(ErrorKind::BrokenPipe))
-    }
-
-    fn flush(&mut self) -> io::Result<()> {
-        Err(io::Error::from(ErrorKind::BrokenPipe))
-    }
-}
-
-/// What the program ended with, and what it wrote to standard error.
-#[derive(Drop)]
-struct Ended {
-    status: ExitCode,
-    errors: Vec<u8>,
 }
 
 /// Runs the program on a command line, a reader and a writer.
@@ -132,20 +80,6 @@ fn tells_a_failed_read(rt: HostRuntime) {
     assert_eq!(rt; ended.status, ExitCode::from(1));
     assert!(rt; output.is_empty());
     assert!(rt; ended.errors.as_slice() == b"farmd: read\n".as_slice());
-}
-
-/// Takes what it is given, and fails where it is to be flushed.
-#[derive(Drop)]
-struct Unflushed;
-
-impl Write for Unflushed {
-    fn write(&mut self, buf: &[u8]) -> io::Result<usize> {
-        Ok(buf.len())
-    }
-
-    fn flush(&mut self) -> io::Result<()> {
-        Err(io::Error::from(ErrorKind::BrokenPipe))
-    }
 }
 
 /// What ends with a fault of this writer, and is told so: an answer, help and the version.

@@ -7,9 +7,9 @@ use Rattle.std.specs.Str.{IsTrimAsciiStart, IsTrimAsciiEnd}
 use Rattle.std.proofs.lemmas.List.Sums.{prefix_len-le-length}
 use Rattle.std.proofs.lemmas.Str.Ascii.{trim_ascii_start_is, trim_ascii_end_is}
 use Rattle.hex.specs.Hex.{decode_of}
-use Rattle.tpw.specs.declared.input.TextFault.{TextFault}
-use Rattle.tpw.specs.declared.input.TextFault.TheVariants.{NotADigit, HalfAByte, Memory}
-use Rattle.tpw.specs.Texts.{IsFault, Says, inner, leading, may_stand, without_trailing}
+use Rattle.tp_workbench.specs.declared.input.TextFault.{TextFault}
+use Rattle.tp_workbench.specs.declared.input.TextFault.TheVariants.{NotADigit, HalfAByte, Memory}
+use Rattle.tp_workbench.specs.Texts.{IsFault, Says, inner, leading, may_stand, without_trailing}
 
 -- what the two trims leave, and how much the first has taken
 pub between : (text rest middle : List ℕ) → IsTrimAsciiStart text rest → IsTrimAsciiEnd rest middle → middle ≡ inner text

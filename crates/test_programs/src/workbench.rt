@@ -1,82 +1,12 @@
 //! What the program writes and ends with: of runs, of inputs and of command lines that it does not take.
 
-use crate::ending::{Ending, Status};
-use crate::input::{TextFault, bytes_of};
-use crate::place::place_of;
-use crate::program::run;
+use crate::streams::{Broken, Ended, Unflushed, Words};
 use std::alloc::{AllocError, Global};
-use std::env::{Env, FillError};
-use std::io;
-use std::io::{ErrorKind, Read, Write};
+use std::io::{Read, Write};
 use std::process::ExitCode;
 use std::test::Fail;
 use tp_stepper::{End, Place};
-
-/// The words of a command line.
-#[derive(Drop)]
-struct Words<'a>(&'a [&'a str]);
-
-impl Env for Words<'_> {
-    fn arg(&self, i: usize, buf: &mut [u8]) -> Result<usize, FillError> {
-        let Some(word) = self.0.get(i) else {
-            return Err(FillError::NotPresent);
-        };
-        if buf.len() < word.len() {
-            return Err(FillError::TooLong);
-        }
-        buf[..word.len()].copy_from_slice(word.as_bytes());
-        Ok(word.len())
-    }
-
-    fn var(&self, _name: &str, _buf: &mut [u8]) -> Result<usize, FillError> {
-        Err(FillError::NotPresent)
-    }
-
-    fn var_at(&self, _i: usize, _buf: &mut [u8]) -> Result<usize, FillError> {
-        Err(FillError::NotPresent)
-    }
-}
-
-/// A reader and a writer that always fail.
-#[derive(Drop)]
-struct Broken;
-
-impl Read for Broken {
-    fn read(&mut self, _buf: &mut [u8]) -> io::Result<usize> {
-        Err(io::Error::from(ErrorKind::BrokenPipe))
-    }
-}
-
-impl Write for Broken {
-    fn write(&mut self, _buf: &[u8]) -> io::Result<usize> {
-        Err(io::Error::from(ErrorKind::BrokenPipe))
-    }
-
-    fn flush(&mut self) -> io::Result<()> {
-        Err(io::Error::from(ErrorKind::BrokenPipe))
-    }
-}
-
-/// Takes what it is given, and fails where it is to be flushed.
-#[derive(Drop)]
-struct Unflushed;
-
-impl Write for Unflushed {
-    fn write(&mut self, buf: &[u8]) -> io::Result<usize> {
-        Ok(buf.len())
-    }
-
-    fn flush(&mut self) -> io::Result<()> {
-        Err(io::Error::from(ErrorKind::BrokenPipe))
-    }
-}
-
-/// What the program ended with, and what it wrote to standard error.
-#[derive(Drop)]
-struct Ended {
-    status: ExitCode,
-    errors: Vec<u8>,
-}
+use tp_workbench::{Ending, Status, TextFault, bytes_of, place_of, run};
 
 /// Runs the program on a command line, a reader and a writer.
 fn ran<R: Read, W: Write>(alloc: Global, words: &[&str], input: &mut R, output: &mut W) -> Ended {

@@ -3,8 +3,8 @@
 ghost use Rattle.std.specs.Prelude.{◌≡◌, ◌+◌, ◌<◌, ◌^◌, ◌⊎◌, IfOk, IfErr, length};
 ghost use Rattle.std.specs.List.{filter, prefix_len};
 ghost use Rattle.std.specs.Char.{is_ascii_hexdigit};
-ghost use Rattle.tpw.specs.declared.input.TextFault.TheVariants.{Memory, NotADigit};
-ghost use Rattle.tpw.specs.Texts.{IsFault, Says, is_line_end, may_stand};
+ghost use Rattle.tp_workbench.specs.declared.input.TextFault.TheVariants.{Memory, NotADigit};
+ghost use Rattle.tp_workbench.specs.Texts.{IsFault, Says, is_line_end, may_stand};
 
 use crate::ending::Ending;
 use std::alloc::{AllocError, AllocFailed, Global};

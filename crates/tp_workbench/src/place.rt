@@ -3,7 +3,7 @@
 ghost use Rattle.std.specs.Prelude.{◌≡◌, ◌≤◌, ◌<◌, ◌^◌, ℕ, MatchOption};
 ghost use Rattle.tp_stepper.specs.declared.span.Place.{Place};
 ghost use Rattle.tp_stepper.specs.declared.span.Place.TheVariants.{Address};
-ghost use Rattle.tpw.specs.Places.{Names, Writes};
+ghost use Rattle.tp_workbench.specs.Places.{Names, Writes};
 
 use tp_stepper::Place;
 

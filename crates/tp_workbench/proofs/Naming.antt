@@ -2,7 +2,7 @@
 use Rattle.std.proofs.Common.{◌≡◌, ◌<◌, ◌^◌, ℕ, List, ◌++◌, codes, Option, Some, None, MatchOption, inl, inr}
 use Rattle.tp_stepper.specs.declared.span.Place.{Place}
 use Rattle.tp_stepper.specs.declared.span.Place.TheVariants.{Address, Count}
-use Rattle.tpw.specs.Places.{Names, Writes}
+use Rattle.tp_workbench.specs.Places.{Names, Writes}
 
 -- what the digits of a text write as an address
 abbrev WritesAddress : List ℕ → Option Place → Type 0

@@ -4,8 +4,8 @@ ghost use Rattle.std.specs.Prelude.{◌≡◌, ◌≤◌, All, IfOk, IfSome, len
 ghost use Rattle.tp_link.specs.Wire.{device_of};
 ghost use Rattle.tp_session.specs.Fitness.{AreFit};
 ghost use Rattle.tp_session.specs.Served.{Serves};
-ghost use Rattle.tp_farmd.specs.Media.{HaveRoom};
-ghost use Rattle.tp_farmd.specs.Asked.{IsAsked};
+ghost use Rattle.tp_program.specs.Media.{HaveRoom};
+ghost use Rattle.tp_program.specs.Asked.{IsAsked};
 
 use std::alloc::{AllocError, Global};
 use std::io::{Read, Write};

@@ -1,8 +1,8 @@
 use Rattle.std.proofs.Common.{◌≡◌, ◌+◌, take, drop}
 use Rattle.std.specs.Char.{is_ascii_hexdigit}
 use Rattle.std.specs.List.{filter, prefix_len}
-use Rattle.tpw.specs.Texts.{may_stand}
-use Rattle.tpw.proofs.input.digits_of.Given as goal
+use Rattle.tp_workbench.specs.Texts.{may_stand}
+use Rattle.tp_workbench.proofs.input.digits_of.Given as goal
 
 abbrev pub invariant-loop-i : goal.invariant-loop-i
 invariant-loop-i l =

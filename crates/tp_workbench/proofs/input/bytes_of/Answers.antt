@@ -1,6 +1,6 @@
 use Rattle.std.proofs.Common.{rules}
-use Rattle.tpw.proofs.Reading.{between, before, not_a_digit, half_a_byte, handed_on, says}
-use Rattle.tpw.proofs.input.bytes_of.Goals as goal
+use Rattle.tp_workbench.proofs.Reading.{between, before, not_a_digit, half_a_byte, handed_on, says}
+use Rattle.tp_workbench.proofs.input.bytes_of.Goals as goal
 
 pub returns-in_err-digits-clause-fault : goal.returns-in_err-digits-clause-fault
 returns-in_err-digits-clause-fault c =

@@ -11,7 +11,7 @@ use Rattle.tp_media.specs.Wired.{empty_media, seen_in_boxes, wired_media}
 use Rattle.tp_media.specs.declared.media.Media.{Media}
 use Rattle.tp_machine.specs.Devices.{Devices, devices}
 use Rattle.tp_session.specs.Fitness.{AreFit, AreFitOf}
-use Rattle.tp_farmd.specs.Media.{HaveRoom}
+use Rattle.tp_program.specs.Media.{HaveRoom}
 
 -- empty media of 256 bytes each have room
 have_room : (media : Media) → media ≡ empty_media 256 256 256 → HaveRoom media

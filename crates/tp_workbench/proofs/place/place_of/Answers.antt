@@ -1,7 +1,7 @@
 use Rattle.std.proofs.Common.{arith}
 use Rattle.std.proofs.lemmas.Str.Ascii.{encode_ascii}
-use Rattle.tpw.proofs.Naming.{names_decimal}
-use Rattle.tpw.proofs.place.place_of.Goals as goal
+use Rattle.tp_workbench.proofs.Naming.{names_decimal}
+use Rattle.tp_workbench.proofs.place.place_of.Goals as goal
 
 pub returns-in-None : goal.returns-in-None
 returns-in-None c =

@@ -3,8 +3,8 @@ use Rattle.std.specs.Prelude.{◌≡◌, ◌<◌, ◌+◌, ◌-◌, ◌%◌, ◌
 use Rattle.std.specs.List.{filter, prefix_len, suffix_len}
 use Rattle.std.specs.Char.{is_ascii_hexdigit, is_ascii_whitespace}
 use Rattle.hex.specs.Hex.{decode_of}
-use Rattle.tpw.specs.declared.input.TextFault.{TextFault}
-use Rattle.tpw.specs.declared.input.TextFault.TheVariants.{NotADigit, HalfAByte, Memory}
+use Rattle.tp_workbench.specs.declared.input.TextFault.{TextFault}
+use Rattle.tp_workbench.specs.declared.input.TextFault.TheVariants.{NotADigit, HalfAByte, Memory}
 
 -- a line feed or a carriage return
 abbrev pub is_line_end : ℕ → Bool

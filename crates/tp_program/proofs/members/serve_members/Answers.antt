@@ -1,8 +1,8 @@
 use Rattle.std.proofs.Common.{subst, sym}
 use Rattle.tp_link.specs.Wire.{device_of}
 use Rattle.tp_session.specs.Fitness.{AreFit}
-use Rattle.tp_farmd.proofs.Unserved.{unserved}
-use Rattle.tp_farmd.proofs.members.serve_members.Goals as goal
+use Rattle.tp_program.proofs.Unserved.{unserved}
+use Rattle.tp_program.proofs.members.serve_members.Goals as goal
 
 pub returns-in_err-media : goal.returns-in_err-media
 returns-in_err-media g c = unserved c.args.asked.trace (g.R.Read.remaining c.args.reader.now) (g.W.Write.contents c.args.writer.now) c.from_residual.result c.from_residual.ensures.1

@@ -1,0 +1,11 @@
+//! What the program `farmd` is made of, all but the naming of its streams: its words, its members, its statuses and texts.
+#![tactic(auto)]
+
+mod ending;
+mod members;
+mod program;
+mod words;
+
+pub use ending::Ending;
+pub use members::serve_members;
+pub use program::run;
