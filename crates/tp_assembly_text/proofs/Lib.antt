@@ -1,1 +1,2 @@
 mod Naturals
+pub mod Tokens

@@ -1,3 +1,4 @@
 pub mod Names
 pub mod Numbers
+pub mod Words
 pub use Rattle.tp_decode.specs.Table

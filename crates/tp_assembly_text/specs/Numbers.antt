@@ -1,6 +1,5 @@
 -- Numbers of 32 bits, as a text writes them.
-use Rattle.std.specs.Prelude.{◌≡◌, ◌≤◌, ◌<◌, ◌^◌, ◌⊎◌, ◌-ℤ◌, ℕ, ℤ, pos, List, ◌++◌, codes}
-use Rattle.std.specs.Int.{cast_signed, w32}
+use Rattle.std.specs.Prelude.{◌≡◌, ◌⊎◌, ℕ, List, ◌++◌, codes}
 use Rattle.std.specs.Str.Parse.{IsNumeral, digits_value}
 
 -- one digit or more of a radix, and nothing else, that write a number

@@ -1,7 +1,9 @@
 //! A line of text as words.
 
-ghost use Rattle.std.specs.Prelude.{◌≡◌};
+ghost use Rattle.std.specs.Prelude.{◌≡◌, ◌≤◌, ◌<◌, ◌+◌, length, map, drop, ◌++◌, IfOk, OnOk, true, false, slice_index};
+ghost use Rattle.std.specs.List.{slice_range, list_all};
 ghost use Rattle.std.specs.Str.{str_eq_ignore_ascii_case};
+ghost use Rattle.tp_assembly_text.specs.Words.{token, tokens, is_mark, is_plain, begins_comment, before_comment, words_of_line, word_if_any};
 
 use crate::fault::{SourceFault, TextFault};
 use std::alloc::{AllocError, Global};
@@ -33,40 +35,81 @@ impl<'a> Word<'a> {
 }
 
 /// Whether a byte is a word by itself.
-fn is_mark(byte: u8) -> bool {
+fn is_mark(byte: u8) -> bool
+    ensures { result ≡ is_mark byte }
+{
     matches!(byte, b',' | b':' | b'[' | b']' | b'=' | b'+' | b'/')
 }
 
-/// Appends the word between two columns that count from 0, if there is one.
+/// Whether a byte is one of a word of any length.
+#[tactic(auto, unfolding(crate::specs::Words::is_plain))]
+fn is_plain(byte: u8) -> bool
+    ensures { result ≡ is_plain byte }
+{
+    !byte.is_ascii_whitespace() && !is_mark(byte)
+}
+
+/// Whether a text begins with a comment.
+fn begins_comment(text: &[u8]) -> bool
+    ensures { result ≡ begins_comment text.now }
+{
+    matches!(text, [b';', ..] | [b'-', b'-', ..])
+}
+
+/// The bytes before a comment.
+fn before_comment(text: &[u8]) -> &[u8]
+    ensures { result.now ≡ before_comment text.now }
+{
+    for at in 0..text.len() {
+        if begins_comment(&text[at..]) {
+            return &text[..at];
+        }
+    }
+    text
+}
+
+/// Appends the word between two places, if there is one.
 fn push_word<'a>(
     words: &mut Vec<Word<'a>>,
     text: &'a [u8],
     line: usize,
-    start: Option<usize>,
+    start: usize,
     end: usize,
-) -> Result<(), AllocError> {
-    if let Some(start) = start {
-        if let Some(text) = text.get(start..end) {
-            words.push(Word {
-                text,
-                line,
-                column: start.saturating_add(1),
-            })?;
-        }
+) -> Result<(), AllocError>
+    requires order { start ≤ end }
+    requires within { end ≤ length text.now }
+    ensures { OnOk result (map token words.new.items ≡ map token words.old.items ++ word_if_any line (start + 1) (slice_range text.now start end)) }
+{
+    if start < end {
+        words.push(Word {
+            text: &text[start..end],
+            line,
+            column: start + 1,
+        })?;
     }
     Ok(())
 }
 
-/// The bytes before a comment.
-fn before_comment(text: &[u8]) -> &[u8] {
-    let end = text.iter().position(|byte| *byte == b';');
-    let text = text.get(..end.unwrap_or(text.len())).unwrap_or(text);
-    for (i, byte) in text.iter().enumerate() {
-        if *byte == b'-' && text.get(i + 1) == Some(&b'-') {
-            return text.get(..i).unwrap_or(text);
-        }
+/// Appends the word that ends before a byte, if there is one, and the byte, if it is a mark.
+fn end_word<'a>(
+    words: &mut Vec<Word<'a>>,
+    text: &'a [u8],
+    line: usize,
+    start: usize,
+    end: usize,
+) -> Result<(), AllocError>
+    requires order { start ≤ end }
+    requires within { end < length text.now }
+    requires plain { list_all is_plain (slice_range text.now start end) ≡ true }
+    requires ends { is_plain (slice_index text.now end) ≡ false }
+    ensures { OnOk result (map token words.old.items ++ tokens line (start + 1) (drop start text.now) ≡ map token words.new.items ++ tokens line (end + 1 + 1) (drop (end + 1) text.now)) }
+{
+    push_word(words, text, line, start, end)?;
+    if !is_mark(text[end]) {
+        return Ok(());
     }
-    text
+    push_word(words, text, line, end, end + 1)?;
+    Ok(())
 }
 
 /// Whether bytes are one word, with white space about it or not.
@@ -91,25 +134,18 @@ pub fn statement_of<'a>(line: &'a str) -> &'a str {
 }
 
 /// The words of a line.
-pub fn words_of<'a>(
-    alloc: Global,
-    text: &'a [u8],
-    line: usize,
-) -> Result<Vec<Word<'a>>, AllocError> {
-    let text = before_comment(text);
+pub fn words_of<'a>(alloc: Global, text: &'a [u8], line: usize) -> Result<Vec<Word<'a>>, AllocError>
+    ensures { IfOk result (λ words. map token words.items ≡ words_of_line line text.now) }
+{
+    let said = before_comment(text);
     let mut words = Vec::new(alloc);
-    let mut start = None;
-    for (i, byte) in text.iter().enumerate() {
-        if byte.is_ascii_whitespace() || is_mark(*byte) {
-            push_word(&mut words, text, line, start, i)?;
-            start = None;
-            if is_mark(*byte) {
-                push_word(&mut words, text, line, Some(i), i + 1)?;
-            }
-        } else if start.is_none() {
-            start = Some(i);
+    let mut start = 0;
+    for (i, byte) in said.iter().enumerate() {
+        if !is_plain(*byte) {
+            end_word(&mut words, said, line, start, i)?;
+            start = i + 1;
         }
     }
-    push_word(&mut words, text, line, start, text.len())?;
+    push_word(&mut words, said, line, start, said.len())?;
     Ok(words)
 }
