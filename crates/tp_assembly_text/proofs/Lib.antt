@@ -1,2 +1,2 @@
-mod Naturals
 pub mod Tokens
+mod Digits

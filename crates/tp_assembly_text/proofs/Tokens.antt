@@ -8,7 +8,7 @@ use Rattle.std.proofs.lemmas.List.Folds.{drop_split, list_all-append}
 use Rattle.tp_assembly_text.specs.Words.{is_mark, is_plain, begins, begins_comment, before_comment, onto_first, tokens, word_if_any}
 
 -- bytes that pass a test, and a first one
-both_true : (a b : Bool) → (a && b) ≡ true → (a ≡ true) × (b ≡ true)
+pub both_true : (a b : Bool) → (a && b) ≡ true → (a ≡ true) × (b ≡ true)
 both_true true b e = (refl, e)
 both_true false b e = cc
 

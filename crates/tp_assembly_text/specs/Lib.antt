@@ -1,4 +1,5 @@
 pub mod Names
+pub mod Faults
 pub mod Numbers
 pub mod Words
 pub use Rattle.tp_decode.specs.Table

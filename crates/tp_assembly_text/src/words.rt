@@ -3,6 +3,7 @@
 ghost use Rattle.std.specs.Prelude.{◌≡◌, ◌≤◌, ◌<◌, ◌+◌, length, map, drop, ◌++◌, IfOk, OnOk, true, false, slice_index};
 ghost use Rattle.std.specs.List.{slice_range, list_all};
 ghost use Rattle.std.specs.Str.{str_eq_ignore_ascii_case};
+ghost use Rattle.tp_assembly_text.specs.Faults.{fault_at};
 ghost use Rattle.tp_assembly_text.specs.Words.{token, tokens, is_mark, is_plain, begins_comment, before_comment, words_of_line, word_if_any};
 
 use crate::fault::{SourceFault, TextFault};
@@ -25,7 +26,9 @@ impl<'a> Word<'a> {
     }
 
     /// A fault at this word.
-    pub fn fault(&self, fault: TextFault) -> SourceFault {
+    pub fn fault(&self, fault: TextFault) -> SourceFault
+        ensures { result ≡ fault_at self.now fault }
+    {
         SourceFault {
             line: self.line,
             column: self.column,
