@@ -9,4 +9,4 @@ pub returns : goal.returns
 returns c =
     c.ok.ensures.value
     ∙ text_said c.args.radix c.args.digits.now c.in-Ok.digits.now c.from_str_radix.result c.in-Ok.ensures.cases.0
-        (sym c.starts_with.ensures.value ∙ c.if-starts_with.false) c.from_str_radix.ensures.value
+    (sym c.starts_with.ensures.value ∙ c.if-starts_with.false) c.from_str_radix.ensures.value
