@@ -11,7 +11,7 @@ use crate::reading::read;
 use crate::states::refused;
 use std::alloc::{AllocError, Global};
 use std::process::Abort;
-use tp_check::{Effort, Table, check_states, check_states_counting};
+use tp_check::{Effort, Table, check_states, check_states_counting, judge_states};
 use tp_decode::{Instr, Listing};
 use tp_flow::{Edge, Nest, check_flow};
 use tp_image::Image;
@@ -23,6 +23,13 @@ fn verdict(rt: &(impl Abort + AllocGlobal), bytes: &[u8]) -> Result<Table, State
     let (image, listing) = read(rt, bytes);
     let nest = check_flow(&image, &listing).expect(rt, "a nest");
     check_states(rt.alloc(), &image, &listing, &nest)
+}
+
+/// What the passes come to, where no table is made.
+fn judged(rt: &(impl Abort + AllocGlobal), bytes: &[u8]) -> Result<(), StateFault> {
+    let (image, listing) = read(rt, bytes);
+    let nest = check_flow(&image, &listing).expect(rt, "a nest");
+    judge_states(rt.alloc(), &image, &listing, &nest)
 }
 
 /// The refusal, if there is one, the passes and the outcomes.
@@ -47,14 +54,15 @@ fn increment_with(at: usize, byte: u8) -> [u8; 32]
     bytes
 }
 
-/// The refusal of a worker, if the passes refuse it.
-fn refusal(rt: &(impl Abort + AllocGlobal), bytes: &[u8]) -> Option<StateFault> {
-    verdict(rt, bytes).err()
+/// That the passes refuse a worker so, or find a table, whether it is made or not.
+fn assert_refusal(rt: &(impl Abort + AllocGlobal), bytes: &[u8], refusal: Option<StateFault>) {
+    assert_eq!(rt; verdict(rt, bytes).err(), refusal);
+    assert_eq!(rt; judged(rt, bytes).err(), refusal);
 }
 
 /// That the passes refuse a worker so.
 fn assert_refused(rt: &(impl Abort + AllocGlobal), bytes: &[u8], code: StateCode, place: usize) {
-    assert_eq!(rt; refusal(rt, bytes), refused(code, place));
+    assert_refusal(rt, bytes, refused(code, place));
 }
 
 #[test]
@@ -84,8 +92,8 @@ fn refuses_changes_of_one_byte(rt: HostRuntime) {
 
 #[test]
 fn passes_whole_workers(rt: HostRuntime) {
-    assert_eq!(rt; refusal(&rt, INCREMENT), None);
-    assert_eq!(rt; refusal(&rt, PICKS_A_WORD), None);
+    assert_refusal(&rt, INCREMENT, None);
+    assert_refusal(&rt, PICKS_A_WORD, None);
 }
 
 /// A table that the passes find.

@@ -19,8 +19,6 @@ use Rattle.tp_state.specs.declared.fault.StateCode.{StateCode}
 use Rattle.tp_state.specs.declared.fault.StateFault.{StateFault}
 use Rattle.tp_check.specs.Tables.{Table}
 use Rattle.tp_check.specs.Passes.{IsVerdict}
-use Rattle.tp_check.specs.Carried.{IsTableOf}
-use Rattle.tp_state.specs.declared.state.State.{State}
 use Rattle.tp_check.specs.EdgesRespect.{HasNoTable}
 use Rattle.tp_check.proofs.PassLemmas.{one_verdict}
 use Rattle.tp_check.proofs.Ending.{a_verdict}
@@ -48,15 +46,15 @@ not_above n m e = grind (arith, nat_tests)
 is_within : (n m : ℕ) → m ≤ n → nat_lt n m ≡ false
 is_within n m le = grind (arith, nat_tests)
 
--- an image whose table was found, from what is kept of it
-pub acceptable_of : (image : ImageValue) (cuts : List Cut) (states : List (ℕ × State)) (budget : ℕ) → InRange image → IsCutting image.code cuts → KeepsNest image.loops image.workspace cuts → IsTableOf image cuts states → budget ≡ bound image.loops cuts → bound image.loops cuts ≤ most_budget → IsAcceptable image budget
-acceptable_of image cuts states budget range cut kept found bounded within = record {
+-- an image whose table was found
+pub acceptable_of : (image : ImageValue) (cuts : List Cut) (budget : ℕ) → InRange image → IsCutting image.code cuts → KeepsNest image.loops image.workspace cuts → (table : Table) × IsVerdict image cuts (Ok table) → budget ≡ bound image.loops cuts → bound image.loops cuts ≤ most_budget → IsAcceptable image budget
+acceptable_of image cuts budget range cut kept (table, verdict) bounded within = record {
   in_range = range;
   cuts = cuts;
   cutting = cut;
   kept = kept;
-  table = found.whole;
-  respected = respected image cuts range cut.each kept found.whole found.verdict;
+  table = table;
+  respected = respected image cuts range cut.each kept table verdict;
   bounded = bounded;
   within = omega (arith, within, bounded);
 }

@@ -14,7 +14,7 @@ use crate::accepted::Accepted;
 use crate::bound::budget;
 use crate::refusal::Refusal;
 use std::alloc::Global;
-use tp_check::check_states;
+use tp_check::judge_states;
 use tp_decode::decode;
 use tp_flow::check_flow;
 use tp_image::read_image;
@@ -38,8 +38,7 @@ pub fn accept(alloc: Global, text: Vec<u8>) -> Result<Accepted, Refusal>
     let image = read_image(alloc, &text)?;
     let listing = decode(alloc, &image.code)?;
     let nest = check_flow(&image, &listing)?;
-    let table = check_states(alloc, &image, &listing, &nest)?;
-    drop(table);
+    judge_states(alloc, &image, &listing, &nest)?;
     let budget = budget(alloc, &image, &listing)?;
     Ok(Accepted { image, budget })
 }

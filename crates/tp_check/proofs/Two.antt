@@ -1,5 +1,6 @@
 -- The edges of an instruction: one, or two.
 use Rattle.std.proofs.Common.{◌≡◌, ◌≢◌, ℕ, ◌<◌, ◌≤◌, ◌⊎◌, inl, inr, ℤ, Bool, true, false, ◌||◌, List, [], ◌∷◌, length, slice_index_or, Option, Some, None, Result, Ok, Err, refl, sym, ap, ◌∙◌, subst, arith}
+use Rattle.std.specs.Prelude.{IfSome}
 use Rattle.std.proofs.lemmas.Bool.{cases_eq}
 use Rattle.std.proofs.lemmas.Option.{same_Some}
 use Rattle.tp_decode.specs.declared.instr.Instr.{Instr}
@@ -70,7 +71,7 @@ pub both_move : (image : ImageValue) (first then_ last : List (Option State)) (m
 both_move image first then_ last true also m n = record { sized = n.sized ∙ m.sized; stays = λ e. absurd (cc); falls = λ e. omega (arith, m.falls refl, table_le image also then_ last n) }
 both_move image first then_ last false also m n = subst (λ states. Moves image also states last) (m.stays refl) n
 
-pub amid_with : (image : ImageValue) (cuts : List Cut) (joins : ℕ → Bool) (p : Passes) (place : Placed) (done : ℕ) (whole : Table) (x y : State) → IsPlaced image x → IsPlaced image y → IsAmidst image cuts joins p place done whole → IsAmidst image cuts joins (record p { carried = x; spare = y }) place done whole
+pub amid_with : (image : ImageValue) (cuts : List Cut) (joins : ℕ → Bool) (p : Passes) (place : Placed) (done : ℕ) (whole : Table) (x : State) (y : Option State) → IsPlaced image x → IfSome y (IsPlaced image) → IsAmidst image cuts joins p place done whole → IsAmidst image cuts joins (record p { carried = x; spare = y }) place done whole
 amid_with image cuts joins p place done whole x y fits also m = record {
   way = record { flags = m.way.flags; takes = m.way.takes; carried = fits; spare = also; slots = m.way.slots; grown = m.way.grown; sound = m.way.sound };
   others = m.others;
@@ -97,6 +98,11 @@ came_on image cuts joins old new place edge done whole table it rests sure = by_
     by_target : (target_of image (place, edge) ≡ Some place.next) ⊎ (target_of image (place, edge) ≡ Some place.next → ⊥) → target_of image (place, edge) ≡ Some place.next
     by_target (inl leads) = leads
     by_target (inr other) = absurd (let no : false ≡ true = sym rests ∙ sym (it.rests other) ∙ sure in cc)
+
+-- what is put aside has as many words as what is carried
+pub as_many_words : (image : ImageValue) (spare : Option State) (carried : State) → IsPlaced image carried → IfSome spare (IsPlaced image) → IfSome spare (λ s. length carried.cells ≡ length s.cells)
+as_many_words image None carried fits also = tt
+as_many_words image (Some s) carried fits also = fits.sized ∙ sym also.sized
 
 -- ---- an instruction of one edge
 
@@ -153,7 +159,7 @@ module _ (image : ImageValue) (joins : ℕ → Bool) (p : Passes) (place : Place
   -- a state is put aside
   pub record IsAside (leaves : Bool) (aside : Passes) : Type 0 where
     pub light : leaves ≡ true → aside ≡ p
-    pub copied : leaves ≡ false → aside ≡ record p { spare = p.carried }
+    pub copied : leaves ≡ false → aside ≡ record p { spare = Some p.carried }
 
   module _ (leaves : Bool) (words : leaves ≡ true → LeavesWords (ranges image.loops) place) (aside : Passes) (is_aside : IsAside leaves aside) where
     -- what is carried, and whether it is carried on, is as before
@@ -162,7 +168,7 @@ module _ (image : ImageValue) (joins : ℕ → Bool) (p : Passes) (place : Place
     kept_aside false e = (
       ap (λ (q : Passes). q.carried) (is_aside.copied e),
       ap (λ (q : Passes). q.is_carried) (is_aside.copied e),
-      subst (λ q. IsAmidst image begun.amid.cuts joins q place 0 begun.amid.whole) (sym (is_aside.copied e)) (amid_with image begun.amid.cuts joins p place 0 begun.amid.whole p.carried p.carried begun.amid.amidst.way.carried begun.amid.amidst.way.carried begun.amid.amidst),
+      subst (λ q. IsAmidst image begun.amid.cuts joins q place 0 begun.amid.whole) (sym (is_aside.copied e)) (amid_with image begun.amid.cuts joins p place 0 begun.amid.whole p.carried (Some p.carried) begun.amid.amidst.way.carried begun.amid.amidst.way.carried begun.amid.amidst),
     )
 
     abbrev pub on_first : IsOnEdge image joins aside place first 0
@@ -194,7 +200,7 @@ module _ (image : ImageValue) (joins : ℕ → Bool) (p : Passes) (place : Place
 
     module _ (fallen : Passes) (middle : Table) (goes : over image joins ((place, first) ∷ []) begun.amid.whole ≡ Ok middle) (it : IsAfterEdge image begun.amid.cuts joins aside fallen place first 0 begun.amid.whole middle)
         (before : Registers) (a : before.a ≡ p.carried.a) (b : before.b ≡ p.carried.b) (c : before.c ≡ p.carried.c) (back : Passes)
-        (light : leaves ≡ true → back ≡ record fallen { carried = record fallen.carried { a = before.a; b = before.b; c = before.c } }) (copied : leaves ≡ false → back ≡ record fallen { carried = fallen.spare; spare = fallen.carried }) where
+        (light : leaves ≡ true → back ≡ record fallen { carried = record fallen.carried { a = before.a; b = before.b; c = before.c } }) (copied : leaves ≡ false → IfSome fallen.spare (λ s. back ≡ record fallen { carried = s; spare = Some fallen.carried })) where
       same_carried : (b : Bool) → leaves ≡ b → aside.carried ≡ p.carried
       same_carried b e = (kept_aside b e).0
 
@@ -202,7 +208,7 @@ module _ (image : ImageValue) (joins : ℕ → Bool) (p : Passes) (place : Place
       alone_first e = subst (λ s. RegistersAlone s fallen.carried) (same_carried true e) (alone_next (words e) aside.carried fallen.carried it.gone)
 
       -- the state that was carried is so again; what became of it on the first edge is put aside in its turn
-      pub is_back : (b : Bool) → leaves ≡ b → (y : State) × IsPlaced image y × (back ≡ record fallen { carried = p.carried; spare = y })
+      pub is_back : (b : Bool) → leaves ≡ b → (y : Option State) × IfSome y (IsPlaced image) × (back ≡ record fallen { carried = p.carried; spare = y })
       is_back true e = (
         fallen.spare,
         it.amidst.way.spare,
@@ -213,9 +219,9 @@ module _ (image : ImageValue) (joins : ℕ → Bool) (p : Passes) (place : Place
             ∙ put_back p.carried fallen.carried (alone_first e)),
       )
       is_back false e = (
-        fallen.carried,
+        Some fallen.carried,
         it.amidst.way.carried,
-        copied e ∙ ap (λ s. record fallen { carried = s; spare = fallen.carried }) (it.spare ∙ ap (λ (q : Passes). q.spare) (is_aside.copied e)),
+        subst (λ o. IfSome o (λ s. back ≡ record fallen { carried = s; spare = Some fallen.carried })) (it.spare ∙ ap (λ (q : Passes). q.spare) (is_aside.copied e)) (copied e),
       )
 
       abbrev pub on_last : IsOnEdge image joins back place last 1
@@ -245,7 +251,7 @@ module _ (image : ImageValue) (joins : ℕ → Bool) (p : Passes) (place : Place
       -- ---- after both
 
       module _ (jumped : Passes) (moved : Bool) (taken : Carries (Ok moved) (over image joins ((place, last) ∷ []) middle) (IsAfterEdge image begun.amid.cuts joins back jumped place last 1 middle)) (stands : StandsIn begun.amid.cuts place) where
-        done_with : (new : Passes) (x y : State) → new ≡ record jumped { carried = x; spare = y } → IsPlaced image x → IsPlaced image y → (jumped.is_carried ≡ true → HasCome joins taken.0 place.next x) → IsBefore image begun.amid.cuts joins new place.next taken.0
+        done_with : (new : Passes) (x : State) (y : Option State) → new ≡ record jumped { carried = x; spare = y } → IsPlaced image x → IfSome y (IsPlaced image) → (jumped.is_carried ≡ true → HasCome joins taken.0 place.next x) → IsBefore image begun.amid.cuts joins new place.next taken.0
         done_with new x y is fits also comes = subst (λ q. IsBefore image begun.amid.cuts joins q place.next taken.0) (sym is)
             (turned image begun.amid.cuts joins (record jumped { carried = x; spare = y }) place stands taken.0
             (subst (λ ways. IsAmidst image begun.amid.cuts joins (record jumped { carried = x; spare = y }) place (length ways) taken.0) (sym two) (amid_with image begun.amid.cuts joins jumped place 2 taken.0 x y fits also taken.2.amidst)) comes)
@@ -261,7 +267,7 @@ module _ (image : ImageValue) (joins : ℕ → Bool) (p : Passes) (place : Place
 
         -- the first one leads there
         module _ (on : fallen.is_carried ≡ true) (later : Registers) (a' : later.a ≡ fallen.carried.a) (b' : later.b ≡ fallen.carried.b) (c' : later.c ≡ fallen.carried.c) (new : Passes)
-            (light' : leaves ≡ true → new ≡ record jumped { carried = record jumped.carried { a = later.a; b = later.b; c = later.c } }) (copied' : leaves ≡ false → new ≡ record jumped { carried = jumped.spare; spare = jumped.carried }) where
+            (light' : leaves ≡ true → new ≡ record jumped { carried = record jumped.carried { a = later.a; b = later.b; c = later.c } }) (copied' : leaves ≡ false → IfSome jumped.spare (λ s. new ≡ record jumped { carried = s; spare = Some jumped.carried })) where
           leads : target_of image (place, first) ≡ Some place.next
           leads = came_on image begun.amid.cuts joins aside fallen place first 0 begun.amid.whole middle it ((kept_aside leaves refl).1 ∙ begun.rests) on
 
@@ -271,7 +277,8 @@ module _ (image : ImageValue) (joins : ℕ → Bool) (p : Passes) (place : Place
             alone = λ alone. taken.2.stays place.next alone (λ also. unlike (ap (λ (e : Placed × Edge). e.1) (begun.amid.join.lone.one (place, first) (place, last) place.next (is_one first 0 first_number) (is_one last 1 last_number) alone leads also))) ∙ came.alone alone;
           }
 
-          is_new : (b : Bool) → leaves ≡ b → (y : State) × IsPlaced image y × (new ≡ record jumped { carried = fallen.carried; spare = y })
+          is_new : (b : Bool) → leaves ≡ b → (y : Option State) × IfSome y (IsPlaced image) × (new ≡ record jumped { carried = fallen.carried; spare = y })
+          unfolding is_back
           is_new true e = (
             jumped.spare,
             taken.2.amidst.way.spare,
@@ -284,9 +291,9 @@ module _ (image : ImageValue) (joins : ℕ → Bool) (p : Passes) (place : Place
                 (subst (λ s. RegistersAlone s jumped.carried) (ap (λ (q : Passes). q.carried) (is_back true e).2) (alone_taken (words e) back.carried jumped.carried taken.2.gone))),
           )
           is_new false e = (
-            jumped.carried,
+            Some jumped.carried,
             taken.2.amidst.way.carried,
-            copied' e ∙ ap (λ s. record jumped { carried = s; spare = jumped.carried }) (taken.2.spare ∙ ap (λ (q : Passes). q.spare) (copied e)),
+            subst (λ o. IfSome o (λ s. new ≡ record jumped { carried = s; spare = Some jumped.carried })) (taken.2.spare ∙ ap (λ (q : Passes). q.spare) (is_back false e).2) (copied' e),
           )
 
           pub first_done : (any : Bool) → Carries (Ok any) (over image joins (edges_of place) begun.amid.whole) (IsBefore image begun.amid.cuts joins new place.next)

@@ -1,7 +1,7 @@
 -- One pass, instruction by instruction, and one after another.
-use Rattle.std.proofs.Common.{◌≡◌, ℕ, zero, suc, ◌+◌, ◌<◌, ◌≤◌, ◌^◌, ◌⊎◌, inl, inr, ◌==◌, ◌&&◌, nat_le, if◌then◌else◌, Bool, true, false, List, [], ◌∷◌, ◌++◌, length, slice_get, Some, None, Result, Ok, Err, refl, sym, ap, ◌∙◌, subst, rules, arith, drop, add-one, drop-cons}
+use Rattle.std.proofs.Common.{◌≡◌, ℕ, zero, suc, ◌+◌, ◌<◌, ◌≤◌, ◌^◌, ◌⊎◌, inl, inr, ◌==◌, ◌&&◌, nat_le, if◌then◌else◌, Bool, true, false, List, [], ◌∷◌, ◌++◌, length, slice_get, Option, Some, None, Result, Ok, Err, refl, sym, ap, ◌∙◌, subst, rules, arith, drop, add-one, drop-cons}
 use mathlib.Core.Path.{fun_ext}
-use Rattle.std.specs.Prelude.{IfErr, IsErrAnd}
+use Rattle.std.specs.Prelude.{IfErr, IfSome, IsErrAnd}
 use Rattle.std.specs.List.{flat_map, AllByRecursion}
 use Rattle.std.specs.Option.{is_some}
 use Rattle.std.proofs.lemmas.Bool.{cases_eq}
@@ -28,7 +28,7 @@ use Rattle.tp_check.specs.Tables.{Table, table_of}
 use Rattle.tp_check.specs.Passes.{edges_of, edges_in, first_table, pass, passes, IsVerdict, IsRefusalOf}
 use Rattle.tp_check.specs.Carried.{over, only_joins, is_kept, is_head, reached, AreStatesOf, IsTableOf}
 use Rattle.tp_check.specs.StatesThere.{AreStatesThere}
-use Rattle.tp_check.specs.UnderWay.{is_in, AreJoins, HasPlaces, marks, IsBefore, StandsIn, Carries, Moves, table_height}
+use Rattle.tp_check.specs.UnderWay.{is_in, AreJoins, HasPlaces, marks, IsBefore, StandsIn, Carries, Moves, IsSettled, table_height}
 use Rattle.tp_check.proofs.Places.{stands_at, number_of}
 use Rattle.tp_check.proofs.Entering.{first_grown}
 use Rattle.tp_check.proofs.Nests.{or_left}
@@ -188,7 +188,7 @@ module _ (image : ImageValue) (cuts : List Cut) (range : InRange image) (spelled
 
   -- before the first pass
   pub none_made : (p : Passes) (places : ℕ) → HasPlaces cuts places → places ≤ 2 ^ 32 → length p.slots ≡ places → length p.changed.items ≡ places → table_of p.slots ≡ first_table image
-      → ((at : ℕ) → at < places → is_in p.changed.items at ≡ true) → length p.taken.items ≡ places → ((at : ℕ) → at < places → is_in p.taken.items at ≡ false) → p.is_carried ≡ false → IsPlaced image p.carried → IsPlaced image p.spare → IsBetween image cuts joins p true
+      → ((at : ℕ) → at < places → is_in p.changed.items at ≡ true) → length p.taken.items ≡ places → ((at : ℕ) → at < places → is_in p.taken.items at ≡ false) → p.is_carried ≡ false → IsPlaced image p.carried → p.spare ≡ None → IsBetween image cuts joins p true
   none_made p places inside few sized flags table marked takes fresh rests carried spare = record {
     places = λ at starts. rw sized (inside at starts);
     few = rw sized few;
@@ -199,7 +199,7 @@ module _ (image : ImageValue) (cuts : List Cut) (range : InRange image) (spelled
         flags = flags ∙ sym sized;
         takes = takes ∙ sym sized;
         carried = carried;
-        spare = spare;
+        spare = subst (λ o. IfSome o (IsPlaced image)) (sym spare) tt;
         slots = λ x is. sym (ap (λ (t : Table). t x) table);
         grown = first_grown image (first_table image) kept.begins (entry_sound image range).placed refl;
         sound = λ x s stood. sound_first x s stood (cases_eq x 0);
@@ -282,10 +282,13 @@ module _ (image : ImageValue) (cuts : List Cut) (range : InRange image) (spelled
   is_refusal old moved on Memory P gives = tt
 
   -- after the last pass
-  pub is_table : (p : Passes) (keeps : ℕ → Bool) (states : List (ℕ × State)) → IsBetween image cuts joins p false → ((at : ℕ) → keeps at ≡ is_kept image cuts at) → AreStatesOf keeps (table_of p.slots) states → IsTableOf image cuts states
-  is_table p keeps states on same are = record {
+  pub is_settled : (p : Passes) → IsBetween image cuts joins p false → IsSettled image cuts joins p.slots
+  is_settled p on = record { few = on.few; whole = on.whole; verdict = on.stays refl; there = on.before.way.slots }
+
+  pub is_table : (slots : List (Option State)) (keeps : ℕ → Bool) (states : List (ℕ × State)) → IsSettled image cuts joins slots → ((at : ℕ) → keeps at ≡ is_kept image cuts at) → AreStatesOf keeps (table_of slots) states → IsTableOf image cuts states
+  is_table slots keeps states on same are = record {
     whole = on.whole;
-    verdict = on.stays refl;
+    verdict = on.verdict;
     kept = record {
       rising = are.rising;
       each = λ i a there. let one = are.each i a there in (sym (same a.0) ∙ one.0, there_too a.0 (sym (same a.0) ∙ one.0) ∙ one.1);
@@ -293,11 +296,11 @@ module _ (image : ImageValue) (cuts : List Cut) (range : InRange image) (spelled
     };
   }
     where
-      there_too : (at : ℕ) → is_kept image cuts at ≡ true → on.whole at ≡ table_of p.slots at
+      there_too : (at : ℕ) → is_kept image cuts at ≡ true → on.whole at ≡ table_of slots at
       there_too at is = by_join (joins at) refl
         where
-          by_join : (b : Bool) → joins at ≡ b → on.whole at ≡ table_of p.slots at
-          by_join true e = on.before.way.slots at e
+          by_join : (b : Bool) → joins at ≡ b → on.whole at ≡ table_of slots at
+          by_join true e = on.there at e
           by_join false e = absurd (let no : true ≡ false = sym is ∙ join.wide at e in cc)
 
   pub are_states_there : (states : List (ℕ × State)) → IsTableOf image cuts states → AreStatesThere image states

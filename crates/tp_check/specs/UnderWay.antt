@@ -1,5 +1,5 @@
 -- What holds while the passes are made.
-use Rattle.std.specs.Prelude.{◌≡◌, ◌≢◌, ℕ, ◌+◌, ◌*◌, ◌-◌, ◌^◌, ◌<◌, ◌≤◌, ◌==◌, ◌&&◌, Bool, true, false, if◌then◌else◌, ℤ, pos, negsuc, ◌+ℤ◌, ◌-ℤ◌, List, length, sum_by, slice_get, slice_index_or, slice_set, All, ◌⊎◌, Option, Some, None, Result, Ok, Err, IsTrue}
+use Rattle.std.specs.Prelude.{◌≡◌, ◌≢◌, ℕ, ◌+◌, ◌*◌, ◌-◌, ◌^◌, ◌<◌, ◌≤◌, ◌==◌, ◌&&◌, Bool, true, false, if◌then◌else◌, ℤ, pos, negsuc, ◌+ℤ◌, ◌-ℤ◌, List, length, sum_by, slice_get, slice_index_or, slice_set, All, ◌⊎◌, Option, Some, None, Result, Ok, Err, IsTrue, IfSome}
 use Rattle.std.specs.Option.{option_and_then}
 use Rattle.tp_decode.specs.declared.instr.Instr.{Instr}
 use Rattle.tp_decode.specs.declared.instr.Instr.TheVariants.{Cj}
@@ -30,7 +30,7 @@ use Rattle.tp_state.specs.After.{after}
 use Rattle.tp_check.specs.declared.passes.Passes.{Passes}
 use Rattle.tp_check.specs.Tables.{Table, table_of, asked}
 use Rattle.tp_check.specs.EdgesRespect.{HasAbove}
-use Rattle.tp_check.specs.Passes.{edges_in}
+use Rattle.tp_check.specs.Passes.{edges_in, IsVerdict}
 use Rattle.tp_check.specs.Carried.{AreWide, IsAmong, IsLone, target_of}
 
 -- ---- what a table keeps
@@ -115,7 +115,7 @@ pub record IsUnderWay (image : ImageValue) (joins : ℕ → Bool) (p : Passes) (
   pub flags : length p.changed.items ≡ length p.slots
   pub takes : length p.taken.items ≡ length p.slots
   pub carried : IsPlaced image p.carried
-  pub spare : IsPlaced image p.spare
+  pub spare : IfSome p.spare (IsPlaced image)
   pub slots : (at : ℕ) → joins at ≡ true → whole at ≡ table_of p.slots at
   pub grown : HasGrown image whole
   pub sound : (at : ℕ) (s : State) → whole at ≡ Some s → IsSound image s
@@ -238,6 +238,15 @@ pub record LeavesWords (nest : List LoopRange) (place : Placed) : Type 0 where
 -- each instruction has its place
 abbrev pub HasPlaces : List Cut → ℕ → Type 0
 HasPlaces cuts places = (at : ℕ) → IsTrue (is_start cuts at) → at < places
+
+-- ---- when they are done
+
+-- The passes have come to a table that one more leaves as it is: where edges join, these are its states.
+pub record IsSettled (image : ImageValue) (cuts : List Cut) (joins : ℕ → Bool) (slots : List (Option State)) : Type 0 where
+  pub few : length slots ≤ 2 ^ 32
+  pub whole : Table
+  pub verdict : IsVerdict image cuts (Ok whole)
+  pub there : (at : ℕ) → joins at ≡ true → whole at ≡ table_of slots at
 
 -- ---- how far the passes have to go
 

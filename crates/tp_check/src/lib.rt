@@ -14,6 +14,6 @@ mod table;
 mod way;
 
 pub use effort::Effort;
-pub use passes::{check_states, check_states_counting, places_of};
+pub use passes::{check_states, check_states_counting, judge_states, places_of};
 pub use slots::Slots;
 pub use table::Table;

@@ -1,6 +1,6 @@
 //! The passes: a table is made edge by edge until a pass changes nothing.
 
-ghost use Rattle.std.specs.Prelude.{◌≡◌, ◌≢◌, ◌<◌, ◌≤◌, ◌+◌, ◌^◌, ◌∷◌, [], ℕ, true, false, length, List, slice_index_or, Some, IfOk, IfErr, IfSome, OnOk};
+ghost use Rattle.std.specs.Prelude.{◌≡◌, ◌≢◌, ◌<◌, ◌≤◌, ◌+◌, ◌^◌, ◌∷◌, [], ℕ, true, false, length, List, slice_index_or, Some, None, Ok, IfOk, IfErr, IfSome, OnOk};
 ghost use Rattle.std.specs.List.{AllByRecursion};
 ghost use Rattle.tp_decode.specs.Cutting.{Cut, IsSpelled};
 ghost use Rattle.tp_decode.specs.declared.instr.Instr.{Instr as AnInstr};
@@ -14,11 +14,11 @@ ghost use Rattle.tp_state.specs.Order.{IsBelow};
 ghost use Rattle.tp_state.specs.declared.fault.StateFault.TheVariants as fault;
 ghost use Rattle.tp_check.specs.Tables.{Table as WholeTable, table_of, asked};
 ghost use Rattle.tp_check.specs.EdgesRespect.{HasNoTable};
-ghost use Rattle.tp_check.specs.Passes.{first_table, enter, edges_of, edges_in, IsRefusalOf};
+ghost use Rattle.tp_check.specs.Passes.{first_table, enter, edges_of, edges_in, IsVerdict, IsRefusalOf};
 ghost use Rattle.tp_check.specs.Carried.{over, IsTableOf};
 ghost use Rattle.tp_check.specs.StatesThere.{AreStatesThere};
 ghost use Rattle.tp_check.specs.Joining.{joins_at, keeps_at};
-ghost use Rattle.tp_check.specs.UnderWay.{AreJoins, HasPlaces, MayBeTaken, StandsIn, IsBefore, Carries, Gives, Moves, marked, SameButSlots, IsStarted, KeepsSound, CameBefore, IsBegun, IsOnEdge, IsAfterEdge, IsLedOn};
+ghost use Rattle.tp_check.specs.UnderWay.{AreJoins, HasPlaces, MayBeTaken, StandsIn, IsBefore, Carries, Gives, Moves, marked, SameButSlots, IsStarted, KeepsSound, CameBefore, IsBegun, IsOnEdge, IsAfterEdge, IsLedOn, IsSettled};
 
 use crate::aside::{Registers, leaves_words};
 use crate::effort::Effort;
@@ -69,19 +69,76 @@ pub fn check_states_counting(
     // Where anything but memory is refused, no table exists that every edge respects.
     ensures exact { IfErr result (λ e. e ≢ fault.Memory → HasNoTable image.now listing.now) }
 {
-    listing.is_spelled();
     *effort = Effort::default();
     let places = places_of(listing);
     let ways = Ways::of(alloc, image, listing, nest, places)?;
+    let slots = settle(alloc, image, listing, nest, places, &ways, effort)?;
+    Ok(Table::of(alloc, slots, &ways)?)
+}
+
+/// Whether the passes come to a table, of an image whose flow has passed and of its code's listing: as `check_states`, but no
+/// table is made of the states that they leave.
+pub fn judge_states(
+    alloc: Global,
+    image: &Image,
+    listing: &Listing,
+    nest: &Nest,
+) -> Result<(), StateFault>
+    requires kept { KeepsNest image.now.loops image.now.workspace listing.now }
+    requires nest { nest.now ≡ ranges image.now.loops }
+    ensures table { IfOk result (λ _. (whole : WholeTable) × IsVerdict image.now listing.now (Ok whole)) }
+    ensures refused { IfErr result (IsRefusalOf image.now listing.now) }
+    // Where anything but memory is refused, no table exists that every edge respects.
+    ensures exact { IfErr result (λ e. e ≢ fault.Memory → HasNoTable image.now listing.now) }
+{
+    let places = places_of(listing);
+    let ways = Ways::of(alloc, image, listing, nest, places)?;
+    settle(
+        alloc,
+        image,
+        listing,
+        nest,
+        places,
+        &ways,
+        &mut Effort::default(),
+    )?;
+    Ok(())
+}
+
+/// The states where edges join, when a pass has changed none of them; or the first refusal. What the passes have taken is added
+/// to `effort`.
+fn settle(
+    alloc: Global,
+    image: &Image,
+    listing: &Listing,
+    nest: &Nest,
+    places: usize,
+    ways: &Ways,
+    effort: &mut Effort,
+) -> Result<Slots, StateFault>
+    requires kept { KeepsNest image.now.loops image.now.workspace listing.now }
+    requires nest { nest.now ≡ ranges image.now.loops }
+    requires join { AreJoins image.now listing.now (joins_at ways.now) }
+    requires some { 0 < places }
+    requires few { places ≤ 2 ^ 32 }
+    requires all { HasPlaces listing.now places }
+    ensures settled { IfOk result (IsSettled image.now listing.now (joins_at ways.now)) }
+    ensures refused { IfErr result (IsRefusalOf image.now listing.now) }
+    ensures exact { IfErr result (λ e. e ≢ fault.Memory → HasNoTable image.now listing.now) }
+    // This is known of every image, and of every listing.
+    ensures in_range { InRange image.now }
+    ensures spelled { AllByRecursion IsSpelled listing.now }
+{
+    listing.is_spelled();
     let mut passes = Passes::begin(alloc, image, places)?;
     let mut moved = true;
     while moved {
         effort.passes = effort.passes.saturating_add(1);
-        let answer = passes.pass(alloc, image, listing, nest, &ways);
+        let answer = passes.pass(alloc, image, listing, nest, ways);
         effort.outcomes = passes.outcomes;
         moved = answer?;
     }
-    Ok(Table::of(alloc, passes.slots, &ways)?)
+    Ok(passes.slots)
 }
 
 /// The passes, between two edges.
@@ -100,8 +157,8 @@ struct Passes {
     is_again: bool,
     /// What is known before the instruction that is being taken, and then after its edge.
     carried: State,
-    /// Room for another, where an instruction has two edges.
-    spare: State,
+    /// Room for another, once an instruction has come of which two edges may change words.
+    spare: Option<State>,
     /// How many outcomes were worked out.
     outcomes: u64,
 }
@@ -118,7 +175,7 @@ impl Passes {
         ensures fresh { IfOk result (λ p. (at : ℕ) → at < places → slice_index_or p.taken.items at false ≡ false) }
         ensures rests { IfOk result (λ p. p.is_carried ≡ false) }
         ensures carried { IfOk result (λ p. IsPlaced image.now p.carried) }
-        ensures spare { IfOk result (λ p. IsPlaced image.now p.spare) }
+        ensures spare { IfOk result (λ p. p.spare ≡ None) }
         // This is known of every image.
         ensures in_range { InRange image.now }
     {
@@ -128,7 +185,6 @@ impl Passes {
         let changed = vec![in alloc; true; places]?;
         let taken = vec![in alloc; false; places]?;
         let carried = State::entry(alloc, image)?;
-        let spare = State::entry(alloc, image)?;
         Ok(Passes {
             slots,
             changed,
@@ -136,7 +192,7 @@ impl Passes {
             is_carried: false,
             is_again: false,
             carried,
-            spare,
+            spare: None,
             outcomes: 0,
         })
     }
@@ -279,7 +335,7 @@ impl Passes {
     {
         let leaves_words = leaves_words(nest, place);
         let before = Registers::of(&self.carried);
-        self.put_aside(leaves_words);
+        self.put_aside(alloc, leaves_words)?;
         let moved = self.take_edge(alloc, image, nest, ways, place, first)?;
         let is_next = self.is_carried;
         let after = Registers::of(&self.carried);
@@ -292,27 +348,37 @@ impl Passes {
         Ok(moved || also)
     }
 
-    /// A copy of the state that is carried is put aside, unless words stay as they are.
-    fn put_aside(&mut self, leaves_words: bool)
-        requires { length self.old.carried.cells ≡ length self.old.spare.cells }
+    /// A copy of the state that is carried is put aside, unless words stay as they are. The first one takes memory.
+    fn put_aside(&mut self, alloc: Global, leaves_words: bool) -> Result<(), AllocError>
+        requires { IfSome self.old.spare (λ s. length self.old.carried.cells ≡ length s.cells) }
         ensures light { leaves_words ≡ true → self.new ≡ self.old }
-        ensures copied { leaves_words ≡ false → self.new ≡ record self.old { spare = self.old.carried } }
+        ensures copied { IfOk result (λ _. leaves_words ≡ false → self.new ≡ record self.old { spare = Some self.old.carried }) }
+        ensures slots { self.new.slots ≡ self.old.slots }
     {
-        if !leaves_words {
-            self.spare.set_to(&self.carried);
+        if leaves_words {
+            return Ok(());
         }
+        match &mut self.spare {
+            Some(spare) => spare.set_to(&self.carried),
+            None => {
+                let copy = self.carried.copy_of(alloc)?;
+                self.spare = Some(copy);
+            }
+        }
+        Ok(())
     }
 
     /// The state that was carried before is carried again: where words have stayed as they were, it is told by its registers;
     /// else it was put aside, and changes places with what is carried now.
     fn put_back(&mut self, registers: Registers, leaves_words: bool)
         ensures light { leaves_words ≡ true → self.new ≡ record self.old { carried = record self.old.carried { a = registers.a; b = registers.b; c = registers.c } } }
-        ensures copied { leaves_words ≡ false → self.new ≡ record self.old { carried = self.old.spare; spare = self.old.carried } }
+        ensures copied { leaves_words ≡ false → IfSome self.old.spare (λ s. self.new ≡ record self.old { carried = s; spare = Some self.old.carried }) }
+        ensures slots { self.new.slots ≡ self.old.slots }
     {
         if leaves_words {
             registers.put(&mut self.carried);
-        } else {
-            mem::swap(&mut self.carried, &mut self.spare);
+        } else if let Some(spare) = &mut self.spare {
+            mem::swap(&mut self.carried, spare);
         }
     }
 

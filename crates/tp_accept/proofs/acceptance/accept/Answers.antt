@@ -6,15 +6,15 @@ use Rattle.tp_accept.proofs.Exact.{refused_alike, acceptable_of}
 use Rattle.tp_accept.proofs.NeverWrong.{never_goes_wrong_of}
 use Rattle.tp_accept.proofs.acceptance.accept.Goals as goal
 
-pub returns-in_err-table-clause-refused : goal.returns-in_err-table-clause-refused
-returns-in_err-table-clause-refused c =
-    let p = err_from_is_err_and c.from_residual-in_err-table.result c.from_residual-in_err-table.ensures.1 in
+pub returns-in_err-judge_states-clause-refused : goal.returns-in_err-judge_states-clause-refused
+returns-in_err-judge_states-clause-refused c =
+    let p = err_from_is_err_and c.from_residual-in_err-judge_states.result c.from_residual-in_err-judge_states.ensures.1 in
     let none : first_fault c.args.text.items ≡ None = no_fault c.args.text.items c.in_ok-image.image (search rules) in
     rw (p.1, p.2)
-    (refused_states c.args.text.items c.in_ok-image.image c.in_ok-listing.listing c.in_err-table.field-0.0 none (search rules) (search rules) (search rules) (search rules))
+    (refused_states c.args.text.items c.in_ok-image.image c.in_ok-listing.listing c.in_err-judge_states.field-0.0 none (search rules) (search rules) (search rules) (search rules))
 
-pub returns-in_err-table-clause-exact : goal.returns-in_err-table-clause-exact
-returns-in_err-table-clause-exact c = refused_alike c.args.text.items c.from_residual-in_err-table.result (returns-in_err-table-clause-refused c)
+pub returns-in_err-judge_states-clause-exact : goal.returns-in_err-judge_states-clause-exact
+returns-in_err-judge_states-clause-exact c = refused_alike c.args.text.items c.from_residual-in_err-judge_states.result (returns-in_err-judge_states-clause-refused c)
 
 pub returns-in_err-nest-clause-refused : goal.returns-in_err-nest-clause-refused
 returns-in_err-nest-clause-refused c = search rules
@@ -27,8 +27,8 @@ returns-clause-ends c = never_goes_wrong_of c.in_ok-image.image c.in_ok-budget.b
 
 pub invariant_of-result : goal.invariant_of-result
 invariant_of-result c =
-    record { acceptable = ∣ acceptable_of c.in_ok-image.image c.in_ok-listing.listing _ c.in_ok-budget.budget (search rules) (search rules) (search rules) c.in_ok-table.ensures.table c.in_ok-budget.ensures.value c.in_ok-budget.ensures.within ∣₁ }
+    record { acceptable = ∣ acceptable_of c.in_ok-image.image c.in_ok-listing.listing c.in_ok-budget.budget (search rules) (search rules) (search rules) c.in_ok-judge_states.ensures.table c.in_ok-budget.ensures.value c.in_ok-budget.ensures.within ∣₁ }
 
 pub returns-clause-acceptable : goal.returns-clause-acceptable
 returns-clause-acceptable c =
-    acceptable_of c.in_ok-image.image c.in_ok-listing.listing _ c.in_ok-budget.budget (search rules) (search rules) (search rules) c.in_ok-table.ensures.table c.in_ok-budget.ensures.value c.in_ok-budget.ensures.within
+    acceptable_of c.in_ok-image.image c.in_ok-listing.listing c.in_ok-budget.budget (search rules) (search rules) (search rules) c.in_ok-judge_states.ensures.table c.in_ok-budget.ensures.value c.in_ok-budget.ensures.within
