@@ -238,6 +238,7 @@ fn first_values(alloc: Global, initial: &[u32], words: usize) -> Result<Vec<u32>
 }
 
 /// Whether words are kept alike. Then they are the same, and the converse does not hold, since some values mean nothing.
+#[inline(always)]
 fn are_kept_alike(values: &[u32], planes: &[Bits], other_values: &[u32], others: &[Bits]) -> bool
     requires { length other_values.now ≡ length values.now }
     ensures { Decides result ((planes.now ≡ others.now) × (values.now ≡ other_values.now)) }

@@ -8,6 +8,7 @@ use crate::planes::{WORDS, one};
 use std::simd::prelude::*;
 
 /// Whether all values are the same.
+#[inline(never)]
 pub(crate) fn are_same(values: &[u32], others: &[u32]) -> bool
     requires { length others.now ≡ length values.now }
     ensures { Decides result (values.now ≡ others.now) }
