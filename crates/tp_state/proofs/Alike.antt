@@ -5,7 +5,7 @@ use Rattle.std.specs.Bool.{Decides}
 use Rattle.tp_state.specs.declared.cell.Cell.{Cell}
 use Rattle.tp_state.specs.declared.planes.Bits.{Bits}
 use Rattle.tp_state.specs.CellRules.{cell_at}
-use Rattle.tp_state.specs.Order.{join_cells, joined_cells, cell_below}
+use Rattle.tp_state.specs.Order.{joined_cells, cell_below}
 use Rattle.tp_state.specs.Planes.{seen}
 use Rattle.tp_state.proofs.CellOrder.{cell_below-self}
 use Rattle.tp_state.proofs.StateOrder.{join_cells-self}

@@ -1,4 +1,4 @@
-use Rattle.std.proofs.Common.{◌*◌, ◌/◌, ◌<◌, ◌≤◌, length, arith}
+use Rattle.std.proofs.Common.{◌*◌, ◌/◌, length, arith}
 use Rattle.tp_state.proofs.PlaneValues.{same_more, same_rest}
 use Rattle.tp_state.proofs.values.are_same.Goals as goal
 

@@ -1,4 +1,4 @@
-use Rattle.std.proofs.Common.{◌<◌, sym, ap, ◌∙◌}
+use Rattle.std.proofs.Common.{sym, ap, ◌∙◌}
 use Rattle.tp_state.specs.Planes.{is_set}
 use Rattle.tp_state.proofs.PlaneValues.{none_told, some_told, alike_at, apart_at}
 use Rattle.tp_state.proofs.PlaneBits.{none_set, some_set}
