@@ -13,6 +13,7 @@ pub mod JoinLemmas
 pub mod OrderLemmas
 pub mod CellOrder
 pub mod StateOrder
+pub mod Alike
 pub mod FitsAbove
 pub mod EntryFits
 pub mod LiveCells

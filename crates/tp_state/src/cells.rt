@@ -1,6 +1,7 @@
 //! What is known of the words of a workspace.
 
 ghost use Rattle.std.specs.Prelude.{◌≡◌, ◌+◌, ◌≤◌, ◌<◌, length, map, replicate, take, drop, slice_set, min, IsTrue, IfOk, pos, ◌++◌, ◌-◌, ℕ, true, false};
+ghost use Rattle.std.specs.Bool.{Decides};
 ghost use Rattle.tp_state.specs.CellRules.{cell_at, cells_from, with_cells, are_free, are_defined, has_value, blurred, copied};
 ghost use Rattle.tp_state.specs.Rules.{are_apart};
 ghost use Rattle.tp_state.specs.Order.{cell_below, joined_cells, TellsChange};
@@ -12,6 +13,7 @@ use crate::planes::{
     Bits, Kept, Planes, WORDS, all_defined, all_free, blur_all, copied_planes,
     join_agreeing_planes, join_planes, planes_below, put_all, put_one, set_planes, whole_planes,
 };
+use crate::values::are_same;
 use std::alloc::{AllocError, Global};
 use std::marker::Model;
 use tp_image::Image;
@@ -235,7 +237,16 @@ fn first_values(alloc: Global, initial: &[u32], words: usize) -> Result<Vec<u32>
     Ok(values)
 }
 
-/// What holds of both, word by word. It answers whether anything changed.
+/// Whether words are kept alike. Then they are the same, and the converse does not hold, since some values mean nothing.
+#[inline(always)]
+fn are_kept_alike(values: &[u32], planes: &[Bits], other_values: &[u32], others: &[Bits]) -> bool
+    requires { length other_values.now ≡ length values.now }
+    ensures { Decides result ((planes.now ≡ others.now) × (values.now ≡ other_values.now)) }
+{
+    planes == others && are_same(values, other_values)
+}
+
+/// What holds of both, word by word. It answers whether anything changed. Most that meet are alike, so this is asked first.
 #[tactic(auto, using(crate::proofs::SeenLemmas::length_seen))]
 fn join_words(values: &[u32], planes: &mut [Bits], other_values: &[u32], others: &[Bits]) -> bool
     requires whole { IsWhole values.now planes.old }
@@ -245,6 +256,9 @@ fn join_words(values: &[u32], planes: &mut [Bits], other_values: &[u32], others:
     ensures value { seen values.now planes.new ≡ joined_cells (seen values.now planes.old) (seen other_values.now others.now) }
     ensures changed { TellsChange result (seen values.now planes.old) (seen values.now planes.new) }
 {
+    if are_kept_alike(values, planes, other_values, others) {
+        return false;
+    }
     join_planes(planes, others, values, other_values)
 }
 
@@ -277,6 +291,9 @@ fn words_below(values: &[u32], planes: &[Bits], other_values: &[u32], others: &[
     ensures yes { result ≡ true → (i : ℕ) → IsTrue (cell_below (cell_at (seen values.now planes.now) i) (cell_at (seen other_values.now others.now) i)) }
     ensures no { result ≡ false → (i : ℕ) × (cell_below (cell_at (seen values.now planes.now) i) (cell_at (seen other_values.now others.now) i) ≡ false) }
 {
+    if are_kept_alike(values, planes, other_values, others) {
+        return true;
+    }
     planes_below(planes, others, values, other_values)
 }
 

@@ -19,9 +19,10 @@ fn below(bound: u32, x: i64) -> Result<u32, StateCode>
     ensures value { result ≡ below bound x }
     ensures inside { IfOk result (λ place. place < bound) }
 {
-    match u32::try_from(x) {
-        Ok(x) if x < bound => Ok(x),
-        _ => Err(StateCode::S3),
+    if 0 <= x && x < i64::from(bound) {
+        Ok(x as u32)
+    } else {
+        Err(StateCode::S3)
     }
 }
 

@@ -290,6 +290,15 @@ fn join_kind(kind: &mut Kind, other: Kind) -> bool
     if *kind == other {
         return false;
     }
+    join_unlike(kind, other)
+}
+
+/// The same where they are not alike, which is rare: it is not inlined, so that the test before it is.
+#[inline(never)]
+fn join_unlike(kind: &mut Kind, other: Kind) -> bool
+    ensures value { kind.new ≡ join_kinds kind.old other }
+    ensures changed { TellsChange result kind.old kind.new }
+{
     let joined = kind.join(other);
     let changed = joined != *kind;
     *kind = joined;
