@@ -1,6 +1,6 @@
 //! Runs to their end.
 
-use crate::media::{accepted, all_bits_set, run_packet};
+use super::media::{accepted, all_bits_set, run_packet};
 use std::test::Fail;
 use tp_machine::Outcome;
 use tp_samples::*;
