@@ -1,5 +1,5 @@
 //! Runs of accepted images on the machine, whatever it held before.
 
 mod faults;
-mod media;
-mod runs;
+pub(crate) mod media;
+pub(crate) mod runs;

@@ -7,13 +7,13 @@ use tp_machine::{Machine, Outcome};
 use tp_samples::*;
 
 /// An image, a packet of it, and what its run gives: the error flag, the steps, the result and the trace.
-type Case = (&'static [u8], [u8; 4], (bool, u32), [u8; 4], &'static [u8]);
+pub(crate) type Case = (&'static [u8], [u8; 4], (bool, u32), [u8; 4], &'static [u8]);
 
 const ZERO: [u8; 4] = [0; 4];
 
 const MOST: [u8; 4] = [0xFF, 0xFF, 0xFF, 0x7F];
 
-const CASES: [Case; 14] = [
+pub(crate) const CASES: [Case; 14] = [
     (INCREMENT, [1, 0, 0, 0], (false, 16), [2, 0, 0, 0], &[]),
     (INCREMENT, MOST, (true, 16), [0, 0, 0, 0x80], &[]),
     (INCREMENT, [1, 0, 0, 0], (false, 16), [2, 0, 0, 0], &[]),
@@ -61,7 +61,7 @@ const CASES: [Case; 14] = [
 ];
 
 /// Whether the run of a case answers and leaves what the case says.
-fn is_so(alloc: Global, machine: &mut Machine, case: &Case) -> Result<bool, Fail> {
+pub(crate) fn is_so(alloc: Global, machine: &mut Machine, case: &Case) -> Result<bool, Fail> {
     let (image, packet, (error, steps), result, trace) = *case;
     let accepted = accepted(alloc, image)?;
     let (answered, media) = run_packet(alloc, machine, &accepted, &packet)?;
