@@ -1,6 +1,6 @@
 //! The increment with each of its bytes set to each value: what is accepted runs within its budget.
 
-use crate::runs::run_packet;
+use crate::machine::media::run_packet;
 use crate::texts::changed;
 use std::test::Fail;
 use tp_accept::accept;

@@ -46,18 +46,20 @@ enum Step {
     Stop,
 }
 
-fn assert_step(rt: &impl Abort, board: &Board, seat: &mut Seat, step: &Step, place: usize)
+/// Makes a step: whether the answer is the one that is wanted.
+fn is_made(board: &Board, seat: &mut Seat, step: &Step) -> bool
     requires { IsSeatOf board.now seat.old }
     ensures { IsSeatOf board.now seat.new }
 {
     match step {
-        Step::Claim(claim) => assert_eq!(rt; board.claim(seat), *claim, "step {place}"),
-        Step::Finish(number) => assert_eq!(rt; board.finish(seat), *number, "step {place}"),
-        Step::Abandon(number) => assert_eq!(rt; board.abandon(seat), *number, "step {place}"),
-        Step::Look(what, value) => {
-            assert_eq!(rt; board.look(seat, *what), *value, "step {place}")
+        Step::Claim(claim) => board.claim(seat) == *claim,
+        Step::Finish(number) => board.finish(seat) == *number,
+        Step::Abandon(number) => board.abandon(seat) == *number,
+        Step::Look(what, value) => board.look(seat, *what) == *value,
+        Step::Stop => {
+            board.stop(seat);
+            true
         }
-        Step::Stop => board.stop(seat),
     }
 }
 
@@ -75,10 +77,11 @@ fn assert_steps(
     ensures one { IsSeatOf board.now one.new }
 {
     for (place, (seat, step)) in steps.iter().enumerate() {
-        match seat {
-            0 => assert_step(rt, board, zero, step, place),
-            _ => assert_step(rt, board, one, step, place),
-        }
+        let made = match seat {
+            0 => is_made(board, zero, step),
+            _ => is_made(board, one, step),
+        };
+        assert!(rt; made, "step {place}");
     }
 }
 

@@ -1,5 +1,5 @@
-//! Lists of events, boards, threads and sources of packets with the answers that were worked out by hand. There is no code
-//! here but tests.
+//! Lists of events, boards, threads, sources of packets and streams with the answers that were worked out by hand. There is no
+//! code here but tests.
 #![tactic(auto)]
 
 #[cfg(test)]
@@ -8,5 +8,7 @@ mod boards;
 mod events;
 #[cfg(test)]
 mod sources;
+#[cfg(test)]
+mod streams;
 #[cfg(test)]
 mod threads;

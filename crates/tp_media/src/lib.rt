@@ -6,8 +6,6 @@
 
 mod media;
 mod members;
-#[cfg(test)]
-mod tests;
 
 pub use media::Media;
 pub use members::{boxed, media_of};

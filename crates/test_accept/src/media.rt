@@ -1,6 +1,8 @@
-use crate::{Media, boxed, media_of};
+//! The media of members, and wires to them.
+
 use std::test::Fail;
 use tp_link::LinkDevice;
+use tp_media::{Media, boxed, media_of};
 
 #[test]
 fn each_wire_has_its_room(rt: HostRuntime) -> Result<(), Fail> {

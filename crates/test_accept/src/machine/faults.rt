@@ -1,6 +1,6 @@
 //! Runs that a device ends, and what they leave.
 
-use crate::media::{accepted, all_bits_set, run_packet};
+use super::media::{accepted, all_bits_set, run_packet};
 use std::alloc::Global;
 use std::test::Fail;
 use tp_link::{DeviceFault, FaultyWire, Link, LinkDevice, LinkFault, Links};

@@ -2,7 +2,7 @@
 ghost use Rattle.std.specs.Prelude.{◌≡◌, None, IfSome};
 ghost use Rattle.tp_board.specs.Streams.{IsHandOf, IsFeederOf};
 
-use crate::single::packets_of;
+use super::single::packets_of;
 use std::alloc::Global;
 use std::sync::Wait;
 use std::test::Fail;

@@ -1,5 +1,5 @@
 //! Streams that one thread feeds and takes from.
-ghost use Rattle.std.specs.Prelude.{◌≡◌, [], ◌∷◌, All, IfSome};
+ghost use Rattle.std.specs.Prelude.{◌≡◌, All, IfSome};
 ghost use Rattle.tp_board.specs.Streams.{IsHandOf, IsFeederOf};
 
 use arrayvec::ArrayVec;
@@ -53,22 +53,29 @@ fn fed<R: Wait>(rt: &R, stream: &StreamQueue, feeder: &mut Feeder) -> (u32, Fed)
     (1200, Fed::Pushed)
 }
 
-// Takes the packet of this number.
-fn assert_takes<R: Wait + Abort>(rt: &R, stream: &StreamQueue, hand: &mut StreamHand, wanted: u16)
+// Takes the packet of this number with an empty hand.
+fn takes<R: Wait>(rt: &R, stream: &StreamQueue, hand: &mut StreamHand, wanted: u16) -> bool
     requires { IsHandOf stream.now hand.old }
     ensures { IsHandOf stream.now hand.new }
 {
-    assert_eq!(rt; stream.finish(hand), Err(BoardFault::EmptyHand));
+    if stream.finish(hand) != Err(BoardFault::EmptyHand) {
+        return false;
+    }
     match stream.next(rt, hand) {
         Work::Packet { number, bytes } => {
-            let first = wanted.to_le_bytes();
-            assert_eq!(rt;
-                (number, bytes.as_slice()),
-                (u32::from(wanted), first.as_slice())
-            )
+            number == u32::from(wanted) && bytes.as_slice() == wanted.to_le_bytes().as_slice()
         }
-        _ => panic!(rt; "no packet {wanted}"),
+        _ => false,
     }
+}
+
+// The hand is empty, and finds the stream stopped.
+fn finds_stopped<R: Wait>(rt: &R, stream: &StreamQueue, hand: &mut StreamHand) -> bool
+    requires { IsHandOf stream.now hand.old }
+    ensures { IsHandOf stream.now hand.new }
+{
+    stream.abandon(hand) == Err(BoardFault::EmptyHand)
+        && matches!(stream.next(rt, hand), Work::Stopped)
 }
 
 fn closed<R: Wait>(
@@ -83,28 +90,104 @@ fn closed<R: Wait>(
     stream.close(rt, feeder, hands).ok()
 }
 
-fn one_hand(alloc: Global, hand: StreamHand) -> Option<Vec<StreamHand>>
-    ensures { IfSome result (λ r. r.items ≡ hand ∷ []) }
+/// A call of a stream with one hand, with the answer that is wanted.
+#[derive(Clone, Copy)]
+enum Step {
+    /// Feeds until a try pushes nothing: how many pushes, and the answer to that try.
+    Fill(u32, Fed),
+    Feed(Fed),
+    Take(u16),
+    Finish(Result<u32, BoardFault>),
+    Abandon(Result<u32, BoardFault>),
+    Stop,
+    StopFeeding,
+    FindStopped,
+}
+
+/// Makes a step: whether the answer is the one that is wanted.
+fn is_made<R: Wait>(
+    rt: &R,
+    stream: &StreamQueue,
+    feeder: &mut Feeder,
+    hand: &mut StreamHand,
+    step: &Step,
+) -> bool
+    requires feeder { IsFeederOf stream.now feeder.old }
+    requires hand { IsHandOf stream.now hand.old }
+    ensures feeder { IsFeederOf stream.now feeder.new }
+    ensures hand { IsHandOf stream.now hand.new }
 {
-    let mut hands = Vec::new(alloc);
-    hands.push(hand).ok()?;
-    Some(hands)
+    match step {
+        Step::Fill(count, answer) => fed(rt, stream, feeder) == (*count, *answer),
+        Step::Feed(answer) => stream.feed(rt, feeder) == *answer,
+        Step::Take(number) => takes(rt, stream, hand, *number),
+        Step::Finish(number) => stream.finish(hand) == *number,
+        Step::Abandon(number) => stream.abandon(hand) == *number,
+        Step::Stop => {
+            stream.stop(hand);
+            true
+        }
+        Step::StopFeeding => {
+            stream.stop_feeding(feeder);
+            true
+        }
+        Step::FindStopped => finds_stopped(rt, stream, hand),
+    }
+}
+
+fn assert_steps<R: Wait + Abort>(
+    rt: &R,
+    stream: &StreamQueue,
+    feeder: &mut Feeder,
+    hand: &mut StreamHand,
+    steps: &[Step],
+)
+    requires feeder { IsFeederOf stream.now feeder.old }
+    requires hand { IsHandOf stream.now hand.old }
+    ensures feeder { IsFeederOf stream.now feeder.new }
+    ensures hand { IsHandOf stream.now hand.new }
+{
+    for (place, step) in steps.iter().enumerate() {
+        assert!(rt; is_made(rt, stream, feeder, hand, step), "step {place}");
+    }
+}
+
+/// A stream with one hand.
+fn stream_of_one<'p>(
+    alloc: Global,
+    packets: &'p [Packet],
+) -> Option<(StreamQueue<'p>, Feeder, StreamHand)>
+    ensures feeder { IfSome result (λ r. IsFeederOf r.0 r.1) }
+    ensures hand { IfSome result (λ r. IsHandOf r.0 r.2) }
+{
+    let (stream, feeder, mut hands) = StreamQueue::new(alloc, packets, 1).ok()?;
+    let hand = hands.pop()?;
+    Some((stream, feeder, hand))
+}
+
+/// The accounts of a stream of so many packets with one hand, after these steps.
+fn ledger_after<R: Wait + Abort>(
+    rt: &R,
+    alloc: Global,
+    count: u16,
+    steps: &[Step],
+) -> Option<StreamLedger> {
+    let packets = packets_of(alloc, count)?;
+    let (stream, mut feeder, mut hand) = stream_of_one(alloc, packets.as_slice())?;
+    assert_steps(rt, &stream, &mut feeder, &mut hand, steps);
+    let hands = vec![in alloc; hand].ok()?;
+    closed(rt, stream, feeder, hands)
 }
 
 #[test]
-fn room_for_thirty_two(rt: HostRuntime) -> Result<(), Fail> {
-    let packets = packets_of(rt.alloc(), 40).ok_or("no memory")?;
-    let (stream, mut feeder, mut hands) = StreamQueue::new(
-        rt.alloc(),
-        packets.as_slice(),
-        1,
-    ).map_err(|_| "no stream")?;
-    let mut hand = hands.pop().ok_or("no hand")?;
-    assert_eq!(rt; fed(&rt, &stream, &mut feeder), (32, Fed::Full));
-    assert_takes(&rt, &stream, &mut hand, 0);
-    assert_eq!(rt; stream.feed(&rt, &mut feeder), Fed::Pushed);
-    assert_eq!(rt; stream.feed(&rt, &mut feeder), Fed::Full);
-    assert_eq!(rt; stream.finish(&mut hand), Ok(0));
+fn room_for_thirty_two(rt: HostRuntime) {
+    let steps = [
+        Step::Fill(32, Fed::Full),
+        Step::Take(0),
+        Step::Feed(Fed::Pushed),
+        Step::Feed(Fed::Full),
+        Step::Finish(Ok(0)),
+    ];
     let wanted = StreamLedger {
         pushed: 33,
         ledger: Ledger {
@@ -115,27 +198,19 @@ fn room_for_thirty_two(rt: HostRuntime) -> Result<(), Fail> {
             stopped: false,
         },
     };
-    let hands = one_hand(rt.alloc(), hand).ok_or("no memory")?;
-    assert_eq!(rt; closed(&rt, stream, feeder, hands), Some(wanted));
-    Ok(())
+    assert_eq!(rt; ledger_after(&rt, rt.alloc(), 40, &steps), Some(wanted));
 }
 
 #[test]
-fn full_queue_that_is_stopped(rt: HostRuntime) -> Result<(), Fail> {
-    let packets = packets_of(rt.alloc(), 40).ok_or("no memory")?;
-    let (stream, mut feeder, mut hands) = StreamQueue::new(
-        rt.alloc(),
-        packets.as_slice(),
-        1,
-    ).map_err(|_| "no stream")?;
-    let mut hand = hands.pop().ok_or("no hand")?;
-    assert_eq!(rt; fed(&rt, &stream, &mut feeder), (32, Fed::Full));
-    assert_takes(&rt, &stream, &mut hand, 0);
-    assert_eq!(rt; stream.abandon(&mut hand), Ok(0));
-    stream.stop(&mut hand);
-    assert_eq!(rt; stream.feed(&rt, &mut feeder), Fed::Stopped);
-    assert_eq!(rt; stream.abandon(&mut hand), Err(BoardFault::EmptyHand));
-    assert!(rt; matches!(stream.next(&rt, &mut hand), Work::Stopped));
+fn full_queue_that_is_stopped(rt: HostRuntime) {
+    let steps = [
+        Step::Fill(32, Fed::Full),
+        Step::Take(0),
+        Step::Abandon(Ok(0)),
+        Step::Stop,
+        Step::Feed(Fed::Stopped),
+        Step::FindStopped,
+    ];
     let wanted = StreamLedger {
         pushed: 32,
         ledger: Ledger {
@@ -146,24 +221,17 @@ fn full_queue_that_is_stopped(rt: HostRuntime) -> Result<(), Fail> {
             stopped: true,
         },
     };
-    let hands = one_hand(rt.alloc(), hand).ok_or("no memory")?;
-    assert_eq!(rt; closed(&rt, stream, feeder, hands), Some(wanted));
-    Ok(())
+    assert_eq!(rt; ledger_after(&rt, rt.alloc(), 40, &steps), Some(wanted));
 }
 
 #[test]
-fn feeder_that_stops(rt: HostRuntime) -> Result<(), Fail> {
-    let packets = packets_of(rt.alloc(), 2).ok_or("no memory")?;
-    let (stream, mut feeder, mut hands) = StreamQueue::new(
-        rt.alloc(),
-        packets.as_slice(),
-        1,
-    ).map_err(|_| "no stream")?;
-    let mut hand = hands.pop().ok_or("no hand")?;
-    assert_eq!(rt; stream.feed(&rt, &mut feeder), Fed::Pushed);
-    assert_takes(&rt, &stream, &mut hand, 0);
-    stream.stop_feeding(&mut feeder);
-    assert_eq!(rt; stream.feed(&rt, &mut feeder), Fed::Stopped);
+fn feeder_that_stops(rt: HostRuntime) {
+    let steps = [
+        Step::Feed(Fed::Pushed),
+        Step::Take(0),
+        Step::StopFeeding,
+        Step::Feed(Fed::Stopped),
+    ];
     let wanted = StreamLedger {
         pushed: 1,
         ledger: Ledger {
@@ -174,17 +242,14 @@ fn feeder_that_stops(rt: HostRuntime) -> Result<(), Fail> {
             stopped: true,
         },
     };
-    let hands = one_hand(rt.alloc(), hand).ok_or("no memory")?;
-    assert_eq!(rt; closed(&rt, stream, feeder, hands), Some(wanted));
-    Ok(())
+    assert_eq!(rt; ledger_after(&rt, rt.alloc(), 2, &steps), Some(wanted));
 }
 
 #[test]
 fn close_without_a_hand(rt: HostRuntime) -> Result<(), Fail> {
     let packets = packets_of(rt.alloc(), 1).ok_or("no memory")?;
-    let (stream, feeder, mut hands) = StreamQueue::new(rt.alloc(), packets.as_slice(), 2).map_err(
-        |_| "no stream",
-    )?;
+    let stream = StreamQueue::new(rt.alloc(), packets.as_slice(), 2).ok();
+    let (stream, feeder, mut hands) = stream.ok_or("no stream")?;
     let kept = hands.pop().ok_or("no hand")?;
     match stream.close(&rt, feeder, hands) {
         Ok(_) => panic!(&rt; "closed without a hand"),

@@ -1,0 +1,4 @@
+//! Streams of packets.
+
+mod single;
+mod threads;
