@@ -1,8 +1,9 @@
-//! How many instructions a second the verifier's rules take in place: `State::go_on` over ldl, adc, stl.
+//! How many instructions a second the verifier's rules take in place: `State::go_on` over ldl, adc, stl. And how long
+//! `State::join` and `State::is_below` take for two states of 512 words, all known and alike.
 //!
-//! A thousand rounds are made, or ten million, and then the rate is printed.
+//! A thousand rounds are made, or millions, and then rates and times are printed.
 
-ghost use Rattle.std.specs.Prelude.{◌≡◌};
+ghost use Rattle.std.specs.Prelude.{◌≡◌, length};
 ghost use Rattle.tp_flow.specs.NestRanges.{ranges};
 ghost use Rattle.tp_state.specs.Conditions.{IsPlaced, HasGoodLoops};
 
@@ -20,7 +21,18 @@ const FEW_ROUNDS: u32 = 1_000;
 
 const TIMED_ROUNDS: u32 = 10_000_000;
 
+const TIMED_MEETINGS: u32 = 1_000_000;
+
+/// `INCREMENT` in version 2, with a workspace of 512 words.
+const WIDE: &[u8] = b"TPW2\x10\0\0\x02\x08\0\x01\0\x01\0\0\0\0\0\
+    \x10\x24\xF2\x54\x44\xF7\x70\x81\xD0\x10\x24\xF2\x44\xFB\x21\xF5";
+
 pub(crate) fn measure<R: Runtime<A = Global>>(rt: &R, is_timed: bool) -> Result<()> {
+    measure_rules(rt, is_timed)?;
+    measure_meetings(rt, is_timed)
+}
+
+fn measure_rules<R: Runtime<A = Global>>(rt: &R, is_timed: bool) -> Result<()> {
     let image = read_image(rt.alloc(), INCREMENT)?;
     let Ok(listing) = decode(rt.alloc(), &image.code) else {
         bail!("no listing");
@@ -37,6 +49,29 @@ pub(crate) fn measure<R: Runtime<A = Global>>(rt: &R, is_timed: bool) -> Result<
         let micros = u64::try_from(took.as_micros()).unwrap_or(u64::MAX).max(1);
         let millions = passed / micros;
         println!(rt; "{millions} million instructions a second")?;
+    }
+    Ok(())
+}
+
+fn measure_meetings<R: Runtime<A = Global>>(rt: &R, is_timed: bool) -> Result<()> {
+    let image = read_image(rt.alloc(), WIDE)?;
+    let mut state = State::entry(rt.alloc(), &image)?;
+    let first = state.copy_of(rt.alloc())?;
+    let second = state.copy_of(rt.alloc())?;
+    let rounds = if is_timed { TIMED_MEETINGS } else { FEW_ROUNDS };
+    let start = Instant::now(rt)?;
+    let unchanged = count_unchanged(&mut state, &first, rounds);
+    let joined = start.elapsed(rt)?;
+    let start = Instant::now(rt)?;
+    let below = count_below(&first, &second, &first, rounds);
+    let compared = start.elapsed(rt)?;
+    println!(rt; "512 words: {unchanged} joins changed nothing, {below} comparisons held")?;
+    if is_timed {
+        println!(rt;
+            "join {} ns, is_below {} ns",
+            joined.as_nanos() / u128::from(rounds),
+            compared.as_nanos() / u128::from(rounds)
+        )?;
     }
     Ok(())
 }
@@ -65,4 +100,28 @@ fn one_round(state: &mut State, image: &Image, nest: &Nest) -> u64
     let added = state.go_on(7, 8, Instr::Adc(1), Edge::Next, image, nest);
     let stored = state.go_on(8, 9, Instr::Stl(0), Edge::Next, image, nest);
     u64::from(loaded.is_ok()) + u64::from(added.is_ok()) + u64::from(stored.is_ok())
+}
+
+/// How many joins of so many change nothing.
+fn count_unchanged(state: &mut State, other: &State, rounds: u32) -> u64
+    requires { length other.now.cells ≡ length state.old.cells }
+{
+    let mut unchanged = 0u64;
+    for _round in 0..rounds {
+        unchanged = unchanged.saturating_add(u64::from(matches!(state.join(other), Ok(false))));
+    }
+    unchanged
+}
+
+/// How many times a state is below another, of so many: below one of two in turn, so that no round is like the one before.
+fn count_below(state: &State, first: &State, second: &State, rounds: u32) -> u64
+    requires first { length first.now.cells ≡ length state.now.cells }
+    requires second { length second.now.cells ≡ length state.now.cells }
+{
+    let mut below = 0u64;
+    for round in 0..rounds {
+        let other = if round % 2 == 0 { first } else { second };
+        below = below.saturating_add(u64::from(state.is_below(other)));
+    }
+    below
 }
