@@ -8,8 +8,8 @@ use Rattle.tp_image.specs.declared.image.LoopRow.{LoopRow}
 use Rattle.tp_decode.specs.declared.placed.Placed.{Placed}
 use Rattle.tp_decode.specs.Cutting.{Cut, code_of, placed_from}
 use Rattle.tp_accept.specs.declared.counting.Counted.{Counted}
-use Rattle.tp_accept.specs.Bound.{Cost, Costs, nothing, with_cost, whole_at, cost_of, costs_from, bound}
-use Rattle.tp_accept.specs.Capped.{capped, counted, uncounted, counted_at, table, AreCapped}
+use Rattle.tp_accept.specs.Bound.{Cost, Costs, nothing, with_cost, whole_at, cost_of, costs_from, costs_of, bound}
+use Rattle.tp_accept.specs.Capped.{capped, counted, uncounted, counted_at, table, AreCapped, AreCounted}
 use Rattle.tp_accept.proofs.CostTable.{with_cost-here, with_cost-other}
 use Rattle.tp_accept.proofs.CappedCosts.{counted_cost_of}
 
@@ -61,11 +61,17 @@ pub record HasCostsFrom (rows : List LoopRow) (code : List Cut) (items : List Co
   pub long : length items ≡ length (code_of code)
   pub each : (to : ℕ) → counted_at items to ≡ counted (costs_past rows code 0 code i to)
 
--- they are capped
-pub all_capped : (rows : List LoopRow) (code : List Cut) (items : List Counted) (i : ℕ) → HasCostsFrom rows code items i → AreCapped items
-all_capped rows code items i has k d lt =
-    let e : get_or items k d ≡ counted (costs_past rows code 0 code i k) = get_or_default items k d uncounted lt ∙ has.each k in
+-- what was counted is capped
+capped_of : (items : List Counted) (costs : Costs) → ((to : ℕ) → counted_at items to ≡ counted (costs to)) → AreCapped items
+capped_of items costs each k d lt =
+    let e : get_or items k d ≡ counted (costs k) = get_or_default items k d uncounted lt ∙ each k in
     record { left = omega (arith, ap (λ c. c.left) e); whole = omega (arith, ap (λ c. c.whole) e) }
+
+pub all_capped : (rows : List LoopRow) (code : List Cut) (items : List Counted) (i : ℕ) → HasCostsFrom rows code items i → AreCapped items
+all_capped rows code items i has = capped_of items (costs_past rows code 0 code i) has.each
+
+pub counted_capped : (rows : List LoopRow) (code : List Cut) (items : List Counted) → AreCounted rows code items → AreCapped items
+counted_capped rows code items counted = capped_of items (costs_of rows code) counted.each
 
 -- a table that is not filled
 nothing_at : (n to : ℕ) → get_or (replicate n uncounted) to uncounted ≡ uncounted
@@ -108,9 +114,15 @@ one_more rows code items i p cost some there is has =
         let other : to ≢ p.at = grind (arith, nat_tests) in
         get_or-set_other items p.at to cost uncounted other ∙ has.each to ∙ sym (ap counted (with_cost-other later p.at to cost_there other))
 
--- all are there: what was counted of the whole is the bound, capped
-pub found_all : (rows : List LoopRow) (code : List Cut) (read items : List Counted) (i bytes : ℕ) → bytes ≡ whole_at (table read) (Some 0) → read ≡ items → i ≤ 0 → HasCostsFrom rows code items i → bytes ≡ capped (bound rows code)
-unfolding bound costs_past
-found_all rows code read items i bytes is same none has =
+-- all are there
+pub all_counted : (rows : List LoopRow) (code : List Cut) (items : List Counted) (i : ℕ) → i ≤ 0 → HasCostsFrom rows code items i → AreCounted rows code items
+unfolding costs_past
+all_counted rows code items i none has =
     let last : HasCostsFrom rows code items 0 = subst (HasCostsFrom rows code items) (omega arith) has in
-    is ∙ ap (λ xs. whole_at (table xs) (Some 0)) same ∙ ap (λ c. c.whole) (last.each 0)
+    record { long = last.long; each = last.each }
+
+-- what was counted of the whole is the bound, capped
+pub counted_bound : (rows : List LoopRow) (code : List Cut) (read items : List Counted) (bytes : ℕ) → bytes ≡ whole_at (table read) (Some 0) → read ≡ items → AreCounted rows code items → bytes ≡ capped (bound rows code)
+unfolding bound
+counted_bound rows code read items bytes is same all =
+    is ∙ ap (λ xs. whole_at (table xs) (Some 0)) same ∙ ap (λ c. c.whole) (all.each 0)

@@ -1,8 +1,10 @@
 -- Costs as they are counted: no further than is needed to see that they are above the greatest budget.
-use Rattle.std.specs.Prelude.{ℕ, ◌+◌, ◌≤◌, min, List, get_or, All}
+use Rattle.std.specs.Prelude.{◌≡◌, ℕ, ◌+◌, ◌≤◌, min, List, length, get_or, All}
+use Rattle.tp_image.specs.declared.image.LoopRow.{LoopRow}
+use Rattle.tp_decode.specs.Cutting.{Cut, code_of}
 use Rattle.tp_accept.specs.declared.counting.Counted.{Counted}
 use Rattle.tp_accept.specs.Limits.{most_budget}
-use Rattle.tp_accept.specs.Bound.{Cost, Costs}
+use Rattle.tp_accept.specs.Bound.{Cost, Costs, costs_of}
 
 -- one more than the greatest budget
 abbrev pub cap : ℕ
@@ -30,3 +32,8 @@ pub record IsCapped (cost : Counted) : Type 0 where
 
 abbrev pub AreCapped : List Counted → Type 0
 AreCapped items = All IsCapped items
+
+-- what was counted for each byte of a code: the cost of the instruction that begins there, or nothing
+pub record AreCounted (rows : List LoopRow) (code : List Cut) (items : List Counted) : Type 0 where
+  pub long : length items ≡ length (code_of code)
+  pub each : (at : ℕ) → counted_at items at ≡ counted (costs_of rows code at)

@@ -12,13 +12,14 @@ use tp_image::{Image, LoopRow};
 /// One more than the greatest budget. Costs are counted no further.
 const CAP: u64 = MOST_BUDGET as u64 + 1;
 
-/// What can be executed from an address on, in instruction bytes, counted no further than the cap.
+/// What can be executed from an address on, in instruction bytes, at most; counted no further than one above
+/// [`MOST_BUDGET`].
 #[derive(Clone, Copy, Debug, PartialEq, Eq)]
-pub(crate) struct Counted {
-    /// To the end of the innermost loop around it.
-    pub(crate) left: u64,
-    /// The same, where a loop that begins there makes all its turns.
-    pub(crate) whole: u64,
+pub struct Counted {
+    /// To the end of the innermost loop around it, or of the run.
+    pub left: u64,
+    /// The same, where a loop that begins there makes all its turns before what lies behind it.
+    pub whole: u64,
 }
 
 impl Counted {

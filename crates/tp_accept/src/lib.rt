@@ -15,4 +15,6 @@ mod refusal;
 
 pub use acceptance::accept;
 pub use accepted::Accepted;
+pub use bound::costs;
+pub use counting::Counted;
 pub use refusal::{Refusal, RefusalCode};
