@@ -1,2 +1,3 @@
 mod Passing
 mod Taking
+mod Costing

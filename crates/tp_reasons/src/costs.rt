@@ -1,18 +1,14 @@
 //! Where the bytes of a run go: costs by address.
 
-use std::alloc::{AllocError, Global};
-use tp_accept::{Accepted, Refusal, accept};
-use tp_decode::{Instr, Listing, Placed, decode};
-use tp_image::{Image, LoopRow};
+ghost use Rattle.std.specs.Prelude.{◌≡◌, length, map, None, IfOk, IfSome};
+ghost use Rattle.tp_decode.specs.Cutting.{IsCutting};
+ghost use Rattle.tp_accept.specs.Capped.{counted_at, AreCounted};
+ghost use Rattle.tp_reasons.specs.CostsTold.{loop_cost, AreByAddress, AreCostsOf, AreCostsOfText, MayNotBeRun, BeginsWithBudget};
 
-/// The most instruction bytes that can be executed from an address on.
-#[derive(Clone, Copy, Debug, PartialEq, Eq)]
-pub struct Cost {
-    /// To the end of the innermost loop around it, or of the run.
-    pub left: u64,
-    /// The same, where a loop that begins there makes all its turns before what lies behind it.
-    pub whole: u64,
-}
+use std::alloc::{AllocError, Global};
+use tp_accept::{Accepted, Counted, Refusal, accept, costs};
+use tp_decode::{DecodeFault, Listing, decode};
+use tp_image::{Image, LoopRow};
 
 /// The most instruction bytes of a loop, once it is entered.
 #[derive(Clone, Copy, Debug, PartialEq, Eq)]
@@ -35,105 +31,88 @@ pub struct Costs {
     /// Of each loop, in the order of rows.
     pub loops: Vec<LoopCost>,
     /// By address: none where no instruction begins.
-    pub by_address: Vec<Option<Cost>>,
+    pub by_address: Vec<Option<Counted>>,
 }
 
-/// What can be executed from an address on, all turns of a loop that begins there.
-fn whole_at(costs: &[Option<Cost>], at: Option<usize>) -> u64 {
-    match at.and_then(|at| costs.get(at)) {
-        Some(Some(cost)) => cost.whole,
-        _ => 0,
+/// The instructions of an accepted image.
+fn listing_of(alloc: Global, accepted: &Accepted) -> Result<Listing, AllocError>
+    ensures { IfOk result (IsCutting accepted.now.image.code) }
+{
+    match decode(alloc, accepted.code()) {
+        Ok(listing) => Ok(listing),
+        Err(DecodeFault::Memory) => Err(AllocError),
+        Err(DecodeFault::Refused { .. }) => unreachable!(),
     }
 }
 
-/// What can be executed behind an instruction, up to the end of the innermost loop around it.
-fn following(costs: &[Option<Cost>], placed: Placed) -> u64 {
-    let Placed { instr, next, .. } = placed;
-    let on = whole_at(costs, Some(next));
-    match instr {
-        Instr::Stopp | Instr::Lend => 0,
-        Instr::Jump(operand) => whole_at(costs, next.checked_add_signed(operand as isize)),
-        Instr::Cj(operand) => on.max(whole_at(costs, next.checked_add_signed(operand as isize))),
-        _ => on,
-    }
-}
-
-/// The cost of an instruction, from the costs behind it.
-fn cost_of(image: &Image, listing: &Listing, costs: &[Option<Cost>], placed: Placed) -> Cost {
-    let bytes = placed.next.saturating_sub(placed.at) as u64;
-    let left = bytes.saturating_add(following(costs, placed));
-    let begun = image
-        .loops
-        .iter()
-        .copied()
-        .find(|row| row.head as usize == placed.at);
-    let whole = match begun {
-        None => left,
-        Some(row) => {
-            let behind = whole_at(costs, listing.next(row.lend as usize));
-            u64::from(row.count)
-                .saturating_mul(left)
-                .saturating_add(behind)
-        }
-    };
-    Cost { left, whole }
-}
-
-/// The cost of each address of a code, from the last instruction to the first.
+/// Of what was counted for each byte, the costs where an instruction begins.
 fn by_address(
     alloc: Global,
     image: &Image,
     listing: &Listing,
-) -> Result<Vec<Option<Cost>>, AllocError> {
-    let mut costs = Vec::new(alloc);
-    costs.resize(image.code.len(), None)?;
-    for i in (0..listing.len()).rev() {
-        if let Some(placed) = listing.get(i) {
-            let cost = cost_of(image, listing, &costs, placed);
-            if let Some(entry) = costs.get_mut(placed.at) {
-                *entry = Some(cost);
-            }
-        }
+    counted: &[Counted],
+) -> Result<Vec<Option<Counted>>, AllocError>
+    requires { AreCounted image.now.loops listing.now counted.now }
+    ensures { IfOk result (λ all. AreByAddress image.now.loops listing.now (length counted.now) all.items) }
+{
+    let mut all = Vec::with_capacity(alloc, counted.len())?;
+    for (at, cost) in counted.iter().enumerate() {
+        all.push(listing.at(at).map(|_| *cost))?;
     }
-    Ok(costs)
+    Ok(all)
+}
+
+/// The cost of a loop.
+fn of_loop(row: LoopRow, counted: &[Counted]) -> LoopCost
+    ensures { result ≡ record { head = row.head; lend = row.lend; turns = row.count; turn = (counted_at counted.now row.head).left } }
+{
+    LoopCost {
+        head: row.head,
+        lend: row.lend,
+        turns: row.count,
+        turn: counted.get(row.head as usize).map_or(0, |cost| cost.left),
+    }
 }
 
 /// The cost of each loop.
 fn by_loop(
     alloc: Global,
-    loops: &[LoopRow],
-    costs: &[Option<Cost>],
-) -> Result<Vec<LoopCost>, AllocError> {
-    let mut all = Vec::new(alloc);
-    for row in loops {
-        if let Some(Some(cost)) = costs.get(row.head as usize) {
-            all.push(LoopCost {
-                head: row.head,
-                lend: row.lend,
-                turns: row.count,
-                turn: cost.left,
-            })?;
-        }
+    image: &Image,
+    listing: &Listing,
+    counted: &[Counted],
+) -> Result<Vec<LoopCost>, AllocError>
+    requires { AreCounted image.now.loops listing.now counted.now }
+    ensures { IfOk result (λ all. all.items ≡ map (loop_cost image.now.loops listing.now) image.now.loops) }
+{
+    let mut all = Vec::with_capacity(alloc, image.loops.len())?;
+    for row in &image.loops {
+        all.push(of_loop(*row, counted))?;
     }
     Ok(all)
 }
 
 /// Where the bytes of an accepted image go.
-fn costs_of_accepted(alloc: Global, accepted: &Accepted) -> Result<Costs, AllocError> {
+fn costs_of_accepted(alloc: Global, accepted: &Accepted) -> Result<Costs, AllocError>
+    ensures costs { IfOk result (AreCostsOf accepted.now.image) }
+    ensures budget { IfOk result (λ costs. costs.budget ≡ accepted.now.budget) }
+{
     let image = accepted.image();
-    let by_address = match decode(alloc, &image.code) {
-        Ok(listing) => by_address(alloc, image, &listing)?,
-        Err(_) => return Err(AllocError),
-    };
+    let listing = listing_of(alloc, accepted)?;
+    let counted = costs(alloc, image, &listing)?;
     Ok(Costs {
         budget: accepted.budget(),
-        loops: by_loop(alloc, &image.loops, &by_address)?,
-        by_address,
+        loops: by_loop(alloc, image, &listing, &counted)?,
+        by_address: by_address(alloc, image, &listing, &counted)?,
     })
 }
 
-/// Judges the bytes of an image: where its bytes go, if it is accepted.
-pub fn costs_of(alloc: Global, text: &[u8]) -> Result<Option<Costs>, AllocError> {
+/// Judges the bytes of an image: where its bytes go, if it is accepted. Each cost is the most instruction bytes that can be
+/// executed, counted no further than one above the greatest budget.
+pub fn costs_of(alloc: Global, text: &[u8]) -> Result<Option<Costs>, AllocError>
+    ensures costs { IfOk result (λ found. IfSome found (AreCostsOfText text.now)) }
+    ensures starts { IfOk result (λ found. IfSome found BeginsWithBudget) }
+    ensures refused { IfOk result (λ found. found ≡ None → MayNotBeRun text.now) }
+{
     let copy = Vec::from_slice(alloc, text)?;
     match accept(alloc, copy) {
         Ok(accepted) => Ok(Some(costs_of_accepted(alloc, &accepted)?)),

@@ -21,10 +21,11 @@ mod ways;
 mod writers;
 mod written;
 
-pub use costs::{Cost, Costs, LoopCost, costs_of};
+pub use costs::{Costs, LoopCost, costs_of};
 pub use meaning::{Meaning, meaning_of};
 pub use passes::first_refusal;
 pub use refusal::{EdgeRefusal, FirstRefusal};
 pub use source::{Label, Named, SourceText, Statement};
 pub use telling::TellFault;
+pub use tp_accept::Counted;
 pub use verdict::tell;
