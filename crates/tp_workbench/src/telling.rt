@@ -9,7 +9,7 @@ use std::io::{Read, Write};
 use tp_assembly::{Program, disassemble};
 use tp_assembly_text::{LineRemark, LoopRemark, Remarks, source_text};
 use tp_image::read_image;
-use tp_reasons::{Cost, Costs, LoopCost, costs_of};
+use tp_reasons::{Costs, Counted, LoopCost, costs_of};
 
 /// What is remarked of each loop.
 fn loop_remarks(alloc: Global, loops: &[LoopCost]) -> Result<Vec<LoopRemark>, Ending> {
@@ -34,7 +34,7 @@ fn loop_remarks(alloc: Global, loops: &[LoopCost]) -> Result<Vec<LoopRemark>, En
 fn line_remarks(
     alloc: Global,
     places: &[u32],
-    by_address: &[Option<Cost>],
+    by_address: &[Option<Counted>],
 ) -> Result<Vec<Option<LineRemark>>, Ending> {
     let mut remarks = Vec::new(alloc);
     for address in places {

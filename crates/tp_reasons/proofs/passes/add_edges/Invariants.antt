@@ -1,4 +1,4 @@
-use Rattle.std.proofs.Common.{◌≡◌, ◌++◌, ◌≤◌, length, take}
+use Rattle.std.proofs.Common.{◌≡◌, ◌++◌, take}
 use Rattle.tp_check.specs.Passes.{from}
 use Rattle.tp_check.specs.Tables.{asked}
 use Rattle.tp_reasons.proofs.passes.add_edges.Given as goal

@@ -1,8 +1,8 @@
-use Rattle.std.proofs.Common.{◌≡◌, ◌++◌, length, take, slice_get, refl, sym, ap, ◌∙◌, subst, arith, rules}
+use Rattle.std.proofs.Common.{◌++◌, sym, ap, ◌∙◌, arith}
 use Rattle.std.specs.List.{flat_map}
 use Rattle.std.proofs.lemmas.List.{take_all}
 use Rattle.tp_decode.specs.Cutting.{placed_from}
-use Rattle.tp_check.specs.Passes.{edges_of, edges_in}
+use Rattle.tp_check.specs.Passes.{edges_of}
 use Rattle.tp_check.proofs.Passing.{no_instruction}
 use Rattle.tp_reasons.proofs.Passing.{flat_on, count_placed}
 use Rattle.tp_reasons.proofs.passes.edges_of_code.Goals as goal

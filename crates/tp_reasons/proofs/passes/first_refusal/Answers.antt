@@ -1,4 +1,4 @@
-use Rattle.std.proofs.Common.{◌≡◌, ◌<◌, ◌∙◌, Ok, length, sym, ap, subst, arith, rules}
+use Rattle.std.proofs.Common.{◌∙◌, Ok, length, sym, ap, arith}
 use Rattle.tp_check.specs.Tables.{table_of}
 use Rattle.tp_reasons.proofs.Passing.{taken_there, first_placed, settled, so_many}
 use Rattle.tp_reasons.proofs.passes.first_refusal.Goals as goal

@@ -1,4 +1,4 @@
-use Rattle.std.proofs.Common.{◌≡◌, ◌<◌, Bool, true, false, Ok, length, slice_index_or, refl, sym, ap, ◌∙◌, subst, arith, rules}
+use Rattle.std.proofs.Common.{◌≡◌, ◌<◌, true, false, length, sym, ◌∙◌, arith}
 use Rattle.tp_check.specs.Tables.{table_of}
 use Rattle.tp_reasons.proofs.Passing.{one_on, refused_in, read_any, is_refused, stays_on}
 use Rattle.tp_reasons.proofs.passes.pass.Goals as goal
