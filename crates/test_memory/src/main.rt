@@ -11,6 +11,7 @@ mod answer;
 mod batch;
 mod calls;
 mod page;
+mod tools;
 
 use std::alloc::Global;
 use std::io;
