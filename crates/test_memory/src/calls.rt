@@ -3,7 +3,6 @@
 use crate::answer::{Answer, Tally, same_if};
 use crate::batch::batch;
 use crate::page::Page;
-use crate::tools::tools;
 use arrayvec::ArrayVec;
 use std::alloc::{AllocError, Global};
 use std::sync::Wait;
@@ -35,7 +34,6 @@ pub fn all<R: Threads + Wait + Sync>(rt: &R, alloc: Global) -> Tally {
     core(alloc, &mut tally);
     tally.add(board(alloc));
     tally.add(batch(rt, alloc));
-    tools(alloc, &mut tally);
     tally
 }
 

@@ -11,7 +11,6 @@ mod answer;
 mod batch;
 mod calls;
 mod page;
-mod tools;
 
 use std::alloc::Global;
 use std::io;
