@@ -2,4 +2,5 @@ pub mod Names
 pub mod Faults
 pub mod Numbers
 pub mod Words
+pub mod Drafts
 pub use Rattle.tp_decode.specs.Table
