@@ -3,4 +3,5 @@ pub mod Faults
 pub mod Numbers
 pub mod Words
 pub mod Drafts
+pub mod Statements
 pub use Rattle.tp_decode.specs.Table

@@ -1,6 +1,7 @@
 //! The statements of a text, one a line.
 
-ghost use Rattle.std.specs.Prelude.{◌≤◌, IfOk};
+ghost use Rattle.std.specs.Prelude.{◌≡◌, ◌≤◌, IfOk};
+ghost use Rattle.tp_assembly_text.specs.Statements.{word_said, end_said, one_number_said};
 
 use crate::draft::{Begun, Control, Draft, DraftLine, MOST, MOST_WORDS, Row, Target};
 use crate::fault::{SourceFault, TextFault};
@@ -12,7 +13,10 @@ use tp_decode::Instr;
 use tp_image::Version;
 
 /// The word of a number, which has to be there.
-fn word_at<'a>(words: &[Word<'a>], i: usize, behind: &Word<'a>) -> Result<Word<'a>, SourceFault> {
+#[tactic(auto, unfolding(crate::specs::Statements::word_said))]
+fn word_at<'a>(words: &[Word<'a>], i: usize, behind: &Word<'a>) -> Result<Word<'a>, SourceFault>
+    ensures { result ≡ word_said words.now i behind.now }
+{
     match words.get(i) {
         Some(word) => Ok(*word),
         None => Err(behind.fault(TextFault::Missing)),
@@ -30,7 +34,10 @@ fn expect(words: &[Word<'_>], i: usize, behind: &Word<'_>, name: &str) -> Result
 }
 
 /// Nothing stands at this word, or behind it.
-fn expect_end(words: &[Word<'_>], i: usize) -> Result<(), SourceFault> {
+#[tactic(auto, unfolding(crate::specs::Statements::end_said))]
+fn expect_end(words: &[Word<'_>], i: usize) -> Result<(), SourceFault>
+    ensures { result ≡ end_said words.now i }
+{
     match words.get(i) {
         Some(word) => Err(word.fault(TextFault::Extra)),
         None => Ok(()),
@@ -38,8 +45,10 @@ fn expect_end(words: &[Word<'_>], i: usize) -> Result<(), SourceFault> {
 }
 
 /// The one number of a statement.
+#[tactic(auto, unfolding(crate::specs::Statements::one_number_said))]
 fn one_number(words: &[Word<'_>], first: &Word<'_>, most: u32) -> Result<u32, SourceFault>
-    ensures { IfOk result (λ n. n ≤ most) }
+    ensures said { result ≡ one_number_said words.now first.now most }
+    ensures most { IfOk result (λ n. n ≤ most) }
 {
     let word = word_at(words, 1, first)?;
     expect_end(words, 2)?;
