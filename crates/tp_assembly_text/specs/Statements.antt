@@ -7,7 +7,9 @@ use Rattle.tp_assembly_text.specs.declared.words.Word.{Word}
 use Rattle.tp_assembly_text.specs.declared.fault.SourceFault.{SourceFault}
 use Rattle.tp_assembly_text.specs.declared.fault.TextFault.TheVariants.{Missing, Extra, Unexpected, NoNumber, OutOfRange}
 use Rattle.tp_assembly_text.specs.Faults.{fault_at, then_read}
-use Rattle.tp_assembly_text.specs.Numbers.{signed_said}
+use Rattle.tp_assembly_text.specs.declared.draft.Target.{Target}
+use Rattle.tp_assembly_text.specs.declared.draft.Target.TheVariants.{Label, Address}
+use Rattle.tp_assembly_text.specs.Numbers.{signed_said, begins_number}
 
 -- the word of a number, behind another
 unfoldable pub word_said : List Word → ℕ → Word → Result Word SourceFault
@@ -39,3 +41,13 @@ end_said words i = nothing_at (slice_get words i)
 -- the one number of a statement
 unfoldable pub one_number_said : List Word → Word → ℕ → Result ℕ SourceFault
 one_number_said words first most = then_read (word_said words 1 first) (λ word. then_read (end_said words 2) (λ _. count_read most word))
+
+-- a word of a number, which has to be this one
+unfoldable pub expect_said : List Word → ℕ → Word → List ℕ → Result (Unit {0}) SourceFault
+expect_said words i behind name = then_read (word_said words i behind) (λ word. this_word word name)
+
+-- a label, or an address of at most 65535
+unfoldable pub target_said : Word → Result Target SourceFault
+target_said word =
+    if begins_number word.text.now then then_read (count_read 65535 word) (λ n. Ok (Address n))
+    else Ok (Label word)

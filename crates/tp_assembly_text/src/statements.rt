@@ -1,7 +1,7 @@
 //! The statements of a text, one a line.
 
 ghost use Rattle.std.specs.Prelude.{◌≡◌, ◌≤◌, IfOk};
-ghost use Rattle.tp_assembly_text.specs.Statements.{word_said, end_said, one_number_said};
+ghost use Rattle.tp_assembly_text.specs.Statements.{word_said, expect_said, end_said, one_number_said, target_said};
 
 use crate::draft::{Begun, Control, Draft, DraftLine, MOST, MOST_WORDS, Row, Target};
 use crate::fault::{SourceFault, TextFault};
@@ -24,7 +24,10 @@ fn word_at<'a>(words: &[Word<'a>], i: usize, behind: &Word<'a>) -> Result<Word<'
 }
 
 /// A word of a number, which has to be this one.
-fn expect(words: &[Word<'_>], i: usize, behind: &Word<'_>, name: &str) -> Result<(), SourceFault> {
+#[tactic(auto, unfolding(crate::specs::Statements::expect_said))]
+fn expect(words: &[Word<'_>], i: usize, behind: &Word<'_>, name: &str) -> Result<(), SourceFault>
+    ensures { result ≡ expect_said words.now i behind.now name.now }
+{
     let word = word_at(words, i, behind)?;
     if word.is(name) {
         Ok(())
@@ -241,7 +244,10 @@ fn end_loop(
 }
 
 /// A label or an address.
-fn target_of<'a>(word: &Word<'a>) -> Result<Target<'a>, SourceFault> {
+#[tactic(auto, unfolding(crate::specs::Statements::target_said))]
+fn target_of<'a>(word: &Word<'a>) -> Result<Target<'a>, SourceFault>
+    ensures { result ≡ target_said word.now }
+{
     if is_number(word) {
         Ok(Target::Address(count_of(word, 0xFFFF)? as u16))
     } else {
