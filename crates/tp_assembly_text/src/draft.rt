@@ -1,5 +1,9 @@
 //! What is read of a text, with labels as they stand in it.
 
+ghost use Rattle.std.specs.Prelude.{◌≡◌, ◌≤◌, OnOk, IfOk, IfErr, Ok, []};
+ghost use Rattle.tp_assembly_text.specs.Faults.{IsRefusal};
+ghost use Rattle.tp_assembly_text.specs.Drafts.{said, empty, place_named, local_named, local_said, pushed, instr_pushed, locals_named, label_set};
+
 use crate::fault::{SourceFault, TextFault};
 use crate::words::Word;
 use std::alloc::Global;
@@ -11,13 +15,20 @@ use tp_image::Version;
 pub const MOST: usize = 16_384;
 
 /// The most words of a workspace that are read.
-pub const MOST_WORDS: u32 = 4096;
+pub const MOST_WORDS: u16 = 4096;
 
-/// A name and what it stands for: a local word, or a place.
+/// A label, and the place where it stands.
 #[derive(Clone, Copy)]
-pub struct Name<'a> {
+pub struct LabelName<'a> {
     pub word: Word<'a>,
-    pub value: usize,
+    pub place: usize,
+}
+
+/// A name of local words, and the first of them.
+#[derive(Clone, Copy)]
+pub struct LocalName<'a> {
+    pub word: Word<'a>,
+    pub first: u16,
 }
 
 /// A line, maybe with labels.
@@ -42,9 +53,9 @@ pub enum Target<'a> {
 #[derive(Clone, Copy)]
 pub enum Control {
     /// A workspace word.
-    Word(u32),
+    Word(u16),
     /// A local word.
-    Local(u32),
+    Local(u16),
 }
 
 #[derive(Clone, Copy)]
@@ -58,9 +69,9 @@ pub struct Row<'a> {
 
 /// A loop that has begun.
 #[derive(Clone, Copy)]
-pub struct Open<'a> {
+pub struct Begun<'a> {
     pub name: Word<'a>,
-    pub local: u32,
+    pub local: u16,
     pub head: usize,
     pub count: u16,
     pub start: i32,
@@ -70,35 +81,48 @@ pub struct Open<'a> {
 #[derive(Drop)]
 pub struct Draft<'a> {
     pub version: Version,
-    pub workspace: Option<u32>,
-    pub start: u32,
-    pub packet: u32,
-    pub results: u32,
+    pub workspace: Option<u16>,
+    pub start: u16,
+    pub packet: u16,
+    pub results: u16,
     pub initial: Vec<u32>,
     pub lines: Vec<DraftLine<'a>>,
     /// The line of the text that each line comes from.
     pub numbers: Vec<usize>,
-    pub labels: Vec<Name<'a>>,
-    pub locals: Vec<Name<'a>>,
+    pub labels: Vec<LabelName<'a>>,
+    pub locals: Vec<LocalName<'a>>,
     /// How many local words have names.
-    pub words: u32,
+    pub words: u16,
     pub rows: Vec<Row<'a>>,
-    pub open: Vec<Open<'a>>,
+    pub begun: Vec<Begun<'a>>,
 }
 
-/// What a name of a list stands for. The last of the name counts.
-pub fn value_of(names: &[Name<'_>], word: &Word<'_>) -> Option<usize> {
-    let mut found = None;
-    for name in names {
-        if name.word.text == word.text {
-            found = Some(name.value);
-        }
-    }
-    found
+/// The place that a label names.
+#[tactic(auto, unfolding(crate::specs::Drafts::place_named))]
+pub fn place_named(labels: &[LabelName<'_>], word: &Word<'_>) -> Option<usize>
+    ensures { result ≡ place_named labels.now word.now }
+{
+    labels
+        .iter()
+        .find(|label| label.word.text == word.text)
+        .map(|label| label.place)
+}
+
+/// The first word that a local's name stands for.
+#[tactic(auto, unfolding(crate::specs::Drafts::local_named))]
+fn local_named(locals: &[LocalName<'_>], word: &Word<'_>) -> Option<u16>
+    ensures { result ≡ local_named locals.now word.now }
+{
+    locals
+        .iter()
+        .find(|local| local.word.text == word.text)
+        .map(|local| local.first)
 }
 
 impl<'a> Draft<'a> {
-    pub fn new(alloc: Global) -> Self {
+    pub fn new(alloc: Global) -> Self
+        ensures { said result ≡ empty }
+    {
         Draft {
             version: Version::One,
             workspace: None,
@@ -112,12 +136,16 @@ impl<'a> Draft<'a> {
             locals: Vec::new(alloc),
             words: 0,
             rows: Vec::new(alloc),
-            open: Vec::new(alloc),
+            begun: Vec::new(alloc),
         }
     }
 
     /// Adds a line that a word of the text asks for.
-    pub fn push(&mut self, word: &Word<'_>, line: DraftLine<'a>) -> Result<(), SourceFault> {
+    #[tactic(auto, unfolding(crate::specs::Drafts::pushed))]
+    pub fn push(&mut self, word: &Word<'_>, line: DraftLine<'a>) -> Result<(), SourceFault>
+        ensures said { OnOk result (pushed word.now line.entry (said self.old) ≡ Ok (said self.new)) }
+        ensures refused { IfErr result (IsRefusal (pushed word.now line.entry (said self.old))) }
+    {
         if self.lines.len() >= MOST {
             return Err(word.fault(TextFault::TooMany));
         }
@@ -127,7 +155,10 @@ impl<'a> Draft<'a> {
     }
 
     /// Adds an instruction that a word of the text asks for.
-    pub fn push_instr(&mut self, word: &Word<'_>, instr: Instr) -> Result<(), SourceFault> {
+    pub fn push_instr(&mut self, word: &Word<'_>, instr: Instr) -> Result<(), SourceFault>
+        ensures said { OnOk result (instr_pushed word.now instr (said self.old) ≡ Ok (said self.new)) }
+        ensures refused { IfErr result (IsRefusal (instr_pushed word.now instr (said self.old))) }
+    {
         let operation = Operation::Plain(instr);
         let line = Line::Spelled {
             operation,
@@ -136,44 +167,50 @@ impl<'a> Draft<'a> {
         self.push(word, DraftLine::Known(line))
     }
 
-    /// Names local words, so many.
-    pub fn name_locals(&mut self, word: &Word<'a>, size: u32) -> Result<u32, SourceFault> {
-        if value_of(&self.locals, word).is_some() {
+    /// Names local words, so many. The first of them.
+    #[tactic(auto, unfolding(crate::specs::Drafts::locals_named))]
+    pub fn name_locals(&mut self, word: &Word<'a>, size: u16) -> Result<u16, SourceFault>
+        ensures first { IfOk result (λ first. first ≡ self.old.words) }
+        ensures said { OnOk result (locals_named word.now size (said self.old) ≡ Ok (said self.new)) }
+        ensures refused { IfErr result (IsRefusal (locals_named word.now size (said self.old))) }
+    {
+        if local_named(&self.locals, word).is_some() {
             return Err(word.fault(TextFault::Twice));
         }
         let first = self.words;
-        let after = first.saturating_add(size);
-        if after > MOST_WORDS || self.locals.len() >= MOST {
+        let after = u32::from(first) + u32::from(size);
+        if after > u32::from(MOST_WORDS) {
             return Err(word.fault(TextFault::TooMany));
         }
-        self.locals.push(Name {
-            word: *word,
-            value: first as usize,
-        })?;
-        self.words = after;
+        if self.locals.len() >= MOST {
+            return Err(word.fault(TextFault::TooMany));
+        }
+        self.locals.push(LocalName { word: *word, first })?;
+        self.words = after as u16;
         Ok(first)
     }
 
     /// Sets a label here.
-    pub fn set_label(&mut self, word: &Word<'a>) -> Result<(), SourceFault> {
-        if value_of(&self.labels, word).is_some() {
+    #[tactic(auto, unfolding(crate::specs::Drafts::label_set))]
+    pub fn set_label(&mut self, word: &Word<'a>) -> Result<(), SourceFault>
+        ensures said { OnOk result (label_set word.now (said self.old) ≡ Ok (said self.new)) }
+        ensures refused { IfErr result (IsRefusal (label_set word.now (said self.old))) }
+    {
+        if place_named(&self.labels, word).is_some() {
             return Err(word.fault(TextFault::Twice));
         }
         if self.labels.len() >= MOST {
             return Err(word.fault(TextFault::TooMany));
         }
-        let value = self.lines.len();
-        self.labels.push(Name { word: *word, value })?;
+        let place = self.lines.len();
+        self.labels.push(LabelName { word: *word, place })?;
         Ok(())
     }
 
-    /// The local word of a name, as an operand.
-    pub fn local(&self, word: &Word<'_>) -> Result<i32, SourceFault> {
-        match value_of(&self.locals, word) {
-            Some(value) => i32::try_from(value)
-                .ok()
-                .ok_or(word.fault(TextFault::OutOfRange)),
-            None => Err(word.fault(TextFault::NoLocal)),
-        }
+    /// The local word of a name.
+    pub fn local(&self, word: &Word<'_>) -> Result<u16, SourceFault>
+        ensures { result ≡ local_said self.now.locals.items word.now }
+    {
+        local_named(&self.locals, word).ok_or(word.fault(TextFault::NoLocal))
     }
 }

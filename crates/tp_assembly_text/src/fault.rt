@@ -1,5 +1,8 @@
 //! What is wrong with a text.
 
+ghost use Rattle.std.specs.Prelude.{◌≡◌};
+ghost use Rattle.tp_assembly_text.specs.Faults.{out_of_memory};
+
 use std::alloc::{AllocError, AllocFailed};
 use thiserror::Error;
 
@@ -48,6 +51,8 @@ pub struct SourceFault {
 }
 
 impl From<AllocError> for SourceFault {
+    ghost from_gives = { λ _ e. e ≡ out_of_memory };
+
     fn from(_: AllocError) -> Self {
         SourceFault {
             line: 0,
@@ -58,6 +63,8 @@ impl From<AllocError> for SourceFault {
 }
 
 impl<T: Drop> From<AllocFailed<T>> for SourceFault {
+    ghost from_gives = { λ _ e. e ≡ out_of_memory };
+
     fn from(_: AllocFailed<T>) -> Self {
         SourceFault {
             line: 0,

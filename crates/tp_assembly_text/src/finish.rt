@@ -1,6 +1,6 @@
 //! A draft as a program: each label by its place.
 
-use crate::draft::{Control, Draft, DraftLine, Name, Row, Target, value_of};
+use crate::draft::{Control, Draft, DraftLine, LabelName, LocalName, Row, Target, place_named};
 use crate::fault::{SourceFault, TextFault};
 use crate::words::Word;
 use std::alloc::{AllocError, Global};
@@ -31,12 +31,12 @@ pub struct Source<'a> {
 }
 
 /// The place of a label.
-fn place_of(labels: &[Name<'_>], word: &Word<'_>) -> Result<usize, SourceFault> {
-    value_of(labels, word).ok_or(word.fault(TextFault::NoLabel))
+fn place_of(labels: &[LabelName<'_>], word: &Word<'_>) -> Result<usize, SourceFault> {
+    place_named(labels, word).ok_or(word.fault(TextFault::NoLabel))
 }
 
 /// A line with each label by its place.
-fn line_of(labels: &[Name<'_>], line: &DraftLine<'_>) -> Result<Line, SourceFault> {
+fn line_of(labels: &[LabelName<'_>], line: &DraftLine<'_>) -> Result<Line, SourceFault> {
     let (operation, bytes) = match line {
         DraftLine::Known(line) => return Ok(*line),
         DraftLine::Jump(label, bytes) => (Operation::JumpTo(place_of(labels, label)?), *bytes),
@@ -52,7 +52,7 @@ fn line_of(labels: &[Name<'_>], line: &DraftLine<'_>) -> Result<Line, SourceFaul
     Ok(Line::Spelled { operation, bytes })
 }
 
-fn spot_of(labels: &[Name<'_>], target: &Target<'_>) -> Result<Spot, SourceFault> {
+fn spot_of(labels: &[LabelName<'_>], target: &Target<'_>) -> Result<Spot, SourceFault> {
     Ok(match target {
         Target::Place(place) => Spot::Place(*place),
         Target::Label(label) => Spot::Place(place_of(labels, label)?),
@@ -61,7 +61,7 @@ fn spot_of(labels: &[Name<'_>], target: &Target<'_>) -> Result<Spot, SourceFault
 }
 
 /// A row with each label by its place, in a worker that begins at a workspace word.
-fn loop_of(labels: &[Name<'_>], start: u32, row: &Row<'_>) -> Result<Loop, SourceFault> {
+fn loop_of(labels: &[LabelName<'_>], start: u16, row: &Row<'_>) -> Result<Loop, SourceFault> {
     let control = match row.control {
         Control::Word(word) => word,
         Control::Local(local) => start.saturating_add(local),
@@ -69,20 +69,20 @@ fn loop_of(labels: &[Name<'_>], start: u32, row: &Row<'_>) -> Result<Loop, Sourc
     Ok(Loop {
         head: spot_of(labels, &row.head)?,
         lend: spot_of(labels, &row.lend)?,
-        control: u16::try_from(control).unwrap_or(u16::MAX),
+        control,
         count: row.count,
         start: row.start,
     })
 }
 
 /// The labels of a text.
-fn labels_of<'a>(alloc: Global, names: &[Name<'a>]) -> Result<Vec<Label<'a>>, AllocError> {
+fn labels_of<'a>(alloc: Global, names: &[LabelName<'a>]) -> Result<Vec<Label<'a>>, AllocError> {
     let mut labels = Vec::new(alloc);
     for name in names {
         if let Ok(text) = str::from_utf8(name.word.text) {
             labels.push(Label {
                 name: text,
-                place: name.value,
+                place: name.place,
             })?;
         }
     }
@@ -92,19 +92,19 @@ fn labels_of<'a>(alloc: Global, names: &[Name<'a>]) -> Result<Vec<Label<'a>>, Al
 /// The names of local words, so many of which have names. Each name has the words up to the next name's first.
 fn locals_of<'a>(
     alloc: Global,
-    names: &[Name<'a>],
-    words: usize,
+    names: &[LocalName<'a>],
+    words: u16,
 ) -> Result<Vec<Local<'a>>, AllocError> {
     let mut locals = Vec::new(alloc);
     for (i, name) in names.iter().enumerate() {
         let end = names
             .get(i.saturating_add(1))
-            .map_or(words, |next| next.value);
+            .map_or(words, |next| next.first);
         if let Ok(text) = str::from_utf8(name.word.text) {
             locals.push(Local {
                 name: text,
-                first: name.value,
-                words: end.saturating_sub(name.value),
+                first: usize::from(name.first),
+                words: usize::from(end.saturating_sub(name.first)),
             })?;
         }
     }
@@ -113,8 +113,8 @@ fn locals_of<'a>(
 
 /// The program of a draft. The workspace is as large as the locals need, where nothing else is said.
 pub fn finish<'a>(alloc: Global, draft: Draft<'a>) -> Result<Source<'a>, SourceFault> {
-    if let Some(open) = draft.open.last() {
-        return Err(open.name.fault(TextFault::NoEnd));
+    if let Some(begun) = draft.begun.last() {
+        return Err(begun.name.fault(TextFault::NoEnd));
     }
     let mut lines = Vec::new(alloc);
     for line in &draft.lines {
@@ -124,20 +124,21 @@ pub fn finish<'a>(alloc: Global, draft: Draft<'a>) -> Result<Source<'a>, SourceF
     for row in &draft.rows {
         loops.push(loop_of(&draft.labels, draft.start, row)?)?;
     }
-    let needed = draft.start.saturating_add(draft.words).max(8);
+    let start = u32::from(draft.start);
+    let needed = (start + u32::from(draft.words)).max(8);
     Ok(Source {
         program: Program {
             version: draft.version,
-            workspace: draft.workspace.unwrap_or(needed),
-            start: draft.start,
-            packet: draft.packet,
-            result: draft.results,
+            workspace: draft.workspace.map_or(needed, u32::from),
+            start,
+            packet: u32::from(draft.packet),
+            result: u32::from(draft.results),
             loops,
             initial: Vec::from_slice(alloc, &draft.initial)?,
             lines,
         },
         numbers: Vec::from_slice(alloc, &draft.numbers)?,
         labels: labels_of(alloc, &draft.labels)?,
-        locals: locals_of(alloc, &draft.locals, draft.words as usize)?,
+        locals: locals_of(alloc, &draft.locals, draft.words)?,
     })
 }

@@ -5,6 +5,7 @@ ghost use Rattle.std.specs.Result.{result_ok};
 ghost use Rattle.tp_assembly_text.specs.declared.fault.TextFault.TheVariants as fault;
 ghost use Rattle.tp_assembly_text.specs.Numbers.{digits_said, natural_said, signed_said, count_said, begins_number};
 ghost use Rattle.tp_assembly_text.specs.Faults.{fault_at};
+ghost use Rattle.tp_assembly_text.specs.Statements.{number_read, count_read};
 
 use crate::fault::{SourceFault, TextFault};
 use crate::words::Word;
@@ -52,19 +53,22 @@ fn signed_of(word: &[u8]) -> Option<i32>
 }
 
 /// The number that a word writes.
+#[tactic(auto, unfolding(crate::specs::Statements::number_read))]
 pub fn number_of(word: &Word<'_>) -> Result<i32, SourceFault>
     ensures value { result_ok result ≡ signed_said word.now.text.now }
     ensures fault { IfErr result (λ e. e ≡ fault_at word.now fault.NoNumber) }
+    ensures read { result ≡ number_read word.now }
 {
     signed_of(word.text).ok_or(word.fault(TextFault::NoNumber))
 }
 
 /// The number that a word writes, if it is not above a limit.
-#[tactic(auto, unfolding(crate::specs::Numbers::count_said))]
+#[tactic(auto, unfolding(crate::specs::Numbers::count_said, crate::specs::Statements::count_read))]
 pub fn count_of(word: &Word<'_>, most: u32) -> Result<u32, SourceFault>
     ensures value { result_ok result ≡ count_said most word.now.text.now }
     ensures most { IfOk result (λ n. n ≤ most) }
     ensures fault { IfErr result (λ e. e ≡ fault_at word.now fault.NoNumber ⊎ e ≡ fault_at word.now fault.OutOfRange) }
+    ensures read { result ≡ count_read most word.now }
 {
     let n = number_of(word)?.cast_unsigned();
     if n > most {

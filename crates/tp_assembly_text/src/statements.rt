@@ -1,6 +1,9 @@
 //! The statements of a text, one a line.
 
-use crate::draft::{Control, Draft, DraftLine, MOST, Open, Row, Target};
+ghost use Rattle.std.specs.Prelude.{◌≡◌, ◌≤◌, IfOk};
+ghost use Rattle.tp_assembly_text.specs.Statements.{word_said, expect_said, end_said, one_number_said, target_said};
+
+use crate::draft::{Begun, Control, Draft, DraftLine, MOST, MOST_WORDS, Row, Target};
 use crate::fault::{SourceFault, TextFault};
 use crate::mnemonics::{function_of, is_left_out, operation_of};
 use crate::number::{count_of, is_number, number_of};
@@ -10,7 +13,10 @@ use tp_decode::Instr;
 use tp_image::Version;
 
 /// The word of a number, which has to be there.
-fn word_at<'a>(words: &[Word<'a>], i: usize, behind: &Word<'a>) -> Result<Word<'a>, SourceFault> {
+#[tactic(auto, unfolding(crate::specs::Statements::word_said))]
+fn word_at<'a>(words: &[Word<'a>], i: usize, behind: &Word<'a>) -> Result<Word<'a>, SourceFault>
+    ensures { result ≡ word_said words.now i behind.now }
+{
     match words.get(i) {
         Some(word) => Ok(*word),
         None => Err(behind.fault(TextFault::Missing)),
@@ -18,7 +24,10 @@ fn word_at<'a>(words: &[Word<'a>], i: usize, behind: &Word<'a>) -> Result<Word<'
 }
 
 /// A word of a number, which has to be this one.
-fn expect(words: &[Word<'_>], i: usize, behind: &Word<'_>, name: &str) -> Result<(), SourceFault> {
+#[tactic(auto, unfolding(crate::specs::Statements::expect_said))]
+fn expect(words: &[Word<'_>], i: usize, behind: &Word<'_>, name: &str) -> Result<(), SourceFault>
+    ensures { result ≡ expect_said words.now i behind.now name.now }
+{
     let word = word_at(words, i, behind)?;
     if word.is(name) {
         Ok(())
@@ -28,7 +37,10 @@ fn expect(words: &[Word<'_>], i: usize, behind: &Word<'_>, name: &str) -> Result
 }
 
 /// Nothing stands at this word, or behind it.
-fn expect_end(words: &[Word<'_>], i: usize) -> Result<(), SourceFault> {
+#[tactic(auto, unfolding(crate::specs::Statements::end_said))]
+fn expect_end(words: &[Word<'_>], i: usize) -> Result<(), SourceFault>
+    ensures { result ≡ end_said words.now i }
+{
     match words.get(i) {
         Some(word) => Err(word.fault(TextFault::Extra)),
         None => Ok(()),
@@ -36,7 +48,11 @@ fn expect_end(words: &[Word<'_>], i: usize) -> Result<(), SourceFault> {
 }
 
 /// The one number of a statement.
-fn one_number(words: &[Word<'_>], first: &Word<'_>, most: u32) -> Result<u32, SourceFault> {
+#[tactic(auto, unfolding(crate::specs::Statements::one_number_said))]
+fn one_number(words: &[Word<'_>], first: &Word<'_>, most: u32) -> Result<u32, SourceFault>
+    ensures said { result ≡ one_number_said words.now first.now most }
+    ensures most { IfOk result (λ n. n ≤ most) }
+{
     let word = word_at(words, 1, first)?;
     expect_end(words, 2)?;
     count_of(&word, most)
@@ -49,13 +65,13 @@ fn set_field(
     first: &Word<'_>,
 ) -> Result<bool, SourceFault> {
     if first.is("packet") {
-        draft.packet = one_number(words, first, 0xFFFF)?;
+        draft.packet = one_number(words, first, 0xFFFF)? as u16;
     } else if first.is("result") {
-        draft.results = one_number(words, first, 0xFFFF)?;
+        draft.results = one_number(words, first, 0xFFFF)? as u16;
     } else if first.is("start") {
-        draft.start = one_number(words, first, 0xFFFF)?;
+        draft.start = one_number(words, first, 0xFFFF)? as u16;
     } else if first.is("workspace") {
-        draft.workspace = Some(one_number(words, first, 0xFFFF)?);
+        draft.workspace = Some(one_number(words, first, 0xFFFF)? as u16);
     } else if first.is("version") {
         draft.version = match one_number(words, first, 2)? {
             1 => Version::One,
@@ -79,7 +95,7 @@ fn locals<'a>(draft: &mut Draft<'a>, words: &[Word<'a>]) -> Result<(), SourceFau
         } else if word.is("]") {
             inside = false;
         } else if inside {
-            size = count_of(word, crate::draft::MOST_WORDS)?;
+            size = count_of(word, u32::from(MOST_WORDS))? as u16;
         } else if word.is(",") {
             if let Some(name) = name {
                 draft.name_locals(&name, size)?;
@@ -102,7 +118,7 @@ fn locals<'a>(draft: &mut Draft<'a>, words: &[Word<'a>]) -> Result<(), SourceFau
 /// `init WORD: VALUE, VALUE ..`
 fn initial(draft: &mut Draft<'_>, words: &[Word<'_>], first: &Word<'_>) -> Result<(), SourceFault> {
     let at = word_at(words, 1, first)?;
-    let from = count_of(&at, crate::draft::MOST_WORDS)? as usize;
+    let from = count_of(&at, u32::from(MOST_WORDS))? as usize;
     expect(words, 2, &at, ":")?;
     if from < draft.initial.len() {
         return Err(at.fault(TextFault::OutOfRange));
@@ -137,9 +153,9 @@ fn message(
     first: &Word<'_>,
 ) -> Result<bool, SourceFault> {
     let (link, bytes, last) = if first.is("receive") {
-        (4, draft.packet.saturating_mul(4), Instr::Input)
+        (4, u32::from(draft.packet) * 4, Instr::Input)
     } else if first.is("send") {
-        (0, draft.results.saturating_mul(4), Instr::Output)
+        (0, u32::from(draft.results) * 4, Instr::Output)
     } else if first.is("trace") {
         (1, 4, Instr::Output)
     } else {
@@ -147,7 +163,7 @@ fn message(
     };
     let name = word_at(words, 1, first)?;
     expect_end(words, 2)?;
-    let local = draft.local(&name)?;
+    let local = i32::from(draft.local(&name)?);
     draft.push_instr(first, Instr::Ldlp(local))?;
     draft.push_instr(first, Instr::Mint)?;
     if link != 0 {
@@ -171,13 +187,13 @@ fn begin_loop<'a>(
     let count = count_of(&word_at(words, 5, &name)?, 0xFFFF)?;
     expect_end(words, 6)?;
     let local = draft.name_locals(&name, 2)?;
-    let index = local.cast_signed();
+    let index = i32::from(local);
     draft.push_instr(first, Instr::Ldc(start))?;
     draft.push_instr(first, Instr::Stl(index))?;
     draft.push_instr(first, Instr::Ldc(count.cast_signed()))?;
-    draft.push_instr(first, Instr::Stl(index.saturating_add(1)))?;
+    draft.push_instr(first, Instr::Stl(index + 1))?;
     let head = draft.lines.len();
-    draft.open.push(Open {
+    draft.begun.push(Begun {
         name,
         local,
         head,
@@ -195,19 +211,19 @@ fn end_loop(
 ) -> Result<(), SourceFault> {
     let name = word_at(words, 1, first)?;
     expect_end(words, 2)?;
-    let Some(open) = draft.open.pop() else {
+    let Some(begun) = draft.begun.pop() else {
         return Err(name.fault(TextFault::NoLoop));
     };
-    if open.name.text != name.text {
+    if begun.name.text != name.text {
         return Err(name.fault(TextFault::NoLoop));
     }
     if draft.rows.len() >= MOST {
         return Err(name.fault(TextFault::TooMany));
     }
-    draft.push_instr(first, Instr::Ldlp(open.local.cast_signed()))?;
+    draft.push_instr(first, Instr::Ldlp(i32::from(begun.local)))?;
     let to = draft.lines.len().saturating_add(2);
     let operation = Operation::Distance {
-        from: open.head,
+        from: begun.head,
         to,
     };
     let line = Line::Spelled {
@@ -218,17 +234,20 @@ fn end_loop(
     let lend = draft.lines.len();
     draft.push_instr(first, Instr::Lend)?;
     draft.rows.push(Row {
-        head: Target::Place(open.head),
+        head: Target::Place(begun.head),
         lend: Target::Place(lend),
-        control: Control::Local(open.local),
-        count: open.count,
-        start: open.start,
+        control: Control::Local(begun.local),
+        count: begun.count,
+        start: begun.start,
     })?;
     Ok(())
 }
 
 /// A label or an address.
-fn target_of<'a>(word: &Word<'a>) -> Result<Target<'a>, SourceFault> {
+#[tactic(auto, unfolding(crate::specs::Statements::target_said))]
+fn target_of<'a>(word: &Word<'a>) -> Result<Target<'a>, SourceFault>
+    ensures { result ≡ target_said word.now }
+{
     if is_number(word) {
         Ok(Target::Address(count_of(word, 0xFFFF)? as u16))
     } else {
@@ -247,7 +266,7 @@ fn loop_row<'a>(
     expect(words, 3, first, "lend")?;
     let lend = target_of(&word_at(words, 4, first)?)?;
     expect(words, 5, first, "control")?;
-    let control = count_of(&word_at(words, 6, first)?, 0xFFFF)?;
+    let control = count_of(&word_at(words, 6, first)?, 0xFFFF)? as u16;
     expect(words, 7, first, "turns")?;
     let count = count_of(&word_at(words, 8, first)?, 0xFFFF)? as u16;
     expect(words, 9, first, "start")?;
@@ -295,7 +314,7 @@ fn value_at(
         expect_end(words, i.saturating_add(1))?;
         return number_of(word);
     }
-    let local = draft.local(word)?;
+    let local = i32::from(draft.local(word)?);
     match words.get(i.saturating_add(1)) {
         None => Ok(local),
         Some(mark) => {

@@ -1,0 +1,114 @@
+-- What is read so far of a text.
+use Rattle.std.specs.Prelude.{ℕ, ◌+◌, nat_le, nat_lt, Bool, if◌then◌else◌, List, [], ◌∷◌, ◌++◌, length, Option, None, Result, Ok, Err, is_some}
+use Rattle.std.specs.List.{find}
+use Rattle.std.specs.Str.{bytes_eq}
+use Rattle.std.specs.Option.{option_map, ok_or}
+use Rattle.tp_image.specs.declared.image.Version.{Version}
+use Rattle.tp_image.specs.declared.image.Version.TheVariants.{One}
+use Rattle.tp_decode.specs.declared.instr.Instr.{Instr}
+use Rattle.tp_assembly.specs.declared.program.Operation.TheVariants.{Plain}
+use Rattle.tp_assembly.specs.declared.program.Line.TheVariants.{Spelled}
+use Rattle.tp_assembly_text.specs.declared.words.Word.{Word}
+use Rattle.tp_assembly_text.specs.declared.fault.SourceFault.{SourceFault}
+use Rattle.tp_assembly_text.specs.declared.fault.TextFault.TheVariants.{Twice, TooMany, NoLocal}
+use Rattle.tp_assembly_text.specs.declared.draft.Draft.{Draft}
+use Rattle.tp_assembly_text.specs.declared.draft.DraftLine.{DraftLine}
+use Rattle.tp_assembly_text.specs.declared.draft.DraftLine.TheVariants.{Known}
+use Rattle.tp_assembly_text.specs.declared.draft.LabelName.{LabelName}
+use Rattle.tp_assembly_text.specs.declared.draft.LocalName.{LocalName}
+use Rattle.tp_assembly_text.specs.declared.draft.Row.{Row}
+use Rattle.tp_assembly_text.specs.declared.draft.Begun.{Begun}
+use Rattle.tp_assembly_text.specs.Faults.{fault_at}
+
+-- the fields of a program, its lines with labels as they stand, the names so far and the loops that have no end yet
+pub record Said : Type 0 where
+  pub version : Version
+  pub workspace : Option ℕ
+  pub start : ℕ
+  pub packet : ℕ
+  pub results : ℕ
+  pub initial : List ℕ
+  pub lines : List DraftLine
+  pub numbers : List ℕ
+  pub labels : List LabelName
+  pub locals : List LocalName
+  pub words : ℕ
+  pub rows : List Row
+  pub begun : List Begun
+
+-- what a draft of the code says
+abbrev pub said : Draft → Said
+said d = record {
+  version = d.version;
+  workspace = d.workspace;
+  start = d.start;
+  packet = d.packet;
+  results = d.results;
+  initial = d.initial.items;
+  lines = d.lines.items;
+  numbers = d.numbers.items;
+  labels = d.labels.items;
+  locals = d.locals.items;
+  words = d.words;
+  rows = d.rows.items;
+  begun = d.begun.items;
+}
+
+-- before the first line
+abbrev pub empty : Said
+empty = record {
+  version = One;
+  workspace = None;
+  start = 5;
+  packet = 1;
+  results = 1;
+  initial = [];
+  lines = [];
+  numbers = [];
+  labels = [];
+  locals = [];
+  words = 0;
+  rows = [];
+  begun = [];
+}
+
+-- the place that a label names
+unfoldable pub place_named : List LabelName → Word → Option ℕ
+place_named labels word = option_map (λ n. n.place) (find (λ n. bytes_eq n.word.text.now word.text.now) labels)
+
+-- the first word that a local's name stands for
+unfoldable pub local_named : List LocalName → Word → Option ℕ
+local_named locals word = option_map (λ n. n.first) (find (λ n. bytes_eq n.word.text.now word.text.now) locals)
+
+-- at most 16384 lines, labels, locals, initial words and rows
+abbrev pub is_full : {A : Type 0} → List A → Bool
+is_full xs = nat_le 16384 (length xs)
+
+-- a line more, that a word of the text asks for
+unfoldable pub pushed : Word → DraftLine → Said → Result Said SourceFault
+pushed word line d =
+    if is_full d.lines then Err (fault_at word TooMany)
+    else Ok (record d { lines = d.lines ++ line ∷ []; numbers = d.numbers ++ word.line ∷ [] })
+
+-- an instruction more, in its canonical spelling
+abbrev pub instr_pushed : Word → Instr → Said → Result Said SourceFault
+instr_pushed word instr d = pushed word (Known (Spelled (Plain instr) None)) d
+
+-- a name for the next local words, so many
+unfoldable pub locals_named : Word → ℕ → Said → Result Said SourceFault
+locals_named word size d =
+    if is_some (local_named d.locals word) then Err (fault_at word Twice)
+    else if nat_lt 4096 (d.words + size) then Err (fault_at word TooMany)
+    else if is_full d.locals then Err (fault_at word TooMany)
+    else Ok (record d { locals = d.locals ++ (record { word = word; first = d.words }) ∷ []; words = d.words + size })
+
+-- a label here
+unfoldable pub label_set : Word → Said → Result Said SourceFault
+label_set word d =
+    if is_some (place_named d.labels word) then Err (fault_at word Twice)
+    else if is_full d.labels then Err (fault_at word TooMany)
+    else Ok (record d { labels = d.labels ++ (record { word = word; place = length d.lines }) ∷ [] })
+
+-- the local word of a name
+abbrev pub local_said : List LocalName → Word → Result ℕ SourceFault
+local_said locals word = ok_or (local_named locals word) (fault_at word NoLocal)
