@@ -1,10 +1,10 @@
 use std::io;
 use std::io::Write;
 
-/// A writer that takes no memory. It takes no more than 256 bytes.
+/// A writer that takes no memory. It takes no more than 4096 bytes.
 #[derive(Drop)]
 pub struct Page {
-    bytes: [u8; 256],
+    bytes: [u8; 4096],
     taken: usize,
 }
 
@@ -12,7 +12,7 @@ impl Page {
     /// An empty page.
     pub fn new() -> Page {
         Page {
-            bytes: [0; 256],
+            bytes: [0; 4096],
             taken: 0,
         }
     }

@@ -1,0 +1,72 @@
+//! The program of those who write workers, each of its commands once.
+
+use crate::answer::{Answer, Tally, same_if};
+use crate::page::Page;
+use crate::told::{CASES, Case};
+use std::alloc::Global;
+use std::env::{Env, FillError};
+use std::process::ExitCode;
+use tp_workbench::run;
+
+/// The words of a command line.
+#[derive(Drop)]
+struct Words<'a>(&'a [&'a str]);
+
+impl Env for Words<'_> {
+    fn arg(&self, i: usize, buf: &mut [u8]) -> Result<usize, FillError> {
+        let Some(word) = self.0.get(i) else {
+            return Err(FillError::NotPresent);
+        };
+        if buf.len() < word.len() {
+            return Err(FillError::TooLong);
+        }
+        buf[..word.len()].copy_from_slice(word.as_bytes());
+        Ok(word.len())
+    }
+
+    fn var(&self, _name: &str, _buf: &mut [u8]) -> Result<usize, FillError> {
+        Err(FillError::NotPresent)
+    }
+
+    fn var_at(&self, _i: usize, _buf: &mut [u8]) -> Result<usize, FillError> {
+        Err(FillError::NotPresent)
+    }
+}
+
+/// What a command answers, and how much it has written. After Memory that is how its text begins, and its fault is told.
+fn answer(alloc: Global, case: &Case<'_>) -> (Answer, usize) {
+    let mut input = case.input.as_bytes();
+    let mut page = Page::new();
+    let mut errors = Page::new();
+    let status = run(
+        &Words(case.words),
+        alloc,
+        &mut input,
+        &mut page,
+        &mut errors,
+    );
+    let (written, fault) = (page.written(), errors.written());
+    let told = case.told.as_bytes();
+    let answer = if fault.is_empty() {
+        same_if(status == ExitCode::from(case.status) && written == told)
+    } else if fault == b"tpw: memory\n".as_slice()
+        && status == ExitCode::from(1)
+        && told.starts_with(written)
+    {
+        Answer::Memory
+    } else {
+        Answer::Other
+    };
+    (answer, written.len())
+}
+
+/// Makes every call, and counts the answers.
+pub fn all(alloc: Global) -> Tally {
+    let mut tally = Tally::new();
+    for case in &CASES {
+        let (answer, written) = answer(alloc, case);
+        tally.add(answer);
+        tally.written = tally.written.saturating_add(written);
+    }
+    tally
+}
