@@ -1,2 +1,4 @@
 pub mod Tokens
 mod Digits
+pub mod Parts
+pub mod Turns
