@@ -2,3 +2,4 @@ pub mod Tokens
 mod Digits
 pub mod Parts
 pub mod Turns
+pub mod Folds

@@ -9,4 +9,5 @@ pub mod Keywords
 pub mod Lists
 pub mod Grammar
 pub mod Meaning
+pub mod Texts
 pub use Rattle.tp_decode.specs.Table

@@ -1,8 +1,9 @@
 //! Reading a text.
 
-ghost use Rattle.std.specs.Prelude.{◌≡◌, OnOk, IfErr, Ok};
-ghost use Rattle.tp_assembly_text.specs.Faults.{IsRefusal};
-ghost use Rattle.tp_assembly_text.specs.Drafts.{said};
+ghost use Rattle.std.specs.Prelude.{◌≡◌, ◌⊎◌, OnOk, IfOk, IfErr, Ok, Err};
+ghost use Rattle.tp_assembly_text.specs.Faults.{IsRefusal, out_of_memory};
+ghost use Rattle.tp_assembly_text.specs.Drafts.{Said, said};
+ghost use Rattle.tp_assembly_text.specs.Texts.{Says};
 ghost use Rattle.tp_assembly_text.specs.Meaning.{line_said};
 
 use crate::draft::Draft;
@@ -32,12 +33,24 @@ fn read_line<'a>(
     }
 }
 
-/// The program that a text says, or its first fault.
-pub fn read_source<'a>(alloc: Global, text: &'a str) -> Result<Source<'a>, SourceFault> {
+/// What a text says, line by line, or its first fault.
+fn draft_of<'a>(alloc: Global, text: &'a str) -> Result<Draft<'a>, SourceFault>
+    ensures said { IfOk result (λ d. Says text.now (Ok (said d))) }
+    ensures refused { IfErr result (λ e. (e ≡ out_of_memory) ⊎ Says text.now (Err e)) }
+{
     let mut draft = Draft::new(alloc);
     for (i, line) in text.lines().enumerate() {
-        let words = words_of(alloc, line.as_bytes(), i.saturating_add(1))?;
+        let words = words_of(alloc, line.as_bytes(), i + 1)?;
         read_line(alloc, &mut draft, &words)?;
     }
+    Ok(draft)
+}
+
+/// The program that a text says, or its first fault.
+pub fn read_source<'a>(alloc: Global, text: &'a str) -> Result<Source<'a>, SourceFault>
+    // What is read comes from a draft that the text says.
+    ensures { OnOk result ((d : Said) × Says text.now (Ok d)) }
+{
+    let draft = draft_of(alloc, text)?;
     finish(alloc, draft)
 }
