@@ -4,7 +4,7 @@ use std::test::Fail;
 use tp_assembly_text::{SourceFault, TextFault, read_source};
 
 /// Texts, and the line, the column and the kind of their faults.
-const CASES: [(&str, usize, usize, TextFault); 25] = [
+const CASES: [(&str, usize, usize, TextFault); 40] = [
     ("ldc 1\n  frob\n", 2, 3, TextFault::Unknown),
     ("dup", 1, 1, TextFault::LeftOut),
     ("here: CALL 3", 1, 7, TextFault::LeftOut),
@@ -30,6 +30,21 @@ const CASES: [(&str, usize, usize, TextFault); 25] = [
     ("ldc/0 1", 1, 5, TextFault::NoLength),
     ("local a[4097]", 1, 9, TextFault::OutOfRange),
     ("init 5000: 1", 1, 6, TextFault::OutOfRange),
+    ("local", 1, 1, TextFault::Missing),
+    ("local a,", 1, 8, TextFault::Missing),
+    ("local a,, b", 1, 8, TextFault::Missing),
+    ("local a b", 1, 9, TextFault::Unexpected),
+    ("local a[3", 1, 9, TextFault::Missing),
+    ("local a[3] b", 1, 12, TextFault::Unexpected),
+    ("local [3] a]", 1, 7, TextFault::Unexpected),
+    ("byte", 1, 1, TextFault::Missing),
+    ("byte 1 2", 1, 8, TextFault::Unexpected),
+    ("byte 1,", 1, 7, TextFault::Missing),
+    ("init 0:", 1, 7, TextFault::Missing),
+    ("init 0: 1 2", 1, 11, TextFault::Unexpected),
+    ("init 1: 1\ninit 1: 2", 2, 6, TextFault::OutOfRange),
+    ("a: mint\na: send b c", 2, 11, TextFault::Extra),
+    ("version 0", 1, 1, TextFault::OutOfRange),
 ];
 
 #[test]

@@ -5,20 +5,17 @@ use Rattle.std.specs.Str.{bytes_eq}
 use Rattle.std.specs.Option.{option_map, ok_or}
 use Rattle.tp_image.specs.declared.image.Version.{Version}
 use Rattle.tp_image.specs.declared.image.Version.TheVariants.{One}
-use Rattle.tp_decode.specs.declared.instr.Instr.{Instr}
-use Rattle.tp_assembly.specs.declared.program.Operation.TheVariants.{Plain}
-use Rattle.tp_assembly.specs.declared.program.Line.TheVariants.{Spelled}
 use Rattle.tp_assembly_text.specs.declared.words.Word.{Word}
 use Rattle.tp_assembly_text.specs.declared.fault.SourceFault.{SourceFault}
 use Rattle.tp_assembly_text.specs.declared.fault.TextFault.TheVariants.{Twice, TooMany, NoLocal}
 use Rattle.tp_assembly_text.specs.declared.draft.Draft.{Draft}
 use Rattle.tp_assembly_text.specs.declared.draft.DraftLine.{DraftLine}
-use Rattle.tp_assembly_text.specs.declared.draft.DraftLine.TheVariants.{Known}
 use Rattle.tp_assembly_text.specs.declared.draft.LabelName.{LabelName}
 use Rattle.tp_assembly_text.specs.declared.draft.LocalName.{LocalName}
 use Rattle.tp_assembly_text.specs.declared.draft.Row.{Row}
 use Rattle.tp_assembly_text.specs.declared.draft.Begun.{Begun}
 use Rattle.tp_assembly_text.specs.Faults.{fault_at}
+use Rattle.tp_assembly_text.specs.Limits.{most, most_words}
 
 -- the fields of a program, its lines with labels as they stand, the names so far and the loops that have no end yet
 pub record Said : Type 0 where
@@ -80,9 +77,9 @@ place_named labels word = option_map (λ n. n.place) (find (λ n. bytes_eq n.wor
 unfoldable pub local_named : List LocalName → Word → Option ℕ
 local_named locals word = option_map (λ n. n.first) (find (λ n. bytes_eq n.word.text.now word.text.now) locals)
 
--- at most 16384 lines, labels, locals, initial words and rows
+-- no more lines, labels, locals, initial words or rows may stand
 abbrev pub is_full : {A : Type 0} → List A → Bool
-is_full xs = nat_le 16384 (length xs)
+is_full xs = nat_le most (length xs)
 
 -- a line more, that a word of the text asks for
 unfoldable pub pushed : Word → DraftLine → Said → Result Said SourceFault
@@ -90,15 +87,11 @@ pushed word line d =
     if is_full d.lines then Err (fault_at word TooMany)
     else Ok (record d { lines = d.lines ++ line ∷ []; numbers = d.numbers ++ word.line ∷ [] })
 
--- an instruction more, in its canonical spelling
-abbrev pub instr_pushed : Word → Instr → Said → Result Said SourceFault
-instr_pushed word instr d = pushed word (Known (Spelled (Plain instr) None)) d
-
 -- a name for the next local words, so many
 unfoldable pub locals_named : Word → ℕ → Said → Result Said SourceFault
 locals_named word size d =
     if is_some (local_named d.locals word) then Err (fault_at word Twice)
-    else if nat_lt 4096 (d.words + size) then Err (fault_at word TooMany)
+    else if nat_lt most_words (d.words + size) then Err (fault_at word TooMany)
     else if is_full d.locals then Err (fault_at word TooMany)
     else Ok (record d { locals = d.locals ++ (record { word = word; first = d.words }) ∷ []; words = d.words + size })
 

@@ -18,6 +18,10 @@ abbrev pub then_read : {A B : Type 0} → Result A SourceFault → (A → Result
 then_read (Ok a) next = next a
 then_read (Err e) next = Err e
 
+infixl 10 ◌>>=◌
+abbrev pub ◌>>=◌ : {A B : Type 0} → Result A SourceFault → (A → Result B SourceFault) → Result B SourceFault
+said >>= next = then_read said next
+
 -- a fault is what the text has, or that a growth was refused
 abbrev pub IsRefusal : {A : Type 0} → Result A SourceFault → SourceFault → Type 0
 IsRefusal said e = (e ≡ out_of_memory) ⊎ (said ≡ Err e)

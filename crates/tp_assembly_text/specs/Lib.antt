@@ -2,6 +2,12 @@ pub mod Names
 pub mod Faults
 pub mod Numbers
 pub mod Words
+pub mod Limits
 pub mod Drafts
 pub mod Statements
+pub mod Keywords
+pub mod Lists
+pub mod Grammar
+pub mod Meaning
+pub mod Texts
 pub use Rattle.tp_decode.specs.Table

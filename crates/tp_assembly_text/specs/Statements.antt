@@ -9,6 +9,7 @@ use Rattle.tp_assembly_text.specs.declared.fault.TextFault.TheVariants.{Missing,
 use Rattle.tp_assembly_text.specs.Faults.{fault_at, then_read}
 use Rattle.tp_assembly_text.specs.declared.draft.Target.{Target}
 use Rattle.tp_assembly_text.specs.declared.draft.Target.TheVariants.{Label, Address}
+use Rattle.tp_assembly_text.specs.Limits.{most_count}
 use Rattle.tp_assembly_text.specs.Numbers.{signed_said, begins_number}
 
 -- the word of a number, behind another
@@ -16,8 +17,8 @@ unfoldable pub word_said : List Word → ℕ → Word → Result Word SourceFaul
 word_said words i behind = ok_or (slice_get words i) (fault_at behind Missing)
 
 -- a word that has to be this one
-abbrev pub this_word : Word → List ℕ → Result (Unit {0}) SourceFault
-this_word word name = if str_eq_ignore_ascii_case word.text.now name then Ok tt else Err (fault_at word Unexpected)
+abbrev pub this_word : Word → List ℕ → Result Word SourceFault
+this_word word name = if str_eq_ignore_ascii_case word.text.now name then Ok word else Err (fault_at word Unexpected)
 
 -- the number that a word writes
 unfoldable pub number_read : Word → Result ℤ SourceFault
@@ -43,11 +44,11 @@ unfoldable pub one_number_said : List Word → Word → ℕ → Result ℕ Sourc
 one_number_said words first most = then_read (word_said words 1 first) (λ word. then_read (end_said words 2) (λ _. count_read most word))
 
 -- a word of a number, which has to be this one
-unfoldable pub expect_said : List Word → ℕ → Word → List ℕ → Result (Unit {0}) SourceFault
+unfoldable pub expect_said : List Word → ℕ → Word → List ℕ → Result Word SourceFault
 expect_said words i behind name = then_read (word_said words i behind) (λ word. this_word word name)
 
--- a label, or an address of at most 65535
+-- a label, or an address of 16 bits
 unfoldable pub target_said : Word → Result Target SourceFault
 target_said word =
-    if begins_number word.text.now then then_read (count_read 65535 word) (λ n. Ok (Address n))
+    if begins_number word.text.now then then_read (count_read most_count word) (λ n. Ok (Address n))
     else Ok (Label word)

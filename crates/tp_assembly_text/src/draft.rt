@@ -2,13 +2,12 @@
 
 ghost use Rattle.std.specs.Prelude.{◌≡◌, ◌≤◌, OnOk, IfOk, IfErr, Ok, []};
 ghost use Rattle.tp_assembly_text.specs.Faults.{IsRefusal};
-ghost use Rattle.tp_assembly_text.specs.Drafts.{said, empty, place_named, local_named, local_said, pushed, instr_pushed, locals_named, label_set};
+ghost use Rattle.tp_assembly_text.specs.Drafts.{said, empty, place_named, local_named, local_said, pushed, locals_named, label_set};
 
 use crate::fault::{SourceFault, TextFault};
 use crate::words::Word;
 use std::alloc::Global;
-use tp_assembly::{Line, Operation};
-use tp_decode::Instr;
+use tp_assembly::Line;
 use tp_image::Version;
 
 /// The most lines, names, words and rows that are read: more than a worker can have.
@@ -152,19 +151,6 @@ impl<'a> Draft<'a> {
         self.lines.push(line)?;
         self.numbers.push(word.line)?;
         Ok(())
-    }
-
-    /// Adds an instruction that a word of the text asks for.
-    pub fn push_instr(&mut self, word: &Word<'_>, instr: Instr) -> Result<(), SourceFault>
-        ensures said { OnOk result (instr_pushed word.now instr (said self.old) ≡ Ok (said self.new)) }
-        ensures refused { IfErr result (IsRefusal (instr_pushed word.now instr (said self.old))) }
-    {
-        let operation = Operation::Plain(instr);
-        let line = Line::Spelled {
-            operation,
-            bytes: None,
-        };
-        self.push(word, DraftLine::Known(line))
     }
 
     /// Names local words, so many. The first of them.

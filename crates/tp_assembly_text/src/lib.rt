@@ -1,14 +1,20 @@
 //! Assembly text: what authors write, read as a program, and programs as text.
 #![tactic(auto)]
 
+mod adding;
 mod draft;
 mod fault;
 mod finish;
+mod instructions;
+mod keyword;
+mod lists;
 mod mnemonics;
 mod number;
 mod reading;
 mod remarks;
+mod statement;
 mod statements;
+mod wanted;
 mod words;
 mod writing;
 

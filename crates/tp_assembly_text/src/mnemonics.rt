@@ -2,7 +2,7 @@
 
 ghost use Rattle.std.specs.Prelude.{◌≡◌};
 ghost use Rattle.tp_decode.specs.Table.{entry};
-ghost use Rattle.tp_assembly_text.specs.Names.{function_by_name, function_named, operation_named};
+ghost use Rattle.tp_assembly_text.specs.Names.{function_by_name, function_named, operation_named, is_left_out};
 
 use crate::words::Word;
 use tp_decode::Instr;
@@ -217,11 +217,9 @@ pub fn operation_of(word: &Word<'_>) -> Option<Instr>
 }
 
 /// Whether the profile leaves out the instruction of this name.
-pub fn is_left_out(word: &Word<'_>) -> bool {
-    for name in LEFT_OUT {
-        if word.is(name) {
-            return true;
-        }
-    }
-    false
+#[tactic(auto, unfolding(crate::specs::Names::is_left_out))]
+pub fn is_left_out(word: &Word<'_>) -> bool
+    ensures { result ≡ is_left_out word.now.text.now }
+{
+    LEFT_OUT.iter().any(|name| word.is(name))
 }

@@ -1,35 +1,56 @@
 //! Reading a text.
 
+ghost use Rattle.std.specs.Prelude.{◌≡◌, ◌⊎◌, OnOk, IfOk, IfErr, Ok, Err};
+ghost use Rattle.tp_assembly_text.specs.Faults.{IsRefusal, out_of_memory};
+ghost use Rattle.tp_assembly_text.specs.Drafts.{Said, said};
+ghost use Rattle.tp_assembly_text.specs.Texts.{Says};
+ghost use Rattle.tp_assembly_text.specs.Meaning.{line_said};
+
 use crate::draft::Draft;
 use crate::fault::SourceFault;
 use crate::finish::{Source, finish};
-use crate::statements::statement;
+use crate::statements::read_statement;
 use crate::words::{Word, words_of};
 use std::alloc::Global;
 
-/// A line: labels, each with a colon, and a statement or none.
-fn read_line<'a>(draft: &mut Draft<'a>, words: &[Word<'a>]) -> Result<(), SourceFault> {
-    let rest = match words.get(1) {
-        Some(mark) if mark.is(":") => {
-            if let Some(label) = words.first() {
-                draft.set_label(label)?;
-            }
-            words.get(2..).unwrap_or(words)
+/// A line: a label with a colon or none, and a statement or none. What the statement says is read before it is added.
+#[tactic(auto, unfolding(crate::specs::Meaning::line_said))]
+fn read_line<'a>(
+    alloc: Global,
+    draft: &mut Draft<'a>,
+    words: &[Word<'a>],
+) -> Result<(), SourceFault>
+    ensures said { OnOk result (line_said words.now (said draft.old) ≡ Ok (said draft.new)) }
+    ensures refused { IfErr result (IsRefusal (line_said words.now (said draft.old))) }
+{
+    match words {
+        [label, mark, rest @ ..] if mark.is(":") => {
+            let statement = read_statement(alloc, rest)?;
+            draft.set_label(label)?;
+            draft.add(&statement)
         }
-        _ => words,
-    };
-    match rest.first() {
-        Some(first) => statement(draft, rest, first),
-        None => Ok(()),
+        _ => draft.add(&read_statement(alloc, words)?),
     }
 }
 
-/// The program that a text says, or its first fault.
-pub fn read_source<'a>(alloc: Global, text: &'a str) -> Result<Source<'a>, SourceFault> {
+/// What a text says, line by line, or its first fault.
+fn draft_of<'a>(alloc: Global, text: &'a str) -> Result<Draft<'a>, SourceFault>
+    ensures said { IfOk result (λ d. Says text.now (Ok (said d))) }
+    ensures refused { IfErr result (λ e. (e ≡ out_of_memory) ⊎ Says text.now (Err e)) }
+{
     let mut draft = Draft::new(alloc);
     for (i, line) in text.lines().enumerate() {
-        let words = words_of(alloc, line.as_bytes(), i.saturating_add(1))?;
-        read_line(&mut draft, &words)?;
+        let words = words_of(alloc, line.as_bytes(), i + 1)?;
+        read_line(alloc, &mut draft, &words)?;
     }
+    Ok(draft)
+}
+
+/// The program that a text says, or its first fault.
+pub fn read_source<'a>(alloc: Global, text: &'a str) -> Result<Source<'a>, SourceFault>
+    // What is read comes from a draft that the text says.
+    ensures { OnOk result ((d : Said) × Says text.now (Ok d)) }
+{
+    let draft = draft_of(alloc, text)?;
     finish(alloc, draft)
 }

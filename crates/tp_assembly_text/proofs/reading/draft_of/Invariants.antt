@@ -1,0 +1,9 @@
+use Rattle.std.proofs.Common.{length, take, Ok}
+use Rattle.std.specs.Str.Lines.{lines}
+use Rattle.tp_assembly_text.specs.Drafts.{said}
+use Rattle.tp_assembly_text.specs.Texts.{LinesSay}
+use Rattle.tp_assembly_text.proofs.reading.draft_of.Given as goal
+
+-- the draft is what the lines so far say
+abbrev pub invariant-loop-i : goal.invariant-loop-i
+invariant-loop-i l = LinesSay (take (length l.yielded) (lines l.text)) (Ok (said l.draft))

@@ -1,0 +1,91 @@
+//! What a statement says, by its words alone.
+
+use crate::draft::{DraftLine, Row};
+use crate::words::Word;
+use tp_image::Version;
+
+/// A name for the next local words, so many.
+#[derive(Clone, Copy)]
+pub struct NewLocal<'a> {
+    pub name: Word<'a>,
+    pub size: u16,
+}
+
+/// An initial word, and the word of the text that writes it.
+#[derive(Clone, Copy)]
+pub struct InitialWord<'a> {
+    pub word: Word<'a>,
+    pub value: u32,
+}
+
+/// A line, and the word of the text that asks for it.
+#[derive(Clone, Copy)]
+pub struct NewLine<'a> {
+    pub word: Word<'a>,
+    pub line: DraftLine<'a>,
+}
+
+/// A message to or from a link.
+#[derive(Clone, Copy)]
+pub enum Message {
+    Receive,
+    Send,
+    Trace,
+}
+
+/// A number that is added to a local word's, behind a mark.
+#[derive(Clone, Copy)]
+pub struct Offset<'a> {
+    pub mark: Word<'a>,
+    pub number: i32,
+}
+
+/// An instruction with a local word as its operand.
+#[derive(Clone, Copy)]
+pub struct LocalInstr<'a> {
+    pub word: Word<'a>,
+    pub function: u8,
+    /// The length that is stated.
+    pub bytes: Option<u8>,
+    pub name: Word<'a>,
+    pub offset: Option<Offset<'a>>,
+}
+
+/// An instruction: a line, or one that a local word's place makes a line.
+#[derive(Clone, Copy)]
+pub enum Instruction<'a> {
+    Line(NewLine<'a>),
+    OfLocal(LocalInstr<'a>),
+}
+
+/// A loop that begins.
+#[derive(Clone, Copy)]
+pub struct NewLoop<'a> {
+    pub word: Word<'a>,
+    pub name: Word<'a>,
+    pub start: i32,
+    pub count: u16,
+}
+
+/// What a statement says. A word is kept where the statement may still be refused at it.
+#[derive(Drop)]
+pub enum Statement<'a> {
+    /// Nothing: for readers.
+    Nothing,
+    Packet(u16),
+    Results(u16),
+    Start(u16),
+    Workspace(u16),
+    Version(Version),
+    Locals(Vec<NewLocal<'a>>),
+    /// Initial words from a place on, which a word of the text writes.
+    Initial(Word<'a>, u16, Vec<InitialWord<'a>>),
+    Lines(Vec<NewLine<'a>>),
+    Instruction(Instruction<'a>),
+    /// A message, and the name of its local words.
+    Message(Word<'a>, Message, Word<'a>),
+    Begin(NewLoop<'a>),
+    /// The innermost loop ends, which has this name.
+    End(Word<'a>, Word<'a>),
+    Row(Word<'a>, Row<'a>),
+}
