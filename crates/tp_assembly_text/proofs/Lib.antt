@@ -1,2 +1,3 @@
 pub mod Tokens
 mod Digits
+pub mod Programs
