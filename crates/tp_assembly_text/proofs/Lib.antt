@@ -3,3 +3,4 @@ mod Digits
 pub mod Parts
 pub mod Turns
 pub mod Folds
+pub mod Programs

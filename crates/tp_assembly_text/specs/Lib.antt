@@ -10,4 +10,5 @@ pub mod Lists
 pub mod Grammar
 pub mod Meaning
 pub mod Texts
+pub mod Programs
 pub use Rattle.tp_decode.specs.Table

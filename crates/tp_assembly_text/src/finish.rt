@@ -1,10 +1,20 @@
 //! A draft as a program: each label by its place.
 
-use crate::draft::{Control, Draft, DraftLine, LabelName, LocalName, Row, Target, place_named};
+ghost use Rattle.std.specs.Prelude.{◌≡◌, Ok, IfOk, IfErr, OnOk, map, ◌++◌};
+ghost use Rattle.tp_assembly_text.specs.Faults.{IsRefusal};
+ghost use Rattle.tp_assembly_text.specs.Drafts.{said};
+ghost use Rattle.tp_assembly_text.specs.Programs.{all_of, place_said, line_said, spot_said, control_said, loop_said, ended, workspace_said, program_said, program_of, label_of, label_said, labels_said, local_of, local_said, end_before, locals_said, source_said, finished};
+
+use crate::draft::{
+    Begun, Control, Draft, DraftLine, LabelName, LocalName, Row, Target, place_named,
+};
 use crate::fault::{SourceFault, TextFault};
 use crate::words::Word;
 use std::alloc::{AllocError, Global};
 use tp_assembly::{Line, Loop, Operation, Program, Spot};
+
+/// The least workspace, in words, where a text says none.
+const LEAST_WORKSPACE: u32 = 8;
 
 /// A label of a text, and the place where it stands.
 #[derive(Clone, Copy, Debug, PartialEq, Eq)]
@@ -31,12 +41,18 @@ pub struct Source<'a> {
 }
 
 /// The place of a label.
-fn place_of(labels: &[LabelName<'_>], word: &Word<'_>) -> Result<usize, SourceFault> {
+#[tactic(auto, unfolding(crate::specs::Programs::place_said))]
+fn place_of(labels: &[LabelName<'_>], word: &Word<'_>) -> Result<usize, SourceFault>
+    ensures { result ≡ place_said labels.now word.now }
+{
     place_named(labels, word).ok_or(word.fault(TextFault::NoLabel))
 }
 
 /// A line with each label by its place.
-fn line_of(labels: &[LabelName<'_>], line: &DraftLine<'_>) -> Result<Line, SourceFault> {
+#[tactic(auto, unfolding(crate::specs::Programs::line_said))]
+fn line_of(labels: &[LabelName<'_>], line: &DraftLine<'_>) -> Result<Line, SourceFault>
+    ensures { result ≡ line_said labels.now line.now }
+{
     let (operation, bytes) = match line {
         DraftLine::Known(line) => return Ok(*line),
         DraftLine::Jump(label, bytes) => (Operation::JumpTo(place_of(labels, label)?), *bytes),
@@ -52,7 +68,10 @@ fn line_of(labels: &[LabelName<'_>], line: &DraftLine<'_>) -> Result<Line, Sourc
     Ok(Line::Spelled { operation, bytes })
 }
 
-fn spot_of(labels: &[LabelName<'_>], target: &Target<'_>) -> Result<Spot, SourceFault> {
+#[tactic(auto, unfolding(crate::specs::Programs::spot_said))]
+fn spot_of(labels: &[LabelName<'_>], target: &Target<'_>) -> Result<Spot, SourceFault>
+    ensures { result ≡ spot_said labels.now target.now }
+{
     Ok(match target {
         Target::Place(place) => Spot::Place(*place),
         Target::Label(label) => Spot::Place(place_of(labels, label)?),
@@ -60,33 +79,118 @@ fn spot_of(labels: &[LabelName<'_>], target: &Target<'_>) -> Result<Spot, Source
     })
 }
 
-/// A row with each label by its place, in a worker that begins at a workspace word.
-fn loop_of(labels: &[LabelName<'_>], start: u16, row: &Row<'_>) -> Result<Loop, SourceFault> {
-    let control = match row.control {
+/// The workspace word that keeps a loop's index, in a worker that begins at a workspace word.
+#[tactic(auto, unfolding(crate::specs::Programs::control_said))]
+fn control_of(start: u16, control: Control) -> u16
+    ensures { result ≡ control_said start control }
+{
+    match control {
         Control::Word(word) => word,
         Control::Local(local) => start.saturating_add(local),
-    };
+    }
+}
+
+/// A row with each label by its place, in a worker that begins at a workspace word.
+#[tactic(auto, unfolding(crate::specs::Programs::loop_said))]
+fn loop_of(labels: &[LabelName<'_>], start: u16, row: &Row<'_>) -> Result<Loop, SourceFault>
+    ensures { result ≡ loop_said labels.now start row.now }
+{
+    let head = spot_of(labels, &row.head)?;
+    let lend = spot_of(labels, &row.lend)?;
     Ok(Loop {
-        head: spot_of(labels, &row.head)?,
-        lend: spot_of(labels, &row.lend)?,
-        control,
+        head,
+        lend,
+        control: control_of(start, row.control),
         count: row.count,
         start: row.start,
     })
 }
 
+/// The lines with each label by its place.
+fn lines_of(
+    alloc: Global,
+    labels: &[LabelName<'_>],
+    lines: &[DraftLine<'_>],
+) -> Result<Vec<Line>, SourceFault>
+    ensures said { IfOk result (λ said. all_of (line_said labels.now) lines.now ≡ Ok said.items) }
+    ensures refused { IfErr result (IsRefusal (all_of (line_said labels.now) lines.now)) }
+{
+    let mut placed = Vec::new(alloc);
+    for line in lines {
+        placed.push(line_of(labels, line)?)?;
+    }
+    Ok(placed)
+}
+
+/// The rows with each label by its place, in a worker that begins at a workspace word.
+fn loops_of(
+    alloc: Global,
+    labels: &[LabelName<'_>],
+    start: u16,
+    rows: &[Row<'_>],
+) -> Result<Vec<Loop>, SourceFault>
+    ensures said { IfOk result (λ said. all_of (loop_said labels.now start) rows.now ≡ Ok said.items) }
+    ensures refused { IfErr result (IsRefusal (all_of (loop_said labels.now start) rows.now)) }
+{
+    let mut loops = Vec::new(alloc);
+    for row in rows {
+        loops.push(loop_of(labels, start, row)?)?;
+    }
+    Ok(loops)
+}
+
+/// Appends a label, if its name is UTF-8.
+#[tactic(auto, unfolding(crate::specs::Programs::label_said))]
+fn push_label<'a>(labels: &mut Vec<Label<'a>>, name: &LabelName<'a>) -> Result<(), AllocError>
+    ensures { OnOk result (map label_of labels.new.items ≡ map label_of labels.old.items ++ label_said name.now) }
+{
+    if let Ok(text) = str::from_utf8(name.word.text) {
+        labels.push(Label {
+            name: text,
+            place: name.place,
+        })?;
+    }
+    Ok(())
+}
+
 /// The labels of a text.
-fn labels_of<'a>(alloc: Global, names: &[LabelName<'a>]) -> Result<Vec<Label<'a>>, AllocError> {
+fn labels_of<'a>(alloc: Global, names: &[LabelName<'a>]) -> Result<Vec<Label<'a>>, AllocError>
+    ensures { IfOk result (λ labels. map label_of labels.items ≡ labels_said names.now) }
+{
     let mut labels = Vec::new(alloc);
     for name in names {
-        if let Ok(text) = str::from_utf8(name.word.text) {
-            labels.push(Label {
-                name: text,
-                place: name.place,
-            })?;
-        }
+        push_label(&mut labels, name)?;
     }
     Ok(labels)
+}
+
+/// Appends a name of local words that end before a word, if it is UTF-8.
+#[tactic(auto, unfolding(crate::specs::Programs::local_said))]
+fn push_local<'a>(
+    locals: &mut Vec<Local<'a>>,
+    name: &LocalName<'a>,
+    end: u16,
+) -> Result<(), AllocError>
+    ensures { OnOk result (map local_of locals.new.items ≡ map local_of locals.old.items ++ local_said name.now end) }
+{
+    if let Ok(text) = str::from_utf8(name.word.text) {
+        locals.push(Local {
+            name: text,
+            first: usize::from(name.first),
+            words: usize::from(end.saturating_sub(name.first)),
+        })?;
+    }
+    Ok(())
+}
+
+/// Where the words of a name end, behind which these names stand: at the next name's first, or at an end.
+fn end_before(end: u16, names: &[LocalName<'_>]) -> u16
+    ensures { result ≡ end_before end names.now }
+{
+    match names {
+        [next, ..] => next.first,
+        [] => end,
+    }
 }
 
 /// The names of local words, so many of which have names. Each name has the words up to the next name's first.
@@ -94,49 +198,68 @@ fn locals_of<'a>(
     alloc: Global,
     names: &[LocalName<'a>],
     words: u16,
-) -> Result<Vec<Local<'a>>, AllocError> {
+) -> Result<Vec<Local<'a>>, AllocError>
+    ensures { IfOk result (λ locals. map local_of locals.items ≡ locals_said words names.now) }
+{
     let mut locals = Vec::new(alloc);
     for (i, name) in names.iter().enumerate() {
-        let end = names
-            .get(i.saturating_add(1))
-            .map_or(words, |next| next.first);
-        if let Ok(text) = str::from_utf8(name.word.text) {
-            locals.push(Local {
-                name: text,
-                first: usize::from(name.first),
-                words: usize::from(end.saturating_sub(name.first)),
-            })?;
-        }
+        push_local(&mut locals, name, end_before(words, &names[i + 1..]))?;
     }
     Ok(locals)
 }
 
-/// The program of a draft. The workspace is as large as the locals need, where nothing else is said.
-pub fn finish<'a>(alloc: Global, draft: Draft<'a>) -> Result<Source<'a>, SourceFault> {
-    if let Some(begun) = draft.begun.last() {
-        return Err(begun.name.fault(TextFault::NoEnd));
+/// Finds that each loop has its end.
+#[tactic(auto, unfolding(crate::specs::Programs::ended))]
+fn check_ends(begun: &[Begun<'_>]) -> Result<(), SourceFault>
+    ensures { result ≡ ended begun.now }
+{
+    match begun.last() {
+        Some(begun) => Err(begun.name.fault(TextFault::NoEnd)),
+        None => Ok(()),
     }
-    let mut lines = Vec::new(alloc);
-    for line in &draft.lines {
-        lines.push(line_of(&draft.labels, line)?)?;
-    }
-    let mut loops = Vec::new(alloc);
-    for row in &draft.rows {
-        loops.push(loop_of(&draft.labels, draft.start, row)?)?;
-    }
-    let start = u32::from(draft.start);
-    let needed = (start + u32::from(draft.words)).max(8);
+}
+
+/// As many workspace words as are said, or else as the locals need.
+#[tactic(auto, unfolding(crate::specs::Programs::workspace_said))]
+fn workspace_of(draft: &Draft<'_>) -> u32
+    ensures { result ≡ workspace_said (said draft.now) }
+{
+    let needed = u32::from(draft.start) + u32::from(draft.words);
+    draft
+        .workspace
+        .map_or(needed.max(LEAST_WORKSPACE), u32::from)
+}
+
+/// The program of a draft.
+#[tactic(auto, unfolding(crate::specs::Programs::program_of))]
+fn program_of(alloc: Global, draft: &Draft<'_>) -> Result<Program, SourceFault>
+    ensures said { IfOk result (λ program. program_of (said draft.now) ≡ Ok (program_said program)) }
+    ensures refused { IfErr result (IsRefusal (program_of (said draft.now))) }
+{
+    let lines = lines_of(alloc, &draft.labels, &draft.lines)?;
+    let loops = loops_of(alloc, &draft.labels, draft.start, &draft.rows)?;
+    Ok(Program {
+        version: draft.version,
+        workspace: workspace_of(draft),
+        start: u32::from(draft.start),
+        packet: u32::from(draft.packet),
+        result: u32::from(draft.results),
+        loops,
+        initial: Vec::from_slice(alloc, &draft.initial)?,
+        lines,
+    })
+}
+
+/// The program of a draft, and its names. The workspace is as large as the locals need, where nothing else is said.
+#[tactic(auto, unfolding(crate::specs::Programs::finished))]
+pub fn finish<'a>(alloc: Global, draft: Draft<'a>) -> Result<Source<'a>, SourceFault>
+    ensures said { IfOk result (λ source. finished (said draft.entry) ≡ Ok (source_said source)) }
+    ensures refused { IfErr result (IsRefusal (finished (said draft.entry))) }
+{
+    check_ends(&draft.begun)?;
+    let program = program_of(alloc, &draft)?;
     Ok(Source {
-        program: Program {
-            version: draft.version,
-            workspace: draft.workspace.map_or(needed, u32::from),
-            start,
-            packet: u32::from(draft.packet),
-            result: u32::from(draft.results),
-            loops,
-            initial: Vec::from_slice(alloc, &draft.initial)?,
-            lines,
-        },
+        program,
         numbers: Vec::from_slice(alloc, &draft.numbers)?,
         labels: labels_of(alloc, &draft.labels)?,
         locals: locals_of(alloc, &draft.locals, draft.words)?,
