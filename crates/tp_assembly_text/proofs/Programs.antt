@@ -11,7 +11,8 @@ use Rattle.tp_assembly_text.specs.declared.draft.LabelName.{LabelName}
 use Rattle.tp_assembly_text.specs.declared.draft.LocalName.{LocalName}
 use Rattle.tp_assembly_text.specs.declared.finish.Label.{Label}
 use Rattle.tp_assembly_text.specs.declared.finish.Local.{Local}
-use Rattle.tp_assembly_text.specs.Programs.{all_of, under, LabelSaid, LocalSaid, label_of, label_said, local_of, local_said, end_before, locals_said}
+use Rattle.tp_assembly_text.specs.Programs.{under, label_of, label_told, local_of, local_told, end_before, locals_told}
+use Rattle.tp_assembly_text.specs.Faults.{each_read}
 
 -- a first one in front of the others
 abbrev front : {B : Type 0} → Result B SourceFault → Result (List B) SourceFault → Result (List B) SourceFault
@@ -23,30 +24,30 @@ parts (Ok z) (Err f) ys e = absurd (cc)
 parts (Err f) rest ys e = absurd (cc)
 
 -- one more, that has no fault
-pub all_of_more : {A B : Type 0} (says : A → Result B SourceFault) (xs : List A) (i : ℕ) (d : A) (y : B) (ys : List B) → i < length xs → Ok y ≡ says (get_or xs i d) → all_of says (take i xs) ≡ Ok ys → all_of says (take (i + 1) xs) ≡ Ok (ys ++ y ∷ [])
-all_of_more says xs i d y ys within here so_far = ap (λ n. all_of says (take n xs)) (add-one i) ∙ by_recursion says xs i d y ys within here so_far
+pub each_more : {A B : Type 0} (says : A → Result B SourceFault) (xs : List A) (i : ℕ) (d : A) (y : B) (ys : List B) → i < length xs → Ok y ≡ says (get_or xs i d) → each_read says (take i xs) ≡ Ok ys → each_read says (take (i + 1) xs) ≡ Ok (ys ++ y ∷ [])
+each_more says xs i d y ys within here so_far = ap (λ n. each_read says (take n xs)) (add-one i) ∙ by_recursion says xs i d y ys within here so_far
   where
-    by_recursion : {A B : Type 0} (says : A → Result B SourceFault) (xs : List A) (i : ℕ) (d : A) (y : B) (ys : List B) → i < length xs → Ok y ≡ says (get_or xs i d) → all_of says (take i xs) ≡ Ok ys → all_of says (take (suc i) xs) ≡ Ok (ys ++ y ∷ [])
+    by_recursion : {A B : Type 0} (says : A → Result B SourceFault) (xs : List A) (i : ℕ) (d : A) (y : B) (ys : List B) → i < length xs → Ok y ≡ says (get_or xs i d) → each_read says (take i xs) ≡ Ok ys → each_read says (take (suc i) xs) ≡ Ok (ys ++ y ∷ [])
     by_recursion says [] i d y ys within here so_far = absurd (omega arith)
     by_recursion says (w ∷ xs) zero d y ys within here so_far =
         let none : [] ≡ ys = cc in
         ap (λ r. front r (Ok [])) (sym here) ∙ ap (λ zs. Ok (zs ++ y ∷ [])) none
     by_recursion says (w ∷ xs) (suc i) d y ys within here so_far =
-        let p = parts (says w) (all_of says (take i xs)) ys so_far in
-        ap (λ r. front r (all_of says (take (suc i) xs))) p.2
+        let p = parts (says w) (each_read says (take i xs)) ys so_far in
+        ap (λ r. front r (each_read says (take (suc i) xs))) p.2
         ∙ ap (λ r. front (Ok p.0) r) (by_recursion says xs i d y p.1 (omega arith) here p.3)
         ∙ ap (λ zs. Ok (zs ++ y ∷ [])) (sym p.4)
 
 -- the first that has a fault
-pub all_of_fault : {A B : Type 0} (says : A → Result B SourceFault) (xs : List A) (i : ℕ) (d : A) (e : SourceFault) (ys : List B) → i < length xs → Err e ≡ says (get_or xs i d) → all_of says (take i xs) ≡ Ok ys → IsRefusal (all_of says xs) e
-all_of_fault says xs i d e ys within here so_far = inr (by_recursion says xs i d e ys within here so_far)
+pub each_fault : {A B : Type 0} (says : A → Result B SourceFault) (xs : List A) (i : ℕ) (d : A) (e : SourceFault) (ys : List B) → i < length xs → Err e ≡ says (get_or xs i d) → each_read says (take i xs) ≡ Ok ys → IsRefusal (each_read says xs) e
+each_fault says xs i d e ys within here so_far = inr (by_recursion says xs i d e ys within here so_far)
   where
-    by_recursion : {A B : Type 0} (says : A → Result B SourceFault) (xs : List A) (i : ℕ) (d : A) (e : SourceFault) (ys : List B) → i < length xs → Err e ≡ says (get_or xs i d) → all_of says (take i xs) ≡ Ok ys → all_of says xs ≡ Err e
+    by_recursion : {A B : Type 0} (says : A → Result B SourceFault) (xs : List A) (i : ℕ) (d : A) (e : SourceFault) (ys : List B) → i < length xs → Err e ≡ says (get_or xs i d) → each_read says (take i xs) ≡ Ok ys → each_read says xs ≡ Err e
     by_recursion says [] i d e ys within here so_far = absurd (omega arith)
-    by_recursion says (w ∷ xs) zero d e ys within here so_far = ap (λ r. front r (all_of says xs)) (sym here)
+    by_recursion says (w ∷ xs) zero d e ys within here so_far = ap (λ r. front r (each_read says xs)) (sym here)
     by_recursion says (w ∷ xs) (suc i) d e ys within here so_far =
-        let p = parts (says w) (all_of says (take i xs)) ys so_far in
-        ap (λ r. front r (all_of says xs)) p.2 ∙ ap (λ r. front (Ok p.0) r) (by_recursion says xs i d e p.1 (omega arith) here p.3)
+        let p = parts (says w) (each_read says (take i xs)) ys so_far in
+        ap (λ r. front r (each_read says xs)) p.2 ∙ ap (λ r. front (Ok p.0) r) (by_recursion says xs i d e p.1 (omega arith) here p.3)
 
 -- one more of what a list says, part by part
 pub flat_map_more : {A B : Type 0} (says : A → List B) (xs : List A) (i : ℕ) (x : A) → slice_get xs i ≡ Some x → flat_map says (take (i + 1) xs) ≡ flat_map says (take i xs) ++ says x
@@ -73,34 +74,34 @@ mapped f [] ys = refl
 mapped f (x ∷ xs) ys = ap (λ zs. f x ∷ zs) (mapped f xs ys)
 
 -- a label that is handed out, and one that is not
-pub label_more : (labels labels' : List Label) (label : Label) (name : LabelName) → labels' ≡ labels ++ label ∷ [] → label.name.now ≡ name.word.text.now → label.place ≡ name.place → IsUtf8 name.word.text.now → map label_of labels' ≡ map label_of labels ++ label_said name
-unfolding label_said
+pub label_more : (labels labels' : List Label) (label : Label) (name : LabelName) → labels' ≡ labels ++ label ∷ [] → label.name.now ≡ name.word.text.now → label.place ≡ name.place → IsUtf8 name.word.text.now → map label_of labels' ≡ map label_of labels ++ label_told name
+unfolding label_told
 label_more labels labels' label name more named placed text =
     let same : label_of label ≡ record { name = name.word.text.now; place = name.place } = cc in
     ap (map label_of) more ∙ mapped label_of labels (label ∷ []) ∙ ap (λ l. map label_of labels ++ l ∷ []) same
     ∙ ap (λ ls. map label_of labels ++ ls) (sym (under_text name.word.text.now _ text))
 
-pub label_none : (labels : List Label) (name : LabelName) → ¬ (IsUtf8 name.word.text.now) → map label_of labels ≡ map label_of labels ++ label_said name
-unfolding label_said
+pub label_none : (labels : List Label) (name : LabelName) → ¬ (IsUtf8 name.word.text.now) → map label_of labels ≡ map label_of labels ++ label_told name
+unfolding label_told
 label_none labels name other = sym (append-nil (map label_of labels)) ∙ ap (λ ls. map label_of labels ++ ls) (sym (under_other name.word.text.now _ other))
 
 -- a name of local words that is handed out, and one that is not
-pub local_more : (locals locals' : List Local) (local : Local) (name : LocalName) (end : ℕ) → locals' ≡ locals ++ local ∷ [] → local.name.now ≡ name.word.text.now → local.first ≡ name.first → local.words ≡ end - name.first → IsUtf8 name.word.text.now → map local_of locals' ≡ map local_of locals ++ local_said name end
-unfolding local_said
+pub local_more : (locals locals' : List Local) (local : Local) (name : LocalName) (end : ℕ) → locals' ≡ locals ++ local ∷ [] → local.name.now ≡ name.word.text.now → local.first ≡ name.first → local.words ≡ end - name.first → IsUtf8 name.word.text.now → map local_of locals' ≡ map local_of locals ++ local_told name end
+unfolding local_told
 local_more locals locals' local name end more named first words text =
     let same : local_of local ≡ record { name = name.word.text.now; first = name.first; words = end - name.first } = cc in
     ap (map local_of) more ∙ mapped local_of locals (local ∷ []) ∙ ap (λ l. map local_of locals ++ l ∷ []) same
     ∙ ap (λ ls. map local_of locals ++ ls) (sym (under_text name.word.text.now _ text))
 
-pub local_none : (locals : List Local) (name : LocalName) (end : ℕ) → ¬ (IsUtf8 name.word.text.now) → map local_of locals ≡ map local_of locals ++ local_said name end
-unfolding local_said
+pub local_none : (locals : List Local) (name : LocalName) (end : ℕ) → ¬ (IsUtf8 name.word.text.now) → map local_of locals ≡ map local_of locals ++ local_told name end
+unfolding local_told
 local_none locals name end other = sym (append-nil (map local_of locals)) ∙ ap (λ ls. map local_of locals ++ ls) (sym (under_other name.word.text.now _ other))
 
 -- the names of local words from one on
-pub locals_more : (end : ℕ) (names : List LocalName) (i : ℕ) (name : LocalName) → slice_get names i ≡ Some name → locals_said end (drop i names) ≡ local_said name (end_before end (drop (i + 1) names)) ++ locals_said end (drop (i + 1) names)
-locals_more end names i name there = by_recursion end names i name there ∙ ap (λ n. local_said name (end_before end (drop n names)) ++ locals_said end (drop n names)) (sym (add-one i))
+pub locals_more : (end : ℕ) (names : List LocalName) (i : ℕ) (name : LocalName) → slice_get names i ≡ Some name → locals_told end (drop i names) ≡ local_told name (end_before end (drop (i + 1) names)) ++ locals_told end (drop (i + 1) names)
+locals_more end names i name there = by_recursion end names i name there ∙ ap (λ n. local_told name (end_before end (drop n names)) ++ locals_told end (drop n names)) (sym (add-one i))
   where
-    by_recursion : (end : ℕ) (names : List LocalName) (i : ℕ) (name : LocalName) → slice_get names i ≡ Some name → locals_said end (drop i names) ≡ local_said name (end_before end (drop (suc i) names)) ++ locals_said end (drop (suc i) names)
+    by_recursion : (end : ℕ) (names : List LocalName) (i : ℕ) (name : LocalName) → slice_get names i ≡ Some name → locals_told end (drop i names) ≡ local_told name (end_before end (drop (suc i) names)) ++ locals_told end (drop (suc i) names)
     by_recursion end [] i name there = absurd (cc)
-    by_recursion end (n ∷ names) zero name there = ap (λ n. local_said n (end_before end names) ++ locals_said end names) (same_Some n name there)
+    by_recursion end (n ∷ names) zero name there = ap (λ n. local_told n (end_before end names) ++ locals_told end names) (same_Some n name there)
     by_recursion end (n ∷ names) (suc i) name there = by_recursion end names i name there

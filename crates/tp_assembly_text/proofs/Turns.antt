@@ -6,7 +6,7 @@ use Rattle.std.proofs.lemmas.Result.{err_from_is_err_and}
 use Rattle.tp_assembly_text.specs.declared.fault.SourceFault.{SourceFault}
 use Rattle.tp_assembly_text.specs.Faults.{then_read, IsRefusal}
 use Rattle.tp_assembly_text.specs.Drafts.{Said}
-use Rattle.tp_assembly_text.specs.Lists.{each_read}
+use Rattle.tp_assembly_text.specs.Faults.{each_read}
 use Rattle.tp_assembly_text.specs.Meaning.{in_turn}
 
 -- where the first of two steps is refused
@@ -43,7 +43,6 @@ module _ {A C B : Type 0} (read : C → Result B SourceFault) (view : A → C) (
   -- one more is read
   pub one_read : (i : ℕ) (d : A) (done : List B) (y : B) → i < length xs → read (view (get_or xs i d)) ≡ Ok y
       → onto (done ++ y ∷ []) (each_read read (map view (drop (i + 1) xs))) ≡ onto done (each_read read (map view (drop i xs)))
-  unfolding each_read
   one_read i d done y within is =
       onto_more done y (each_read read (map view (drop (i + 1) xs)))
       ∙ ap (λ r. onto done (then_read r (λ y. then_read (each_read read (map view (drop (i + 1) xs))) (λ ys. Ok (y ∷ ys))))) (sym is)
@@ -52,14 +51,12 @@ module _ {A C B : Type 0} (read : C → Result B SourceFault) (view : A → C) (
   -- one is not
   pub not_read : (i : ℕ) (d : A) (done : List B) (e : SourceFault) → i < length xs → read (view (get_or xs i d)) ≡ Err e
       → onto done (each_read read (map view (drop i xs))) ≡ Err e
-  unfolding each_read
   not_read i d done e within is =
       ap (λ ys. onto done (each_read read (map view ys))) (from_place xs i d within)
       ∙ ap (λ r. onto done (then_read r (λ y. then_read (each_read read (map view (drop (i + 1) xs))) (λ ys. Ok (y ∷ ys))))) is
 
   -- all are read
   pub all_read : (i : ℕ) (done : List B) → length xs ≤ i → onto done (each_read read (map view (drop i xs))) ≡ Ok done
-  unfolding each_read
   all_read i done over = ap (λ ys. onto done (each_read read (map view ys))) (drop_all i xs over) ∙ ap Ok (append-nil done)
 
 module _ {A : Type 0} (add : A → Said → Result Said SourceFault) (xs : List A) where

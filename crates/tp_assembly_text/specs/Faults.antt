@@ -1,5 +1,5 @@
 -- The faults of a text.
-use Rattle.std.specs.Prelude.{◌≡◌, ◌⊎◌, Result, Ok, Err}
+use Rattle.std.specs.Prelude.{◌≡◌, ◌⊎◌, List, [], ◌∷◌, Result, Ok, Err}
 use Rattle.tp_assembly_text.specs.declared.words.Word.{Word}
 use Rattle.tp_assembly_text.specs.declared.fault.TextFault.{TextFault}
 use Rattle.tp_assembly_text.specs.declared.fault.TextFault.TheVariants.{Memory}
@@ -25,3 +25,8 @@ said >>= next = then_read said next
 -- a fault is what the text has, or that a growth was refused
 abbrev pub IsRefusal : {A : Type 0} → Result A SourceFault → SourceFault → Type 0
 IsRefusal said e = (e ≡ out_of_memory) ⊎ (said ≡ Err e)
+
+-- each of a list is read, and the first fault ends it
+abbrev pub each_read : {A B : Type 0} → (A → Result B SourceFault) → List A → Result (List B) SourceFault
+each_read read [] = Ok []
+each_read read (x ∷ xs) = then_read (read x) (λ y. then_read (each_read read xs) (λ ys. Ok (y ∷ ys)))

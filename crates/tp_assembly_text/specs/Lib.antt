@@ -9,6 +9,6 @@ pub mod Keywords
 pub mod Lists
 pub mod Grammar
 pub mod Meaning
-pub mod Texts
 pub mod Programs
+pub mod Texts
 pub use Rattle.tp_decode.specs.Table

@@ -12,7 +12,7 @@ use Rattle.tp_assembly_text.specs.declared.statement.NewLocal.{NewLocal}
 use Rattle.tp_assembly_text.specs.declared.statement.InitialWord.{InitialWord}
 use Rattle.tp_assembly_text.specs.declared.statement.NewLine.{NewLine}
 use Rattle.tp_assembly_text.specs.Limits.{most_words}
-use Rattle.tp_assembly_text.specs.Faults.{fault_at, ◌>>=◌}
+use Rattle.tp_assembly_text.specs.Faults.{fault_at, each_read, ◌>>=◌}
 use Rattle.tp_assembly_text.specs.Statements.{word_said, expect_said, number_read, count_read}
 
 -- some words, and the word behind which they stand
@@ -38,14 +38,6 @@ parts behind [] = record { behind = behind; words = [] } ∷ []
 parts behind (word ∷ words) =
     if is_comma word then record { behind = behind; words = [] } ∷ parts word words
     else onto_part word (parts behind words)
-
--- each of a list is read, and the first fault ends it
-unfoldable pub each_read : {A B : Type 0} → (A → Result B SourceFault) → List A → Result (List B) SourceFault
-each_read read [] = Ok []
-each_read read (x ∷ xs) = do
-  y ← read x
-  ys ← each_read read xs
-  Ok (y ∷ ys)
 
 -- no word more
 abbrev pub no_word : Option Word → Result (Unit {0}) SourceFault

@@ -27,30 +27,25 @@ use Rattle.tp_assembly_text.specs.declared.draft.Begun.{Begun}
 use Rattle.tp_assembly_text.specs.declared.finish.Label.{Label}
 use Rattle.tp_assembly_text.specs.declared.finish.Local.{Local}
 use Rattle.tp_assembly_text.specs.declared.finish.Source.{Source}
-use Rattle.tp_assembly_text.specs.Faults.{fault_at, then_read}
+use Rattle.tp_assembly_text.specs.Faults.{fault_at, then_read, each_read}
 use Rattle.tp_assembly_text.specs.Drafts.{Said, place_named}
 
--- what each of a list says, or the first fault
-abbrev pub all_of : {A B : Type 0} → (A → Result B SourceFault) → List A → Result (List B) SourceFault
-all_of says [] = Ok []
-all_of says (x ∷ xs) = then_read (says x) (λ y. then_read (all_of says xs) (λ ys. Ok (y ∷ ys)))
-
 -- the place of a label that a word names
-unfoldable pub place_said : List LabelName → Word → Result ℕ SourceFault
-place_said labels word = ok_or (place_named labels word) (fault_at word NoLabel)
+unfoldable pub place_of_label : List LabelName → Word → Result ℕ SourceFault
+place_of_label labels word = ok_or (place_named labels word) (fault_at word NoLabel)
 
 -- a line with each label by its place
-unfoldable pub line_said : List LabelName → DraftLine → Result Line SourceFault
-line_said labels (Known line) = Ok line
-line_said labels (Jump to bytes) = then_read (place_said labels to) (λ place. Ok (Spelled (operation.JumpTo place) bytes))
-line_said labels (Cj to bytes) = then_read (place_said labels to) (λ place. Ok (Spelled (operation.CjTo place) bytes))
-line_said labels (Distance to from bytes) =
-    then_read (place_said labels from) (λ first. then_read (place_said labels to) (λ last. Ok (Spelled (operation.Distance first last) bytes)))
+unfoldable pub line_placed : List LabelName → DraftLine → Result Line SourceFault
+line_placed labels (Known line) = Ok line
+line_placed labels (Jump to bytes) = then_read (place_of_label labels to) (λ place. Ok (Spelled (operation.JumpTo place) bytes))
+line_placed labels (Cj to bytes) = then_read (place_of_label labels to) (λ place. Ok (Spelled (operation.CjTo place) bytes))
+line_placed labels (Distance to from bytes) =
+    then_read (place_of_label labels from) (λ first. then_read (place_of_label labels to) (λ last. Ok (Spelled (operation.Distance first last) bytes)))
 
-unfoldable pub spot_said : List LabelName → Target → Result Spot SourceFault
-spot_said labels (Place place) = Ok (spot.Place place)
-spot_said labels (Named word) = then_read (place_said labels word) (λ place. Ok (spot.Place place))
-spot_said labels (Address address) = Ok (spot.Address address)
+unfoldable pub spot_placed : List LabelName → Target → Result Spot SourceFault
+spot_placed labels (Place place) = Ok (spot.Place place)
+spot_placed labels (Named word) = then_read (place_of_label labels word) (λ place. Ok (spot.Place place))
+spot_placed labels (Address address) = Ok (spot.Address address)
 
 -- the workspace word that keeps a loop's index, in a worker that begins at a workspace word; the last is 65535
 unfoldable pub control_said : ℕ → Control → ℕ
@@ -58,9 +53,9 @@ control_said start (WorkspaceWord word) = word
 control_said start (LocalWord local) = min (start + local) 65535
 
 -- a row with each label by its place
-unfoldable pub loop_said : List LabelName → ℕ → Row → Result Loop SourceFault
-loop_said labels start row =
-    then_read (spot_said labels row.head) (λ head. then_read (spot_said labels row.lend) (λ lend.
+unfoldable pub loop_placed : List LabelName → ℕ → Row → Result Loop SourceFault
+loop_placed labels start row =
+    then_read (spot_placed labels row.head) (λ head. then_read (spot_placed labels row.lend) (λ lend.
     Ok (record { head = head; lend = lend; control = control_said start row.control; count = row.count; start = row.start })))
 
 -- a loop that has no end is a fault at its name
@@ -103,7 +98,7 @@ program_said p = record {
 -- the program of a draft
 unfoldable pub program_of : Said → Result ProgramSaid SourceFault
 program_of d =
-    then_read (all_of (line_said d.labels) d.lines) (λ lines. then_read (all_of (loop_said d.labels d.start) d.rows) (λ loops. Ok (record {
+    then_read (each_read (line_placed d.labels) d.lines) (λ lines. then_read (each_read (loop_placed d.labels d.start) d.rows) (λ loops. Ok (record {
       version = d.version;
       workspace = workspace_said d;
       start = d.start;
@@ -135,24 +130,24 @@ local_of local = record { name = local.name.now; first = local.first; words = lo
 abbrev pub under : {A : Type 0} → List ℕ → A → List A
 under name a = if is_utf8 name then a ∷ [] else []
 
-unfoldable pub label_said : LabelName → List LabelSaid
-label_said n = under n.word.text.now (record { name = n.word.text.now; place = n.place })
+unfoldable pub label_told : LabelName → List LabelSaid
+label_told n = under n.word.text.now (record { name = n.word.text.now; place = n.place })
 
-abbrev pub labels_said : List LabelName → List LabelSaid
-labels_said names = flat_map label_said names
+abbrev pub labels_told : List LabelName → List LabelSaid
+labels_told names = flat_map label_told names
 
 -- where the words of a name end: at the next name's first, and those of the last name at an end
 abbrev pub end_before : ℕ → List LocalName → ℕ
 end_before end [] = end
 end_before end (n ∷ names) = n.first
 
-unfoldable pub local_said : LocalName → ℕ → List LocalSaid
-local_said n end = under n.word.text.now (record { name = n.word.text.now; first = n.first; words = end - n.first })
+unfoldable pub local_told : LocalName → ℕ → List LocalSaid
+local_told n end = under n.word.text.now (record { name = n.word.text.now; first = n.first; words = end - n.first })
 
 -- the names of local words, which end at an end
-abbrev pub locals_said : ℕ → List LocalName → List LocalSaid
-locals_said end [] = []
-locals_said end (n ∷ names) = local_said n (end_before end names) ++ locals_said end names
+abbrev pub locals_told : ℕ → List LocalName → List LocalSaid
+locals_told end [] = []
+locals_told end (n ∷ names) = local_told n (end_before end names) ++ locals_told end names
 
 -- a program, the line of the text that each of its lines comes from, and the names that are handed out
 pub record SourceSaid : Type 0 where
@@ -175,6 +170,6 @@ finished d =
     then_read (ended d.begun) (λ _. then_read (program_of d) (λ program. Ok (record {
       program = program;
       numbers = d.numbers;
-      labels = labels_said d.labels;
-      locals = locals_said d.words d.locals;
+      labels = labels_told d.labels;
+      locals = locals_told d.words d.locals;
     })))

@@ -1,9 +1,9 @@
 //! A draft as a program: each label by its place.
 
 ghost use Rattle.std.specs.Prelude.{◌≡◌, Ok, IfOk, IfErr, OnOk, map, ◌++◌};
-ghost use Rattle.tp_assembly_text.specs.Faults.{IsRefusal};
+ghost use Rattle.tp_assembly_text.specs.Faults.{IsRefusal, each_read};
 ghost use Rattle.tp_assembly_text.specs.Drafts.{said};
-ghost use Rattle.tp_assembly_text.specs.Programs.{all_of, place_said, line_said, spot_said, control_said, loop_said, ended, workspace_said, program_said, program_of, label_of, label_said, labels_said, local_of, local_said, end_before, locals_said, source_said, finished};
+ghost use Rattle.tp_assembly_text.specs.Programs.{place_of_label, line_placed, spot_placed, control_said, loop_placed, ended, workspace_said, program_said, program_of, label_of, label_told, labels_told, local_of, local_told, end_before, locals_told, source_said, finished};
 
 use crate::draft::{
     Begun, Control, Draft, DraftLine, LabelName, LocalName, Row, Target, place_named,
@@ -41,17 +41,17 @@ pub struct Source<'a> {
 }
 
 /// The place of a label.
-#[tactic(auto, unfolding(crate::specs::Programs::place_said))]
+#[tactic(auto, unfolding(crate::specs::Programs::place_of_label))]
 fn place_of(labels: &[LabelName<'_>], word: &Word<'_>) -> Result<usize, SourceFault>
-    ensures { result ≡ place_said labels.now word.now }
+    ensures { result ≡ place_of_label labels.now word.now }
 {
     place_named(labels, word).ok_or(word.fault(TextFault::NoLabel))
 }
 
 /// A line with each label by its place.
-#[tactic(auto, unfolding(crate::specs::Programs::line_said))]
+#[tactic(auto, unfolding(crate::specs::Programs::line_placed))]
 fn line_of(labels: &[LabelName<'_>], line: &DraftLine<'_>) -> Result<Line, SourceFault>
-    ensures { result ≡ line_said labels.now line.now }
+    ensures { result ≡ line_placed labels.now line.now }
 {
     let (operation, bytes) = match line {
         DraftLine::Known(line) => return Ok(*line),
@@ -68,9 +68,9 @@ fn line_of(labels: &[LabelName<'_>], line: &DraftLine<'_>) -> Result<Line, Sourc
     Ok(Line::Spelled { operation, bytes })
 }
 
-#[tactic(auto, unfolding(crate::specs::Programs::spot_said))]
+#[tactic(auto, unfolding(crate::specs::Programs::spot_placed))]
 fn spot_of(labels: &[LabelName<'_>], target: &Target<'_>) -> Result<Spot, SourceFault>
-    ensures { result ≡ spot_said labels.now target.now }
+    ensures { result ≡ spot_placed labels.now target.now }
 {
     Ok(match target {
         Target::Place(place) => Spot::Place(*place),
@@ -91,9 +91,9 @@ fn control_of(start: u16, control: Control) -> u16
 }
 
 /// A row with each label by its place, in a worker that begins at a workspace word.
-#[tactic(auto, unfolding(crate::specs::Programs::loop_said))]
+#[tactic(auto, unfolding(crate::specs::Programs::loop_placed))]
 fn loop_of(labels: &[LabelName<'_>], start: u16, row: &Row<'_>) -> Result<Loop, SourceFault>
-    ensures { result ≡ loop_said labels.now start row.now }
+    ensures { result ≡ loop_placed labels.now start row.now }
 {
     let head = spot_of(labels, &row.head)?;
     let lend = spot_of(labels, &row.lend)?;
@@ -112,8 +112,8 @@ fn lines_of(
     labels: &[LabelName<'_>],
     lines: &[DraftLine<'_>],
 ) -> Result<Vec<Line>, SourceFault>
-    ensures said { IfOk result (λ said. all_of (line_said labels.now) lines.now ≡ Ok said.items) }
-    ensures refused { IfErr result (IsRefusal (all_of (line_said labels.now) lines.now)) }
+    ensures said { IfOk result (λ said. each_read (line_placed labels.now) lines.now ≡ Ok said.items) }
+    ensures refused { IfErr result (IsRefusal (each_read (line_placed labels.now) lines.now)) }
 {
     let mut placed = Vec::new(alloc);
     for line in lines {
@@ -129,8 +129,8 @@ fn loops_of(
     start: u16,
     rows: &[Row<'_>],
 ) -> Result<Vec<Loop>, SourceFault>
-    ensures said { IfOk result (λ said. all_of (loop_said labels.now start) rows.now ≡ Ok said.items) }
-    ensures refused { IfErr result (IsRefusal (all_of (loop_said labels.now start) rows.now)) }
+    ensures said { IfOk result (λ said. each_read (loop_placed labels.now start) rows.now ≡ Ok said.items) }
+    ensures refused { IfErr result (IsRefusal (each_read (loop_placed labels.now start) rows.now)) }
 {
     let mut loops = Vec::new(alloc);
     for row in rows {
@@ -140,9 +140,9 @@ fn loops_of(
 }
 
 /// Appends a label, if its name is UTF-8.
-#[tactic(auto, unfolding(crate::specs::Programs::label_said))]
+#[tactic(auto, unfolding(crate::specs::Programs::label_told))]
 fn push_label<'a>(labels: &mut Vec<Label<'a>>, name: &LabelName<'a>) -> Result<(), AllocError>
-    ensures { OnOk result (map label_of labels.new.items ≡ map label_of labels.old.items ++ label_said name.now) }
+    ensures { OnOk result (map label_of labels.new.items ≡ map label_of labels.old.items ++ label_told name.now) }
 {
     if let Ok(text) = str::from_utf8(name.word.text) {
         labels.push(Label {
@@ -155,7 +155,7 @@ fn push_label<'a>(labels: &mut Vec<Label<'a>>, name: &LabelName<'a>) -> Result<(
 
 /// The labels of a text.
 fn labels_of<'a>(alloc: Global, names: &[LabelName<'a>]) -> Result<Vec<Label<'a>>, AllocError>
-    ensures { IfOk result (λ labels. map label_of labels.items ≡ labels_said names.now) }
+    ensures { IfOk result (λ labels. map label_of labels.items ≡ labels_told names.now) }
 {
     let mut labels = Vec::new(alloc);
     for name in names {
@@ -165,13 +165,13 @@ fn labels_of<'a>(alloc: Global, names: &[LabelName<'a>]) -> Result<Vec<Label<'a>
 }
 
 /// Appends a name of local words that end before a word, if it is UTF-8.
-#[tactic(auto, unfolding(crate::specs::Programs::local_said))]
+#[tactic(auto, unfolding(crate::specs::Programs::local_told))]
 fn push_local<'a>(
     locals: &mut Vec<Local<'a>>,
     name: &LocalName<'a>,
     end: u16,
 ) -> Result<(), AllocError>
-    ensures { OnOk result (map local_of locals.new.items ≡ map local_of locals.old.items ++ local_said name.now end) }
+    ensures { OnOk result (map local_of locals.new.items ≡ map local_of locals.old.items ++ local_told name.now end) }
 {
     if let Ok(text) = str::from_utf8(name.word.text) {
         locals.push(Local {
@@ -199,7 +199,7 @@ fn locals_of<'a>(
     names: &[LocalName<'a>],
     words: u16,
 ) -> Result<Vec<Local<'a>>, AllocError>
-    ensures { IfOk result (λ locals. map local_of locals.items ≡ locals_said words names.now) }
+    ensures { IfOk result (λ locals. map local_of locals.items ≡ locals_told words names.now) }
 {
     let mut locals = Vec::new(alloc);
     for (i, name) in names.iter().enumerate() {

@@ -2,8 +2,9 @@
 
 ghost use Rattle.std.specs.Prelude.{◌≡◌, ◌⊎◌, OnOk, IfOk, IfErr, Ok, Err};
 ghost use Rattle.tp_assembly_text.specs.Faults.{IsRefusal, out_of_memory};
-ghost use Rattle.tp_assembly_text.specs.Drafts.{Said, said};
-ghost use Rattle.tp_assembly_text.specs.Texts.{Says};
+ghost use Rattle.tp_assembly_text.specs.Drafts.{said};
+ghost use Rattle.tp_assembly_text.specs.Programs.{source_said};
+ghost use Rattle.tp_assembly_text.specs.Texts.{Says, IsSourceOf};
 ghost use Rattle.tp_assembly_text.specs.Meaning.{line_said};
 
 use crate::draft::Draft;
@@ -48,8 +49,8 @@ fn draft_of<'a>(alloc: Global, text: &'a str) -> Result<Draft<'a>, SourceFault>
 
 /// The program that a text says, or its first fault.
 pub fn read_source<'a>(alloc: Global, text: &'a str) -> Result<Source<'a>, SourceFault>
-    // What is read comes from a draft that the text says.
-    ensures { OnOk result ((d : Said) × Says text.now (Ok d)) }
+    ensures said { IfOk result (λ source. IsSourceOf text.now (Ok (source_said source))) }
+    ensures refused { IfErr result (λ e. (e ≡ out_of_memory) ⊎ IsSourceOf text.now (Err e)) }
 {
     let draft = draft_of(alloc, text)?;
     finish(alloc, draft)

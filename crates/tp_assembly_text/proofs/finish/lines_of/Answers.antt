@@ -1,15 +1,15 @@
 use Rattle.std.proofs.Common.{Ok, ap, sym, ◌∙◌, arith}
 use Rattle.std.proofs.lemmas.Result.{err_from_is_err_and}
-use Rattle.tp_assembly_text.specs.Programs.{all_of, line_said}
-use Rattle.tp_assembly_text.proofs.Programs.{all_of_more, all_of_fault}
+use Rattle.tp_assembly_text.specs.Programs.{line_placed}
+use Rattle.tp_assembly_text.proofs.Programs.{each_more, each_fault}
 use Rattle.tp_assembly_text.proofs.finish.lines_of.Goals as goal
 
 pub returns-in_err-line_of-clause-refused : goal.returns-in_err-line_of-clause-refused
 returns-in_err-line_of-clause-refused c =
     let p = err_from_is_err_and c.from_residual.result c.from_residual.ensures.1 in
-    rw (p.1, p.2) (all_of_fault (line_said c.args.labels.now) c.args.lines.now c.loop-line.line-index _ c.in_err-line_of.field-0.0 c.loop-line.placed.items (omega arith) c.in_err-line_of.ensures c.loop-line.invariant)
+    rw (p.1, p.2) (each_fault (line_placed c.args.labels.now) c.args.lines.now c.loop-line.line-index _ c.in_err-line_of.field-0.0 c.loop-line.placed.items (omega arith) c.in_err-line_of.ensures c.loop-line.invariant)
 
 pub loop-line-preserved : goal.loop-line-preserved
 loop-line-preserved c =
-    all_of_more (line_said c.args.labels.now) c.args.lines.now c.loop-line.line-index _ c.in_ok-line_of.field-0 c.loop-line.placed.items (omega arith) c.in_ok-line_of.ensures c.loop-line.invariant
+    each_more (line_placed c.args.labels.now) c.args.lines.now c.loop-line.line-index _ c.in_ok-line_of.field-0 c.loop-line.placed.items (omega arith) c.in_ok-line_of.ensures c.loop-line.invariant
     ∙ ap Ok (sym c.in_ok-push.ensures.items)

@@ -1,5 +1,6 @@
 use Rattle.std.proofs.Common.{◌≡◌, map, drop}
-use Rattle.tp_assembly_text.specs.Lists.{part, each_read, byte_line_said}
+use Rattle.tp_assembly_text.specs.Lists.{part, byte_line_said}
+use Rattle.tp_assembly_text.specs.Faults.{each_read}
 use Rattle.tp_assembly_text.proofs.Turns.{onto}
 use Rattle.tp_assembly_text.proofs.lists.byte_lines.Given as goal
 

@@ -1,5 +1,6 @@
 use Rattle.std.proofs.Common.{◌≡◌, ◌+◌, map, drop, ap, sym, ◌∙◌, inr, arith}
-use Rattle.tp_assembly_text.specs.Lists.{part, parts, each_read, new_local_said}
+use Rattle.tp_assembly_text.specs.Lists.{part, parts, new_local_said}
+use Rattle.tp_assembly_text.specs.Faults.{each_read}
 use Rattle.tp_assembly_text.proofs.Turns.{onto, passed_on, one_read, not_read, all_read}
 use Rattle.tp_assembly_text.proofs.lists.new_locals.Goals as goal
 
