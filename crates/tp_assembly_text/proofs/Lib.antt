@@ -3,3 +3,5 @@ mod Digits
 pub mod Parts
 pub mod Turns
 pub mod Folds
+mod Apart
+mod Additions

@@ -11,3 +11,4 @@ pub mod Grammar
 pub mod Meaning
 pub mod Texts
 pub use Rattle.tp_decode.specs.Table
+pub mod Apart

@@ -1,23 +1,21 @@
 -- What a text says.
-use Rattle.std.specs.Prelude.{◌≡◌, ℕ, ◌+◌, List, [], ◌∷◌, map, Result}
+use Rattle.std.specs.Prelude.{ℕ, ◌+◌, List, [], ◌∷◌, map, Result}
 use Rattle.std.specs.Str.Lines.{lines}
-use Rattle.tp_assembly_text.specs.declared.words.Word.{Word}
 use Rattle.tp_assembly_text.specs.declared.fault.SourceFault.{SourceFault}
-use Rattle.tp_assembly_text.specs.Words.{Token, token, words_of_line}
+use Rattle.tp_assembly_text.specs.Words.{Token, words_of_line}
 use Rattle.tp_assembly_text.specs.Drafts.{Said, empty}
-use Rattle.tp_assembly_text.specs.Meaning.{text_said}
+use Rattle.tp_assembly_text.specs.Meaning.{in_turn, line_said}
+use Rattle.tp_assembly_text.specs.Apart.{word_for}
 
 -- the words of lines, the first of which has a number
 abbrev pub words_of_lines : ℕ → List (List ℕ) → List (List Token)
 words_of_lines number [] = []
 words_of_lines number (line ∷ more) = words_of_line number line ∷ words_of_lines (number + 1) more
 
--- lines say a draft, or a fault: their words do, line by line. Words of the code are those of the lines where they stand for them
-pub record LinesSay (text : List (List ℕ)) (draft : Result Said SourceFault) : Type 0 where
-  pub words : List (List Word)
-  pub are : map (map token) words ≡ words_of_lines 1 text
-  pub said : text_said words empty ≡ draft
+-- what words say, line by line
+abbrev pub words_say : List (List Token) → Result Said SourceFault
+words_say words = in_turn line_said (map (map word_for) words) empty
 
--- a text says what its lines say
-abbrev pub Says : List ℕ → Result Said SourceFault → Type 0
-Says text draft = LinesSay (lines text) draft
+-- what a text says, or its first fault
+unfoldable pub text_said : List ℕ → Result Said SourceFault
+text_said text = words_say (words_of_lines 1 (lines text))

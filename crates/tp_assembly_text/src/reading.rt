@@ -1,9 +1,10 @@
 //! Reading a text.
 
-ghost use Rattle.std.specs.Prelude.{◌≡◌, ◌⊎◌, OnOk, IfOk, IfErr, Ok, Err};
-ghost use Rattle.tp_assembly_text.specs.Faults.{IsRefusal, out_of_memory};
-ghost use Rattle.tp_assembly_text.specs.Drafts.{Said, said};
-ghost use Rattle.tp_assembly_text.specs.Texts.{Says};
+ghost use Rattle.std.specs.Prelude.{◌≡◌, OnOk, IfOk, IfErr, IsOk, Ok};
+ghost use Rattle.tp_assembly_text.specs.Faults.{IsRefusal};
+ghost use Rattle.tp_assembly_text.specs.Drafts.{said};
+ghost use Rattle.tp_assembly_text.specs.Apart.{draft_apart};
+ghost use Rattle.tp_assembly_text.specs.Texts.{text_said};
 ghost use Rattle.tp_assembly_text.specs.Meaning.{line_said};
 
 use crate::draft::Draft;
@@ -35,8 +36,8 @@ fn read_line<'a>(
 
 /// What a text says, line by line, or its first fault.
 fn draft_of<'a>(alloc: Global, text: &'a str) -> Result<Draft<'a>, SourceFault>
-    ensures said { IfOk result (λ d. Says text.now (Ok (said d))) }
-    ensures refused { IfErr result (λ e. (e ≡ out_of_memory) ⊎ Says text.now (Err e)) }
+    ensures said { IfOk result (λ d. text_said text.now ≡ Ok (draft_apart (said d))) }
+    ensures refused { IfErr result (IsRefusal (text_said text.now)) }
 {
     let mut draft = Draft::new(alloc);
     for (i, line) in text.lines().enumerate() {
@@ -48,8 +49,8 @@ fn draft_of<'a>(alloc: Global, text: &'a str) -> Result<Draft<'a>, SourceFault>
 
 /// The program that a text says, or its first fault.
 pub fn read_source<'a>(alloc: Global, text: &'a str) -> Result<Source<'a>, SourceFault>
-    // What is read comes from a draft that the text says.
-    ensures { OnOk result ((d : Said) × Says text.now (Ok d)) }
+    // A program is read only of a text that says a draft.
+    ensures { OnOk result (IsOk (text_said text.now)) }
 {
     let draft = draft_of(alloc, text)?;
     finish(alloc, draft)
