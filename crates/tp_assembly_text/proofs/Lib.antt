@@ -4,3 +4,6 @@ pub mod Parts
 pub mod Turns
 pub mod Folds
 pub mod Programs
+mod Apart
+mod Additions
+mod Finished

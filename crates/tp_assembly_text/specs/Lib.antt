@@ -12,3 +12,4 @@ pub mod Meaning
 pub mod Programs
 pub mod Texts
 pub use Rattle.tp_decode.specs.Table
+pub mod Apart

@@ -164,7 +164,3 @@ unfoldable pub line_said : List Word → Said → Result Said SourceFault
 line_said (label ∷ mark ∷ words) d = if is_colon mark then labelled label words d else unlabelled (label ∷ mark ∷ words) d
 line_said (word ∷ []) d = unlabelled (word ∷ []) d
 line_said [] d = unlabelled [] d
-
--- the lines of a text, one after another
-abbrev pub text_said : List (List Word) → Said → Result Said SourceFault
-text_said lines d = in_turn line_said lines d

@@ -1,10 +1,11 @@
 //! Reading a text.
 
-ghost use Rattle.std.specs.Prelude.{◌≡◌, ◌⊎◌, OnOk, IfOk, IfErr, Ok, Err};
-ghost use Rattle.tp_assembly_text.specs.Faults.{IsRefusal, out_of_memory};
+ghost use Rattle.std.specs.Prelude.{◌≡◌, OnOk, IfOk, IfErr, Ok};
+ghost use Rattle.tp_assembly_text.specs.Faults.{IsRefusal};
 ghost use Rattle.tp_assembly_text.specs.Drafts.{said};
+ghost use Rattle.tp_assembly_text.specs.Apart.{draft_apart};
 ghost use Rattle.tp_assembly_text.specs.Programs.{source_said};
-ghost use Rattle.tp_assembly_text.specs.Texts.{Says, IsSourceOf};
+ghost use Rattle.tp_assembly_text.specs.Texts.{text_said, source_of};
 ghost use Rattle.tp_assembly_text.specs.Meaning.{line_said};
 
 use crate::draft::Draft;
@@ -36,8 +37,8 @@ fn read_line<'a>(
 
 /// What a text says, line by line, or its first fault.
 fn draft_of<'a>(alloc: Global, text: &'a str) -> Result<Draft<'a>, SourceFault>
-    ensures said { IfOk result (λ d. Says text.now (Ok (said d))) }
-    ensures refused { IfErr result (λ e. (e ≡ out_of_memory) ⊎ Says text.now (Err e)) }
+    ensures said { IfOk result (λ d. text_said text.now ≡ Ok (draft_apart (said d))) }
+    ensures refused { IfErr result (IsRefusal (text_said text.now)) }
 {
     let mut draft = Draft::new(alloc);
     for (i, line) in text.lines().enumerate() {
@@ -49,8 +50,8 @@ fn draft_of<'a>(alloc: Global, text: &'a str) -> Result<Draft<'a>, SourceFault>
 
 /// The program that a text says, or its first fault.
 pub fn read_source<'a>(alloc: Global, text: &'a str) -> Result<Source<'a>, SourceFault>
-    ensures said { IfOk result (λ source. IsSourceOf text.now (Ok (source_said source))) }
-    ensures refused { IfErr result (λ e. (e ≡ out_of_memory) ⊎ IsSourceOf text.now (Err e)) }
+    ensures said { IfOk result (λ source. source_of text.now ≡ Ok (source_said source)) }
+    ensures refused { IfErr result (IsRefusal (source_of text.now)) }
 {
     let draft = draft_of(alloc, text)?;
     finish(alloc, draft)
