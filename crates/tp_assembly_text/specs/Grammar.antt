@@ -172,7 +172,8 @@ plain_line word bytes instr = record { word = word; line = Known (Spelled (Plain
 
 -- a number behind the operand of an instruction of a function
 abbrev pub number_line : Word → Option ℕ → ℕ → ℤ → Result NewLine SourceFault
-number_line word bytes function n = ok_or (option_map (plain_line word bytes) (instruction function n)) (fault_at word Unknown)
+number_line word bytes function n =
+    ok_or (option_map (plain_line word bytes) (instruction function n)) (fault_at word Unknown)
 
 -- + N behind a local's name, or nothing
 abbrev pub offset_at : List Word → ℕ → Option Word → Result (Option Offset) SourceFault
@@ -217,7 +218,8 @@ unfoldable pub operand_said : List Word → Word → ℕ → Option ℕ → ℕ 
 operand_said words first function bytes i word =
     if not (begins_number word.text.now) && is_word first (codes "j") then label_line words first i (Jump word bytes)
     else if not (begins_number word.text.now) && is_word first (codes "cj") then label_line words first i (Cj word bytes)
-    else if is_word first (codes "ldc") && is_word_here (slice_get words i) (codes "-") then distance_said words first bytes i word
+    else if is_word first (codes "ldc") && is_word_here (slice_get words i) (codes "-")
+    then distance_said words first bytes i word
     else if begins_number word.text.now then number_said words first function bytes i word
     else local_instr_said words first function bytes i word
 
@@ -257,12 +259,17 @@ keyword_said keyword.Results words first = field_said words first >>= λ n. Ok (
 keyword_said keyword.Start words first = field_said words first >>= λ n. Ok (SetsStart n)
 keyword_said keyword.Workspace words first = field_said words first >>= λ n. Ok (SetsWorkspace n)
 keyword_said keyword.Version words first = version_said words first >>= λ v. Ok (SetsVersion v)
-keyword_said keyword.Local words first = list_said new_local_said first (drop 1 words) >>= λ locals. Ok (NamesLocals locals)
+keyword_said keyword.Local words first =
+    list_said new_local_said first (drop 1 words) >>= λ locals. Ok (NamesLocals locals)
 keyword_said keyword.Init words first = initial_said words first
-keyword_said keyword.Byte words first = list_said byte_line_said first (drop 1 words) >>= λ lines. Ok (AddsLines lines)
-keyword_said keyword.Receive words first = one_name_said words first >>= λ name. Ok (AddsMessage first message.Receive name)
-keyword_said keyword.Send words first = one_name_said words first >>= λ name. Ok (AddsMessage first message.Send name)
-keyword_said keyword.Trace words first = one_name_said words first >>= λ name. Ok (AddsMessage first message.Trace name)
+keyword_said keyword.Byte words first =
+    list_said byte_line_said first (drop 1 words) >>= λ lines. Ok (AddsLines lines)
+keyword_said keyword.Receive words first =
+    one_name_said words first >>= λ name. Ok (AddsMessage first message.Receive name)
+keyword_said keyword.Send words first =
+    one_name_said words first >>= λ name. Ok (AddsMessage first message.Send name)
+keyword_said keyword.Trace words first =
+    one_name_said words first >>= λ name. Ok (AddsMessage first message.Trace name)
 keyword_said keyword.For words first = new_loop_said words first >>= λ loop. Ok (BeginsLoop loop)
 keyword_said keyword.End words first = one_name_said words first >>= λ name. Ok (EndsLoop first name)
 keyword_said keyword.Loop words first = row_said words first >>= λ row. Ok (AddsRow first row)

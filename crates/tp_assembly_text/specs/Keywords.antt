@@ -24,7 +24,8 @@ keyword_name Loop = codes "loop"
 
 abbrev pub keywords : List Keyword
 keywords =
-    Worker ∷ Packet ∷ Results ∷ Start ∷ Workspace ∷ Version ∷ Local ∷ Init ∷ Byte ∷ Receive ∷ Send ∷ Trace ∷ For ∷ End ∷ Loop ∷ []
+    Worker ∷ Packet ∷ Results ∷ Start ∷ Workspace ∷ Version ∷ Local ∷ Init ∷ Byte
+    ∷ Receive ∷ Send ∷ Trace ∷ For ∷ End ∷ Loop ∷ []
 
 -- the keyword that a word is, in capitals or not
 unfoldable pub keyword_named : List ℕ → Option Keyword

@@ -81,7 +81,8 @@ size_said name words =
       Ok size
 
 abbrev pub is_bracket : Word → Bool
-is_bracket word = str_eq_ignore_ascii_case word.text.now (codes "[") || str_eq_ignore_ascii_case word.text.now (codes "]")
+is_bracket word =
+    str_eq_ignore_ascii_case word.text.now (codes "[") || str_eq_ignore_ascii_case word.text.now (codes "]")
 
 -- a name of local words: NAME or NAME[SIZE]
 unfoldable pub new_local_said : Part → Result NewLocal SourceFault

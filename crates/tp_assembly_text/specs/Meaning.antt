@@ -39,7 +39,9 @@ local_added l d = locals_named l.name l.size d
 
 -- an initial word more
 unfoldable pub initial_added : InitialWord → Said → Result Said SourceFault
-initial_added v d = if is_full d.initial then Err (fault_at v.word TooMany) else Ok (record d { initial = d.initial ++ v.value ∷ [] })
+initial_added v d =
+    if is_full d.initial then Err (fault_at v.word TooMany)
+    else Ok (record d { initial = d.initial ++ v.value ∷ [] })
 
 -- initial words from a place on that is not before the end of those so far. Words between have the value 0
 unfoldable pub initials_added : Word → ℕ → List InitialWord → Said → Result Said SourceFault
@@ -62,7 +64,8 @@ plain instr = Known (Spelled (operation.Plain instr) None)
 abbrev pub operand_with : Option Offset → ℕ → Result ℤ SourceFault
 operand_with None local = Ok (pos local)
 operand_with (Some offset) local =
-    if int_lt (pos local +ℤ offset.number) (pos (2 ^ 31)) then Ok (pos local +ℤ offset.number) else Err (fault_at offset.mark OutOfRange)
+    if int_lt (pos local +ℤ offset.number) (pos (2 ^ 31)) then Ok (pos local +ℤ offset.number)
+    else Err (fault_at offset.mark OutOfRange)
 
 unfoldable pub local_instr_added : LocalInstr → Said → Result Said SourceFault
 local_instr_added i d = do
@@ -77,9 +80,12 @@ instruction_added (OfLocal i) d = local_instr_added i d
 
 -- a message between local words and a link: the packet from link 0, the result to link 0, or one word to link 1
 abbrev pub message_lines : Message → Said → ℕ → List DraftLine
-message_lines Receive d local = plain (Ldlp (pos local)) ∷ plain Mint ∷ plain (Ldnlp (pos 4)) ∷ plain (Ldc (pos (4 * d.packet))) ∷ plain Input ∷ []
-message_lines Send d local = plain (Ldlp (pos local)) ∷ plain Mint ∷ plain (Ldc (pos (4 * d.results))) ∷ plain Output ∷ []
-message_lines Trace d local = plain (Ldlp (pos local)) ∷ plain Mint ∷ plain (Ldnlp (pos 1)) ∷ plain (Ldc (pos 4)) ∷ plain Output ∷ []
+message_lines Receive d local =
+    plain (Ldlp (pos local)) ∷ plain Mint ∷ plain (Ldnlp (pos 4)) ∷ plain (Ldc (pos (4 * d.packet))) ∷ plain Input ∷ []
+message_lines Send d local =
+    plain (Ldlp (pos local)) ∷ plain Mint ∷ plain (Ldc (pos (4 * d.results))) ∷ plain Output ∷ []
+message_lines Trace d local =
+    plain (Ldlp (pos local)) ∷ plain Mint ∷ plain (Ldnlp (pos 1)) ∷ plain (Ldc (pos 4)) ∷ plain Output ∷ []
 
 unfoldable pub message_added : Word → Message → Word → Said → Result Said SourceFault
 message_added word message name d = do
@@ -88,10 +94,14 @@ message_added word message name d = do
 
 -- a loop begins: its two local words take the start and the count, and the head is behind
 abbrev pub loop_begins : ℕ → NewLoop → List DraftLine
-loop_begins local l = plain (Ldc l.start) ∷ plain (Stl (pos local)) ∷ plain (Ldc (pos l.count)) ∷ plain (Stl (pos (local + 1))) ∷ []
+loop_begins local l =
+    plain (Ldc l.start) ∷ plain (Stl (pos local)) ∷ plain (Ldc (pos l.count)) ∷ plain (Stl (pos (local + 1))) ∷ []
+
+abbrev pub as_begun : ℕ → NewLoop → ℕ → Begun
+as_begun local l head = record { name = l.name; local = local; head = head; count = l.count; start = l.start }
 
 abbrev pub begun : ℕ → NewLoop → Said → Said
-begun local l d = record d { begun = d.begun ++ (record { name = l.name; local = local; head = length d.lines; count = l.count; start = l.start }) ∷ [] }
+begun local l d = record d { begun = d.begun ++ as_begun local l (length d.lines) ∷ [] }
 
 unfoldable pub loop_begun : NewLoop → Said → Result Said SourceFault
 loop_begun l d = do
@@ -101,15 +111,19 @@ loop_begun l d = do
 
 -- the innermost loop ends: the bytes from its head to behind its lend
 abbrev pub loop_ends : Begun → ℕ → List DraftLine
-loop_ends b lend = plain (Ldlp (pos b.local)) ∷ Known (Spelled (operation.Distance b.head (lend + 1)) None) ∷ plain Lend ∷ []
+loop_ends b lend =
+    plain (Ldlp (pos b.local)) ∷ Known (Spelled (operation.Distance b.head (lend + 1)) None) ∷ plain Lend ∷ []
 
 -- its row
 abbrev pub row_of : Begun → ℕ → Row
-row_of b lend = record { head = Place b.head; lend = Place lend; control = control.Local b.local; count = b.count; start = b.start }
+row_of b lend =
+    record { head = Place b.head; lend = Place lend; control = control.Local b.local; count = b.count; start = b.start }
 
 -- a row more, where a word asks for it
 abbrev pub row_added : Word → Row → Said → Result Said SourceFault
-row_added word row d = if is_full d.rows then Err (fault_at word TooMany) else Ok (record d { rows = d.rows ++ row ∷ [] })
+row_added word row d =
+    if is_full d.rows then Err (fault_at word TooMany)
+    else Ok (record d { rows = d.rows ++ row ∷ [] })
 
 -- the loop that began last
 abbrev pub innermost : List Begun → Option Begun
@@ -161,6 +175,7 @@ abbrev pub is_colon : Word → Bool
 is_colon word = str_eq_ignore_ascii_case word.text.now (codes ":")
 
 unfoldable pub line_said : List Word → Said → Result Said SourceFault
-line_said (label ∷ mark ∷ words) d = if is_colon mark then labelled label words d else unlabelled (label ∷ mark ∷ words) d
+line_said (label ∷ mark ∷ words) d =
+    if is_colon mark then labelled label words d else unlabelled (label ∷ mark ∷ words) d
 line_said (word ∷ []) d = unlabelled (word ∷ []) d
 line_said [] d = unlabelled [] d

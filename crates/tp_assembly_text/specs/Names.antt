@@ -25,14 +25,15 @@ operation_named word = find (names word) operations
 -- instructions of the T414 that have no row in the table, and two of later ones
 abbrev pub left_out : List (List ℕ)
 left_out =
-    codes "call" ∷ codes "ret" ∷ codes "gcall" ∷ codes "gajw" ∷ codes "ldpi" ∷ codes "startp" ∷ codes "endp" ∷ codes "runp"
-    ∷ codes "ldpri" ∷ codes "saveh" ∷ codes "savel" ∷ codes "sthf" ∷ codes "sthb" ∷ codes "stlf" ∷ codes "stlb" ∷ codes "resetch"
-    ∷ codes "alt" ∷ codes "altwt" ∷ codes "altend" ∷ codes "enbc" ∷ codes "disc" ∷ codes "enbs" ∷ codes "diss" ∷ codes "enbt"
-    ∷ codes "dist" ∷ codes "talt" ∷ codes "taltwt" ∷ codes "tin" ∷ codes "ldtimer" ∷ codes "sttimer" ∷ codes "outbyte"
-    ∷ codes "outword" ∷ codes "ladd" ∷ codes "lsub" ∷ codes "lsum" ∷ codes "ldiff" ∷ codes "lmul" ∷ codes "ldiv" ∷ codes "lshl"
-    ∷ codes "lshr" ∷ codes "norm" ∷ codes "fmul" ∷ codes "xword" ∷ codes "cword" ∷ codes "xdble" ∷ codes "csngl" ∷ codes "ccnt1"
-    ∷ codes "bcnt" ∷ codes "wcnt" ∷ codes "unpacksn" ∷ codes "roundsn" ∷ codes "postnormsn" ∷ codes "ldinf" ∷ codes "cflerr"
-    ∷ codes "testerr" ∷ codes "testpranal" ∷ codes "dup" ∷ codes "pop" ∷ []
+    codes "call" ∷ codes "ret" ∷ codes "gcall" ∷ codes "gajw" ∷ codes "ldpi" ∷ codes "startp" ∷ codes "endp" ∷
+    codes "runp" ∷ codes "ldpri" ∷ codes "saveh" ∷ codes "savel" ∷ codes "sthf" ∷ codes "sthb" ∷ codes "stlf" ∷
+    codes "stlb" ∷ codes "resetch" ∷ codes "alt" ∷ codes "altwt" ∷ codes "altend" ∷ codes "enbc" ∷
+    codes "disc" ∷ codes "enbs" ∷ codes "diss" ∷ codes "enbt" ∷ codes "dist" ∷ codes "talt" ∷ codes "taltwt" ∷
+    codes "tin" ∷ codes "ldtimer" ∷ codes "sttimer" ∷ codes "outbyte" ∷ codes "outword" ∷ codes "ladd" ∷
+    codes "lsub" ∷ codes "lsum" ∷ codes "ldiff" ∷ codes "lmul" ∷ codes "ldiv" ∷ codes "lshl" ∷ codes "lshr" ∷
+    codes "norm" ∷ codes "fmul" ∷ codes "xword" ∷ codes "cword" ∷ codes "xdble" ∷ codes "csngl" ∷
+    codes "ccnt1" ∷ codes "bcnt" ∷ codes "wcnt" ∷ codes "unpacksn" ∷ codes "roundsn" ∷ codes "postnormsn" ∷
+    codes "ldinf" ∷ codes "cflerr" ∷ codes "testerr" ∷ codes "testpranal" ∷ codes "dup" ∷ codes "pop" ∷ []
 
 -- the profile leaves out the instruction of this name
 unfoldable pub is_left_out : List ℕ → Bool
