@@ -1,8 +1,9 @@
 -- Sessions by name, and the map that keeps them.
-use Rattle.std.proofs.Common.{◌≡◌, ℕ, zero, suc, ◌+◌, ◌<◌, nat_eq, nat_lt, nat_le, not, Bool, true, false, cond, if◌then◌else◌, List, [], ◌∷◌, ◌++◌, length, map, slice_get, slice_set, remove, position, vec_len, Option, Some, None, IfSome, subst, refl, ap, sym, ◌∙◌, arith}
+use Rattle.std.proofs.Common.{◌≡◌, ℕ, zero, suc, ◌+◌, ◌<◌, ◌≤◌, is_some, nat_eq, nat_lt, nat_le, not, Bool, true, false, cond, if◌then◌else◌, List, [], ◌∷◌, ◌++◌, length, map, slice_get, slice_set, remove, position, vec_len, Option, Some, None, IfSome, subst, refl, ap, sym, ◌∙◌, arith}
 use Rattle.std.specs.Cmp.Lexicographic.{pointwise, same_text}
 use Rattle.std.specs.List.{position_or_len}
 use Rattle.std.specs.Map.{keys_of, values_of}
+use Rattle.std.proofs.lemmas.Bool.Decides.{nat_tests}
 use Rattle.std.proofs.lemmas.Option.{same_Some}
 use Rattle.std.proofs.lemmas.List.{map-append, length-map}
 use Rattle.indexmap.specs.Layout.{set_value_at}
@@ -60,12 +61,22 @@ absent_from name (s ∷ sessions) none = ap (λ b. if b then Some s else named n
 pub absent : (name : List ℕ) (sessions : List Session) → position (is_of name) sessions ≡ None → named name sessions ≡ None
 absent name sessions none = absent_from name sessions (none_found (is_of name) sessions none)
 
--- whether one more may open
-pub full_some : (name : List ℕ) (sessions : List Session) (i : ℕ) → position (is_of name) sessions ≡ Some i → false ≡ is_full name sessions
-full_some name sessions i found = let it = placed name sessions i found in rw it.is_named refl
+-- whether one more may open, where this is the place of its name
+pub full_none : (name : List ℕ) (sessions : List Session) (place : Option ℕ) (none : Bool) → place ≡ position (is_of name) sessions → is_some place ≡ not none → none ≡ true → most_sessions ≤ length sessions → is_full name sessions ≡ true
+full_none name sessions None none at is e many =
+    let test : nat_le most_sessions (length sessions) ≡ true = grind (arith, nat_tests, many) in
+    rw (absent name sessions (sym at)) test
+full_none name sessions (Some i) none at is e many = cc
 
-pub full_none : (name : List ℕ) (sessions : List Session) → position (is_of name) sessions ≡ None → nat_le most_sessions (length sessions) ≡ is_full name sessions
-full_none name sessions none = rw (absent name sessions none) refl
+pub full_some : (name : List ℕ) (sessions : List Session) (place : Option ℕ) (none : Bool) → place ≡ position (is_of name) sessions → is_some place ≡ not none → none ≡ false → is_full name sessions ≡ false
+full_some name sessions None none at is e = cc
+full_some name sessions (Some i) none at is e = let it = placed name sessions i (sym at) in rw it.is_named refl
+
+pub full_room : (name : List ℕ) (sessions : List Session) (place : Option ℕ) → place ≡ position (is_of name) sessions → length sessions < most_sessions → is_full name sessions ≡ false
+full_room name sessions None at few =
+    let test : nat_le most_sessions (length sessions) ≡ false = grind (arith, nat_tests, few) in
+    rw (absent name sessions (sym at)) test
+full_room name sessions (Some i) at few = let it = placed name sessions i (sym at) in rw it.is_named refl
 
 -- ---- the entries of a map, as sessions
 

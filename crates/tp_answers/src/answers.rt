@@ -1,12 +1,13 @@
 //! Answers to lines that run nothing.
 
-ghost use Rattle.std.specs.Prelude.{◌≡◌, ◌≤◌, ◌++◌, ℕ, nat_lt, length, IsTrue, OnOk};
+ghost use Rattle.std.specs.Prelude.{◌≡◌, ◌≤◌, ◌++◌, ℕ, nat_lt, length, position, IsTrue, OnOk};
 ghost use Rattle.std.specs.List.{flat_map, list_all};
+ghost use Rattle.tp_requests.specs.Spelling.{bytes_spelled};
 ghost use Rattle.tp_decode.specs.Lines.{lines_from};
 ghost use Rattle.tp_decode.specs.Cutting.{cutting};
 ghost use Rattle.tp_accept.specs.Refusals.{refusal_code_text};
 ghost use Rattle.tp_accept.specs.Verdict.{allowed};
-ghost use Rattle.tp_answers.specs.Sessions.{named};
+ghost use Rattle.tp_answers.specs.Sessions.{is_of, named};
 ghost use Rattle.tp_answers.specs.Told.{written, refusal, listing_answer, yes_line, GoesOnWith};
 ghost use Rattle.tp_answers.specs.Answers.{is_full, IsJudged, AnswersImage, AnswersPacket, AnswersDrop, standing};
 ghost use Rattle.tp_answers.specs.Open.{sessions_of};
@@ -19,13 +20,16 @@ use std::io::Write;
 use tp_accept::{Accepted, Refusal, RefusalCode, accept};
 use tp_board::Packet;
 use tp_decode::{DecodeFault, Listing, decode};
-use tp_requests::Name;
+use tp_requests::{Name, Spelled};
 
 /// The most sessions that are open at a time.
 const MOST_SESSIONS: usize = 64;
 
 /// The most packets that a session keeps.
 const MOST_PACKETS: usize = 1024;
+
+/// The most bytes of a packet.
+const MOST_PACKET_BYTES: usize = 256;
 
 /// A line that is refused: its code and the place, behind what is told already.
 pub fn refusal(told: &mut Vec<u8>, code: &str, place: u64) -> Result<(), AllocError>
@@ -79,31 +83,24 @@ fn refused(told: &mut Vec<u8>, code: RefusalCode, place: usize) -> Result<(), Al
     write!(told, "NO {code} {place}\n").or(Err(AllocError))
 }
 
-/// No more sessions may open.
-fn is_full(sessions: &Sessions, name: &Name) -> bool
-    ensures { result ≡ is_full name.now.items (sessions_of sessions.now) }
-{
-    match sessions.find(name) {
-        Some(_) => false,
-        None => sessions.len() >= MOST_SESSIONS,
-    }
-}
-
-/// Judges the text of an image. An image that may be run opens a session, or replaces the image of the session of this name.
+/// Judges the text of an image. An image that may be run opens a session, or replaces the image of the session that stands at
+/// the place of this name.
 fn judge(
     sessions: &mut Sessions,
     told: &mut Vec<u8>,
     alloc: Global,
+    place: Option<usize>,
     name: Name,
     text: Vec<u8>,
 ) -> Result<(), AllocError>
+    requires { place ≡ position (is_of name.items) (sessions_of sessions.old) }
     ensures { (batches : ℕ) → OnOk result (GoesOnWith (λ line. IsJudged name.items text.items
         (standing (sessions_of sessions.old) batches) line (standing (sessions_of sessions.new) batches)) told.old.items told.new.items) }
 {
     match accept(alloc, text) {
         Ok(image) => {
             tell_yes(told, &image)?;
-            sessions.put(name, Kept::new(alloc, image))?;
+            sessions.set(place, name, Kept::new(alloc, image))?;
             Ok(())
         }
         Err(Refusal::Refused { code, place }) => refused(told, code, place),
@@ -124,23 +121,23 @@ pub fn open(
     ensures { (batches : ℕ) → OnOk result (GoesOnWith (λ line. AnswersImage (is_full name.items (sessions_of sessions.old)) number name.items text.items
         (standing (sessions_of sessions.old) batches) line (standing (sessions_of sessions.new) batches)) told.old.items told.new.items) }
 {
-    if is_full(sessions, &name) {
+    let place = sessions.find(&name);
+    if place.is_none() && sessions.len() >= MOST_SESSIONS {
         return refusal(told, "E2", number);
     }
-    judge(sessions, told, alloc, name, text)
+    judge(sessions, told, alloc, place, name, text)
 }
 
-/// The packet of some bytes.
-fn packet_of(bytes: &[u8]) -> Packet
-    requires { length bytes.now ≤ 256 }
-    ensures items { result.items ≡ bytes.now }
+/// The packet of the bytes that are spelled, which are decoded into it.
+fn packet_of(bytes: &Spelled<'_>) -> Packet
+    requires { length (bytes_spelled bytes.now) ≤ 256 }
+    ensures items { result.items ≡ bytes_spelled bytes.now }
     ensures bytes { IsTrue (list_all (λ b. nat_lt b 256) result.items) }
 {
-    let mut packet = Packet::new();
-    match packet.try_extend_from_slice(bytes) {
-        Ok(()) => packet,
-        Err(_) => unreachable!(),
-    }
+    let mut packet = Packet::from_array_in((), [0; MOST_PACKET_BYTES]);
+    packet.truncate(bytes.count());
+    bytes.decode_into(packet.as_mut_slice());
+    packet
 }
 
 /// A session keeps a packet. The answer comes behind what is told already.
@@ -149,16 +146,16 @@ pub fn keep(
     told: &mut Vec<u8>,
     number: u64,
     name: &Name,
-    bytes: &[u8],
+    bytes: &Spelled<'_>,
 ) -> Result<(), AllocError>
-    ensures { (batches : ℕ) → OnOk result (GoesOnWith (λ line. AnswersPacket (named name.now.items (sessions_of sessions.old)) number bytes.now
+    ensures { (batches : ℕ) → OnOk result (GoesOnWith (λ line. AnswersPacket (named name.now.items (sessions_of sessions.old)) number (bytes_spelled bytes.now)
         (standing (sessions_of sessions.old) batches) line (standing (sessions_of sessions.new) batches)) told.old.items told.new.items) }
 {
     let Some(index) = sessions.find(name) else {
         return refusal(told, "P2", number);
     };
     let kept = sessions.at(index);
-    if bytes.len() != kept.image.packet_bytes() {
+    if bytes.count() != kept.image.packet_bytes() {
         return refusal(told, "P1", number);
     }
     let count = kept.packets.len();

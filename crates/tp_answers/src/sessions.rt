@@ -68,6 +68,25 @@ impl Sessions {
         Ok(())
     }
 
+    /// Opens a session, behind all others, or replaces the one that stands at the place of its name.
+    pub(crate) fn set(
+        &mut self,
+        place: Option<usize>,
+        name: Name,
+        kept: Kept,
+    ) -> Result<(), AllocError>
+        requires { place ≡ position (is_of name.items) (sessions_of self.old) }
+        ensures { OnOk result (sessions_of self.new ≡ with_session (session_of name.items kept) (sessions_of self.old)) }
+    {
+        match place {
+            Some(index) => {
+                self.by_name[index] = kept;
+                Ok(())
+            }
+            None => self.put(name, kept),
+        }
+    }
+
     /// The session at a place keeps one packet more.
     pub fn keep(&mut self, index: usize, packet: Packet) -> Result<(), AllocError>
         requires there { index < length (sessions_of self.old) }

@@ -4,6 +4,7 @@ use Rattle.std.specs.Option.{option_map}
 use Rattle.tp_requests.specs.declared.request.Request.{Request}
 use Rattle.tp_requests.specs.declared.request.Request.TheVariants as request
 use Rattle.tp_requests.specs.Fields.{fields_of, is_text, is_name, hex_bytes}
+use Rattle.tp_requests.specs.Spelling.{bytes_spelled}
 
 pub data Asked : Type 0 where
   -- the listing of a code
@@ -50,7 +51,7 @@ asked_by line = of_fields (fields_of line)
 abbrev pub asked : Request → Asked
 asked (request.List code) = ToList code.items
 asked (request.Image name text) = ToOpen name.items text.items
-asked (request.Packet name bytes) = ToKeep name.items bytes.items
+asked (request.Packet name bytes) = ToKeep name.items (bytes_spelled bytes)
 asked (request.Run name) = ToRun name.items
 asked request.RunAll = ToRunAll
 asked (request.Close name) = ToDrop name.items

@@ -6,5 +6,7 @@
 
 mod fields;
 mod request;
+mod spelled;
 
 pub use request::{Name, Request, read_request};
+pub use spelled::Spelled;

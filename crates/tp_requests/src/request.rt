@@ -5,6 +5,7 @@ ghost use Rattle.std.specs.Option.{option_map};
 ghost use Rattle.tp_requests.specs.Requests.{asked, of_two, of_three, asked_by};
 
 use crate::fields::{bytes_of, name_of, split_field};
+use crate::spelled::Spelled;
 use arrayvec::ArrayVec;
 use std::alloc::{AllocError, Global};
 
@@ -16,13 +17,13 @@ pub type Name = ArrayVec<u8, MOST_NAME>;
 
 /// What a line asks for.
 #[derive(Drop)]
-pub enum Request {
+pub enum Request<'a> {
     /// The listing of a code.
     List(Vec<u8>),
     /// A session of this name, with the image of this text.
     Image(Name, Vec<u8>),
     /// That the session keeps a packet.
-    Packet(Name, Vec<u8>),
+    Packet(Name, Spelled<'a>),
     /// To run the packets of the session.
     Run(Name),
     /// To run the packets of all sessions.
@@ -32,7 +33,7 @@ pub enum Request {
 }
 
 /// What two fields ask for.
-fn of_two(alloc: Global, first: &[u8], second: &[u8]) -> Result<Option<Request>, AllocError>
+fn of_two<'a>(alloc: Global, first: &[u8], second: &[u8]) -> Result<Option<Request<'a>>, AllocError>
     ensures { IfOk result (λ r. option_map asked r ≡ of_two first.now second.now) }
 {
     if first == b"LIST".as_slice() {
@@ -57,12 +58,12 @@ fn of_two(alloc: Global, first: &[u8], second: &[u8]) -> Result<Option<Request>,
 }
 
 /// What three fields ask for.
-fn of_three(
+fn of_three<'a>(
     alloc: Global,
     first: &[u8],
     second: &[u8],
-    third: &[u8],
-) -> Result<Option<Request>, AllocError>
+    third: &'a [u8],
+) -> Result<Option<Request<'a>>, AllocError>
     ensures { IfOk result (λ r. option_map asked r ≡ of_three first.now second.now third.now) }
 {
     let Some(name) = name_of(first) else {
@@ -74,7 +75,7 @@ fn of_three(
             None => Ok(None),
         }
     } else if second == b"PACKET".as_slice() {
-        match bytes_of(alloc, third)? {
+        match Spelled::of(third) {
             Some(bytes) => Ok(Some(Request::Packet(name, bytes))),
             None => Ok(None),
         }
@@ -84,17 +85,15 @@ fn of_three(
 }
 
 /// What a line asks for, without its line feed: none where it is none of the protocol's lines.
-pub fn read_request(alloc: Global, line: &[u8]) -> Result<Option<Request>, AllocError>
+pub fn read_request(alloc: Global, line: &[u8]) -> Result<Option<Request<'_>>, AllocError>
     ensures { IfOk result (λ r. option_map asked r ≡ asked_by line.now) }
 {
     let Some((first, rest)) = split_field(line) else {
         return Ok(None);
     };
-    let Some((second, third)) = split_field(rest) else {
-        return of_two(alloc, first, rest);
-    };
-    match split_field(third) {
-        None => of_three(alloc, first, second, third),
-        Some(_) => Ok(None),
+    match split_field(rest) {
+        None => of_two(alloc, first, rest),
+        // A third field with a space in it spells nothing, so that a fourth is refused.
+        Some((second, third)) => of_three(alloc, first, second, third),
     }
 }

@@ -131,13 +131,13 @@ impl<D: LinkDevice + Send> Service<D> {
         rt: &R,
         alloc: Global,
         number: u64,
-        request: Request,
+        request: Request<'_>,
         told: &mut Vec<u8>,
     ) -> Result<(), ServeFault>
         requires members { HasMembers self.old.links.items }
         requires listed { IsListable (asked request) }
         ensures told { AreFit D.state self.old.links.items → OnOk result (GoesOnWith (λ lines.
-            Answers self.old.trace number (Some (asked request)) (standing_of self.old) lines (standing_of self.new)) told.old.items told.new.items) }
+            Answers self.old.trace number (Some (asked request.entry)) (standing_of self.old) lines (standing_of self.new)) told.old.items told.new.items) }
         ensures stays { OnOk result (StaysOn D.state self.old self.new) }
         ensures want { IfErr result IsWant }
     {

@@ -1,4 +1,4 @@
-use Rattle.std.proofs.Common.{◌≡◌, ap, sym, ◌∙◌, refl, subst}
+use Rattle.std.proofs.Common.{ap, sym, ◌∙◌, refl}
 use Rattle.tp_answers.specs.Sessions.{with_session}
 use Rattle.tp_answers.specs.Told.{yes_line, refusal}
 use Rattle.tp_accept.specs.Refusals.{refusal_code_text}
@@ -9,13 +9,13 @@ use Rattle.tp_answers.proofs.SessionLemmas.{opened_none}
 use Rattle.tp_answers.proofs.AnswerLemmas.{goes_with, image_refused, image_opened, same_refusal}
 use Rattle.tp_answers.proofs.answers.judge.Goals as goal
 
-pub returns-in_ok-put-in-Ok : goal.returns-in_ok-put-in-Ok
-returns-in_ok-put-in-Ok c batches = (
+pub returns-in_ok-set-in-Ok : goal.returns-in_ok-set-in-Ok
+returns-in_ok-set-in-Ok c batches = (
   yes_line (allowed c.in-Ok.image.image c.in-Ok.image.budget),
   c.in_ok-tell_yes-in-Ok.ensures,
   image_opened c.args.name.items c.args.text.items (standing (sessions_of c.args.sessions.now) batches) _ c.in-Ok.image.image c.in-Ok.image.budget _
       c.in-Ok.ensures.allowed c.in-Ok.ensures.image refl
-      (ap (λ sessions. standing sessions batches) (c.in_ok-put-in-Ok.ensures ∙ ap (λ s. with_session s (sessions_of c.args.sessions.now)) (opened_none c.args.name.items c.in-Ok.image c.new.result c.new.ensures.image c.new.ensures.packets))),
+      (ap (λ sessions. standing sessions batches) (c.in_ok-set-in-Ok.ensures ∙ ap (λ s. with_session s (sessions_of c.args.sessions.now)) (opened_none c.args.name.items c.in-Ok.image c.new.result c.new.ensures.image c.new.ensures.packets))),
 )
 
 pub returns-in-Err-Refused : goal.returns-in-Err-Refused

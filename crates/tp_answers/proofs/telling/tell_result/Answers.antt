@@ -1,4 +1,4 @@
-use Rattle.std.proofs.Common.{◌≡◌, ◌++◌, codes, decimal, ap, sym, ◌∙◌}
+use Rattle.std.proofs.Common.{◌≡◌, ◌++◌, codes, decimal, ap, ◌∙◌}
 use Rattle.hex.specs.Hex.{encode_lower}
 use Rattle.tp_answers.specs.Told.{flag}
 use Rattle.tp_answers.proofs.Texts.{flag_is, result_told}

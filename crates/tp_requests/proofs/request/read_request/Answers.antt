@@ -1,19 +1,15 @@
 use Rattle.std.specs.Option.{option_map}
 use Rattle.tp_requests.specs.Requests.{asked}
-use Rattle.tp_requests.proofs.FieldLemmas.{asks_one, asks_two, asks_three, asks_more, known}
+use Rattle.tp_requests.proofs.FieldLemmas.{asks_one, asks_two, asks_rest, known}
 use Rattle.tp_requests.proofs.request.read_request.Goals as goal
 
 pub returns-in_default : goal.returns-in_default
 returns-in_default c = asks_one c.args.line.now c.in_default.ensures
 
-pub returns-in_default-split_field : goal.returns-in_default-split_field
-returns-in_default-split_field c =
-    known (option_map asked) c.of_two.result _ _ c.of_two.ensures (asks_two c.args.line.now c.in-Some.first.now c.in-Some.rest.now c.in-Some.ensures c.in_default-split_field.ensures)
-
 pub returns-in-None : goal.returns-in-None
 returns-in-None c =
-    known (option_map asked) c.of_three.result _ _ c.of_three.ensures (asks_three c.args.line.now c.in-Some.first.now c.in-Some.rest.now c.in-Some-split_field.second.now c.in-Some-split_field.third.now c.in-Some.ensures c.in-Some-split_field.ensures c.in-None.ensures)
+    known (option_map asked) c.of_two.result _ _ c.of_two.ensures (asks_two c.args.line.now c.in-Some.first.now c.in-Some.rest.now c.in-Some.ensures c.in-None.ensures)
 
-pub returns-in-Some-split_field-2 : goal.returns-in-Some-split_field-2
-returns-in-Some-split_field-2 c =
-    asks_more c.args.line.now c.in-Some.first.now c.in-Some.rest.now c.in-Some-split_field.second.now c.in-Some-split_field.third.now c.in-Some-split_field-2.field-0.0.now c.in-Some-split_field-2.field-0.1.now c.in-Some.ensures c.in-Some-split_field.ensures c.in-Some-split_field-2.ensures
+pub returns-in-Some-split_field : goal.returns-in-Some-split_field
+returns-in-Some-split_field c =
+    known (option_map asked) c.of_three.result _ _ c.of_three.ensures (asks_rest c.args.line.now c.in-Some.first.now c.in-Some.rest.now c.in-Some-split_field.second.now c.in-Some-split_field.third.now c.in-Some.ensures c.in-Some-split_field.ensures)

@@ -1,11 +1,10 @@
-use Rattle.std.proofs.Common.{sym}
 use Rattle.tp_session.proofs.service.Service.answer.Goals as goal
 
 pub returns-in_ok-open-in-Image-clause-told : goal.returns-in_ok-open-in-Image-clause-told
 returns-in_ok-open-in-Image-clause-told g c fit = rw c.in-Image.is (c.in_ok-open-in-Image.ensures c.args.self.now.batches)
 
 pub returns-in_ok-keep-in-Packet-clause-told : goal.returns-in_ok-keep-in-Packet-clause-told
-returns-in_ok-keep-in-Packet-clause-told g c fit = rw (c.in-Packet.is, sym c.deref-in-Packet.ensures.value) (c.in_ok-keep-in-Packet.ensures c.args.self.now.batches)
+returns-in_ok-keep-in-Packet-clause-told g c fit = rw c.in-Packet.is (c.in_ok-keep-in-Packet.ensures c.args.self.now.batches)
 
 pub returns-in_ok-close-in-Close-clause-told : goal.returns-in_ok-close-in-Close-clause-told
 returns-in_ok-close-in-Close-clause-told g c fit = rw c.in-Close.is (c.in_ok-close-in-Close.ensures c.args.self.now.batches)
