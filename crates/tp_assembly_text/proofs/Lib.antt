@@ -1,3 +1,4 @@
 pub mod Tokens
 mod Digits
 pub mod Programs
+pub mod Texts

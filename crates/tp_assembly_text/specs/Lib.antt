@@ -5,4 +5,5 @@ pub mod Words
 pub mod Drafts
 pub mod Statements
 pub mod Programs
+pub mod Texts
 pub use Rattle.tp_decode.specs.Table
