@@ -7,3 +7,4 @@ pub mod Programs
 mod Apart
 mod Additions
 mod Finished
+pub mod Written

@@ -10,6 +10,7 @@ pub mod Lists
 pub mod Grammar
 pub mod Meaning
 pub mod Programs
-pub mod Texts
-pub use Rattle.tp_decode.specs.Table
 pub mod Apart
+pub mod Texts
+pub mod Written
+pub use Rattle.tp_decode.specs.Table

@@ -1,5 +1,10 @@
 //! Remarks of a text: comments that tell where the bytes of a run go.
 
+ghost use Rattle.std.specs.Prelude.{◌≡◌, ◌++◌, string_bytes, OnOk};
+ghost use Rattle.std.specs.List.{flat_map};
+ghost use Rattle.std.specs.Option.{option_copied};
+ghost use Rattle.tp_assembly_text.specs.Written.{loop_remark, above, behind, as_line};
+
 use std::alloc::AllocError;
 
 /// The most instruction bytes of a loop, once it is entered.
@@ -33,26 +38,66 @@ pub struct Remarks<'a> {
     pub lines: &'a [Option<LineRemark>],
 }
 
+/// Appends what is remarked of a loop.
+#[tactic(auto, unfolding(crate::specs::Written::loop_remark))]
+fn put_loop_remark(text: &mut String, remark: &LoopRemark) -> Result<(), AllocError>
+    ensures { OnOk result (string_bytes text.new ≡ string_bytes text.old ++ loop_remark remark.now) }
+{
+    let LoopRemark {
+        head,
+        lend,
+        turns,
+        turn,
+    } = *remark;
+    let all = u64::from(turns).saturating_mul(turn);
+    writeln!(
+        text,
+        "; loop {head} to {lend}: {turns} turns of {turn}, {all} in all"
+    )
+}
+
+/// Appends what is remarked of loops.
+fn put_loop_remarks(text: &mut String, remarks: &[LoopRemark]) -> Result<(), AllocError>
+    ensures { OnOk result (string_bytes text.new ≡ string_bytes text.old ++ flat_map loop_remark remarks.now) }
+{
+    for remark in remarks {
+        put_loop_remark(text, remark)?;
+    }
+    Ok(())
+}
+
 /// Appends what stands above the text.
-pub fn put_above(text: &mut String, remarks: &Remarks<'_>) -> Result<(), AllocError> {
+#[tactic(auto, unfolding(crate::specs::Written::above, crate::specs::Written::remarks_above))]
+pub fn put_above(text: &mut String, remarks: Option<&Remarks<'_>>) -> Result<(), AllocError>
+    ensures { OnOk result (string_bytes text.new ≡ string_bytes text.old ++ above (option_copied remarks.entry)) }
+{
+    let Some(remarks) = remarks else {
+        return Ok(());
+    };
     let budget = remarks.budget;
     writeln!(text, "; at most {budget} instruction bytes")?;
-    for row in remarks.loops {
-        let LoopRemark {
-            head,
-            lend,
-            turns,
-            turn,
-        } = *row;
-        let all = u64::from(turns).saturating_mul(turn);
-        writeln!(
-            text,
-            "; loop {head} to {lend}: {turns} turns of {turn}, {all} in all"
-        )?;
-    }
+    put_loop_remarks(text, remarks.loops)?;
     text.push_str(
         "; behind an instruction: its address, and the bytes from it to the end of the loop around it, or of the run\n",
     )
+}
+
+/// Appends what stands behind a line.
+#[tactic(auto, unfolding(crate::specs::Written::behind))]
+fn put_behind(
+    text: &mut String,
+    remarks: Option<&Remarks<'_>>,
+    number: usize,
+) -> Result<(), AllocError>
+    ensures { OnOk result (string_bytes text.new ≡ string_bytes text.old ++ behind (option_copied remarks.entry) number) }
+{
+    if let Some(remarks) = remarks {
+        if let Some(Some(remark)) = remarks.lines.get(number) {
+            let LineRemark { address, on } = *remark;
+            write!(text, "  ; {address}: {on}")?;
+        }
+    }
+    Ok(())
 }
 
 /// Appends what stands behind a line, and ends it.
@@ -60,12 +105,9 @@ pub fn end_line(
     text: &mut String,
     remarks: Option<&Remarks<'_>>,
     number: usize,
-) -> Result<(), AllocError> {
-    if let Some(remarks) = remarks {
-        if let Some(Some(remark)) = remarks.lines.get(number) {
-            let LineRemark { address, on } = *remark;
-            write!(text, "  ; {address}: {on}")?;
-        }
-    }
+) -> Result<(), AllocError>
+    ensures { OnOk result (string_bytes text.new ≡ string_bytes text.old ++ as_line (behind (option_copied remarks.entry) number)) }
+{
+    put_behind(text, remarks, number)?;
     text.push_str("\n")
 }
