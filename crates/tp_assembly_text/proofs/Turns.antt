@@ -16,17 +16,10 @@ refused_then (Ok a) next e (inr h) = cc
 refused_then (Err f) next e (inl h) = inl h
 refused_then (Err f) next e (inr h) = inr (ap (λ r. then_read r next) h)
 
--- and the second
-pub then_refused : {A B : Type 0} (r : Result A SourceFault) (next : A → Result B SourceFault) (a : A) (e : SourceFault) → r ≡ Ok a → IsRefusal (next a) e → IsRefusal (then_read r next) e
-then_refused r next a e is h = subst (λ q. IsRefusal (then_read q next) e) (sym is) h
-
--- a fault that is passed on
-pub passed_as : {A : Type 0} (Q : SourceFault → Type 0) (r : Result A SourceFault) (e : SourceFault) → IsErrAnd r (λ f. f ≡ e) → Q e → IfErr r Q
-passed_as Q r e is h = let p = err_from_is_err_and r is in rw (p.1, p.2) h
-
+-- a refusal that is passed on
 pub passed_on : {A B : Type 0} {read : Result B SourceFault} (r : Result A SourceFault) (e : SourceFault) → IsErrAnd r (λ f. f ≡ e) → IsRefusal read e
     → IfErr r (IsRefusal read)
-passed_on {read = read} r e is h = passed_as (IsRefusal read) r e is h
+passed_on r e is h = let p = err_from_is_err_and r is in rw (p.1, p.2) h
 
 from_place : {A : Type 0} (xs : List A) (i : ℕ) (d : A) → i < length xs → drop i xs ≡ get_or xs i d ∷ drop (i + 1) xs
 from_place xs i d within = rw add-one (drop-cons xs i d within)
