@@ -42,10 +42,13 @@ place_said labels word = ok_or (place_named labels word) (fault_at word NoLabel)
 -- a line with each label by its place
 unfoldable pub line_said : List LabelName → DraftLine → Result Line SourceFault
 line_said labels (Known line) = Ok line
-line_said labels (Jump to bytes) = then_read (place_said labels to) (λ place. Ok (Spelled (operation.JumpTo place) bytes))
-line_said labels (Cj to bytes) = then_read (place_said labels to) (λ place. Ok (Spelled (operation.CjTo place) bytes))
+line_said labels (Jump to bytes) =
+    then_read (place_said labels to) (λ place. Ok (Spelled (operation.JumpTo place) bytes))
+line_said labels (Cj to bytes) =
+    then_read (place_said labels to) (λ place. Ok (Spelled (operation.CjTo place) bytes))
 line_said labels (Distance to from bytes) =
-    then_read (place_said labels from) (λ first. then_read (place_said labels to) (λ last. Ok (Spelled (operation.Distance first last) bytes)))
+    then_read (place_said labels from) (λ first. then_read (place_said labels to) (λ last.
+    Ok (Spelled (operation.Distance first last) bytes)))
 
 unfoldable pub spot_said : List LabelName → Target → Result Spot SourceFault
 spot_said labels (Place place) = Ok (spot.Place place)
@@ -61,7 +64,13 @@ control_said start (LocalWord local) = min (start + local) 65535
 unfoldable pub loop_said : List LabelName → ℕ → Row → Result Loop SourceFault
 loop_said labels start row =
     then_read (spot_said labels row.head) (λ head. then_read (spot_said labels row.lend) (λ lend.
-    Ok (record { head = head; lend = lend; control = control_said start row.control; count = row.count; start = row.start })))
+    Ok (record {
+      head = head;
+      lend = lend;
+      control = control_said start row.control;
+      count = row.count;
+      start = row.start;
+    })))
 
 -- a loop that has no end is a fault at its name
 abbrev pub no_loop : Option Begun → Result (Unit {0}) SourceFault
@@ -103,7 +112,8 @@ program_said p = record {
 -- the program of a draft
 unfoldable pub program_of : Said → Result ProgramSaid SourceFault
 program_of d =
-    then_read (all_of (line_said d.labels) d.lines) (λ lines. then_read (all_of (loop_said d.labels d.start) d.rows) (λ loops. Ok (record {
+    then_read (all_of (line_said d.labels) d.lines) (λ lines.
+    then_read (all_of (loop_said d.labels d.start) d.rows) (λ loops. Ok (record {
       version = d.version;
       workspace = workspace_said d;
       start = d.start;
