@@ -37,10 +37,13 @@ place_of_label labels word = ok_or (place_named labels word) (fault_at word NoLa
 -- a line with each label by its place
 unfoldable pub line_placed : List LabelName → DraftLine → Result Line SourceFault
 line_placed labels (Known line) = Ok line
-line_placed labels (Jump to bytes) = then_read (place_of_label labels to) (λ place. Ok (Spelled (operation.JumpTo place) bytes))
-line_placed labels (Cj to bytes) = then_read (place_of_label labels to) (λ place. Ok (Spelled (operation.CjTo place) bytes))
+line_placed labels (Jump to bytes) =
+    then_read (place_of_label labels to) (λ place. Ok (Spelled (operation.JumpTo place) bytes))
+line_placed labels (Cj to bytes) =
+    then_read (place_of_label labels to) (λ place. Ok (Spelled (operation.CjTo place) bytes))
 line_placed labels (Distance to from bytes) =
-    then_read (place_of_label labels from) (λ first. then_read (place_of_label labels to) (λ last. Ok (Spelled (operation.Distance first last) bytes)))
+    then_read (place_of_label labels from) (λ first. then_read (place_of_label labels to) (λ last.
+    Ok (Spelled (operation.Distance first last) bytes)))
 
 unfoldable pub spot_placed : List LabelName → Target → Result Spot SourceFault
 spot_placed labels (Place place) = Ok (spot.Place place)
@@ -56,7 +59,13 @@ control_said start (LocalWord local) = min (start + local) 65535
 unfoldable pub loop_placed : List LabelName → ℕ → Row → Result Loop SourceFault
 loop_placed labels start row =
     then_read (spot_placed labels row.head) (λ head. then_read (spot_placed labels row.lend) (λ lend.
-    Ok (record { head = head; lend = lend; control = control_said start row.control; count = row.count; start = row.start })))
+    Ok (record {
+      head = head;
+      lend = lend;
+      control = control_said start row.control;
+      count = row.count;
+      start = row.start;
+    })))
 
 -- a loop that has no end is a fault at its name
 abbrev pub no_loop : Option Begun → Result (Unit {0}) SourceFault
@@ -98,7 +107,8 @@ program_said p = record {
 -- the program of a draft
 unfoldable pub program_of : Said → Result ProgramSaid SourceFault
 program_of d =
-    then_read (each_read (line_placed d.labels) d.lines) (λ lines. then_read (each_read (loop_placed d.labels d.start) d.rows) (λ loops. Ok (record {
+    then_read (each_read (line_placed d.labels) d.lines) (λ lines.
+    then_read (each_read (loop_placed d.labels d.start) d.rows) (λ loops. Ok (record {
       version = d.version;
       workspace = workspace_said d;
       start = d.start;

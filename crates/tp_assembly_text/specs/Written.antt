@@ -34,7 +34,8 @@ spot_text (Address address) = decimal address
 unfoldable pub loop_text : Loop → List ℕ
 loop_text row =
     as_line (codes "loop head " ++ spot_text row.head ++ codes " lend " ++ spot_text row.lend
-    ++ codes " control " ++ decimal row.control ++ codes " turns " ++ decimal row.count ++ codes " start " ++ signed_decimal row.start)
+    ++ codes " control " ++ decimal row.control ++ codes " turns " ++ decimal row.count
+    ++ codes " start " ++ signed_decimal row.start)
 
 -- how many bytes are stated
 unfoldable pub stated_text : Option ℕ → List ℕ
@@ -120,14 +121,17 @@ fields_text p = version_text p.version ++ sizes_text p ++ initial_text 0 p.initi
 unfoldable pub loop_remark : LoopRemark → List ℕ
 loop_remark r =
     as_line (codes "; loop " ++ decimal r.head ++ codes " to " ++ decimal r.lend ++ codes ": " ++ decimal r.turns
-    ++ codes " turns of " ++ decimal r.turn ++ codes ", " ++ decimal (min (r.turns * r.turn) (2 ^ 64 - 1)) ++ codes " in all")
+    ++ codes " turns of " ++ decimal r.turn
+    ++ codes ", " ++ decimal (min (r.turns * r.turn) (2 ^ 64 - 1)) ++ codes " in all")
 
 abbrev pub legend : List ℕ
-legend = codes "; behind an instruction: its address, and the bytes from it to the end of the loop around it, or of the run\n"
+legend =
+    codes "; behind an instruction: its address, and the bytes from it to the end of the loop around it, or of the run\n"
 
 unfoldable pub remarks_above : Remarks → List ℕ
 remarks_above r =
-    as_line (codes "; at most " ++ decimal r.budget ++ codes " instruction bytes") ++ flat_map loop_remark r.loops.now ++ legend
+    as_line (codes "; at most " ++ decimal r.budget ++ codes " instruction bytes")
+    ++ flat_map loop_remark r.loops.now ++ legend
 
 -- what stands above the text
 unfoldable pub above : Option Remarks → List ℕ

@@ -89,7 +89,8 @@ fn put_behind(
     remarks: Option<&Remarks<'_>>,
     number: usize,
 ) -> Result<(), AllocError>
-    ensures { OnOk result (string_bytes text.new ≡ string_bytes text.old ++ behind (option_copied remarks.entry) number) }
+    ensures { OnOk result (string_bytes text.new
+        ≡ string_bytes text.old ++ behind (option_copied remarks.entry) number) }
 {
     if let Some(remarks) = remarks {
         if let Some(Some(remark)) = remarks.lines.get(number) {
@@ -106,7 +107,8 @@ pub fn end_line(
     remarks: Option<&Remarks<'_>>,
     number: usize,
 ) -> Result<(), AllocError>
-    ensures { OnOk result (string_bytes text.new ≡ string_bytes text.old ++ as_line (behind (option_copied remarks.entry) number)) }
+    ensures { OnOk result (string_bytes text.new
+        ≡ string_bytes text.old ++ as_line (behind (option_copied remarks.entry) number)) }
 {
     put_behind(text, remarks, number)?;
     text.push_str("\n")

@@ -127,7 +127,8 @@ fn mark_program(marks: &mut [bool], program: &Program)
 
 /// For each place, whether it needs a label.
 fn marks_of(alloc: Global, program: &Program) -> Result<Vec<bool>, AllocError>
-    ensures { IfOk result (λ marks. AreMarks (is_named (program_said program.now)) marks.items (length program.now.lines.items)) }
+    ensures { IfOk result (λ marks.
+        AreMarks (is_named (program_said program.now)) marks.items (length program.now.lines.items)) }
 {
     let mut marks = Vec::new(alloc);
     marks.resize(program.lines.len() + 1, false)?;
@@ -153,7 +154,8 @@ fn put_instr(
     instr: Instr,
     bytes: Option<u8>,
 ) -> Result<(), AllocError>
-    ensures { OnOk result (string_bytes text.new ≡ string_bytes text.old ++ operation_text bytes (Operation.Plain instr)) }
+    ensures { OnOk result (string_bytes text.new
+        ≡ string_bytes text.old ++ operation_text bytes (Operation.Plain instr)) }
 {
     let shown = format!(in alloc; "{instr}")?;
     match shown.as_str().split_once(' ') {
@@ -203,7 +205,8 @@ fn put_operation(
 /// Appends a label where one is marked.
 #[tactic(auto, unfolding(crate::specs::Written::label_there))]
 fn put_label(text: &mut String, marks: &[bool], place: usize) -> Result<(), AllocError>
-    ensures { OnOk result (string_bytes text.new ≡ string_bytes text.old ++ label_there (slice_index_or marks.now place false) place) }
+    ensures { OnOk result (string_bytes text.new
+        ≡ string_bytes text.old ++ label_there (slice_index_or marks.now place false) place) }
 {
     if marks.get(place) == Some(&true) {
         writeln!(text, "L{place}:")?;
@@ -297,14 +300,16 @@ fn put_lines(
     put_label(text, marks, lines.len())
 }
 
-/// A program as a text that is read as the same program. Its labels are `L` and a place's number. Remarks stand in comments.
+/// A program as a text that is read as the same program. Its labels are `L` and a place's number. Remarks stand in
+/// comments.
 #[tactic(auto, unfolding(crate::specs::Written::text_of))]
 pub fn source_text(
     alloc: Global,
     program: &Program,
     remarks: Option<&Remarks<'_>>,
 ) -> Result<String, AllocError>
-    ensures { IfOk result (λ text. string_bytes text ≡ text_of (program_said program.now) (option_copied remarks.entry)) }
+    ensures { IfOk result (λ text.
+        string_bytes text ≡ text_of (program_said program.now) (option_copied remarks.entry)) }
 {
     let marks = marks_of(alloc, program)?;
     let mut text = String::new(alloc);
