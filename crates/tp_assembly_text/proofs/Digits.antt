@@ -1,5 +1,5 @@
 -- What digits write.
-use Rattle.std.proofs.Common.{◌≡◌, ℕ, ◌<◌, ◌≤◌, ◌^◌, ◌&&◌, nat_eq, nat_lt, Bool, true, false, if◌then◌else◌, List, [], ◌∷◌, length, Some, None, Result, Ok, Err, IsUtf8, IsAscii, refl, zero, suc, arith}
+use Rattle.std.proofs.Common.{◌≡◌, ℕ, ◌<◌, ◌≤◌, ◌^◌, ◌&&◌, nat_eq, nat_lt, Bool, true, false, if◌then◌else◌, List, [], ◌∷◌, length, Some, None, Result, Ok, Err, IsUtf8, IsAscii, refl, ap, zero, suc, arith}
 use Rattle.std.specs.List.{list_all, starts_with}
 use Rattle.std.specs.Char.{digit_value, is_digit}
 use Rattle.std.specs.Result.{result_ok, OkIff}
@@ -68,3 +68,11 @@ read_said radix ds (Err e) h = by (are_digits radix ds && nat_lt (digits_value r
 pub text_said : {E : Type 0} (radix : ℕ) (ds text : List ℕ) (r : Result ℕ E) → text ≡ ds → starts_with nat_eq ds (43 ∷ []) ≡ false → ParsesUnsigned 32 radix text r
     → result_ok r ≡ digits_said radix ds
 text_said radix ds text r same plus parsed = read_said radix ds r (rw (same, no_plus ds plus) at parsed)
+
+-- what a numeral says
+pub numeral_said : (radix : ℕ) (ds : List ℕ) (n : ℕ) → IsNumeral radix ds → digits_value radix ds ≡ n → n < 2 ^ 32 → digits_said radix ds ≡ Some n
+unfolding digits_said
+numeral_said radix ds n numeral value small =
+    let some : nat_lt 0 (length ds) ≡ true = grind (numeral.0, arith, nat_tests) in
+    let fits : nat_lt (digits_value radix ds) (2 ^ 32) ≡ true = grind (value, small, arith, nat_tests) in
+    rw (some, from_digits radix ds numeral.1, fits) (ap Some value)

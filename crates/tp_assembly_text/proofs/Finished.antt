@@ -1,6 +1,5 @@
 -- What a draft comes to does not depend on where its text lies in memory.
-use Rattle.std.proofs.Common.{◌≡◌, ℕ, ◌-◌, List, [], ◌∷◌, ◌++◌, length, map, Option, Some, None, option_map, Result, Ok, Err, slice_get, refl, sym, ap, ◌∙◌}
-use Rattle.std.specs.List.{flat_map}
+use Rattle.std.proofs.Common.{◌≡◌, ℕ, ◌-◌, List, [], ◌∷◌, ◌++◌, length, map, Option, Some, None, option_map, Result, Ok, slice_get, refl, sym, ap, ◌∙◌}
 use Rattle.std.specs.Option.{ok_or}
 use Rattle.std.proofs.lemmas.Option.{slice_get-map}
 use Rattle.std.proofs.lemmas.List.{length-map}
@@ -20,7 +19,7 @@ use Rattle.tp_assembly_text.specs.declared.draft.Row.{Row}
 use Rattle.tp_assembly_text.specs.declared.draft.Begun.{Begun}
 use Rattle.tp_assembly_text.specs.Faults.{fault_at, then_read, each_read}
 use Rattle.tp_assembly_text.specs.Drafts.{Said}
-use Rattle.tp_assembly_text.specs.Programs.{place_of_label, line_placed, spot_placed, loop_placed, no_loop, ended, program_of, label_told, labels_told, local_told, locals_told, end_before, workspace_said, finished}
+use Rattle.tp_assembly_text.specs.Programs.{place_of_label, line_placed, spot_placed, loop_placed, no_loop, ended, program_of, label_told, labels_told, local_told, locals_told, workspace_said, finished}
 use Rattle.tp_assembly_text.specs.Apart.{word_apart, line_apart, target_apart, label_apart, local_apart, row_apart, begun_apart, draft_apart}
 use Rattle.tp_assembly_text.specs.Texts.{text_said, source_of}
 use Rattle.tp_assembly_text.proofs.Apart.{then_same}

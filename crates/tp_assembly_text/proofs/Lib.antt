@@ -8,3 +8,4 @@ mod Apart
 mod Additions
 mod Finished
 pub mod Written
+pub mod ReadBack

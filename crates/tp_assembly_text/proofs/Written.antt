@@ -1,5 +1,5 @@
 -- A program as text: its marks, its lines, and the parts of an instruction.
-use Rattle.std.proofs.Common.{◌≡◌, ℕ, zero, suc, ◌+◌, ◌-◌, ◌<◌, ◌≤◌, ◌==◌, ◌&&◌, ◌||◌, not, cond, eqb, Bool, true, false, if◌then◌else◌, List, [], ◌∷◌, ◌++◌, length, map, take, drop, get_or, set, replicate, codes, Option, Some, None, Result, Ok, Err, OnOk, refl, ap, subst, sym, ◌∙◌, add-one, append_assoc, get_or-set_other, get_or-set_same, drop-cons, arith, length-append}
+use Rattle.std.proofs.Common.{◌≡◌, ℕ, suc, ◌+◌, ◌-◌, ◌<◌, ◌≤◌, ◌==◌, ◌&&◌, ◌||◌, not, cond, eqb, Bool, true, false, if◌then◌else◌, List, [], ◌∷◌, ◌++◌, length, take, drop, get_or, set, replicate, codes, Option, Some, Result, Ok, Err, OnOk, refl, ap, subst, sym, ◌∙◌, add-one, append_assoc, get_or-set_other, get_or-set_same, drop-cons, arith, length-append}
 use Rattle.std.specs.Fmt.{AppendsText, ◌++?◌}
 use Rattle.std.specs.Result.{is_ok}
 use Rattle.std.specs.List.{list_all, list_any, position_or_len, before_first, after_first}

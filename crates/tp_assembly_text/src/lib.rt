@@ -7,6 +7,7 @@ mod fault;
 mod finish;
 mod instructions;
 mod keyword;
+pub mod laws;
 mod lists;
 mod mnemonics;
 mod number;

@@ -1,4 +1,4 @@
-use Rattle.std.proofs.Common.{ℕ, List, Bool, false, ◌==◌, ◌||◌, sym, subst, arith}
+use Rattle.std.proofs.Common.{◌==◌, sym, subst, arith}
 use Rattle.tp_assembly.specs.declared.program.Operation.{Operation}
 use Rattle.tp_assembly_text.specs.Written.{IsMarked, names_from_operation}
 use Rattle.tp_assembly_text.proofs.Written.{marked_nothing, marked_both}

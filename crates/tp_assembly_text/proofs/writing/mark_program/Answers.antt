@@ -1,4 +1,4 @@
-use Rattle.std.proofs.Common.{ℕ, ◌≡◌, List, Bool, ap, arith, subst}
+use Rattle.std.proofs.Common.{List, arith, subst}
 use Rattle.std.specs.List.{list_any}
 use Rattle.tp_assembly.specs.declared.program.Loop.{Loop}
 use Rattle.tp_assembly.specs.declared.program.Line.{Line}

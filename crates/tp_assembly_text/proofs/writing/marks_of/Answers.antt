@@ -1,4 +1,4 @@
-use Rattle.std.proofs.Common.{◌≡◌, ◌+◌, length, replicate, false, ap, sym, ◌∙◌, arith}
+use Rattle.std.proofs.Common.{◌≡◌, ◌+◌, length, replicate, false, ap, ◌∙◌, arith}
 use Rattle.tp_assembly_text.specs.Programs.{program_said}
 use Rattle.tp_assembly_text.specs.Written.{is_named}
 use Rattle.tp_assembly_text.proofs.Written.{marks_are, in_place, fresh_marks}

@@ -1,6 +1,6 @@
-use Rattle.std.proofs.Common.{◌≡◌, ℕ, Bool, List, ◌+◌, ◌++◌, length, drop, get_or, false, string_bytes, sym, ap, ◌∙◌, arith}
+use Rattle.std.proofs.Common.{ℕ, Bool, ◌+◌, ◌++◌, drop, get_or, false, string_bytes, sym, ap, ◌∙◌, arith}
 use Rattle.std.specs.Option.{option_copied}
-use Rattle.tp_assembly_text.specs.Written.{as_line, label_there, line_text, behind, lines_text}
+use Rattle.tp_assembly_text.specs.Written.{lines_text}
 use Rattle.tp_assembly_text.proofs.Written.{told_on, lines_more, line_more, lines_end}
 use Rattle.tp_assembly_text.proofs.writing.put_lines.Goals as goal
 

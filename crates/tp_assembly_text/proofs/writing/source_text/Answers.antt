@@ -1,4 +1,4 @@
-use Rattle.std.proofs.Common.{ℕ, ◌≡◌, ◌++◌, Bool, List, get_or, false, string_bytes, ap, ◌∙◌, arith}
+use Rattle.std.proofs.Common.{ℕ, ◌≡◌, ◌++◌, Bool, get_or, false, string_bytes, ap, ◌∙◌, arith}
 use Rattle.std.specs.Option.{option_copied}
 use Rattle.tp_assembly_text.specs.Programs.{program_said}
 use Rattle.tp_assembly_text.specs.Written.{is_named, above, fields_text, lines_text, text_of}

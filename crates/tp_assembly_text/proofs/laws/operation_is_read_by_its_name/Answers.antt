@@ -1,0 +1,7 @@
+use Rattle.std.proofs.Common.{refl}
+use Rattle.tp_assembly_text.specs.Names.{operation_named}
+use Rattle.tp_assembly_text.proofs.laws.operation_is_read_by_its_name.Goals as goal
+
+pub returns : goal.returns
+unfolding operation_named
+returns c = (refl, (refl, (refl, (refl, (refl, (refl, (refl, (refl, (refl, (refl, (refl, (refl, (refl, (refl, (refl, (refl, (refl, (refl, (refl, (refl, (refl, (refl, (refl, (refl, (refl, (refl, (refl, (refl, tt))))))))))))))))))))))))))))
