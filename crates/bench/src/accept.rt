@@ -1,10 +1,7 @@
-//! How many images a second are accepted, beside decoding the same code: the increment, straight codes without a branch and
-//! with 4,000 of them, and a code that makes the passes go on for long.
+//! How many images a second are accepted, beside decoding the same code.
 //!
-//! Each image is accepted once, the last one in a small form, and its code bytes, its budget and the passes over its states
-//! are printed; or each is accepted many times, and the rates are printed.
-
-mod texts;
+//! One image is accepted once, and its code bytes, its budget and the passes over its states are printed; or it is accepted many
+//! times, and the rates are printed. `bench/images.py` makes the images.
 
 use anyhow::{Result, anyhow};
 use std::alloc::Global;
@@ -15,11 +12,7 @@ use tp_check::{Effort, check_states_counting};
 use tp_decode::decode;
 use tp_flow::check_flow;
 use tp_image::{Image, read_image};
-
-/// How far a word is moved on in the last image, once and timed.
-const SHORT_WAY: u16 = 10;
-
-const LONG_WAY: u16 = 480;
+use tp_samples::INCREMENT;
 
 /// What was counted over some rounds, and how long they took.
 #[derive(Clone, Copy)]
@@ -28,37 +21,27 @@ struct Run {
     took: Duration,
 }
 
-pub(crate) fn measure<R: Runtime<A = Global>>(rt: &R, is_timed: bool) -> Result<()> {
-    let way = if is_timed { LONG_WAY } else { SHORT_WAY };
-    let increment = Vec::from_slice(rt.alloc(), texts::INCREMENT)?;
-    told(rt, "increment", &increment, is_timed, 2_000)?;
-    told(rt, "straight", &texts::straight(rt.alloc())?, is_timed, 200)?;
-    told(rt, "4,000 jumps", &texts::jumps(rt.alloc())?, is_timed, 20)?;
-    told(
-        rt,
-        "a word moved on at each pass",
-        &texts::moved_on(rt.alloc(), way)?,
-        is_timed,
-        1,
-    )
+/// In small: the increment, once.
+pub(crate) fn measure<R: Runtime<A = Global>>(rt: &R) -> Result<()> {
+    let text = Vec::from_slice(rt.alloc(), INCREMENT)?;
+    let image = read_image(rt.alloc(), text.as_slice())?;
+    let bytes = image.code.len();
+    let passes = passes_over(rt.alloc(), &image)?;
+    let budget = accept_rounds(rt, &text, 1)?.counted;
+    println!(rt; "increment: {bytes} code bytes, budget {budget}, {passes} passes")?;
+    Ok(())
 }
 
-/// Accepts an image, and prints its code bytes, its budget and its passes, or the rate of many rounds.
-fn told<R: Runtime<A = Global>>(
+/// Accepts an image so often, and prints its code bytes, its passes and the rate.
+pub(crate) fn time<R: Runtime<A = Global>>(
     rt: &R,
     name: &str,
     text: &Vec<u8>,
-    is_timed: bool,
     rounds: u32,
 ) -> Result<()> {
     let image = read_image(rt.alloc(), text.as_slice())?;
     let bytes = image.code.len();
     let passes = passes_over(rt.alloc(), &image)?;
-    if !is_timed {
-        let budget = accept_rounds(rt, text, 1)?.counted;
-        println!(rt; "{name}: {bytes} code bytes, budget {budget}, {passes} passes")?;
-        return Ok(());
-    }
     let decoding = nanos_a_round(decode_rounds(rt, &image, rounds)?, rounds);
     let acceptance = nanos_a_round(accept_rounds(rt, text, rounds)?, rounds);
     let thousandths = 1_000_000_000_000 / acceptance.max(1);

@@ -1,17 +1,12 @@
-//! What the verifier's passes take, beside `check_flow` of the same image in the same run: over small and straight codes, and
-//! over codes that are made to keep the passes going.
+//! What the verifier's passes take, beside `check_flow` of the same image in the same run.
 //!
-//! The small and straight codes are judged once, and it is printed how many states are kept, how many passes were
-//! made, and how many outcomes were worked out; or all are judged, and the times are printed with these counts; or one is
-//! judged so often, for the processor time that it takes.
-
-pub(crate) mod climb;
-mod sample;
+//! One image is judged once, and it is printed how many states are kept, how many passes were made, and how many outcomes were
+//! worked out; or its times are printed with these counts; or it is judged so often, for the processor time that it takes.
+//! `bench/images.py` makes the images.
 
 ghost use Rattle.tp_decode.specs.Cutting.{IsCutting};
 
 use anyhow::{Result, anyhow, bail};
-use sample::named;
 use std::alloc::Global;
 use std::fmt;
 use std::rt::Runtime;
@@ -20,42 +15,35 @@ use tp_check::{Effort, check_states_counting};
 use tp_decode::{Instr, Listing, decode};
 use tp_flow::{check_flow, edges};
 use tp_image::{Image, read_image};
+use tp_samples::INCREMENT;
 use tp_state::StateFault;
 
 /// How often check_flow is timed: it is quick.
 const FLOW_ROUNDS: u32 = 100;
 
-/// The images that are judged in small too.
-const USUAL: [&str; 3] = ["increment", "straight", "jumps"];
+/// In small: what is found of the increment.
+pub(crate) fn measure<R: Runtime<A = Global>>(rt: &R) -> Result<()> {
+    judge(rt, "increment", INCREMENT, 1)
+}
 
-/// The images that are made to keep the passes going.
-const HOSTILE: [&str; 7] = [
-    "one loop",
-    "four nested",
-    "sixteen",
-    "behind the loop",
-    "strided stores",
-    "growing range",
-    "refused in the last pass",
-];
-
-pub(crate) fn measure<R: Runtime<A = Global>>(rt: &R, is_timed: bool) -> Result<()> {
-    for name in USUAL {
-        told(rt, name, is_timed)?;
-    }
-    if !is_timed {
-        return Ok(());
-    }
-    for name in HOSTILE {
-        told(rt, name, is_timed)?;
-    }
-    Ok(())
+/// Judges an image, and prints how long it took.
+pub(crate) fn time<R: Runtime<A = Global>>(rt: &R, name: &str, bytes: &[u8]) -> Result<()> {
+    let image = read_image(rt.alloc(), bytes)?;
+    let Ok(listing) = decode(rt.alloc(), &image.code) else {
+        bail!("no listing");
+    };
+    timed(rt, name, &image, &listing)
 }
 
 /// Judges one image so often, and nothing else: what is printed is what was found, and the processor time that was taken is for
 /// the caller to see. With no rounds the image is made and its flow checked, and that is all.
-pub(crate) fn judge<R: Runtime<A = Global>>(rt: &R, name: &str, rounds: u32) -> Result<()> {
-    let image = read_image(rt.alloc(), &named(rt.alloc(), name)?)?;
+pub(crate) fn judge<R: Runtime<A = Global>>(
+    rt: &R,
+    name: &str,
+    bytes: &[u8],
+    rounds: u32,
+) -> Result<()> {
+    let image = read_image(rt.alloc(), bytes)?;
     let Ok(listing) = decode(rt.alloc(), &image.code) else {
         bail!("no listing");
     };
@@ -70,27 +58,6 @@ pub(crate) fn judge<R: Runtime<A = Global>>(rt: &R, name: &str, rounds: u32) -> 
         let ending = Ending { states };
         println!(rt; "{name}: {passes} passes, {outcomes} outcomes; {ending}")?;
     }
-    Ok(())
-}
-
-/// Judges one image, and prints what was found, or how long it took.
-fn told<R: Runtime<A = Global>>(rt: &R, name: &str, is_timed: bool) -> Result<()> {
-    let image = read_image(rt.alloc(), &named(rt.alloc(), name)?)?;
-    let Ok(listing) = decode(rt.alloc(), &image.code) else {
-        bail!("no listing");
-    };
-    if is_timed {
-        return timed(rt, name, &image, &listing);
-    }
-    let Some(Found { states, effort }) = judged(rt.alloc(), &image, &listing) else {
-        bail!("no nest");
-    };
-    let states = states.map_err(|fault| anyhow!("{fault}"))?;
-    let instructions = listing.len();
-    let Effort { passes, outcomes } = effort;
-    println!(rt;
-        "{name}: instructions {instructions}, states kept {states}, passes {passes}, outcomes {outcomes}"
-    )?;
     Ok(())
 }
 

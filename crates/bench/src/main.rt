@@ -12,16 +12,18 @@ mod flow;
 mod machine;
 mod states;
 
-use anyhow::{Result, bail};
+use anyhow::{Result, anyhow, bail};
+use std::alloc::Global;
 use std::env;
+use std::rt::Runtime;
 
 fn main(rt: HostRuntime) -> Result<()> {
     let mut words = env::args(&rt)?;
     let Some(word) = words.nth(1) else {
         flow::measure(&rt, false)?;
         states::measure(&rt, false)?;
-        check::measure(&rt, false)?;
-        accept::measure(&rt, false)?;
+        check::measure(&rt)?;
+        accept::measure(&rt)?;
         machine::measure(&rt, false)?;
         board::measure(&rt, false)?;
         return farm::measure(&rt, false);
@@ -29,15 +31,15 @@ fn main(rt: HostRuntime) -> Result<()> {
     match word.as_str() {
         "flow" => flow::measure(&rt, true),
         "states" => states::measure(&rt, true),
-        "check" => check::measure(&rt, true),
-        "climb" => check::climb::measure(&rt),
-        "judge" => {
-            let (Some(name), Some(rounds)) = (words.next(), words.next()) else {
-                bail!("judge takes the name of an image, and how often it is judged");
+        "check" | "judge" | "accept" => {
+            let (Some(name), Some(digits)) = (words.next(), words.next()) else {
+                bail!(
+                    "it takes the name of an image, its bytes in hexadecimal, and a number of rounds"
+                );
             };
-            check::judge(&rt, name.as_str(), rounds.parse().unwrap_or(1))
+            let rounds = words.next().map_or(1, |rounds| rounds.parse().unwrap_or(1));
+            measure_image(&rt, word.as_str(), name.as_str(), digits.as_str(), rounds)
         }
-        "accept" => accept::measure(&rt, true),
         "machine" => machine::measure(&rt, true),
         "turns" => machine::turns(&rt),
         "board" => board::measure(&rt, true),
@@ -45,7 +47,23 @@ fn main(rt: HostRuntime) -> Result<()> {
         "farm-queue" => farm::run_once(&rt, farm::Source::Queue),
         "farm-board" => farm::run_once(&rt, farm::Source::Board),
         _ => bail!(
-            "the words are flow, states, check, climb, judge, accept, machine, turns, board, farm, farm-queue, farm-board"
+            "the words are flow, states, check, judge, accept, machine, turns, board, farm, farm-queue, farm-board"
         ),
+    }
+}
+
+/// Measures what a word names of an image whose bytes are told in hexadecimal.
+fn measure_image<R: Runtime<A = Global>>(
+    rt: &R,
+    word: &str,
+    name: &str,
+    digits: &str,
+    rounds: u32,
+) -> Result<()> {
+    let bytes = hex::decode(rt.alloc(), digits).map_err(|fault| anyhow!("{fault}"))?;
+    match word {
+        "check" => check::time(rt, name, &bytes),
+        "judge" => check::judge(rt, name, &bytes, rounds),
+        _ => accept::time(rt, name, &bytes, rounds),
     }
 }
