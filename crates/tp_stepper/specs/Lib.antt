@@ -1,3 +1,4 @@
+pub mod Places
 pub mod Stepping
 pub use Rattle.tp_tested.specs.Meaning
 pub use Rattle.tp_step.specs.State

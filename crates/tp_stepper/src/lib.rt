@@ -15,5 +15,3 @@ pub use reason::Reason;
 pub use run::{End, TellFault, tell};
 pub use span::{Place, Span};
 pub use stepper::Stepper;
-pub use value::Value;
-pub use workspace::{Workspace, Written};

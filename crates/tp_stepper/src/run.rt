@@ -1,5 +1,8 @@
 //! A whole run, told line by line.
 
+ghost use Rattle.std.specs.Prelude.{◌≡◌};
+ghost use Rattle.tp_stepper.specs.declared.run.TellFault.TheVariants.{Memory};
+
 use crate::prefixes::prefixes_at;
 use crate::reason::{Reason, Stood, instruction_at, why};
 use crate::span::Span;
@@ -49,12 +52,16 @@ pub enum TellFault {
 }
 
 impl From<AllocError> for TellFault {
+    ghost from_gives = { λ _ e. e ≡ Memory };
+
     fn from(_: AllocError) -> Self {
         TellFault::Memory
     }
 }
 
 impl<T: Drop> From<AllocFailed<T>> for TellFault {
+    ghost from_gives = { λ _ e. e ≡ Memory };
+
     fn from(_: AllocFailed<T>) -> Self {
         TellFault::Memory
     }

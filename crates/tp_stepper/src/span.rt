@@ -1,5 +1,8 @@
 //! Which instructions of a run are told.
 
+ghost use Rattle.std.specs.Prelude.{◌≡◌};
+ghost use Rattle.tp_stepper.specs.Places.{is_at};
+
 /// A place in a run.
 #[derive(Clone, Copy, Debug, PartialEq, Eq)]
 pub enum Place {
@@ -11,7 +14,9 @@ pub enum Place {
 
 impl Place {
     /// Whether a run that has made `count` steps and stands at `at` is there.
-    pub fn is_at(self, at: i64, count: u64) -> bool {
+    pub fn is_at(self, at: i64, count: u64) -> bool
+        ensures { result ≡ is_at self at count }
+    {
         match self {
             Place::Address(address) => i64::from(address) == at,
             Place::Count(steps) => steps <= count,

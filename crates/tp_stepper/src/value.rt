@@ -4,7 +4,7 @@ use std::fmt;
 
 /// A register or a word of the workspace: a signed number, or `-` where it is undefined.
 #[derive(Clone, Copy, Debug, PartialEq, Eq)]
-pub struct Value(pub Option<u32>);
+pub(crate) struct Value(pub(crate) Option<u32>);
 
 impl fmt::Display for Value {
     fn fmt<W: fmt::Write>(&self, f: &mut fmt::Formatter<W>) -> fmt::Result {

@@ -14,13 +14,13 @@ const WORD_BYTES: u32 = 4;
 
 /// The words of a workspace, as they stood once.
 #[derive(Drop)]
-pub struct Workspace {
+pub(crate) struct Workspace {
     words: Vec<Option<u32>>,
 }
 
 impl Workspace {
     /// The words where a run stands.
-    pub fn of(alloc: Global, stepper: &Stepper) -> Result<Workspace, AllocError> {
+    pub(crate) fn of(alloc: Global, stepper: &Stepper) -> Result<Workspace, AllocError> {
         let count = stepper.image().workspace;
         let mut words = Vec::with_capacity(alloc, count as usize)?;
         for i in 0..count.min(WORDS) {
@@ -47,9 +47,9 @@ impl Workspace {
 
 /// The words that an instruction has changed, each as ` w5=3` with the word's number.
 #[derive(Clone, Copy)]
-pub struct Written<'a> {
-    pub before: &'a Workspace,
-    pub after: &'a Workspace,
+pub(crate) struct Written<'a> {
+    pub(crate) before: &'a Workspace,
+    pub(crate) after: &'a Workspace,
 }
 
 impl fmt::Display for Written<'_> {
