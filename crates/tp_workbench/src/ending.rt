@@ -1,5 +1,9 @@
 //! How the program ends: its statuses, and the texts of what ends it early.
 
+ghost use Rattle.std.specs.Prelude.{◌≡◌};
+ghost use Rattle.tp_workbench.specs.declared.ending.Ending.TheVariants as ending;
+ghost use Rattle.tp_workbench.specs.Endings.{of_text, of_image, of_source, of_run, status_of};
+
 use crate::input::TextFault;
 use clap::error::ErrorKind;
 use std::alloc::{AllocError, AllocFailed};
@@ -32,6 +36,8 @@ impl From<Status> for ExitCode {
 }
 
 impl From<End> for Status {
+    ghost from_gives = { λ end status. status ≡ of_run end };
+
     fn from(end: End) -> Status {
         match end {
             End::Stopped | End::Left => Status::Done,
@@ -95,7 +101,9 @@ pub enum Ending {
 
 impl Ending {
     /// The status that the program ends with.
-    pub fn status(&self) -> Status {
+    pub fn status(&self) -> Status
+        ensures { result ≡ status_of self.now }
+    {
         match self {
             Ending::Shown(_) => Status::Done,
             Ending::Text(_)
@@ -128,6 +136,8 @@ impl From<clap::Error> for Ending {
 }
 
 impl From<TextFault> for Ending {
+    ghost from_gives = { λ fault e. e ≡ of_text fault };
+
     fn from(fault: TextFault) -> Self {
         match fault {
             TextFault::Memory => Ending::Memory,
@@ -137,6 +147,8 @@ impl From<TextFault> for Ending {
 }
 
 impl From<ImageFault> for Ending {
+    ghost from_gives = { λ fault e. e ≡ of_image fault };
+
     fn from(fault: ImageFault) -> Self {
         match fault {
             ImageFault::Memory => Ending::Memory,
@@ -146,6 +158,8 @@ impl From<ImageFault> for Ending {
 }
 
 impl From<SourceFault> for Ending {
+    ghost from_gives = { λ fault e. e ≡ of_source fault };
+
     fn from(fault: SourceFault) -> Self {
         match fault.fault {
             SourceKind::Memory => Ending::Memory,
@@ -173,12 +187,16 @@ impl From<tp_reasons::TellFault> for Ending {
 }
 
 impl From<AllocError> for Ending {
+    ghost from_gives = { λ _ e. e ≡ ending.Memory };
+
     fn from(_: AllocError) -> Self {
         Ending::Memory
     }
 }
 
 impl<T: Drop> From<AllocFailed<T>> for Ending {
+    ghost from_gives = { λ _ e. e ≡ ending.Memory };
+
     fn from(_: AllocFailed<T>) -> Self {
         Ending::Memory
     }

@@ -1,0 +1,46 @@
+-- How the program ends.
+use Rattle.tp_image.specs.declared.fault.ImageFault.{ImageFault}
+use Rattle.tp_image.specs.declared.fault.ImageFault.TheVariants as image
+use Rattle.tp_assembly_text.specs.declared.fault.SourceFault.{SourceFault}
+use Rattle.tp_assembly_text.specs.declared.fault.TextFault.TheVariants as source
+use Rattle.tp_assembly_text.specs.declared.fault.TextFault.{TextFault as SourceKind}
+use Rattle.tp_stepper.specs.declared.run.End.{End}
+use Rattle.tp_stepper.specs.declared.run.End.TheVariants as end
+use Rattle.tp_workbench.specs.declared.ending.Ending.{Ending}
+use Rattle.tp_workbench.specs.declared.ending.Ending.TheVariants as ending
+use Rattle.tp_workbench.specs.declared.ending.Status.{Status}
+use Rattle.tp_workbench.specs.declared.ending.Status.TheVariants as status
+use Rattle.tp_workbench.specs.declared.input.TextFault.{TextFault}
+use Rattle.tp_workbench.specs.declared.input.TextFault.TheVariants as text
+
+-- by a fault of standard input; want of memory is an ending of its own
+abbrev pub of_text : TextFault → Ending
+of_text text.Memory = ending.Memory
+of_text fault = ending.Text fault
+
+abbrev pub of_image : ImageFault → Ending
+of_image image.Memory = ending.Memory
+of_image fault = ending.Image fault
+
+abbrev pub of_kind : SourceKind → SourceFault → Ending
+of_kind source.Memory fault = ending.Memory
+of_kind kind fault = ending.Source fault
+
+abbrev pub of_source : SourceFault → Ending
+of_source fault = of_kind fault.fault fault
+
+-- the status that a run is told with
+abbrev pub of_run : End → Status
+of_run end.Stopped = status.Done
+of_run end.Left = status.Done
+of_run e = status.Failed
+
+-- the status of an ending: a text that was asked for, a command line that is refused, or a failure
+abbrev pub status_of : Ending → Status
+status_of (ending.Shown error) = status.Done
+status_of (ending.Refused error) = status.Refused
+status_of ending.NotText = status.Refused
+status_of ending.NoCommand = status.Refused
+status_of ending.NoPacket = status.Refused
+status_of (ending.NoPlace name) = status.Refused
+status_of e = status.Failed
