@@ -1,5 +1,8 @@
 //! The command `asm`: text to an image.
 
+ghost use Rattle.std.specs.Prelude.{IfOk};
+ghost use Rattle.tp_workbench.specs.Programs.{AreImageOf};
+
 use crate::ending::{Ending, Status};
 use crate::input::text_from;
 use std::alloc::Global;
@@ -45,7 +48,9 @@ pub fn utf8(bytes: &[u8]) -> Result<&str, Ending> {
 }
 
 /// The bytes of the image of a program that a text says.
-pub fn assembled(alloc: Global, source: &Source<'_>) -> Result<Vec<u8>, Ending> {
+pub fn assembled(alloc: Global, source: &Source<'_>) -> Result<Vec<u8>, Ending>
+    ensures { IfOk result (λ bytes. AreImageOf source.now.program bytes.items) }
+{
     match assemble(alloc, &source.program) {
         Ok(image) => Ok(write_image(alloc, &image)?),
         Err(fault) => Err(ending_of(fault, &source.numbers)),

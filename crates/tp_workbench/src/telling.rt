@@ -1,5 +1,8 @@
 //! The command `dis`: an image as text, with where the bytes of its runs go.
 
+ghost use Rattle.std.specs.Prelude.{IfOk, string_bytes};
+ghost use Rattle.tp_workbench.specs.Programs.{AreTextOf};
+
 use crate::assembly::told;
 use crate::ending::{Ending, Status};
 use crate::input::{bytes_of, text_from};
@@ -51,7 +54,9 @@ fn line_remarks(
 }
 
 /// A program as text, and of an accepted image where its bytes go.
-fn text_of(alloc: Global, program: &Program, costs: Option<&Costs>) -> Result<String, Ending> {
+fn text_of(alloc: Global, program: &Program, costs: Option<&Costs>) -> Result<String, Ending>
+    ensures { IfOk result (λ text. AreTextOf program.now (string_bytes text)) }
+{
     let Some(costs) = costs else {
         return Ok(source_text(alloc, program, None)?);
     };
