@@ -1,5 +1,5 @@
 pub mod Tokens
-mod Digits
+pub mod Digits
 pub mod Parts
 pub mod Turns
 pub mod Folds

@@ -1,0 +1,5 @@
+pub mod Bytes
+pub mod TextLines
+pub mod Pieces
+pub mod Leading
+pub mod Numbers
