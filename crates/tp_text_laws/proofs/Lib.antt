@@ -3,3 +3,4 @@ pub mod TextLines
 pub mod Pieces
 pub mod Leading
 pub mod Numbers
+pub mod Fields
