@@ -62,7 +62,7 @@ number_alone : (first w : Word) (limit n : ℕ) → w.text.now ≡ decimal n →
 unfolding one_number_said word_said end_said
 number_alone first w limit n is few small = count_is w limit n is few small
 
-keyword_says : (first : Word) (ws : List Word) (k : Keyword) (s : StatementSaid) (d e : Said) → keyword_named first.text.now ≡ Some k → keyword_said k (first ∷ ws) first ≡ Ok s → added s d ≡ Ok e
+pub keyword_says : (first : Word) (ws : List Word) (k : Keyword) (s : StatementSaid) (d e : Said) → keyword_named first.text.now ≡ Some k → keyword_said k (first ∷ ws) first ≡ Ok s → added s d ≡ Ok e
     → unlabelled (first ∷ ws) d ≡ Ok e
 unfolding statement_said
 keyword_says first ws k s d e named said adds = rw (named, said) adds

@@ -4,3 +4,4 @@ pub mod Pieces
 pub mod Leading
 pub mod Numbers
 pub mod Fields
+pub mod Rows
