@@ -5,3 +5,5 @@ pub mod Leading
 pub mod Numbers
 pub mod Fields
 pub mod Rows
+pub mod InstructionNames
+pub mod CodeLines

@@ -112,7 +112,7 @@ plain_shown b h = grind (arith, nat_tests)
 mark_shown : (b : ℕ) → is_mark b ≡ true → is_shown b ≡ true
 mark_shown b h = grind (arith, nat_tests)
 
-word_shown : (w : List ℕ) → list_all is_plain w ≡ true → IsLine w
+pub word_shown : (w : List ℕ) → list_all is_plain w ≡ true → IsLine w
 word_shown [] all = refl
 word_shown (b ∷ w) all =
     let both = both_true (is_plain b) (list_all is_plain w) all in
