@@ -7,3 +7,4 @@ pub mod Fields
 pub mod Rows
 pub mod InstructionNames
 pub mod CodeLines
+pub mod WholeCode

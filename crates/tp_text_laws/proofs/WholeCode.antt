@@ -1,0 +1,224 @@
+-- The code of a program is read as it is written: its lines, with their labels and remarks.
+use Rattle.std.proofs.Common.{◌≡◌, ℕ, zero, suc, ◌+◌, ◌<◌, ◌≤◌, ◌^◌, ◌==◌, ◌&&◌, ◌||◌, nat_le, nat_lt, nat_eq, Bool, true, false, if◌then◌else◌, List, [], ◌∷◌, ◌++◌, codes, length, map, slice_get, is_some, Option, Some, None, Result, Ok, Err, refl, ap, sym, ◌∙◌, subst, arith, append_assoc}
+use Rattle.std.specs.List.{list_all, list_any, find, AllByRecursion}
+use Rattle.std.specs.Str.{bytes_eq}
+use Rattle.std.specs.Option.{option_map, option_or}
+use Rattle.std.specs.Fmt.{decimal}
+use Rattle.std.proofs.lemmas.Fmt.{decimal_injective}
+use Rattle.std.proofs.lemmas.Slice.Eq.{bytes_eq-Decides}
+use Rattle.std.proofs.lemmas.List.{append-nil, length-append}
+use Rattle.std.proofs.lemmas.List.Folds.{find-append, list_all-append}
+use Rattle.std.proofs.lemmas.Bool.Decides.{nat_tests}
+use Rattle.tp_assembly.specs.declared.program.Line.{Line}
+use Rattle.tp_assembly.specs.declared.program.Loop.{Loop}
+use Rattle.tp_assembly_text.specs.declared.words.Word.{Word}
+use Rattle.tp_assembly_text.specs.declared.fault.SourceFault.{SourceFault}
+use Rattle.tp_assembly_text.specs.declared.draft.DraftLine.{DraftLine}
+use Rattle.tp_assembly_text.specs.declared.draft.LabelName.{LabelName}
+use Rattle.tp_assembly_text.specs.declared.remarks.Remarks.{Remarks}
+use Rattle.tp_assembly_text.specs.declared.remarks.LineRemark.{LineRemark}
+use Rattle.tp_assembly_text.specs.Limits.{most}
+use Rattle.tp_assembly_text.specs.Faults.{then_read, each_read, ◌>>=◌}
+use Rattle.tp_assembly_text.specs.Words.{is_plain}
+use Rattle.tp_assembly_text.specs.Drafts.{Said, is_full, pushed, label_set, place_named}
+use Rattle.tp_assembly_text.specs.Grammar.{statement_said}
+use Rattle.tp_assembly_text.specs.Meaning.{added, line_said}
+use Rattle.tp_assembly_text.specs.Programs.{line_placed}
+use Rattle.tp_assembly_text.specs.Written.{as_line, label_text, line_text, label_there, line_remark, behind as remark_behind, lines_text, names_from_line}
+use Rattle.tp_text_laws.specs.Conditions.{MayBeLine}
+use Rattle.tp_text_laws.proofs.Bytes.{decimal_word, label_word}
+use Rattle.tp_text_laws.proofs.TextLines.{is_shown, IsLine}
+use Rattle.tp_text_laws.proofs.Pieces.{Piece, Gap, Of, Mark, IsTail, no_tail, comment_tail, word_shown}
+use Rattle.tp_text_laws.proofs.Leading.{Leads, nothing, behind, leads_to, a_line}
+use Rattle.tp_text_laws.proofs.Fields.{alone}
+use Rattle.tp_text_laws.proofs.Rows.{at, AreLabels, Rowed, one_more_read}
+use Rattle.tp_text_laws.proofs.CodeLines.{IsDrafted, Reads, line_read}
+
+-- labels
+same_label : (p : ℕ) → bytes_eq (label_text p) (label_text p) ≡ true
+same_label p = (bytes_eq-Decides (label_text p) (label_text p)).1 refl
+
+other_label : (k p : ℕ) → k < 2 ^ 64 → p < 2 ^ 64 → (k ≡ p → ⊥) → bytes_eq (label_text k) (label_text p) ≡ false
+other_label k p few few' other = by (bytes_eq (label_text k) (label_text p)) refl
+  where
+    by : (t : Bool) → bytes_eq (label_text k) (label_text p) ≡ t → t ≡ false
+    by false e = refl
+    by true e =
+        let same : label_text k ≡ label_text p = (bytes_eq-Decides (label_text k) (label_text p)).0 e in
+        let digits : decimal k ≡ decimal p = cc in
+        absurd (other (decimal_injective k p few few' digits))
+
+found_last : (xs : Option LabelName) (l : LabelName) (t : Bool) → option_map (λ n. n.place) (option_or xs (if t then Some l else None)) ≡ option_or (option_map (λ n. n.place) xs) (if t then Some l.place else None)
+found_last (Some n) l t = refl
+found_last None l true = refl
+found_last None l false = refl
+
+one_label_more : (labels : List LabelName) (l : LabelName) (w : Word) → place_named (labels ++ l ∷ []) w ≡ option_or (place_named labels w) (if bytes_eq l.word.text.now w.text.now then Some l.place else None)
+unfolding place_named
+one_label_more labels l w =
+    ap (option_map (λ n. n.place)) (find-append (λ n. bytes_eq n.word.text.now w.text.now) labels (l ∷ []))
+    ∙ found_last (find (λ n. bytes_eq n.word.text.now w.text.now) labels) l (bytes_eq l.word.text.now w.text.now)
+
+-- the labels of the named places below one
+abbrev pub AreBelow : (ℕ → Bool) → ℕ → ℕ → List LabelName → Type 0
+AreBelow named count below labels =
+    (w : Word) (p : ℕ) → w.text.now ≡ label_text p → p ≤ count → place_named labels w ≡ (if named p && nat_lt p below then Some p else None)
+
+or_none : (o : Option ℕ) → option_or o None ≡ o
+or_none (Some n) = refl
+or_none None = refl
+
+and_false : (x : Bool) → (x && false) ≡ false
+and_false true = refl
+and_false false = refl
+
+same_test : (named : ℕ → Bool) (k p : ℕ) → (k ≡ p → ⊥) → (named p && nat_lt p k) ≡ (named p && nat_lt p (k + 1))
+same_test named k p other = ap (λ t. named p && t) (by (nat_lt p k) refl)
+  where
+    by : (t : Bool) → nat_lt p k ≡ t → t ≡ nat_lt p (k + 1)
+    by true e = sym (grind (arith, nat_tests))
+    by false e = sym (grind (arith, nat_tests, other))
+
+-- a place more: named, with its label, or not
+label_more : (named : ℕ → Bool) (count k : ℕ) (labels : List LabelName) (l : LabelName) → count < most → l.word.text.now ≡ label_text k → l.place ≡ k → k ≤ count → named k ≡ true
+    → AreBelow named count k labels → AreBelow named count (k + 1) (labels ++ l ∷ [])
+label_more named count k labels l few is place within there are = λ w p names low.
+    one_label_more labels l w ∙ ap (λ o. option_or o (if bytes_eq l.word.text.now w.text.now then Some l.place else None)) (are w p names low)
+    ∙ ap (λ x. option_or (if named p && nat_lt p k then Some p else None) (if bytes_eq x w.text.now then Some l.place else None)) is
+    ∙ ap (λ x. option_or (if named p && nat_lt p k then Some p else None) (if bytes_eq (label_text k) x then Some l.place else None)) names
+    ∙ ap (λ x. option_or (if named p && nat_lt p k then Some p else None) (if bytes_eq (label_text k) (label_text p) then Some x else None)) place
+    ∙ by p low (k == p) refl
+  where
+    by : (p : ℕ) → p ≤ count → (t : Bool) → (k == p) ≡ t
+        → option_or (if named p && nat_lt p k then Some p else None) (if bytes_eq (label_text k) (label_text p) then Some k else None) ≡ (if named p && nat_lt p (k + 1) then Some p else None)
+    by p low true e =
+        let same : p ≡ k = grind (arith, nat_tests) in
+        let below : nat_lt k k ≡ false = grind (arith, nat_tests) in
+        let above : nat_lt k (k + 1) ≡ true = grind (arith, nat_tests) in
+        rw (same, there, below, above, same_label k) refl
+    by p low false e =
+        let other : k ≡ p → ⊥ = λ same. grind (arith, nat_tests, same) in
+        rw (other_label k p (omega arith) (omega arith) other, same_test named k p other) (or_none _)
+
+no_label_more : (named : ℕ → Bool) (count k : ℕ) (labels : List LabelName) → named k ≡ false → AreBelow named count k labels → AreBelow named count (k + 1) labels
+no_label_more named count k labels none are = λ w p names low. are w p names low ∙ ap (λ t. if t then Some p else None) (by p (k == p) refl)
+  where
+    by : (p : ℕ) (t : Bool) → (k == p) ≡ t → (named p && nat_lt p k) ≡ (named p && nat_lt p (k + 1))
+    by p true e = let same : p ≡ k = grind (arith, nat_tests) in rw (same, none) refl
+    by p false e = same_test named k p (λ same. grind (arith, nat_tests, same))
+
+-- the code so far, and the labels of the places below one
+pub record Coded (s : Said) (named : ℕ → Bool) (count : ℕ) (loops : List Loop) (done : List Line) (below : ℕ) (d : Said) : Type 0 where
+  pub fields : Said
+  pub rowed : Rowed s named count loops fields
+  pub is : d ≡ record fields { lines = d.lines; numbers = d.numbers; labels = d.labels }
+  pub long : length d.lines ≡ length done
+  pub placed : (labels : List LabelName) → AreLabels named count labels → each_read (line_placed labels) d.lines ≡ Ok done
+  pub labels : AreBelow named count below d.labels
+  pub few : length d.labels ≤ below
+
+a_label : (named : ℕ → Bool) (count k : ℕ) (w : Word) (d : Said) → count < most → w.text.now ≡ label_text k → k ≤ count → AreBelow named count k d.labels → length d.labels ≤ k
+    → label_set w d ≡ Ok (record d { labels = d.labels ++ (record { word = w; place = length d.lines }) ∷ [] })
+unfolding label_set
+a_label named count k w d small is within are few =
+    let below : nat_lt k k ≡ false = grind (arith, nat_tests) in
+    let none : place_named d.labels w ≡ None = are w k is within ∙ ap (λ t. if named k && t then Some k else None) below ∙ ap (λ t. if t then Some k else None) (and_false (named k)) in
+    let space : is_full d.labels ≡ false = grind (arith, nat_tests) in
+    rw (none, space) refl
+
+label_line : (n : ℕ) (k : ℕ) (d e : Said) → label_set (at n 1 (label_text k)) d ≡ Ok e → line_said (at n 1 (label_text k) ∷ at n (1 + length (label_text k)) (codes ":") ∷ []) d ≡ Ok e
+unfolding line_said statement_said added
+label_line n k d e set = rw set refl
+
+named_leads : (s : Said) (named : ℕ → Bool) (count : ℕ) (loops : List Loop) (done : List Line) (k : ℕ) → length done ≡ k → count < most → k ≤ count → named k ≡ true
+    → Leads (as_line (label_text k ++ codes ":")) (Coded s named count loops done k) (Coded s named count loops done (k + 1))
+unfolding is_plain
+named_leads s named count loops done k long small within there =
+    alone (label_text k ++ codes ":") (Of (label_text k) ∷ Mark 58 ∷ []) refl (label_word k, (refl, (refl, tt))) (λ n d p.
+    let w : Word = at n 1 (label_text k) in
+    let l : LabelName = record { word = w; place = length d.lines } in
+    let e : Said = record d { labels = d.labels ++ l ∷ [] } in
+    (e, label_line n k d e (a_label named count k w d small refl within p.labels p.few), record {
+      fields = p.fields;
+      rowed = p.rowed;
+      is = ap (λ (x : Said). record x { labels = d.labels ++ l ∷ [] }) p.is;
+      long = p.long;
+      placed = p.placed;
+      labels = label_more named count k d.labels l small refl (p.long ∙ long) within there p.labels;
+      few = omega (arith, length-append d.labels (l ∷ []), p.few);
+    }))
+
+label_leads : (s : Said) (named : ℕ → Bool) (count : ℕ) (loops : List Loop) (done : List Line) (k : ℕ) → length done ≡ k → count < most → k ≤ count
+    → Leads (label_there (named k) k) (Coded s named count loops done k) (Coded s named count loops done (k + 1))
+unfolding label_there
+label_leads s named count loops done k long small within = by (named k) refl
+  where
+    by : (t : Bool) → named k ≡ t → Leads (if t then as_line (label_text k ++ codes ":") else []) (Coded s named count loops done k) (Coded s named count loops done (k + 1))
+    by true there = named_leads s named count loops done k long small within there
+    by false none = leads_to (λ d p. record {
+      fields = p.fields;
+      rowed = p.rowed;
+      is = p.is;
+      long = p.long;
+      placed = p.placed;
+      labels = no_label_more named count k d.labels none p.labels;
+      few = omega (arith, p.few);
+    }) (nothing {P = Coded s named count loops done k})
+
+-- remarks
+pub decimal_line : (n : ℕ) → list_all is_shown (decimal n) ≡ true
+decimal_line n = word_shown (decimal n) (decimal_word n).plain
+
+remark_tail : (o : Option (Option LineRemark)) → IsTail (line_remark o)
+remark_tail None = no_tail
+remark_tail (Some None) = no_tail
+remark_tail (Some (Some r)) = comment_tail ((32 ∷ decimal r.address ++ codes ": ") ++ decimal r.on) (simp (list_all-append {X = ℕ}, decimal_line))
+
+tail_behind : (remarks : Option Remarks) (k : ℕ) → IsTail (remark_behind remarks k)
+unfolding remark_behind
+tail_behind None k = no_tail
+tail_behind (Some remarks) k = remark_tail (slice_get remarks.lines.now k)
+
+-- a line
+a_push : (w : Word) (l : DraftLine) (d : Said) → length d.lines < most → pushed w l d ≡ Ok (record d { lines = d.lines ++ l ∷ []; numbers = d.numbers ++ w.line ∷ [] })
+unfolding pushed
+a_push w l d few =
+    let space : is_full d.lines ≡ false = grind (arith, nat_tests) in
+    rw space refl
+
+line_leads : (s : Said) (named : ℕ → Bool) (count : ℕ) (loops : List Loop) (done : List Line) (line : Line) (below : ℕ) (remarks : Option Remarks) (k : ℕ) → length done < most → Reads named count line
+    → Leads (as_line (line_text line ++ remark_behind remarks k)) (Coded s named count loops done below) (Coded s named count loops (done ++ line ∷ []) below)
+line_leads s named count loops done line below remarks k few reads =
+    a_line reads.pieces (remark_behind remarks k) (ap (λ t. t ++ remark_behind remarks k) reads.is) reads.apart (tail_behind remarks k) (λ n d p.
+    let r = reads.says n d in
+    let e : Said = record d { lines = d.lines ++ r.1 ∷ []; numbers = d.numbers ++ r.0.line ∷ [] } in
+    (e, r.2 ∙ a_push r.0 r.1 d (omega (arith, p.long)), record {
+      fields = p.fields;
+      rowed = p.rowed;
+      is = ap (λ (x : Said). record x { lines = d.lines ++ r.1 ∷ []; numbers = d.numbers ++ r.0.line ∷ [] }) p.is;
+      long = omega (arith, length-append d.lines (r.1 ∷ []), length-append done (line ∷ []), p.long);
+      placed = λ labels are. one_more_read (line_placed labels) d.lines r.1 done line (p.placed labels are) (r.3 labels are);
+      labels = p.labels;
+      few = p.few;
+    }))
+
+or_left : (a b : Bool) → a ≡ true → (a || b) ≡ true
+or_left true b e = refl
+or_left false b e = cc
+
+or_right : (a b : Bool) → b ≡ true → (a || b) ≡ true
+or_right true b e = refl
+or_right false b e = e
+
+pub code_leads : (s : Said) (named : ℕ → Bool) (count : ℕ) (loops : List Loop) (remarks : Option Remarks) (done lines : List Line) (k : ℕ) → length done ≡ k → k + length lines ≡ count → count < most
+    → AllByRecursion (MayBeLine count) lines → ((p : ℕ) → list_any (names_from_line p) lines ≡ true → named p ≡ true)
+    → Leads (lines_text named remarks k lines) (Coded s named count loops done k) (Coded s named count loops (done ++ lines) (count + 1))
+code_leads s named count loops remarks done [] k long all small may from =
+    let end : k + 1 ≡ count + 1 = omega (arith, all) in
+    leads_to (λ d p. subst (λ (ls : List Line). Coded s named count loops ls (count + 1) d) (sym (append-nil done)) (subst (λ (n : ℕ). Coded s named count loops done n d) end p))
+    (label_leads s named count loops done k long small (omega (arith, all)))
+code_leads s named count loops remarks done (line ∷ lines) k long all small may from =
+    leads_to (λ d p. subst (λ (ls : List Line). Coded s named count loops ls (count + 1) d) (append_assoc done (line ∷ []) lines) p)
+    (behind (behind (label_leads s named count loops done k long small (omega (arith, all)))
+    (line_leads s named count loops done line (k + 1) remarks k (omega (arith, long, all)) (line_read named count line may.0 (λ p e. from p (or_left (names_from_line p line) (list_any (names_from_line p) lines) e)))))
+    (code_leads s named count loops remarks (done ++ line ∷ []) lines (k + 1) (omega (arith, length-append done (line ∷ []), long)) (omega (arith, all)) small may.1 (λ p e. from p (or_right (names_from_line p line) (list_any (names_from_line p) lines) e))))
