@@ -8,3 +8,4 @@ pub mod Rows
 pub mod InstructionNames
 pub mod CodeLines
 pub mod WholeCode
+pub mod ReadBack

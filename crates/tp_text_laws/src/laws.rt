@@ -1,9 +1,15 @@
 //! Laws of assembly text: each function's contract is the law.
 
-ghost use Rattle.std.specs.Prelude.{◌≡◌, List, ℕ};
+ghost use Rattle.std.specs.Prelude.{◌≡◌, Option, Ok};
+ghost use Rattle.tp_assembly_text.specs.declared.remarks.Remarks.{Remarks};
+ghost use Rattle.tp_assembly_text.specs.Programs.{ProgramSaid, SourceSaid};
+ghost use Rattle.tp_assembly_text.specs.Texts.{source_of};
+ghost use Rattle.tp_assembly_text.specs.Written.{text_of};
+ghost use Rattle.tp_text_laws.specs.Conditions.{MayBeWritten};
 
-/// A natural number of 32 bits is read as it is written in decimal.
-#[tactic(auto, using(crate::proofs::Leading::a_line, crate::proofs::WholeCode::code_leads))]
-pub fn natural_number_is_read_back()
-    ensures { (n : ℕ) → n ≡ n }
+/// The text of a program that may be written, with any remarks or none, is read back as that program.
+#[tactic(auto, using(crate::proofs::ReadBack::read_back))]
+pub fn written_program_is_read_back()
+    ensures { (p : ProgramSaid) (remarks : Option Remarks) → MayBeWritten p →
+        (source : SourceSaid) × (source_of (text_of p remarks) ≡ Ok source) × (source.program ≡ p) }
 {}
