@@ -9,3 +9,5 @@ pub mod InstructionNames
 pub mod CodeLines
 pub mod WholeCode
 pub mod ReadBack
+pub mod Images
+pub mod Disassembled

@@ -42,6 +42,14 @@ abbrev pub MayBeLine : ℕ → Line → Type 0
 MayBeLine count (Byte byte) = byte < 2 ^ 8
 MayBeLine count (Spelled operation bytes) = MayBeOperation count operation × MayBeStated bytes
 
+-- the operand of an instruction is one of 32 bits, as each operand in a program of the code
+abbrev pub HasOperand : Line → Type 0
+HasOperand (Byte byte) = Unit {0}
+HasOperand (Spelled (Plain i) bytes) = FitsSigned w32 (entry i).operand
+HasOperand (Spelled (JumpTo to) bytes) = Unit {0}
+HasOperand (Spelled (CjTo to) bytes) = Unit {0}
+HasOperand (Spelled (Distance from to) bytes) = Unit {0}
+
 -- each number is as small as a text may have it. Each place may have a label, so there are fewer lines than labels
 pub record MayBeWritten (p : ProgramSaid) : Type 0 where
   pub workspace : p.workspace ≤ most_count
