@@ -8,4 +8,3 @@ mod Apart
 mod Additions
 mod Finished
 pub mod Written
-pub mod ReadBack

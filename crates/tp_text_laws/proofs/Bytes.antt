@@ -9,10 +9,7 @@ use Rattle.tp_decode.specs.declared.instr.Instr.TheVariants.{Jump, Ldlp, Ldnl, L
 use Rattle.tp_decode.specs.Table.{entry}
 use Rattle.tp_assembly_text.specs.Words.{is_mark, is_plain, begins, begins_comment, before_comment}
 use Rattle.tp_assembly_text.proofs.Tokens.{both_true}
-
-not_true : (a : Bool) → not a ≡ true → a ≡ false
-not_true true e = cc
-not_true false e = refl
+use Rattle.tp_text_laws.proofs.Tests.{not_true}
 
 -- a byte of a word that begins no comment
 abbrev pub is_inner : ℕ → Bool

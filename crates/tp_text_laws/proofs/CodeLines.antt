@@ -33,6 +33,7 @@ use Rattle.tp_assembly_text.specs.Apart.{word_for}
 use Rattle.tp_assembly_text.specs.Programs.{place_of_label, line_placed}
 use Rattle.tp_assembly_text.specs.Written.{label_text, stated_text, operand_text, operation_text, byte_text, line_text, names_from_line}
 use Rattle.tp_text_laws.specs.Conditions.{MayBeStated, MayBeOperation, MayBeLine}
+use Rattle.tp_text_laws.proofs.Tests.{and_false, or_left, or_right, same_place}
 use Rattle.tp_text_laws.proofs.Bytes.{IsWord, literal_word, decimal_word, signed_word, label_word, minus_word, name_word, hexadecimal_word}
 use Rattle.tp_text_laws.proofs.Numbers.{count_is, signed_is, begins_signed, byte_is, byte_inner}
 use Rattle.tp_text_laws.proofs.Pieces.{Piece, Gap, Of, Mark, write, placed, AreApart}
@@ -136,10 +137,6 @@ function_says n column bytes first w ws function l d may word none named said =
     is_unlabelled : (b : Option ℕ) → line_said (first ∷ stated_words n column b (w ∷ ws)) d ≡ unlabelled (first ∷ stated_words n column b (w ∷ ws)) d
     is_unlabelled None = not_labelled first w ws d (other_word w.text.now 58 word refl)
     is_unlabelled (Some b) = not_labelled first (at n column (codes "/")) (at n (column + 1) (decimal b) ∷ w ∷ ws) d refl
-
-and_false : (x : Bool) → (x && false) ≡ false
-and_false true = refl
-and_false false = refl
 
 -- a number
 number_operand : (words : List Word) (first w : Word) (function i : ℕ) (bytes : Option ℕ) (z : ℤ) (instr : Instr) → slice_get words i ≡ None → begins_number w.text.now ≡ true → number_read w ≡ Ok z
@@ -343,15 +340,11 @@ byte_read named count byte small = record {
       plain_drafted named count (Byte byte));
 }
 
-same_place : (p : ℕ) → (p == p) ≡ true
-same_place p = grind (arith, nat_tests)
-
 or_same : (a : Bool) (p : ℕ) → (a || (p == p)) ≡ true
-or_same true p = refl
-or_same false p = same_place p
+or_same a p = or_right a (p == p) (same_place p)
 
 same_or : (a : Bool) (p : ℕ) → ((p == p) || a) ≡ true
-same_or a p = rw (same_place p) refl
+same_or a p = or_left (p == p) a (same_place p)
 
 -- each line
 pub line_read : (named : ℕ → Bool) (count : ℕ) (line : Line) → MayBeLine count line → ((p : ℕ) → names_from_line p line ≡ true → named p ≡ true) → Reads named count line

@@ -28,12 +28,9 @@ use Rattle.tp_assembly.specs.Assembly.{address_of, row_of, IsAssembly}
 use Rattle.tp_assembly.proofs.LayoutLemmas.{way_is, operation_sound, sound_first, line_some, ones_sum}
 use Rattle.tp_assembly_text.specs.Programs.{ProgramSaid, program_said}
 use Rattle.tp_text_laws.specs.Conditions.{MayBeSpot, MayBeRow, MayBeOperation, MayBeStated, MayBeLine, HasOperand, MayBeWritten}
+use Rattle.tp_text_laws.proofs.Tests.{or_false}
 
 -- rows
-or_false : (a b : Bool) → (a || b) ≡ false → (a ≡ false) × (b ≡ false)
-or_false true b e = cc
-or_false false b e = (refl, e)
-
 spot_may : (addresses : List ℕ) (count : ℕ) (s : Spot) → is_behind count s ≡ false → address_of addresses s < 2 ^ 16 → MayBeSpot count s
 spot_may addresses count (Place place) within small = grind (arith, nat_tests)
 spot_may addresses count (Address address) within small = omega (arith, small)

@@ -1,3 +1,5 @@
+pub mod Tests
+pub mod ReadNumbers
 pub mod Bytes
 pub mod TextLines
 pub mod Pieces

@@ -19,7 +19,7 @@ use Rattle.tp_assembly_text.specs.Numbers.{natural_said, signed_said, digits_sai
 use Rattle.tp_assembly_text.specs.Statements.{number_read, count_read, within}
 use Rattle.tp_assembly_text.specs.Written.{byte_text}
 use Rattle.tp_assembly_text.proofs.Digits.{numeral_said}
-use Rattle.tp_assembly_text.proofs.ReadBack.{natural_back, signed_back}
+use Rattle.tp_text_laws.proofs.ReadNumbers.{signed_back}
 use Rattle.tp_text_laws.proofs.Bytes.{is_inner, glyph_is_inner}
 
 -- a word that writes a number

@@ -24,6 +24,7 @@ use Rattle.tp_assembly_text.specs.Programs.{ProgramSaid, SourceSaid, line_placed
 use Rattle.tp_assembly_text.specs.Texts.{words_of_lines, words_say, text_said, source_of}
 use Rattle.tp_assembly_text.specs.Written.{as_line, is_named, names_from_row, names_from_line, fields_text, loop_remark, legend, remarks_above, above, text_of}
 use Rattle.tp_text_laws.specs.Conditions.{MayBeWritten}
+use Rattle.tp_text_laws.proofs.Tests.{and_false, or_left, or_right}
 use Rattle.tp_text_laws.proofs.TextLines.{is_shown, IsLine, all_lines}
 use Rattle.tp_text_laws.proofs.Pieces.{IsTail}
 use Rattle.tp_text_laws.proofs.Leading.{Leads, nothing, behind, leads_as, leads_to, a_line}
@@ -74,10 +75,6 @@ fields_of p = record empty {
   initial = p.initial;
 }
 
-and_false : (x : Bool) → (x && false) ≡ false
-and_false true = refl
-and_false false = refl
-
 none_below : (named : ℕ → Bool) (count : ℕ) (labels : List LabelName) → labels ≡ [] → AreBelow named count 0 labels
 unfolding place_named
 none_below named count labels none = λ w k is low.
@@ -97,14 +94,6 @@ no_code s d named count loops no_lines no_labels rowed =
       labels = none_below named count d.labels labels;
       few = omega (arith, ap length labels);
     }
-
-or_left : (a b : Bool) → a ≡ true → (a || b) ≡ true
-or_left true b e = refl
-or_left false b e = cc
-
-or_right : (a b : Bool) → b ≡ true → (a || b) ≡ true
-or_right true b e = refl
-or_right false b e = e
 
 row_named : (p : ProgramSaid) (k : ℕ) → list_any (names_from_row k) p.loops ≡ true → is_named p k ≡ true
 unfolding is_named

@@ -32,6 +32,7 @@ use Rattle.tp_assembly_text.specs.Apart.{word_for}
 use Rattle.tp_assembly_text.specs.Programs.{place_of_label, spot_placed, control_said, loop_placed}
 use Rattle.tp_assembly_text.specs.Written.{as_line, label_text, spot_text, loop_text, is_at, names_from_row}
 use Rattle.tp_text_laws.specs.Conditions.{MayBeSpot, MayBeRow}
+use Rattle.tp_text_laws.proofs.Tests.{or_left, or_right, same_place}
 use Rattle.tp_text_laws.proofs.Bytes.{IsWord, literal_word, decimal_word, signed_word, label_word}
 use Rattle.tp_text_laws.proofs.Numbers.{count_is, signed_is, begins_decimal}
 use Rattle.tp_text_laws.proofs.Pieces.{Piece, Gap, Of, Mark, write, placed}
@@ -87,9 +88,6 @@ target_is w (spot.Address address) count is may =
     let begins : begins_number w.text.now ≡ true = ap begins_number is ∙ begins_decimal address (omega arith) in
     rw begins (ap (λ r. r >>= λ n. Ok (target.Address n)) (count_is w most_count address is may (omega arith)))
 
-same_place : (p : ℕ) → (p == p) ≡ true
-same_place p = grind (arith, nat_tests)
-
 spot_back : (named : ℕ → Bool) (count : ℕ) (labels : List LabelName) (w : Word) (sp : Spot) → AreLabels named count labels → w.text.now ≡ spot_text sp → MayBeSpot count sp → ((p : ℕ) → is_at p sp ≡ true → named p ≡ true)
     → spot_placed labels (target_of w sp) ≡ Ok sp
 unfolding spot_placed spot_text
@@ -122,14 +120,6 @@ row_line l =
     Of (codes "loop") ∷ Gap ∷ Of (codes "head") ∷ Gap ∷ Of (spot_text l.head) ∷ Gap ∷ Of (codes "lend") ∷ Gap ∷ Of (spot_text l.lend)
     ∷ Gap ∷ Of (codes "control") ∷ Gap ∷ Of (decimal l.control) ∷ Gap ∷ Of (codes "turns") ∷ Gap ∷ Of (decimal l.count)
     ∷ Gap ∷ Of (codes "start") ∷ Gap ∷ Of (signed_decimal l.start) ∷ []
-
-or_left : (a b : Bool) → a ≡ true → (a || b) ≡ true
-or_left true b e = refl
-or_left false b e = cc
-
-or_right : (a b : Bool) → b ≡ true → (a || b) ≡ true
-or_right true b e = refl
-or_right false b e = e
 
 row_leads : (s : Said) (named : ℕ → Bool) (count : ℕ) (done : List Loop) (l : Loop) → length done < most → MayBeRow count l → ((p : ℕ) → names_from_row p l ≡ true → named p ≡ true)
     → Leads (loop_text l) (Rowed s named count done) (Rowed s named count (done ++ l ∷ []))

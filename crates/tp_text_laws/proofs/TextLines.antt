@@ -7,6 +7,7 @@ use Rattle.std.proofs.lemmas.Bool.Decides.{nat_tests}
 use Rattle.std.proofs.lemmas.List.Splits.{length-slice_split, slice_split-cons_no}
 use Rattle.tp_assembly_text.specs.Written.{as_line}
 use Rattle.tp_assembly_text.proofs.Tokens.{both_true}
+use Rattle.tp_text_laws.proofs.Tests.{not_true}
 
 -- a byte of a line
 abbrev pub is_shown : ℕ → Bool
@@ -16,18 +17,10 @@ abbrev pub IsLine : List ℕ → Type 0
 IsLine line = list_all is_shown line ≡ true
 
 not_feed : (b : ℕ) → is_shown b ≡ true → (b == 10) ≡ false
-not_feed b h = by (b == 10) (both_true (not (b == 10)) (not (b == 13)) h).0
-  where
-    by : (t : Bool) → not t ≡ true → t ≡ false
-    by true e = cc
-    by false e = refl
+not_feed b h = not_true (b == 10) (both_true (not (b == 10)) (not (b == 13)) h).0
 
 not_return : (b : ℕ) → is_shown b ≡ true → (b == 13) ≡ false
-not_return b h = by (b == 13) (both_true (not (b == 10)) (not (b == 13)) h).1
-  where
-    by : (t : Bool) → not t ≡ true → t ≡ false
-    by true e = cc
-    by false e = refl
+not_return b h = not_true (b == 13) (both_true (not (b == 10)) (not (b == 13)) h).1
 
 split_at : (a b : List ℕ) → IsLine a → slice_split (λ c. c == 10) (a ++ 10 ∷ b) ≡ a ∷ slice_split (λ c. c == 10) b
 split_at [] b all = refl

@@ -26,6 +26,7 @@ use Rattle.tp_assembly_text.specs.Meaning.{added, line_said}
 use Rattle.tp_assembly_text.specs.Programs.{line_placed}
 use Rattle.tp_assembly_text.specs.Written.{as_line, label_text, line_text, label_there, line_remark, behind as remark_behind, lines_text, names_from_line}
 use Rattle.tp_text_laws.specs.Conditions.{MayBeLine}
+use Rattle.tp_text_laws.proofs.Tests.{and_false, or_left, or_right}
 use Rattle.tp_text_laws.proofs.Bytes.{decimal_word, label_word}
 use Rattle.tp_text_laws.proofs.TextLines.{is_shown, IsLine}
 use Rattle.tp_text_laws.proofs.Pieces.{Piece, Gap, Of, Mark, IsTail, no_tail, comment_tail, word_shown}
@@ -67,10 +68,6 @@ AreBelow named count below labels =
 or_none : (o : Option ℕ) → option_or o None ≡ o
 or_none (Some n) = refl
 or_none None = refl
-
-and_false : (x : Bool) → (x && false) ≡ false
-and_false true = refl
-and_false false = refl
 
 same_test : (named : ℕ → Bool) (k p : ℕ) → (k ≡ p → ⊥) → (named p && nat_lt p k) ≡ (named p && nat_lt p (k + 1))
 same_test named k p other = ap (λ t. named p && t) (by (nat_lt p k) refl)
@@ -201,14 +198,6 @@ line_leads s named count loops done line below remarks k few reads =
       labels = p.labels;
       few = p.few;
     }))
-
-or_left : (a b : Bool) → a ≡ true → (a || b) ≡ true
-or_left true b e = refl
-or_left false b e = cc
-
-or_right : (a b : Bool) → b ≡ true → (a || b) ≡ true
-or_right true b e = refl
-or_right false b e = e
 
 pub code_leads : (s : Said) (named : ℕ → Bool) (count : ℕ) (loops : List Loop) (remarks : Option Remarks) (done lines : List Line) (k : ℕ) → length done ≡ k → k + length lines ≡ count → count < most
     → AllByRecursion (MayBeLine count) lines → ((p : ℕ) → list_any (names_from_line p) lines ≡ true → named p ≡ true)
