@@ -1,5 +1,5 @@
 -- The lines of a program's code are read as they are written.
-use Rattle.std.proofs.Common.{◌≡◌, ◌⊎◌, inl, inr, ℕ, zero, suc, ◌+◌, ◌<◌, ◌≤◌, ◌^◌, ◌==◌, ◌&&◌, ◌||◌, nat_le, nat_eq, Bool, true, false, if◌then◌else◌, ℤ, List, [], ◌∷◌, ◌++◌, codes, length, map, slice_get, Option, Some, None, Result, Ok, Err, refl, ap, sym, ◌∙◌, subst, arith, append_assoc}
+use Rattle.std.proofs.Common.{◌≡◌, ◌⊎◌, inl, inr, ℕ, ◌+◌, ◌<◌, ◌≤◌, ◌^◌, ◌==◌, ◌||◌, Bool, true, false, ℤ, List, [], ◌∷◌, ◌++◌, codes, length, map, slice_get, Option, Some, None, Result, Ok, Err, refl, ap, sym, ◌∙◌, arith, append_assoc}
 use Rattle.std.specs.Int.{w32}
 use Rattle.std.specs.Int.RustNames.{FitsSigned}
 use Rattle.std.specs.Fmt.{decimal, signed_decimal}
@@ -7,7 +7,6 @@ use Rattle.std.proofs.lemmas.List.{append-nil}
 use Rattle.std.proofs.lemmas.Bool.Decides.{nat_tests}
 use Rattle.tp_decode.specs.declared.instr.Instr.{Instr}
 use Rattle.tp_decode.specs.Table.{entry, instruction}
-use Rattle.tp_assembly.specs.declared.program.Operation.{Operation}
 use Rattle.tp_assembly.specs.declared.program.Operation.TheVariants.{Plain, JumpTo, CjTo, Distance}
 use Rattle.tp_assembly.specs.declared.program.Line.{Line}
 use Rattle.tp_assembly.specs.declared.program.Line.TheVariants.{Byte, Spelled}
@@ -19,7 +18,7 @@ use Rattle.tp_assembly_text.specs.declared.draft.LabelName.{LabelName}
 use Rattle.tp_assembly_text.specs.declared.statement.NewLine.{NewLine}
 use Rattle.tp_assembly_text.specs.declared.statement.Instruction.TheVariants as instruction
 use Rattle.tp_assembly_text.specs.Limits.{most_bytes}
-use Rattle.tp_assembly_text.specs.Faults.{then_read, ◌>>=◌}
+use Rattle.tp_assembly_text.specs.Faults.{then_read}
 use Rattle.tp_assembly_text.specs.Words.{is_plain, begins}
 use Rattle.tp_assembly_text.specs.Numbers.{begins_number}
 use Rattle.tp_assembly_text.specs.Names.{function_named, function_by_name, operation_named}
@@ -27,17 +26,17 @@ use Rattle.tp_assembly_text.specs.Drafts.{Said, pushed}
 use Rattle.tp_assembly_text.specs.Keywords.{keyword_named}
 use Rattle.tp_assembly_text.specs.Statements.{word_said, end_said, number_read, count_read}
 use Rattle.tp_assembly_text.specs.Lists.{parts, list_said, one_word_said, no_more_said, byte_line_said}
-use Rattle.tp_assembly_text.specs.Grammar.{AddsLines, keyword_said, statement_said, is_word, plain_line, length_said, operand_said, number_said, distance_said, with_operand_said, operation_said, instruction_said}
-use Rattle.tp_assembly_text.specs.Meaning.{in_turn, line_added, added, is_colon, unlabelled, line_said}
+use Rattle.tp_assembly_text.specs.Grammar.{keyword_said, statement_said, is_word, plain_line, length_said, operand_said, number_said, distance_said, with_operand_said, operation_said, instruction_said}
+use Rattle.tp_assembly_text.specs.Meaning.{in_turn, line_added, added, unlabelled, line_said}
 use Rattle.tp_assembly_text.specs.Apart.{word_for}
 use Rattle.tp_assembly_text.specs.Programs.{place_of_label, line_placed}
-use Rattle.tp_assembly_text.specs.Written.{label_text, stated_text, operand_text, operation_text, byte_text, line_text, names_from_line}
-use Rattle.tp_text_laws.specs.Conditions.{MayBeStated, MayBeOperation, MayBeLine}
+use Rattle.tp_assembly_text.specs.Written.{label_text, stated_text, operation_text, byte_text, line_text, names_from_line}
+use Rattle.tp_text_laws.specs.Conditions.{MayBeStated, MayBeLine}
 use Rattle.tp_text_laws.proofs.Tests.{and_false, or_left, or_right, same_place}
 use Rattle.tp_text_laws.proofs.Bytes.{IsWord, literal_word, decimal_word, signed_word, label_word, minus_word, name_word, hexadecimal_word}
 use Rattle.tp_text_laws.proofs.Numbers.{count_is, signed_is, begins_signed, byte_is, byte_inner}
 use Rattle.tp_text_laws.proofs.Pieces.{Piece, Gap, Of, Mark, write, placed, AreApart}
-use Rattle.tp_text_laws.proofs.Fields.{not_labelled, other_word, keyword_says}
+use Rattle.tp_text_laws.proofs.Fields.{not_labelled, other_word}
 use Rattle.tp_text_laws.proofs.Rows.{at, AreLabels, label_placed}
 use Rattle.tp_text_laws.proofs.InstructionNames.{IsOperation, IsFunction, no_keyword, how_named}
 
@@ -164,12 +163,14 @@ function_read named count i bytes is fits may =
           let first : Word = at n 9 (entry i).name in
           let c : ℕ = 9 + length (entry i).name in
           let w : Word = at n (column_behind c bytes + 1) (signed_decimal (entry i).operand) in
-          let l : NewLine = plain_line first bytes i in
-          (l.word, l.line,
-          ap (λ ws. line_said (first ∷ ws) d) (stated_placed n c bytes ps)
-          ∙ function_says n c bytes first w [] (entry i).function l d may (signed_word (entry i).operand) (no_keyword i) is.named
-          (number_operand _ first w (entry i).function (operand_at bytes + 1) bytes (entry i).operand i (nothing_behind n c bytes first w) (begins_signed (entry i).operand fits) (signed_is w (entry i).operand refl fits) is.made),
-          plain_drafted named count (Spelled (Plain i) bytes));
+          let l : NewLine = plain_line first bytes i in (
+            l.word,
+            l.line,
+            ap (λ ws. line_said (first ∷ ws) d) (stated_placed n c bytes ps)
+                ∙ function_says n c bytes first w [] (entry i).function l d may (signed_word (entry i).operand) (no_keyword i) is.named
+                (number_operand _ first w (entry i).function (operand_at bytes + 1) bytes (entry i).operand i (nothing_behind n c bytes first w) (begins_signed (entry i).operand fits) (signed_is w (entry i).operand refl fits) is.made),
+            plain_drafted named count (Spelled (Plain i) bytes),
+          );
     }
 
 -- an operation
@@ -195,10 +196,12 @@ operation_read named count i bytes is may = record {
   apart = spelled_apart (entry i).name bytes [] (name_word i) refl tt;
   says = λ n d.
       let first : Word = at n 9 (entry i).name in
-      let c : ℕ = 9 + length (entry i).name in
-      (first, draft.Known (Spelled (Plain i) bytes),
-      ap (λ ws. line_said (first ∷ ws) d) (stated_placed n c bytes []) ∙ operation_says n c bytes first i d may (no_keyword i) is.named is.found,
-      plain_drafted named count (Spelled (Plain i) bytes));
+      let c : ℕ = 9 + length (entry i).name in (
+        first,
+        draft.Known (Spelled (Plain i) bytes),
+        ap (λ ws. line_said (first ∷ ws) d) (stated_placed n c bytes []) ∙ operation_says n c bytes first i d may (no_keyword i) is.named is.found,
+        plain_drafted named count (Spelled (Plain i) bytes),
+      );
 }
 
 -- jumps to labels
@@ -242,12 +245,14 @@ jump_read named count to bytes within there may =
       says = λ n d.
           let first : Word = at n 9 (codes "j") in
           let c : ℕ = column_behind 10 bytes + 1 in
-          let w : Word = at n c (label_text to) in
-          (first, draft.Jump w bytes,
-          ap (λ ws. line_said (first ∷ ws) d) (stated_placed n 10 bytes ps)
-          ∙ function_says n 10 bytes first w [] 0 (record { word = first; line = draft.Jump w bytes }) d may (label_word to) refl refl
-          (jump_operand _ n c (operand_at bytes + 1) to bytes (nothing_behind n 10 bytes first w)),
-          jump_drafted named count to bytes w refl within there);
+          let w : Word = at n c (label_text to) in (
+            first,
+            draft.Jump w bytes,
+            ap (λ ws. line_said (first ∷ ws) d) (stated_placed n 10 bytes ps)
+                ∙ function_says n 10 bytes first w [] 0 (record { word = first; line = draft.Jump w bytes }) d may (label_word to) refl refl
+                (jump_operand _ n c (operand_at bytes + 1) to bytes (nothing_behind n 10 bytes first w)),
+            jump_drafted named count to bytes w refl within there,
+          );
     }
 
 cj_read : (named : ℕ → Bool) (count to : ℕ) (bytes : Option ℕ) → to ≤ count → named to ≡ true → MayBeStated bytes → Reads named count (Spelled (CjTo to) bytes)
@@ -261,12 +266,14 @@ cj_read named count to bytes within there may =
       says = λ n d.
           let first : Word = at n 9 (codes "cj") in
           let c : ℕ = column_behind 11 bytes + 1 in
-          let w : Word = at n c (label_text to) in
-          (first, draft.Cj w bytes,
-          ap (λ ws. line_said (first ∷ ws) d) (stated_placed n 11 bytes ps)
-          ∙ function_says n 11 bytes first w [] 10 (record { word = first; line = draft.Cj w bytes }) d may (label_word to) refl refl
-          (cj_operand _ n c (operand_at bytes + 1) to bytes (nothing_behind n 11 bytes first w)),
-          cj_drafted named count to bytes w refl within there);
+          let w : Word = at n c (label_text to) in (
+            first,
+            draft.Cj w bytes,
+            ap (λ ws. line_said (first ∷ ws) d) (stated_placed n 11 bytes ps)
+                ∙ function_says n 11 bytes first w [] 10 (record { word = first; line = draft.Cj w bytes }) d may (label_word to) refl refl
+                (cj_operand _ n c (operand_at bytes + 1) to bytes (nothing_behind n 11 bytes first w)),
+            cj_drafted named count to bytes w refl within there,
+          );
     }
 
 -- the distance between two labels
@@ -303,12 +310,14 @@ distance_read named count from to bytes within' within there' there may =
           let c : ℕ = column_behind 12 bytes + 1 in
           let w : Word = at n c (label_text to) in
           let m : Word = at n (c + length (label_text to) + 1) (codes "-") in
-          let v : Word = at n (c + length (label_text to) + 1 + 1 + 1) (label_text from) in
-          (first, draft.Distance w v bytes,
-          ap (λ ws. line_said (first ∷ ws) d) (stated_placed n 12 bytes ps)
-          ∙ function_says n 12 bytes first w (m ∷ v ∷ []) 4 (record { word = first; line = draft.Distance w v bytes }) d may (label_word to) refl refl
-          (distance_operand _ n c (c + length (label_text to) + 1) (operand_at bytes + 1) to v bytes (minus_here n 12 bytes first w m v) (from_here n 12 bytes first w m v) (end_here n 12 bytes first w m v)),
-          distance_drafted named count from to bytes v w refl refl within within' there there');
+          let v : Word = at n (c + length (label_text to) + 1 + 1 + 1) (label_text from) in (
+            first,
+            draft.Distance w v bytes,
+            ap (λ ws. line_said (first ∷ ws) d) (stated_placed n 12 bytes ps)
+                ∙ function_says n 12 bytes first w (m ∷ v ∷ []) 4 (record { word = first; line = draft.Distance w v bytes }) d may (label_word to) refl refl
+                (distance_operand _ n c (c + length (label_text to) + 1) (operand_at bytes + 1) to v bytes (minus_here n 12 bytes first w m v) (from_here n 12 bytes first w m v) (end_here n 12 bytes first w m v)),
+            distance_drafted named count from to bytes v w refl refl within within' there there',
+          );
     }
 
 -- a byte
@@ -334,10 +343,12 @@ byte_read named count byte small = record {
   apart = (literal_word _ refl, (refl, (hexadecimal_word (byte_text byte) (byte_inner byte (omega arith)), (refl, tt))));
   says = λ n d.
       let first : Word = at n 9 (codes "byte") in
-      let w : Word = at n 14 (35 ∷ byte_text byte) in
-      (w, draft.Known (Byte byte),
-      not_labelled first w [] d refl ∙ byte_says n 9 w _ d (byte_said first n 14 (byte_text byte) byte (byte_is w byte refl (omega arith))),
-      plain_drafted named count (Byte byte));
+      let w : Word = at n 14 (35 ∷ byte_text byte) in (
+        w,
+        draft.Known (Byte byte),
+        not_labelled first w [] d refl ∙ byte_says n 9 w _ d (byte_said first n 14 (byte_text byte) byte (byte_is w byte refl (omega arith))),
+        plain_drafted named count (Byte byte),
+      );
 }
 
 or_same : (a : Bool) (p : ℕ) → (a || (p == p)) ≡ true

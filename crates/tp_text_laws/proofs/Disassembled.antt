@@ -1,11 +1,10 @@
 -- What is told of an image is read back from its text.
-use Rattle.std.proofs.Common.{◌≡◌, ℕ, zero, suc, ◌+◌, ◌-◌, ◌*◌, ◌/◌, ◌%◌, ◌<◌, ◌≤◌, ◌^◌, nat_eq, Bool, true, false, if◌then◌else◌, ℤ, pos, negsuc, List, [], ◌∷◌, ◌++◌, length, map, Option, Some, None, Result, Ok, refl, ap, sym, ◌∙◌, subst, arith}
+use Rattle.std.proofs.Common.{◌≡◌, ℕ, ◌+◌, ◌%◌, ◌<◌, ◌^◌, Bool, true, false, if◌then◌else◌, ℤ, List, [], ◌∷◌, ◌++◌, length, map, Option, Some, None, Ok, refl, ap, sym, ◌∙◌, subst, arith}
 use Rattle.std.specs.Int.{w32, cast_signed}
 use Rattle.std.specs.Int.RustNames.{FitsSigned}
 use Rattle.std.specs.List.{flat_map, AllByRecursion}
 use Rattle.std.proofs.lemmas.Int.{ints}
-use Rattle.std.proofs.lemmas.Bool.Decides.{nat_tests}
-use Rattle.tp_prefix.specs.Words.{signed, low_word, complement}
+use Rattle.tp_prefix.specs.Words.{signed, complement}
 use Rattle.tp_prefix.specs.Spelling.{function_of, digit_of, is_pfix, is_nfix, is_prefix, shifted, shifted_complement, spelled}
 use Rattle.tp_decode.specs.declared.instr.Instr.TheVariants.{Jump, Cj}
 use Rattle.tp_decode.specs.Table.{entry}
@@ -13,7 +12,7 @@ use Rattle.tp_decode.specs.Lines.{shortest}
 use Rattle.tp_decode.specs.Cutting.{Cut, IsSpelled}
 use Rattle.tp_image.specs.Image.{ImageValue}
 use Rattle.tp_assembly.specs.declared.program.Operation.{Operation}
-use Rattle.tp_assembly.specs.declared.program.Operation.TheVariants.{Plain, JumpTo, CjTo, Distance}
+use Rattle.tp_assembly.specs.declared.program.Operation.TheVariants.{Plain, JumpTo, CjTo}
 use Rattle.tp_assembly.specs.declared.program.Line.{Line}
 use Rattle.tp_assembly.specs.declared.program.Line.TheVariants.{Byte, Spelled}
 use Rattle.tp_assembly.specs.declared.program.Program.{Program}

@@ -1,9 +1,9 @@
 -- The fields of a program are read as they are written.
-use Rattle.std.proofs.Common.{◌≡◌, ℕ, zero, suc, ◌+◌, ◌-◌, ◌<◌, ◌≤◌, ◌^◌, ◌==◌, ◌&&◌, nat_le, nat_lt, nat_eq, Bool, true, false, if◌then◌else◌, ℤ, List, [], ◌∷◌, ◌++◌, codes, length, map, replicate, slice_get, Option, Some, None, Result, Ok, Err, refl, ap, sym, ◌∙◌, subst, arith, append_assoc}
+use Rattle.std.proofs.Common.{◌≡◌, ℕ, ◌+◌, ◌-◌, ◌<◌, ◌≤◌, ◌^◌, nat_lt, nat_eq, true, false, ℤ, List, [], ◌∷◌, ◌++◌, codes, length, map, Some, Ok, refl, ap, sym, ◌∙◌, arith, append_assoc}
 use Rattle.std.specs.Int.{w32, cast_signed, cast_unsigned}
 use Rattle.std.specs.List.{list_all, AllByRecursion}
 use Rattle.std.specs.Char.{to_ascii_lowercase}
-use Rattle.std.specs.Str.{str_eq_ignore_ascii_case, str_to_ascii_lowercase, bytes_eq}
+use Rattle.std.specs.Str.{str_eq_ignore_ascii_case}
 use Rattle.std.specs.Fmt.{decimal, digits}
 use Rattle.std.proofs.lemmas.Fmt.{decimal_digit}
 use Rattle.std.proofs.lemmas.List.{append-nil, length-append}
@@ -11,18 +11,17 @@ use Rattle.std.proofs.lemmas.Bool.Decides.{nat_tests}
 use Rattle.tp_image.specs.declared.image.Version.{Version}
 use Rattle.tp_image.specs.declared.image.Version.TheVariants.{One, Two}
 use Rattle.tp_assembly_text.specs.declared.words.Word.{Word}
-use Rattle.tp_assembly_text.specs.declared.fault.SourceFault.{SourceFault}
 use Rattle.tp_assembly_text.specs.declared.keyword.Keyword.{Keyword}
 use Rattle.tp_assembly_text.specs.declared.keyword.Keyword.TheVariants as keyword
 use Rattle.tp_assembly_text.specs.declared.statement.InitialWord.{InitialWord}
 use Rattle.tp_assembly_text.specs.Limits.{most, most_words, most_count}
-use Rattle.tp_assembly_text.specs.Faults.{then_read, ◌>>=◌}
+use Rattle.tp_assembly_text.specs.Faults.{◌>>=◌}
 use Rattle.tp_assembly_text.specs.Words.{is_mark, is_plain}
 use Rattle.tp_assembly_text.specs.Drafts.{Said, is_full}
 use Rattle.tp_assembly_text.specs.Keywords.{keyword_named}
-use Rattle.tp_assembly_text.specs.Statements.{word_said, end_said, expect_said, one_number_said, count_read, number_read}
+use Rattle.tp_assembly_text.specs.Statements.{word_said, end_said, expect_said, one_number_said, number_read}
 use Rattle.tp_assembly_text.specs.Lists.{parts, list_said, one_word_said, no_more_said, initial_word_said}
-use Rattle.tp_assembly_text.specs.Grammar.{StatementSaid, SetsPacket, SetsResults, SetsStart, SetsWorkspace, SetsVersion, SetsInitial, field_said, version_numbered, version_said, initial_said, keyword_said, of_keyword, statement_said}
+use Rattle.tp_assembly_text.specs.Grammar.{StatementSaid, SetsPacket, SetsResults, SetsStart, SetsWorkspace, SetsVersion, SetsInitial, field_said, version_numbered, version_said, initial_said, keyword_said, statement_said}
 use Rattle.tp_assembly_text.specs.Meaning.{in_turn, added, initial_added, initials_added, is_colon, unlabelled, line_said}
 use Rattle.tp_assembly_text.specs.Apart.{word_for}
 use Rattle.tp_assembly_text.specs.Programs.{ProgramSaid}
@@ -30,8 +29,8 @@ use Rattle.tp_assembly_text.specs.Written.{as_line, initial_text, sizes_text, ve
 use Rattle.tp_assembly_text.proofs.Tokens.{both_true}
 use Rattle.tp_text_laws.proofs.Bytes.{IsWord, is_literal, literal_word, decimal_word, hexadecimal_word, digits_inner}
 use Rattle.tp_text_laws.proofs.Numbers.{count_is, hexadecimal_is, same_word}
-use Rattle.tp_text_laws.proofs.Pieces.{Piece, Gap, Of, Mark, write, placed, AreApart, IsTail, no_tail}
-use Rattle.tp_text_laws.proofs.Leading.{Leads, nothing, behind, leads_as, leads_to, a_line}
+use Rattle.tp_text_laws.proofs.Pieces.{Piece, Gap, Of, Mark, write, placed, AreApart, no_tail}
+use Rattle.tp_text_laws.proofs.Leading.{Leads, nothing, behind, leads_to, a_line}
 
 -- a line without a comment
 pub alone : {P Q : Said → Type 0} (text : List ℕ) (ps : List Piece) → text ≡ write ps → AreApart ps
@@ -149,10 +148,12 @@ initial_leads s i word long few small =
     let v : InitialWord = value_of value (cast_signed w32 word) in
     let values : list_said initial_word_said colon (value ∷ []) ≡ Ok (v ∷ []) = values_said colon line _ (digits 16 false word) _ (hexadecimal_is value word refl small) in
     let said : initial_said (first ∷ at ∷ colon ∷ value ∷ []) first ≡ Ok (SetsInitial at i (v ∷ [])) = init_said first at colon value i _ refl (omega arith) (colon_said first at value line _) values in
-    let adds : initials_added at i (v ∷ []) s ≡ Ok (record s { initial = s.initial ++ word ∷ [] }) = an_initial at v s i long (omega arith) ∙ ap (λ w. Ok (record s { initial = s.initial ++ w ∷ [] })) (same_word word small) in
-    (record s { initial = s.initial ++ word ∷ [] },
-    not_labelled first at (colon ∷ value ∷ []) d (other_word (decimal i) 58 (decimal_word i) refl) ∙ ap (unlabelled (first ∷ at ∷ colon ∷ value ∷ [])) is
-    ∙ keyword_says first (at ∷ colon ∷ value ∷ []) keyword.Init (SetsInitial at i (v ∷ [])) s _ refl said adds, refl))
+    let adds : initials_added at i (v ∷ []) s ≡ Ok (record s { initial = s.initial ++ word ∷ [] }) = an_initial at v s i long (omega arith) ∙ ap (λ w. Ok (record s { initial = s.initial ++ w ∷ [] })) (same_word word small) in (
+      record s { initial = s.initial ++ word ∷ [] },
+      not_labelled first at (colon ∷ value ∷ []) d (other_word (decimal i) 58 (decimal_word i) refl) ∙ ap (unlabelled (first ∷ at ∷ colon ∷ value ∷ [])) is
+          ∙ keyword_says first (at ∷ colon ∷ value ∷ []) keyword.Init (SetsInitial at i (v ∷ [])) s _ refl said adds,
+      refl,
+    ))
 
 pub initials_lead : (s : Said) (i : ℕ) (words : List ℕ) → length s.initial ≡ i → i + length words ≤ most_words → AllByRecursion (λ word. word < 2 ^ 32) words
     → Leads (initial_text i words) (Is s) (Is (record s { initial = s.initial ++ words }))

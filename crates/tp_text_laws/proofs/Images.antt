@@ -1,17 +1,13 @@
 -- A program that has an image may be written.
-use Rattle.std.proofs.Common.{◌≡◌, ℕ, zero, suc, ◌+◌, ◌-◌, ◌*◌, ◌%◌, ◌<◌, ◌≤◌, ◌^◌, ◌==◌, ◌&&◌, ◌||◌, nat_lt, nat_eq, Bool, true, false, if◌then◌else◌, ℤ, pos, List, [], ◌∷◌, ◌++◌, length, map, sum, Option, Some, None, unwrap_or, refl, ap, sym, ◌∙◌, subst, arith}
-use Rattle.std.specs.Int.{w32}
-use Rattle.std.specs.Int.RustNames.{FitsSigned}
+use Rattle.std.proofs.Common.{◌≡◌, ℕ, ◌+◌, ◌<◌, ◌≤◌, ◌^◌, Bool, true, false, if◌then◌else◌, List, [], ◌∷◌, ◌++◌, length, map, Option, Some, None, unwrap_or, refl, ap, ◌∙◌, subst, arith}
 use Rattle.std.specs.List.{concat, AllByRecursion}
 use Rattle.std.proofs.lemmas.List.{length-map}
 use Rattle.std.proofs.lemmas.List.Elements.{recursion_from_All}
 use Rattle.std.proofs.lemmas.Bool.Decides.{nat_tests}
-use Rattle.tp_decode.specs.Table.{entry}
 use Rattle.tp_image.specs.declared.image.Version.{Version}
 use Rattle.tp_image.specs.declared.image.Version.TheVariants.{One, Two}
-use Rattle.tp_image.specs.declared.image.LoopRow.{LoopRow}
 use Rattle.tp_image.specs.Limits.{most_code, most_workspace}
-use Rattle.tp_image.specs.Image.{ImageValue, IsRow, InRange, most_initial}
+use Rattle.tp_image.specs.Image.{ImageValue, IsRow, most_initial}
 use Rattle.tp_assembly.specs.declared.program.Operation.{Operation}
 use Rattle.tp_assembly.specs.declared.program.Operation.TheVariants.{Plain, JumpTo, CjTo, Distance}
 use Rattle.tp_assembly.specs.declared.program.Line.{Line}
@@ -20,13 +16,12 @@ use Rattle.tp_assembly.specs.declared.program.Spot.{Spot}
 use Rattle.tp_assembly.specs.declared.program.Spot.TheVariants.{Place, Address}
 use Rattle.tp_assembly.specs.declared.program.Loop.{Loop}
 use Rattle.tp_assembly.specs.declared.program.Program.{Program}
-use Rattle.tp_assembly.specs.declared.fault.AssemblyFault.{AssemblyFault}
 use Rattle.tp_assembly.specs.declared.fault.AssemblyFault.TheVariants.{Row, Narrow}
 use Rattle.tp_assembly.specs.Layout.{addresses_from, spelled_at, spelled_from}
 use Rattle.tp_assembly.specs.Faults.{line_fault, operation_fault, first_fault, is_behind, is_row_behind, first_row, is_stated, first_narrow}
 use Rattle.tp_assembly.specs.Assembly.{address_of, row_of, IsAssembly}
 use Rattle.tp_assembly.proofs.LayoutLemmas.{way_is, operation_sound, sound_first, line_some, ones_sum}
-use Rattle.tp_assembly_text.specs.Programs.{ProgramSaid, program_said}
+use Rattle.tp_assembly_text.specs.Programs.{program_said}
 use Rattle.tp_text_laws.specs.Conditions.{MayBeSpot, MayBeRow, MayBeOperation, MayBeStated, MayBeLine, HasOperand, MayBeWritten}
 use Rattle.tp_text_laws.proofs.Tests.{or_false}
 

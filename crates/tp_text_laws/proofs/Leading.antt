@@ -1,8 +1,7 @@
 -- What whole lines of a text lead a draft to.
-use Rattle.std.proofs.Common.{◌≡◌, ℕ, zero, suc, ◌+◌, ◌<◌, Bool, true, false, List, [], ◌∷◌, ◌++◌, length, map, Result, Ok, Err, refl, ap, sym, ◌∙◌, subst, arith, append_assoc}
+use Rattle.std.proofs.Common.{◌≡◌, ℕ, ◌+◌, List, [], ◌∷◌, ◌++◌, length, map, Ok, refl, ap, sym, ◌∙◌, subst, append_assoc}
 use Rattle.std.specs.List.{flat_map, AllByRecursion}
 use Rattle.std.proofs.lemmas.List.{append-nil}
-use Rattle.tp_assembly_text.specs.declared.fault.SourceFault.{SourceFault}
 use Rattle.tp_assembly_text.specs.Faults.{then_read}
 use Rattle.tp_assembly_text.specs.Words.{words_of_line}
 use Rattle.tp_assembly_text.specs.Drafts.{Said}
@@ -12,7 +11,7 @@ use Rattle.tp_assembly_text.specs.Texts.{words_of_lines}
 use Rattle.tp_assembly_text.specs.Written.{as_line}
 use Rattle.tp_assembly_text.proofs.Folds.{both, say, say-append}
 use Rattle.tp_text_laws.proofs.TextLines.{IsLine}
-use Rattle.tp_text_laws.proofs.Pieces.{Piece, write, placed, AreApart, IsTail, words_are, is_line, no_tail}
+use Rattle.tp_text_laws.proofs.Pieces.{Piece, write, placed, AreApart, IsTail, words_are, is_line}
 
 -- lines lead each draft of one kind to a draft of another, wherever they stand
 pub record Leads (text : List ℕ) (P Q : Said → Type 0) : Type 0 where
@@ -41,11 +40,10 @@ behind {s} {t} {P} {Q} {R} f g = record {
   shown = all-append f.lines g.lines f.shown g.shown;
   says = λ n d p.
       let first = f.says n d p in
-      let second = g.says (n + length f.lines) first.0 first.2 in
-      (
+      let second = g.says (n + length f.lines) first.0 first.2 in (
         second.0,
         ap (λ ws. say ws d) (both n f.lines g.lines) ∙ say-append (words_of_lines n f.lines) (words_of_lines (n + length f.lines) g.lines) d
-        ∙ ap (λ r. then_read r (say (words_of_lines (n + length f.lines) g.lines))) first.1 ∙ second.1,
+            ∙ ap (λ r. then_read r (say (words_of_lines (n + length f.lines) g.lines))) first.1 ∙ second.1,
         second.2,
       );
 }

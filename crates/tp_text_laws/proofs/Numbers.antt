@@ -1,21 +1,20 @@
 -- The numbers of a statement are read as they are written.
-use Rattle.std.proofs.Common.{◌≡◌, ℕ, zero, suc, ◌+◌, ◌*◌, ◌<◌, ◌≤◌, ◌/◌, ◌%◌, ◌^◌, ◌==◌, ◌&&◌, ◌||◌, nat_le, nat_eq, not, Bool, true, false, if◌then◌else◌, ℤ, pos, negsuc, List, [], ◌∷◌, ◌++◌, codes, length, Some, None, Result, Ok, Err, refl, ap, sym, ◌∙◌, subst, arith}
-use Rattle.std.specs.List.{list_all, starts_with}
+use Rattle.std.proofs.Common.{◌≡◌, ℕ, ◌+◌, ◌*◌, ◌<◌, ◌≤◌, ◌/◌, ◌%◌, ◌^◌, nat_le, true, false, ℤ, pos, negsuc, List, [], ◌∷◌, Some, Ok, refl, ap, sym, ◌∙◌, subst, arith}
+use Rattle.std.specs.List.{list_all}
 use Rattle.std.specs.Int.{w32, cast_signed, cast_unsigned}
 use Rattle.std.specs.Int.RustNames.{FitsSigned}
 use Rattle.std.specs.Char.{digit_value, is_ascii_digit}
 use Rattle.std.specs.Option.{option_map, ok_or}
 use Rattle.std.specs.Fmt.{decimal, signed_decimal, digits, digit_glyph}
-use Rattle.std.specs.Str.Parse.{IsNumeral, AllDigits, digits_value}
+use Rattle.std.specs.Str.Parse.{IsNumeral, digits_value}
 use Rattle.std.proofs.lemmas.Fmt.{decimal_is_IsNumeral, digits_is_IsNumeral, hex_byte}
 use Rattle.std.proofs.lemmas.Int.{ints, of_z-to_z}
 use Rattle.std.proofs.lemmas.Int.Digits.{digits_value_push}
 use Rattle.std.proofs.lemmas.Bool.Decides.{nat_tests}
 use Rattle.tp_assembly_text.specs.declared.words.Word.{Word}
-use Rattle.tp_assembly_text.specs.declared.fault.SourceFault.{SourceFault}
 use Rattle.tp_assembly_text.specs.declared.fault.TextFault.TheVariants.{NoNumber}
 use Rattle.tp_assembly_text.specs.Faults.{fault_at, then_read}
-use Rattle.tp_assembly_text.specs.Numbers.{natural_said, signed_said, digits_said, begins_number}
+use Rattle.tp_assembly_text.specs.Numbers.{natural_said, signed_said, begins_number}
 use Rattle.tp_assembly_text.specs.Statements.{number_read, count_read, within}
 use Rattle.tp_assembly_text.specs.Written.{byte_text}
 use Rattle.tp_assembly_text.proofs.Digits.{numeral_said}

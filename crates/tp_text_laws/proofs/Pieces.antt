@@ -1,10 +1,10 @@
 -- A line that is written in pieces has these words.
-use Rattle.std.proofs.Common.{◌≡◌, ℕ, zero, suc, ◌+◌, ◌-◌, ◌<◌, ◌==◌, ◌&&◌, ◌||◌, not, Bool, true, false, if◌then◌else◌, List, [], ◌∷◌, ◌++◌, length, refl, ap, sym, ◌∙◌, arith, append_assoc}
+use Rattle.std.proofs.Common.{◌≡◌, ℕ, ◌+◌, ◌<◌, ◌==◌, ◌&&◌, Bool, true, false, List, [], ◌∷◌, ◌++◌, length, refl, ap, sym, ◌∙◌, arith, append_assoc}
 use Rattle.std.specs.List.{list_all}
 use Rattle.std.specs.Char.{is_ascii_whitespace}
 use Rattle.std.proofs.lemmas.Bool.Decides.{nat_tests}
 use Rattle.std.proofs.lemmas.List.Folds.{list_all-append}
-use Rattle.tp_assembly_text.specs.Words.{Token, is_mark, is_plain, begins, begins_comment, before_comment, tokens, words_of_line, word_if_any}
+use Rattle.tp_assembly_text.specs.Words.{Token, is_mark, is_plain, begins, before_comment, tokens, words_of_line, word_if_any}
 use Rattle.tp_assembly_text.proofs.Tokens.{both_true, a_run, alone}
 use Rattle.tp_text_laws.proofs.Bytes.{is_minus, IsWord}
 use Rattle.tp_text_laws.proofs.TextLines.{is_shown, IsLine}

@@ -1,22 +1,18 @@
 -- A program's text is read back as that program.
-use Rattle.std.proofs.Common.{◌≡◌, ℕ, ◌+◌, ◌-◌, ◌*◌, ◌<◌, ◌≤◌, ◌^◌, min, max, ◌&&◌, ◌||◌, nat_lt, Bool, true, false, if◌then◌else◌, List, [], ◌∷◌, ◌++◌, codes, length, map, take, Option, Some, None, Result, Ok, Err, refl, ap, sym, ◌∙◌, subst, arith, append_assoc}
-use Rattle.std.specs.List.{list_all, list_any, flat_map, AllByRecursion}
+use Rattle.std.proofs.Common.{◌≡◌, ℕ, ◌+◌, ◌-◌, ◌*◌, ◌^◌, min, max, ◌&&◌, nat_lt, Bool, true, false, if◌then◌else◌, List, [], ◌∷◌, ◌++◌, codes, length, take, Option, Some, None, Result, Ok, refl, ap, sym, ◌∙◌, subst, arith}
+use Rattle.std.specs.List.{list_any, flat_map}
 use Rattle.std.specs.Str.Lines.{lines}
 use Rattle.std.specs.Option.{unwrap_or}
 use Rattle.std.specs.Fmt.{decimal}
 use Rattle.std.proofs.lemmas.List.Folds.{list_all-append}
 use Rattle.std.proofs.lemmas.Bool.Decides.{nat_tests}
-use Rattle.tp_image.specs.declared.image.Version.TheVariants.{One}
-use Rattle.tp_assembly.specs.declared.program.Line.{Line}
 use Rattle.tp_assembly.specs.declared.program.Loop.{Loop}
 use Rattle.tp_assembly_text.specs.declared.fault.SourceFault.{SourceFault}
 use Rattle.tp_assembly_text.specs.declared.draft.LabelName.{LabelName}
-use Rattle.tp_assembly_text.specs.declared.draft.Begun.{Begun}
 use Rattle.tp_assembly_text.specs.declared.remarks.Remarks.{Remarks}
 use Rattle.tp_assembly_text.specs.declared.remarks.LoopRemark.{LoopRemark}
-use Rattle.tp_assembly_text.specs.Limits.{most}
 use Rattle.tp_assembly_text.specs.Faults.{then_read, each_read}
-use Rattle.tp_assembly_text.specs.Words.{begins, before_comment, tokens}
+use Rattle.tp_assembly_text.specs.Words.{before_comment, tokens}
 use Rattle.tp_assembly_text.specs.Drafts.{Said, empty, place_named}
 use Rattle.tp_assembly_text.specs.Grammar.{statement_said}
 use Rattle.tp_assembly_text.specs.Meaning.{added, line_said}
@@ -25,7 +21,7 @@ use Rattle.tp_assembly_text.specs.Texts.{words_of_lines, words_say, text_said, s
 use Rattle.tp_assembly_text.specs.Written.{as_line, is_named, names_from_row, names_from_line, fields_text, loop_remark, legend, remarks_above, above, text_of}
 use Rattle.tp_text_laws.specs.Conditions.{MayBeWritten}
 use Rattle.tp_text_laws.proofs.Tests.{and_false, or_left, or_right}
-use Rattle.tp_text_laws.proofs.TextLines.{is_shown, IsLine, all_lines}
+use Rattle.tp_text_laws.proofs.TextLines.{IsLine, all_lines}
 use Rattle.tp_text_laws.proofs.Pieces.{IsTail}
 use Rattle.tp_text_laws.proofs.Leading.{Leads, nothing, behind, leads_as, leads_to, a_line}
 use Rattle.tp_text_laws.proofs.Fields.{Is, version_leads, sizes_lead, initials_lead}
@@ -167,8 +163,7 @@ program_is p d has =
 source_is : (p : ProgramSaid) (d : Said) → HasProgram p d → (source : SourceSaid) × (finished d ≡ Ok source) × (source.program ≡ p)
 unfolding finished ended
 source_is p d has =
-    let make : ProgramSaid → Result SourceSaid SourceFault = λ program. Ok (record { program = program; numbers = d.numbers; labels = labels_told d.labels; locals = locals_told d.words d.locals }) in
-    (
+    let make : ProgramSaid → Result SourceSaid SourceFault = λ program. Ok (record { program = program; numbers = d.numbers; labels = labels_told d.labels; locals = locals_told d.words d.locals }) in (
       record { program = p; numbers = d.numbers; labels = labels_told d.labels; locals = locals_told d.words d.locals },
       ap (λ b. then_read (ended b) (λ _. then_read (program_of d) make)) has.begun ∙ ap (λ r. then_read r make) (program_is p d has),
       refl,

@@ -1,8 +1,6 @@
 -- The rows of a program are read as they are written.
-use Rattle.std.proofs.Common.{◌≡◌, ℕ, zero, suc, ◌+◌, ◌<◌, ◌≤◌, ◌^◌, ◌==◌, ◌&&◌, ◌||◌, nat_le, nat_eq, Bool, true, false, if◌then◌else◌, ℤ, List, [], ◌∷◌, ◌++◌, codes, length, map, slice_get, Option, Some, None, Result, Ok, Err, refl, ap, sym, ◌∙◌, subst, arith, append_assoc}
-use Rattle.std.specs.Int.{w32}
-use Rattle.std.specs.Int.RustNames.{FitsSigned}
-use Rattle.std.specs.List.{list_all, list_any, flat_map, AllByRecursion}
+use Rattle.std.proofs.Common.{◌≡◌, ℕ, ◌+◌, ◌<◌, ◌≤◌, Bool, true, false, ℤ, List, [], ◌∷◌, ◌++◌, codes, length, Some, Result, Ok, Err, refl, ap, sym, ◌∙◌, subst, arith, append_assoc}
+use Rattle.std.specs.List.{list_any, flat_map, AllByRecursion}
 use Rattle.std.specs.Option.{ok_or}
 use Rattle.std.specs.Fmt.{decimal, signed_decimal}
 use Rattle.std.proofs.lemmas.List.{append-nil, length-append}
@@ -27,17 +25,17 @@ use Rattle.tp_assembly_text.specs.Numbers.{begins_number}
 use Rattle.tp_assembly_text.specs.Keywords.{keyword_named}
 use Rattle.tp_assembly_text.specs.Statements.{word_said, end_said, expect_said, target_said, count_read, number_read}
 use Rattle.tp_assembly_text.specs.Grammar.{AddsRow, row_said, keyword_said}
-use Rattle.tp_assembly_text.specs.Meaning.{added, row_added, unlabelled, line_said}
+use Rattle.tp_assembly_text.specs.Meaning.{added, row_added, line_said}
 use Rattle.tp_assembly_text.specs.Apart.{word_for}
 use Rattle.tp_assembly_text.specs.Programs.{place_of_label, spot_placed, control_said, loop_placed}
-use Rattle.tp_assembly_text.specs.Written.{as_line, label_text, spot_text, loop_text, is_at, names_from_row}
+use Rattle.tp_assembly_text.specs.Written.{label_text, spot_text, loop_text, is_at, names_from_row}
 use Rattle.tp_text_laws.specs.Conditions.{MayBeSpot, MayBeRow}
 use Rattle.tp_text_laws.proofs.Tests.{or_left, or_right, same_place}
 use Rattle.tp_text_laws.proofs.Bytes.{IsWord, literal_word, decimal_word, signed_word, label_word}
 use Rattle.tp_text_laws.proofs.Numbers.{count_is, signed_is, begins_decimal}
-use Rattle.tp_text_laws.proofs.Pieces.{Piece, Gap, Of, Mark, write, placed}
-use Rattle.tp_text_laws.proofs.Leading.{Leads, nothing, behind, leads_as, leads_to}
-use Rattle.tp_text_laws.proofs.Fields.{alone, not_labelled, keyword_says}
+use Rattle.tp_text_laws.proofs.Pieces.{Piece, Gap, Of}
+use Rattle.tp_text_laws.proofs.Leading.{Leads, nothing, behind, leads_to}
+use Rattle.tp_text_laws.proofs.Fields.{alone, keyword_says}
 
 abbrev pub at : ℕ → ℕ → List ℕ → Word
 at line column text = word_for (record { text = text; line = line; column = column })
@@ -142,15 +140,16 @@ row_leads s named count done l few may all =
     let row : Row = record { head = target_of w2 l.head; lend = target_of w4 l.lend; control = control.Word l.control; count = l.count; start = l.start } in
     let said = row_is n 6 (c2 + length (spot_text l.head) + 1) (c4 + length (spot_text l.lend) + 1) (c6 + length (decimal l.control) + 1) (c8 + length (decimal l.count) + 1) first w2 w4 w6 w8 w10
     (target_of w2 l.head) (target_of w4 l.lend) l.control l.count l.start (target_is w2 l.head count refl may.head) (target_is w4 l.lend count refl may.lend)
-    (count_is w6 most_count l.control refl may.control (omega (arith, may.control))) (count_is w8 most_count l.count refl may.turns (omega (arith, may.turns))) (signed_is w10 l.start refl may.start) in
-    (record s { rows = d.rows ++ row ∷ [] },
-    keyword_says first _ keyword.Loop (AddsRow first row) d _ refl (ap (λ r. r >>= λ row. Ok (AddsRow first row)) said) (a_row first row s d done p.is p.long few),
-    record {
-      is = refl;
-      long = omega (arith, length-append d.rows (row ∷ []), length-append done (l ∷ []), p.long);
-      placed = λ labels are. one_more_read (loop_placed labels s.start) d.rows row done l (p.placed labels are)
-          (rw (spot_back named count labels w2 l.head are refl may.head (λ k e. all k (or_left (is_at k l.head) (is_at k l.lend) e)), spot_back named count labels w4 l.lend are refl may.lend (λ k e. all k (or_right (is_at k l.head) (is_at k l.lend) e))) refl);
-    }))
+    (count_is w6 most_count l.control refl may.control (omega (arith, may.control))) (count_is w8 most_count l.count refl may.turns (omega (arith, may.turns))) (signed_is w10 l.start refl may.start) in (
+      record s { rows = d.rows ++ row ∷ [] },
+      keyword_says first _ keyword.Loop (AddsRow first row) d _ refl (ap (λ r. r >>= λ row. Ok (AddsRow first row)) said) (a_row first row s d done p.is p.long few),
+      record {
+        is = refl;
+        long = omega (arith, length-append d.rows (row ∷ []), length-append done (l ∷ []), p.long);
+        placed = λ labels are. one_more_read (loop_placed labels s.start) d.rows row done l (p.placed labels are)
+            (rw (spot_back named count labels w2 l.head are refl may.head (λ k e. all k (or_left (is_at k l.head) (is_at k l.lend) e)), spot_back named count labels w4 l.lend are refl may.lend (λ k e. all k (or_right (is_at k l.head) (is_at k l.lend) e))) refl);
+      },
+    ))
 
 pub rows_lead : (s : Said) (named : ℕ → Bool) (count : ℕ) (done loops : List Loop) → length done + length loops ≤ most → AllByRecursion (MayBeRow count) loops → ((p : ℕ) → list_any (names_from_row p) loops ≡ true → named p ≡ true)
     → Leads (flat_map loop_text loops) (Rowed s named count done) (Rowed s named count (done ++ loops))

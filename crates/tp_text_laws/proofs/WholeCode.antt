@@ -1,5 +1,5 @@
 -- The code of a program is read as it is written: its lines, with their labels and remarks.
-use Rattle.std.proofs.Common.{◌≡◌, ℕ, zero, suc, ◌+◌, ◌<◌, ◌≤◌, ◌^◌, ◌==◌, ◌&&◌, ◌||◌, nat_le, nat_lt, nat_eq, Bool, true, false, if◌then◌else◌, List, [], ◌∷◌, ◌++◌, codes, length, map, slice_get, is_some, Option, Some, None, Result, Ok, Err, refl, ap, sym, ◌∙◌, subst, arith, append_assoc}
+use Rattle.std.proofs.Common.{◌≡◌, ℕ, ◌+◌, ◌<◌, ◌≤◌, ◌^◌, ◌==◌, ◌&&◌, nat_lt, Bool, true, false, if◌then◌else◌, List, [], ◌∷◌, ◌++◌, codes, length, slice_get, Option, Some, None, Ok, refl, ap, sym, ◌∙◌, subst, arith, append_assoc}
 use Rattle.std.specs.List.{list_all, list_any, find, AllByRecursion}
 use Rattle.std.specs.Str.{bytes_eq}
 use Rattle.std.specs.Option.{option_map, option_or}
@@ -12,13 +12,12 @@ use Rattle.std.proofs.lemmas.Bool.Decides.{nat_tests}
 use Rattle.tp_assembly.specs.declared.program.Line.{Line}
 use Rattle.tp_assembly.specs.declared.program.Loop.{Loop}
 use Rattle.tp_assembly_text.specs.declared.words.Word.{Word}
-use Rattle.tp_assembly_text.specs.declared.fault.SourceFault.{SourceFault}
 use Rattle.tp_assembly_text.specs.declared.draft.DraftLine.{DraftLine}
 use Rattle.tp_assembly_text.specs.declared.draft.LabelName.{LabelName}
 use Rattle.tp_assembly_text.specs.declared.remarks.Remarks.{Remarks}
 use Rattle.tp_assembly_text.specs.declared.remarks.LineRemark.{LineRemark}
 use Rattle.tp_assembly_text.specs.Limits.{most}
-use Rattle.tp_assembly_text.specs.Faults.{then_read, each_read, ◌>>=◌}
+use Rattle.tp_assembly_text.specs.Faults.{each_read}
 use Rattle.tp_assembly_text.specs.Words.{is_plain}
 use Rattle.tp_assembly_text.specs.Drafts.{Said, is_full, pushed, label_set, place_named}
 use Rattle.tp_assembly_text.specs.Grammar.{statement_said}
@@ -28,12 +27,12 @@ use Rattle.tp_assembly_text.specs.Written.{as_line, label_text, line_text, label
 use Rattle.tp_text_laws.specs.Conditions.{MayBeLine}
 use Rattle.tp_text_laws.proofs.Tests.{and_false, or_left, or_right}
 use Rattle.tp_text_laws.proofs.Bytes.{decimal_word, label_word}
-use Rattle.tp_text_laws.proofs.TextLines.{is_shown, IsLine}
-use Rattle.tp_text_laws.proofs.Pieces.{Piece, Gap, Of, Mark, IsTail, no_tail, comment_tail, word_shown}
+use Rattle.tp_text_laws.proofs.TextLines.{is_shown}
+use Rattle.tp_text_laws.proofs.Pieces.{Of, Mark, IsTail, no_tail, comment_tail, word_shown}
 use Rattle.tp_text_laws.proofs.Leading.{Leads, nothing, behind, leads_to, a_line}
 use Rattle.tp_text_laws.proofs.Fields.{alone}
 use Rattle.tp_text_laws.proofs.Rows.{at, AreLabels, Rowed, one_more_read}
-use Rattle.tp_text_laws.proofs.CodeLines.{IsDrafted, Reads, line_read}
+use Rattle.tp_text_laws.proofs.CodeLines.{Reads, line_read}
 
 -- labels
 same_label : (p : ℕ) → bytes_eq (label_text p) (label_text p) ≡ true
@@ -134,16 +133,19 @@ named_leads s named count loops done k long small within there =
     alone (label_text k ++ codes ":") (Of (label_text k) ∷ Mark 58 ∷ []) refl (label_word k, (refl, (refl, tt))) (λ n d p.
     let w : Word = at n 1 (label_text k) in
     let l : LabelName = record { word = w; place = length d.lines } in
-    let e : Said = record d { labels = d.labels ++ l ∷ [] } in
-    (e, label_line n k d e (a_label named count k w d small refl within p.labels p.few), record {
-      fields = p.fields;
-      rowed = p.rowed;
-      is = ap (λ (x : Said). record x { labels = d.labels ++ l ∷ [] }) p.is;
-      long = p.long;
-      placed = p.placed;
-      labels = label_more named count k d.labels l small refl (p.long ∙ long) within there p.labels;
-      few = omega (arith, length-append d.labels (l ∷ []), p.few);
-    }))
+    let e : Said = record d { labels = d.labels ++ l ∷ [] } in (
+      e,
+      label_line n k d e (a_label named count k w d small refl within p.labels p.few),
+      record {
+        fields = p.fields;
+        rowed = p.rowed;
+        is = ap (λ (x : Said). record x { labels = d.labels ++ l ∷ [] }) p.is;
+        long = p.long;
+        placed = p.placed;
+        labels = label_more named count k d.labels l small refl (p.long ∙ long) within there p.labels;
+        few = omega (arith, length-append d.labels (l ∷ []), p.few);
+      },
+    ))
 
 label_leads : (s : Said) (named : ℕ → Bool) (count : ℕ) (loops : List Loop) (done : List Line) (k : ℕ) → length done ≡ k → count < most → k ≤ count
     → Leads (label_there (named k) k) (Coded s named count loops done k) (Coded s named count loops done (k + 1))
@@ -188,16 +190,19 @@ line_leads : (s : Said) (named : ℕ → Bool) (count : ℕ) (loops : List Loop)
 line_leads s named count loops done line below remarks k few reads =
     a_line reads.pieces (remark_behind remarks k) (ap (λ t. t ++ remark_behind remarks k) reads.is) reads.apart (tail_behind remarks k) (λ n d p.
     let r = reads.says n d in
-    let e : Said = record d { lines = d.lines ++ r.1 ∷ []; numbers = d.numbers ++ r.0.line ∷ [] } in
-    (e, r.2 ∙ a_push r.0 r.1 d (omega (arith, p.long)), record {
-      fields = p.fields;
-      rowed = p.rowed;
-      is = ap (λ (x : Said). record x { lines = d.lines ++ r.1 ∷ []; numbers = d.numbers ++ r.0.line ∷ [] }) p.is;
-      long = omega (arith, length-append d.lines (r.1 ∷ []), length-append done (line ∷ []), p.long);
-      placed = λ labels are. one_more_read (line_placed labels) d.lines r.1 done line (p.placed labels are) (r.3 labels are);
-      labels = p.labels;
-      few = p.few;
-    }))
+    let e : Said = record d { lines = d.lines ++ r.1 ∷ []; numbers = d.numbers ++ r.0.line ∷ [] } in (
+      e,
+      r.2 ∙ a_push r.0 r.1 d (omega (arith, p.long)),
+      record {
+        fields = p.fields;
+        rowed = p.rowed;
+        is = ap (λ (x : Said). record x { lines = d.lines ++ r.1 ∷ []; numbers = d.numbers ++ r.0.line ∷ [] }) p.is;
+        long = omega (arith, length-append d.lines (r.1 ∷ []), length-append done (line ∷ []), p.long);
+        placed = λ labels are. one_more_read (line_placed labels) d.lines r.1 done line (p.placed labels are) (r.3 labels are);
+        labels = p.labels;
+        few = p.few;
+      },
+    ))
 
 pub code_leads : (s : Said) (named : ℕ → Bool) (count : ℕ) (loops : List Loop) (remarks : Option Remarks) (done lines : List Line) (k : ℕ) → length done ≡ k → k + length lines ≡ count → count < most
     → AllByRecursion (MayBeLine count) lines → ((p : ℕ) → list_any (names_from_line p) lines ≡ true → named p ≡ true)

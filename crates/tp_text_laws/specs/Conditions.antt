@@ -1,5 +1,5 @@
 -- Which programs may be written so that they are read back.
-use Rattle.std.specs.Prelude.{ℕ, ◌≤◌, ◌<◌, ◌^◌, List, length, Option, Some, None, FitsSigned}
+use Rattle.std.specs.Prelude.{ℕ, ◌≤◌, ◌<◌, ◌^◌, length, Option, Some, None, FitsSigned}
 use Rattle.std.specs.Int.{w32}
 use Rattle.std.specs.List.{AllByRecursion}
 use Rattle.tp_decode.specs.Table.{entry}
