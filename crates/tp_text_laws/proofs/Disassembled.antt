@@ -26,6 +26,7 @@ use Rattle.tp_assembly_text.specs.declared.remarks.Remarks.{Remarks}
 use Rattle.tp_assembly_text.specs.Programs.{ProgramSaid, SourceSaid, program_said}
 use Rattle.tp_assembly_text.specs.Texts.{source_of}
 use Rattle.tp_assembly_text.specs.Written.{text_of}
+use Rattle.tp_text_laws.specs.Sources.{IsSource}
 use Rattle.tp_text_laws.specs.Conditions.{HasOperand}
 use Rattle.tp_text_laws.proofs.ReadBack.{read_back}
 use Rattle.tp_text_laws.proofs.Images.{image_may}
@@ -146,7 +147,7 @@ same_assembly a b image same is =
     }
 
 pub told_back : (image : ImageValue) (program : Program) (remarks : Option Remarks) → IsDisassembly image program → IsAssembly program image
-    → (source : SourceSaid) × (source_of (text_of (program_said program) remarks) ≡ Ok source) × (source.program ≡ program_said program) × ((again : Program) → program_said again ≡ source.program → IsAssembly again image)
+    → (source : SourceSaid) × (source_of (text_of (program_said program) remarks) ≡ Ok source) × IsSource (program_said program) source × ((again : Program) → program_said again ≡ source.program → IsAssembly again image)
 told_back image program remarks told is =
     let back = read_back (program_said program) remarks (image_may program image is (disassembly_has image program told)) in
-    (back.0, back.1, back.2, λ again same. same_assembly program again image (sym (same ∙ back.2)) is)
+    (back.0, back.1, back.2, λ again same. same_assembly program again image (sym (same ∙ back.2.program)) is)

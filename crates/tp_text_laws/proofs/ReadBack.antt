@@ -1,5 +1,5 @@
 -- A program's text is read back as that program.
-use Rattle.std.proofs.Common.{◌≡◌, ℕ, ◌+◌, ◌-◌, ◌*◌, ◌^◌, min, max, ◌&&◌, nat_lt, Bool, true, false, if◌then◌else◌, List, [], ◌∷◌, ◌++◌, codes, length, take, Option, Some, None, Result, Ok, refl, ap, sym, ◌∙◌, subst, arith}
+use Rattle.std.proofs.Common.{add-one, ◌≡◌, ℕ, ◌+◌, ◌-◌, ◌*◌, ◌^◌, min, max, ◌&&◌, nat_lt, Bool, true, false, if◌then◌else◌, List, [], ◌∷◌, ◌++◌, codes, length, take, Option, Some, None, Result, Ok, refl, ap, sym, ◌∙◌, subst, arith}
 use Rattle.std.specs.List.{list_any, flat_map}
 use Rattle.std.specs.Str.Lines.{lines}
 use Rattle.std.specs.Option.{unwrap_or}
@@ -19,6 +19,7 @@ use Rattle.tp_assembly_text.specs.Meaning.{added, line_said}
 use Rattle.tp_assembly_text.specs.Programs.{ProgramSaid, SourceSaid, line_placed, loop_placed, workspace_said, ended, program_of, labels_told, locals_told, finished}
 use Rattle.tp_assembly_text.specs.Texts.{words_of_lines, words_say, text_said, source_of}
 use Rattle.tp_assembly_text.specs.Written.{as_line, is_named, names_from_row, names_from_line, fields_text, loop_remark, legend, remarks_above, above, text_of}
+use Rattle.tp_text_laws.specs.Sources.{labels_below, labels_of, IsSource}
 use Rattle.tp_text_laws.specs.Conditions.{MayBeWritten}
 use Rattle.tp_text_laws.proofs.Tests.{and_false, or_left, or_right}
 use Rattle.tp_text_laws.proofs.TextLines.{IsLine, all_lines}
@@ -89,6 +90,7 @@ no_code s d named count loops no_lines no_labels rowed =
       placed = λ ls are. ap (each_read (line_placed ls)) lines;
       labels = none_below named count d.labels labels;
       few = omega (arith, ap length labels);
+      told = ap labels_told labels;
     }
 
 row_named : (p : ProgramSaid) (k : ℕ) → list_any (names_from_row k) p.loops ≡ true → is_named p k ≡ true
@@ -126,6 +128,8 @@ record HasProgram (p : ProgramSaid) (d : Said) : Type 0 where
   results : d.results ≡ p.result
   initial : d.initial ≡ p.initial
   begun : d.begun ≡ []
+  locals : d.locals ≡ []
+  labels : labels_told d.labels ≡ labels_of p
   lines : each_read (line_placed d.labels) d.lines ≡ Ok p.lines
   loops : each_read (loop_placed d.labels d.start) d.rows ≡ Ok p.loops
 
@@ -160,13 +164,13 @@ program_is p d has =
     } = cc in
     rw (has.lines, has.loops) (ap Ok same)
 
-source_is : (p : ProgramSaid) (d : Said) → HasProgram p d → (source : SourceSaid) × (finished d ≡ Ok source) × (source.program ≡ p)
+source_is : (p : ProgramSaid) (d : Said) → HasProgram p d → (source : SourceSaid) × (finished d ≡ Ok source) × IsSource p source
 unfolding finished ended
 source_is p d has =
     let make : ProgramSaid → Result SourceSaid SourceFault = λ program. Ok (record { program = program; numbers = d.numbers; labels = labels_told d.labels; locals = locals_told d.words d.locals }) in (
       record { program = p; numbers = d.numbers; labels = labels_told d.labels; locals = locals_told d.words d.locals },
       ap (λ b. then_read (ended b) (λ _. then_read (program_of d) make)) has.begun ∙ ap (λ r. then_read r make) (program_is p d has),
-      refl,
+      record { program = refl; labels = has.labels; locals = ap (locals_told d.words) has.locals },
     )
 
 are_labels : (named : ℕ → Bool) (count : ℕ) (labels : List LabelName) → AreBelow named count (count + 1) labels → AreLabels named count labels
@@ -187,13 +191,15 @@ has_program p d coded =
       results = ap (λ (e : Said). e.results) is;
       initial = ap (λ (e : Said). e.initial) is;
       begun = ap (λ (e : Said). e.begun) is;
+      locals = ap (λ (e : Said). e.locals) is;
+      labels = coded.told ∙ ap (labels_below (is_named p)) (add-one (length p.lines));
       lines = coded.placed d.labels labels;
       loops =
           ap (λ n. each_read (loop_placed d.labels n) d.rows) (ap (λ (e : Said). e.start) is) ∙ ap (each_read (loop_placed d.labels p.start)) (ap (λ (e : Said). e.rows) is)
           ∙ coded.rowed.placed d.labels labels;
     }
 
-pub read_back : (p : ProgramSaid) (remarks : Option Remarks) → MayBeWritten p → (source : SourceSaid) × (source_of (text_of p remarks) ≡ Ok source) × (source.program ≡ p)
+pub read_back : (p : ProgramSaid) (remarks : Option Remarks) → MayBeWritten p → (source : SourceSaid) × (source_of (text_of p remarks) ≡ Ok source) × IsSource p source
 read_back p remarks may =
     let said = said_of (text_of p remarks) _ (text_leads p remarks may) in
     let source = source_is p said.0 (has_program p said.0 said.2) in

@@ -1,10 +1,11 @@
 -- The code of a program is read as it is written: its lines, with their labels and remarks.
-use Rattle.std.proofs.Common.{◌≡◌, ℕ, ◌+◌, ◌<◌, ◌≤◌, ◌^◌, ◌==◌, ◌&&◌, nat_lt, Bool, true, false, if◌then◌else◌, List, [], ◌∷◌, ◌++◌, codes, length, slice_get, Option, Some, None, Ok, refl, ap, sym, ◌∙◌, subst, arith, append_assoc}
+use Rattle.std.proofs.Common.{◌≡◌, ℕ, ◌+◌, ◌<◌, ◌≤◌, ◌^◌, ◌==◌, ◌&&◌, nat_lt, Bool, true, false, if◌then◌else◌, List, [], ◌∷◌, ◌++◌, codes, length, slice_get, Option, Some, None, Ok, refl, ap, sym, ◌∙◌, subst, arith, append_assoc, zero, suc, add-one}
 use Rattle.std.specs.List.{list_all, list_any, find, AllByRecursion}
-use Rattle.std.specs.Str.{bytes_eq}
+use Rattle.std.specs.Str.{bytes_eq, is_utf8, IsAscii}
+use Rattle.std.proofs.lemmas.Str.{is_utf8-from_IsUtf8, IsUtf8-from_ascii}
 use Rattle.std.specs.Option.{option_map, option_or}
 use Rattle.std.specs.Fmt.{decimal}
-use Rattle.std.proofs.lemmas.Fmt.{decimal_injective}
+use Rattle.std.proofs.lemmas.Fmt.{decimal_injective, IsAscii-decimal}
 use Rattle.std.proofs.lemmas.Slice.Eq.{bytes_eq-Decides}
 use Rattle.std.proofs.lemmas.List.{append-nil, length-append}
 use Rattle.std.proofs.lemmas.List.Folds.{find-append, list_all-append}
@@ -22,8 +23,9 @@ use Rattle.tp_assembly_text.specs.Words.{is_plain}
 use Rattle.tp_assembly_text.specs.Drafts.{Said, is_full, pushed, label_set, place_named}
 use Rattle.tp_assembly_text.specs.Grammar.{statement_said}
 use Rattle.tp_assembly_text.specs.Meaning.{added, line_said}
-use Rattle.tp_assembly_text.specs.Programs.{line_placed}
+use Rattle.tp_assembly_text.specs.Programs.{line_placed, under, label_told, labels_told}
 use Rattle.tp_assembly_text.specs.Written.{as_line, label_text, line_text, label_there, line_remark, behind as remark_behind, lines_text, names_from_line}
+use Rattle.tp_text_laws.specs.Sources.{label_at, labels_below}
 use Rattle.tp_text_laws.specs.Conditions.{MayBeLine}
 use Rattle.tp_text_laws.proofs.Tests.{and_false, or_left, or_right}
 use Rattle.tp_text_laws.proofs.Bytes.{decimal_word, label_word}
@@ -112,6 +114,7 @@ pub record Coded (s : Said) (named : ℕ → Bool) (count : ℕ) (loops : List L
   pub placed : (labels : List LabelName) → AreLabels named count labels → each_read (line_placed labels) d.lines ≡ Ok done
   pub labels : AreBelow named count below d.labels
   pub few : length d.labels ≤ below
+  pub told : labels_told d.labels ≡ labels_below named below
 
 a_label : (named : ℕ → Bool) (count k : ℕ) (w : Word) (d : Said) → count < most → w.text.now ≡ label_text k → k ≤ count → AreBelow named count k d.labels → length d.labels ≤ k
     → label_set w d ≡ Ok (record d { labels = d.labels ++ (record { word = w; place = length d.lines }) ∷ [] })
@@ -125,6 +128,28 @@ a_label named count k w d small is within are few =
 label_line : (n : ℕ) (k : ℕ) (d e : Said) → label_set (at n 1 (label_text k)) d ≡ Ok e → line_said (at n 1 (label_text k) ∷ at n (1 + length (label_text k)) (codes ":") ∷ []) d ≡ Ok e
 unfolding line_said statement_said added
 label_line n k d e set = rw set refl
+
+-- what is told of labels
+label_ascii : (k : ℕ) → k < 2 ^ 64 → IsAscii (label_text k)
+label_ascii k few zero = omega arith
+label_ascii k few (suc i) = IsAscii-decimal k few i
+
+label_is_text : (k : ℕ) → k < 2 ^ 64 → is_utf8 (label_text k) ≡ true
+label_is_text k few = is_utf8-from_IsUtf8 (label_text k) (IsUtf8-from_ascii (label_text k) (label_ascii k few))
+
+told-append : (labels : List LabelName) (l : LabelName) → labels_told (labels ++ l ∷ []) ≡ labels_told labels ++ label_told l
+told-append [] l = append-nil (label_told l)
+told-append (m ∷ labels) l = ap (λ ls. label_told m ++ ls) (told-append labels l) ∙ sym (append_assoc (label_told m) (labels_told labels) (label_told l))
+
+one_told : (w : Word) (k place : ℕ) → k < 2 ^ 64 → w.text.now ≡ label_text k → place ≡ k → label_told (record { word = w; place = place }) ≡ label_at k ∷ []
+unfolding label_told
+one_told w k place few is same =
+    ap (λ t. under t (record { name = t; place = place })) is ∙ ap (λ n. under (label_text k) (record { name = label_text k; place = n })) same
+    ∙ ap (λ b. if b then label_at k ∷ [] else []) (label_is_text k few)
+
+told_more : (named : ℕ → Bool) (k : ℕ) (labels : List LabelName) (new : List LabelName) → labels_told labels ≡ labels_below named k → labels_told new ≡ labels_told labels ++ (if named k then label_at k ∷ [] else [])
+    → labels_told new ≡ labels_below named (k + 1)
+told_more named k labels new told more = more ∙ ap (λ ls. ls ++ (if named k then label_at k ∷ [] else [])) told ∙ ap (labels_below named) (sym (add-one k))
 
 named_leads : (s : Said) (named : ℕ → Bool) (count : ℕ) (loops : List Loop) (done : List Line) (k : ℕ) → length done ≡ k → count < most → k ≤ count → named k ≡ true
     → Leads (as_line (label_text k ++ codes ":")) (Coded s named count loops done k) (Coded s named count loops done (k + 1))
@@ -144,6 +169,8 @@ named_leads s named count loops done k long small within there =
         placed = p.placed;
         labels = label_more named count k d.labels l small refl (p.long ∙ long) within there p.labels;
         few = omega (arith, length-append d.labels (l ∷ []), p.few);
+      told = told_more named k d.labels (d.labels ++ l ∷ []) p.told
+          (told-append d.labels l ∙ ap (λ ls. labels_told d.labels ++ ls) (one_told w k (length d.lines) (omega arith) refl (p.long ∙ long) ∙ ap (λ t. if t then label_at k ∷ [] else []) (sym there)));
       },
     ))
 
@@ -162,6 +189,7 @@ label_leads s named count loops done k long small within = by (named k) refl
       placed = p.placed;
       labels = no_label_more named count k d.labels none p.labels;
       few = omega (arith, p.few);
+      told = told_more named k d.labels d.labels p.told (sym (append-nil (labels_told d.labels)) ∙ ap (λ t. labels_told d.labels ++ (if t then label_at k ∷ [] else [])) (sym none));
     }) (nothing {P = Coded s named count loops done k})
 
 -- remarks
@@ -201,6 +229,7 @@ line_leads s named count loops done line below remarks k few reads =
         placed = λ labels are. one_more_read (line_placed labels) d.lines r.1 done line (p.placed labels are) (r.3 labels are);
         labels = p.labels;
         few = p.few;
+      told = p.told;
       },
     ))
 

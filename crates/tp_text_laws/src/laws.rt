@@ -16,6 +16,7 @@ ghost use Rattle.tp_assembly_text.specs.Programs.{ProgramSaid, SourceSaid, progr
 ghost use Rattle.tp_assembly_text.specs.Texts.{source_of};
 ghost use Rattle.tp_assembly_text.specs.Written.{text_of};
 ghost use Rattle.tp_text_laws.specs.Conditions.{HasOperand, MayBeWritten};
+ghost use Rattle.tp_text_laws.specs.Sources.{IsSource};
 
 /// A natural number of 32 bits is read as it is written in decimal.
 #[tactic(auto, using(crate::proofs::ReadNumbers::natural_back))]
@@ -39,11 +40,12 @@ pub fn function_is_read_by_its_name()
     ensures { (n : ℤ) → AllByRecursion (λ i. function_named (entry i).name ≡ Some (entry i).function) (functions n) }
 {}
 
-/// The text of a program that may be written, with any remarks or none, is read back as that program.
+/// The text of a program that may be written, with any remarks or none, is read back as that program, with the labels of the
+/// places that it names and no names of local words.
 #[tactic(auto, using(crate::proofs::ReadBack::read_back))]
 pub fn written_program_is_read_back()
     ensures { (p : ProgramSaid) (remarks : Option Remarks) → MayBeWritten p →
-        (source : SourceSaid) × (source_of (text_of p remarks) ≡ Ok source) × (source.program ≡ p) }
+        (source : SourceSaid) × (source_of (text_of p remarks) ≡ Ok source) × IsSource p source }
 {}
 
 /// A program that has an image may be written, where its operands have 32 bits, as each `i32` has.
@@ -58,6 +60,6 @@ pub fn disassembled_image_is_read_back()
     ensures { (image : ImageValue) (program : Program) (remarks : Option Remarks) →
         IsDisassembly image program → IsAssembly program image →
         (source : SourceSaid) × (source_of (text_of (program_said program) remarks) ≡ Ok source)
-        × (source.program ≡ program_said program)
+        × IsSource (program_said program) source
         × ((again : Program) → program_said again ≡ source.program → IsAssembly again image) }
 {}
