@@ -49,7 +49,7 @@ pub record Reads (named : ℕ → Bool) (count : ℕ) (line : Line) : Type 0 whe
   pub pieces : List Piece
   pub is : line_text line ≡ write pieces
   pub apart : AreApart pieces
-  pub says : (n : ℕ) (d : Said) → (w : Word) × (l : DraftLine) × (line_said (map word_for (placed n 1 pieces)) d ≡ pushed w l d) × IsDrafted named count l line
+  pub says : (n : ℕ) (d : Said) → (w : Word) × (l : DraftLine) × (line_said (map word_for (placed n 1 pieces)) d ≡ pushed w l d) × IsDrafted named count l line × (w.line ≡ n)
 
 -- how many bytes are stated
 abbrev stated_pieces : Option ℕ → List Piece → List Piece
@@ -169,7 +169,7 @@ function_read named count i bytes is fits may =
             ap (λ ws. line_said (first ∷ ws) d) (stated_placed n c bytes ps)
                 ∙ function_says n c bytes first w [] (entry i).function l d may (signed_word (entry i).operand) (no_keyword i) is.named
                 (number_operand _ first w (entry i).function (operand_at bytes + 1) bytes (entry i).operand i (nothing_behind n c bytes first w) (begins_signed (entry i).operand fits) (signed_is w (entry i).operand refl fits) is.made),
-            plain_drafted named count (Spelled (Plain i) bytes),
+            plain_drafted named count (Spelled (Plain i) bytes), refl,
           );
     }
 
@@ -200,7 +200,7 @@ operation_read named count i bytes is may = record {
         first,
         draft.Known (Spelled (Plain i) bytes),
         ap (λ ws. line_said (first ∷ ws) d) (stated_placed n c bytes []) ∙ operation_says n c bytes first i d may (no_keyword i) is.named is.found,
-        plain_drafted named count (Spelled (Plain i) bytes),
+        plain_drafted named count (Spelled (Plain i) bytes), refl,
       );
 }
 
@@ -251,7 +251,7 @@ jump_read named count to bytes within there may =
             ap (λ ws. line_said (first ∷ ws) d) (stated_placed n 10 bytes ps)
                 ∙ function_says n 10 bytes first w [] 0 (record { word = first; line = draft.Jump w bytes }) d may (label_word to) refl refl
                 (jump_operand _ n c (operand_at bytes + 1) to bytes (nothing_behind n 10 bytes first w)),
-            jump_drafted named count to bytes w refl within there,
+            jump_drafted named count to bytes w refl within there, refl,
           );
     }
 
@@ -272,7 +272,7 @@ cj_read named count to bytes within there may =
             ap (λ ws. line_said (first ∷ ws) d) (stated_placed n 11 bytes ps)
                 ∙ function_says n 11 bytes first w [] 10 (record { word = first; line = draft.Cj w bytes }) d may (label_word to) refl refl
                 (cj_operand _ n c (operand_at bytes + 1) to bytes (nothing_behind n 11 bytes first w)),
-            cj_drafted named count to bytes w refl within there,
+            cj_drafted named count to bytes w refl within there, refl,
           );
     }
 
@@ -316,7 +316,7 @@ distance_read named count from to bytes within' within there' there may =
             ap (λ ws. line_said (first ∷ ws) d) (stated_placed n 12 bytes ps)
                 ∙ function_says n 12 bytes first w (m ∷ v ∷ []) 4 (record { word = first; line = draft.Distance w v bytes }) d may (label_word to) refl refl
                 (distance_operand _ n c (c + length (label_text to) + 1) (operand_at bytes + 1) to v bytes (minus_here n 12 bytes first w m v) (from_here n 12 bytes first w m v) (end_here n 12 bytes first w m v)),
-            distance_drafted named count from to bytes v w refl refl within within' there there',
+            distance_drafted named count from to bytes v w refl refl within within' there there', refl,
           );
     }
 
@@ -347,7 +347,7 @@ byte_read named count byte small = record {
         w,
         draft.Known (Byte byte),
         not_labelled first w [] d refl ∙ byte_says n 9 w _ d (byte_said first n 14 (byte_text byte) byte (byte_is w byte refl (omega arith))),
-        plain_drafted named count (Byte byte),
+        plain_drafted named count (Byte byte), refl,
       );
 }
 

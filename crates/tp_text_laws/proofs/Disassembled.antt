@@ -147,7 +147,7 @@ same_assembly a b image same is =
     }
 
 pub told_back : (image : ImageValue) (program : Program) (remarks : Option Remarks) → IsDisassembly image program → IsAssembly program image
-    → (source : SourceSaid) × (source_of (text_of (program_said program) remarks) ≡ Ok source) × IsSource (program_said program) source × ((again : Program) → program_said again ≡ source.program → IsAssembly again image)
+    → (source : SourceSaid) × (source_of (text_of (program_said program) remarks) ≡ Ok source) × IsSource (program_said program) remarks source × ((again : Program) → program_said again ≡ source.program → IsAssembly again image)
 told_back image program remarks told is =
     let back = read_back (program_said program) remarks (image_may program image is (disassembly_has image program told)) in
     (back.0, back.1, back.2, λ again same. same_assembly program again image (sym (same ∙ back.2.program)) is)

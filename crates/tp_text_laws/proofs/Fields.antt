@@ -33,8 +33,8 @@ use Rattle.tp_text_laws.proofs.Pieces.{Piece, Gap, Of, Mark, write, placed, AreA
 use Rattle.tp_text_laws.proofs.Leading.{Leads, nothing, behind, leads_to, a_line}
 
 -- a line without a comment
-pub alone : {P Q : Said → Type 0} (text : List ℕ) (ps : List Piece) → text ≡ write ps → AreApart ps
-    → ((n : ℕ) (d : Said) → P d → (e : Said) × (line_said (map word_for (placed n 1 ps)) d ≡ Ok e) × Q e) → Leads (as_line text) P Q
+pub alone : {P Q : List (List ℕ) → Said → Type 0} (text : List ℕ) (ps : List Piece) → text ≡ write ps → AreApart ps
+    → ((front : List (List ℕ)) (d : Said) → P front d → (e : Said) × (line_said (map word_for (placed (1 + length front) 1 ps)) d ≡ Ok e) × Q (front ++ text ∷ []) e) → Leads (as_line text) P Q
 alone {P} {Q} text ps is apart says = a_line {text = text} ps [] (is ∙ sym (append-nil (write ps))) apart no_tail says
 
 -- a word is no mark
@@ -54,8 +54,8 @@ unfolding line_said
 not_labelled first second ws d other = rw other refl
 
 -- so is a draft, and no other
-abbrev pub Is : Said → Said → Type 0
-Is s d = d ≡ s
+abbrev pub Is : Said → List (List ℕ) → Said → Type 0
+Is s front d = d ≡ s
 
 number_alone : (first w : Word) (limit n : ℕ) → w.text.now ≡ decimal n → n ≤ limit → n < 2 ^ 31 → one_number_said (first ∷ w ∷ []) first limit ≡ Ok n
 unfolding one_number_said word_said end_said
@@ -72,7 +72,8 @@ a_field : (name : List ℕ) (k : Keyword) (make : ℕ → StatementSaid) (n : �
     → Leads (as_line (name ++ 32 ∷ decimal n)) (Is s) (Is t)
 unfolding is_plain
 a_field name k make n s t literal named is_field few adds =
-    alone (name ++ 32 ∷ decimal n) (Of name ∷ Gap ∷ Of (decimal n) ∷ []) (simp append-nil) (literal_word name literal, (refl, (decimal_word n, (refl, tt)))) (λ line d is.
+    alone (name ++ 32 ∷ decimal n) (Of name ∷ Gap ∷ Of (decimal n) ∷ []) (simp append-nil) (literal_word name literal, (refl, (decimal_word n, (refl, tt)))) (λ front d is.
+    let line : ℕ = 1 + length front in
     let first : Word = word_for (record { text = name; line = line; column = 1 }) in
     let second : Word = word_for (record { text = decimal n; line = line; column = 1 + length name + 1 }) in
     let said : keyword_said k (first ∷ second ∷ []) first ≡ Ok (make n) = is_field (first ∷ second ∷ []) first ∙ ap (λ r. r >>= λ m. Ok (make m)) (number_alone first second most_count n refl few (omega arith)) in
@@ -97,7 +98,8 @@ two_said first w is =
 two_leads : (s : Said) → Leads (as_line (codes "version 2")) (Is s) (Is (record s { version = Two }))
 unfolding is_plain keyword_named keyword_said added
 two_leads s =
-    alone (codes "version 2") (Of (codes "version") ∷ Gap ∷ Of (codes "2") ∷ []) refl (literal_word _ refl, (refl, (literal_word _ refl, (refl, tt)))) (λ line d is.
+    alone (codes "version 2") (Of (codes "version") ∷ Gap ∷ Of (codes "2") ∷ []) refl (literal_word _ refl, (refl, (literal_word _ refl, (refl, tt)))) (λ front d is.
+    let line : ℕ = 1 + length front in
     let first : Word = word_for (record { text = codes "version"; line = line; column = 1 }) in
     let second : Word = word_for (record { text = codes "2"; line = line; column = 9 }) in
     let said : keyword_said keyword.Version (first ∷ second ∷ []) first ≡ Ok (SetsVersion Two) = ap (λ r. r >>= λ v. Ok (SetsVersion v)) (two_said first second refl) in
@@ -105,7 +107,7 @@ two_leads s =
 
 pub version_leads : (v : Version) (s : Said) → s.version ≡ One → Leads (version_text v) (Is s) (Is (record s { version = v }))
 unfolding version_text
-version_leads One s is = leads_to (λ d e. e ∙ ap (λ v. record s { version = v }) is) (nothing {P = Is s})
+version_leads One s is = leads_to (λ front d e. e ∙ ap (λ v. record s { version = v }) is) (nothing {P = Is s})
 version_leads Two s is = two_leads s
 
 -- an initial word
@@ -140,7 +142,8 @@ initial_leads : (s : Said) (i word : ℕ) → length s.initial ≡ i → i < mos
 unfolding is_plain keyword_named keyword_said added
 initial_leads s i word long few small =
     alone (codes "init " ++ decimal i ++ codes ": #" ++ digits 16 false word) (Of (codes "init") ∷ Gap ∷ Of (decimal i) ∷ Mark 58 ∷ Gap ∷ Of (35 ∷ digits 16 false word) ∷ []) (simp (append_assoc, append-nil))
-    (literal_word _ refl, (refl, (decimal_word i, (refl, (refl, (hexadecimal_word (digits 16 false word) (digits_inner 16 word (omega arith) (omega arith)), (refl, tt))))))) (λ line d is.
+    (literal_word _ refl, (refl, (decimal_word i, (refl, (refl, (hexadecimal_word (digits 16 false word) (digits_inner 16 word (omega arith) (omega arith)), (refl, tt))))))) (λ front d is.
+    let line : ℕ = 1 + length front in
     let first : Word = word_for (record { text = codes "init"; line = line; column = 1 }) in
     let at : Word = word_for (record { text = decimal i; line = line; column = 6 }) in
     let colon : Word = word_for (record { text = 58 ∷ []; line = line; column = 6 + length (decimal i) }) in
@@ -157,8 +160,8 @@ initial_leads s i word long few small =
 
 pub initials_lead : (s : Said) (i : ℕ) (words : List ℕ) → length s.initial ≡ i → i + length words ≤ most_words → AllByRecursion (λ word. word < 2 ^ 32) words
     → Leads (initial_text i words) (Is s) (Is (record s { initial = s.initial ++ words }))
-initials_lead s i [] long few small = leads_to (λ d e. e ∙ ap (λ ws. record s { initial = ws }) (sym (append-nil s.initial))) (nothing {P = Is s})
+initials_lead s i [] long few small = leads_to (λ front d e. e ∙ ap (λ ws. record s { initial = ws }) (sym (append-nil s.initial))) (nothing {P = Is s})
 initials_lead s i (word ∷ words) long few small =
-    leads_to (λ d e. e ∙ ap (λ ws. record s { initial = ws }) (append_assoc s.initial (word ∷ []) words))
+    leads_to (λ front d e. e ∙ ap (λ ws. record s { initial = ws }) (append_assoc s.initial (word ∷ []) words))
     (behind (initial_leads s i word long (omega arith) small.0)
     (initials_lead (record s { initial = s.initial ++ word ∷ [] }) (i + 1) words (omega (arith, length-append s.initial (word ∷ []))) (omega arith) small.1))

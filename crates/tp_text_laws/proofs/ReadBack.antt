@@ -19,7 +19,7 @@ use Rattle.tp_assembly_text.specs.Meaning.{added, line_said}
 use Rattle.tp_assembly_text.specs.Programs.{ProgramSaid, SourceSaid, line_placed, loop_placed, workspace_said, ended, program_of, labels_told, locals_told, finished}
 use Rattle.tp_assembly_text.specs.Texts.{words_of_lines, words_say, text_said, source_of}
 use Rattle.tp_assembly_text.specs.Written.{as_line, is_named, names_from_row, names_from_line, fields_text, loop_remark, legend, remarks_above, above, text_of}
-use Rattle.tp_text_laws.specs.Sources.{labels_below, labels_of, IsSource}
+use Rattle.tp_text_laws.specs.Sources.{labels_below, labels_of, written_lines, AreNumbers, IsSource}
 use Rattle.tp_text_laws.specs.Conditions.{MayBeWritten}
 use Rattle.tp_text_laws.proofs.Tests.{and_false, or_left, or_right}
 use Rattle.tp_text_laws.proofs.TextLines.{IsLine, all_lines}
@@ -38,27 +38,27 @@ says_nothing : (d : Said) → line_said [] d ≡ Ok d
 unfolding line_said statement_said added
 says_nothing d = refl
 
-comment : {P : Said → Type 0} (text rest : List ℕ) → text ≡ 59 ∷ rest → IsLine text → Leads (as_line text) P P
-comment {P} text rest is shown =
-    a_line {text = text} [] text refl tt (subst IsTail (sym is) (comment_alone rest (subst IsLine is shown))) (λ n d p. (d, says_nothing d, p))
+comment : {s : Said} (text rest : List ℕ) → text ≡ 59 ∷ rest → IsLine text → Leads (as_line text) (Is s) (Is s)
+comment {s} text rest is shown =
+    a_line {text = text} [] text refl tt (subst IsTail (sym is) (comment_alone rest (subst IsLine is shown))) (λ front d p. (d, says_nothing d, p))
 
-loop_leads : {P : Said → Type 0} (r : LoopRemark) → Leads (loop_remark r) P P
+loop_leads : {s : Said} (r : LoopRemark) → Leads (loop_remark r) (Is s) (Is s)
 unfolding loop_remark
-loop_leads {P} r =
+loop_leads {s} r =
     comment (codes "; loop " ++ decimal r.head ++ codes " to " ++ decimal r.lend ++ codes ": " ++ decimal r.turns ++ codes " turns of " ++ decimal r.turn ++ codes ", " ++ decimal (min (r.turns * r.turn) (2 ^ 64 - 1)) ++ codes " in all")
     _ refl (simp (list_all-append {X = ℕ}, decimal_line))
 
-loops_lead : {P : Said → Type 0} (rs : List LoopRemark) → Leads (flat_map loop_remark rs) P P
-loops_lead {P} [] = nothing
-loops_lead {P} (r ∷ rs) = behind (loop_leads r) (loops_lead rs)
+loops_lead : {s : Said} (rs : List LoopRemark) → Leads (flat_map loop_remark rs) (Is s) (Is s)
+loops_lead {s} [] = nothing {P = Is s}
+loops_lead {s} (r ∷ rs) = behind (loop_leads r) (loops_lead rs)
 
-legend_leads : {P : Said → Type 0} → Leads legend P P
-legend_leads {P} = leads_as {s = as_line (take (length legend - 1) legend)} refl (comment (take (length legend - 1) legend) _ refl refl)
+legend_leads : {s : Said} → Leads legend (Is s) (Is s)
+legend_leads {s} = leads_as {s = as_line (take (length legend - 1) legend)} refl (comment (take (length legend - 1) legend) _ refl refl)
 
-above_leads : {P : Said → Type 0} (remarks : Option Remarks) → Leads (above remarks) P P
+above_leads : {s : Said} (remarks : Option Remarks) → Leads (above remarks) (Is s) (Is s)
 unfolding above remarks_above
-above_leads {P} None = nothing
-above_leads {P} (Some r) =
+above_leads {s} None = nothing {P = Is s}
+above_leads {s} (Some r) =
     behind (behind (comment (codes "; at most " ++ decimal r.budget ++ codes " instruction bytes") _ refl (simp (list_all-append {X = ℕ}, decimal_line))) (loops_lead r.loops.now)) legend_leads
 
 -- the draft behind the fields
@@ -78,9 +78,10 @@ none_below named count labels none = λ w k is low.
     let below : nat_lt k 0 ≡ false = grind (arith, nat_tests) in
     ap (λ ls. place_named ls w) none ∙ sym (ap (λ t. if named k && t then Some k else None) below ∙ ap (λ t. if t then Some k else None) (and_false (named k)))
 
-no_code : (s d : Said) (named : ℕ → Bool) (count : ℕ) (loops : List Loop) → s.lines ≡ [] → s.labels ≡ [] → Rowed s named count loops d → Coded s named count loops [] 0 d
-no_code s d named count loops no_lines no_labels rowed =
+no_code : (s d : Said) (named : ℕ → Bool) (count : ℕ) (loops : List Loop) (remarks : Option Remarks) (front : List (List ℕ)) → s.lines ≡ [] → s.numbers ≡ [] → s.labels ≡ [] → Rowed s named count loops d → Coded s named count loops remarks [] 0 front d
+no_code s d named count loops remarks front no_lines no_numbers no_labels rowed =
     let lines : d.lines ≡ [] = ap (λ (e : Said). e.lines) rowed.is ∙ no_lines in
+    let numbers : d.numbers ≡ [] = ap (λ (e : Said). e.numbers) rowed.is ∙ no_numbers in
     let labels : d.labels ≡ [] = ap (λ (e : Said). e.labels) rowed.is ∙ no_labels in
     record {
       fields = d;
@@ -91,6 +92,7 @@ no_code s d named count loops no_lines no_labels rowed =
       labels = none_below named count d.labels labels;
       few = omega (arith, ap length labels);
       told = ap labels_told labels;
+      numbers = subst (λ (ns : List ℕ). AreNumbers front ns []) (sym numbers) tt;
     }
 
 row_named : (p : ProgramSaid) (k : ℕ) → list_any (names_from_row k) p.loops ≡ true → is_named p k ≡ true
@@ -102,25 +104,26 @@ unfolding is_named
 line_named p k e = or_right (list_any (names_from_row k) p.loops) (list_any (names_from_line k) p.lines) e
 
 text_leads : (p : ProgramSaid) (remarks : Option Remarks) → MayBeWritten p
-    → Leads (text_of p remarks) (Is empty) (Coded (fields_of p) (is_named p) (length p.lines) p.loops p.lines (length p.lines + 1))
+    → Leads (text_of p remarks) (Is empty) (Coded (fields_of p) (is_named p) (length p.lines) p.loops remarks p.lines (length p.lines + 1))
 unfolding text_of fields_text
 text_leads p remarks may =
     behind (behind (above_leads remarks)
-    (leads_to (λ d r. no_code (fields_of p) d (is_named p) (length p.lines) p.loops refl refl r)
-    (behind (leads_to (λ d is. no_rows (fields_of p) d (is_named p) (length p.lines) refl is)
+    (leads_to (λ front d r. no_code (fields_of p) d (is_named p) (length p.lines) p.loops remarks front refl refl refl r)
+    (behind (leads_to (λ front d is. no_rows (fields_of p) d (is_named p) (length p.lines) refl is)
     (behind (behind (version_leads p.version empty refl) (sizes_lead p _ may.workspace may.start may.packet may.result))
     (initials_lead _ 0 p.initial refl (omega (arith, may.words)) may.initial)))
     (rows_lead (fields_of p) (is_named p) (length p.lines) [] p.loops (omega (arith, may.rows)) may.loops (row_named p)))))
     (code_leads (fields_of p) (is_named p) (length p.lines) p.loops remarks [] p.lines 0 refl (omega arith) may.count may.lines (line_named p))
 
-said_of : (text : List ℕ) (Q : Said → Type 0) → Leads text (Is empty) Q → (d : Said) × (text_said text ≡ Ok d) × Q d
+said_of : (text : List ℕ) (Q : List (List ℕ) → Said → Type 0) → Leads text (Is empty) Q → (d : Said) × (text_said text ≡ Ok d) × Q (lines text) d
 unfolding text_said
 said_of text Q leads =
-    let r = leads.says 1 empty refl in
-    (r.0, ap (λ t. words_say (words_of_lines 1 (lines t))) leads.is ∙ ap (λ ls. words_say (words_of_lines 1 ls)) (all_lines leads.lines leads.shown) ∙ r.1, r.2)
+    let r = leads.says [] empty refl in
+    let is : lines text ≡ leads.lines = ap lines leads.is ∙ all_lines leads.lines leads.shown in
+    (r.0, ap (λ ls. words_say (words_of_lines 1 ls)) is ∙ r.1, subst (λ (ls : List (List ℕ)). Q ls r.0) (sym is) r.2)
 
 -- what the draft comes to
-record HasProgram (p : ProgramSaid) (d : Said) : Type 0 where
+record HasProgram (p : ProgramSaid) (remarks : Option Remarks) (d : Said) : Type 0 where
   version : d.version ≡ p.version
   workspace : d.workspace ≡ Some p.workspace
   start : d.start ≡ p.start
@@ -129,13 +132,14 @@ record HasProgram (p : ProgramSaid) (d : Said) : Type 0 where
   initial : d.initial ≡ p.initial
   begun : d.begun ≡ []
   locals : d.locals ≡ []
+  numbers : AreNumbers (lines (text_of p remarks)) d.numbers (written_lines remarks 0 p.lines)
   labels : labels_told d.labels ≡ labels_of p
   lines : each_read (line_placed d.labels) d.lines ≡ Ok p.lines
   loops : each_read (loop_placed d.labels d.start) d.rows ≡ Ok p.loops
 
-program_is : (p : ProgramSaid) (d : Said) → HasProgram p d → program_of d ≡ Ok p
+program_is : (p : ProgramSaid) (remarks : Option Remarks) (d : Said) → HasProgram p remarks d → program_of d ≡ Ok p
 unfolding program_of workspace_said
-program_is p d has =
+program_is p remarks d has =
     let version = has.version in
     let start = has.start in
     let packet = has.packet in
@@ -164,13 +168,13 @@ program_is p d has =
     } = cc in
     rw (has.lines, has.loops) (ap Ok same)
 
-source_is : (p : ProgramSaid) (d : Said) → HasProgram p d → (source : SourceSaid) × (finished d ≡ Ok source) × IsSource p source
+source_is : (p : ProgramSaid) (remarks : Option Remarks) (d : Said) → HasProgram p remarks d → (source : SourceSaid) × (finished d ≡ Ok source) × IsSource p remarks source
 unfolding finished ended
-source_is p d has =
+source_is p remarks d has =
     let make : ProgramSaid → Result SourceSaid SourceFault = λ program. Ok (record { program = program; numbers = d.numbers; labels = labels_told d.labels; locals = locals_told d.words d.locals }) in (
       record { program = p; numbers = d.numbers; labels = labels_told d.labels; locals = locals_told d.words d.locals },
-      ap (λ b. then_read (ended b) (λ _. then_read (program_of d) make)) has.begun ∙ ap (λ r. then_read r make) (program_is p d has),
-      record { program = refl; labels = has.labels; locals = ap (locals_told d.words) has.locals },
+      ap (λ b. then_read (ended b) (λ _. then_read (program_of d) make)) has.begun ∙ ap (λ r. then_read r make) (program_is p remarks d has),
+      record { program = refl; numbers = has.numbers; labels = has.labels; locals = ap (locals_told d.words) has.locals },
     )
 
 are_labels : (named : ℕ → Bool) (count : ℕ) (labels : List LabelName) → AreBelow named count (count + 1) labels → AreLabels named count labels
@@ -178,8 +182,8 @@ are_labels named count labels are = λ w k is low there.
     let within : nat_lt k (count + 1) ≡ true = grind (arith, nat_tests) in
     are w k is low ∙ rw (there, within) refl
 
-has_program : (p : ProgramSaid) (d : Said) → Coded (fields_of p) (is_named p) (length p.lines) p.loops p.lines (length p.lines + 1) d → HasProgram p d
-has_program p d coded =
+has_program : (p : ProgramSaid) (remarks : Option Remarks) (d : Said) → Coded (fields_of p) (is_named p) (length p.lines) p.loops remarks p.lines (length p.lines + 1) (lines (text_of p remarks)) d → HasProgram p remarks d
+has_program p remarks d coded =
     let is : d ≡ record (fields_of p) { rows = coded.fields.rows; lines = d.lines; numbers = d.numbers; labels = d.labels } =
     coded.is ∙ ap (λ (f : Said). record f { lines = d.lines; numbers = d.numbers; labels = d.labels }) coded.rowed.is in
     let labels = are_labels (is_named p) (length p.lines) d.labels coded.labels in
@@ -192,6 +196,7 @@ has_program p d coded =
       initial = ap (λ (e : Said). e.initial) is;
       begun = ap (λ (e : Said). e.begun) is;
       locals = ap (λ (e : Said). e.locals) is;
+      numbers = coded.numbers;
       labels = coded.told ∙ ap (labels_below (is_named p)) (add-one (length p.lines));
       lines = coded.placed d.labels labels;
       loops =
@@ -199,8 +204,8 @@ has_program p d coded =
           ∙ coded.rowed.placed d.labels labels;
     }
 
-pub read_back : (p : ProgramSaid) (remarks : Option Remarks) → MayBeWritten p → (source : SourceSaid) × (source_of (text_of p remarks) ≡ Ok source) × IsSource p source
+pub read_back : (p : ProgramSaid) (remarks : Option Remarks) → MayBeWritten p → (source : SourceSaid) × (source_of (text_of p remarks) ≡ Ok source) × IsSource p remarks source
 read_back p remarks may =
     let said = said_of (text_of p remarks) _ (text_leads p remarks may) in
-    let source = source_is p said.0 (has_program p said.0 said.2) in
+    let source = source_is p remarks said.0 (has_program p remarks said.0 said.2) in
     (source.0, ap (λ r. then_read r finished) said.1 ∙ source.1, source.2)

@@ -101,6 +101,10 @@ row_is : (n c1 c3 c5 c7 c9 : ℕ) (first w2 w4 w6 w8 w10 : Word) (head lend : Ta
 unfolding row_said expect_said word_said end_said
 row_is n c1 c3 c5 c7 c9 first w2 w4 w6 w8 w10 head lend word count start h2 h4 h6 h8 h10 = rw (h2, h4, h6, h8, h10) refl
 
+-- a draft of one kind, whatever lines are in front
+abbrev pub Any : (Said → Type 0) → List (List ℕ) → Said → Type 0
+Any P front d = P d
+
 -- the rows so far
 pub record Rowed (s : Said) (named : ℕ → Bool) (count : ℕ) (loops : List Loop) (d : Said) : Type 0 where
   pub is : d ≡ record s { rows = d.rows }
@@ -120,12 +124,13 @@ row_line l =
     ∷ Gap ∷ Of (codes "start") ∷ Gap ∷ Of (signed_decimal l.start) ∷ []
 
 row_leads : (s : Said) (named : ℕ → Bool) (count : ℕ) (done : List Loop) (l : Loop) → length done < most → MayBeRow count l → ((p : ℕ) → names_from_row p l ≡ true → named p ≡ true)
-    → Leads (loop_text l) (Rowed s named count done) (Rowed s named count (done ++ l ∷ []))
+    → Leads (loop_text l) (Any (Rowed s named count done)) (Any (Rowed s named count (done ++ l ∷ [])))
 unfolding is_plain keyword_named keyword_said added loop_text row_line line_said loop_placed control_said
 row_leads s named count done l few may all =
     alone (codes "loop head " ++ spot_text l.head ++ codes " lend " ++ spot_text l.lend ++ codes " control " ++ decimal l.control ++ codes " turns " ++ decimal l.count ++ codes " start " ++ signed_decimal l.start)
     (row_line l) (simp (append_assoc, append-nil))
-    (literal_word _ refl, (refl, (literal_word _ refl, (refl, (spot_word l.head, (refl, (literal_word _ refl, (refl, (spot_word l.lend, (refl, (literal_word _ refl, (refl, (decimal_word l.control, (refl, (literal_word _ refl, (refl, (decimal_word l.count, (refl, (literal_word _ refl, (refl, (signed_word l.start, (refl, tt)))))))))))))))))))))) (λ n d p.
+    (literal_word _ refl, (refl, (literal_word _ refl, (refl, (spot_word l.head, (refl, (literal_word _ refl, (refl, (spot_word l.lend, (refl, (literal_word _ refl, (refl, (decimal_word l.control, (refl, (literal_word _ refl, (refl, (decimal_word l.count, (refl, (literal_word _ refl, (refl, (signed_word l.start, (refl, tt)))))))))))))))))))))) (λ front d p.
+    let n : ℕ = 1 + length front in
     let c2 : ℕ = 11 in
     let c4 : ℕ = c2 + length (spot_text l.head) + 1 + 4 + 1 in
     let c6 : ℕ = c4 + length (spot_text l.lend) + 1 + 7 + 1 in
@@ -152,11 +157,11 @@ row_leads s named count done l few may all =
     ))
 
 pub rows_lead : (s : Said) (named : ℕ → Bool) (count : ℕ) (done loops : List Loop) → length done + length loops ≤ most → AllByRecursion (MayBeRow count) loops → ((p : ℕ) → list_any (names_from_row p) loops ≡ true → named p ≡ true)
-    → Leads (flat_map loop_text loops) (Rowed s named count done) (Rowed s named count (done ++ loops))
+    → Leads (flat_map loop_text loops) (Any (Rowed s named count done)) (Any (Rowed s named count (done ++ loops)))
 rows_lead s named count done [] few may all =
-    leads_to (λ d r. subst (λ (ls : List Loop). Rowed s named count ls d) (sym (append-nil done)) r) (nothing {P = Rowed s named count done})
+    leads_to (λ front d r. subst (λ (ls : List Loop). Rowed s named count ls d) (sym (append-nil done)) r) (nothing {P = Any (Rowed s named count done)})
 rows_lead s named count done (l ∷ loops) few may all =
-    leads_to (λ d r. subst (λ (ls : List Loop). Rowed s named count ls d) (append_assoc done (l ∷ []) loops) r)
+    leads_to (λ front d r. subst (λ (ls : List Loop). Rowed s named count ls d) (append_assoc done (l ∷ []) loops) r)
     (behind (row_leads s named count done l (omega arith) may.0 (λ p e. all p (or_left (names_from_row p l) (list_any (names_from_row p) loops) e)))
     (rows_lead s named count (done ++ l ∷ []) loops (omega (arith, length-append done (l ∷ []))) may.1 (λ p e. all p (or_right (names_from_row p l) (list_any (names_from_row p) loops) e))))
 

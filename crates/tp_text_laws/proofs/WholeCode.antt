@@ -1,5 +1,5 @@
 -- The code of a program is read as it is written: its lines, with their labels and remarks.
-use Rattle.std.proofs.Common.{◌≡◌, ℕ, ◌+◌, ◌<◌, ◌≤◌, ◌^◌, ◌==◌, ◌&&◌, nat_lt, Bool, true, false, if◌then◌else◌, List, [], ◌∷◌, ◌++◌, codes, length, slice_get, Option, Some, None, Ok, refl, ap, sym, ◌∙◌, subst, arith, append_assoc, zero, suc, add-one}
+use Rattle.std.proofs.Common.{◌≡◌, ℕ, ◌+◌, ◌<◌, ◌≤◌, ◌^◌, ◌==◌, ◌&&◌, nat_lt, Bool, true, false, if◌then◌else◌, List, [], ◌∷◌, ◌++◌, codes, length, slice_get, Option, Some, None, Ok, refl, ap, sym, ◌∙◌, subst, arith, append_assoc, zero, suc, add-one, ◌-◌}
 use Rattle.std.specs.List.{list_all, list_any, find, AllByRecursion}
 use Rattle.std.specs.Str.{bytes_eq, is_utf8, IsAscii}
 use Rattle.std.proofs.lemmas.Str.{is_utf8-from_IsUtf8, IsUtf8-from_ascii}
@@ -25,7 +25,7 @@ use Rattle.tp_assembly_text.specs.Grammar.{statement_said}
 use Rattle.tp_assembly_text.specs.Meaning.{added, line_said}
 use Rattle.tp_assembly_text.specs.Programs.{line_placed, under, label_told, labels_told}
 use Rattle.tp_assembly_text.specs.Written.{as_line, label_text, line_text, label_there, line_remark, behind as remark_behind, lines_text, names_from_line}
-use Rattle.tp_text_laws.specs.Sources.{label_at, labels_below}
+use Rattle.tp_text_laws.specs.Sources.{label_at, labels_below, written_lines, AreNumbers}
 use Rattle.tp_text_laws.specs.Conditions.{MayBeLine}
 use Rattle.tp_text_laws.proofs.Tests.{and_false, or_left, or_right}
 use Rattle.tp_text_laws.proofs.Bytes.{decimal_word, label_word}
@@ -106,7 +106,7 @@ no_label_more named count k labels none are = λ w p names low. are w p names lo
     by p false e = same_test named k p (λ same. grind (arith, nat_tests, same))
 
 -- the code so far, and the labels of the places below one
-pub record Coded (s : Said) (named : ℕ → Bool) (count : ℕ) (loops : List Loop) (done : List Line) (below : ℕ) (d : Said) : Type 0 where
+pub record Coded (s : Said) (named : ℕ → Bool) (count : ℕ) (loops : List Loop) (remarks : Option Remarks) (done : List Line) (below : ℕ) (front : List (List ℕ)) (d : Said) : Type 0 where
   pub fields : Said
   pub rowed : Rowed s named count loops fields
   pub is : d ≡ record fields { lines = d.lines; numbers = d.numbers; labels = d.labels }
@@ -115,6 +115,7 @@ pub record Coded (s : Said) (named : ℕ → Bool) (count : ℕ) (loops : List L
   pub labels : AreBelow named count below d.labels
   pub few : length d.labels ≤ below
   pub told : labels_told d.labels ≡ labels_below named below
+  pub numbers : AreNumbers front d.numbers (written_lines remarks 0 done)
 
 a_label : (named : ℕ → Bool) (count k : ℕ) (w : Word) (d : Said) → count < most → w.text.now ≡ label_text k → k ≤ count → AreBelow named count k d.labels → length d.labels ≤ k
     → label_set w d ≡ Ok (record d { labels = d.labels ++ (record { word = w; place = length d.lines }) ∷ [] })
@@ -151,11 +152,51 @@ told_more : (named : ℕ → Bool) (k : ℕ) (labels : List LabelName) (new : Li
     → labels_told new ≡ labels_below named (k + 1)
 told_more named k labels new told more = more ∙ ap (λ ls. ls ++ (if named k then label_at k ∷ [] else [])) told ∙ ap (labels_below named) (sym (add-one k))
 
-named_leads : (s : Said) (named : ℕ → Bool) (count : ℕ) (loops : List Loop) (done : List Line) (k : ℕ) → length done ≡ k → count < most → k ≤ count → named k ≡ true
-    → Leads (as_line (label_text k ++ codes ":")) (Coded s named count loops done k) (Coded s named count loops done (k + 1))
+-- numbers of lines
+got_before : (front more : List (List ℕ)) (i : ℕ) (t : List ℕ) → slice_get front i ≡ Some t → slice_get (front ++ more) i ≡ Some t
+got_before [] more i t is = cc
+got_before (x ∷ front) more zero t is = is
+got_before (x ∷ front) more (suc i) t is = got_before front more i t is
+
+got_last : (front : List (List ℕ)) (t : List ℕ) → slice_get (front ++ t ∷ []) (length front) ≡ Some t
+got_last [] t = refl
+got_last (x ∷ front) t = got_last front t
+
+numbers_behind : (front more : List (List ℕ)) (ns : List ℕ) (ts : List (List ℕ)) → AreNumbers front ns ts → AreNumbers (front ++ more) ns ts
+numbers_behind front more [] [] are = tt
+numbers_behind front more [] (t ∷ ts) are = absurd are
+numbers_behind front more (n ∷ ns) [] are = absurd are
+numbers_behind front more (n ∷ ns) (t ∷ ts) are = (got_before front more (n - 1) t are.0, numbers_behind front more ns ts are.1)
+
+one_number_more : (text : List (List ℕ)) (ns : List ℕ) (ts : List (List ℕ)) (n : ℕ) (t : List ℕ) → AreNumbers text ns ts → slice_get text (n - 1) ≡ Some t → AreNumbers text (ns ++ n ∷ []) (ts ++ t ∷ [])
+one_number_more text [] [] n t are is = (is, tt)
+one_number_more text [] (u ∷ ts) n t are is = absurd are
+one_number_more text (m ∷ ns) [] n t are is = absurd are
+one_number_more text (m ∷ ns) (u ∷ ts) n t are is = (are.0, one_number_more text ns ts n t are.1 is)
+
+written-append : (remarks : Option Remarks) (k : ℕ) (done : List Line) (line : Line) → written_lines remarks k (done ++ line ∷ []) ≡ written_lines remarks k done ++ (line_text line ++ remark_behind remarks (k + length done)) ∷ []
+written-append remarks k [] line = ap (λ n. (line_text line ++ remark_behind remarks n) ∷ []) (omega arith)
+written-append remarks k (l ∷ done) line =
+    let far : k + 1 + length done ≡ k + length (l ∷ done) = omega arith in
+    ap (λ ls. (line_text l ++ remark_behind remarks k) ∷ ls) (written-append remarks (k + 1) done line)
+    ∙ ap (λ n. (line_text l ++ remark_behind remarks k) ∷ (written_lines remarks (k + 1) done ++ (line_text line ++ remark_behind remarks n) ∷ [])) far
+
+number_more : (front : List (List ℕ)) (text : List ℕ) (remarks : Option Remarks) (done : List Line) (line : Line) (k n : ℕ) (ns : List ℕ) → length done ≡ k → n ≡ 1 + length front
+    → text ≡ line_text line ++ remark_behind remarks k → AreNumbers front ns (written_lines remarks 0 done) → AreNumbers (front ++ text ∷ []) (ns ++ n ∷ []) (written_lines remarks 0 (done ++ line ∷ []))
+number_more front text remarks done line k n ns long number is are =
+    let at_last : n - 1 ≡ length front = omega arith in
+    let here : 0 + length done ≡ k = omega arith in
+    let same : written_lines remarks 0 (done ++ line ∷ []) ≡ written_lines remarks 0 done ++ text ∷ [] =
+    written-append remarks 0 done line ∙ ap (λ i. written_lines remarks 0 done ++ (line_text line ++ remark_behind remarks i) ∷ []) here ∙ ap (λ t. written_lines remarks 0 done ++ t ∷ []) (sym is) in
+    subst (AreNumbers (front ++ text ∷ []) (ns ++ n ∷ [])) (sym same)
+    (one_number_more (front ++ text ∷ []) ns (written_lines remarks 0 done) n text (numbers_behind front (text ∷ []) ns (written_lines remarks 0 done) are) (ap (slice_get (front ++ text ∷ [])) at_last ∙ got_last front text))
+
+named_leads : (s : Said) (named : ℕ → Bool) (count : ℕ) (loops : List Loop) (remarks : Option Remarks) (done : List Line) (k : ℕ) → length done ≡ k → count < most → k ≤ count → named k ≡ true
+    → Leads (as_line (label_text k ++ codes ":")) (Coded s named count loops remarks done k) (Coded s named count loops remarks done (k + 1))
 unfolding is_plain
-named_leads s named count loops done k long small within there =
-    alone (label_text k ++ codes ":") (Of (label_text k) ∷ Mark 58 ∷ []) refl (label_word k, (refl, (refl, tt))) (λ n d p.
+named_leads s named count loops remarks done k long small within there =
+    alone (label_text k ++ codes ":") (Of (label_text k) ∷ Mark 58 ∷ []) refl (label_word k, (refl, (refl, tt))) (λ front d p.
+    let n : ℕ = 1 + length front in
     let w : Word = at n 1 (label_text k) in
     let l : LabelName = record { word = w; place = length d.lines } in
     let e : Said = record d { labels = d.labels ++ l ∷ [] } in (
@@ -169,19 +210,20 @@ named_leads s named count loops done k long small within there =
         placed = p.placed;
         labels = label_more named count k d.labels l small refl (p.long ∙ long) within there p.labels;
         few = omega (arith, length-append d.labels (l ∷ []), p.few);
-      told = told_more named k d.labels (d.labels ++ l ∷ []) p.told
-          (told-append d.labels l ∙ ap (λ ls. labels_told d.labels ++ ls) (one_told w k (length d.lines) (omega arith) refl (p.long ∙ long) ∙ ap (λ t. if t then label_at k ∷ [] else []) (sym there)));
+        told = told_more named k d.labels (d.labels ++ l ∷ []) p.told
+            (told-append d.labels l ∙ ap (λ ls. labels_told d.labels ++ ls) (one_told w k (length d.lines) (omega arith) refl (p.long ∙ long) ∙ ap (λ t. if t then label_at k ∷ [] else []) (sym there)));
+        numbers = numbers_behind front ((label_text k ++ codes ":") ∷ []) d.numbers (written_lines remarks 0 done) p.numbers;
       },
     ))
 
-label_leads : (s : Said) (named : ℕ → Bool) (count : ℕ) (loops : List Loop) (done : List Line) (k : ℕ) → length done ≡ k → count < most → k ≤ count
-    → Leads (label_there (named k) k) (Coded s named count loops done k) (Coded s named count loops done (k + 1))
+label_leads : (s : Said) (named : ℕ → Bool) (count : ℕ) (loops : List Loop) (remarks : Option Remarks) (done : List Line) (k : ℕ) → length done ≡ k → count < most → k ≤ count
+    → Leads (label_there (named k) k) (Coded s named count loops remarks done k) (Coded s named count loops remarks done (k + 1))
 unfolding label_there
-label_leads s named count loops done k long small within = by (named k) refl
+label_leads s named count loops remarks done k long small within = by (named k) refl
   where
-    by : (t : Bool) → named k ≡ t → Leads (if t then as_line (label_text k ++ codes ":") else []) (Coded s named count loops done k) (Coded s named count loops done (k + 1))
-    by true there = named_leads s named count loops done k long small within there
-    by false none = leads_to (λ d p. record {
+    by : (t : Bool) → named k ≡ t → Leads (if t then as_line (label_text k ++ codes ":") else []) (Coded s named count loops remarks done k) (Coded s named count loops remarks done (k + 1))
+    by true there = named_leads s named count loops remarks done k long small within there
+    by false none = leads_to (λ front d p. record {
       fields = p.fields;
       rowed = p.rowed;
       is = p.is;
@@ -190,7 +232,8 @@ label_leads s named count loops done k long small within = by (named k) refl
       labels = no_label_more named count k d.labels none p.labels;
       few = omega (arith, p.few);
       told = told_more named k d.labels d.labels p.told (sym (append-nil (labels_told d.labels)) ∙ ap (λ t. labels_told d.labels ++ (if t then label_at k ∷ [] else [])) (sym none));
-    }) (nothing {P = Coded s named count loops done k})
+      numbers = p.numbers;
+    }) (nothing {P = Coded s named count loops remarks done k})
 
 -- remarks
 pub decimal_line : (n : ℕ) → list_all is_shown (decimal n) ≡ true
@@ -213,14 +256,15 @@ a_push w l d few =
     let space : is_full d.lines ≡ false = grind (arith, nat_tests) in
     rw space refl
 
-line_leads : (s : Said) (named : ℕ → Bool) (count : ℕ) (loops : List Loop) (done : List Line) (line : Line) (below : ℕ) (remarks : Option Remarks) (k : ℕ) → length done < most → Reads named count line
-    → Leads (as_line (line_text line ++ remark_behind remarks k)) (Coded s named count loops done below) (Coded s named count loops (done ++ line ∷ []) below)
-line_leads s named count loops done line below remarks k few reads =
-    a_line reads.pieces (remark_behind remarks k) (ap (λ t. t ++ remark_behind remarks k) reads.is) reads.apart (tail_behind remarks k) (λ n d p.
+line_leads : (s : Said) (named : ℕ → Bool) (count : ℕ) (loops : List Loop) (done : List Line) (line : Line) (below : ℕ) (remarks : Option Remarks) (k : ℕ) → length done ≡ k → k < most → Reads named count line
+    → Leads (as_line (line_text line ++ remark_behind remarks k)) (Coded s named count loops remarks done below) (Coded s named count loops remarks (done ++ line ∷ []) below)
+line_leads s named count loops done line below remarks k here few reads =
+    a_line reads.pieces (remark_behind remarks k) (ap (λ t. t ++ remark_behind remarks k) reads.is) reads.apart (tail_behind remarks k) (λ front d p.
+    let n : ℕ = 1 + length front in
     let r = reads.says n d in
     let e : Said = record d { lines = d.lines ++ r.1 ∷ []; numbers = d.numbers ++ r.0.line ∷ [] } in (
       e,
-      r.2 ∙ a_push r.0 r.1 d (omega (arith, p.long)),
+      r.2 ∙ a_push r.0 r.1 d (omega (arith, p.long, here)),
       record {
         fields = p.fields;
         rowed = p.rowed;
@@ -229,19 +273,20 @@ line_leads s named count loops done line below remarks k few reads =
         placed = λ labels are. one_more_read (line_placed labels) d.lines r.1 done line (p.placed labels are) (r.3 labels are);
         labels = p.labels;
         few = p.few;
-      told = p.told;
+        told = p.told;
+        numbers = number_more front (line_text line ++ remark_behind remarks k) remarks done line k r.0.line d.numbers here r.4 refl p.numbers;
       },
     ))
 
 pub code_leads : (s : Said) (named : ℕ → Bool) (count : ℕ) (loops : List Loop) (remarks : Option Remarks) (done lines : List Line) (k : ℕ) → length done ≡ k → k + length lines ≡ count → count < most
     → AllByRecursion (MayBeLine count) lines → ((p : ℕ) → list_any (names_from_line p) lines ≡ true → named p ≡ true)
-    → Leads (lines_text named remarks k lines) (Coded s named count loops done k) (Coded s named count loops (done ++ lines) (count + 1))
+    → Leads (lines_text named remarks k lines) (Coded s named count loops remarks done k) (Coded s named count loops remarks (done ++ lines) (count + 1))
 code_leads s named count loops remarks done [] k long all small may from =
     let end : k + 1 ≡ count + 1 = omega (arith, all) in
-    leads_to (λ d p. subst (λ (ls : List Line). Coded s named count loops ls (count + 1) d) (sym (append-nil done)) (subst (λ (n : ℕ). Coded s named count loops done n d) end p))
-    (label_leads s named count loops done k long small (omega (arith, all)))
+    leads_to (λ front d p. subst (λ (ls : List Line). Coded s named count loops remarks ls (count + 1) front d) (sym (append-nil done)) (subst (λ (n : ℕ). Coded s named count loops remarks done n front d) end p))
+    (label_leads s named count loops remarks done k long small (omega (arith, all)))
 code_leads s named count loops remarks done (line ∷ lines) k long all small may from =
-    leads_to (λ d p. subst (λ (ls : List Line). Coded s named count loops ls (count + 1) d) (append_assoc done (line ∷ []) lines) p)
-    (behind (behind (label_leads s named count loops done k long small (omega (arith, all)))
-    (line_leads s named count loops done line (k + 1) remarks k (omega (arith, long, all)) (line_read named count line may.0 (λ p e. from p (or_left (names_from_line p line) (list_any (names_from_line p) lines) e)))))
+    leads_to (λ front d p. subst (λ (ls : List Line). Coded s named count loops remarks ls (count + 1) front d) (append_assoc done (line ∷ []) lines) p)
+    (behind (behind (label_leads s named count loops remarks done k long small (omega (arith, all)))
+    (line_leads s named count loops done line (k + 1) remarks k long (omega (arith, all)) (line_read named count line may.0 (λ p e. from p (or_left (names_from_line p line) (list_any (names_from_line p) lines) e)))))
     (code_leads s named count loops remarks (done ++ line ∷ []) lines (k + 1) (omega (arith, length-append done (line ∷ []), long)) (omega (arith, all)) small may.1 (λ p e. from p (or_right (names_from_line p line) (list_any (names_from_line p) lines) e))))

@@ -45,7 +45,7 @@ pub fn function_is_read_by_its_name()
 #[tactic(auto, using(crate::proofs::ReadBack::read_back))]
 pub fn written_program_is_read_back()
     ensures { (p : ProgramSaid) (remarks : Option Remarks) → MayBeWritten p →
-        (source : SourceSaid) × (source_of (text_of p remarks) ≡ Ok source) × IsSource p source }
+        (source : SourceSaid) × (source_of (text_of p remarks) ≡ Ok source) × IsSource p remarks source }
 {}
 
 /// A program that has an image may be written, where its operands have 32 bits, as each `i32` has.
@@ -60,6 +60,6 @@ pub fn disassembled_image_is_read_back()
     ensures { (image : ImageValue) (program : Program) (remarks : Option Remarks) →
         IsDisassembly image program → IsAssembly program image →
         (source : SourceSaid) × (source_of (text_of (program_said program) remarks) ≡ Ok source)
-        × IsSource (program_said program) source
+        × IsSource (program_said program) remarks source
         × ((again : Program) → program_said again ≡ source.program → IsAssembly again image) }
 {}
