@@ -169,7 +169,8 @@ function_read named count i bytes is fits may =
             ap (λ ws. line_said (first ∷ ws) d) (stated_placed n c bytes ps)
                 ∙ function_says n c bytes first w [] (entry i).function l d may (signed_word (entry i).operand) (no_keyword i) is.named
                 (number_operand _ first w (entry i).function (operand_at bytes + 1) bytes (entry i).operand i (nothing_behind n c bytes first w) (begins_signed (entry i).operand fits) (signed_is w (entry i).operand refl fits) is.made),
-            plain_drafted named count (Spelled (Plain i) bytes), refl,
+            plain_drafted named count (Spelled (Plain i) bytes),
+            refl,
           );
     }
 
@@ -200,7 +201,8 @@ operation_read named count i bytes is may = record {
         first,
         draft.Known (Spelled (Plain i) bytes),
         ap (λ ws. line_said (first ∷ ws) d) (stated_placed n c bytes []) ∙ operation_says n c bytes first i d may (no_keyword i) is.named is.found,
-        plain_drafted named count (Spelled (Plain i) bytes), refl,
+        plain_drafted named count (Spelled (Plain i) bytes),
+        refl,
       );
 }
 
@@ -251,7 +253,8 @@ jump_read named count to bytes within there may =
             ap (λ ws. line_said (first ∷ ws) d) (stated_placed n 10 bytes ps)
                 ∙ function_says n 10 bytes first w [] 0 (record { word = first; line = draft.Jump w bytes }) d may (label_word to) refl refl
                 (jump_operand _ n c (operand_at bytes + 1) to bytes (nothing_behind n 10 bytes first w)),
-            jump_drafted named count to bytes w refl within there, refl,
+            jump_drafted named count to bytes w refl within there,
+            refl,
           );
     }
 
@@ -272,7 +275,8 @@ cj_read named count to bytes within there may =
             ap (λ ws. line_said (first ∷ ws) d) (stated_placed n 11 bytes ps)
                 ∙ function_says n 11 bytes first w [] 10 (record { word = first; line = draft.Cj w bytes }) d may (label_word to) refl refl
                 (cj_operand _ n c (operand_at bytes + 1) to bytes (nothing_behind n 11 bytes first w)),
-            cj_drafted named count to bytes w refl within there, refl,
+            cj_drafted named count to bytes w refl within there,
+            refl,
           );
     }
 
@@ -316,7 +320,8 @@ distance_read named count from to bytes within' within there' there may =
             ap (λ ws. line_said (first ∷ ws) d) (stated_placed n 12 bytes ps)
                 ∙ function_says n 12 bytes first w (m ∷ v ∷ []) 4 (record { word = first; line = draft.Distance w v bytes }) d may (label_word to) refl refl
                 (distance_operand _ n c (c + length (label_text to) + 1) (operand_at bytes + 1) to v bytes (minus_here n 12 bytes first w m v) (from_here n 12 bytes first w m v) (end_here n 12 bytes first w m v)),
-            distance_drafted named count from to bytes v w refl refl within within' there there', refl,
+            distance_drafted named count from to bytes v w refl refl within within' there there',
+            refl,
           );
     }
 
@@ -347,7 +352,8 @@ byte_read named count byte small = record {
         w,
         draft.Known (Byte byte),
         not_labelled first w [] d refl ∙ byte_says n 9 w _ d (byte_said first n 14 (byte_text byte) byte (byte_is w byte refl (omega arith))),
-        plain_drafted named count (Byte byte), refl,
+        plain_drafted named count (Byte byte),
+        refl,
       );
 }
 

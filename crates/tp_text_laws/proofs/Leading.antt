@@ -42,12 +42,11 @@ behind {s} {t} {P} {Q} {R} f g = record {
       let n : ℕ = 1 + length front in
       let far : n + length f.lines ≡ 1 + length (front ++ f.lines) = omega (arith, length-append front f.lines) in
       let first = f.says front d p in
-      let second = g.says (front ++ f.lines) first.0 first.2 in
-      (
+      let second = g.says (front ++ f.lines) first.0 first.2 in (
         second.0,
         ap (λ ws. say ws d) (both n f.lines g.lines) ∙ ap (λ m. say (words_of_lines n f.lines ++ words_of_lines m g.lines) d) far
-        ∙ say-append (words_of_lines n f.lines) (words_of_lines (1 + length (front ++ f.lines)) g.lines) d
-        ∙ ap (λ r. then_read r (say (words_of_lines (1 + length (front ++ f.lines)) g.lines))) first.1 ∙ second.1,
+            ∙ say-append (words_of_lines n f.lines) (words_of_lines (1 + length (front ++ f.lines)) g.lines) d
+            ∙ ap (λ r. then_read r (say (words_of_lines (1 + length (front ++ f.lines)) g.lines))) first.1 ∙ second.1,
         subst (λ (ls : List (List ℕ)). R ls second.0) (append_assoc front f.lines g.lines) second.2,
       );
 }

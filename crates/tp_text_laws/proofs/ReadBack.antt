@@ -92,7 +92,7 @@ no_code s d named count loops remarks front no_lines no_numbers no_labels rowed 
       labels = none_below named count d.labels labels;
       few = omega (arith, ap length labels);
       told = ap labels_told labels;
-      numbers = subst (λ (ns : List ℕ). AreNumbers front ns []) (sym numbers) tt;
+      numbers = subst (λ (ns : List ℕ). AreNumbers front 0 ns []) (sym numbers) tt;
     }
 
 row_named : (p : ProgramSaid) (k : ℕ) → list_any (names_from_row k) p.loops ≡ true → is_named p k ≡ true
@@ -132,7 +132,7 @@ record HasProgram (p : ProgramSaid) (remarks : Option Remarks) (d : Said) : Type
   initial : d.initial ≡ p.initial
   begun : d.begun ≡ []
   locals : d.locals ≡ []
-  numbers : AreNumbers (lines (text_of p remarks)) d.numbers (written_lines remarks 0 p.lines)
+  numbers : AreNumbers (lines (text_of p remarks)) 0 d.numbers (written_lines remarks 0 p.lines)
   labels : labels_told d.labels ≡ labels_of p
   lines : each_read (line_placed d.labels) d.lines ≡ Ok p.lines
   loops : each_read (loop_placed d.labels d.start) d.rows ≡ Ok p.loops

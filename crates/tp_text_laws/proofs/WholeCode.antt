@@ -7,6 +7,7 @@ use Rattle.std.specs.Option.{option_map, option_or}
 use Rattle.std.specs.Fmt.{decimal}
 use Rattle.std.proofs.lemmas.Fmt.{decimal_injective, IsAscii-decimal}
 use Rattle.std.proofs.lemmas.Slice.Eq.{bytes_eq-Decides}
+use Rattle.std.proofs.lemmas.Option.{slice_get_within}
 use Rattle.std.proofs.lemmas.List.{append-nil, length-append}
 use Rattle.std.proofs.lemmas.List.Folds.{find-append, list_all-append}
 use Rattle.std.proofs.lemmas.Bool.Decides.{nat_tests}
@@ -115,7 +116,7 @@ pub record Coded (s : Said) (named : ℕ → Bool) (count : ℕ) (loops : List L
   pub labels : AreBelow named count below d.labels
   pub few : length d.labels ≤ below
   pub told : labels_told d.labels ≡ labels_below named below
-  pub numbers : AreNumbers front d.numbers (written_lines remarks 0 done)
+  pub numbers : AreNumbers front 0 d.numbers (written_lines remarks 0 done)
 
 a_label : (named : ℕ → Bool) (count k : ℕ) (w : Word) (d : Said) → count < most → w.text.now ≡ label_text k → k ≤ count → AreBelow named count k d.labels → length d.labels ≤ k
     → label_set w d ≡ Ok (record d { labels = d.labels ++ (record { word = w; place = length d.lines }) ∷ [] })
@@ -162,17 +163,22 @@ got_last : (front : List (List ℕ)) (t : List ℕ) → slice_get (front ++ t �
 got_last [] t = refl
 got_last (x ∷ front) t = got_last front t
 
-numbers_behind : (front more : List (List ℕ)) (ns : List ℕ) (ts : List (List ℕ)) → AreNumbers front ns ts → AreNumbers (front ++ more) ns ts
-numbers_behind front more [] [] are = tt
-numbers_behind front more [] (t ∷ ts) are = absurd are
-numbers_behind front more (n ∷ ns) [] are = absurd are
-numbers_behind front more (n ∷ ns) (t ∷ ts) are = (got_before front more (n - 1) t are.0, numbers_behind front more ns ts are.1)
+numbers_behind : (front more : List (List ℕ)) (before : ℕ) (ns : List ℕ) (ts : List (List ℕ)) → AreNumbers front before ns ts → AreNumbers (front ++ more) before ns ts
+numbers_behind front more before [] [] are = tt
+numbers_behind front more before [] (t ∷ ts) are = absurd are
+numbers_behind front more before (n ∷ ns) [] are = absurd are
+numbers_behind front more before (n ∷ ns) (t ∷ ts) are = (are.0, got_before front more (n - 1) t are.1, numbers_behind front more n ns ts are.2)
 
-one_number_more : (text : List (List ℕ)) (ns : List ℕ) (ts : List (List ℕ)) (n : ℕ) (t : List ℕ) → AreNumbers text ns ts → slice_get text (n - 1) ≡ Some t → AreNumbers text (ns ++ n ∷ []) (ts ++ t ∷ [])
-one_number_more text [] [] n t are is = (is, tt)
-one_number_more text [] (u ∷ ts) n t are is = absurd are
-one_number_more text (m ∷ ns) [] n t are is = absurd are
-one_number_more text (m ∷ ns) (u ∷ ts) n t are is = (are.0, one_number_more text ns ts n t are.1 is)
+one_number_more : (front : List (List ℕ)) (t : List ℕ) (before : ℕ) (ns : List ℕ) (ts : List (List ℕ)) (n : ℕ) → n ≡ 1 + length front → before ≤ length front → AreNumbers front before ns ts
+    → AreNumbers (front ++ t ∷ []) before (ns ++ n ∷ []) (ts ++ t ∷ [])
+one_number_more front t before [] [] n is low are =
+    let at_last : n - 1 ≡ length front = omega arith in
+    (omega arith, ap (slice_get (front ++ t ∷ [])) at_last ∙ got_last front t, tt)
+one_number_more front t before [] (u ∷ ts) n is low are = absurd are
+one_number_more front t before (m ∷ ns) [] n is low are = absurd are
+one_number_more front t before (m ∷ ns) (u ∷ ts) n is low are =
+    let within : m - 1 < length front = slice_get_within front (m - 1) u are.1 in
+    (are.0, got_before front (t ∷ []) (m - 1) u are.1, one_number_more front t m ns ts n is (omega arith) are.2)
 
 written-append : (remarks : Option Remarks) (k : ℕ) (done : List Line) (line : Line) → written_lines remarks k (done ++ line ∷ []) ≡ written_lines remarks k done ++ (line_text line ++ remark_behind remarks (k + length done)) ∷ []
 written-append remarks k [] line = ap (λ n. (line_text line ++ remark_behind remarks n) ∷ []) (omega arith)
@@ -182,14 +188,12 @@ written-append remarks k (l ∷ done) line =
     ∙ ap (λ n. (line_text l ++ remark_behind remarks k) ∷ (written_lines remarks (k + 1) done ++ (line_text line ++ remark_behind remarks n) ∷ [])) far
 
 number_more : (front : List (List ℕ)) (text : List ℕ) (remarks : Option Remarks) (done : List Line) (line : Line) (k n : ℕ) (ns : List ℕ) → length done ≡ k → n ≡ 1 + length front
-    → text ≡ line_text line ++ remark_behind remarks k → AreNumbers front ns (written_lines remarks 0 done) → AreNumbers (front ++ text ∷ []) (ns ++ n ∷ []) (written_lines remarks 0 (done ++ line ∷ []))
+    → text ≡ line_text line ++ remark_behind remarks k → AreNumbers front 0 ns (written_lines remarks 0 done) → AreNumbers (front ++ text ∷ []) 0 (ns ++ n ∷ []) (written_lines remarks 0 (done ++ line ∷ []))
 number_more front text remarks done line k n ns long number is are =
-    let at_last : n - 1 ≡ length front = omega arith in
     let here : 0 + length done ≡ k = omega arith in
     let same : written_lines remarks 0 (done ++ line ∷ []) ≡ written_lines remarks 0 done ++ text ∷ [] =
     written-append remarks 0 done line ∙ ap (λ i. written_lines remarks 0 done ++ (line_text line ++ remark_behind remarks i) ∷ []) here ∙ ap (λ t. written_lines remarks 0 done ++ t ∷ []) (sym is) in
-    subst (AreNumbers (front ++ text ∷ []) (ns ++ n ∷ [])) (sym same)
-    (one_number_more (front ++ text ∷ []) ns (written_lines remarks 0 done) n text (numbers_behind front (text ∷ []) ns (written_lines remarks 0 done) are) (ap (slice_get (front ++ text ∷ [])) at_last ∙ got_last front text))
+    subst (AreNumbers (front ++ text ∷ []) 0 (ns ++ n ∷ [])) (sym same) (one_number_more front text 0 ns (written_lines remarks 0 done) n number (omega arith) are)
 
 named_leads : (s : Said) (named : ℕ → Bool) (count : ℕ) (loops : List Loop) (remarks : Option Remarks) (done : List Line) (k : ℕ) → length done ≡ k → count < most → k ≤ count → named k ≡ true
     → Leads (as_line (label_text k ++ codes ":")) (Coded s named count loops remarks done k) (Coded s named count loops remarks done (k + 1))
@@ -212,7 +216,7 @@ named_leads s named count loops remarks done k long small within there =
         few = omega (arith, length-append d.labels (l ∷ []), p.few);
         told = told_more named k d.labels (d.labels ++ l ∷ []) p.told
             (told-append d.labels l ∙ ap (λ ls. labels_told d.labels ++ ls) (one_told w k (length d.lines) (omega arith) refl (p.long ∙ long) ∙ ap (λ t. if t then label_at k ∷ [] else []) (sym there)));
-        numbers = numbers_behind front ((label_text k ++ codes ":") ∷ []) d.numbers (written_lines remarks 0 done) p.numbers;
+        numbers = numbers_behind front ((label_text k ++ codes ":") ∷ []) 0 d.numbers (written_lines remarks 0 done) p.numbers;
       },
     ))
 

@@ -1,5 +1,5 @@
 -- What a program's text is read as.
-use Rattle.std.specs.Prelude.{◌≡◌, ℕ, zero, suc, ◌+◌, ◌-◌, Bool, if◌then◌else◌, List, [], ◌∷◌, ◌++◌, length, slice_get, Option, Some}
+use Rattle.std.specs.Prelude.{◌≡◌, ℕ, zero, suc, ◌+◌, ◌-◌, ◌<◌, Bool, if◌then◌else◌, List, [], ◌∷◌, ◌++◌, length, slice_get, Option, Some}
 use Rattle.std.specs.Str.Lines.{lines}
 use Rattle.tp_assembly.specs.declared.program.Line.{Line}
 use Rattle.tp_assembly_text.specs.declared.remarks.Remarks.{Remarks}
@@ -23,17 +23,18 @@ abbrev pub written_lines : Option Remarks → ℕ → List Line → List (List �
 written_lines remarks number [] = []
 written_lines remarks number (line ∷ more) = (line_text line ++ behind remarks number) ∷ written_lines remarks (number + 1) more
 
--- these are numbers of these lines of a text; the first line of a text is line 1
-abbrev pub AreNumbers : List (List ℕ) → List ℕ → List (List ℕ) → Type 0
-AreNumbers text [] [] = Unit {0}
-AreNumbers text [] (line ∷ more) = ⊥
-AreNumbers text (n ∷ numbers) [] = ⊥
-AreNumbers text (n ∷ numbers) (line ∷ more) = (slice_get text (n - 1) ≡ Some line) × AreNumbers text numbers more
+-- these are the numbers of these lines of a text, in their order, each above the one before; the first line of a text is line 1
+abbrev pub AreNumbers : List (List ℕ) → ℕ → List ℕ → List (List ℕ) → Type 0
+AreNumbers text before [] [] = Unit {0}
+AreNumbers text before [] (line ∷ more) = ⊥
+AreNumbers text before (n ∷ numbers) [] = ⊥
+AreNumbers text before (n ∷ numbers) (line ∷ more) =
+    (before < n) × (slice_get text (n - 1) ≡ Some line) × AreNumbers text n numbers more
 
 -- a source is that of a program's text: the program, for each of its lines the number of the line that is written for it, the
 -- labels, and no names of local words
 pub record IsSource (p : ProgramSaid) (remarks : Option Remarks) (source : SourceSaid) : Type 0 where
   pub program : source.program ≡ p
-  pub numbers : AreNumbers (lines (text_of p remarks)) source.numbers (written_lines remarks 0 p.lines)
+  pub numbers : AreNumbers (lines (text_of p remarks)) 0 source.numbers (written_lines remarks 0 p.lines)
   pub labels : source.labels ≡ labels_of p
   pub locals : source.locals ≡ []
