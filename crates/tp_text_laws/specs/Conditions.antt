@@ -44,11 +44,8 @@ MayBeLine count (Spelled operation bytes) = MayBeOperation count operation × Ma
 
 -- the operand of an instruction is one of 32 bits, as each operand in a program of the code
 abbrev pub HasOperand : Line → Type 0
-HasOperand (Byte byte) = Unit {0}
 HasOperand (Spelled (Plain i) bytes) = FitsSigned w32 (entry i).operand
-HasOperand (Spelled (JumpTo to) bytes) = Unit {0}
-HasOperand (Spelled (CjTo to) bytes) = Unit {0}
-HasOperand (Spelled (Distance from to) bytes) = Unit {0}
+HasOperand line = Unit {0}
 
 -- each number is as small as a text may have it. Each place may have a label, so there are fewer lines than labels
 pub record MayBeWritten (p : ProgramSaid) : Type 0 where
