@@ -4,7 +4,7 @@ use Rattle.std.specs.List.{list_all}
 use Rattle.std.specs.Fmt.{decimal, signed_decimal, digits, digits_onto, digit_glyph}
 use Rattle.std.proofs.lemmas.Bool.Decides.{nat_tests}
 use Rattle.tp_decode.specs.declared.instr.Instr.{Instr}
-use Rattle.tp_decode.specs.declared.instr.Instr.TheVariants.{Jump, Ldlp, Ldnl, Ldc, Ldnlp, Ldl, Adc, Cj, Ajw, Eqc, Stl, Stnl, Rev, Lb, Bsub, Diff, Add, Input, Prod, Gt, Wsub, Output, Sub, Seterr, Csub0, Stopp, Rem, Lend, Div, BitNot, BitXor, Sb, Shr, Shl, Mint, BitAnd, MoveBytes, BitOr, Sum, Mul}
+use Rattle.tp_decode.specs.declared.instr.Instr.TheVariants.{Jump}
 use Rattle.tp_decode.specs.Table.{entry}
 use Rattle.tp_assembly_text.specs.Words.{is_plain, begins, before_comment}
 use Rattle.tp_assembly_text.proofs.Tokens.{both_true}
@@ -133,42 +133,4 @@ name_word i = literal_word (entry i).name (by i)
   where
     by : (i : Instr) → is_literal (entry i).name ≡ true
     by (Jump n) = refl
-    by (Ldlp n) = refl
-    by (Ldnl n) = refl
-    by (Ldc n) = refl
-    by (Ldnlp n) = refl
-    by (Ldl n) = refl
-    by (Adc n) = refl
-    by (Cj n) = refl
-    by (Ajw n) = refl
-    by (Eqc n) = refl
-    by (Stl n) = refl
-    by (Stnl n) = refl
-    by Rev = refl
-    by Lb = refl
-    by Bsub = refl
-    by Diff = refl
-    by Add = refl
-    by Input = refl
-    by Prod = refl
-    by Gt = refl
-    by Wsub = refl
-    by Output = refl
-    by Sub = refl
-    by Seterr = refl
-    by Csub0 = refl
-    by Stopp = refl
-    by Rem = refl
-    by Lend = refl
-    by Div = refl
-    by BitNot = refl
-    by BitXor = refl
-    by Sb = refl
-    by Shr = refl
-    by Shl = refl
-    by Mint = refl
-    by BitAnd = refl
-    by MoveBytes = refl
-    by BitOr = refl
-    by Sum = refl
-    by Mul = refl
+    by i = refl

@@ -7,6 +7,7 @@ use Rattle.std.specs.Str.{str_eq_ignore_ascii_case}
 use Rattle.std.specs.Fmt.{decimal, digits}
 use Rattle.std.proofs.lemmas.Fmt.{decimal_digit}
 use Rattle.std.proofs.lemmas.List.{append-nil, length-append}
+use Rattle.std.proofs.lemmas.Int.{of_z-to_z}
 use Rattle.std.proofs.lemmas.Bool.Decides.{nat_tests}
 use Rattle.tp_image.specs.declared.image.Version.{Version}
 use Rattle.tp_image.specs.declared.image.Version.TheVariants.{One, Two}
@@ -28,7 +29,7 @@ use Rattle.tp_assembly_text.specs.Programs.{ProgramSaid}
 use Rattle.tp_assembly_text.specs.Written.{as_line, initial_text, sizes_text, version_text}
 use Rattle.tp_assembly_text.proofs.Tokens.{both_true}
 use Rattle.tp_text_laws.proofs.Bytes.{IsWord, is_literal, literal_word, decimal_word, hexadecimal_word, digits_inner}
-use Rattle.tp_text_laws.proofs.Numbers.{count_is, hexadecimal_is, same_word}
+use Rattle.tp_text_laws.proofs.Numbers.{count_is, hexadecimal_is}
 use Rattle.tp_text_laws.proofs.Pieces.{Piece, Gap, Of, Mark, write, placed, AreApart, no_tail}
 use Rattle.tp_text_laws.proofs.Leading.{Leads, nothing, behind, leads_to, a_line}
 
@@ -151,7 +152,7 @@ initial_leads s i word long few small =
     let v : InitialWord = value_of value (cast_signed w32 word) in
     let values : list_said initial_word_said colon (value ∷ []) ≡ Ok (v ∷ []) = values_said colon line _ (digits 16 false word) _ (hexadecimal_is value word refl small) in
     let said : initial_said (first ∷ at ∷ colon ∷ value ∷ []) first ≡ Ok (SetsInitial at i (v ∷ [])) = init_said first at colon value i _ refl (omega arith) (colon_said first at value line _) values in
-    let adds : initials_added at i (v ∷ []) s ≡ Ok (record s { initial = s.initial ++ word ∷ [] }) = an_initial at v s i long (omega arith) ∙ ap (λ w. Ok (record s { initial = s.initial ++ w ∷ [] })) (same_word word small) in (
+    let adds : initials_added at i (v ∷ []) s ≡ Ok (record s { initial = s.initial ++ word ∷ [] }) = an_initial at v s i long (omega arith) ∙ ap (λ w. Ok (record s { initial = s.initial ++ w ∷ [] })) (of_z-to_z w32 word small) in (
       record s { initial = s.initial ++ word ∷ [] },
       not_labelled first at (colon ∷ value ∷ []) d (other_word (decimal i) 58 (decimal_word i) refl) ∙ ap (unlabelled (first ∷ at ∷ colon ∷ value ∷ [])) is
           ∙ keyword_says first (at ∷ colon ∷ value ∷ []) keyword.Init (SetsInitial at i (v ∷ [])) s _ refl said adds,

@@ -32,9 +32,6 @@ signed_is w z is fits = number_is w z (ap signed_said is ∙ signed_back z fits)
 unsigned_is : (n : ℕ) → n < 2 ^ 32 → cast_unsigned w32 (pos n) ≡ n
 unsigned_is n small = omega (arith, ints)
 
-word_is : (n : ℕ) → n < 2 ^ 32 → cast_unsigned w32 (cast_signed w32 n) ≡ n
-word_is n small = of_z-to_z w32 n small
-
 is_within : (w : Word) (most n : ℕ) → n ≤ most → within w most n ≡ Ok n
 is_within w most n few =
     let le : nat_le n most ≡ true = grind (arith, nat_tests) in
@@ -74,9 +71,6 @@ hexadecimal_is w n is small =
     let numeral = digits_is_IsNumeral 16 false (omega arith) (omega arith) n (omega arith) in
     number_is w (cast_signed w32 n) (ap signed_said is ∙ hexadecimal (digits 16 false n) n numeral.0 numeral.1 small)
 
-pub same_word : (n : ℕ) → n < 2 ^ 32 → cast_unsigned w32 (cast_signed w32 n) ≡ n
-same_word n small = word_is n small
-
 glyph_value : (d : ℕ) → d < 16 → digit_value (digit_glyph false d) ≡ d
 glyph_value d h = grind (arith, nat_tests)
 
@@ -107,7 +101,7 @@ byte_numeral n h = subst (λ (ds : List ℕ). IsNumeral 16 ds × (digits_value 1
 pub byte_is : (w : Word) (n : ℕ) → w.text.now ≡ 35 ∷ byte_text n → n < 256 → count_read 255 w ≡ Ok n
 byte_is w n is small =
     let numeral = byte_numeral n small in
-    count_of w 255 n (cast_signed w32 n) (ap signed_said is ∙ hexadecimal (byte_text n) n numeral.0 numeral.1 (omega arith)) (word_is n (omega arith)) (omega arith)
+    count_of w 255 n (cast_signed w32 n) (ap signed_said is ∙ hexadecimal (byte_text n) n numeral.0 numeral.1 (omega arith)) (of_z-to_z w32 n (omega arith)) (omega arith)
 
 glyphs_inner : (n : ℕ) → n < 256 → list_all is_inner (glyphs n) ≡ true
 unfolding glyphs
