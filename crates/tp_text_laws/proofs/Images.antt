@@ -1,5 +1,5 @@
 -- A program that has an image may be written.
-use Rattle.std.proofs.Common.{◌≡◌, ℕ, ◌+◌, ◌<◌, ◌≤◌, ◌^◌, Bool, true, false, if◌then◌else◌, List, [], ◌∷◌, ◌++◌, length, map, Option, Some, None, unwrap_or, refl, ap, ◌∙◌, subst, arith}
+use Rattle.std.proofs.Common.{zero, suc, length-append, if◌then◌else◌, ◌≡◌, ℕ, ◌+◌, ◌<◌, ◌≤◌, ◌^◌, Bool, true, false, List, [], ◌∷◌, ◌++◌, length, map, Option, Some, None, unwrap_or, refl, ap, ◌∙◌, subst, arith}
 use Rattle.std.specs.List.{concat, AllByRecursion}
 use Rattle.std.proofs.lemmas.List.{length-map}
 use Rattle.std.proofs.lemmas.List.Elements.{recursion_from_All}
@@ -21,6 +21,8 @@ use Rattle.tp_assembly.specs.Layout.{addresses_from, spelled_at, spelled_from}
 use Rattle.tp_assembly.specs.Faults.{line_fault, operation_fault, first_fault, is_behind, is_row_behind, first_row, is_stated, first_narrow}
 use Rattle.tp_assembly.specs.Assembly.{address_of, row_of, IsAssembly}
 use Rattle.tp_assembly.proofs.LayoutLemmas.{way_is, operation_sound, sound_first, line_some, ones_sum}
+use Rattle.tp_assembly_text.specs.Written.{is_named}
+use Rattle.tp_text_laws.specs.Sources.{label_at, labels_below}
 use Rattle.tp_assembly_text.specs.Programs.{program_said}
 use Rattle.tp_text_laws.specs.Conditions.{MayBeSpot, MayBeRow, MayBeOperation, MayBeStated, MayBeLine, HasOperand, MayBeWritten}
 use Rattle.tp_text_laws.proofs.Tests.{or_false}
@@ -107,6 +109,14 @@ initial_most : (v : Version) (n : ℕ) → most_initial v n ≤ n
 initial_most One n = omega arith
 initial_most Two n = omega arith
 
+labels_most : (named : ℕ → Bool) (n : ℕ) → length (labels_below named n) ≤ n
+labels_most named zero = omega arith
+labels_most named (suc n) = omega (arith, labels_most named n, length-append (labels_below named n) (if named n then label_at n ∷ [] else []), one_most (named n))
+  where
+    one_most : (t : Bool) → length (if t then label_at n ∷ [] else []) ≤ 1
+    one_most true = omega arith
+    one_most false = omega arith
+
 pub image_may : (program : Program) (image : ImageValue) → IsAssembly program image → AllByRecursion HasOperand program.lines.items → MayBeWritten (program_said program)
 image_may program image is has =
     let lines = program.lines.items in
@@ -120,6 +130,7 @@ image_may program image is has =
     let loops : image.loops ≡ map (row_of (addresses_from 0 lengths)) program.loops.items = ap (λ (i : ImageValue). i.loops) is.said in
     let code : image.code ≡ concat (spelled_from (addresses_from 0 lengths) 0 lines) = ap (λ (i : ImageValue). i.code) is.said in
     let layout = is.laid_out.layout.least.layout in
+    let few_lines : length lines ≤ 8192 = omega (arith, ones_sum lines lengths layout, is.laid_out.layout.short, code_most program.version) in
     let few : image.workspace ≤ 512 = omega (arith, range.workspace.1, workspace_most image.version) in
     record {
       workspace = omega arith;
@@ -130,7 +141,8 @@ image_may program image is has =
       loops = rows_may (addresses_from 0 lengths) (length lines) 0 program.loops.items is.laid_out.layout.places.rows (subst (AllByRecursion IsRow) loops (recursion_from_All IsRow image.loops range.rows));
       words = omega (arith, range.initial, initial_most image.version image.workspace, ap length initial);
       initial = subst (AllByRecursion (λ word. word < 2 ^ 32)) initial (recursion_from_All (λ word. word < 2 ^ 32) image.initial range.words);
-      count = omega (arith, ones_sum lines lengths layout, is.laid_out.layout.short, code_most program.version);
+      count = omega (arith, few_lines);
+      labels = omega (arith, few_lines, labels_most (is_named (program_said program)) (suc (length lines)));
       lines = lines_may (addresses_from 0 lengths) (length lines) 0 lines is.laid_out.layout.places.lines (ap (first_narrow 0 lines) layout ∙ is.laid_out.stated)
           (subst (AllByRecursion (λ byte. byte < 256)) code (recursion_from_All (λ byte. byte < 256) image.code range.bytes)) has;
     }

@@ -113,7 +113,7 @@ text_leads p remarks may =
     (behind (behind (version_leads p.version empty refl) (sizes_lead p _ may.workspace may.start may.packet may.result))
     (initials_lead _ 0 p.initial refl (omega (arith, may.words)) may.initial)))
     (rows_lead (fields_of p) (is_named p) (length p.lines) [] p.loops (omega (arith, may.rows)) may.loops (row_named p)))))
-    (code_leads (fields_of p) (is_named p) (length p.lines) p.loops remarks [] p.lines 0 refl (omega arith) may.count may.lines (line_named p))
+    (code_leads (fields_of p) (is_named p) (length p.lines) p.loops remarks [] p.lines 0 refl (omega arith) (record { lines = may.count; labels = may.labels }) may.lines (line_named p))
 
 said_of : (text : List ℕ) (Q : List (List ℕ) → Said → Type 0) → Leads text (Is empty) Q → (d : Said) × (text_said text ≡ Ok d) × Q (lines text) d
 unfolding text_said

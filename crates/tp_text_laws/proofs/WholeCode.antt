@@ -8,7 +8,7 @@ use Rattle.std.specs.Fmt.{decimal}
 use Rattle.std.proofs.lemmas.Fmt.{decimal_injective, IsAscii-decimal}
 use Rattle.std.proofs.lemmas.Slice.Eq.{bytes_eq-Decides}
 use Rattle.std.proofs.lemmas.Option.{slice_get_within}
-use Rattle.std.proofs.lemmas.List.{append-nil, length-append}
+use Rattle.std.proofs.lemmas.List.{length_push, append-nil, length-append}
 use Rattle.std.proofs.lemmas.List.Folds.{find-append, list_all-append}
 use Rattle.std.proofs.lemmas.Bool.Decides.{nat_tests}
 use Rattle.tp_assembly.specs.declared.program.Line.{Line}
@@ -79,7 +79,7 @@ same_test named k p other = ap (λ t. named p && t) (by (nat_lt p k) refl)
     by false e = sym (grind (arith, nat_tests, other))
 
 -- a place more: named, with its label, or not
-label_more : (named : ℕ → Bool) (count k : ℕ) (labels : List LabelName) (l : LabelName) → count < most → l.word.text.now ≡ label_text k → l.place ≡ k → k ≤ count → named k ≡ true
+label_more : (named : ℕ → Bool) (count k : ℕ) (labels : List LabelName) (l : LabelName) → count ≤ most → l.word.text.now ≡ label_text k → l.place ≡ k → k ≤ count → named k ≡ true
     → AreBelow named count k labels → AreBelow named count (k + 1) (labels ++ l ∷ [])
 label_more named count k labels l few is place within there are = λ w p names low.
     one_label_more labels l w ∙ ap (λ o. option_or o (if bytes_eq l.word.text.now w.text.now then Some l.place else None)) (are w p names low)
@@ -114,14 +114,14 @@ pub record Coded (s : Said) (named : ℕ → Bool) (count : ℕ) (loops : List L
   pub long : length d.lines ≡ length done
   pub placed : (labels : List LabelName) → AreLabels named count labels → each_read (line_placed labels) d.lines ≡ Ok done
   pub labels : AreBelow named count below d.labels
-  pub few : length d.labels ≤ below
+  pub few : length d.labels ≡ length (labels_below named below)
   pub told : labels_told d.labels ≡ labels_below named below
   pub numbers : AreNumbers front 0 d.numbers (written_lines remarks 0 done)
 
-a_label : (named : ℕ → Bool) (count k : ℕ) (w : Word) (d : Said) → count < most → w.text.now ≡ label_text k → k ≤ count → AreBelow named count k d.labels → length d.labels ≤ k
+a_label : (named : ℕ → Bool) (count k : ℕ) (w : Word) (d : Said) → w.text.now ≡ label_text k → k ≤ count → AreBelow named count k d.labels → length d.labels < most
     → label_set w d ≡ Ok (record d { labels = d.labels ++ (record { word = w; place = length d.lines }) ∷ [] })
 unfolding label_set
-a_label named count k w d small is within are few =
+a_label named count k w d is within are few =
     let below : nat_lt k k ≡ false = grind (arith, nat_tests) in
     let none : place_named d.labels w ≡ None = are w k is within ∙ ap (λ t. if named k && t then Some k else None) below ∙ ap (λ t. if t then Some k else None) (and_false (named k)) in
     let space : is_full d.labels ≡ false = grind (arith, nat_tests) in
@@ -152,6 +152,25 @@ one_told w k place few is same =
 told_more : (named : ℕ → Bool) (k : ℕ) (labels : List LabelName) (new : List LabelName) → labels_told labels ≡ labels_below named k → labels_told new ≡ labels_told labels ++ (if named k then label_at k ∷ [] else [])
     → labels_told new ≡ labels_below named (k + 1)
 told_more named k labels new told more = more ∙ ap (λ ls. ls ++ (if named k then label_at k ∷ [] else [])) told ∙ ap (labels_below named) (sym (add-one k))
+
+-- there are not too many lines, and not too many labels
+pub record HasRoom (named : ℕ → Bool) (count : ℕ) : Type 0 where
+  pub lines : count ≤ most
+  pub labels : length (labels_below named (suc count)) ≤ most
+
+fewer : (named : ℕ → Bool) (k n : ℕ) → k ≤ n → length (labels_below named k) ≤ length (labels_below named n)
+fewer named zero n low = omega arith
+fewer named (suc k) zero low = absurd (omega arith)
+fewer named (suc k) (suc n) low = by (suc k == suc n) refl
+    (fewer named (suc k) n) (omega (arith, length-append (labels_below named n) (if named n then label_at n ∷ [] else [])))
+  where
+    by : (t : Bool) → (suc k == suc n) ≡ t → (suc k ≤ n → length (labels_below named (suc k)) ≤ length (labels_below named n)) → length (labels_below named n) ≤ length (labels_below named (suc n))
+        → length (labels_below named (suc k)) ≤ length (labels_below named (suc n))
+    by true e go more = let same : suc k ≡ suc n = grind (arith, nat_tests) in omega (arith, ap (λ m. length (labels_below named m)) same)
+    by false e go more = let less : suc k ≤ n = grind (arith, nat_tests) in omega (arith, go less, more)
+
+one_more_label : (named : ℕ → Bool) (k : ℕ) → named k ≡ true → length (labels_below named (suc k)) ≡ length (labels_below named k) + 1
+one_more_label named k there = ap (λ t. length (labels_below named k ++ (if t then label_at k ∷ [] else []))) there ∙ length_push (labels_below named k) (label_at k)
 
 -- numbers of lines
 got_before : (front more : List (List ℕ)) (i : ℕ) (t : List ℕ) → slice_get front i ≡ Some t → slice_get (front ++ more) i ≡ Some t
@@ -195,32 +214,33 @@ number_more front text remarks done line k n ns long number is are =
     written-append remarks 0 done line ∙ ap (λ i. written_lines remarks 0 done ++ (line_text line ++ remark_behind remarks i) ∷ []) here ∙ ap (λ t. written_lines remarks 0 done ++ t ∷ []) (sym is) in
     subst (AreNumbers (front ++ text ∷ []) 0 (ns ++ n ∷ [])) (sym same) (one_number_more front text 0 ns (written_lines remarks 0 done) n number (omega arith) are)
 
-named_leads : (s : Said) (named : ℕ → Bool) (count : ℕ) (loops : List Loop) (remarks : Option Remarks) (done : List Line) (k : ℕ) → length done ≡ k → count < most → k ≤ count → named k ≡ true
+named_leads : (s : Said) (named : ℕ → Bool) (count : ℕ) (loops : List Loop) (remarks : Option Remarks) (done : List Line) (k : ℕ) → length done ≡ k → HasRoom named count → k ≤ count → named k ≡ true
     → Leads (as_line (label_text k ++ codes ":")) (Coded s named count loops remarks done k) (Coded s named count loops remarks done (k + 1))
 unfolding is_plain
 named_leads s named count loops remarks done k long small within there =
     alone (label_text k ++ codes ":") (Of (label_text k) ∷ Mark 58 ∷ []) refl (label_word k, (refl, (refl, tt))) (λ front d p.
     let n : ℕ = 1 + length front in
+    let more = one_more_label named k there in
     let w : Word = at n 1 (label_text k) in
     let l : LabelName = record { word = w; place = length d.lines } in
     let e : Said = record d { labels = d.labels ++ l ∷ [] } in (
       e,
-      label_line n k d e (a_label named count k w d small refl within p.labels p.few),
+      label_line n k d e (a_label named count k w d refl within p.labels (omega (arith, p.few, small.labels, more, fewer named (suc k) (suc count) (omega arith)))),
       record {
         fields = p.fields;
         rowed = p.rowed;
         is = ap (λ (x : Said). record x { labels = d.labels ++ l ∷ [] }) p.is;
         long = p.long;
         placed = p.placed;
-        labels = label_more named count k d.labels l small refl (p.long ∙ long) within there p.labels;
-        few = omega (arith, length-append d.labels (l ∷ []), p.few);
+        labels = label_more named count k d.labels l small.lines refl (p.long ∙ long) within there p.labels;
+        few = omega (arith, length-append d.labels (l ∷ []), p.few, more, ap (λ n. length (labels_below named n)) (add-one k));
         told = told_more named k d.labels (d.labels ++ l ∷ []) p.told
             (told-append d.labels l ∙ ap (λ ls. labels_told d.labels ++ ls) (one_told w k (length d.lines) (omega arith) refl (p.long ∙ long) ∙ ap (λ t. if t then label_at k ∷ [] else []) (sym there)));
         numbers = numbers_behind front ((label_text k ++ codes ":") ∷ []) 0 d.numbers (written_lines remarks 0 done) p.numbers;
       },
     ))
 
-label_leads : (s : Said) (named : ℕ → Bool) (count : ℕ) (loops : List Loop) (remarks : Option Remarks) (done : List Line) (k : ℕ) → length done ≡ k → count < most → k ≤ count
+label_leads : (s : Said) (named : ℕ → Bool) (count : ℕ) (loops : List Loop) (remarks : Option Remarks) (done : List Line) (k : ℕ) → length done ≡ k → HasRoom named count → k ≤ count
     → Leads (label_there (named k) k) (Coded s named count loops remarks done k) (Coded s named count loops remarks done (k + 1))
 unfolding label_there
 label_leads s named count loops remarks done k long small within = by (named k) refl
@@ -234,7 +254,7 @@ label_leads s named count loops remarks done k long small within = by (named k) 
       long = p.long;
       placed = p.placed;
       labels = no_label_more named count k d.labels none p.labels;
-      few = omega (arith, p.few);
+      few = p.few ∙ sym (ap (λ n. length (labels_below named n)) (add-one k) ∙ ap (λ t. length (labels_below named k ++ (if t then label_at k ∷ [] else []))) none ∙ ap length (append-nil (labels_below named k)));
       told = told_more named k d.labels d.labels p.told (sym (append-nil (labels_told d.labels)) ∙ ap (λ t. labels_told d.labels ++ (if t then label_at k ∷ [] else [])) (sym none));
       numbers = p.numbers;
     }) (nothing {P = Coded s named count loops remarks done k})
@@ -282,7 +302,7 @@ line_leads s named count loops done line below remarks k here few reads =
       },
     ))
 
-pub code_leads : (s : Said) (named : ℕ → Bool) (count : ℕ) (loops : List Loop) (remarks : Option Remarks) (done lines : List Line) (k : ℕ) → length done ≡ k → k + length lines ≡ count → count < most
+pub code_leads : (s : Said) (named : ℕ → Bool) (count : ℕ) (loops : List Loop) (remarks : Option Remarks) (done lines : List Line) (k : ℕ) → length done ≡ k → k + length lines ≡ count → HasRoom named count
     → AllByRecursion (MayBeLine count) lines → ((p : ℕ) → list_any (names_from_line p) lines ≡ true → named p ≡ true)
     → Leads (lines_text named remarks k lines) (Coded s named count loops remarks done k) (Coded s named count loops remarks (done ++ lines) (count + 1))
 code_leads s named count loops remarks done [] k long all small may from =
@@ -292,5 +312,5 @@ code_leads s named count loops remarks done [] k long all small may from =
 code_leads s named count loops remarks done (line ∷ lines) k long all small may from =
     leads_to (λ front d p. subst (λ (ls : List Line). Coded s named count loops remarks ls (count + 1) front d) (append_assoc done (line ∷ []) lines) p)
     (behind (behind (label_leads s named count loops remarks done k long small (omega (arith, all)))
-    (line_leads s named count loops done line (k + 1) remarks k long (omega (arith, all)) (line_read named count line may.0 (λ p e. from p (or_left (names_from_line p line) (list_any (names_from_line p) lines) e)))))
+    (line_leads s named count loops done line (k + 1) remarks k long (omega (arith, all, small.lines)) (line_read named count line may.0 (λ p e. from p (or_left (names_from_line p line) (list_any (names_from_line p) lines) e)))))
     (code_leads s named count loops remarks (done ++ line ∷ []) lines (k + 1) (omega (arith, length-append done (line ∷ []), long)) (omega (arith, all)) small may.1 (λ p e. from p (or_right (names_from_line p line) (list_any (names_from_line p) lines) e))))

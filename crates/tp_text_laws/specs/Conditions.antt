@@ -12,6 +12,7 @@ use Rattle.tp_assembly.specs.declared.program.Spot.TheVariants.{Place, Address}
 use Rattle.tp_assembly.specs.declared.program.Loop.{Loop}
 use Rattle.tp_assembly_text.specs.Limits.{most, most_words, most_count, most_bytes}
 use Rattle.tp_assembly_text.specs.Programs.{ProgramSaid}
+use Rattle.tp_text_laws.specs.Sources.{labels_of}
 
 -- a place among so many lines, or an address of 16 bits
 abbrev pub MayBeSpot : ℕ → Spot → Type 0
@@ -47,7 +48,7 @@ abbrev pub HasOperand : Line → Type 0
 HasOperand (Spelled (Plain i) bytes) = FitsSigned w32 (entry i).operand
 HasOperand line = Unit {0}
 
--- each number is as small as a text may have it. Each place may have a label, so there are fewer lines than labels
+-- each number is as small as a text may have it, and there are no more lines and labels than it may have
 pub record MayBeWritten (p : ProgramSaid) : Type 0 where
   pub workspace : p.workspace ≤ most_count
   pub start : p.start ≤ most_count
@@ -57,5 +58,6 @@ pub record MayBeWritten (p : ProgramSaid) : Type 0 where
   pub loops : AllByRecursion (MayBeRow (length p.lines)) p.loops
   pub words : length p.initial ≤ most_words
   pub initial : AllByRecursion (λ word. word < 2 ^ 32) p.initial
-  pub count : length p.lines < most
+  pub count : length p.lines ≤ most
+  pub labels : length (labels_of p) ≤ most
   pub lines : AllByRecursion (MayBeLine (length p.lines)) p.lines
