@@ -1,5 +1,5 @@
 -- A program's text is read back as that program.
-use Rattle.std.proofs.Common.{add-one, ◌≡◌, ℕ, ◌+◌, ◌-◌, ◌*◌, ◌^◌, min, max, ◌&&◌, nat_lt, Bool, true, false, if◌then◌else◌, List, [], ◌∷◌, ◌++◌, codes, length, take, Option, Some, None, Result, Ok, refl, ap, sym, ◌∙◌, subst, arith}
+use Rattle.std.proofs.Common.{inl, inr, Err, add-one, ◌≡◌, ℕ, ◌+◌, ◌-◌, ◌*◌, ◌^◌, min, max, ◌&&◌, nat_lt, Bool, true, false, if◌then◌else◌, List, [], ◌∷◌, ◌++◌, codes, length, take, Option, Some, None, Result, Ok, refl, ap, sym, ◌∙◌, subst, arith}
 use Rattle.std.specs.List.{list_any, flat_map}
 use Rattle.std.specs.Str.Lines.{lines}
 use Rattle.std.specs.Option.{unwrap_or}
@@ -11,7 +11,7 @@ use Rattle.tp_assembly_text.specs.declared.fault.SourceFault.{SourceFault}
 use Rattle.tp_assembly_text.specs.declared.draft.LabelName.{LabelName}
 use Rattle.tp_assembly_text.specs.declared.remarks.Remarks.{Remarks}
 use Rattle.tp_assembly_text.specs.declared.remarks.LoopRemark.{LoopRemark}
-use Rattle.tp_assembly_text.specs.Faults.{then_read, each_read}
+use Rattle.tp_assembly_text.specs.Faults.{then_read, each_read, IsRefusal, out_of_memory}
 use Rattle.tp_assembly_text.specs.Words.{before_comment, tokens}
 use Rattle.tp_assembly_text.specs.Drafts.{Said, empty, place_named}
 use Rattle.tp_assembly_text.specs.Grammar.{statement_said}
@@ -209,3 +209,14 @@ read_back p remarks may =
     let said = said_of (text_of p remarks) _ (text_leads p remarks may) in
     let source = source_is p remarks said.0 (has_program p remarks said.0 said.2) in
     (source.0, ap (λ r. then_read r finished) said.1 ∙ source.1, source.2)
+
+abbrev read : SourceSaid → Result SourceSaid SourceFault
+read source = Ok source
+
+-- nothing else is refused of it
+pub refused_for_memory : (p : ProgramSaid) (remarks : Option Remarks) → MayBeWritten p → (e : SourceFault) → IsRefusal (source_of (text_of p remarks)) e → e ≡ out_of_memory
+refused_for_memory p remarks may e (inl is) = is
+refused_for_memory p remarks may e (inr is) =
+    let back = read_back p remarks may in
+    let none : read back.0 ≡ Err e = sym back.1 ∙ is in
+    cc

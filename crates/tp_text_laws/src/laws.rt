@@ -10,6 +10,8 @@ ghost use Rattle.tp_assembly.specs.declared.program.Program.{Program};
 ghost use Rattle.tp_assembly.specs.Assembly.{IsAssembly};
 ghost use Rattle.tp_assembly.specs.Labelling.{IsDisassembly};
 ghost use Rattle.tp_assembly_text.specs.declared.remarks.Remarks.{Remarks};
+ghost use Rattle.tp_assembly_text.specs.declared.fault.SourceFault.{SourceFault};
+ghost use Rattle.tp_assembly_text.specs.Faults.{IsRefusal, out_of_memory};
 ghost use Rattle.tp_assembly_text.specs.Names.{function_named, operation_named};
 ghost use Rattle.tp_assembly_text.specs.Numbers.{natural_said, signed_said};
 ghost use Rattle.tp_assembly_text.specs.Programs.{ProgramSaid, SourceSaid, program_said};
@@ -41,11 +43,12 @@ pub fn function_is_read_by_its_name()
 {}
 
 /// The text of a program that may be written, with any remarks or none, is read back as that program, with the labels of the
-/// places that it names and no names of local words.
-#[tactic(auto, using(crate::proofs::ReadBack::read_back))]
+/// places that it names and no names of local words. So reading it is refused for want of memory alone.
 pub fn written_program_is_read_back()
-    ensures { (p : ProgramSaid) (remarks : Option Remarks) → MayBeWritten p →
+    ensures read { (p : ProgramSaid) (remarks : Option Remarks) → MayBeWritten p →
         (source : SourceSaid) × (source_of (text_of p remarks) ≡ Ok source) × IsSource p remarks source }
+    ensures refused { (p : ProgramSaid) (remarks : Option Remarks) → MayBeWritten p →
+        (e : SourceFault) → IsRefusal (source_of (text_of p remarks)) e → e ≡ out_of_memory }
 {}
 
 /// A program that has an image may be written, where its operands have 32 bits, as each `i32` has.
