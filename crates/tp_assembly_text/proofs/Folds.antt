@@ -16,7 +16,7 @@ use Rattle.tp_assembly_text.proofs.Apart.{kept}
 use Rattle.tp_assembly_text.proofs.Additions.{a_line}
 
 -- the words of lines, of a line and of those behind it
-both : (number : ℕ) (lines more : List (List ℕ)) → words_of_lines number (lines ++ more) ≡ words_of_lines number lines ++ words_of_lines (number + length lines) more
+pub both : (number : ℕ) (lines more : List (List ℕ)) → words_of_lines number (lines ++ more) ≡ words_of_lines number lines ++ words_of_lines (number + length lines) more
 both number [] more = ap (λ n. words_of_lines n more) (omega arith)
 both number (line ∷ lines) more =
     let far : number + 1 + length lines ≡ number + length (line ∷ lines) = omega arith in
@@ -30,10 +30,10 @@ words_on lines k line more long =
     both 1 lines (line ∷ more) ∙ ap (λ n. words_of_lines 1 lines ++ words_of_lines n (line ∷ more)) here
 
 -- what words say to a draft, and those behind them
-abbrev say : List (List Token) → Said → Result Said SourceFault
+abbrev pub say : List (List Token) → Said → Result Said SourceFault
 say words d = in_turn line_said (map (map word_for) words) d
 
-say-append : (words more : List (List Token)) (d : Said) → say (words ++ more) d ≡ then_read (say words d) (say more)
+pub say-append : (words more : List (List Token)) (d : Said) → say (words ++ more) d ≡ then_read (say words d) (say more)
 unfolding in_turn
 say-append [] more d = refl
 say-append (line ∷ words) more d = by (line_said (map word_for line) d) (λ e. say-append words more e)

@@ -1,5 +1,5 @@
 pub mod Tokens
-mod Digits
+pub mod Digits
 pub mod Parts
 pub mod Turns
 pub mod Folds
@@ -8,4 +8,3 @@ mod Apart
 mod Additions
 mod Finished
 pub mod Written
-pub mod ReadBack

@@ -7,7 +7,6 @@ mod fault;
 mod finish;
 mod instructions;
 mod keyword;
-pub mod laws;
 mod lists;
 mod mnemonics;
 mod number;

@@ -1,5 +1,5 @@
 -- Numbers are read as they are written.
-use Rattle.std.proofs.Common.{◌≡◌, ℕ, suc, ◌<◌, ◌^◌, ◌&&◌, nat_eq, nat_le, ℤ, pos, negsuc, Bool, true, false, if◌then◌else◌, List, [], ◌∷◌, codes, Some, refl, ap, ◌∙◌, arith}
+use Rattle.std.proofs.Common.{◌≡◌, ℕ, suc, ◌<◌, ◌^◌, nat_eq, nat_le, ℤ, pos, negsuc, Bool, true, false, if◌then◌else◌, List, [], ◌∷◌, codes, Some, refl, ap, ◌∙◌, arith}
 use Rattle.std.specs.List.{starts_with}
 use Rattle.std.specs.Int.{w32, cast_signed}
 use Rattle.std.specs.Char.{digit_value}
@@ -12,6 +12,7 @@ use Rattle.std.proofs.lemmas.Int.{ints}
 use Rattle.std.proofs.lemmas.Bool.Decides.{nat_tests}
 use Rattle.tp_assembly_text.specs.Numbers.{natural_said, signed_said, negative}
 use Rattle.tp_assembly_text.proofs.Digits.{numeral_said}
+use Rattle.tp_text_laws.proofs.Tests.{and_false}
 
 -- a digit of ten is none of # - x
 is_no_sharp : (b : ℕ) → digit_value b < 10 → nat_eq 35 b ≡ false
@@ -22,10 +23,6 @@ is_no_minus b h = grind (arith, nat_tests)
 
 is_no_x : (b : ℕ) → digit_value b < 10 → nat_eq 120 b ≡ false
 is_no_x b h = grind (arith, nat_tests)
-
-and_false : (x : Bool) → (x && false) ≡ false
-and_false true = refl
-and_false false = refl
 
 third : {A : Type 0} (p q : Bool) (x y z : A) → p ≡ false → q ≡ false → (if p then x else if q then y else z) ≡ z
 third false false x y z e e' = refl

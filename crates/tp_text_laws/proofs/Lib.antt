@@ -1,0 +1,15 @@
+pub mod Tests
+pub mod ReadNumbers
+pub mod Bytes
+pub mod TextLines
+pub mod Pieces
+pub mod Leading
+pub mod Numbers
+pub mod Fields
+pub mod Rows
+pub mod InstructionNames
+pub mod CodeLines
+pub mod WholeCode
+pub mod ReadBack
+pub mod Images
+pub mod Disassembled
