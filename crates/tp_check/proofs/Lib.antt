@@ -25,4 +25,4 @@ mod Two
 mod Verdict
 mod Counting
 mod Keeping
-mod LastQuiet
+pub mod LastQuiet

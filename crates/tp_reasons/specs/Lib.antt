@@ -2,3 +2,4 @@ pub mod FirstRefusals
 pub mod CostsTold
 pub use Rattle.tp_check.specs.Passes
 pub use Rattle.tp_state.specs.After
+pub use Rattle.tp_check.specs.NearRefusal
