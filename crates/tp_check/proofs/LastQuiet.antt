@@ -1,5 +1,5 @@
 -- Where the passes stand before one of them refuses.
-use Rattle.std.proofs.Common.{◌≡◌, ℕ, zero, suc, ◌+◌, ◌-◌, ◌<◌, ◌≤◌, ◌^◌, ◌⊎◌, inl, inr, ◌==◌, if◌then◌else◌, Bool, true, false, List, length, Option, Some, None, Result, Ok, Err, refl, sym, ap, ◌∙◌, subst, arith, add-one}
+use Rattle.std.proofs.Common.{◌≡◌, ℕ, zero, suc, ◌+◌, ◌-◌, ◌<◌, ◌≤◌, ◌^◌, ◌⊎◌, inl, inr, ◌==◌, if◌then◌else◌, Bool, true, false, List, Some, None, Result, Ok, Err, refl, sym, ap, ◌∙◌, subst, arith, add-one}
 use mathlib.Core.Path.{fun_ext}
 use Rattle.std.proofs.lemmas.Bool.Decides.{Decides-eqb}
 use Rattle.std.specs.List.{AllByRecursion}
@@ -13,8 +13,8 @@ use Rattle.tp_state.specs.declared.fault.StateFault.TheVariants.{Refused, Memory
 use Rattle.tp_state.specs.Answer.{◌>>=◌}
 use Rattle.tp_state.specs.Entry.{entry}
 use Rattle.tp_check.specs.declared.passes.Passes.{Passes}
-use Rattle.tp_check.specs.Tables.{Table, table_of, HasPlacedStates}
-use Rattle.tp_check.specs.Passes.{edges_in, first_table, pass, passes, IsVerdict}
+use Rattle.tp_check.specs.Tables.{Table, table_of}
+use Rattle.tp_check.specs.Passes.{edges_in, first_table, pass, passes}
 use Rattle.tp_check.specs.Carried.{over, only_joins}
 use Rattle.tp_check.specs.UnderWay.{AreJoins, IsBefore, Carries, Moves}
 use Rattle.tp_check.specs.NearRefusal.{IsNearRefusal, IsLastQuiet, IsJoined, RefusesNothing}

@@ -1,5 +1,5 @@
 -- Where the passes stand before one of them refuses.
-use Rattle.std.specs.Prelude.{◌≡◌, ℕ, suc, ◌+◌, ◌<◌, ◌^◌, Bool, List, ◌⊎◌, Ok, Err}
+use Rattle.std.specs.Prelude.{◌≡◌, ℕ, ◌+◌, ◌<◌, ◌^◌, Bool, List, ◌⊎◌, Ok, Err}
 use Rattle.tp_decode.specs.Cutting.{Cut}
 use Rattle.tp_image.specs.Image.{ImageValue}
 use Rattle.tp_state.specs.declared.fault.StateFault.{StateFault}

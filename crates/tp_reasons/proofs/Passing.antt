@@ -1,6 +1,5 @@
 -- The passes, one edge and one pass after another.
-use Rattle.std.proofs.Common.{◌≡◌, ℕ, zero, suc, ◌+◌, ◌-◌, ◌<◌, ◌≤◌, ◌⊎◌, inl, inr, Bool, true, false, List, [], ◌∷◌, ◌++◌, length, Option, Some, Ok, Err, Result, refl, sym, ap, ◌∙◌, subst, arith}
-use native.Mathlib.Numerals.{unary_clauses}
+use Rattle.std.proofs.Common.{◌≡◌, ℕ, zero, suc, ◌+◌, ◌<◌, ◌⊎◌, inl, inr, Bool, List, [], ◌∷◌, ◌++◌, length, Option, Some, Ok, Err, Result, refl, sym, ap, ◌∙◌, subst, arith}
 use Rattle.std.specs.List.{flat_map}
 use Rattle.std.proofs.Common.{take, drop, slice_get, slice_index_or, add-one}
 use Rattle.std.proofs.Math.Seq.{take-suc, split_at}
@@ -22,7 +21,7 @@ use Rattle.tp_check.specs.UnderWay.{Gives}
 use Rattle.tp_check.specs.Tables.{Table}
 use Rattle.tp_check.specs.Passes.{go_along, along, pass, passes}
 use Rattle.tp_reasons.specs.declared.refusal.EdgeRefusal.{EdgeRefusal}
-use Rattle.tp_check.specs.Tables.{table_of, HasPlacedStates}
+use Rattle.tp_check.specs.Tables.{table_of}
 use Rattle.tp_check.specs.Passes.{edges_in, IsVerdict}
 use Rattle.tp_check.specs.NearRefusal.{IsNearRefusal}
 use Rattle.tp_check.proofs.PassLemmas.{ok_first}
@@ -32,12 +31,8 @@ use Rattle.tp_check.proofs.Passing.{may_be_taken}
 use Rattle.tp_check.proofs.Places.{stands_at}
 use Rattle.tp_flow.specs.NestKept.{KeepsNest}
 use Rattle.tp_flow.specs.RowRules.{is_start}
-use Rattle.tp_image.specs.Image.{InRange}
-use Rattle.tp_rules.proofs.SoundJoins.{entry_sound}
-use Rattle.tp_state.specs.Conditions.{IsPlaced}
-use Rattle.tp_state.specs.Entry.{entry}
-use Rattle.std.proofs.Common.{◌==◌, ◌^◌, if◌then◌else◌, IsTrue, None}
-use Rattle.std.proofs.lemmas.Option.{same_Some, slice_get-get_or}
+use Rattle.std.proofs.Common.{IsTrue}
+use Rattle.std.proofs.lemmas.Option.{slice_get-get_or}
 use Rattle.tp_reasons.specs.declared.refusal.FirstRefusal.{FirstRefusal}
 use Rattle.tp_reasons.specs.FirstRefusals.{IsRefusedAmong, IsFirstRefusal}
 

@@ -1,5 +1,4 @@
 use Rattle.std.proofs.Common.{◌≡◌, subst, arith}
-use Rattle.tp_check.specs.Tables.{table_of}
 use Rattle.tp_check.specs.Joining.{joins_at}
 use Rattle.tp_check.proofs.Verdict.{IsAfter, none_made}
 use Rattle.tp_check.proofs.LastQuiet.{next_after, is_quiet, is_joined, refused_so}

@@ -1,6 +1,5 @@
 use Rattle.std.proofs.Common.{◌≡◌, ◌-◌, subst, arith}
 use Rattle.std.specs.Prelude.{IfSome}
-use Rattle.tp_check.specs.Tables.{table_of}
 use Rattle.tp_check.specs.Joining.{joins_at}
 use Rattle.tp_check.specs.NearRefusal.{IsLastQuiet}
 use Rattle.tp_check.proofs.LastQuiet.{before_last, is_near}

@@ -1,5 +1,4 @@
 use Rattle.std.proofs.Common.{arith}
-use Rattle.tp_check.specs.Tables.{table_of}
 use Rattle.tp_check.specs.Joining.{joins_at}
 use Rattle.tp_check.proofs.Verdict.{none_made}
 use Rattle.tp_check.proofs.LastQuiet.{next_after, unchanged, last_quiet, refused_so, all_counted}

@@ -1,9 +1,8 @@
-use Rattle.std.proofs.Common.{◌≡◌, Some, None, length, ◌∙◌, subst, arith}
+use Rattle.std.proofs.Common.{length, ◌∙◌, subst, arith}
 use Rattle.tp_check.specs.Tables.{table_of}
-use Rattle.tp_check.specs.Passes.{edges_in}
 use Rattle.tp_check.proofs.LastQuiet.{all_counted}
 use Rattle.tp_reasons.specs.FirstRefusals.{EndsAs}
-use Rattle.tp_reasons.proofs.Passing.{taken_there, near_by, one_more, is_first, is_verdict}
+use Rattle.tp_reasons.proofs.Passing.{taken_there, one_more, is_first, is_verdict}
 use Rattle.tp_reasons.proofs.passes.first_refusal.Goals as goal
 
 pub pass-requires-clause-places : goal.pass-requires-clause-places

@@ -1,4 +1,4 @@
-use Rattle.std.proofs.Common.{◌+◌, sym, ◌∙◌, arith}
+use Rattle.std.proofs.Common.{sym, ◌∙◌, arith}
 use Rattle.tp_check.specs.Tables.{table_of}
 use Rattle.tp_check.specs.Joining.{joins_at}
 use Rattle.tp_check.proofs.Keeping.{one_cleared, one_left, all_joined}
