@@ -53,8 +53,7 @@ fn local(function: u8, word: u16) -> [u8; 3] {
     [0x20 | high & 15, 0x20 | low >> 4, function | low & 15]
 }
 
-/// The refusal comes in the last of 464 passes. It is told in about twice the time that the verifier takes to find it; passes
-/// over whole tables would take more than a test may.
+/// The refusal comes in the last of 464 passes. The passes before it carry one state, as the verifier's do.
 #[test]
 fn tells_a_late_refusal(rt: HostRuntime) -> Result<(), Fail> {
     let image = moving(rt.alloc())?;
