@@ -25,3 +25,4 @@ mod Two
 mod Verdict
 mod Counting
 mod Keeping
+pub mod LastQuiet

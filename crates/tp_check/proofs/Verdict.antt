@@ -162,16 +162,20 @@ module _ (image : ImageValue) (cuts : List Cut) (joins : ℕ → Bool) where
 
 -- ---- the passes
 
--- between two passes; whether the last one changed a state that is kept
-pub record IsBetween (image : ImageValue) (cuts : List Cut) (joins : ℕ → Bool) (p : Passes) (moved : Bool) : Type 0 where
+-- after so many passes
+pub record IsAfter (image : ImageValue) (cuts : List Cut) (joins : ℕ → Bool) (p : Passes) (number : ℕ) : Type 0 where
   pub places : HasPlaces cuts (length p.slots)
   pub few : length p.slots ≤ 2 ^ 32
   pub rests : p.is_carried ≡ false
   pub whole : Table
   pub before : IsBefore image cuts joins p 0 whole
-  pub number : ℕ
   pub comes : passes image cuts number ≡ Ok whole
-  pub stays : moved ≡ false → IsVerdict image cuts (Ok whole)
+
+-- between two passes; whether the last one changed a state that is kept
+pub record IsBetween (image : ImageValue) (cuts : List Cut) (joins : ℕ → Bool) (p : Passes) (moved : Bool) : Type 0 where
+  pub number : ℕ
+  pub after : IsAfter image cuts joins p number
+  pub stays : moved ≡ false → IsVerdict image cuts (Ok after.whole)
 
 -- the passes that are left, and the one that sees that nothing changes
 abbrev pub left_of : ImageValue → Bool → Passes → ℕ
@@ -179,7 +183,7 @@ left_of image true p = 1 + table_height image p.slots
 left_of image false p = table_height image p.slots
 
 module _ (image : ImageValue) (cuts : List Cut) (range : InRange image) (spelled : AllByRecursion IsSpelled cuts) (kept : KeepsNest image.loops image.workspace cuts) (joins : ℕ → Bool) (join : AreJoins image cuts joins) where
-  zero_joins : joins 0 ≡ true
+  pub zero_joins : joins 0 ≡ true
   zero_joins = by_join (joins 0) refl
     where
       by_join : (b : Bool) → joins 0 ≡ b → joins 0 ≡ true
@@ -188,7 +192,7 @@ module _ (image : ImageValue) (cuts : List Cut) (range : InRange image) (spelled
 
   -- before the first pass
   pub none_made : (p : Passes) (places : ℕ) → HasPlaces cuts places → places ≤ 2 ^ 32 → length p.slots ≡ places → length p.changed.items ≡ places → table_of p.slots ≡ first_table image
-      → ((at : ℕ) → at < places → is_in p.changed.items at ≡ true) → length p.taken.items ≡ places → ((at : ℕ) → at < places → is_in p.taken.items at ≡ false) → p.is_carried ≡ false → IsPlaced image p.carried → p.spare ≡ None → IsBetween image cuts joins p true
+      → ((at : ℕ) → at < places → is_in p.changed.items at ≡ true) → length p.taken.items ≡ places → ((at : ℕ) → at < places → is_in p.taken.items at ≡ false) → p.is_carried ≡ false → IsPlaced image p.carried → p.spare ≡ None → IsAfter image cuts joins p 0
   none_made p places inside few sized flags table marked takes fresh rests carried spare = record {
     places = λ at starts. rw sized (inside at starts);
     few = rw sized few;
@@ -209,9 +213,7 @@ module _ (image : ImageValue) (cuts : List Cut) (range : InRange image) (spelled
       again = λ _ sure. absurd (let no : false ≡ true = sym rests ∙ sure in cc);
       early = λ x cut is on there. absurd (let no : false ≡ true = sym (fresh x (inside x (ap is_some there))) ∙ on in cc);
     };
-    number = 0;
     comes = refl;
-    stays = λ e. absurd cc;
   }
     where
       sound_first : (x : ℕ) (s : State) → first_table image x ≡ Some s → (x ≡ 0) ⊎ (x ≡ 0 → ⊥) → IsSound image s
@@ -231,39 +233,44 @@ module _ (image : ImageValue) (cuts : List Cut) (range : InRange image) (spelled
           let none : None ≡ Some s = sym (ap (λ b. if b then Some (entry image) else None) no) ∙ stood in
           cc
 
+  pub none_between : (p : Passes) → IsAfter image cuts joins p 0 → IsBetween image cuts joins p true
+  none_between p none = record { number = 0; after = none; stays = λ e. absurd cc }
+
   -- one pass more
-  one_as_defined : (n : ℕ) (table : Table) → passes image cuts n ≡ Ok table → passes image cuts (suc n) ≡ over image joins (edges_in cuts) table
+  pub one_as_defined : (n : ℕ) (table : Table) → passes image cuts n ≡ Ok table → passes image cuts (suc n) ≡ over image joins (edges_in cuts) table
   one_as_defined n table comes =
       ap (λ r. r >>= pass image cuts) comes
       ∙ (edge_by_edge image range.rows kept.good joins (IsOne image cuts kept joins join.wide) (IsStateAt image) (lone image cuts kept joins join.wide) (are_states image cuts kept joins join.wide range spelled) (edges_in cuts) (λ i e is. (i, is)) table
       (good_after image cuts range spelled kept joins join.wide n table comes)).0
 
-  pub one_more : (old new : Passes) (moved m : Bool) → IsBetween image cuts joins old moved → new.is_carried ≡ false → Moves image m old.slots new.slots
-      → ((whole : Table) → IsBefore image cuts joins old 0 whole → Carries (Ok m) (over image joins (edges_in cuts) whole) (IsBefore image cuts joins new 0)) → IsBetween image cuts joins new m
-  one_more old new moved m on rests moves gives = record {
-    places = λ at starts. rw moves.sized (on.places at starts);
-    few = rw moves.sized on.few;
-    rests = rests;
-    whole = done.0;
-    before = done.2;
-    number = suc on.number;
-    comes = comes;
-    stays = stays;
-  }
+  pub one_after : (old new : Passes) (n : ℕ) (m : Bool) → IsAfter image cuts joins old n → new.is_carried ≡ false → Moves image m old.slots new.slots
+      → ((whole : Table) → IsBefore image cuts joins old 0 whole → Carries (Ok m) (over image joins (edges_in cuts) whole) (IsBefore image cuts joins new 0))
+      → (after : IsAfter image cuts joins new (suc n)) × (m ≡ false → IsVerdict image cuts (Ok after.whole))
+  one_after old new n m on rests moves gives = (
+    record {
+      places = λ at starts. rw moves.sized (on.places at starts);
+      few = rw moves.sized on.few;
+      rests = rests;
+      whole = done.0;
+      before = done.2;
+      comes = comes;
+    },
+    stays,
+  )
     where
       done : (new_whole : Table) × (over image joins (edges_in cuts) on.whole ≡ Ok new_whole) × IsBefore image cuts joins new 0 new_whole
       done = gives on.whole on.before
 
-      comes : passes image cuts (suc on.number) ≡ Ok done.0
-      comes = one_as_defined on.number on.whole on.comes ∙ done.1
+      comes : passes image cuts (suc n) ≡ Ok done.0
+      comes = one_as_defined n on.whole on.comes ∙ done.1
 
       stays : m ≡ false → IsVerdict image cuts (Ok done.0)
       stays e = record {
-        number = suc on.number;
+        number = suc n;
         comes = comes;
-        stays = (one_pass image cuts range spelled kept joins join.wide done.0 (good_after image cuts range spelled kept joins join.wide (suc on.number) done.0 comes)).0
+        stays = (one_pass image cuts range spelled kept joins join.wide done.0 (good_after image cuts range spelled kept joins join.wide (suc n) done.0 comes)).0
             ∙ ap (over image joins (edges_in cuts)) (fun_ext λ x. alike x (joins x) refl)
-            ∙ sym (one_pass image cuts range spelled kept joins join.wide on.whole (good_after image cuts range spelled kept joins join.wide on.number on.whole on.comes)).0
+            ∙ sym (one_pass image cuts range spelled kept joins join.wide on.whole (good_after image cuts range spelled kept joins join.wide n on.whole on.comes)).0
             ∙ sym (ap (λ r. r >>= pass image cuts) on.comes) ∙ comes;
       }
         where
@@ -272,18 +279,24 @@ module _ (image : ImageValue) (cuts : List Cut) (range : InRange image) (spelled
               ap (λ c. if c then done.0 x else None) is ∙ done.2.way.slots x is ∙ ap (λ states. table_of states x) (moves.stays e) ∙ sym (on.before.way.slots x is) ∙ sym (ap (λ c. if c then on.whole x else None) is)
           alike x false is = ap (λ c. if c then done.0 x else None) is ∙ sym (ap (λ c. if c then on.whole x else None) is)
 
+  pub one_more : (old new : Passes) (moved m : Bool) → IsBetween image cuts joins old moved → new.is_carried ≡ false → Moves image m old.slots new.slots
+      → ((whole : Table) → IsBefore image cuts joins old 0 whole → Carries (Ok m) (over image joins (edges_in cuts) whole) (IsBefore image cuts joins new 0)) → IsBetween image cuts joins new m
+  one_more old new moved m on rests moves gives =
+      let one = one_after old new on.number m on.after rests moves gives in
+      record { number = suc on.number; after = one.0; stays = one.1 }
+
   pub fewer_left : (old new : Passes) (moved m : Bool) → moved ≡ true → Moves image m old.slots new.slots → left_of image m new < left_of image moved old
   fewer_left old new moved true is moves = rw is (omega (arith, moves.falls refl))
   fewer_left old new moved false is moves = rw is (let same : table_height image new.slots ≡ table_height image old.slots = ap (table_height image) (moves.stays refl) in omega (arith, same))
 
   -- the refusal of a pass is the verdict
-  pub is_refusal : (old : Passes) (moved : Bool) (on : IsBetween image cuts joins old moved) (e : StateFault) (P : Table → Type 0) → Carries {X = Bool} (Err e) (over image joins (edges_in cuts) on.whole) P → IsRefusalOf image cuts e
-  is_refusal old moved on (Refused code place) P gives = record { number = suc on.number; comes = one_as_defined on.number on.whole on.comes ∙ gives; stays = refl }
+  pub is_refusal : (old : Passes) (moved : Bool) (on : IsBetween image cuts joins old moved) (e : StateFault) (P : Table → Type 0) → Carries {X = Bool} (Err e) (over image joins (edges_in cuts) on.after.whole) P → IsRefusalOf image cuts e
+  is_refusal old moved on (Refused code place) P gives = record { number = suc on.number; comes = one_as_defined on.number on.after.whole on.after.comes ∙ gives; stays = refl }
   is_refusal old moved on Memory P gives = tt
 
   -- after the last pass
   pub is_settled : (p : Passes) → IsBetween image cuts joins p false → IsSettled image cuts joins p.slots
-  is_settled p on = record { few = on.few; whole = on.whole; verdict = on.stays refl; there = on.before.way.slots }
+  is_settled p on = record { few = on.after.few; whole = on.after.whole; verdict = on.stays refl; there = on.after.before.way.slots }
 
   pub is_table : (slots : List (Option State)) (keeps : ℕ → Bool) (states : List (ℕ × State)) → IsSettled image cuts joins slots → ((at : ℕ) → keeps at ≡ is_kept image cuts at) → AreStatesOf keeps (table_of slots) states → IsTableOf image cuts states
   is_table slots keeps states on same are = record {

@@ -9,3 +9,4 @@ pub use Rattle.tp_flow.specs.NestKept
 pub mod Carried
 pub mod Joining
 pub mod StatesThere
+pub mod NearRefusal

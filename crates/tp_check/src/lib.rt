@@ -7,6 +7,7 @@
 mod aside;
 mod effort;
 pub mod laws;
+mod near;
 mod passes;
 mod slot;
 mod slots;
@@ -14,6 +15,7 @@ mod table;
 mod way;
 
 pub use effort::Effort;
+pub use near::{NearRefusal, near_refusal};
 pub use passes::{check_states, check_states_counting, judge_states, places_of};
 pub use slots::Slots;
 pub use table::Table;

@@ -143,9 +143,9 @@ fn settle(
 
 /// The passes, between two edges.
 #[derive(Drop)]
-struct Passes {
+pub(crate) struct Passes {
     /// The states where edges join.
-    slots: Slots,
+    pub(crate) slots: Slots,
     /// Whether the state where edges join has changed since the edges from there were last taken; at first, of each.
     changed: Vec<bool>,
     /// Whether the edges from there were taken before.
@@ -165,7 +165,7 @@ struct Passes {
 
 impl Passes {
     /// Before the first pass.
-    fn begin(alloc: Global, image: &Image, places: usize) -> Result<Passes, AllocError>
+    pub(crate) fn begin(alloc: Global, image: &Image, places: usize) -> Result<Passes, AllocError>
         requires some { 0 < places }
         ensures slots { IfOk result (λ p. table_of p.slots ≡ first_table image.now) }
         ensures sized { IfOk result (λ p. length p.slots ≡ places) }
@@ -198,7 +198,7 @@ impl Passes {
     }
 
     /// One pass. It answers whether a state that is kept has changed.
-    fn pass(
+    pub(crate) fn pass(
         &mut self,
         alloc: Global,
         image: &Image,

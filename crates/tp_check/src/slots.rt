@@ -1,13 +1,16 @@
 //! The states that the passes keep.
 
-ghost use Rattle.std.specs.Prelude.{◌≡◌, ◌<◌, ◌≤◌, ◌^◌, ℕ, Some, length, true, IfOk, IfSome, IsTrue, OnErr};
+ghost use Rattle.std.specs.Prelude.{◌≡◌, ◌≢◌, ◌<◌, ◌≤◌, ◌^◌, ℕ, Some, None, length, true, IfOk, IfSome, IsTrue, OnErr};
 ghost use Rattle.std.specs.Option.{option_copied};
 ghost use Rattle.tp_state.specs.Conditions.{IsPlaced};
 ghost use Rattle.tp_check.specs.Tables.{table_of};
 ghost use Rattle.tp_check.specs.Passes.{enter, first_table, met, placed};
+ghost use Rattle.tp_check.specs.Carried.{only_joins};
+ghost use Rattle.tp_check.specs.Joining.{joins_at};
 ghost use Rattle.tp_check.specs.UnderWay.{Gives, GivesState, MovesState, Moves, CameBefore};
 
 use crate::slot::Slot;
+use crate::way::Ways;
 use std::alloc::{AllocError, Global};
 use std::marker::Model;
 use tp_image::Image;
@@ -89,8 +92,23 @@ impl Slots {
         requires { addr < length self.old }
         ensures value { result ≡ table_of self.old addr }
         ensures sized { length self.new ≡ length self.old }
-        ensures others { (x : ℕ) → addr < x → table_of self.new x ≡ table_of self.old x }
+        ensures empty { table_of self.new addr ≡ None }
+        ensures others { (x : ℕ) → x ≢ addr → table_of self.new x ≡ table_of self.old x }
     {
         self.states[addr].take()
+    }
+
+    /// What is known at the addresses where edges join, and nothing elsewhere.
+    pub(crate) fn joined(self, ways: &Ways) -> Slots
+        ensures sized { length result ≡ length self }
+        ensures states { table_of result ≡ only_joins (joins_at ways.now) (table_of self) }
+    {
+        let mut slots = self;
+        for at in 0..slots.len() {
+            if !ways.joins(at) {
+                let _ = slots.take(at);
+            }
+        }
+        slots
     }
 }

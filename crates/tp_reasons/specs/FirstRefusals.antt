@@ -1,18 +1,14 @@
 -- The first refusal of the passes, with what is known before the instruction that is refused.
-use Rattle.std.specs.Prelude.{◌≡◌, ℕ, ◌<◌, ◌^◌, Bool, true, false, List, ◌∷◌, ◌++◌, Option, Result, Ok, Err}
+use Rattle.std.specs.Prelude.{◌≡◌, List, ◌∷◌, ◌++◌, Option, Some, None, Ok, Err}
 use Rattle.tp_decode.specs.declared.placed.Placed.{Placed}
 use Rattle.tp_decode.specs.Cutting.{Cut}
 use Rattle.tp_flow.specs.declared.edge.Edge.{Edge}
 use Rattle.tp_image.specs.Image.{ImageValue}
-use Rattle.tp_state.specs.declared.state.State.{State}
-use Rattle.tp_state.specs.declared.fault.StateFault.{StateFault}
 use Rattle.tp_state.specs.declared.fault.StateFault.TheVariants.{Refused}
 use Rattle.tp_check.specs.Tables.{Table, table_of}
 use Rattle.tp_check.specs.Passes.{go_along, along, edges_in, passes}
 use Rattle.tp_reasons.specs.declared.refusal.EdgeRefusal.{EdgeRefusal}
 use Rattle.tp_reasons.specs.declared.refusal.FirstRefusal.{FirstRefusal}
-use Rattle.tp_reasons.specs.declared.passes.Came.{Came}
-use Rattle.tp_reasons.specs.declared.passes.Came.TheVariants.{On, ToRefusal}
 
 -- Of these edges, taken in turn from a table, this is the first that is refused: those before it refuse nothing and come to the
 -- table `there`, from which it is refused.
@@ -29,19 +25,9 @@ pub record IsFirstRefusal (image : ImageValue) (cuts : List Cut) (r : FirstRefus
   pub comes : passes image cuts r.passes ≡ Ok table
   pub among : IsRefusedAmong image (edges_in cuts) table (table_of r.table) r.refusal
 
--- no number of passes that a word of 64 bits can count refuses anything
-abbrev pub RefusesNothing : ImageValue → List Cut → Type 0
-RefusesNothing image cuts = (n : ℕ) → n < 2 ^ 64 → (table : Table) × (passes image cuts n ≡ Ok table)
-
 -- ---- one pass
 
 -- what a pass makes of a table; or what it refuses, and the table then
-abbrev pub EndsAs : ImageValue → List (Placed × Edge) → (old new : Table) → Came → Type 0
-EndsAs image edges old new (On moved) = (along image edges old ≡ Ok new) × (moved ≡ false → new ≡ old)
-EndsAs image edges old new (ToRefusal r) = IsRefusedAmong image edges old new r
-
--- where no state has changed, or something is refused, all is as it was
-abbrev pub Stays : Result Bool StateFault → (old new : List (Option State)) → Type 0
-Stays (Ok true) old new = Unit {0}
-Stays (Ok false) old new = new ≡ old
-Stays (Err fault) old new = new ≡ old
+abbrev pub EndsAs : ImageValue → List (Placed × Edge) → (old new : Table) → Option EdgeRefusal → Type 0
+EndsAs image edges old new None = along image edges old ≡ Ok new
+EndsAs image edges old new (Some r) = IsRefusedAmong image edges old new r

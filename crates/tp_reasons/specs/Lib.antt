@@ -1,4 +1,6 @@
 pub mod FirstRefusals
 pub mod CostsTold
+pub mod Told
 pub use Rattle.tp_check.specs.Passes
 pub use Rattle.tp_state.specs.After
+pub use Rattle.tp_check.specs.NearRefusal

@@ -1,18 +1,19 @@
-//! The passes over whole tables, up to the first refusal.
+//! The passes up to the first refusal, the last of them over whole tables.
 
-ghost use Rattle.std.specs.Prelude.{◌≡◌, ◌++◌, length, None, IfOk, IfSome, OnOk, OnErr, All};
+ghost use Rattle.std.specs.Prelude.{◌≡◌, ◌++◌, length, None, Err, IfOk, IfSome, OnOk, OnErr, All};
 ghost use Rattle.tp_flow.specs.NestKept.{KeepsNest};
 ghost use Rattle.tp_flow.specs.NestRanges.{ranges};
-ghost use Rattle.tp_image.specs.Image.{InRange};
 ghost use Rattle.tp_state.specs.Conditions.{HasGoodLoops};
+ghost use Rattle.tp_state.specs.declared.fault.StateFault.TheVariants.{Refused};
 ghost use Rattle.tp_check.specs.Tables.{asked, table_of, HasPlacedStates};
-ghost use Rattle.tp_check.specs.Passes.{edges_in, edges_of, go_along};
+ghost use Rattle.tp_check.specs.Passes.{edges_in, edges_of, go_along, IsVerdict};
 ghost use Rattle.tp_check.specs.UnderWay.{MayBeTaken, Gives};
-ghost use Rattle.tp_reasons.specs.FirstRefusals.{IsFirstRefusal, RefusesNothing, EndsAs, Stays};
+ghost use Rattle.tp_check.specs.NearRefusal.{RefusesNothing};
+ghost use Rattle.tp_reasons.specs.FirstRefusals.{IsFirstRefusal, EndsAs};
 
 use crate::refusal::{EdgeRefusal, FirstRefusal};
 use std::alloc::{AllocError, Global};
-use tp_check::{Slots, places_of};
+use tp_check::{NearRefusal, Slots, near_refusal};
 use tp_decode::{Instr, Listing, Placed};
 use tp_flow::{Edge, Nest, edges};
 use tp_image::Image;
@@ -21,17 +22,9 @@ use tp_state::{StateFault, after};
 /// An instruction, and an edge that its rule is asked on.
 type Asked = (Placed, Edge);
 
-/// What a pass comes to.
-#[derive(Clone, Copy)]
-enum Came {
-    /// It refuses nothing; and whether a state has changed.
-    On(bool),
-    /// It refuses an edge.
-    ToRefusal(EdgeRefusal),
-}
-
 /// The first refusal of the verifier's passes over a code whose flow has passed, with what is known then; or none, where
-/// 2^64 - 1 passes refuse nothing. It makes the passes over whole tables, with a state for each address of the code.
+/// 2^64 - 1 passes refuse nothing. All passes but the last two carry one state, as the verifier's own do; the last two are made
+/// over a whole table, with a state for each address of the code.
 pub fn first_refusal(
     alloc: Global,
     image: &Image,
@@ -41,33 +34,29 @@ pub fn first_refusal(
     requires kept { KeepsNest image.now.loops image.now.workspace listing.now }
     requires nest { nest.now ≡ ranges image.now.loops }
     ensures first { IfOk result (λ found. IfSome found (IsFirstRefusal image.now listing.now)) }
+    ensures verdict { IfOk result (λ found. IfSome found (λ r. IsVerdict image.now listing.now (Err (Refused r.refusal.code r.refusal.place)))) }
     ensures placed { IfOk result (λ found. IfSome found (λ r. HasPlacedStates image.now (table_of r.table))) }
     ensures none { IfOk result (λ found. found ≡ None → RefusesNothing image.now listing.now) }
 {
-    is_in_range(image);
+    let Some(near) = near_refusal(alloc, image, listing, nest)? else {
+        return Ok(None);
+    };
+    let NearRefusal {
+        passes: made,
+        states,
+    } = near;
     let asked = edges_of_code(alloc, listing)?;
-    let mut table = Slots::first(alloc, image, places_of(listing))?;
-    for passes in 0..u64::MAX {
-        match pass(alloc, image, nest, &asked, &mut table)? {
-            Came::On(true) => {}
-            Came::On(false) => return Ok(None),
-            Came::ToRefusal(refusal) => {
-                return Ok(Some(FirstRefusal {
-                    passes,
-                    refusal,
-                    table,
-                }));
-            }
+    let mut table = states;
+    for passes in made..u64::MAX {
+        if let Some(refusal) = pass(alloc, image, nest, &asked, &mut table)? {
+            return Ok(Some(FirstRefusal {
+                passes,
+                refusal,
+                table,
+            }));
         }
     }
     Ok(None)
-}
-
-/// A law: an image's fields are in the ranges of its version.
-fn is_in_range(image: &Image)
-    ensures { InRange image.now }
-{
-    let _ = &image.code;
 }
 
 /// The edges that the passes over a code take, in their order.
@@ -110,7 +99,7 @@ fn pass(
     nest: &Nest,
     asked: &[Asked],
     table: &mut Slots,
-) -> Result<Came, AllocError>
+) -> Result<Option<EdgeRefusal>, AllocError>
     requires good { HasGoodLoops image.now }
     requires nest { nest.now ≡ ranges image.now.loops }
     requires places { All (λ e. MayBeTaken image.now (length table.old) e.0) asked.now }
@@ -119,12 +108,11 @@ fn pass(
     ensures placed { HasPlacedStates image.now (table_of table.new) }
     ensures ends { IfOk result (EndsAs image.now asked.now (table_of table.old) (table_of table.new)) }
 {
-    let mut has_moved = false;
     for (instruction, edge) in asked {
         match take(alloc, image, nest, *instruction, *edge, table) {
-            Ok(moved) => has_moved = has_moved || moved,
+            Ok(_) => {}
             Err(StateFault::Refused { code, place }) => {
-                return Ok(Came::ToRefusal(EdgeRefusal {
+                return Ok(Some(EdgeRefusal {
                     instruction: *instruction,
                     edge: *edge,
                     code,
@@ -134,7 +122,7 @@ fn pass(
             Err(StateFault::Memory) => return Err(AllocError),
         }
     }
-    Ok(Came::On(has_moved))
+    Ok(None)
 }
 
 /// An edge is taken: where a state stands before its instruction, what is known after it comes to its target. It answers whether
@@ -154,7 +142,7 @@ fn take(
     ensures sized { length table.new ≡ length table.old }
     ensures placed { HasPlacedStates image.now (table_of table.new) }
     ensures gives { Gives result (table_of table.new) (go_along image.now instruction edge (table_of table.old instruction.at) (table_of table.old)) }
-    ensures stays { Stays result table.old table.new }
+    ensures stays { OnErr result (table.new ≡ table.old) }
 {
     let Placed { at, instr, next } = instruction;
     let Some(before) = table.at(at) else {

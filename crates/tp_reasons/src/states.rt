@@ -1,7 +1,6 @@
 //! What is told of a refusal of states.
 
 ghost use Rattle.std.specs.Prelude.{◌≡◌};
-ghost use Rattle.tp_flow.specs.NestKept.{KeepsNest};
 ghost use Rattle.tp_flow.specs.NestRanges.{ranges};
 ghost use Rattle.tp_state.specs.Conditions.{HasGoodLoops};
 ghost use Rattle.tp_check.specs.Tables.{table_of, HasPlacedStates};
@@ -9,7 +8,7 @@ ghost use Rattle.tp_check.specs.Tables.{table_of, HasPlacedStates};
 use crate::asked::asked_by;
 use crate::known::{KnownPhase, KnownRegister, KnownWord};
 use crate::lines::tell_around;
-use crate::passes::{asked, first_refusal};
+use crate::passes::asked;
 use crate::refusal::{EdgeRefusal, FirstRefusal};
 use crate::source::SourceText;
 use crate::telling::TellFault;
@@ -262,19 +261,18 @@ pub(crate) fn tell_state<W: Write>(
     listing: &Listing,
     nest: &Nest,
     source: SourceText<'_>,
+    found: &FirstRefusal,
     writer: &mut W,
 ) -> Result<(), TellFault>
-    requires kept { KeepsNest image.now.loops image.now.workspace listing.now }
+    requires good { HasGoodLoops image.now }
     requires nest { nest.now ≡ ranges image.now.loops }
+    requires placed { HasPlacedStates image.now (table_of found.now.table) }
 {
-    let Some(found) = first_refusal(alloc, image, listing, nest)? else {
-        return Ok(());
-    };
     let FirstRefusal {
         passes,
         refusal,
         table,
-    } = &found;
+    } = found;
     let at = refusal.instruction.at;
     tell_around(alloc, image, listing, source, at, writer)?;
     let wanted = asked_by(refusal.instruction.instr);
@@ -292,7 +290,7 @@ pub(crate) fn tell_state<W: Write>(
         listing,
         nest,
         source,
-        found: &found,
+        found,
     };
     tell_written(alloc, finding, writer)?;
     tell_meeting(table, refusal, writer)?;

@@ -1,10 +1,19 @@
 //! A verdict, told.
 
+ghost use Rattle.std.specs.Prelude.{◌≡◌, None, Err, IfOk, IfSome};
 ghost use Rattle.tp_decode.specs.Cutting.{IsCutting};
+ghost use Rattle.tp_image.specs.Text.{IsTextOf};
+ghost use Rattle.tp_image.specs.Faults.{first_fault};
+ghost use Rattle.tp_accept.specs.Verdict.{IsAnswer};
+ghost use Rattle.tp_accept.specs.declared.refusal.Refusal.TheVariants.{Refused};
+ghost use Rattle.tp_accept.specs.declared.refusal.RefusalCode.TheVariants.{State};
+ghost use Rattle.tp_reasons.specs.Told.{IsToBeTold};
 
 use crate::fields::{tell_bytes, tell_field, tell_turns};
 use crate::flow::tell_flow;
 use crate::meaning::meaning_of;
+use crate::passes::first_refusal;
+use crate::refusal::{EdgeRefusal, FirstRefusal};
 use crate::source::SourceText;
 use crate::states::tell_state;
 use crate::telling::TellFault;
@@ -12,17 +21,22 @@ use std::alloc::Global;
 use std::io::Write;
 use tp_accept::{Refusal, RefusalCode, accept};
 use tp_decode::{DecodeFault, Listing, decode};
-use tp_flow::check_flow;
+use tp_flow::{Nest, check_flow};
 use tp_image::{Image, ImageFault, read_image};
 
 /// Judges the bytes of an image, and writes the verdict: as farmd answers it, and of a refusal what it means, where it comes, and
-/// what helps; the listing has what a text says of its lines. It answers whether the image is accepted.
+/// what helps; the listing has what a text says of its lines. It answers whether the image is accepted. A refusal of states is
+/// looked for first, so that the passes are not made once more to judge.
 pub fn tell<W: Write>(
     alloc: Global,
     text: &[u8],
     source: SourceText<'_>,
     writer: &mut W,
 ) -> Result<bool, TellFault> {
+    if let Some(refused) = refused_state(alloc, text)? {
+        tell_refused_state(alloc, &refused, source, writer)?;
+        return Ok(false);
+    }
     let copy = Vec::from_slice(alloc, text)?;
     match accept(alloc, copy) {
         Ok(accepted) => {
@@ -39,8 +53,86 @@ pub fn tell<W: Write>(
     }
 }
 
+/// An image whose states are refused, and where.
+#[derive(Drop)]
+struct RefusedState {
+    image: Image,
+    listing: Listing,
+    nest: Nest,
+    found: FirstRefusal,
+}
+
+/// Where the verifier refuses the states of the image that bytes are; none, where its verdict is another one. The verdict on the
+/// bytes is the refusal that is found.
+fn refused_state(alloc: Global, text: &[u8]) -> Result<Option<RefusedState>, TellFault>
+    ensures verdict { IfOk result (λ o. IfSome o (λ r. IsAnswer text.now (Err (Refused (State r.found.refusal.code) r.found.refusal.place)))) }
+    ensures found { IfOk result (λ o. IfSome o IsToBeTold) }
+{
+    let Some(image) = image_of(alloc, text)? else {
+        return Ok(None);
+    };
+    let listing = match decode(alloc, &image.code) {
+        Ok(listing) => listing,
+        Err(DecodeFault::Memory) => return Err(TellFault::Memory),
+        Err(DecodeFault::Refused { .. }) => return Ok(None),
+    };
+    let Ok(nest) = check_flow(&image, &listing) else {
+        return Ok(None);
+    };
+    match first_refusal(alloc, &image, &listing, &nest)? {
+        Some(found) => Ok(Some(RefusedState {
+            image,
+            listing,
+            nest,
+            found,
+        })),
+        None => Ok(None),
+    }
+}
+
+/// Writes a refusal of states.
+fn tell_refused_state<W: Write>(
+    alloc: Global,
+    refused: &RefusedState,
+    source: SourceText<'_>,
+    writer: &mut W,
+) -> Result<(), TellFault>
+    requires { IsToBeTold refused.now }
+{
+    let RefusedState {
+        image,
+        listing,
+        nest,
+        found,
+    } = refused;
+    let EdgeRefusal { code, place, .. } = found.refusal;
+    let code = RefusalCode::State(code);
+    tell_verdict(code, place, writer)?;
+    tell_state(alloc, image, listing, nest, source, found, writer)?;
+    tell_instead(code, writer)
+}
+
+/// Writes the line of a refusal, and what it means.
+fn tell_verdict<W: Write>(
+    code: RefusalCode,
+    place: usize,
+    writer: &mut W,
+) -> Result<(), TellFault> {
+    let refused = meaning_of(code).refused;
+    writeln!(writer, "NO {code} {place}").map_err(|_| TellFault::Write)?;
+    writeln!(writer, "refused  {refused}").map_err(|_| TellFault::Write)
+}
+
+/// Writes what helps against a refusal.
+fn tell_instead<W: Write>(code: RefusalCode, writer: &mut W) -> Result<(), TellFault> {
+    let instead = meaning_of(code).instead;
+    writeln!(writer, "instead  {instead}").map_err(|_| TellFault::Write)
+}
+
 /// The image that bytes are, if they are one.
-fn image_of(alloc: Global, text: &[u8]) -> Result<Option<Image>, TellFault> {
+fn image_of(alloc: Global, text: &[u8]) -> Result<Option<Image>, TellFault>
+    ensures { IfOk result (λ o. IfSome o (λ image. IsTextOf text.now image × (first_fault text.now ≡ None))) }
+{
     match read_image(alloc, text) {
         Ok(image) => Ok(Some(image)),
         Err(ImageFault::Memory) => Err(TellFault::Memory),
@@ -48,7 +140,7 @@ fn image_of(alloc: Global, text: &[u8]) -> Result<Option<Image>, TellFault> {
     }
 }
 
-/// Writes a refusal: its line, what it means, where it comes, and what helps.
+/// Writes a refusal that is none of states: its line, what it means, where it comes, and what helps.
 fn tell_refusal<W: Write>(
     alloc: Global,
     text: &[u8],
@@ -57,10 +149,7 @@ fn tell_refusal<W: Write>(
     place: usize,
     writer: &mut W,
 ) -> Result<(), TellFault> {
-    let meaning = meaning_of(code);
-    let refused = meaning.refused;
-    writeln!(writer, "NO {code} {place}").map_err(|_| TellFault::Write)?;
-    writeln!(writer, "refused  {refused}").map_err(|_| TellFault::Write)?;
+    tell_verdict(code, place, writer)?;
     match code {
         RefusalCode::Image(code) => tell_field(text, code, place, writer)?,
         RefusalCode::Cutting(_) => {
@@ -78,8 +167,7 @@ fn tell_refusal<W: Write>(
             }
         }
     }
-    let instead = meaning.instead;
-    writeln!(writer, "instead  {instead}").map_err(|_| TellFault::Write)
+    tell_instead(code, writer)
 }
 
 /// Writes where a refusal of a code that is cut comes.
@@ -96,11 +184,7 @@ fn tell_code<W: Write>(
 {
     match code {
         RefusalCode::Flow(code) => tell_flow(alloc, image, listing, source, code, place, writer),
-        RefusalCode::State(_) => match check_flow(image, listing) {
-            Ok(nest) => tell_state(alloc, image, listing, &nest, source, writer),
-            Err(_) => Ok(()),
-        },
         RefusalCode::B1 => tell_turns(image, writer),
-        RefusalCode::Image(_) | RefusalCode::Cutting(_) => Ok(()),
+        RefusalCode::Image(_) | RefusalCode::Cutting(_) | RefusalCode::State(_) => Ok(()),
     }
 }

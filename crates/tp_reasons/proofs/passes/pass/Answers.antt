@@ -1,8 +1,7 @@
-use Rattle.std.proofs.Common.{◌≡◌, ◌<◌, true, false, length, sym, ◌∙◌, arith}
+use Rattle.std.proofs.Common.{◌<◌, length, ◌∙◌, arith}
 use Rattle.tp_check.specs.Tables.{table_of}
-use Rattle.tp_reasons.proofs.Passing.{one_on, refused_in, read_any, is_refused, stays_on}
+use Rattle.tp_reasons.proofs.Passing.{one_on, refused_in, read_any, is_refused}
 use Rattle.tp_reasons.proofs.passes.pass.Goals as goal
-use Rattle.tp_reasons.proofs.passes.pass.Goals.{then-has_moved, else-has_moved}
 
 pub returns-in-Err-Refused-clause-ends : goal.returns-in-Err-Refused-clause-ends
 returns-in-Err-Refused-clause-ends c =
@@ -16,11 +15,6 @@ loop-instruction-preserved c = record {
   sized = c.in-Ok.ensures.sized ∙ c.loop-instruction.invariant.sized;
   placed = c.in-Ok.ensures.placed;
   comes = one_on c.args.image.now c.args.asked.now c.loop-instruction.instruction-index _ (table_of c.args.table.now) (table_of c.loop-instruction.table) (table_of c.take.new.table) inside (read_any c.args.asked.now c.loop-instruction.instruction-index _ inside) c.loop-instruction.invariant.comes c.in-Ok.ensures.gives;
-  stays =
-      elim c.if-has_moved.branch [
-        | then-has_moved w ↦ (λ stays. absurd (let never : true ≡ false = sym w.if-has_moved.true ∙ (sym w.has_moved-is ∙ stays) in cc))
-        | else-has_moved w ↦ (λ stays. stays_on c.in-Ok.moved c.loop-instruction.table c.take.new.table c.args.table.now (sym w.has_moved-is ∙ stays) c.in-Ok.ensures.stays (c.loop-instruction.invariant.stays w.if-has_moved.false))
-      ];
 }
   where
     inside : c.loop-instruction.instruction-index < length c.args.asked.now

@@ -1,4 +1,4 @@
-use Rattle.std.proofs.Common.{◌≡◌, false, Ok, length, take}
+use Rattle.std.proofs.Common.{◌≡◌, Ok, length, take}
 use Rattle.tp_check.specs.Tables.{table_of, HasPlacedStates}
 use Rattle.tp_check.specs.Passes.{along}
 use Rattle.tp_reasons.proofs.passes.pass.Given as goal
@@ -8,5 +8,4 @@ invariant-loop-instruction l = record {
   sized : length l.table ≡ length l.initial.table;
   placed : HasPlacedStates l.image (table_of l.table);
   comes : along l.image (take l.instruction-index l.asked) (table_of l.initial.table) ≡ Ok (table_of l.table);
-  stays : l.has_moved ≡ false → l.table ≡ l.initial.table;
 }

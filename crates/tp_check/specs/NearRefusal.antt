@@ -1,0 +1,36 @@
+-- Where the passes stand before one of them refuses.
+use Rattle.std.specs.Prelude.{◌≡◌, ℕ, ◌+◌, ◌<◌, ◌^◌, Bool, List, ◌⊎◌, Ok, Err}
+use Rattle.tp_decode.specs.Cutting.{Cut}
+use Rattle.tp_image.specs.Image.{ImageValue}
+use Rattle.tp_state.specs.declared.fault.StateFault.{StateFault}
+use Rattle.tp_check.specs.Tables.{Table, HasPlacedStates}
+use Rattle.tp_check.specs.Passes.{pass, passes}
+use Rattle.tp_check.specs.Carried.{only_joins}
+
+-- no number of passes that a word of 64 bits can count refuses anything
+abbrev pub RefusesNothing : ImageValue → List Cut → Type 0
+RefusesNothing image cuts = (n : ℕ) → n < 2 ^ 64 → (table : Table) × (passes image cuts n ≡ Ok table)
+
+-- so many passes refuse nothing, and the next one does
+pub record IsLastQuiet (image : ImageValue) (cuts : List Cut) (n : ℕ) : Type 0 where
+  pub table : Table
+  pub comes : passes image cuts n ≡ Ok table
+  pub fault : StateFault
+  pub refuses : pass image cuts table ≡ Err fault
+
+-- these states are those of the table after so many passes, where edges join
+pub record IsJoined (image : ImageValue) (cuts : List Cut) (joins : ℕ → Bool) (n : ℕ) (states : Table) : Type 0 where
+  pub table : Table
+  pub comes : passes image cuts n ≡ Ok table
+  pub placed : HasPlacedStates image table
+  pub are : states ≡ only_joins joins table
+
+-- So many passes refuse nothing, and of the next two one does. From these states the next pass comes to the same as from the
+-- table of those passes; they are that table, unless the next pass refuses nothing.
+pub record IsNearRefusal (image : ImageValue) (cuts : List Cut) (n : ℕ) (states : Table) : Type 0 where
+  pub table : Table
+  pub comes : passes image cuts n ≡ Ok table
+  pub refuses : (fault : StateFault) × (passes image cuts (n + 2) ≡ Err fault)
+  pub same : pass image cuts states ≡ pass image cuts table
+  pub whole : (states ≡ table) ⊎ ((next : Table) × (pass image cuts table ≡ Ok next))
+  pub placed : HasPlacedStates image states

@@ -1,0 +1,122 @@
+//! Where the passes stand before one of them refuses.
+
+ghost use Rattle.std.specs.Prelude.{◌≡◌, ◌<◌, ◌≤◌, ◌^◌, ℕ, length, None, Ok, IfOk, IfSome};
+ghost use Rattle.std.specs.List.{AllByRecursion};
+ghost use Rattle.tp_decode.specs.Cutting.{IsSpelled};
+ghost use Rattle.tp_flow.specs.NestRanges.{ranges};
+ghost use Rattle.tp_flow.specs.NestKept.{KeepsNest};
+ghost use Rattle.tp_image.specs.Image.{InRange};
+ghost use Rattle.tp_check.specs.Tables.{Table as WholeTable, table_of};
+ghost use Rattle.tp_check.specs.Passes.{passes};
+ghost use Rattle.tp_check.specs.Joining.{joins_at};
+ghost use Rattle.tp_check.specs.UnderWay.{AreJoins, HasPlaces};
+ghost use Rattle.tp_check.specs.NearRefusal.{IsNearRefusal, IsLastQuiet, IsJoined, RefusesNothing};
+
+use crate::passes::{Passes, places_of};
+use crate::slots::Slots;
+use crate::way::Ways;
+use std::alloc::{AllocError, Global};
+use tp_decode::Listing;
+use tp_flow::Nest;
+use tp_image::Image;
+use tp_state::StateFault;
+
+/// Where the passes stand before one of them refuses.
+#[derive(Drop)]
+pub struct NearRefusal {
+    /// How many passes were made. They refuse nothing, and of the next two one refuses.
+    pub passes: u64,
+    /// What is known then where edges join, from which the next pass comes to the same as from all that is known.
+    pub states: Slots,
+}
+
+/// Where the passes over a code stand before the one that refuses, of an image whose flow has passed and of its code's listing;
+/// or none, where 2^64 - 1 passes refuse nothing. The passes carry one state, as those of `check_states` do; they are made
+/// twice, since what is known where edges join changes while a pass is made.
+pub fn near_refusal(
+    alloc: Global,
+    image: &Image,
+    listing: &Listing,
+    nest: &Nest,
+) -> Result<Option<NearRefusal>, AllocError>
+    requires kept { KeepsNest image.now.loops image.now.workspace listing.now }
+    requires nest { nest.now ≡ ranges image.now.loops }
+    ensures near { IfOk result (λ found. IfSome found (λ near. IsNearRefusal image.now listing.now near.passes (table_of near.states))) }
+    ensures places { IfOk result (λ found. IfSome found (λ near. HasPlaces listing.now (length near.states))) }
+    ensures none { IfOk result (λ found. found ≡ None → RefusesNothing image.now listing.now) }
+{
+    let places = places_of(listing);
+    let ways = Ways::of(alloc, image, listing, nest, places)?;
+    let Some(quiet) = quiet_passes(alloc, image, listing, nest, places, &ways)? else {
+        return Ok(None);
+    };
+    let passes = quiet.saturating_sub(1);
+    let states = joined_after(alloc, image, listing, nest, places, &ways, passes)?;
+    Ok(Some(NearRefusal { passes, states }))
+}
+
+/// How many passes refuse nothing, where the next one refuses; or none, where 2^64 - 1 passes refuse nothing.
+fn quiet_passes(
+    alloc: Global,
+    image: &Image,
+    listing: &Listing,
+    nest: &Nest,
+    places: usize,
+    ways: &Ways,
+) -> Result<Option<u64>, AllocError>
+    requires kept { KeepsNest image.now.loops image.now.workspace listing.now }
+    requires nest { nest.now ≡ ranges image.now.loops }
+    requires join { AreJoins image.now listing.now (joins_at ways.now) }
+    requires some { 0 < places }
+    requires few { places ≤ 2 ^ 32 }
+    requires all { HasPlaces listing.now places }
+    ensures last { IfOk result (λ found. IfSome found (IsLastQuiet image.now listing.now)) }
+    ensures none { IfOk result (λ found. found ≡ None → RefusesNothing image.now listing.now) }
+    // This is known of every image, and of every listing.
+    ensures in_range { InRange image.now }
+    ensures spelled { AllByRecursion IsSpelled listing.now }
+{
+    listing.is_spelled();
+    let mut passes = Passes::begin(alloc, image, places)?;
+    for number in 0..u64::MAX {
+        match passes.pass(alloc, image, listing, nest, ways) {
+            Ok(true) => {}
+            Ok(false) => return Ok(None),
+            Err(StateFault::Refused { .. }) => return Ok(Some(number)),
+            Err(StateFault::Memory) => return Err(AllocError),
+        }
+    }
+    Ok(None)
+}
+
+/// What is known where edges join after so many passes, which refuse nothing.
+fn joined_after(
+    alloc: Global,
+    image: &Image,
+    listing: &Listing,
+    nest: &Nest,
+    places: usize,
+    ways: &Ways,
+    number: u64,
+) -> Result<Slots, AllocError>
+    requires kept { KeepsNest image.now.loops image.now.workspace listing.now }
+    requires nest { nest.now ≡ ranges image.now.loops }
+    requires join { AreJoins image.now listing.now (joins_at ways.now) }
+    requires some { 0 < places }
+    requires few { places ≤ 2 ^ 32 }
+    requires all { HasPlaces listing.now places }
+    requires quiet { (table : WholeTable) × (passes image.now listing.now number ≡ Ok table) }
+    ensures joined { IfOk result (λ slots. IsJoined image.now listing.now (joins_at ways.now) number (table_of slots)) }
+    ensures places { IfOk result (λ slots. HasPlaces listing.now (length slots)) }
+{
+    listing.is_spelled();
+    let mut passes = Passes::begin(alloc, image, places)?;
+    for _pass in 0..number {
+        match passes.pass(alloc, image, listing, nest, ways) {
+            Ok(_) => {}
+            Err(StateFault::Refused { .. }) => unreachable!(),
+            Err(StateFault::Memory) => return Err(AllocError),
+        }
+    }
+    Ok(passes.slots.joined(ways))
+}
