@@ -1,5 +1,8 @@
 //! The words in which a refusal is told.
 
+ghost use Rattle.std.specs.Prelude.{◌≡◌};
+ghost use Rattle.tp_reasons.specs.declared.telling.TellFault.TheVariants.{Memory};
+
 use std::alloc::{AllocError, AllocFailed};
 use std::fmt;
 use std::io::Write;
@@ -15,12 +18,16 @@ pub enum TellFault {
 }
 
 impl From<AllocError> for TellFault {
+    ghost from_gives = { λ _ e. e ≡ Memory };
+
     fn from(_: AllocError) -> Self {
         TellFault::Memory
     }
 }
 
 impl<T: Drop> From<AllocFailed<T>> for TellFault {
+    ghost from_gives = { λ _ e. e ≡ Memory };
+
     fn from(_: AllocFailed<T>) -> Self {
         TellFault::Memory
     }

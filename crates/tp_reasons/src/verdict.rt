@@ -7,7 +7,7 @@ ghost use Rattle.tp_image.specs.Faults.{first_fault};
 ghost use Rattle.tp_accept.specs.Verdict.{IsAnswer};
 ghost use Rattle.tp_accept.specs.declared.refusal.Refusal.TheVariants.{Refused};
 ghost use Rattle.tp_accept.specs.declared.refusal.RefusalCode.TheVariants.{State};
-ghost use Rattle.tp_reasons.specs.Told.{IsToBeTold};
+ghost use Rattle.tp_reasons.specs.Told.{IsToBeTold, IsVerdictOn};
 
 use crate::fields::{tell_bytes, tell_field, tell_turns};
 use crate::flow::tell_flow;
@@ -32,7 +32,9 @@ pub fn tell<W: Write>(
     text: &[u8],
     source: SourceText<'_>,
     writer: &mut W,
-) -> Result<bool, TellFault> {
+) -> Result<bool, TellFault>
+    ensures { IfOk result (IsVerdictOn text.now) }
+{
     if let Some(refused) = refused_state(alloc, text)? {
         tell_refused_state(alloc, &refused, source, writer)?;
         return Ok(false);
