@@ -28,8 +28,9 @@ fn of_link<T>(link: Link, answer: Result<T, DeviceFault>) -> Result<T, LinkFault
     }
 }
 
-/// Receives all that a device holds.
-fn empty<D: LinkDevice>(device: &mut D) -> Result<(), DeviceFault>
+/// Receives all that a device holds, and throws it away.
+#[inline(never)]
+fn throw_away<D: LinkDevice>(device: &mut D) -> Result<(), DeviceFault>
     ensures settings { SameDevice (D.state device.old) (D.state device.new) }
     ensures rises { (D.state device.new).faults ≡ (D.state device.old).faults + failures result }
     ensures emptied { OnOk result ((D.state device.new).held ≡ []) }
@@ -41,6 +42,19 @@ fn empty<D: LinkDevice>(device: &mut D) -> Result<(), DeviceFault>
         device.receive(&mut scratch[..n])?;
     }
     Ok(())
+}
+
+/// Leaves a device with nothing. Mostly it holds nothing, and no room for bytes is cleared.
+fn empty<D: LinkDevice>(device: &mut D) -> Result<(), DeviceFault>
+    ensures settings { SameDevice (D.state device.old) (D.state device.new) }
+    ensures rises { (D.state device.new).faults ≡ (D.state device.old).faults + failures result }
+    ensures emptied { OnOk result ((D.state device.new).held ≡ []) }
+    ensures cause { IfErr result (HasCause (D.state device.old) ⊥) }
+{
+    if device.held() == 0 {
+        return Ok(());
+    }
+    throw_away(device)
 }
 
 /// Empties the three devices, and sends a packet to the source.

@@ -12,7 +12,7 @@ use crate::job::Job;
 use std::alloc::Global;
 use std::snapshot::Snapshot;
 use std::sync::Wait;
-use tp_board::{Packet, Work, WorkSource};
+use tp_board::{Lent, Packet, WorkSource};
 use tp_collect::Done;
 use tp_link::{LinkDevice, LinkFault, Links};
 use tp_machine::Machine;
@@ -115,14 +115,13 @@ fn take_turn<W: WorkSource, D: LinkDevice, G: Gate>(
         source.stop(&mut member.hand);
         return Some(End::Stopped);
     }
-    let work = source.next(rt, &mut member.hand);
-    match &work {
-        Work::Packet { number, bytes } => {
-            file_packet(job, gate, source, member, *number, bytes);
+    match source.lend(rt, &mut member.hand) {
+        Lent::Packet(number, packet) => {
+            file_packet(job, gate, source, member, number, packet);
             None
         }
-        Work::NoMore => Some(End::Drained),
-        Work::Stopped => Some(End::Stopped),
+        Lent::NoMore => Some(End::Drained),
+        Lent::Stopped => Some(End::Stopped),
     }
 }
 
