@@ -7,7 +7,7 @@ ghost use Rattle.tp_farm.specs.Members.{KeepsAccounts, EndsBy, IsRefused};
 ghost use Rattle.tp_farm.specs.Turns.{no_progress, MayTake, HasTaken, HasPutDown};
 
 use crate::gate::Gate;
-use crate::handling::handle;
+use crate::handling::{Received, handle};
 use crate::job::Job;
 use std::alloc::Global;
 use std::snapshot::Snapshot;
@@ -43,6 +43,7 @@ pub(crate) struct Member<H, D> {
     pub(crate) hand: H,
     pub(crate) machine: Machine,
     pub(crate) links: Links<D>,
+    pub(crate) received: Received,
     /// What became of its packets so far.
     pub(crate) filed: Vec<Filed>,
     /// The devices at its start, for contracts.
@@ -71,7 +72,15 @@ fn file_packet<W: WorkSource, D: LinkDevice, G: Gate>(
     ensures put_down { HasPutDown (W.progress member.old.hand) (W.progress member.new.hand) }
 {
     gate.claimed(member.number, number);
-    match handle(&mut member.machine, job, number, packet, &mut member.links) {
+    let answer = handle(
+        &mut member.machine,
+        job,
+        number,
+        packet,
+        &mut member.links,
+        &mut member.received,
+    );
+    match answer {
         Ok(done) => {
             member.filed.push_reserved(Filed::Done(done));
             let _ = source.finish(&mut member.hand);
