@@ -37,8 +37,7 @@ impl Kept {
         ensures image { self.new.image ≡ self.old.image }
         ensures packets { OnOk result (self.new.packets.items ≡ self.old.packets.items ++ packet ∷ []) }
     {
-        self.packets.reserve(1)?;
-        self.packets.push_reserved(packet);
+        self.packets.push(packet)?;
         Ok(())
     }
 
