@@ -132,9 +132,6 @@ looks_keep (suc k) v u none h =
     (ih.0, ih.1, ih.2, ih.3, ih.4 ∙ ap (λ n. record (progress_of v) { stop_seen = nat_lt 0 n }) (sym none))
 
 -- what was found, as the answer that carries it
-pub next_carried : (v w : View) (answer found : Work) → answer ≡ found → NextAfter [] v found w → NextAfter [] v answer w
-next_carried v w answer found is h = subst (λ (x : Work). NextAfter [] v x w) (sym is) h
-
 pub next_after : (v u w : View) (k : ℕ) (given : Work) → v.seen.stop ≡ 0 → Makes v (replicate k sees_no_stop) u → NextAfter [] u given w → v.ended ≡ 0 → NextAfter (replicate k sees_no_stop) v given w
 next_after v u w k (work.Packet n bytes) none made_looks says going =
     let same = looks_keep k v u none made_looks in

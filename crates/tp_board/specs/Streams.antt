@@ -12,8 +12,6 @@ use Rattle.tp_board.specs.declared.source.Work.{Work}
 use Rattle.tp_board.specs.declared.source.Work.TheVariants as work
 use Rattle.tp_board.specs.declared.stream_hand.Fed.{Fed}
 use Rattle.tp_board.specs.declared.stream_hand.Fed.TheVariants as fed
-use Rattle.tp_board.specs.declared.stream_hand.Taken.{Taken}
-use Rattle.tp_board.specs.declared.stream_hand.Taken.TheVariants as taken
 use Rattle.tp_board.specs.declared.view.View.{View}
 use Rattle.tp_board.specs.Calls.{MadeStep, made, Makes, sees_no_stop, sees_stop}
 use Rattle.tp_board.specs.Counting.{times, hand_list, AreBelow}
@@ -165,12 +163,6 @@ abbrev pub HasBytes : List (List ℕ) → Work → Type 0
 HasBytes packets (work.Packet n bytes) = slice_get packets n ≡ Some bytes.items
 HasBytes packets work.NoMore = Unit {0}
 HasBytes packets work.Stopped = Unit {0}
-
--- the answer that carries what a try to take found
-abbrev pub work_of : Taken → Work
-work_of (taken.Packet n packet) = work.Packet n packet.now
-work_of taken.NoMore = work.NoMore
-work_of taken.Stopped = work.Stopped
 
 -- a load of the stop mark, which was 0, and nothing at the queue
 abbrev pub LooksOnly : FeederView → FeederView → Type 0

@@ -7,8 +7,7 @@ ghost use Rattle.tp_board.specs.Sources.{SourceView, source_of};
 use crate::answer::{BoardFault, Claim};
 use crate::board::Board;
 use crate::seat::Seat;
-use crate::source::{Packet, Work, WorkSource};
-use arrayvec::ArrayVec;
+use crate::source::{Lent, Packet, Work, WorkSource, answered};
 use std::marker::Model;
 use std::sync::Wait;
 
@@ -47,7 +46,7 @@ impl<'p> BoardSource<'p> {
 
 impl<'p> WorkSource for BoardSource<'p> {
     ghost use Rattle.tp_board.specs.declared.answer.BoardFault.TheVariants.{EmptyHand};
-    ghost use Rattle.tp_board.specs.Sources.{progress_of, claim_of, NextSays, HandFinished, HandAbandoned};
+    ghost use Rattle.tp_board.specs.Sources.{progress_of, claim_of, work_of, NextSays, HandFinished, HandAbandoned};
     ghost use Rattle.tp_board.specs.Views.{first_of};
 
     type Hand = Seat;
@@ -59,20 +58,28 @@ impl<'p> WorkSource for BoardSource<'p> {
     ghost packets = { λ s. s.packets };
 
     /// One claim.
-    fn next(&self, _rt: &impl Wait, hand: &mut Seat) -> Work
+    fn next(&self, rt: &impl Wait, hand: &mut Seat) -> Work
         requires own { IsSeatOf self.now.board hand.old }
         requires empty { first_of hand.old.view.hand ≡ None }
         ensures own { IsSeatOf self.now.board hand.new }
         ensures work { NextSays self.now.packets (progress_of hand.old.view) result (progress_of hand.new.view) }
         ensures steps { ClaimSays hand.old.view (claim_of result) hand.new.view }
     {
+        answered(self.lend(rt, hand))
+    }
+
+    /// One claim.
+    fn lend(&self, _rt: &impl Wait, hand: &mut Seat) -> Lent<'_>
+        requires own { IsSeatOf self.now.board hand.old }
+        requires empty { first_of hand.old.view.hand ≡ None }
+        ensures own { IsSeatOf self.now.board hand.new }
+        ensures work { NextSays self.now.packets (progress_of hand.old.view) (work_of result) (progress_of hand.new.view) }
+        ensures steps { ClaimSays hand.old.view (claim_of (work_of result)) hand.new.view }
+    {
         match self.board.claim(hand) {
-            Claim::Packet(number) => Work::Packet {
-                number,
-                bytes: copied(&self.packets[number as usize]),
-            },
-            Claim::NoMore => Work::NoMore,
-            Claim::Stopped => Work::Stopped,
+            Claim::Packet(number) => Lent::Packet(number, &self.packets[number as usize]),
+            Claim::NoMore => Lent::NoMore,
+            Claim::Stopped => Lent::Stopped,
             Claim::Busy(_) => unreachable!(),
         }
     }
@@ -112,13 +119,4 @@ impl<'p> WorkSource for BoardSource<'p> {
     {
         self.board.stop(hand);
     }
-}
-
-// The same bytes. `clone` would take memory's Result.
-pub(crate) fn copied(packet: &Packet) -> Packet
-    ensures { result.items ≡ packet.now.items }
-{
-    let mut copy = ArrayVec::new();
-    let _ = copy.try_extend_from_slice(packet.as_slice());
-    copy
 }

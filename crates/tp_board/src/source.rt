@@ -1,6 +1,7 @@
 //! Where a member's work comes from.
 ghost use Rattle.std.specs.Prelude.{◌≡◌, true, IfOk, IfErr, OnErr};
 ghost use Rattle.tp_board.specs.declared.answer.BoardFault.TheVariants.{EmptyHand};
+ghost use Rattle.tp_board.specs.Sources.{work_of};
 
 use crate::answer::BoardFault;
 use arrayvec::ArrayVec;
@@ -20,11 +21,45 @@ pub enum Work {
     Stopped,
 }
 
+/// What a request for work found, where the packet's bytes stay in the source.
+#[derive(Clone, Copy)]
+pub enum Lent<'p> {
+    /// The packet of this number, which is now in hand.
+    Packet(u32, &'p Packet),
+    /// All packets were given out.
+    NoMore,
+    /// The source was stopped.
+    Stopped,
+}
+
+/// The answer with the bytes of what was found.
+pub(crate) fn answered(lent: Lent<'_>) -> Work
+    ensures { result ≡ work_of lent.entry }
+{
+    match lent {
+        Lent::Packet(number, packet) => Work::Packet {
+            number,
+            bytes: copied(packet),
+        },
+        Lent::NoMore => Work::NoMore,
+        Lent::Stopped => Work::Stopped,
+    }
+}
+
+// The same bytes. `clone` would take memory's Result.
+fn copied(packet: &Packet) -> Packet
+    ensures { result.items ≡ packet.now.items }
+{
+    let mut copy = ArrayVec::new();
+    let _ = copy.try_extend_from_slice(packet.as_slice());
+    copy
+}
+
 /// Packets that members take, each member through a hand of its own, from any thread. No call
-/// takes memory, and `next` alone may wait.
+/// takes memory, and `next` and `lend` alone may wait.
 pub trait WorkSource {
     ghost use Rattle.std.specs.Prelude.{ℕ, List};
-    ghost use Rattle.tp_board.specs.Sources.{Progress, NextSays, HandFinished, HandAbandoned};
+    ghost use Rattle.tp_board.specs.Sources.{Progress, NextSays, work_of, HandFinished, HandAbandoned};
 
     type Hand;
 
@@ -43,6 +78,13 @@ pub trait WorkSource {
         requires empty { (Self.progress hand.old).in_hand ≡ None }
         ensures own { Self.is_own self.now hand.new }
         ensures work { NextSays (Self.packets self.now) (Self.progress hand.old) result (Self.progress hand.new) };
+
+    /// As `next`, but nothing is copied.
+    fn lend(&self, rt: &impl Wait, hand: &mut Self::Hand) -> Lent<'_>
+        requires own { Self.is_own self.now hand.old }
+        requires empty { (Self.progress hand.old).in_hand ≡ None }
+        ensures own { Self.is_own self.now hand.new }
+        ensures work { NextSays (Self.packets self.now) (Self.progress hand.old) (work_of result) (Self.progress hand.new) };
 
     /// The packet in hand is done: its number. A3 with nothing in hand.
     fn finish(&self, hand: &mut Self::Hand) -> Result<u32, BoardFault>

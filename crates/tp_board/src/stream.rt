@@ -9,20 +9,19 @@ ghost use Rattle.tp_board.specs.Ledgers.{Balances, join_of_all};
 ghost use Rattle.tp_board.specs.Counting.{hand_list};
 ghost use Rattle.tp_board.specs.Lines.{hand};
 ghost use Rattle.tp_board.specs.Openings.{InRange};
-ghost use Rattle.tp_board.specs.Sources.{progress_of, NextSays};
+ghost use Rattle.tp_board.specs.Sources.{progress_of, work_of, NextSays};
 ghost use Rattle.tp_board.specs.Streams.{StreamView, stream_of, hand_of_parts, seen_of, hand_seen, feeder_seen, all_seen};
 ghost use Rattle.tp_board.specs.Streams.{IsStream, IsHandOf, IsFeederOf, new_hand_of, new_feeder_of};
-ghost use Rattle.tp_board.specs.Streams.{NextAfter, NextMakes, HasBytes, FeedSays, IsLeft, Agrees, work_of};
+ghost use Rattle.tp_board.specs.Streams.{NextAfter, NextMakes, HasBytes, FeedSays, IsLeft, Agrees};
 
 use crate::answer::{BoardFault, Ledger, MAX_MEMBERS, MAX_PACKETS};
-use crate::board_source::copied;
 use crate::desk::{
     DONE, Desk, LOST, STOP, Token, another_seat, join_seats, look_stop, open_desk, report_done,
     report_lost, set_stop,
 };
 use crate::line::{Item, Line, Place, drained, feed, join, new_hand, opened, take};
-use crate::source::{Packet, Work, WorkSource};
-use crate::stream_hand::{Fed, Feeder, StreamHand, StreamLedger, Taken};
+use crate::source::{Lent, Packet, Work, WorkSource, answered};
+use crate::stream_hand::{Fed, Feeder, StreamHand, StreamLedger};
 use std::alloc::Global;
 use std::marker::Model;
 use std::sync::Wait;
@@ -144,22 +143,22 @@ impl<'p> StreamQueue<'p> {
     }
 
     // The next packet, the end or the stop, by tries until one has an answer.
-    fn next_item<R: Wait>(&self, rt: &R, hand: &mut StreamHand) -> Work
+    fn next_item<R: Wait>(&self, rt: &R, hand: &mut StreamHand) -> Lent<'_>
         requires own { IsHandOf self.now hand.old }
         requires empty { first_of (hand_list hand.old.number) ≡ None }
         ensures own { IsHandOf self.now hand.new }
-        ensures work { NextSays self.now.packets (progress_of (hand_seen hand.old)) result (progress_of (hand_seen hand.new)) }
-        ensures steps { NextMakes (hand_seen hand.old) result (hand_seen hand.new) }
+        ensures work { NextSays self.now.packets (progress_of (hand_seen hand.old)) (work_of result) (progress_of (hand_seen hand.new)) }
+        ensures steps { NextMakes (hand_seen hand.old) (work_of result) (hand_seen hand.new) }
     {
         if hand.ended {
-            return Work::NoMore;
+            return Lent::NoMore;
         }
         if hand.stop_seen {
-            return Work::Stopped;
+            return Lent::Stopped;
         }
         for _ in rt.forever() {
-            if let Some(taken) = self.try_next(rt, hand) {
-                return answered(taken);
+            if let Some(lent) = self.try_next(rt, hand) {
+                return lent;
             }
             thread::yield_now();
         }
@@ -167,8 +166,8 @@ impl<'p> StreamQueue<'p> {
     }
 
     // One load of the stop mark and, where that is clear, one try to pop. None only where the queue
-    // was empty. A try that finds nothing copies no packet.
-    fn try_next<R: Wait>(&self, rt: &R, hand: &mut StreamHand) -> Option<Taken<'_>>
+    // was empty.
+    fn try_next<R: Wait>(&self, rt: &R, hand: &mut StreamHand) -> Option<Lent<'_>>
         requires own { IsHandOf self.now hand.old }
         requires empty { hand.old.number ≡ None }
         requires going { ((hand_seen hand.old).ended ≡ 0) × ((hand_seen hand.old).seen.stop ≡ 0) }
@@ -179,16 +178,16 @@ impl<'p> StreamQueue<'p> {
     {
         if look_stop(&self.desk, &mut hand.token) != 0 {
             hand.stop_seen = true;
-            return Some(Taken::Stopped);
+            return Some(Lent::Stopped);
         }
         match take(rt, &self.line, &mut hand.pass) {
             Some(Item::Number(number)) => {
                 hand.number = Some(number);
-                Some(Taken::Packet(number, &self.packets[number as usize]))
+                Some(Lent::Packet(number, &self.packets[number as usize]))
             }
             Some(Item::End) => {
                 hand.ended = true;
-                Some(Taken::NoMore)
+                Some(Lent::NoMore)
             }
             None => None,
         }
@@ -258,20 +257,6 @@ impl<'p> StreamQueue<'p> {
     }
 }
 
-// The answer to a request for work, with a packet's bytes.
-fn answered(taken: Taken<'_>) -> Work
-    ensures { result ≡ work_of taken.entry }
-{
-    match taken {
-        Taken::Packet(number, packet) => Work::Packet {
-            number,
-            bytes: copied(packet),
-        },
-        Taken::NoMore => Work::NoMore,
-        Taken::Stopped => Work::Stopped,
-    }
-}
-
 // The ledger that the queue and the three words give.
 fn tally(drawn: u32, done: u64, lost: u64, stop: u64) -> Ledger
     requires { done + lost ≤ drawn }
@@ -326,6 +311,17 @@ impl<'p> WorkSource for StreamQueue<'p> {
         ensures own { IsHandOf self.now hand.new }
         ensures work { NextSays self.now.packets (progress_of (hand_seen hand.old)) result (progress_of (hand_seen hand.new)) }
         ensures steps { NextMakes (hand_seen hand.old) result (hand_seen hand.new) }
+    {
+        answered(self.next_item(rt, hand))
+    }
+
+    /// The same loads and tries.
+    fn lend(&self, rt: &impl Wait, hand: &mut StreamHand) -> Lent<'_>
+        requires own { IsHandOf self.now hand.old }
+        requires empty { (progress_of (hand_seen hand.old)).in_hand ≡ None }
+        ensures own { IsHandOf self.now hand.new }
+        ensures work { NextSays self.now.packets (progress_of (hand_seen hand.old)) (work_of result) (progress_of (hand_seen hand.new)) }
+        ensures steps { NextMakes (hand_seen hand.old) (work_of result) (hand_seen hand.new) }
     {
         self.next_item(rt, hand)
     }

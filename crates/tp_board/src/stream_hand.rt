@@ -5,7 +5,6 @@ ghost use Rattle.tp_board.specs.Streams.{HandView, FeederView, turn_of, hand_of_
 use crate::answer::Ledger;
 use crate::desk::Token;
 use crate::line::Place;
-use crate::source::Packet;
 use std::marker::Model;
 
 /// The answer to a try to feed.
@@ -19,17 +18,6 @@ pub enum Fed {
     Stopped,
     /// All packets and an end mark for each member are pushed.
     Over,
-}
-
-/// What a try to take found in the queue, or at the stop mark.
-#[derive(Clone, Copy)]
-pub enum Taken<'p> {
-    /// The packet of this number.
-    Packet(u32, &'p Packet),
-    /// An end mark.
-    NoMore,
-    /// The stream's stop mark is set.
-    Stopped,
 }
 
 /// What became of a stream's packets.

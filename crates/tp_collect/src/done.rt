@@ -1,6 +1,6 @@
 //! Results of runs.
 
-ghost use Rattle.std.specs.Prelude.{◌≡◌};
+ghost use Rattle.std.specs.Prelude.{◌≡◌, ◌≤◌, length};
 ghost use Rattle.tp_step.specs.Runs.{RunsAlone};
 
 use crate::limits::MESSAGE_BYTES;
@@ -42,9 +42,21 @@ impl Model for Done {
     ghost invariant = { λ d. IsAlone (value_of_done d) };
 }
 
+/// These bytes. The room behind them is cleared.
+#[inline(always)]
+fn message(bytes: &[u8]) -> ArrayVec<u8, MESSAGE_BYTES>
+    requires { length bytes.now ≤ 256 }
+    ensures { result.items ≡ bytes.now }
+{
+    let mut message = ArrayVec::new();
+    let _ = message.try_extend_from_slice(bytes);
+    message
+}
+
 impl Done {
     /// The result of a packet of a batch: `bytes` are the packet's. It takes no memory, and borrows neither the image nor
     /// the packet.
+    #[inline(always)]
     pub fn new(
         batch: u64,
         image: &Image,
@@ -68,5 +80,34 @@ impl Done {
             image: Snapshot::of(image),
             bytes: Snapshot::of(bytes),
         }
+    }
+
+    /// As `new`, but the result and the trace are copied from where they lie.
+    #[inline(always)]
+    pub fn copied(
+        batch: u64,
+        image: &Image,
+        packet: u32,
+        bytes: &ArrayVec<u8, MESSAGE_BYTES>,
+        result_bytes: &[u8],
+        error: bool,
+        steps: u32,
+        trace: &[u8],
+    ) -> Done
+        requires result { length result_bytes.now ≤ 256 }
+        requires trace { length trace.now ≤ 256 }
+        requires alone { RunsAlone image.now bytes.now.items record { result = result_bytes.now; error = error; steps = steps; trace = trace.now } }
+        ensures { result ≡ record { batch = batch; packet = packet; result = result_bytes.now; error = error; steps = steps; trace = trace.now; image = image.now; bytes = bytes.now.items } }
+    {
+        Done::new(
+            batch,
+            image,
+            packet,
+            bytes,
+            message(result_bytes),
+            error,
+            steps,
+            message(trace),
+        )
     }
 }

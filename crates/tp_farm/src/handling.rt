@@ -1,6 +1,6 @@
 //! The handling of one packet.
 
-ghost use Rattle.std.specs.Prelude.{◌≡◌, ℕ, ◌*◌, ◌+◌, ◌≤◌, ◌<◌, length, [], slice_get, OnOk, IfOk, IfErr, Ok, Err, Some};
+ghost use Rattle.std.specs.Prelude.{◌≡◌, ℕ, ◌*◌, ◌+◌, ◌≤◌, ◌<◌, length, [], take, slice_get, OnOk, IfOk, IfErr, Ok, Err, Some};
 ghost use Rattle.tp_link.specs.Device.{failures};
 ghost use Rattle.tp_machine.specs.Devices.{devices_of};
 ghost use Rattle.tp_collect.specs.Collected.{IsResult};
@@ -28,8 +28,9 @@ fn of_link<T>(link: Link, answer: Result<T, DeviceFault>) -> Result<T, LinkFault
     }
 }
 
-/// Receives all that a device holds.
-fn empty<D: LinkDevice>(device: &mut D) -> Result<(), DeviceFault>
+/// Receives all that a device holds, and throws it away.
+#[inline(never)]
+fn throw_away<D: LinkDevice>(device: &mut D) -> Result<(), DeviceFault>
     ensures settings { SameDevice (D.state device.old) (D.state device.new) }
     ensures rises { (D.state device.new).faults ≡ (D.state device.old).faults + failures result }
     ensures emptied { OnOk result ((D.state device.new).held ≡ []) }
@@ -41,6 +42,19 @@ fn empty<D: LinkDevice>(device: &mut D) -> Result<(), DeviceFault>
         device.receive(&mut scratch[..n])?;
     }
     Ok(())
+}
+
+/// Leaves a device with nothing. Mostly it holds nothing, and no room for bytes is cleared.
+fn empty<D: LinkDevice>(device: &mut D) -> Result<(), DeviceFault>
+    ensures settings { SameDevice (D.state device.old) (D.state device.new) }
+    ensures rises { (D.state device.new).faults ≡ (D.state device.old).faults + failures result }
+    ensures emptied { OnOk result ((D.state device.new).held ≡ []) }
+    ensures cause { IfErr result (HasCause (D.state device.old) ⊥) }
+{
+    if device.held() == 0 {
+        return Ok(());
+    }
+    throw_away(device)
 }
 
 /// Empties the three devices, and sends a packet to the source.
@@ -78,42 +92,53 @@ fn run_on<D: LinkDevice>(
     machine.run(accepted, links)
 }
 
-/// Receives the n bytes that a device holds, behind none. An answer that carried them would be copied at each call that hands it
-/// on.
+/// Where a member receives results and traces, packet after packet: it is not cleared between them.
+#[derive(Drop)]
+pub(crate) struct Received {
+    pub(crate) result: [u8; MESSAGE_BYTES],
+    pub(crate) trace: [u8; MESSAGE_BYTES],
+}
+
+impl Received {
+    pub(crate) fn new() -> Received {
+        Received {
+            result: [0; MESSAGE_BYTES],
+            trace: [0; MESSAGE_BYTES],
+        }
+    }
+}
+
+/// Receives the n bytes that a device holds.
 fn receive_held<D: LinkDevice>(
     device: &mut D,
     n: usize,
-    bytes: &mut Packet,
+    into: &mut [u8; MESSAGE_BYTES],
 ) -> Result<(), DeviceFault>
     requires count { n ≡ length (D.state device.old).held }
     requires most { n ≤ 256 }
-    requires none { bytes.old.items ≡ [] }
     ensures settings { SameDevice (D.state device.old) (D.state device.new) }
     ensures rises { (D.state device.new).faults ≡ (D.state device.old).faults + failures result }
-    ensures bytes { OnOk result (bytes.new.items ≡ (D.state device.old).held) }
+    ensures bytes { OnOk result (take n into.new ≡ (D.state device.old).held) }
     ensures cause { IfErr result (HasCause (D.state device.old) ⊥) }
 {
     if n == 0 {
         return Ok(());
     }
-    let mut scratch = [0u8; MESSAGE_BYTES];
-    device.receive(&mut scratch[..n])?;
-    bytes.try_extend_from_slice(&scratch[..n]).unwrap();
-    Ok(())
+    device.receive(&mut into[..n])
 }
 
-/// Receives the trace of a packet that was run, where that is no more than a trace may have, behind none.
+/// Receives the trace of a packet that was run, where that is no more than a trace may have: of so many bytes.
 fn receive_trace<D: LinkDevice>(
     _accepted: &Accepted,
     _packet: &Packet,
     links: &mut Links<D>,
-    trace: &mut Packet,
-) -> Result<(), LinkFault>
-    requires none { trace.old.items ≡ [] }
+    into: &mut [u8; MESSAGE_BYTES],
+) -> Result<usize, LinkFault>
     requires traced { HasTraced _accepted.now.image _packet.now.items (D.state links.old.trace).held }
     ensures settings { SameSettings (devices_of D.state links.old) (devices_of D.state links.new) }
     ensures rises { Rises (devices_of D.state links.old) (devices_of D.state links.new) (λ which. failed_in which result) }
-    ensures bytes { OnOk result (trace.new.items ≡ (D.state links.old.trace).held) }
+    ensures bytes { IfOk result (λ n. take n into.new ≡ (D.state links.old.trace).held) }
+    ensures most { IfOk result (λ n. n ≤ 256) }
     ensures reason { IfErr result (HasReason _accepted.now.image _packet.now.items (devices_of D.state links.old)) }
 {
     let n = links.trace.held();
@@ -123,19 +148,22 @@ fn receive_trace<D: LinkDevice>(
             code: DeviceFault::Full,
         });
     }
-    of_link(Link::Trace, receive_held(&mut links.trace, n, trace))
+    of_link(Link::Trace, receive_held(&mut links.trace, n, into))?;
+    Ok(n)
 }
 
 /// Runs the worker on the packet of a number, over the member's devices: they are emptied, the packet is sent to the
 /// source, the worker runs, and the result and the trace are received. The first refusal ends it. A trace of more than
 /// 256 bytes is refused as K2 of the trace.
 #[tactic(auto, using(crate::proofs::Refusals::same_reason))]
+#[inline(always)]
 pub(crate) fn handle<D: LinkDevice>(
     machine: &mut Machine,
     job: &Job<'_>,
     number: u32,
     packet: &Packet,
     links: &mut Links<D>,
+    received: &mut Received,
 ) -> Result<Done, LinkFault>
     requires packet { slice_get (batch_of job.now).packets number ≡ Some packet.now.items }
     requires length { length packet.now.items ≡ 4 * job.now.image.now.image.packet }
@@ -146,19 +174,18 @@ pub(crate) fn handle<D: LinkDevice>(
 {
     prepare(job.image, packet, links)?;
     let outcome = run_on(machine, job.image, packet, links)?;
-    let mut result_bytes = Packet::new();
-    let answer = receive_held(&mut links.sink, job.image.result_bytes(), &mut result_bytes);
+    let n = job.image.result_bytes();
+    let answer = receive_held(&mut links.sink, n, &mut received.result);
     of_link(Link::Sink, answer)?;
-    let mut trace = Packet::new();
-    receive_trace(job.image, packet, links, &mut trace)?;
-    Ok(Done::new(
+    let traced = receive_trace(job.image, packet, links, &mut received.trace)?;
+    Ok(Done::copied(
         job.batch,
         job.image.image(),
         number,
         packet,
-        result_bytes,
+        &received.result[..n],
         outcome.error,
         outcome.steps,
-        trace,
+        &received.trace[..traced],
     ))
 }

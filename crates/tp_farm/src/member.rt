@@ -7,12 +7,12 @@ ghost use Rattle.tp_farm.specs.Members.{KeepsAccounts, EndsBy, IsRefused};
 ghost use Rattle.tp_farm.specs.Turns.{no_progress, MayTake, HasTaken, HasPutDown};
 
 use crate::gate::Gate;
-use crate::handling::handle;
+use crate::handling::{Received, handle};
 use crate::job::Job;
 use std::alloc::Global;
 use std::snapshot::Snapshot;
 use std::sync::Wait;
-use tp_board::{Packet, Work, WorkSource};
+use tp_board::{Lent, Packet, WorkSource};
 use tp_collect::Done;
 use tp_link::{LinkDevice, LinkFault, Links};
 use tp_machine::Machine;
@@ -43,6 +43,7 @@ pub(crate) struct Member<H, D> {
     pub(crate) hand: H,
     pub(crate) machine: Machine,
     pub(crate) links: Links<D>,
+    pub(crate) received: Received,
     /// What became of its packets so far.
     pub(crate) filed: Vec<Filed>,
     /// The devices at its start, for contracts.
@@ -71,7 +72,15 @@ fn file_packet<W: WorkSource, D: LinkDevice, G: Gate>(
     ensures put_down { HasPutDown (W.progress member.old.hand) (W.progress member.new.hand) }
 {
     gate.claimed(member.number, number);
-    match handle(&mut member.machine, job, number, packet, &mut member.links) {
+    let answer = handle(
+        &mut member.machine,
+        job,
+        number,
+        packet,
+        &mut member.links,
+        &mut member.received,
+    );
+    match answer {
         Ok(done) => {
             member.filed.push_reserved(Filed::Done(done));
             let _ = source.finish(&mut member.hand);
@@ -115,14 +124,13 @@ fn take_turn<W: WorkSource, D: LinkDevice, G: Gate>(
         source.stop(&mut member.hand);
         return Some(End::Stopped);
     }
-    let work = source.next(rt, &mut member.hand);
-    match &work {
-        Work::Packet { number, bytes } => {
-            file_packet(job, gate, source, member, *number, bytes);
+    match source.lend(rt, &mut member.hand) {
+        Lent::Packet(number, packet) => {
+            file_packet(job, gate, source, member, number, packet);
             None
         }
-        Work::NoMore => Some(End::Drained),
-        Work::Stopped => Some(End::Stopped),
+        Lent::NoMore => Some(End::Drained),
+        Lent::Stopped => Some(End::Stopped),
     }
 }
 

@@ -4,6 +4,7 @@ ghost use Rattle.std.specs.Prelude.{◌≡◌, IfSome};
 ghost use Rattle.tp_farm.specs.Working.{IsSet, IsFresh, HasWorked, work_of};
 
 use crate::gate::Gate;
+use crate::handling::Received;
 use crate::job::Job;
 use crate::member::{End, Filed, Member, work};
 use std::alloc::Global;
@@ -49,6 +50,7 @@ pub(crate) fn work_as<S: WorkSource, D: LinkDevice, G: Gate>(
         hand,
         machine: Machine::new(),
         links,
+        received: Received::new(),
         filed: Vec::new(alloc),
         entry,
     };

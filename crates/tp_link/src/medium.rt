@@ -1,4 +1,4 @@
-ghost use Rattle.std.specs.Prelude.{◌≡◌, ◌≤◌, ◌<◌, length, All, IfOk, false};
+ghost use Rattle.std.specs.Prelude.{◌≡◌, ◌≤◌, ◌<◌, length, drop, vec_len, vec_capacity, All, IfOk, false};
 ghost use Rattle.tp_link.specs.Device.{plain_send, plain_receive, held_after_send, held_after_receive, received};
 ghost use Rattle.tp_link.specs.Medium.{empty_medium, with_bytes, wired, unwired, faultless_device};
 
@@ -27,6 +27,19 @@ impl Model for Medium {
     ghost view = { λ m. record { bytes = m.bytes.items; room = m.room; opened = m.opened; ended = m.ended } };
 
     ghost invariant = { λ m. (vec_len m.bytes ≤ m.room) × (m.room ≤ vec_capacity m.bytes) };
+}
+
+/// Takes out the first n bytes. Mostly these are all, and then none is moved.
+fn take_out(bytes: &mut Vec<u8>, n: usize)
+    requires { n ≤ vec_len bytes.old }
+    ensures bytes { bytes.new.items ≡ drop n bytes.old.items }
+    ensures capacity { vec_capacity bytes.new ≡ vec_capacity bytes.old }
+{
+    if n == bytes.len() {
+        bytes.clear();
+    } else {
+        bytes.drain(..n);
+    }
 }
 
 impl Medium {
@@ -130,7 +143,7 @@ impl Medium {
             return Err(DeviceFault::Short);
         }
         into.copy_from_slice(&self.bytes[..into.len()]);
-        self.bytes.drain(..into.len());
+        take_out(&mut self.bytes, into.len());
         Ok(())
     }
 }
