@@ -28,6 +28,9 @@ const MOST_SESSIONS: usize = 64;
 /// The most packets that a session keeps.
 const MOST_PACKETS: usize = 1024;
 
+/// The most bytes of a packet.
+const MOST_PACKET_BYTES: usize = 256;
+
 /// A line that is refused: its code and the place, behind what is told already.
 pub fn refusal(told: &mut Vec<u8>, code: &str, place: u64) -> Result<(), AllocError>
     ensures { OnOk result (told.new.items ≡ told.old.items ++ refusal code.now place) }
@@ -125,14 +128,14 @@ pub fn open(
     judge(sessions, told, alloc, place, name, text)
 }
 
-/// The packet of the bytes that are spelled, which are decoded into it: over as many digits.
+/// The packet of the bytes that are spelled, which are decoded into it.
 fn packet_of(bytes: &Spelled<'_>) -> Packet
     requires { length (bytes_spelled bytes.now) ≤ 256 }
     ensures items { result.items ≡ bytes_spelled bytes.now }
     ensures bytes { IsTrue (list_all (λ b. nat_lt b 256) result.items) }
 {
-    let mut packet = Packet::new();
-    let _ = packet.try_extend_from_slice(bytes.half());
+    let mut packet = Packet::from_array_in((), [0; MOST_PACKET_BYTES]);
+    packet.truncate(bytes.count());
     bytes.decode_into(packet.as_mut_slice());
     packet
 }

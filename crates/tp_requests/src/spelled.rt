@@ -45,13 +45,6 @@ impl<'a> Spelled<'a> {
         self.digits.len() / 2
     }
 
-    /// Half of the digits: they are as many as the bytes.
-    pub fn half(&self) -> &[u8]
-        ensures { length result.now ≡ length (bytes_spelled self.now) }
-    {
-        &self.digits[..self.digits.len() / 2]
-    }
-
     /// Writes the bytes over as many.
     pub fn decode_into(&self, bytes: &mut [u8])
         requires { length bytes.old ≡ length (bytes_spelled self.now) }
