@@ -156,11 +156,13 @@ fn left(turn: Option<Turn>, stood: Stood<'_>) -> Option<End> {
     }
 }
 
-/// Makes one instruction, and tells it where the span has it. How the run is left comes back, if it is.
+/// Makes one instruction, and tells it where the span has it. How the run is left comes back, if it is; else `stands` are the words
+/// where it stands now.
 fn tell_one<D: LinkDevice, W: Write>(
     alloc: Global,
     stepper: &mut Stepper,
     links: &mut Links<D>,
+    stands: &mut Workspace,
     sent: &mut Sent,
     progress: &mut Progress,
     writer: &mut W,
@@ -168,13 +170,12 @@ fn tell_one<D: LinkDevice, W: Write>(
     let registers = stepper.registers();
     let at = registers.iptr;
     let phase = stepper.phase();
-    let before = Workspace::of(alloc, stepper)?;
     let turn = stepper.next(links);
     let stood = Stood {
         image: stepper.image(),
         registers,
         phase,
-        workspace: &before,
+        workspace: stands,
     };
     if let Some(end) = left(turn, stood) {
         return Ok(Some(end));
@@ -184,11 +185,11 @@ fn tell_one<D: LinkDevice, W: Write>(
     progress.count = progress.count.saturating_add(bytes);
     let result = taken(alloc, &mut links.sink, &mut sent.result)?;
     let trace = taken(alloc, &mut links.trace, &mut sent.trace)?;
+    let after = Workspace::of(alloc, stepper)?;
     if progress.is_told {
-        let after = Workspace::of(alloc, stepper)?;
         tell_registers(writer, progress.count, code, at, &stepper.registers())?;
         let written = Written {
-            before: &before,
+            before: stands,
             after: &after,
         };
         write!(writer, "{written}").map_err(|_| TellFault::Write)?;
@@ -196,6 +197,7 @@ fn tell_one<D: LinkDevice, W: Write>(
         tell_bytes(writer, "trace", trace.as_str())?;
         writeln!(writer).map_err(|_| TellFault::Write)?;
     }
+    *stands = after;
     Ok(None)
 }
 
@@ -243,6 +245,7 @@ pub fn tell<W: Write>(
     let mut links = media.wires();
     let _ = links.source.send(packet);
     let mut stepper = Stepper::new(image);
+    let mut stands = Workspace::of(alloc, &stepper)?;
     let mut sent = Sent {
         result: Vec::new(alloc),
         trace: Vec::new(alloc),
@@ -261,6 +264,7 @@ pub fn tell<W: Write>(
             alloc,
             &mut stepper,
             &mut links,
+            &mut stands,
             &mut sent,
             &mut progress,
             writer,
