@@ -19,7 +19,7 @@ use std::thread::Threads;
 use tp_answers::{Kept, tell_done, tell_entries};
 use tp_collect::Collected;
 use tp_farm::laws::long_traces_alone_are_lost;
-use tp_farm::{FarmFault, Job, OpenGate, run_batch};
+use tp_farm::{FarmFault, Job, OpenGate, run_batch_over_board};
 use tp_link::{LinkDevice, Links};
 
 /// Why a batch that has begun gives nothing, as serving tells it.
@@ -36,7 +36,7 @@ fn fault_of(fault: FarmFault) -> ServeFault
     }
 }
 
-/// Runs the packets of a job on the members. The links come back, as many as there were.
+/// Runs the packets of a job on the members, from a board, since all of them are there. The links come back, as many as there were.
 fn run_packets<R: Threads + Wait + Sync, D: LinkDevice + Send>(
     rt: &R,
     alloc: Global,
@@ -53,7 +53,7 @@ fn run_packets<R: Threads + Wait + Sync, D: LinkDevice + Send>(
 {
     let lent = mem::replace(links, Vec::new(alloc));
     long_traces_alone_are_lost(job);
-    match run_batch(rt, alloc, job, lent, &OpenGate) {
+    match run_batch_over_board(rt, alloc, job, lent, &OpenGate) {
         Ok(batch) => {
             *links = batch.links;
             Ok(batch.collected)
