@@ -7,7 +7,7 @@ ghost use Rattle.tp_board.specs.Sources.{SourceView, source_of};
 use crate::answer::{BoardFault, Claim};
 use crate::board::Board;
 use crate::seat::Seat;
-use crate::source::{Lent, Packet, Work, WorkSource, answered};
+use crate::source::{LendingSource, Lent, Packet, Work, WorkSource, answered};
 use std::marker::Model;
 use std::sync::Wait;
 
@@ -68,22 +68,6 @@ impl<'p> WorkSource for BoardSource<'p> {
         answered(self.lend(rt, hand))
     }
 
-    /// One claim.
-    fn lend(&self, _rt: &impl Wait, hand: &mut Seat) -> Lent<'_>
-        requires own { IsSeatOf self.now.board hand.old }
-        requires empty { first_of hand.old.view.hand ≡ None }
-        ensures own { IsSeatOf self.now.board hand.new }
-        ensures work { NextSays self.now.packets (progress_of hand.old.view) (work_of result) (progress_of hand.new.view) }
-        ensures steps { ClaimSays hand.old.view (claim_of (work_of result)) hand.new.view }
-    {
-        match self.board.claim(hand) {
-            Claim::Packet(number) => Lent::Packet(number, &self.packets[number as usize]),
-            Claim::NoMore => Lent::NoMore,
-            Claim::Stopped => Lent::Stopped,
-            Claim::Busy(_) => unreachable!(),
-        }
-    }
-
     /// One finish.
     fn finish(&self, hand: &mut Seat) -> Result<u32, BoardFault>
         requires { IsSeatOf self.now.board hand.old }
@@ -118,5 +102,26 @@ impl<'p> WorkSource for BoardSource<'p> {
         ensures steps { StopSays hand.old.view hand.new.view }
     {
         self.board.stop(hand);
+    }
+}
+
+impl<'p> LendingSource for BoardSource<'p> {
+    ghost use Rattle.tp_board.specs.Sources.{progress_of, claim_of, work_of, NextSays};
+    ghost use Rattle.tp_board.specs.Views.{first_of};
+
+    /// One claim.
+    fn lend(&self, _rt: &impl Wait, hand: &mut Seat) -> Lent<'_>
+        requires own { IsSeatOf self.now.board hand.old }
+        requires empty { first_of hand.old.view.hand ≡ None }
+        ensures own { IsSeatOf self.now.board hand.new }
+        ensures work { NextSays self.now.packets (progress_of hand.old.view) (work_of result) (progress_of hand.new.view) }
+        ensures steps { ClaimSays hand.old.view (claim_of (work_of result)) hand.new.view }
+    {
+        match self.board.claim(hand) {
+            Claim::Packet(number) => Lent::Packet(number, &self.packets[number as usize]),
+            Claim::NoMore => Lent::NoMore,
+            Claim::Stopped => Lent::Stopped,
+            Claim::Busy(_) => unreachable!(),
+        }
     }
 }

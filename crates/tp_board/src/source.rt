@@ -56,10 +56,10 @@ fn copied(packet: &Packet) -> Packet
 }
 
 /// Packets that members take, each member through a hand of its own, from any thread. No call
-/// takes memory, and `next` and `lend` alone may wait.
+/// takes memory, and `next` alone may wait.
 pub trait WorkSource {
     ghost use Rattle.std.specs.Prelude.{ℕ, List};
-    ghost use Rattle.tp_board.specs.Sources.{Progress, NextSays, work_of, HandFinished, HandAbandoned};
+    ghost use Rattle.tp_board.specs.Sources.{Progress, NextSays, HandFinished, HandAbandoned};
 
     type Hand;
 
@@ -78,13 +78,6 @@ pub trait WorkSource {
         requires empty { (Self.progress hand.old).in_hand ≡ None }
         ensures own { Self.is_own self.now hand.new }
         ensures work { NextSays (Self.packets self.now) (Self.progress hand.old) result (Self.progress hand.new) };
-
-    /// As `next`, but nothing is copied.
-    fn lend(&self, rt: &impl Wait, hand: &mut Self::Hand) -> Lent<'_>
-        requires own { Self.is_own self.now hand.old }
-        requires empty { (Self.progress hand.old).in_hand ≡ None }
-        ensures own { Self.is_own self.now hand.new }
-        ensures work { NextSays (Self.packets self.now) (Self.progress hand.old) (work_of result) (Self.progress hand.new) };
 
     /// The packet in hand is done: its number. A3 with nothing in hand.
     fn finish(&self, hand: &mut Self::Hand) -> Result<u32, BoardFault>
@@ -109,4 +102,17 @@ pub trait WorkSource {
         requires { Self.is_own self.now hand.old }
         ensures own { Self.is_own self.now hand.new }
         ensures called { Self.progress hand.new ≡ record (Self.progress hand.old) { stop_called = true } };
+}
+
+/// A source whose packets a member may read where they lie.
+pub trait LendingSource: WorkSource {
+    ghost use Rattle.std.specs.Prelude.{◌≡◌, None};
+    ghost use Rattle.tp_board.specs.Sources.{NextSays, work_of};
+
+    /// As `next`, but nothing is copied.
+    fn lend(&self, rt: &impl Wait, hand: &mut Self::Hand) -> Lent<'_>
+        requires own { Self.is_own self.now hand.old }
+        requires empty { (Self.progress hand.old).in_hand ≡ None }
+        ensures own { Self.is_own self.now hand.new }
+        ensures work { NextSays (Self.packets self.now) (Self.progress hand.old) (work_of result) (Self.progress hand.new) };
 }

@@ -20,7 +20,7 @@ use crate::desk::{
     report_lost, set_stop,
 };
 use crate::line::{Item, Line, Place, drained, feed, join, new_hand, opened, take};
-use crate::source::{Lent, Packet, Work, WorkSource, answered};
+use crate::source::{LendingSource, Lent, Packet, Work, WorkSource, answered};
 use crate::stream_hand::{Fed, Feeder, StreamHand, StreamLedger};
 use std::alloc::Global;
 use std::marker::Model;
@@ -315,17 +315,6 @@ impl<'p> WorkSource for StreamQueue<'p> {
         answered(self.next_item(rt, hand))
     }
 
-    /// The same loads and tries.
-    fn lend(&self, rt: &impl Wait, hand: &mut StreamHand) -> Lent<'_>
-        requires own { IsHandOf self.now hand.old }
-        requires empty { (progress_of (hand_seen hand.old)).in_hand ≡ None }
-        ensures own { IsHandOf self.now hand.new }
-        ensures work { NextSays self.now.packets (progress_of (hand_seen hand.old)) (work_of result) (progress_of (hand_seen hand.new)) }
-        ensures steps { NextMakes (hand_seen hand.old) (work_of result) (hand_seen hand.new) }
-    {
-        self.next_item(rt, hand)
-    }
-
     /// One addition to the count of packets done.
     fn finish(&self, hand: &mut StreamHand) -> Result<u32, BoardFault>
         requires { IsHandOf self.now hand.old }
@@ -370,5 +359,18 @@ impl<'p> WorkSource for StreamQueue<'p> {
         ensures steps { StopSays (hand_seen hand.old) (hand_seen hand.new) }
     {
         set_stop(&self.desk, &mut hand.token);
+    }
+}
+
+impl<'p> LendingSource for StreamQueue<'p> {
+    /// The same loads and tries.
+    fn lend(&self, rt: &impl Wait, hand: &mut StreamHand) -> Lent<'_>
+        requires own { IsHandOf self.now hand.old }
+        requires empty { (progress_of (hand_seen hand.old)).in_hand ≡ None }
+        ensures own { IsHandOf self.now hand.new }
+        ensures work { NextSays self.now.packets (progress_of (hand_seen hand.old)) (work_of result) (progress_of (hand_seen hand.new)) }
+        ensures steps { NextMakes (hand_seen hand.old) (work_of result) (hand_seen hand.new) }
+    {
+        self.next_item(rt, hand)
     }
 }

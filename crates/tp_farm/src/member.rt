@@ -12,7 +12,7 @@ use crate::job::Job;
 use std::alloc::Global;
 use std::snapshot::Snapshot;
 use std::sync::Wait;
-use tp_board::{Lent, Packet, WorkSource};
+use tp_board::{LendingSource, Lent, Packet, WorkSource};
 use tp_collect::Done;
 use tp_link::{LinkDevice, LinkFault, Links};
 use tp_machine::Machine;
@@ -95,7 +95,7 @@ fn file_packet<W: WorkSource, D: LinkDevice, G: Gate>(
 }
 
 /// Takes the next packet and files what became of it, or ends.
-fn take_turn<W: WorkSource, D: LinkDevice, G: Gate>(
+fn take_turn<W: LendingSource, D: LinkDevice, G: Gate>(
     rt: &impl Wait,
     job: &Job<'_>,
     gate: &G,
@@ -136,7 +136,7 @@ fn take_turn<W: WorkSource, D: LinkDevice, G: Gate>(
 
 /// A member's whole work: it takes packets until there are no more, or the batch is stopped, or a fault comes. One turn
 /// more than there are packets is enough.
-pub(crate) fn work<W: WorkSource, D: LinkDevice, G: Gate>(
+pub(crate) fn work<W: LendingSource, D: LinkDevice, G: Gate>(
     rt: &impl Wait,
     job: &Job<'_>,
     gate: &G,

@@ -18,7 +18,7 @@ use std::sync::Wait;
 use std::thread;
 use std::thread::{Parker, Promise, PromisedHandle, Scope, Threads, join_promised};
 use std::time::Duration;
-use tp_board::{Fed, Feeder, StreamHand, StreamQueue, WorkSource};
+use tp_board::{Fed, Feeder, LendingSource, StreamHand, StreamQueue, WorkSource};
 use tp_link::{LinkDevice, Links};
 
 /// What a member's thread keeps: it has done the shared's work with the devices that it had.
@@ -39,7 +39,7 @@ impl<'j, G: Gate, D: LinkDevice, S: WorkSource> Promise<Returned<S::Hand, Filed,
 type Handle<'e, G, D, S, H> = PromisedHandle<Returned<H, Filed, D>, MemberPromise<'e, G, D, S>>;
 
 /// Starts the member of a number.
-fn start<'s, 'e, R: Wait + Sync, D: LinkDevice + Send + 'e, G: Gate, S: WorkSource + Sync>(
+fn start<'s, 'e, R: Wait + Sync, D: LinkDevice + Send + 'e, G: Gate, S: LendingSource + Sync>(
     rt: &'e R,
     scope: &'s Scope<'s, &'e ()>,
     alloc: Global,
@@ -93,7 +93,7 @@ pub(crate) fn start_all<
     R: Wait + Sync,
     D: LinkDevice + Send + 'e,
     G: Gate,
-    S: WorkSource + Sync,
+    S: LendingSource + Sync,
 >(
     rt: &'e R,
     scope: &'s Scope<'s, &'e ()>,

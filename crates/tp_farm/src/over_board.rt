@@ -30,7 +30,7 @@ use std::snapshot::Snapshot;
 use std::sync::Wait;
 use std::thread;
 use std::thread::{Scope, Threads};
-use tp_board::{Board, BoardSource, Ledger, Seat, WorkSource};
+use tp_board::{Board, BoardSource, Ledger, LendingSource, Seat};
 use tp_collect::Collector;
 use tp_link::{LinkDevice, Links};
 
@@ -41,7 +41,7 @@ fn start_and_join<
     R: Threads + Wait + Sync,
     D: LinkDevice + Send + 'e,
     G: Gate,
-    S: WorkSource + Sync,
+    S: LendingSource + Sync,
 >(
     rt: &'e R,
     scope: &'s Scope<'s, &'e ()>,
@@ -64,7 +64,7 @@ where
 }
 
 /// Runs the members, each in a thread of its own, until all have ended. What they give back comes in the order of the links.
-fn run_all<R: Threads + Wait + Sync, D: LinkDevice + Send, G: Gate, S: WorkSource + Sync>(
+fn run_all<R: Threads + Wait + Sync, D: LinkDevice + Send, G: Gate, S: LendingSource + Sync>(
     rt: &R,
     alloc: Global,
     shared: &Shared<'_, G, S>,

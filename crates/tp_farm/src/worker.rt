@@ -10,7 +10,7 @@ use crate::member::{End, Filed, Member, work};
 use std::alloc::Global;
 use std::snapshot::Snapshot;
 use std::sync::Wait;
-use tp_board::WorkSource;
+use tp_board::LendingSource;
 use tp_link::{LinkDevice, Links};
 use tp_machine::Machine;
 
@@ -32,7 +32,7 @@ pub(crate) struct Shared<'j, G, S> {
 }
 
 /// The whole work of the member of a number, on a machine of its own.
-pub(crate) fn work_as<S: WorkSource, D: LinkDevice, G: Gate>(
+pub(crate) fn work_as<S: LendingSource, D: LinkDevice, G: Gate>(
     rt: &impl Wait,
     alloc: Global,
     shared: &Shared<'_, G, S>,
