@@ -1,10 +1,11 @@
 //! Texts that say no program: where their first fault is.
 
+use std::alloc::{AllocError, Global};
 use std::test::Fail;
 use tp_assembly_text::{SourceFault, TextFault, read_source};
 
 /// Texts, and the line, the column and the kind of their faults.
-const CASES: [(&str, usize, usize, TextFault); 40] = [
+const CASES: [(&str, usize, usize, TextFault); 48] = [
     ("ldc 1\n  frob\n", 2, 3, TextFault::Unknown),
     ("dup", 1, 1, TextFault::LeftOut),
     ("here: CALL 3", 1, 7, TextFault::LeftOut),
@@ -45,6 +46,24 @@ const CASES: [(&str, usize, usize, TextFault); 40] = [
     ("init 1: 1\ninit 1: 2", 2, 6, TextFault::OutOfRange),
     ("a: mint\na: send b c", 2, 11, TextFault::Extra),
     ("version 0", 1, 1, TextFault::OutOfRange),
+    ("local n[2]\nldl n + 2", 2, 7, TextFault::OutsideLocal),
+    ("local n[2], m\n stl n + -1", 2, 8, TextFault::OutsideLocal),
+    ("for i = 0 for 3\nldl i + 2\nend i", 2, 7, TextFault::OutsideLocal),
+    (
+        "workspace 8\nlocal a, b[2]\nlocal c, d",
+        3,
+        7,
+        TextFault::NoRoom,
+    ),
+    ("local a, b[3]\nworkspace 8", 1, 10, TextFault::NoRoom),
+    (
+        "for i = 0 for 3\nend i\nworkspace 6",
+        1,
+        5,
+        TextFault::NoRoom,
+    ),
+    ("start 8\nworkspace 8\n  local a", 3, 9, TextFault::NoRoom),
+    ("workspace 5\nlocal a\nj b", 2, 7, TextFault::NoRoom),
 ];
 
 #[test]
@@ -64,7 +83,7 @@ fn faults(rt: HostRuntime) {
     }
 }
 
-/// A line of a million bytes, and a million lines: a fault with its place.
+/// A line of a million bytes, and a hundred thousand lines: a fault with its place.
 #[test]
 fn large_texts(rt: HostRuntime) -> Result<(), Fail> {
     let mut text = String::new(rt.alloc());
@@ -88,6 +107,59 @@ fn large_texts(rt: HostRuntime) -> Result<(), Fail> {
             (found.line, found.column, found.fault),
             (16_385, 1, TextFault::TooMany)
         ),
+    }
+    Ok(())
+}
+
+/// A text of 16 loops of one kind, and one more statement.
+fn sixteen(alloc: Global, kind: Kind, more: &str) -> Result<String, AllocError> {
+    let mut text = String::new(alloc);
+    for i in 0..16 {
+        match kind {
+            Kind::Open => writeln!(text, "for i{i} = 0 for 2")?,
+            Kind::Ended => writeln!(text, "for i{i} = 0 for 2\nend i{i}")?,
+            Kind::Row => text.push_str("loop head 0 lend 0 control 0 turns 1 start 0\n")?,
+        }
+    }
+    text.push_str(more)?;
+    Ok(text)
+}
+
+/// Loops that have no end yet, that have one, and rows by hand.
+#[derive(Clone, Copy, Debug)]
+enum Kind {
+    Open,
+    Ended,
+    Row,
+}
+
+/// A 17th loop is refused where it begins, whatever the others are; the ends of 16 are not.
+#[test]
+fn seventeen_loops(rt: HostRuntime) -> Result<(), Fail> {
+    let row = "loop head 0 lend 0 control 0 turns 1 start 0";
+    let begins = "  for o = 0 for 3\nend o";
+    let cases = [
+        (Kind::Open, row, 17, 1),
+        (Kind::Open, begins, 17, 3),
+        (Kind::Ended, row, 33, 1),
+        (Kind::Ended, begins, 33, 3),
+        (Kind::Row, row, 17, 1),
+        (Kind::Row, begins, 17, 3),
+    ];
+    for (kind, more, line, column) in cases {
+        let text = sixteen(rt.alloc(), kind, more)?;
+        match read_source(rt.alloc(), text.as_str()) {
+            Ok(_) => assert!(rt; false, "{kind:?} {more}"),
+            Err(found) => assert_eq!(rt;
+                (found.line, found.column, found.fault),
+                (line, column, TextFault::TooManyLoops)
+            ),
+        }
+    }
+    for kind in [Kind::Ended, Kind::Row] {
+        let text = sixteen(rt.alloc(), kind, "mint")?;
+        let source = read_source(rt.alloc(), text.as_str())?;
+        assert_eq!(rt; source.program.loops.len(), 16);
     }
     Ok(())
 }

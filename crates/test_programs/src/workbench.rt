@@ -247,6 +247,27 @@ fn texts_and_images(rt: HostRuntime) -> Result<(), Fail> {
     Ok(())
 }
 
+/// One loop more than a worker has.
+const SEVENTEEN_LOOPS: &str = "\
+for a = 0 for 2
+for b = 0 for 2
+for c = 0 for 2
+for d = 0 for 2
+for e = 0 for 2
+for f = 0 for 2
+for g = 0 for 2
+for h = 0 for 2
+for i = 0 for 2
+for j = 0 for 2
+for k = 0 for 2
+for l = 0 for 2
+for m = 0 for 2
+for n = 0 for 2
+for o = 0 for 2
+for p = 0 for 2
+for q = 0 for 2
+";
+
 /// What ends early: nothing is written but why.
 #[test]
 fn refusals(rt: HostRuntime) -> Result<(), Fail> {
@@ -285,13 +306,31 @@ fn refusals(rt: HostRuntime) -> Result<(), Fail> {
             "mint\n\nback: mint\n cj back\n",
             ["tpw", "asm"].as_slice(),
             1,
-            "tpw: standard input:4: its label lies before it; jumps go forward alone\n",
+            "tpw: standard input:4:2: its label lies before it; jumps go forward alone\n",
         ),
         (
             "ldc/1 16\n",
             ["tpw", "asm"].as_slice(),
             1,
-            "tpw: standard input:1: its operand needs a longer spelling\n",
+            "tpw: standard input:1:1: its operand needs a longer spelling\n",
+        ),
+        (
+            SEVENTEEN_LOOPS,
+            ["tpw", "asm"].as_slice(),
+            1,
+            "tpw: standard input:17:1: a worker has at most 16 loops\n",
+        ),
+        (
+            "local n[2]\n        ldl n + 9\n",
+            ["tpw", "asm"].as_slice(),
+            1,
+            "tpw: standard input:2:15: the local of this name has fewer words\n",
+        ),
+        (
+            "local n, buf[4]\nworkspace 9\nstopp",
+            ["tpw", "asm"].as_slice(),
+            1,
+            "tpw: standard input:1:10: the workspace that is stated has no room for this local\n",
         ),
         (
             "workspace 7\nstopp",

@@ -25,11 +25,12 @@ use Rattle.tp_assembly_text.specs.declared.statement.Message.{Message}
 use Rattle.tp_assembly_text.specs.declared.statement.Message.TheVariants.{Receive, Send, Trace}
 use Rattle.tp_assembly_text.specs.Limits.{most_words}
 use Rattle.tp_assembly_text.specs.Faults.{fault_at}
-use Rattle.tp_assembly_text.specs.Drafts.{Said, is_full, place_named, local_named, pushed, locals_named, label_set, local_said}
+use Rattle.tp_assembly_text.specs.Drafts.{Said, is_full, place_named, local_named, pushed, locals_named, label_set, room_for_loop, local_said}
+use Rattle.tp_assembly_text.specs.Words.{position_of}
 use Rattle.tp_assembly_text.specs.Grammar.{StatementSaid, SaysNothing, SetsPacket, SetsResults, SetsStart, SetsWorkspace, SetsVersion, NamesLocals, SetsInitial, AddsLines, AddsInstruction, AddsMessage, BeginsLoop, EndsLoop, AddsRow}
-use Rattle.tp_assembly_text.specs.Meaning.{in_turn, initial_added, initials_added, lines_pushed, operand_with, local_instr_added, instruction_added, message_lines, message_added, loop_begins, begun, loop_begun, loop_ends, row_of, row_added, innermost, inner_ended, loop_named, loop_ended, added, unlabelled, labelled, is_colon, line_said}
+use Rattle.tp_assembly_text.specs.Meaning.{in_turn, initial_added, initials_added, lines_pushed, is_outside, operand_with, local_instr_added, instruction_added, message_lines, message_added, loop_begins, begun, loop_begun, loop_ends, row_of, with_row, row_added, innermost, inner_ended, loop_named, loop_ended, added, unlabelled, labelled, is_colon, line_said}
 use Rattle.tp_assembly_text.specs.Apart.{word_apart, line_apart, label_apart, local_apart, row_apart, begun_apart, draft_apart}
-use Rattle.tp_assembly_text.proofs.Apart.{kept, then_kept, then_in, if_kept, numbered, initial_apart, offset_apart, local_instr_apart, instruction_apart, new_loop_apart, statement_apart, a_statement}
+use Rattle.tp_assembly_text.proofs.Apart.{kept, then_kept, then_in, if_kept, ok_or_kept, numbered, initial_apart, offset_apart, local_instr_apart, instruction_apart, new_loop_apart, statement_apart, a_statement}
 
 -- what is found by a text
 found : {A : Type 0} (view : A → A) (test : A → Bool) (f : A → ℕ) → ((x : A) → test (view x) ≡ test x) → ((x : A) → f (view x) ≡ f x) → (xs : List A)
@@ -47,12 +48,27 @@ pub place : (labels : List LabelName) (w : Word) → place_named (map label_apar
 unfolding place_named
 place labels w = found label_apart (λ n. bytes_eq n.word.text.now w.text.now) (λ n. n.place) (λ x. refl) (λ x. refl) labels
 
-local : (locals : List LocalName) (w : Word) → local_named (map local_apart locals) (word_apart w) ≡ local_named locals w
+local : (locals : List LocalName) (w : Word) → local_named (map local_apart locals) (word_apart w) ≡ option_map local_apart (local_named locals w)
 unfolding local_named
-local locals w = found local_apart (λ n. bytes_eq n.word.text.now w.text.now) (λ n. n.first) (λ x. refl) (λ x. refl) locals
+local [] w = refl
+local (x ∷ locals) w = by (bytes_eq x.word.text.now w.text.now) (local locals w)
+  where
+    test : LocalName → Bool
+    test n = bytes_eq n.word.text.now w.text.now
+    by : (t : Bool) → find test (map local_apart locals) ≡ option_map local_apart (find test locals)
+        → (if t then Some (local_apart x) else find test (map local_apart locals)) ≡ option_map local_apart (if t then Some x else find test locals)
+    by true rest = refl
+    by false rest = rest
 
-local_is : (locals : List LocalName) (w : Word) → local_said (map local_apart locals) (word_apart w) ≡ local_said locals w
-local_is locals w = ap (λ o. ok_or o (fault_at w fault.NoLocal)) (local locals w)
+local_is : (locals : List LocalName) (w : Word) → local_said (map local_apart locals) (word_apart w) ≡ kept local_apart (local_said locals w)
+local_is locals w = ap (λ o. ok_or o (fault_at w fault.NoLocal)) (local locals w) ∙ ok_or_kept local_apart (local_named locals w) (fault_at w fault.NoLocal)
+
+is_known : (locals : List LocalName) (w : Word) → is_some (local_named (map local_apart locals) (word_apart w)) ≡ is_some (local_named locals w)
+is_known locals w = ap is_some (local locals w) ∙ by (local_named locals w)
+  where
+    by : (o : Option LocalName) → is_some (option_map local_apart o) ≡ is_some o
+    by (Some n) = refl
+    by None = refl
 
 -- one more of a list
 abbrev ok : Said → Result Said SourceFault
@@ -65,14 +81,14 @@ a_line_pushed : (w : Word) (line : DraftLine) (d : Said) → pushed (word_apart 
 unfolding pushed
 a_line_pushed w line d =
     rw (length-map d.lines line_apart)
-    (if_kept _ (is_full d.lines) _ _ refl (one_more line_apart (λ ls. record (draft_apart d) { lines = ls; numbers = d.numbers ++ w.line ∷ [] }) d.lines line))
+    (if_kept _ (is_full d.lines) _ _ refl (one_more line_apart (λ ls. record (draft_apart d) { lines = ls; positions = d.positions ++ position_of w ∷ [] }) d.lines line))
 
 names_set : (w : Word) (size : ℕ) (d : Said) → locals_named (word_apart w) size (draft_apart d) ≡ kept draft_apart (locals_named w size d)
 unfolding locals_named
 names_set w size d =
-    rw (local d.locals w, length-map d.locals local_apart)
+    rw (is_known d.locals w, length-map d.locals local_apart)
     (if_kept _ (is_some (local_named d.locals w)) _ _ refl (if_kept _ (nat_lt most_words (d.words + size)) _ _ refl (if_kept _ (is_full d.locals) _ _ refl
-    (one_more local_apart (λ ls. record (draft_apart d) { locals = ls; words = d.words + size }) d.locals (record { word = w; first = d.words })))))
+    (one_more local_apart (λ ls. record (draft_apart d) { locals = ls; words = d.words + size }) d.locals (record { word = w; first = d.words; words = size })))))
 
 a_label_set : (w : Word) (d : Said) → label_set (word_apart w) (draft_apart d) ≡ kept draft_apart (label_set w d)
 unfolding label_set
@@ -100,14 +116,14 @@ initials : (at : Word) (first : ℕ) (values : List InitialWord) (d : Said) → 
 unfolding initials_added
 initials at first values d = if_kept _ (nat_lt first (length d.initial)) _ _ refl (turns _ _ an_initial values _)
 
-operand : (o : Option Offset) (n : ℕ) → operand_with (offset_apart o) n ≡ operand_with o n
+operand : (o : Option Offset) (n : LocalName) → operand_with (offset_apart o) (local_apart n) ≡ operand_with o n
 operand (Some o) n = refl
 operand None n = refl
 
 a_local_instr : (i : LocalInstr) (d : Said) → local_instr_added (local_instr_apart i) (draft_apart d) ≡ kept draft_apart (local_instr_added i d)
 unfolding local_instr_added
 a_local_instr i d =
-    then_in _ _ _ _ (local_is d.locals i.name) (λ n. then_in _ _ _ _ (operand i.offset n) (λ m. then_kept _ _ _ _ (numbered i.word i.bytes i.function m) (λ l. a_line_pushed l.word l.line d)))
+    then_kept _ _ _ _ (local_is d.locals i.name) (λ n. then_in _ _ _ _ (operand i.offset n) (λ m. then_kept _ _ _ _ (numbered i.word i.bytes i.function m) (λ l. a_line_pushed l.word l.line d)))
 
 an_instruction : (i : Instruction) (d : Said) → instruction_added (instruction_apart i) (draft_apart d) ≡ kept draft_apart (instruction_added i d)
 an_instruction (Line l) d = a_line_pushed l.word l.line d
@@ -115,7 +131,7 @@ an_instruction (OfLocal i) d = a_local_instr i d
 
 a_message : (w : Word) (m : Message) (name : Word) (d : Said) → message_added (word_apart w) m (word_apart name) (draft_apart d) ≡ kept draft_apart (message_added w m name d)
 unfolding message_added
-a_message w m name d = then_in _ _ _ _ (local_is d.locals name) (λ n. by m n)
+a_message w m name d = then_kept _ _ _ _ (local_is d.locals name) (λ n. by m n.first)
   where
     by : (m : Message) (n : ℕ) → lines_pushed (word_apart w) (message_lines m (draft_apart d) n) (draft_apart d) ≡ kept draft_apart (lines_pushed w (message_lines m d n) d)
     by Receive n = all_pushed w (message_lines Receive d n) d
@@ -127,13 +143,19 @@ is_begun n l d =
     rw (length-map d.lines line_apart)
     (one_more begun_apart (λ bs. record (draft_apart d) { begun = bs }) d.begun (record { name = l.name; local = n; head = length d.lines; count = l.count; start = l.start }))
 
+room : (w : Word) (d : Said) → room_for_loop (word_apart w) (draft_apart d) ≡ room_for_loop w d
+room w d = rw (length-map d.rows row_apart, length-map d.begun begun_apart) refl
+
 a_loop_begun : (l : NewLoop) (d : Said) → loop_begun (new_loop_apart l) (draft_apart d) ≡ kept draft_apart (loop_begun l d)
 unfolding loop_begun
-a_loop_begun l d = then_kept _ _ _ _ (names_set l.name 2 d) (λ named. then_kept _ _ _ _ (all_pushed l.word (loop_begins d.words l) named) (λ set. is_begun d.words l set))
+a_loop_begun l d =
+    then_in _ _ _ _ (room l.word d) (λ _. then_kept _ _ _ _ (names_set l.name 2 d) (λ named. then_kept _ _ _ _ (all_pushed l.word (loop_begins d.words l) named) (λ set. is_begun d.words l set)))
+
+with_a_row : (row : Row) (d : Said) → ok (with_row (row_apart row) (draft_apart d)) ≡ ok (draft_apart (with_row row d))
+with_a_row row d = one_more row_apart (λ rs. record (draft_apart d) { rows = rs }) d.rows row
 
 a_row : (w : Word) (row : Row) (d : Said) → row_added (word_apart w) (row_apart row) (draft_apart d) ≡ kept draft_apart (row_added w row d)
-a_row w row d =
-    rw (length-map d.rows row_apart) (if_kept _ (is_full d.rows) _ _ refl (one_more row_apart (λ rs. record (draft_apart d) { rows = rs }) d.rows row))
+a_row w row d = then_in _ _ _ _ (room w d) (λ _. with_a_row row d)
 
 the_innermost : (loops : List Begun) → innermost (map begun_apart loops) ≡ option_map begun_apart (innermost loops)
 the_innermost loops = ap (λ n. slice_get (map begun_apart loops) (n - 1)) (length-map loops begun_apart) ∙ slice_get-map begun_apart loops (length loops - 1)
@@ -147,13 +169,18 @@ inner d =
     ap (λ n. record (draft_apart d) { begun = take (n - 1) (map begun_apart d.begun) }) (length-map d.begun begun_apart)
     ∙ ap (λ bs. record (draft_apart d) { begun = bs }) (take-map begun_apart (length d.begun - 1) d.begun)
 
+rowed : (row : Row) (d : Said) → with_row (row_apart row) (inner_ended (draft_apart d)) ≡ draft_apart (with_row row (inner_ended d))
+rowed row d =
+    ap (with_row (row_apart row)) (inner d)
+    ∙ ap (λ rs. record (draft_apart (inner_ended d)) { rows = rs }) (sym (map-append row_apart d.rows (row ∷ [])))
+
 a_loop_ended : (w name : Word) (d : Said) → loop_ended (word_apart w) (word_apart name) (draft_apart d) ≡ kept draft_apart (loop_ended w name d)
 unfolding loop_ended
 a_loop_ended w name d =
     rw (length-map d.lines line_apart)
-    (then_kept _ _ _ _ (ap (loop_named (word_apart name)) (the_innermost d.begun) ∙ a_name name (innermost d.begun))
-    (λ b. then_kept _ _ _ _ (ap (row_added (word_apart name) (row_of (begun_apart b) (length d.lines + 2))) (inner d) ∙ a_row name (row_of b (length d.lines + 2)) (inner_ended d))
-    (λ rowed. all_pushed w (loop_ends b (length d.lines + 2)) rowed)))
+    (then_kept _ _ _ _ (ap (loop_named (word_apart name)) (the_innermost d.begun) ∙ a_name name (innermost d.begun)) (λ b.
+    ap (lines_pushed (word_apart w) (loop_ends (begun_apart b) (length d.lines + 2))) (rowed (row_of b (length d.lines + 2)) d)
+    ∙ all_pushed w (loop_ends b (length d.lines + 2)) (with_row (row_of b (length d.lines + 2)) (inner_ended d))))
 
 an_addition : (s : StatementSaid) (d : Said) → added (statement_apart s) (draft_apart d) ≡ kept draft_apart (added s d)
 unfolding added

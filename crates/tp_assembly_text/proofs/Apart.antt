@@ -76,7 +76,7 @@ if_same true x y = x
 if_same false x y = y
 
 -- an option, or a fault
-ok_or_kept : {A B : Type 0} (f : A → B) (o : Option A) (e : SourceFault) → ok_or (option_map f o) e ≡ kept f (ok_or o e)
+pub ok_or_kept : {A B : Type 0} (f : A → B) (o : Option A) (e : SourceFault) → ok_or (option_map f o) e ≡ kept f (ok_or o e)
 ok_or_kept f (Some a) e = refl
 ok_or_kept f None e = refl
 

@@ -1,5 +1,6 @@
 -- What a draft comes to does not depend on where its text lies in memory.
-use Rattle.std.proofs.Common.{◌≡◌, ℕ, ◌-◌, List, [], ◌∷◌, ◌++◌, length, map, Option, Some, None, option_map, Result, Ok, slice_get, refl, sym, ap, ◌∙◌}
+use Rattle.std.proofs.Common.{◌≡◌, ℕ, ◌-◌, Bool, true, false, if◌then◌else◌, List, [], ◌∷◌, ◌++◌, length, map, Option, Some, None, option_map, Result, Ok, slice_get, refl, sym, ap, ◌∙◌}
+use Rattle.std.specs.List.{find}
 use Rattle.std.specs.Option.{ok_or}
 use Rattle.std.proofs.lemmas.Option.{slice_get-map}
 use Rattle.std.proofs.lemmas.List.{length-map}
@@ -19,7 +20,7 @@ use Rattle.tp_assembly_text.specs.declared.draft.Row.{Row}
 use Rattle.tp_assembly_text.specs.declared.draft.Begun.{Begun}
 use Rattle.tp_assembly_text.specs.Faults.{fault_at, then_read, each_read}
 use Rattle.tp_assembly_text.specs.Drafts.{Said}
-use Rattle.tp_assembly_text.specs.Programs.{place_of_label, line_placed, spot_placed, loop_placed, no_loop, ended, program_of, label_told, labels_told, local_told, locals_told, workspace_said, finished}
+use Rattle.tp_assembly_text.specs.Programs.{place_of_label, line_placed, spot_placed, loop_placed, no_loop, ended, is_beyond, no_local, locals_fit, program_of, label_told, labels_told, local_told, locals_told, workspace_said, finished}
 use Rattle.tp_assembly_text.specs.Apart.{word_apart, line_apart, target_apart, label_apart, local_apart, row_apart, begun_apart, draft_apart}
 use Rattle.tp_assembly_text.specs.Texts.{text_said, source_of}
 use Rattle.tp_assembly_text.proofs.Apart.{then_same}
@@ -68,11 +69,23 @@ unfolding label_told
 labels_are [] = refl
 labels_are (n ∷ labels) = ap (λ more. label_told n ++ more) (labels_are labels)
 
-locals_are : (end : ℕ) (locals : List LocalName) → locals_told end (map local_apart locals) ≡ locals_told end locals
+locals_are : (locals : List LocalName) → locals_told (map local_apart locals) ≡ locals_told locals
 unfolding local_told
-locals_are end [] = refl
-locals_are end (n ∷ []) = refl
-locals_are end (n ∷ m ∷ locals) = ap (λ more. local_told n m.first ++ more) (locals_are end (m ∷ locals))
+locals_are [] = refl
+locals_are (n ∷ locals) = ap (λ more. local_told n ++ more) (locals_are locals)
+
+beyond : (workspace start : ℕ) (locals : List LocalName) → no_local (find (is_beyond workspace start) (map local_apart locals)) ≡ no_local (find (is_beyond workspace start) locals)
+beyond workspace start [] = refl
+beyond workspace start (n ∷ locals) = by (is_beyond workspace start n) (beyond workspace start locals)
+  where
+    by : (t : Bool) → no_local (find (is_beyond workspace start) (map local_apart locals)) ≡ no_local (find (is_beyond workspace start) locals)
+        → no_local (if t then Some (local_apart n) else find (is_beyond workspace start) (map local_apart locals)) ≡ no_local (if t then Some n else find (is_beyond workspace start) locals)
+    by true rest = refl
+    by false rest = rest
+
+room_is : (d : Said) → locals_fit (draft_apart d) ≡ locals_fit d
+unfolding locals_fit workspace_said
+room_is d = beyond (workspace_said d) d.start d.locals
 
 program_is : (d : Said) → program_of (draft_apart d) ≡ program_of d
 unfolding program_of workspace_said
@@ -84,9 +97,10 @@ pub finished_apart : (d : Said) → finished (draft_apart d) ≡ finished d
 unfolding finished
 finished_apart d =
     then_same (ended d.begun) _ _ (ends_are d.begun) (λ end.
+    then_same (locals_fit d) _ _ (room_is d) (λ room.
     then_same (program_of d) _ _ (program_is d) (λ program.
-    ap (λ told. Ok (record { program = program; numbers = d.numbers; labels = told; locals = locals_told d.words (map local_apart d.locals) })) (labels_are d.labels)
-    ∙ ap (λ told. Ok (record { program = program; numbers = d.numbers; labels = labels_told d.labels; locals = told })) (locals_are d.words d.locals)))
+    ap (λ told. Ok (record { program = program; positions = d.positions; labels = told; locals = locals_told (map local_apart d.locals) })) (labels_are d.labels)
+    ∙ ap (λ told. Ok (record { program = program; positions = d.positions; labels = labels_told d.labels; locals = told })) (locals_are d.locals))))
 
 -- where a text says a draft, its source is what that comes to
 pub source_is : (text : List ℕ) (d : Said) → text_said text ≡ Ok (draft_apart d) → finished d ≡ source_of text

@@ -7,4 +7,5 @@ pub mod Programs
 mod Apart
 mod Additions
 mod Finished
+mod Trimmed
 pub mod Written

@@ -11,7 +11,7 @@ use Rattle.tp_assembly_text.specs.declared.draft.LabelName.{LabelName}
 use Rattle.tp_assembly_text.specs.declared.draft.LocalName.{LocalName}
 use Rattle.tp_assembly_text.specs.declared.finish.Label.{Label}
 use Rattle.tp_assembly_text.specs.declared.finish.Local.{Local}
-use Rattle.tp_assembly_text.specs.Programs.{under, label_of, label_told, local_of, local_told, end_before, locals_told}
+use Rattle.tp_assembly_text.specs.Programs.{under, label_of, label_told, local_of, local_told}
 use Rattle.tp_assembly_text.specs.Faults.{each_read}
 
 -- a first one in front of the others
@@ -86,22 +86,13 @@ unfolding label_told
 label_none labels name other = sym (append-nil (map label_of labels)) ∙ ap (λ ls. map label_of labels ++ ls) (sym (under_other name.word.text.now _ other))
 
 -- a name of local words that is handed out, and one that is not
-pub local_more : (locals locals' : List Local) (local : Local) (name : LocalName) (end : ℕ) → locals' ≡ locals ++ local ∷ [] → local.name.now ≡ name.word.text.now → local.first ≡ name.first → local.words ≡ end - name.first → IsUtf8 name.word.text.now → map local_of locals' ≡ map local_of locals ++ local_told name end
+pub local_more : (locals locals' : List Local) (local : Local) (name : LocalName) → locals' ≡ locals ++ local ∷ [] → local.name.now ≡ name.word.text.now → local.first ≡ name.first → local.words ≡ name.words → IsUtf8 name.word.text.now → map local_of locals' ≡ map local_of locals ++ local_told name
 unfolding local_told
-local_more locals locals' local name end more named first words text =
-    let same : local_of local ≡ record { name = name.word.text.now; first = name.first; words = end - name.first } = cc in
+local_more locals locals' local name more named first words text =
+    let same : local_of local ≡ record { name = name.word.text.now; first = name.first; words = name.words } = cc in
     ap (map local_of) more ∙ mapped local_of locals (local ∷ []) ∙ ap (λ l. map local_of locals ++ l ∷ []) same
     ∙ ap (λ ls. map local_of locals ++ ls) (sym (under_text name.word.text.now _ text))
 
-pub local_none : (locals : List Local) (name : LocalName) (end : ℕ) → ¬ (IsUtf8 name.word.text.now) → map local_of locals ≡ map local_of locals ++ local_told name end
+pub local_none : (locals : List Local) (name : LocalName) → ¬ (IsUtf8 name.word.text.now) → map local_of locals ≡ map local_of locals ++ local_told name
 unfolding local_told
-local_none locals name end other = sym (append-nil (map local_of locals)) ∙ ap (λ ls. map local_of locals ++ ls) (sym (under_other name.word.text.now _ other))
-
--- the names of local words from one on
-pub locals_more : (end : ℕ) (names : List LocalName) (i : ℕ) (name : LocalName) → slice_get names i ≡ Some name → locals_told end (drop i names) ≡ local_told name (end_before end (drop (i + 1) names)) ++ locals_told end (drop (i + 1) names)
-locals_more end names i name there = by_recursion end names i name there ∙ ap (λ n. local_told name (end_before end (drop n names)) ++ locals_told end (drop n names)) (sym (add-one i))
-  where
-    by_recursion : (end : ℕ) (names : List LocalName) (i : ℕ) (name : LocalName) → slice_get names i ≡ Some name → locals_told end (drop i names) ≡ local_told name (end_before end (drop (suc i) names)) ++ locals_told end (drop (suc i) names)
-    by_recursion end [] i name there = absurd (cc)
-    by_recursion end (n ∷ names) zero name there = ap (λ n. local_told n (end_before end names) ++ locals_told end names) (same_Some n name there)
-    by_recursion end (n ∷ names) (suc i) name there = by_recursion end names i name there
+local_none locals name other = sym (append-nil (map local_of locals)) ∙ ap (λ ls. map local_of locals ++ ls) (sym (under_other name.word.text.now _ other))

@@ -5,9 +5,11 @@ use Rattle.std.specs.Str.{bytes_eq}
 use Rattle.std.specs.Option.{option_map, ok_or}
 use Rattle.tp_image.specs.declared.image.Version.{Version}
 use Rattle.tp_image.specs.declared.image.Version.TheVariants.{One}
+use Rattle.tp_image.specs.Limits.{most_loops}
+use Rattle.tp_assembly_text.specs.declared.words.Position.{Position}
 use Rattle.tp_assembly_text.specs.declared.words.Word.{Word}
 use Rattle.tp_assembly_text.specs.declared.fault.SourceFault.{SourceFault}
-use Rattle.tp_assembly_text.specs.declared.fault.TextFault.TheVariants.{Twice, TooMany, NoLocal}
+use Rattle.tp_assembly_text.specs.declared.fault.TextFault.TheVariants.{Twice, TooMany, TooManyLoops, NoLocal}
 use Rattle.tp_assembly_text.specs.declared.draft.Draft.{Draft}
 use Rattle.tp_assembly_text.specs.declared.draft.DraftLine.{DraftLine}
 use Rattle.tp_assembly_text.specs.declared.draft.LabelName.{LabelName}
@@ -16,8 +18,10 @@ use Rattle.tp_assembly_text.specs.declared.draft.Row.{Row}
 use Rattle.tp_assembly_text.specs.declared.draft.Begun.{Begun}
 use Rattle.tp_assembly_text.specs.Faults.{fault_at}
 use Rattle.tp_assembly_text.specs.Limits.{most, most_words}
+use Rattle.tp_assembly_text.specs.Words.{position_of}
 
--- the fields of a program, its lines with labels as they stand, the names so far and the loops that have no end yet
+-- the fields of a program, its lines with labels as they stand and where the word stands that asks for each, the names so far and
+-- the loops that have no end yet
 pub record Said : Type 0 where
   pub version : Version
   pub workspace : Option ℕ
@@ -26,7 +30,7 @@ pub record Said : Type 0 where
   pub results : ℕ
   pub initial : List ℕ
   pub lines : List DraftLine
-  pub numbers : List ℕ
+  pub positions : List Position
   pub labels : List LabelName
   pub locals : List LocalName
   pub words : ℕ
@@ -43,7 +47,7 @@ said d = record {
   results = d.results;
   initial = d.initial.items;
   lines = d.lines.items;
-  numbers = d.numbers.items;
+  positions = d.positions.items;
   labels = d.labels.items;
   locals = d.locals.items;
   words = d.words;
@@ -61,7 +65,7 @@ empty = record {
   results = 1;
   initial = [];
   lines = [];
-  numbers = [];
+  positions = [];
   labels = [];
   locals = [];
   words = 0;
@@ -73,11 +77,11 @@ empty = record {
 unfoldable pub place_named : List LabelName → Word → Option ℕ
 place_named labels word = option_map (λ n. n.place) (find (λ n. bytes_eq n.word.text.now word.text.now) labels)
 
--- the first word that a local's name stands for
-unfoldable pub local_named : List LocalName → Word → Option ℕ
-local_named locals word = option_map (λ n. n.first) (find (λ n. bytes_eq n.word.text.now word.text.now) locals)
+-- the local words that a word names
+unfoldable pub local_named : List LocalName → Word → Option LocalName
+local_named locals word = find (λ n. bytes_eq n.word.text.now word.text.now) locals
 
--- no more lines, labels, locals, initial words or rows may stand
+-- no more lines, labels, locals or initial words may stand
 abbrev pub is_full : {A : Type 0} → List A → Bool
 is_full xs = nat_le most (length xs)
 
@@ -85,7 +89,7 @@ is_full xs = nat_le most (length xs)
 unfoldable pub pushed : Word → DraftLine → Said → Result Said SourceFault
 pushed word line d =
     if is_full d.lines then Err (fault_at word TooMany)
-    else Ok (record d { lines = d.lines ++ line ∷ []; numbers = d.numbers ++ word.line ∷ [] })
+    else Ok (record d { lines = d.lines ++ line ∷ []; positions = d.positions ++ position_of word ∷ [] })
 
 -- a name for the next local words, so many
 unfoldable pub locals_named : Word → ℕ → Said → Result Said SourceFault
@@ -93,7 +97,7 @@ locals_named word size d =
     if is_some (local_named d.locals word) then Err (fault_at word Twice)
     else if nat_lt most_words (d.words + size) then Err (fault_at word TooMany)
     else if is_full d.locals then Err (fault_at word TooMany)
-    else Ok (record d { locals = d.locals ++ (record { word = word; first = d.words }) ∷ []; words = d.words + size })
+    else Ok (record d { locals = d.locals ++ (record { word = word; first = d.words; words = size }) ∷ []; words = d.words + size })
 
 -- a label here
 unfoldable pub label_set : Word → Said → Result Said SourceFault
@@ -102,6 +106,11 @@ label_set word d =
     else if is_full d.labels then Err (fault_at word TooMany)
     else Ok (record d { labels = d.labels ++ (record { word = word; place = length d.lines }) ∷ [] })
 
--- the local word of a name
-abbrev pub local_said : List LocalName → Word → Result ℕ SourceFault
+-- a loop more may stand, that a word begins: there are fewer rows, and loops that have no end yet, than an image has rows
+abbrev pub room_for_loop : Word → Said → Result (Unit {0}) SourceFault
+room_for_loop word d =
+    if nat_le most_loops (length d.rows + length d.begun) then Err (fault_at word TooManyLoops) else Ok tt
+
+-- the local words of a name
+abbrev pub local_said : List LocalName → Word → Result LocalName SourceFault
 local_said locals word = ok_or (local_named locals word) (fault_at word NoLocal)

@@ -1,5 +1,5 @@
 -- What a text says: each line adds to a draft.
-use Rattle.std.specs.Prelude.{ℕ, ◌+◌, ◌-◌, ◌*◌, ◌^◌, nat_lt, ℤ, pos, ◌+ℤ◌, int_lt, Bool, if◌then◌else◌, List, [], ◌∷◌, ◌++◌, length, take, replicate, codes, Option, Some, None, Result, Ok, Err, slice_get}
+use Rattle.std.specs.Prelude.{ℕ, ◌+◌, ◌-◌, ◌*◌, nat_lt, ℤ, pos, ◌+ℤ◌, int_lt, ◌||◌, not, Bool, if◌then◌else◌, List, [], ◌∷◌, ◌++◌, length, take, replicate, codes, Option, Some, None, Result, Ok, Err, slice_get}
 use Rattle.std.specs.Str.{str_eq_ignore_ascii_case, bytes_eq}
 use Rattle.tp_decode.specs.declared.instr.Instr.{Instr}
 use Rattle.tp_decode.specs.declared.instr.Instr.TheVariants.{Ldlp, Ldc, Ldnlp, Stl, Mint, Input, Output, Lend}
@@ -7,11 +7,12 @@ use Rattle.tp_assembly.specs.declared.program.Operation.TheVariants as operation
 use Rattle.tp_assembly.specs.declared.program.Line.TheVariants.{Spelled}
 use Rattle.tp_assembly_text.specs.declared.words.Word.{Word}
 use Rattle.tp_assembly_text.specs.declared.fault.SourceFault.{SourceFault}
-use Rattle.tp_assembly_text.specs.declared.fault.TextFault.TheVariants.{OutOfRange, TooMany, NoLoop}
+use Rattle.tp_assembly_text.specs.declared.fault.TextFault.TheVariants.{OutOfRange, TooMany, NoLoop, OutsideLocal}
 use Rattle.tp_assembly_text.specs.declared.draft.DraftLine.{DraftLine}
 use Rattle.tp_assembly_text.specs.declared.draft.DraftLine.TheVariants.{Known}
 use Rattle.tp_assembly_text.specs.declared.draft.Target.TheVariants.{Place}
 use Rattle.tp_assembly_text.specs.declared.draft.Control.TheVariants as control
+use Rattle.tp_assembly_text.specs.declared.draft.LocalName.{LocalName}
 use Rattle.tp_assembly_text.specs.declared.draft.Row.{Row}
 use Rattle.tp_assembly_text.specs.declared.draft.Begun.{Begun}
 use Rattle.tp_assembly_text.specs.declared.statement.NewLocal.{NewLocal}
@@ -25,7 +26,7 @@ use Rattle.tp_assembly_text.specs.declared.statement.Instruction.TheVariants.{Li
 use Rattle.tp_assembly_text.specs.declared.statement.Message.{Message}
 use Rattle.tp_assembly_text.specs.declared.statement.Message.TheVariants.{Receive, Send, Trace}
 use Rattle.tp_assembly_text.specs.Faults.{fault_at, ◌>>=◌}
-use Rattle.tp_assembly_text.specs.Drafts.{Said, is_full, pushed, locals_named, label_set, local_said}
+use Rattle.tp_assembly_text.specs.Drafts.{Said, is_full, pushed, locals_named, label_set, room_for_loop, local_said}
 use Rattle.tp_assembly_text.specs.Grammar.{StatementSaid, SaysNothing, SetsPacket, SetsResults, SetsStart, SetsWorkspace, SetsVersion, NamesLocals, SetsInitial, AddsLines, AddsInstruction, AddsMessage, BeginsLoop, EndsLoop, AddsRow, number_line, statement_said}
 
 -- one after another, and the first fault ends it
@@ -60,12 +61,16 @@ lines_pushed word lines d = in_turn (pushed word) lines d
 abbrev pub plain : Instr → DraftLine
 plain instr = Known (Spelled (operation.Plain instr) None)
 
--- a local word as an operand, and a number added where it stands
-abbrev pub operand_with : Option Offset → ℕ → Result ℤ SourceFault
-operand_with None local = Ok (pos local)
+-- no word of so many has this number, counted from 0
+abbrev pub is_outside : ℕ → ℤ → Bool
+is_outside words number = int_lt number (pos 0) || not (int_lt number (pos words))
+
+-- a name of local words as an operand: the first of them, or one of so many behind it
+abbrev pub operand_with : Option Offset → LocalName → Result ℤ SourceFault
+operand_with None local = Ok (pos local.first)
 operand_with (Some offset) local =
-    if int_lt (pos local +ℤ offset.number) (pos (2 ^ 31)) then Ok (pos local +ℤ offset.number)
-    else Err (fault_at offset.mark OutOfRange)
+    if is_outside local.words offset.number then Err (fault_at offset.mark OutsideLocal)
+    else Ok (pos local.first +ℤ offset.number)
 
 unfoldable pub local_instr_added : LocalInstr → Said → Result Said SourceFault
 local_instr_added i d = do
@@ -90,7 +95,7 @@ message_lines Trace d local =
 unfoldable pub message_added : Word → Message → Word → Said → Result Said SourceFault
 message_added word message name d = do
   local ← local_said d.locals name
-  lines_pushed word (message_lines message d local) d
+  lines_pushed word (message_lines message d local.first) d
 
 -- a loop begins: its two local words take the start and the count, and the head is behind
 abbrev pub loop_begins : ℕ → NewLoop → List DraftLine
@@ -105,6 +110,7 @@ begun local l d = record d { begun = d.begun ++ as_begun local l (length d.lines
 
 unfoldable pub loop_begun : NewLoop → Said → Result Said SourceFault
 loop_begun l d = do
+  room ← room_for_loop l.word d
   named ← locals_named l.name 2 d
   set ← lines_pushed l.word (loop_begins d.words l) named
   Ok (begun d.words l set)
@@ -119,11 +125,13 @@ abbrev pub row_of : Begun → ℕ → Row
 row_of b lend =
     record { head = Place b.head; lend = Place lend; control = control.Local b.local; count = b.count; start = b.start }
 
--- a row more, where a word asks for it
+-- a row more
+abbrev pub with_row : Row → Said → Said
+with_row row d = record d { rows = d.rows ++ row ∷ [] }
+
+-- a row by hand, which a word begins
 abbrev pub row_added : Word → Row → Said → Result Said SourceFault
-row_added word row d =
-    if is_full d.rows then Err (fault_at word TooMany)
-    else Ok (record d { rows = d.rows ++ row ∷ [] })
+row_added word row d = room_for_loop word d >>= λ room. Ok (with_row row d)
 
 -- the loop that began last
 abbrev pub innermost : List Begun → Option Begun
@@ -137,12 +145,11 @@ abbrev pub loop_named : Word → Option Begun → Result Begun SourceFault
 loop_named name None = Err (fault_at name NoLoop)
 loop_named name (Some b) = if bytes_eq b.name.text.now name.text.now then Ok b else Err (fault_at name NoLoop)
 
--- the lend is behind two lines
+-- its row takes its place among the loops, and the lend is behind two lines
 unfoldable pub loop_ended : Word → Word → Said → Result Said SourceFault
 loop_ended word name d = do
   b ← loop_named name (innermost d.begun)
-  rowed ← row_added name (row_of b (length d.lines + 2)) (inner_ended d)
-  lines_pushed word (loop_ends b (length d.lines + 2)) rowed
+  lines_pushed word (loop_ends b (length d.lines + 2)) (with_row (row_of b (length d.lines + 2)) (inner_ended d))
 
 -- what a statement adds to a draft
 unfoldable pub added : StatementSaid → Said → Result Said SourceFault

@@ -1,6 +1,6 @@
 -- The program that a draft says, and its names.
-use Rattle.std.specs.Prelude.{ℕ, ◌+◌, ◌-◌, min, max, if◌then◌else◌, List, [], ◌∷◌, ◌++◌, length, map, slice_get, Option, Some, None, Result, Ok, Err}
-use Rattle.std.specs.List.{flat_map}
+use Rattle.std.specs.Prelude.{ℕ, ◌+◌, ◌-◌, nat_lt, min, max, Bool, if◌then◌else◌, List, [], ◌∷◌, ◌++◌, length, map, slice_get, Option, Some, None, Result, Ok, Err}
+use Rattle.std.specs.List.{flat_map, find}
 use Rattle.std.specs.Option.{ok_or, unwrap_or}
 use Rattle.std.specs.Str.{is_utf8}
 use Rattle.tp_image.specs.declared.image.Version.{Version}
@@ -11,9 +11,10 @@ use Rattle.tp_assembly.specs.declared.program.Spot.{Spot}
 use Rattle.tp_assembly.specs.declared.program.Spot.TheVariants as spot
 use Rattle.tp_assembly.specs.declared.program.Loop.{Loop}
 use Rattle.tp_assembly.specs.declared.program.Program.{Program}
+use Rattle.tp_assembly_text.specs.declared.words.Position.{Position}
 use Rattle.tp_assembly_text.specs.declared.words.Word.{Word}
 use Rattle.tp_assembly_text.specs.declared.fault.SourceFault.{SourceFault}
-use Rattle.tp_assembly_text.specs.declared.fault.TextFault.TheVariants.{NoLabel, NoEnd}
+use Rattle.tp_assembly_text.specs.declared.fault.TextFault.TheVariants.{NoLabel, NoEnd, NoRoom}
 use Rattle.tp_assembly_text.specs.declared.draft.DraftLine.{DraftLine}
 use Rattle.tp_assembly_text.specs.declared.draft.DraftLine.TheVariants.{Known, Jump, Cj, Distance}
 use Rattle.tp_assembly_text.specs.declared.draft.Target.{Target}
@@ -79,6 +80,19 @@ ended begun = no_loop (slice_get begun (length begun - 1))
 -- as large as is said, or else as the locals need, at least 8
 unfoldable pub workspace_said : Said → ℕ
 workspace_said d = unwrap_or d.workspace (max (d.start + d.words) 8)
+
+-- words of a name lie behind a workspace of so many words, in a worker that begins at a workspace word
+abbrev pub is_beyond : ℕ → ℕ → LocalName → Bool
+is_beyond workspace start n = nat_lt workspace (start + n.first + n.words)
+
+-- such a name is a fault
+abbrev pub no_local : Option LocalName → Result (Unit {0}) SourceFault
+no_local None = Ok tt
+no_local (Some n) = Err (fault_at n.word NoRoom)
+
+-- the workspace has room for each local word
+unfoldable pub locals_fit : Said → Result (Unit {0}) SourceFault
+locals_fit d = no_local (find (is_beyond (workspace_said d) d.start) d.locals)
 
 -- the fields of a program
 pub record ProgramSaid : Type 0 where
@@ -146,30 +160,23 @@ label_told n = under n.word.text.now (record { name = n.word.text.now; place = n
 abbrev pub labels_told : List LabelName → List LabelSaid
 labels_told names = flat_map label_told names
 
--- where the words of a name end: at the next name's first, and those of the last name at an end
-abbrev pub end_before : ℕ → List LocalName → ℕ
-end_before end [] = end
-end_before end (n ∷ names) = n.first
+unfoldable pub local_told : LocalName → List LocalSaid
+local_told n = under n.word.text.now (record { name = n.word.text.now; first = n.first; words = n.words })
 
-unfoldable pub local_told : LocalName → ℕ → List LocalSaid
-local_told n end = under n.word.text.now (record { name = n.word.text.now; first = n.first; words = end - n.first })
+abbrev pub locals_told : List LocalName → List LocalSaid
+locals_told names = flat_map local_told names
 
--- the names of local words, which end at an end
-abbrev pub locals_told : ℕ → List LocalName → List LocalSaid
-locals_told end [] = []
-locals_told end (n ∷ names) = local_told n (end_before end names) ++ locals_told end names
-
--- a program, the line of the text that each of its lines comes from, and the names that are handed out
+-- a program, where the word stands that asks for each of its lines, and the names that are handed out
 pub record SourceSaid : Type 0 where
   pub program : ProgramSaid
-  pub numbers : List ℕ
+  pub positions : List Position
   pub labels : List LabelSaid
   pub locals : List LocalSaid
 
 abbrev pub source_said : Source → SourceSaid
 source_said s = record {
   program = program_said s.program;
-  numbers = s.numbers.items;
+  positions = s.positions.items;
   labels = map label_of s.labels.items;
   locals = map local_of s.locals.items;
 }
@@ -177,9 +184,9 @@ source_said s = record {
 -- what a draft says at the end of its text
 unfoldable pub finished : Said → Result SourceSaid SourceFault
 finished d =
-    then_read (ended d.begun) (λ _. then_read (program_of d) (λ program. Ok (record {
+    then_read (ended d.begun) (λ _. then_read (locals_fit d) (λ _. then_read (program_of d) (λ program. Ok (record {
       program = program;
-      numbers = d.numbers;
+      positions = d.positions;
       labels = labels_told d.labels;
-      locals = locals_told d.words d.locals;
-    })))
+      locals = locals_told d.locals;
+    }))))

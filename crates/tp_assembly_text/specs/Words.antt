@@ -1,7 +1,19 @@
 -- The words of a line, and where they stand.
-use Rattle.std.specs.Prelude.{ℕ, ◌+◌, ◌==◌, ◌&&◌, ◌||◌, not, Bool, false, if◌then◌else◌, List, [], ◌∷◌}
+use Rattle.std.specs.Prelude.{ℕ, ◌+◌, ◌-◌, ◌==◌, ◌&&◌, ◌||◌, not, Bool, false, if◌then◌else◌, List, [], ◌∷◌, ◌++◌, length, take, drop, codes}
 use Rattle.std.specs.Char.{is_ascii_whitespace}
+use Rattle.std.specs.Fmt.{decimal}
+use Rattle.std.specs.List.{prefix_len, suffix_len}
+use Rattle.std.specs.Str.{is_utf8, str_eq_ignore_ascii_case}
+use Rattle.tp_assembly_text.specs.declared.words.Position.{Position}
 use Rattle.tp_assembly_text.specs.declared.words.Word.{Word}
+
+-- where a word of the code stands
+abbrev pub position_of : Word → Position
+position_of word = record { line = word.line; column = word.column }
+
+-- a position as text
+abbrev pub position_text : Position → List ℕ
+position_text p = decimal p.line ++ codes ":" ++ decimal p.column
 
 -- a word, and where it stands: lines and columns count from 1
 pub record Token : Type 0 where
@@ -58,3 +70,24 @@ words_of_line line bytes = tokens line 1 (before_comment bytes)
 abbrev pub word_if_any : ℕ → ℕ → List ℕ → List Token
 word_if_any line column [] = []
 word_if_any line column (b ∷ bytes) = record { text = b ∷ bytes; line = line; column = column } ∷ []
+
+-- bytes that have these words: what stands behind their label, where they have one, or all
+abbrev pub behind_label : List Token → List ℕ → List ℕ
+behind_label (label ∷ mark ∷ words) bytes =
+    if str_eq_ignore_ascii_case mark.text (codes ":") then drop mark.column bytes else bytes
+behind_label words bytes = bytes
+
+-- bytes without white space before them, and behind them
+abbrev pub without_leading : List ℕ → List ℕ
+without_leading bytes = drop (prefix_len is_ascii_whitespace bytes) bytes
+
+abbrev pub without_trailing : List ℕ → List ℕ
+without_trailing bytes = take (length bytes - suffix_len is_ascii_whitespace bytes) bytes
+
+-- the statement of a line: what stands before its comment and behind its label, without white space at its ends
+unfoldable pub statement_text : List ℕ → List ℕ
+statement_text line = without_trailing (without_leading (behind_label (words_of_line 1 line) (before_comment line)))
+
+-- what is handed out as a line's statement; it is UTF-8 where the line is, else the line would be handed out
+unfoldable pub statement_told : List ℕ → List ℕ
+statement_told line = if is_utf8 (statement_text line) then statement_text line else line

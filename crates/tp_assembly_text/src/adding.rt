@@ -6,7 +6,7 @@ ghost use Rattle.tp_assembly_text.specs.Drafts.{said};
 ghost use Rattle.tp_assembly_text.specs.Grammar.{statement_kept};
 ghost use Rattle.tp_assembly_text.specs.Meaning.{in_turn, local_added, initial_added, initials_added, line_added, lines_pushed, plain, operand_with, local_instr_added, instruction_added, message_added, loop_begun, loop_named, innermost, loop_ended, row_added, added};
 
-use crate::draft::{Begun, Control, Draft, DraftLine, MOST, Row, Target};
+use crate::draft::{Begun, Control, Draft, DraftLine, LocalName, MOST, Row, Target};
 use crate::fault::{SourceFault, TextFault};
 use crate::instructions::number_line;
 use crate::statement::{
@@ -27,17 +27,18 @@ fn plain<'a>(instr: Instr) -> DraftLine<'a>
     })
 }
 
-/// The operand that a local word is, and a number added where it stands.
-fn operand_with(offset: &Option<Offset<'_>>, local: u16) -> Result<i32, SourceFault>
-    ensures { result ≡ operand_with offset.now local }
+/// The operand that a name of local words is: the first of them, or one behind it.
+fn operand_with(offset: &Option<Offset<'_>>, local: &LocalName<'_>) -> Result<i32, SourceFault>
+    ensures { result ≡ operand_with offset.now local.now }
 {
-    let local = i32::from(local);
-    match offset {
-        None => Ok(local),
-        Some(offset) => local
-            .checked_add(offset.number)
-            .ok_or(offset.mark.fault(TextFault::OutOfRange)),
+    let first = i32::from(local.first);
+    let Some(Offset { mark, number }) = offset else {
+        return Ok(first);
+    };
+    if *number < 0 || *number >= i32::from(local.words) {
+        return Err(mark.fault(TextFault::OutsideLocal));
     }
+    Ok(first + *number)
 }
 
 /// The loop of this name, if it is the one that began last.
@@ -134,7 +135,7 @@ impl<'a> Draft<'a> {
         ensures refused { IfErr result (IsRefusal (local_instr_added instr.now (said self.old))) }
     {
         let local = self.local(&instr.name)?;
-        let operand = operand_with(&instr.offset, local)?;
+        let operand = operand_with(&instr.offset, &local)?;
         let line = number_line(&instr.word, instr.bytes, instr.function, operand)?;
         self.push(&line.word, line.line)
     }
@@ -161,7 +162,7 @@ impl<'a> Draft<'a> {
         ensures said { OnOk result (message_added word.now message name.now (said self.old) ≡ Ok (said self.new)) }
         ensures refused { IfErr result (IsRefusal (message_added word.now message name.now (said self.old))) }
     {
-        let local = plain(Instr::Ldlp(i32::from(self.local(name)?)));
+        let local = plain(Instr::Ldlp(i32::from(self.local(name)?.first)));
         let mint = plain(Instr::Mint);
         match message {
             Message::Receive => {
@@ -193,6 +194,7 @@ impl<'a> Draft<'a> {
             start,
             count,
         } = *begins;
+        self.check_loops(&word)?;
         let local = self.name_locals(&name, 2)?;
         let index = i32::from(local);
         self.push_all(
@@ -220,9 +222,7 @@ impl<'a> Draft<'a> {
         ensures said { OnOk result (row_added word.now row.entry (said self.old) ≡ Ok (said self.new)) }
         ensures refused { IfErr result (IsRefusal (row_added word.now row.entry (said self.old))) }
     {
-        if self.rows.len() >= MOST {
-            return Err(word.fault(TextFault::TooMany));
-        }
+        self.check_loops(word)?;
         self.rows.push(row)?;
         Ok(())
     }
@@ -236,14 +236,13 @@ impl<'a> Draft<'a> {
         let begun = loop_named(&self.begun, name)?;
         self.begun.pop();
         let lend = self.lines.len() + 2;
-        let row = Row {
+        self.rows.push(Row {
             head: Target::Place(begun.head),
             lend: Target::Place(lend),
             control: Control::Local(begun.local),
             count: begun.count,
             start: begun.start,
-        };
-        self.push_row(name, row)?;
+        })?;
         let operation = Operation::Distance {
             from: begun.head,
             to: lend + 1,

@@ -2,15 +2,16 @@
 
 ghost use Rattle.std.specs.Prelude.{◌≡◌, ◌≤◌, OnOk, IfOk, IfErr, Ok, []};
 ghost use Rattle.tp_assembly_text.specs.Faults.{IsRefusal};
-ghost use Rattle.tp_assembly_text.specs.Drafts.{said, empty, place_named, local_named, local_said, pushed, locals_named, label_set};
+ghost use Rattle.tp_assembly_text.specs.Drafts.{said, empty, place_named, local_named, local_said, pushed, locals_named, label_set, room_for_loop};
 
 use crate::fault::{SourceFault, TextFault};
-use crate::words::Word;
+use crate::words::{Position, Word};
 use std::alloc::Global;
 use tp_assembly::Line;
 use tp_image::Version;
+use tp_image::limits::LOOP_ROWS;
 
-/// The most lines, names, words and rows that are read: more than a worker can have.
+/// The most lines, names and words that are read: more than a worker can have.
 pub const MOST: usize = 16_384;
 
 /// The most words of a workspace that are read.
@@ -23,11 +24,12 @@ pub struct LabelName<'a> {
     pub place: usize,
 }
 
-/// A name of local words, and the first of them.
+/// A name of local words: the first of them, and how many they are.
 #[derive(Clone, Copy)]
 pub struct LocalName<'a> {
     pub word: Word<'a>,
     pub first: u16,
+    pub words: u16,
 }
 
 /// A line, maybe with labels.
@@ -86,8 +88,8 @@ pub struct Draft<'a> {
     pub results: u16,
     pub initial: Vec<u32>,
     pub lines: Vec<DraftLine<'a>>,
-    /// The line of the text that each line comes from.
-    pub numbers: Vec<usize>,
+    /// Where the word stands that asks for each line.
+    pub positions: Vec<Position>,
     pub labels: Vec<LabelName<'a>>,
     pub locals: Vec<LocalName<'a>>,
     /// How many local words have names.
@@ -107,15 +109,15 @@ pub fn place_named(labels: &[LabelName<'_>], word: &Word<'_>) -> Option<usize>
         .map(|label| label.place)
 }
 
-/// The first word that a local's name stands for.
+/// The local words that a word names.
 #[tactic(auto, unfolding(crate::specs::Drafts::local_named))]
-fn local_named(locals: &[LocalName<'_>], word: &Word<'_>) -> Option<u16>
+fn local_named<'a>(locals: &[LocalName<'a>], word: &Word<'_>) -> Option<LocalName<'a>>
     ensures { result ≡ local_named locals.now word.now }
 {
     locals
         .iter()
+        .copied()
         .find(|local| local.word.text == word.text)
-        .map(|local| local.first)
 }
 
 impl<'a> Draft<'a> {
@@ -130,7 +132,7 @@ impl<'a> Draft<'a> {
             results: 1,
             initial: Vec::new(alloc),
             lines: Vec::new(alloc),
-            numbers: Vec::new(alloc),
+            positions: Vec::new(alloc),
             labels: Vec::new(alloc),
             locals: Vec::new(alloc),
             words: 0,
@@ -149,7 +151,7 @@ impl<'a> Draft<'a> {
             return Err(word.fault(TextFault::TooMany));
         }
         self.lines.push(line)?;
-        self.numbers.push(word.line)?;
+        self.positions.push(word.position())?;
         Ok(())
     }
 
@@ -171,7 +173,11 @@ impl<'a> Draft<'a> {
         if self.locals.len() >= MOST {
             return Err(word.fault(TextFault::TooMany));
         }
-        self.locals.push(LocalName { word: *word, first })?;
+        self.locals.push(LocalName {
+            word: *word,
+            first,
+            words: size,
+        })?;
         self.words = after as u16;
         Ok(first)
     }
@@ -193,8 +199,18 @@ impl<'a> Draft<'a> {
         Ok(())
     }
 
-    /// The local word of a name.
-    pub fn local(&self, word: &Word<'_>) -> Result<u16, SourceFault>
+    /// Refuses a loop that a word begins, where there are as many as a worker has: rows, and loops that have no end yet.
+    pub fn check_loops(&self, word: &Word<'_>) -> Result<(), SourceFault>
+        ensures { result ≡ room_for_loop word.now (said self.now) }
+    {
+        if self.rows.len() + self.begun.len() >= LOOP_ROWS as usize {
+            return Err(word.fault(TextFault::TooManyLoops));
+        }
+        Ok(())
+    }
+
+    /// The local words of a name.
+    pub fn local(&self, word: &Word<'_>) -> Result<LocalName<'a>, SourceFault>
         ensures { result ≡ local_said self.now.locals.items word.now }
     {
         local_named(&self.locals, word).ok_or(word.fault(TextFault::NoLocal))

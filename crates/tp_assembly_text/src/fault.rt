@@ -27,12 +27,18 @@ pub enum TextFault {
     Twice,
     #[error("no local has this name")]
     NoLocal,
+    #[error("the local of this name has fewer words")]
+    OutsideLocal,
+    #[error("the workspace that is stated has no room for this local")]
+    NoRoom,
     #[error("no label has this name")]
     NoLabel,
     #[error("no loop of this name is open innermost")]
     NoLoop,
     #[error("this loop has no end")]
     NoEnd,
+    #[error("a worker has at most 16 loops")]
+    TooManyLoops,
     #[error("a spelling has 1 to 8 bytes")]
     NoLength,
     #[error("the text has more lines, names or words than a worker can have")]

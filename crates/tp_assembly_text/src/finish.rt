@@ -1,15 +1,16 @@
 //! A draft as a program: each label by its place.
 
 ghost use Rattle.std.specs.Prelude.{◌≡◌, Ok, IfOk, IfErr, OnOk, map, ◌++◌};
+ghost use Rattle.std.specs.List.{find};
 ghost use Rattle.tp_assembly_text.specs.Faults.{IsRefusal, each_read};
 ghost use Rattle.tp_assembly_text.specs.Drafts.{said};
-ghost use Rattle.tp_assembly_text.specs.Programs.{place_of_label, line_placed, spot_placed, control_said, loop_placed, ended, workspace_said, program_said, program_of, label_of, label_told, labels_told, local_of, local_told, end_before, locals_told, source_said, finished};
+ghost use Rattle.tp_assembly_text.specs.Programs.{place_of_label, line_placed, spot_placed, control_said, loop_placed, ended, workspace_said, is_beyond, locals_fit, program_said, program_of, label_of, label_told, labels_told, local_of, local_told, locals_told, source_said, finished};
 
 use crate::draft::{
     Begun, Control, Draft, DraftLine, LabelName, LocalName, Row, Target, place_named,
 };
 use crate::fault::{SourceFault, TextFault};
-use crate::words::Word;
+use crate::words::{Position, Word};
 use std::alloc::{AllocError, Global};
 use tp_assembly::{Line, Loop, Operation, Program, Spot};
 
@@ -23,7 +24,7 @@ pub struct Label<'a> {
     pub place: usize,
 }
 
-/// A name of local words: of the first, and of those behind it.
+/// A name of local words: the first of them, and how many they are.
 #[derive(Clone, Copy, Debug, PartialEq, Eq)]
 pub struct Local<'a> {
     pub name: &'a str,
@@ -31,11 +32,11 @@ pub struct Local<'a> {
     pub words: usize,
 }
 
-/// A program, the line of the text that each of its lines comes from, counted from 1, and the names that the text gives.
+/// A program, where the word stands that asks for each of its lines, and the names that the text gives.
 #[derive(Drop)]
 pub struct Source<'a> {
     pub program: Program,
-    pub numbers: Vec<usize>,
+    pub positions: Vec<Position>,
     pub labels: Vec<Label<'a>>,
     pub locals: Vec<Local<'a>>,
 }
@@ -164,46 +165,28 @@ fn labels_of<'a>(alloc: Global, names: &[LabelName<'a>]) -> Result<Vec<Label<'a>
     Ok(labels)
 }
 
-/// Appends a name of local words that end before a word, if it is UTF-8.
+/// Appends a name of local words, if it is UTF-8.
 #[tactic(auto, unfolding(crate::specs::Programs::local_told))]
-fn push_local<'a>(
-    locals: &mut Vec<Local<'a>>,
-    name: &LocalName<'a>,
-    end: u16,
-) -> Result<(), AllocError>
-    ensures { OnOk result (map local_of locals.new.items ≡ map local_of locals.old.items ++ local_told name.now end) }
+fn push_local<'a>(locals: &mut Vec<Local<'a>>, name: &LocalName<'a>) -> Result<(), AllocError>
+    ensures { OnOk result (map local_of locals.new.items ≡ map local_of locals.old.items ++ local_told name.now) }
 {
     if let Ok(text) = str::from_utf8(name.word.text) {
         locals.push(Local {
             name: text,
             first: usize::from(name.first),
-            words: usize::from(end.saturating_sub(name.first)),
+            words: usize::from(name.words),
         })?;
     }
     Ok(())
 }
 
-/// Where the words of a name end, behind which these names stand: at the next name's first, or at an end.
-fn end_before(end: u16, names: &[LocalName<'_>]) -> u16
-    ensures { result ≡ end_before end names.now }
-{
-    match names {
-        [next, ..] => next.first,
-        [] => end,
-    }
-}
-
-/// The names of local words, so many of which have names. Each name has the words up to the next name's first.
-fn locals_of<'a>(
-    alloc: Global,
-    names: &[LocalName<'a>],
-    words: u16,
-) -> Result<Vec<Local<'a>>, AllocError>
-    ensures { IfOk result (λ locals. map local_of locals.items ≡ locals_told words names.now) }
+/// The names of local words of a text.
+fn locals_of<'a>(alloc: Global, names: &[LocalName<'a>]) -> Result<Vec<Local<'a>>, AllocError>
+    ensures { IfOk result (λ locals. map local_of locals.items ≡ locals_told names.now) }
 {
     let mut locals = Vec::new(alloc);
-    for (i, name) in names.iter().enumerate() {
-        push_local(&mut locals, name, end_before(words, &names[i + 1..]))?;
+    for name in names {
+        push_local(&mut locals, name)?;
     }
     Ok(locals)
 }
@@ -228,6 +211,38 @@ fn workspace_of(draft: &Draft<'_>) -> u32
     draft
         .workspace
         .map_or(needed.max(LEAST_WORKSPACE), u32::from)
+}
+
+/// Whether words of a name lie behind a workspace of so many words, in a worker that begins at a workspace word.
+fn is_beyond(workspace: u32, start: u16, local: &LocalName<'_>) -> bool
+    ensures { result ≡ is_beyond workspace start local.now }
+{
+    u32::from(start) + u32::from(local.first) + u32::from(local.words) > workspace
+}
+
+/// The first name of which words lie behind such a workspace.
+fn first_beyond<'a>(
+    workspace: u32,
+    start: u16,
+    locals: &[LocalName<'a>],
+) -> Option<LocalName<'a>>
+    ensures { result ≡ find (is_beyond workspace start) locals.now }
+{
+    locals
+        .iter()
+        .copied()
+        .find(|local| is_beyond(workspace, start, local))
+}
+
+/// Finds that the workspace has room for each local word.
+#[tactic(auto, unfolding(crate::specs::Programs::locals_fit))]
+fn check_room(draft: &Draft<'_>) -> Result<(), SourceFault>
+    ensures { result ≡ locals_fit (said draft.now) }
+{
+    match first_beyond(workspace_of(draft), draft.start, &draft.locals) {
+        Some(local) => Err(local.word.fault(TextFault::NoRoom)),
+        None => Ok(()),
+    }
 }
 
 /// The program of a draft.
@@ -257,11 +272,12 @@ pub fn finish<'a>(alloc: Global, draft: Draft<'a>) -> Result<Source<'a>, SourceF
     ensures refused { IfErr result (IsRefusal (finished (said draft.entry))) }
 {
     check_ends(&draft.begun)?;
+    check_room(&draft)?;
     let program = program_of(alloc, &draft)?;
     Ok(Source {
         program,
-        numbers: Vec::from_slice(alloc, &draft.numbers)?,
+        positions: Vec::from_slice(alloc, &draft.positions)?,
         labels: labels_of(alloc, &draft.labels)?,
-        locals: locals_of(alloc, &draft.locals, draft.words)?,
+        locals: locals_of(alloc, &draft.locals)?,
     })
 }

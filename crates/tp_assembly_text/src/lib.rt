@@ -22,5 +22,5 @@ pub use fault::{SourceFault, TextFault};
 pub use finish::{Label, Local, Source};
 pub use reading::read_source;
 pub use remarks::{LineRemark, LoopRemark, Remarks};
-pub use words::statement_of;
+pub use words::{Position, statement_of};
 pub use writing::source_text;

@@ -4,10 +4,30 @@ ghost use Rattle.std.specs.Prelude.{◌≡◌, ◌≤◌, ◌<◌, ◌+◌, leng
 ghost use Rattle.std.specs.List.{slice_range, list_all};
 ghost use Rattle.std.specs.Str.{str_eq_ignore_ascii_case};
 ghost use Rattle.tp_assembly_text.specs.Faults.{fault_at};
-ghost use Rattle.tp_assembly_text.specs.Words.{token, tokens, is_mark, is_plain, begins_comment, before_comment, words_of_line, word_if_any};
+ghost use Rattle.tp_assembly_text.specs.Words.{position_of, token, tokens, is_mark, is_plain, begins_comment, before_comment, words_of_line, word_if_any, behind_label, statement_told};
 
 use crate::fault::{SourceFault, TextFault};
 use std::alloc::{AllocError, Global};
+use std::fmt;
+
+/// Where a word of a text stands: lines and columns count from 1, columns in bytes.
+#[derive(Clone, Copy, Debug, PartialEq, Eq)]
+pub struct Position {
+    pub line: usize,
+    pub column: usize,
+}
+
+impl fmt::Display for Position {
+    ghost use Rattle.std.specs.Prelude.{Some};
+    ghost use Rattle.tp_assembly_text.specs.Words.{position_text};
+
+    ghost output = { λ position. Some (position_text position) };
+
+    fn fmt<W: fmt::Write>(&self, f: &mut fmt::Formatter<W>) -> fmt::Result {
+        let Position { line, column } = *self;
+        write!(f, "{line}:{column}")
+    }
+}
 
 /// A word of a text, and where it stands.
 #[derive(Clone, Copy)]
@@ -23,6 +43,16 @@ impl<'a> Word<'a> {
         ensures { result ≡ str_eq_ignore_ascii_case self.now.text.now name.now }
     {
         self.text.eq_ignore_ascii_case(name.as_bytes())
+    }
+
+    /// Where it stands.
+    pub fn position(&self) -> Position
+        ensures { result ≡ position_of self.now }
+    {
+        Position {
+            line: self.line,
+            column: self.column,
+        }
     }
 
     /// A fault at this word.
@@ -115,27 +145,6 @@ fn end_word<'a>(
     Ok(())
 }
 
-/// Whether bytes are one word, with white space about it or not.
-fn is_one_word(text: &[u8]) -> bool {
-    let word = text.trim_ascii();
-    !word.is_empty()
-        && word
-            .iter()
-            .all(|byte| !byte.is_ascii_whitespace() && !is_mark(*byte))
-}
-
-/// The statement of a line, without its label and its comment, and without white space at its ends.
-pub fn statement_of<'a>(line: &'a str) -> &'a str {
-    let text = before_comment(line.as_bytes());
-    let statement = match text.iter().position(|byte| *byte == b':') {
-        Some(mark) if is_one_word(text.get(..mark).unwrap_or(text)) => {
-            text.get(mark.saturating_add(1)..).unwrap_or(text)
-        }
-        _ => text,
-    };
-    str::from_utf8(statement.trim_ascii()).unwrap_or(line)
-}
-
 /// The words of a line.
 pub fn words_of<'a>(alloc: Global, text: &'a [u8], line: usize) -> Result<Vec<Word<'a>>, AllocError>
     ensures { IfOk result (λ words. map token words.items ≡ words_of_line line text.now) }
@@ -151,4 +160,26 @@ pub fn words_of<'a>(alloc: Global, text: &'a [u8], line: usize) -> Result<Vec<Wo
     }
     push_word(&mut words, said, line, start, said.len())?;
     Ok(words)
+}
+
+/// What stands behind the label of bytes that have these words, or all of them where they have no label.
+fn behind_label<'a>(words: &[Word<'_>], text: &'a [u8]) -> &'a [u8]
+    ensures { result.now ≡ behind_label (map token words.now) text.now }
+{
+    match words {
+        [_, mark, ..] if mark.is(":") => text.get(mark.column..).unwrap_or(&[]),
+        _ => text,
+    }
+}
+
+/// The statement of a line: without its label and its comment, and without white space at its ends.
+pub fn statement_of<'a>(alloc: Global, line: &'a str) -> Result<&'a str, AllocError>
+    ensures { IfOk result (λ statement. statement.now ≡ statement_told line.now) }
+{
+    let words = words_of(alloc, line.as_bytes(), 1)?;
+    let statement = behind_label(&words, before_comment(line.as_bytes()));
+    match str::from_utf8(statement.trim_ascii()) {
+        Ok(statement) => Ok(statement),
+        Err(_) => Ok(line),
+    }
 }

@@ -19,7 +19,7 @@ use Rattle.tp_assembly_text.specs.declared.statement.NewLine.{NewLine}
 use Rattle.tp_assembly_text.specs.declared.statement.Instruction.TheVariants as instruction
 use Rattle.tp_assembly_text.specs.Limits.{most_bytes}
 use Rattle.tp_assembly_text.specs.Faults.{then_read}
-use Rattle.tp_assembly_text.specs.Words.{is_plain, begins}
+use Rattle.tp_assembly_text.specs.Words.{position_of, is_plain, begins}
 use Rattle.tp_assembly_text.specs.Numbers.{begins_number}
 use Rattle.tp_assembly_text.specs.Names.{function_named, function_by_name, operation_named}
 use Rattle.tp_assembly_text.specs.Drafts.{Said, pushed}
@@ -31,6 +31,7 @@ use Rattle.tp_assembly_text.specs.Meaning.{in_turn, line_added, added, unlabelle
 use Rattle.tp_assembly_text.specs.Apart.{word_for}
 use Rattle.tp_assembly_text.specs.Programs.{place_of_label, line_placed}
 use Rattle.tp_assembly_text.specs.Written.{label_text, stated_text, operation_text, byte_text, line_text, names_from_line}
+use Rattle.tp_text_laws.specs.Sources.{column_of}
 use Rattle.tp_text_laws.specs.Conditions.{MayBeStated, MayBeLine}
 use Rattle.tp_text_laws.proofs.Tests.{and_false, or_left, or_right, same_place}
 use Rattle.tp_text_laws.proofs.Bytes.{IsWord, literal_word, decimal_word, signed_word, label_word, minus_word, name_word, hexadecimal_word}
@@ -49,7 +50,7 @@ pub record Reads (named : ℕ → Bool) (count : ℕ) (line : Line) : Type 0 whe
   pub pieces : List Piece
   pub is : line_text line ≡ write pieces
   pub apart : AreApart pieces
-  pub says : (n : ℕ) (d : Said) → (w : Word) × (l : DraftLine) × (line_said (map word_for (placed n 1 pieces)) d ≡ pushed w l d) × IsDrafted named count l line × (w.line ≡ n)
+  pub says : (n : ℕ) (d : Said) → (w : Word) × (l : DraftLine) × (line_said (map word_for (placed n 1 pieces)) d ≡ pushed w l d) × IsDrafted named count l line × (position_of w ≡ record { line = n; column = column_of line })
 
 -- how many bytes are stated
 abbrev stated_pieces : Option ℕ → List Piece → List Piece

@@ -13,3 +13,4 @@ pub mod WholeCode
 pub mod ReadBack
 pub mod Images
 pub mod Disassembled
+pub mod Positions

@@ -1,12 +1,13 @@
 -- A program's text is read back as that program.
 use Rattle.std.proofs.Common.{inl, inr, Err, add-one, ◌≡◌, ℕ, ◌+◌, ◌-◌, ◌*◌, ◌^◌, min, max, ◌&&◌, nat_lt, Bool, true, false, if◌then◌else◌, List, [], ◌∷◌, ◌++◌, codes, length, take, Option, Some, None, Result, Ok, refl, ap, sym, ◌∙◌, subst, arith}
-use Rattle.std.specs.List.{list_any, flat_map}
+use Rattle.std.specs.List.{list_any, flat_map, find}
 use Rattle.std.specs.Str.Lines.{lines}
 use Rattle.std.specs.Option.{unwrap_or}
 use Rattle.std.specs.Fmt.{decimal}
 use Rattle.std.proofs.lemmas.List.Folds.{list_all-append}
 use Rattle.std.proofs.lemmas.Bool.Decides.{nat_tests}
 use Rattle.tp_assembly.specs.declared.program.Loop.{Loop}
+use Rattle.tp_assembly_text.specs.declared.words.Position.{Position}
 use Rattle.tp_assembly_text.specs.declared.fault.SourceFault.{SourceFault}
 use Rattle.tp_assembly_text.specs.declared.draft.LabelName.{LabelName}
 use Rattle.tp_assembly_text.specs.declared.remarks.Remarks.{Remarks}
@@ -16,10 +17,10 @@ use Rattle.tp_assembly_text.specs.Words.{before_comment, tokens}
 use Rattle.tp_assembly_text.specs.Drafts.{Said, empty, place_named}
 use Rattle.tp_assembly_text.specs.Grammar.{statement_said}
 use Rattle.tp_assembly_text.specs.Meaning.{added, line_said}
-use Rattle.tp_assembly_text.specs.Programs.{ProgramSaid, SourceSaid, line_placed, loop_placed, workspace_said, ended, program_of, labels_told, locals_told, finished}
+use Rattle.tp_assembly_text.specs.Programs.{ProgramSaid, SourceSaid, line_placed, loop_placed, workspace_said, ended, program_of, labels_told, is_beyond, no_local, locals_told, locals_fit, finished}
 use Rattle.tp_assembly_text.specs.Texts.{words_of_lines, words_say, text_said, source_of}
 use Rattle.tp_assembly_text.specs.Written.{as_line, is_named, names_from_row, names_from_line, fields_text, loop_remark, legend, remarks_above, above, text_of}
-use Rattle.tp_text_laws.specs.Sources.{labels_below, labels_of, written_lines, AreNumbers, IsSource}
+use Rattle.tp_text_laws.specs.Sources.{labels_below, labels_of, written_lines, ArePositions, IsSource}
 use Rattle.tp_text_laws.specs.Conditions.{MayBeWritten}
 use Rattle.tp_text_laws.proofs.Tests.{and_false, or_left, or_right}
 use Rattle.tp_text_laws.proofs.TextLines.{IsLine, all_lines}
@@ -78,10 +79,10 @@ none_below named count labels none = λ w k is low.
     let below : nat_lt k 0 ≡ false = grind (arith, nat_tests) in
     ap (λ ls. place_named ls w) none ∙ sym (ap (λ t. if named k && t then Some k else None) below ∙ ap (λ t. if t then Some k else None) (and_false (named k)))
 
-no_code : (s d : Said) (named : ℕ → Bool) (count : ℕ) (loops : List Loop) (remarks : Option Remarks) (front : List (List ℕ)) → s.lines ≡ [] → s.numbers ≡ [] → s.labels ≡ [] → Rowed s named count loops d → Coded s named count loops remarks [] 0 front d
-no_code s d named count loops remarks front no_lines no_numbers no_labels rowed =
+no_code : (s d : Said) (named : ℕ → Bool) (count : ℕ) (loops : List Loop) (remarks : Option Remarks) (front : List (List ℕ)) → s.lines ≡ [] → s.positions ≡ [] → s.labels ≡ [] → Rowed s named count loops d → Coded s named count loops remarks [] 0 front d
+no_code s d named count loops remarks front no_lines no_positions no_labels rowed =
     let lines : d.lines ≡ [] = ap (λ (e : Said). e.lines) rowed.is ∙ no_lines in
-    let numbers : d.numbers ≡ [] = ap (λ (e : Said). e.numbers) rowed.is ∙ no_numbers in
+    let positions : d.positions ≡ [] = ap (λ (e : Said). e.positions) rowed.is ∙ no_positions in
     let labels : d.labels ≡ [] = ap (λ (e : Said). e.labels) rowed.is ∙ no_labels in
     record {
       fields = d;
@@ -92,7 +93,7 @@ no_code s d named count loops remarks front no_lines no_numbers no_labels rowed 
       labels = none_below named count d.labels labels;
       few = omega (arith, ap length labels);
       told = ap labels_told labels;
-      numbers = subst (λ (ns : List ℕ). AreNumbers front 0 ns []) (sym numbers) tt;
+      positions = subst (λ (ps : List Position). ArePositions front 0 ps []) (sym positions) tt;
     }
 
 row_named : (p : ProgramSaid) (k : ℕ) → list_any (names_from_row k) p.loops ≡ true → is_named p k ≡ true
@@ -112,7 +113,7 @@ text_leads p remarks may =
     (behind (leads_to (λ front d is. no_rows (fields_of p) d (is_named p) (length p.lines) refl is)
     (behind (behind (version_leads p.version empty refl) (sizes_lead p _ may.workspace may.start may.packet may.result))
     (initials_lead _ 0 p.initial refl (omega (arith, may.words)) may.initial)))
-    (rows_lead (fields_of p) (is_named p) (length p.lines) [] p.loops (omega (arith, may.rows)) may.loops (row_named p)))))
+    (rows_lead (fields_of p) (is_named p) (length p.lines) [] p.loops refl (omega (arith, may.rows)) may.loops (row_named p)))))
     (code_leads (fields_of p) (is_named p) (length p.lines) p.loops remarks [] p.lines 0 refl (omega arith) (record { lines = may.count; labels = may.labels }) may.lines (line_named p))
 
 said_of : (text : List ℕ) (Q : List (List ℕ) → Said → Type 0) → Leads text (Is empty) Q → (d : Said) × (text_said text ≡ Ok d) × Q (lines text) d
@@ -132,7 +133,7 @@ record HasProgram (p : ProgramSaid) (remarks : Option Remarks) (d : Said) : Type
   initial : d.initial ≡ p.initial
   begun : d.begun ≡ []
   locals : d.locals ≡ []
-  numbers : AreNumbers (lines (text_of p remarks)) 0 d.numbers (written_lines remarks 0 p.lines)
+  positions : ArePositions (lines (text_of p remarks)) 0 d.positions (written_lines remarks 0 p.lines)
   labels : labels_told d.labels ≡ labels_of p
   lines : each_read (line_placed d.labels) d.lines ≡ Ok p.lines
   loops : each_read (loop_placed d.labels d.start) d.rows ≡ Ok p.loops
@@ -169,12 +170,14 @@ program_is p remarks d has =
     rw (has.lines, has.loops) (ap Ok same)
 
 source_is : (p : ProgramSaid) (remarks : Option Remarks) (d : Said) → HasProgram p remarks d → (source : SourceSaid) × (finished d ≡ Ok source) × IsSource p remarks source
-unfolding finished ended
+unfolding finished ended locals_fit
 source_is p remarks d has =
-    let make : ProgramSaid → Result SourceSaid SourceFault = λ program. Ok (record { program = program; numbers = d.numbers; labels = labels_told d.labels; locals = locals_told d.words d.locals }) in (
-      record { program = p; numbers = d.numbers; labels = labels_told d.labels; locals = locals_told d.words d.locals },
-      ap (λ b. then_read (ended b) (λ _. then_read (program_of d) make)) has.begun ∙ ap (λ r. then_read r make) (program_is p remarks d has),
-      record { program = refl; numbers = has.numbers; labels = has.labels; locals = ap (locals_told d.words) has.locals },
+    let make : ProgramSaid → Result SourceSaid SourceFault = λ program. Ok (record { program = program; positions = d.positions; labels = labels_told d.labels; locals = locals_told d.locals }) in (
+      record { program = p; positions = d.positions; labels = labels_told d.labels; locals = locals_told d.locals },
+      ap (λ b. then_read (ended b) (λ _. then_read (locals_fit d) (λ _. then_read (program_of d) make))) has.begun
+          ∙ ap (λ ls. then_read (no_local (find (is_beyond (workspace_said d) d.start) ls)) (λ _. then_read (program_of d) make)) has.locals
+          ∙ ap (λ r. then_read r make) (program_is p remarks d has),
+      record { program = refl; positions = has.positions; labels = has.labels; locals = ap locals_told has.locals },
     )
 
 are_labels : (named : ℕ → Bool) (count : ℕ) (labels : List LabelName) → AreBelow named count (count + 1) labels → AreLabels named count labels
@@ -184,8 +187,8 @@ are_labels named count labels are = λ w k is low there.
 
 has_program : (p : ProgramSaid) (remarks : Option Remarks) (d : Said) → Coded (fields_of p) (is_named p) (length p.lines) p.loops remarks p.lines (length p.lines + 1) (lines (text_of p remarks)) d → HasProgram p remarks d
 has_program p remarks d coded =
-    let is : d ≡ record (fields_of p) { rows = coded.fields.rows; lines = d.lines; numbers = d.numbers; labels = d.labels } =
-    coded.is ∙ ap (λ (f : Said). record f { lines = d.lines; numbers = d.numbers; labels = d.labels }) coded.rowed.is in
+    let is : d ≡ record (fields_of p) { rows = coded.fields.rows; lines = d.lines; positions = d.positions; labels = d.labels } =
+    coded.is ∙ ap (λ (f : Said). record f { lines = d.lines; positions = d.positions; labels = d.labels }) coded.rowed.is in
     let labels = are_labels (is_named p) (length p.lines) d.labels coded.labels in
     record {
       version = ap (λ (e : Said). e.version) is;
@@ -196,7 +199,7 @@ has_program p remarks d coded =
       initial = ap (λ (e : Said). e.initial) is;
       begun = ap (λ (e : Said). e.begun) is;
       locals = ap (λ (e : Said). e.locals) is;
-      numbers = coded.numbers;
+      positions = coded.positions;
       labels = coded.told ∙ ap (labels_below (is_named p)) (add-one (length p.lines));
       lines = coded.placed d.labels labels;
       loops =

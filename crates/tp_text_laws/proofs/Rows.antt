@@ -1,5 +1,5 @@
 -- The rows of a program are read as they are written.
-use Rattle.std.proofs.Common.{◌≡◌, ℕ, ◌+◌, ◌<◌, ◌≤◌, Bool, true, false, ℤ, List, [], ◌∷◌, ◌++◌, codes, length, Some, Result, Ok, Err, refl, ap, sym, ◌∙◌, subst, arith, append_assoc}
+use Rattle.std.proofs.Common.{◌≡◌, ℕ, ◌+◌, ◌<◌, ◌≤◌, nat_le, Bool, true, false, ℤ, List, [], ◌∷◌, ◌++◌, codes, length, Some, Result, Ok, Err, refl, ap, sym, ◌∙◌, subst, arith, append_assoc}
 use Rattle.std.specs.List.{list_any, flat_map, AllByRecursion}
 use Rattle.std.specs.Option.{ok_or}
 use Rattle.std.specs.Fmt.{decimal, signed_decimal}
@@ -17,15 +17,16 @@ use Rattle.tp_assembly_text.specs.declared.draft.Target.TheVariants as target
 use Rattle.tp_assembly_text.specs.declared.draft.Control.TheVariants as control
 use Rattle.tp_assembly_text.specs.declared.draft.LabelName.{LabelName}
 use Rattle.tp_assembly_text.specs.declared.draft.Row.{Row}
-use Rattle.tp_assembly_text.specs.Limits.{most, most_count}
+use Rattle.tp_image.specs.Limits.{most_loops}
+use Rattle.tp_assembly_text.specs.Limits.{most_count}
 use Rattle.tp_assembly_text.specs.Faults.{fault_at, then_read, each_read, ◌>>=◌}
 use Rattle.tp_assembly_text.specs.Words.{is_plain}
-use Rattle.tp_assembly_text.specs.Drafts.{Said, is_full, place_named}
+use Rattle.tp_assembly_text.specs.Drafts.{Said, place_named, room_for_loop}
 use Rattle.tp_assembly_text.specs.Numbers.{begins_number}
 use Rattle.tp_assembly_text.specs.Keywords.{keyword_named}
 use Rattle.tp_assembly_text.specs.Statements.{word_said, end_said, expect_said, target_said, count_read, number_read}
 use Rattle.tp_assembly_text.specs.Grammar.{AddsRow, row_said, keyword_said}
-use Rattle.tp_assembly_text.specs.Meaning.{added, row_added, line_said}
+use Rattle.tp_assembly_text.specs.Meaning.{added, with_row, row_added, line_said}
 use Rattle.tp_assembly_text.specs.Apart.{word_for}
 use Rattle.tp_assembly_text.specs.Programs.{place_of_label, spot_placed, control_said, loop_placed}
 use Rattle.tp_assembly_text.specs.Written.{label_text, spot_text, loop_text, is_at, names_from_row}
@@ -111,10 +112,11 @@ pub record Rowed (s : Said) (named : ℕ → Bool) (count : ℕ) (loops : List L
   pub long : length d.rows ≡ length loops
   pub placed : (labels : List LabelName) → AreLabels named count labels → each_read (loop_placed labels s.start) d.rows ≡ Ok loops
 
-a_row : (w : Word) (row : Row) (s d : Said) (loops : List Loop) → d ≡ record s { rows = d.rows } → length d.rows ≡ length loops → length loops < most
+a_row : (w : Word) (row : Row) (s d : Said) (loops : List Loop) → s.begun ≡ [] → d ≡ record s { rows = d.rows } → length d.rows ≡ length loops → length loops < most_loops
     → row_added w row d ≡ Ok (record s { rows = d.rows ++ row ∷ [] })
-a_row w row s d loops is long few =
-    let space : is_full d.rows ≡ false = grind (arith, nat_tests) in
+a_row w row s d loops none is long few =
+    let begun : length d.begun ≡ 0 = ap length (ap (λ (e : Said). e.begun) is ∙ none) in
+    let space : nat_le most_loops (length d.rows + length d.begun) ≡ false = grind (arith, nat_tests) in
     rw space (ap (λ (e : Said). Ok (record e { rows = d.rows ++ row ∷ [] })) is)
 
 row_line : (l : Loop) → List Piece
@@ -123,10 +125,10 @@ row_line l =
     ∷ Gap ∷ Of (codes "control") ∷ Gap ∷ Of (decimal l.control) ∷ Gap ∷ Of (codes "turns") ∷ Gap ∷ Of (decimal l.count)
     ∷ Gap ∷ Of (codes "start") ∷ Gap ∷ Of (signed_decimal l.start) ∷ []
 
-row_leads : (s : Said) (named : ℕ → Bool) (count : ℕ) (done : List Loop) (l : Loop) → length done < most → MayBeRow count l → ((p : ℕ) → names_from_row p l ≡ true → named p ≡ true)
+row_leads : (s : Said) (named : ℕ → Bool) (count : ℕ) (done : List Loop) (l : Loop) → s.begun ≡ [] → length done < most_loops → MayBeRow count l → ((p : ℕ) → names_from_row p l ≡ true → named p ≡ true)
     → Leads (loop_text l) (Any (Rowed s named count done)) (Any (Rowed s named count (done ++ l ∷ [])))
 unfolding is_plain keyword_named keyword_said added loop_text row_line line_said loop_placed control_said
-row_leads s named count done l few may all =
+row_leads s named count done l none few may all =
     alone (codes "loop head " ++ spot_text l.head ++ codes " lend " ++ spot_text l.lend ++ codes " control " ++ decimal l.control ++ codes " turns " ++ decimal l.count ++ codes " start " ++ signed_decimal l.start)
     (row_line l) (simp (append_assoc, append-nil))
     (literal_word _ refl, (refl, (literal_word _ refl, (refl, (spot_word l.head, (refl, (literal_word _ refl, (refl, (spot_word l.lend, (refl, (literal_word _ refl, (refl, (decimal_word l.control, (refl, (literal_word _ refl, (refl, (decimal_word l.count, (refl, (literal_word _ refl, (refl, (signed_word l.start, (refl, tt)))))))))))))))))))))) (λ front d p.
@@ -147,7 +149,7 @@ row_leads s named count done l few may all =
     (target_of w2 l.head) (target_of w4 l.lend) l.control l.count l.start (target_is w2 l.head count refl may.head) (target_is w4 l.lend count refl may.lend)
     (count_is w6 most_count l.control refl may.control (omega (arith, may.control))) (count_is w8 most_count l.count refl may.turns (omega (arith, may.turns))) (signed_is w10 l.start refl may.start) in (
       record s { rows = d.rows ++ row ∷ [] },
-      keyword_says first _ keyword.Loop (AddsRow first row) d _ refl (ap (λ r. r >>= λ row. Ok (AddsRow first row)) said) (a_row first row s d done p.is p.long few),
+      keyword_says first _ keyword.Loop (AddsRow first row) d _ refl (ap (λ r. r >>= λ row. Ok (AddsRow first row)) said) (a_row first row s d done none p.is p.long few),
       record {
         is = refl;
         long = omega (arith, length-append d.rows (row ∷ []), length-append done (l ∷ []), p.long);
@@ -156,14 +158,14 @@ row_leads s named count done l few may all =
       },
     ))
 
-pub rows_lead : (s : Said) (named : ℕ → Bool) (count : ℕ) (done loops : List Loop) → length done + length loops ≤ most → AllByRecursion (MayBeRow count) loops → ((p : ℕ) → list_any (names_from_row p) loops ≡ true → named p ≡ true)
+pub rows_lead : (s : Said) (named : ℕ → Bool) (count : ℕ) (done loops : List Loop) → s.begun ≡ [] → length done + length loops ≤ most_loops → AllByRecursion (MayBeRow count) loops → ((p : ℕ) → list_any (names_from_row p) loops ≡ true → named p ≡ true)
     → Leads (flat_map loop_text loops) (Any (Rowed s named count done)) (Any (Rowed s named count (done ++ loops)))
-rows_lead s named count done [] few may all =
+rows_lead s named count done [] none few may all =
     leads_to (λ front d r. subst (λ (ls : List Loop). Rowed s named count ls d) (sym (append-nil done)) r) (nothing {P = Any (Rowed s named count done)})
-rows_lead s named count done (l ∷ loops) few may all =
+rows_lead s named count done (l ∷ loops) none few may all =
     leads_to (λ front d r. subst (λ (ls : List Loop). Rowed s named count ls d) (append_assoc done (l ∷ []) loops) r)
-    (behind (row_leads s named count done l (omega arith) may.0 (λ p e. all p (or_left (names_from_row p l) (list_any (names_from_row p) loops) e)))
-    (rows_lead s named count (done ++ l ∷ []) loops (omega (arith, length-append done (l ∷ []))) may.1 (λ p e. all p (or_right (names_from_row p l) (list_any (names_from_row p) loops) e))))
+    (behind (row_leads s named count done l none (omega arith) may.0 (λ p e. all p (or_left (names_from_row p l) (list_any (names_from_row p) loops) e)))
+    (rows_lead s named count (done ++ l ∷ []) loops none (omega (arith, length-append done (l ∷ []))) may.1 (λ p e. all p (or_right (names_from_row p l) (list_any (names_from_row p) loops) e))))
 
 -- no rows yet
 pub no_rows : (s d : Said) (named : ℕ → Bool) (count : ℕ) → s.rows ≡ [] → d ≡ s → Rowed s named count [] d

@@ -13,6 +13,7 @@ use Rattle.std.proofs.lemmas.List.Folds.{find-append, list_all-append}
 use Rattle.std.proofs.lemmas.Bool.Decides.{nat_tests}
 use Rattle.tp_assembly.specs.declared.program.Line.{Line}
 use Rattle.tp_assembly.specs.declared.program.Loop.{Loop}
+use Rattle.tp_assembly_text.specs.declared.words.Position.{Position}
 use Rattle.tp_assembly_text.specs.declared.words.Word.{Word}
 use Rattle.tp_assembly_text.specs.declared.draft.DraftLine.{DraftLine}
 use Rattle.tp_assembly_text.specs.declared.draft.LabelName.{LabelName}
@@ -20,13 +21,13 @@ use Rattle.tp_assembly_text.specs.declared.remarks.Remarks.{Remarks}
 use Rattle.tp_assembly_text.specs.declared.remarks.LineRemark.{LineRemark}
 use Rattle.tp_assembly_text.specs.Limits.{most}
 use Rattle.tp_assembly_text.specs.Faults.{each_read}
-use Rattle.tp_assembly_text.specs.Words.{is_plain}
+use Rattle.tp_assembly_text.specs.Words.{position_of, is_plain}
 use Rattle.tp_assembly_text.specs.Drafts.{Said, is_full, pushed, label_set, place_named}
 use Rattle.tp_assembly_text.specs.Grammar.{statement_said}
 use Rattle.tp_assembly_text.specs.Meaning.{added, line_said}
 use Rattle.tp_assembly_text.specs.Programs.{line_placed, under, label_told, labels_told}
 use Rattle.tp_assembly_text.specs.Written.{as_line, label_text, line_text, label_there, line_remark, behind as remark_behind, lines_text, names_from_line}
-use Rattle.tp_text_laws.specs.Sources.{label_at, labels_below, written_lines, AreNumbers}
+use Rattle.tp_text_laws.specs.Sources.{label_at, labels_below, WrittenLine, column_of, written_line, written_lines, ArePositions}
 use Rattle.tp_text_laws.specs.Conditions.{MayBeLine}
 use Rattle.tp_text_laws.proofs.Tests.{and_false, or_left, or_right}
 use Rattle.tp_text_laws.proofs.Bytes.{decimal_word, label_word}
@@ -110,13 +111,13 @@ no_label_more named count k labels none are = λ w p names low. are w p names lo
 pub record Coded (s : Said) (named : ℕ → Bool) (count : ℕ) (loops : List Loop) (remarks : Option Remarks) (done : List Line) (below : ℕ) (front : List (List ℕ)) (d : Said) : Type 0 where
   pub fields : Said
   pub rowed : Rowed s named count loops fields
-  pub is : d ≡ record fields { lines = d.lines; numbers = d.numbers; labels = d.labels }
+  pub is : d ≡ record fields { lines = d.lines; positions = d.positions; labels = d.labels }
   pub long : length d.lines ≡ length done
   pub placed : (labels : List LabelName) → AreLabels named count labels → each_read (line_placed labels) d.lines ≡ Ok done
   pub labels : AreBelow named count below d.labels
   pub few : length d.labels ≡ length (labels_below named below)
   pub told : labels_told d.labels ≡ labels_below named below
-  pub numbers : AreNumbers front 0 d.numbers (written_lines remarks 0 done)
+  pub positions : ArePositions front 0 d.positions (written_lines remarks 0 done)
 
 a_label : (named : ℕ → Bool) (count k : ℕ) (w : Word) (d : Said) → w.text.now ≡ label_text k → k ≤ count → AreBelow named count k d.labels → length d.labels < most
     → label_set w d ≡ Ok (record d { labels = d.labels ++ (record { word = w; place = length d.lines }) ∷ [] })
@@ -172,7 +173,7 @@ fewer named (suc k) (suc n) low = by (suc k == suc n) refl
 one_more_label : (named : ℕ → Bool) (k : ℕ) → named k ≡ true → length (labels_below named (suc k)) ≡ length (labels_below named k) + 1
 one_more_label named k there = ap (λ t. length (labels_below named k ++ (if t then label_at k ∷ [] else []))) there ∙ length_push (labels_below named k) (label_at k)
 
--- numbers of lines
+-- positions of words
 got_before : (front more : List (List ℕ)) (i : ℕ) (t : List ℕ) → slice_get front i ≡ Some t → slice_get (front ++ more) i ≡ Some t
 got_before [] more i t is = cc
 got_before (x ∷ front) more zero t is = is
@@ -182,37 +183,39 @@ got_last : (front : List (List ℕ)) (t : List ℕ) → slice_get (front ++ t �
 got_last [] t = refl
 got_last (x ∷ front) t = got_last front t
 
-numbers_behind : (front more : List (List ℕ)) (before : ℕ) (ns : List ℕ) (ts : List (List ℕ)) → AreNumbers front before ns ts → AreNumbers (front ++ more) before ns ts
-numbers_behind front more before [] [] are = tt
-numbers_behind front more before [] (t ∷ ts) are = absurd are
-numbers_behind front more before (n ∷ ns) [] are = absurd are
-numbers_behind front more before (n ∷ ns) (t ∷ ts) are = (are.0, got_before front more (n - 1) t are.1, numbers_behind front more n ns ts are.2)
+positions_behind : (front more : List (List ℕ)) (above : ℕ) (ps : List Position) (ts : List WrittenLine) → ArePositions front above ps ts → ArePositions (front ++ more) above ps ts
+positions_behind front more above [] [] are = tt
+positions_behind front more above [] (t ∷ ts) are = absurd are
+positions_behind front more above (p ∷ ps) [] are = absurd are
+positions_behind front more above (p ∷ ps) (t ∷ ts) are = (are.0, got_before front more (p.line - 1) t.text are.1, are.2, positions_behind front more p.line ps ts are.3)
 
-one_number_more : (front : List (List ℕ)) (t : List ℕ) (before : ℕ) (ns : List ℕ) (ts : List (List ℕ)) (n : ℕ) → n ≡ 1 + length front → before ≤ length front → AreNumbers front before ns ts
-    → AreNumbers (front ++ t ∷ []) before (ns ++ n ∷ []) (ts ++ t ∷ [])
-one_number_more front t before [] [] n is low are =
-    let at_last : n - 1 ≡ length front = omega arith in
-    (omega arith, ap (slice_get (front ++ t ∷ [])) at_last ∙ got_last front t, tt)
-one_number_more front t before [] (u ∷ ts) n is low are = absurd are
-one_number_more front t before (m ∷ ns) [] n is low are = absurd are
-one_number_more front t before (m ∷ ns) (u ∷ ts) n is low are =
-    let within : m - 1 < length front = slice_get_within front (m - 1) u are.1 in
-    (are.0, got_before front (t ∷ []) (m - 1) u are.1, one_number_more front t m ns ts n is (omega arith) are.2)
+one_position_more : (front : List (List ℕ)) (t : WrittenLine) (above : ℕ) (ps : List Position) (ts : List WrittenLine) (p : Position) → p.line ≡ 1 + length front → p.column ≡ t.column → above ≤ length front
+    → ArePositions front above ps ts → ArePositions (front ++ t.text ∷ []) above (ps ++ p ∷ []) (ts ++ t ∷ [])
+one_position_more front t above [] [] p is there low are =
+    let at_last : p.line - 1 ≡ length front = omega arith in
+    (omega arith, ap (slice_get (front ++ t.text ∷ [])) at_last ∙ got_last front t.text, there, tt)
+one_position_more front t above [] (u ∷ ts) p is there low are = absurd are
+one_position_more front t above (q ∷ ps) [] p is there low are = absurd are
+one_position_more front t above (q ∷ ps) (u ∷ ts) p is there low are =
+    let within : q.line - 1 < length front = slice_get_within front (q.line - 1) u.text are.1 in
+    (are.0, got_before front (t.text ∷ []) (q.line - 1) u.text are.1, are.2, one_position_more front t q.line ps ts p is there (omega arith) are.3)
 
-written-append : (remarks : Option Remarks) (k : ℕ) (done : List Line) (line : Line) → written_lines remarks k (done ++ line ∷ []) ≡ written_lines remarks k done ++ (line_text line ++ remark_behind remarks (k + length done)) ∷ []
-written-append remarks k [] line = ap (λ n. (line_text line ++ remark_behind remarks n) ∷ []) (omega arith)
+written-append : (remarks : Option Remarks) (k : ℕ) (done : List Line) (line : Line) → written_lines remarks k (done ++ line ∷ []) ≡ written_lines remarks k done ++ written_line remarks (k + length done) line ∷ []
+written-append remarks k [] line = ap (λ n. written_line remarks n line ∷ []) (omega arith)
 written-append remarks k (l ∷ done) line =
     let far : k + 1 + length done ≡ k + length (l ∷ done) = omega arith in
-    ap (λ ls. (line_text l ++ remark_behind remarks k) ∷ ls) (written-append remarks (k + 1) done line)
-    ∙ ap (λ n. (line_text l ++ remark_behind remarks k) ∷ (written_lines remarks (k + 1) done ++ (line_text line ++ remark_behind remarks n) ∷ [])) far
+    ap (λ ls. written_line remarks k l ∷ ls) (written-append remarks (k + 1) done line)
+    ∙ ap (λ n. written_line remarks k l ∷ (written_lines remarks (k + 1) done ++ written_line remarks n line ∷ [])) far
 
-number_more : (front : List (List ℕ)) (text : List ℕ) (remarks : Option Remarks) (done : List Line) (line : Line) (k n : ℕ) (ns : List ℕ) → length done ≡ k → n ≡ 1 + length front
-    → text ≡ line_text line ++ remark_behind remarks k → AreNumbers front 0 ns (written_lines remarks 0 done) → AreNumbers (front ++ text ∷ []) 0 (ns ++ n ∷ []) (written_lines remarks 0 (done ++ line ∷ []))
-number_more front text remarks done line k n ns long number is are =
+position_more : (front : List (List ℕ)) (remarks : Option Remarks) (done : List Line) (line : Line) (k : ℕ) (p : Position) (ps : List Position) → length done ≡ k
+    → p ≡ record { line = 1 + length front; column = column_of line } → ArePositions front 0 ps (written_lines remarks 0 done)
+    → ArePositions (front ++ (line_text line ++ remark_behind remarks k) ∷ []) 0 (ps ++ p ∷ []) (written_lines remarks 0 (done ++ line ∷ []))
+position_more front remarks done line k p ps long is are =
     let here : 0 + length done ≡ k = omega arith in
-    let same : written_lines remarks 0 (done ++ line ∷ []) ≡ written_lines remarks 0 done ++ text ∷ [] =
-    written-append remarks 0 done line ∙ ap (λ i. written_lines remarks 0 done ++ (line_text line ++ remark_behind remarks i) ∷ []) here ∙ ap (λ t. written_lines remarks 0 done ++ t ∷ []) (sym is) in
-    subst (AreNumbers (front ++ text ∷ []) 0 (ns ++ n ∷ [])) (sym same) (one_number_more front text 0 ns (written_lines remarks 0 done) n number (omega arith) are)
+    let same : written_lines remarks 0 (done ++ line ∷ []) ≡ written_lines remarks 0 done ++ written_line remarks k line ∷ [] =
+    written-append remarks 0 done line ∙ ap (λ i. written_lines remarks 0 done ++ written_line remarks i line ∷ []) here in
+    subst (ArePositions (front ++ (line_text line ++ remark_behind remarks k) ∷ []) 0 (ps ++ p ∷ [])) (sym same)
+    (one_position_more front (written_line remarks k line) 0 ps (written_lines remarks 0 done) p (ap (λ (q : Position). q.line) is) (ap (λ (q : Position). q.column) is) (omega arith) are)
 
 named_leads : (s : Said) (named : ℕ → Bool) (count : ℕ) (loops : List Loop) (remarks : Option Remarks) (done : List Line) (k : ℕ) → length done ≡ k → HasRoom named count → k ≤ count → named k ≡ true
     → Leads (as_line (label_text k ++ codes ":")) (Coded s named count loops remarks done k) (Coded s named count loops remarks done (k + 1))
@@ -236,7 +239,7 @@ named_leads s named count loops remarks done k long small within there =
         few = omega (arith, length-append d.labels (l ∷ []), p.few, more, ap (λ n. length (labels_below named n)) (add-one k));
         told = told_more named k d.labels (d.labels ++ l ∷ []) p.told
             (told-append d.labels l ∙ ap (λ ls. labels_told d.labels ++ ls) (one_told w k (length d.lines) (omega arith) refl (p.long ∙ long) ∙ ap (λ t. if t then label_at k ∷ [] else []) (sym there)));
-        numbers = numbers_behind front ((label_text k ++ codes ":") ∷ []) 0 d.numbers (written_lines remarks 0 done) p.numbers;
+        positions = positions_behind front ((label_text k ++ codes ":") ∷ []) 0 d.positions (written_lines remarks 0 done) p.positions;
       },
     ))
 
@@ -256,7 +259,7 @@ label_leads s named count loops remarks done k long small within = by (named k) 
       labels = no_label_more named count k d.labels none p.labels;
       few = p.few ∙ sym (ap (λ n. length (labels_below named n)) (add-one k) ∙ ap (λ t. length (labels_below named k ++ (if t then label_at k ∷ [] else []))) none ∙ ap length (append-nil (labels_below named k)));
       told = told_more named k d.labels d.labels p.told (sym (append-nil (labels_told d.labels)) ∙ ap (λ t. labels_told d.labels ++ (if t then label_at k ∷ [] else [])) (sym none));
-      numbers = p.numbers;
+      positions = p.positions;
     }) (nothing {P = Coded s named count loops remarks done k})
 
 -- remarks
@@ -274,7 +277,7 @@ tail_behind None k = no_tail
 tail_behind (Some remarks) k = remark_tail (slice_get remarks.lines.now k)
 
 -- a line
-a_push : (w : Word) (l : DraftLine) (d : Said) → length d.lines < most → pushed w l d ≡ Ok (record d { lines = d.lines ++ l ∷ []; numbers = d.numbers ++ w.line ∷ [] })
+a_push : (w : Word) (l : DraftLine) (d : Said) → length d.lines < most → pushed w l d ≡ Ok (record d { lines = d.lines ++ l ∷ []; positions = d.positions ++ position_of w ∷ [] })
 unfolding pushed
 a_push w l d few =
     let space : is_full d.lines ≡ false = grind (arith, nat_tests) in
@@ -286,19 +289,19 @@ line_leads s named count loops done line below remarks k here few reads =
     a_line reads.pieces (remark_behind remarks k) (ap (λ t. t ++ remark_behind remarks k) reads.is) reads.apart (tail_behind remarks k) (λ front d p.
     let n : ℕ = 1 + length front in
     let r = reads.says n d in
-    let e : Said = record d { lines = d.lines ++ r.1 ∷ []; numbers = d.numbers ++ r.0.line ∷ [] } in (
+    let e : Said = record d { lines = d.lines ++ r.1 ∷ []; positions = d.positions ++ position_of r.0 ∷ [] } in (
       e,
       r.2 ∙ a_push r.0 r.1 d (omega (arith, p.long, here)),
       record {
         fields = p.fields;
         rowed = p.rowed;
-        is = ap (λ (x : Said). record x { lines = d.lines ++ r.1 ∷ []; numbers = d.numbers ++ r.0.line ∷ [] }) p.is;
+        is = ap (λ (x : Said). record x { lines = d.lines ++ r.1 ∷ []; positions = d.positions ++ position_of r.0 ∷ [] }) p.is;
         long = omega (arith, length-append d.lines (r.1 ∷ []), length-append done (line ∷ []), p.long);
         placed = λ labels are. one_more_read (line_placed labels) d.lines r.1 done line (p.placed labels are) (r.3 labels are);
         labels = p.labels;
         few = p.few;
         told = p.told;
-        numbers = number_more front (line_text line ++ remark_behind remarks k) remarks done line k r.0.line d.numbers here r.4 refl p.numbers;
+        positions = position_more front remarks done line k (position_of r.0) d.positions here r.4 p.positions;
       },
     ))
 

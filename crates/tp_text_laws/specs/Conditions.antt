@@ -10,6 +10,7 @@ use Rattle.tp_assembly.specs.declared.program.Line.TheVariants.{Byte, Spelled}
 use Rattle.tp_assembly.specs.declared.program.Spot.{Spot}
 use Rattle.tp_assembly.specs.declared.program.Spot.TheVariants.{Place, Address}
 use Rattle.tp_assembly.specs.declared.program.Loop.{Loop}
+use Rattle.tp_image.specs.Limits.{most_loops}
 use Rattle.tp_assembly_text.specs.Limits.{most, most_words, most_count, most_bytes}
 use Rattle.tp_assembly_text.specs.Programs.{ProgramSaid}
 use Rattle.tp_text_laws.specs.Sources.{labels_of}
@@ -54,7 +55,7 @@ pub record MayBeWritten (p : ProgramSaid) : Type 0 where
   pub start : p.start ≤ most_count
   pub packet : p.packet ≤ most_count
   pub result : p.result ≤ most_count
-  pub rows : length p.loops ≤ most
+  pub rows : length p.loops ≤ most_loops
   pub loops : AllByRecursion (MayBeRow (length p.lines)) p.loops
   pub words : length p.initial ≤ most_words
   pub initial : AllByRecursion (λ word. word < 2 ^ 32) p.initial

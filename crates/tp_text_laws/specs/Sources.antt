@@ -2,6 +2,8 @@
 use Rattle.std.specs.Prelude.{◌≡◌, ℕ, zero, suc, ◌+◌, ◌-◌, ◌<◌, Bool, if◌then◌else◌, List, [], ◌∷◌, ◌++◌, length, slice_get, Option, Some}
 use Rattle.std.specs.Str.Lines.{lines}
 use Rattle.tp_assembly.specs.declared.program.Line.{Line}
+use Rattle.tp_assembly.specs.declared.program.Line.TheVariants.{Byte, Spelled}
+use Rattle.tp_assembly_text.specs.declared.words.Position.{Position}
 use Rattle.tp_assembly_text.specs.declared.remarks.Remarks.{Remarks}
 use Rattle.tp_assembly_text.specs.Programs.{ProgramSaid, LabelSaid, SourceSaid}
 use Rattle.tp_assembly_text.specs.Written.{label_text, line_text, is_named, behind, text_of}
@@ -18,23 +20,38 @@ labels_below named (suc place) = labels_below named place ++ (if named place the
 abbrev pub labels_of : ProgramSaid → List LabelSaid
 labels_of p = labels_below (is_named p) (suc (length p.lines))
 
+-- what is written for a line, and the column of the word that asks for it
+pub record WrittenLine : Type 0 where
+  pub text : List ℕ
+  pub column : ℕ
+
+-- an instruction's name stands behind 8 spaces, and a byte behind these and `byte `
+abbrev pub column_of : Line → ℕ
+column_of (Byte byte) = 14
+column_of (Spelled operation bytes) = 9
+
+abbrev pub written_line : Option Remarks → ℕ → Line → WrittenLine
+written_line remarks number line = record { text = line_text line ++ behind remarks number; column = column_of line }
+
 -- what is written for each line, the first of which has a number
-abbrev pub written_lines : Option Remarks → ℕ → List Line → List (List ℕ)
+abbrev pub written_lines : Option Remarks → ℕ → List Line → List WrittenLine
 written_lines remarks number [] = []
-written_lines remarks number (line ∷ more) = (line_text line ++ behind remarks number) ∷ written_lines remarks (number + 1) more
+written_lines remarks number (line ∷ more) = written_line remarks number line ∷ written_lines remarks (number + 1) more
 
--- these are the numbers of these lines of a text, in their order, each above the one before; the first line of a text is line 1
-abbrev pub AreNumbers : List (List ℕ) → ℕ → List ℕ → List (List ℕ) → Type 0
-AreNumbers text before [] [] = Unit {0}
-AreNumbers text before [] (line ∷ more) = ⊥
-AreNumbers text before (n ∷ numbers) [] = ⊥
-AreNumbers text before (n ∷ numbers) (line ∷ more) =
-    (before < n) × (slice_get text (n - 1) ≡ Some line) × AreNumbers text n numbers more
+-- at these positions of a text stand the words that ask for these lines, in their order, each on a line below the one before; the
+-- first line of a text is line 1
+abbrev pub ArePositions : List (List ℕ) → ℕ → List Position → List WrittenLine → Type 0
+ArePositions text above [] [] = Unit {0}
+ArePositions text above [] (line ∷ more) = ⊥
+ArePositions text above (p ∷ positions) [] = ⊥
+ArePositions text above (p ∷ positions) (line ∷ more) =
+    (above < p.line) × (slice_get text (p.line - 1) ≡ Some line.text) × (p.column ≡ line.column)
+    × ArePositions text p.line positions more
 
--- a source is that of a program's text: the program, for each of its lines the number of the line that is written for it, the
--- labels, and no names of local words
+-- a source is that of a program's text: the program, for each of its lines where the word stands that asks for it, the labels, and
+-- no names of local words
 pub record IsSource (p : ProgramSaid) (remarks : Option Remarks) (source : SourceSaid) : Type 0 where
   pub program : source.program ≡ p
-  pub numbers : AreNumbers (lines (text_of p remarks)) 0 source.numbers (written_lines remarks 0 p.lines)
+  pub positions : ArePositions (lines (text_of p remarks)) 0 source.positions (written_lines remarks 0 p.lines)
   pub labels : source.labels ≡ labels_of p
   pub locals : source.locals ≡ []

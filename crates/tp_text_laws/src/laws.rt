@@ -1,6 +1,6 @@
 //! Laws of assembly text: each function's contract is the law.
 
-ghost use Rattle.std.specs.Prelude.{◌≡◌, ◌<◌, ◌^◌, ℕ, ℤ, Option, Some, Ok, FitsSigned};
+ghost use Rattle.std.specs.Prelude.{◌≡◌, ◌<◌, ◌^◌, ℕ, ℤ, List, length, Option, Some, Ok, FitsSigned};
 ghost use Rattle.std.specs.Fmt.{decimal, signed_decimal};
 ghost use Rattle.std.specs.Int.{w32};
 ghost use Rattle.std.specs.List.{AllByRecursion};
@@ -49,6 +49,11 @@ pub fn written_program_is_read_back()
         (source : SourceSaid) × (source_of (text_of p remarks) ≡ Ok source) × IsSource p remarks source }
     ensures refused { (p : ProgramSaid) (remarks : Option Remarks) → MayBeWritten p →
         (e : SourceFault) → IsRefusal (source_of (text_of p remarks)) e → e ≡ out_of_memory }
+{}
+
+/// Each line of a program that a text says has its position.
+pub fn each_line_has_its_position()
+    ensures { (text : List ℕ) (source : SourceSaid) → source_of text ≡ Ok source → length source.positions ≡ length source.program.lines }
 {}
 
 /// A program that has an image may be written, where its operands have 32 bits, as each `i32` has.

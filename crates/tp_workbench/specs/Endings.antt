@@ -1,4 +1,9 @@
 -- How the program ends.
+use Rattle.std.specs.Prelude.{ℕ, List, Option, Some, None, slice_get}
+use Rattle.tp_assembly.specs.declared.fault.LineFault.{LineFault}
+use Rattle.tp_assembly.specs.declared.fault.AssemblyFault.{AssemblyFault}
+use Rattle.tp_assembly.specs.declared.fault.AssemblyFault.TheVariants as assembly
+use Rattle.tp_assembly_text.specs.declared.words.Position.{Position}
 use Rattle.tp_image.specs.declared.fault.ImageFault.{ImageFault}
 use Rattle.tp_image.specs.declared.fault.ImageFault.TheVariants as image
 use Rattle.tp_assembly_text.specs.declared.fault.SourceFault.{SourceFault}
@@ -28,6 +33,21 @@ of_kind kind fault = ending.Source fault
 
 abbrev pub of_source : SourceFault → Ending
 of_source fault = of_kind fault.fault fault
+
+-- by why a program has no image: of a line, with where the word of the text stands that asks for it
+abbrev pub of_line : ℕ → LineFault → Option Position → Ending
+of_line line wrong None = ending.Assembly (assembly.Line line wrong)
+of_line line wrong (Some position) = ending.Line position wrong
+
+abbrev pub of_narrow : ℕ → Option Position → Ending
+of_narrow line None = ending.Assembly (assembly.Narrow line)
+of_narrow line (Some position) = ending.Narrow position
+
+abbrev pub of_assembly : List Position → AssemblyFault → Ending
+of_assembly positions (assembly.Line line wrong) = of_line line wrong (slice_get positions line)
+of_assembly positions (assembly.Narrow line) = of_narrow line (slice_get positions line)
+of_assembly positions assembly.Memory = ending.Memory
+of_assembly positions fault = ending.Assembly fault
 
 -- the status that a run is told with
 abbrev pub of_run : End → Status

@@ -1,18 +1,28 @@
--- What is written of programs and images.
+-- What is written of programs and images, and what is told of a program that has none.
 use Rattle.std.specs.Prelude.{◌≡◌, ℕ, List, Option}
 use Rattle.tp_image.specs.Image.{ImageValue}
 use Rattle.tp_image.specs.Text.{text}
 use Rattle.tp_assembly.specs.declared.program.Program.{Program}
-use Rattle.tp_assembly.specs.Assembly.{IsAssembly}
+use Rattle.tp_assembly.specs.declared.fault.AssemblyFault.{AssemblyFault}
+use Rattle.tp_assembly.specs.Assembly.{IsAssembly, IsRefused}
 use Rattle.tp_assembly_text.specs.declared.remarks.Remarks.{Remarks}
+use Rattle.tp_assembly_text.specs.declared.finish.Source.{Source}
 use Rattle.tp_assembly_text.specs.Programs.{program_said}
 use Rattle.tp_assembly_text.specs.Written.{text_of}
+use Rattle.tp_workbench.specs.declared.ending.Ending.{Ending}
+use Rattle.tp_workbench.specs.Endings.{of_assembly}
 
 -- bytes are a program's image
 pub record AreImageOf (program : Program) (bytes : List ℕ) : Type 0 where
   pub image : ImageValue
   pub assembly : IsAssembly program image
   pub spelled : bytes ≡ text image
+
+-- an ending tells why the program of a source has no image, or that a growth was refused
+pub record IsRefusalOf (source : Source) (e : Ending) : Type 0 where
+  pub fault : AssemblyFault
+  pub refused : IsRefused source.program fault
+  pub told : e ≡ of_assembly source.positions.items fault
 
 -- bytes are a program's text, with some remarks or none
 pub record AreTextOf (program : Program) (bytes : List ℕ) : Type 0 where

@@ -1,25 +1,28 @@
 //! The command `asm`: text to an image.
 
-ghost use Rattle.std.specs.Prelude.{IfOk};
-ghost use Rattle.tp_workbench.specs.Programs.{AreImageOf};
+ghost use Rattle.std.specs.Prelude.{◌≡◌, IfOk, IfErr};
+ghost use Rattle.tp_workbench.specs.Endings.{of_assembly};
+ghost use Rattle.tp_workbench.specs.Programs.{AreImageOf, IsRefusalOf};
 
 use crate::ending::{Ending, Status};
 use crate::input::text_from;
 use std::alloc::Global;
 use std::io::{Read, Write};
 use tp_assembly::{AssemblyFault, assemble};
-use tp_assembly_text::{Source, read_source};
+use tp_assembly_text::{Position, Source, read_source};
 use tp_image::write_image;
 
-/// Why a program has no image, by the line of the text.
-fn ending_of(fault: AssemblyFault, numbers: &[usize]) -> Ending {
+/// Why a program has no image, by where the words of the text stand that ask for its lines.
+fn ending_of(fault: AssemblyFault, positions: &[Position]) -> Ending
+    ensures { result ≡ of_assembly positions.now fault }
+{
     match fault {
-        AssemblyFault::Line(line, fault) => match numbers.get(line) {
-            Some(number) => Ending::Line(*number, fault),
-            None => Ending::Assembly(AssemblyFault::Line(line, fault)),
+        AssemblyFault::Line(line, wrong) => match positions.get(line) {
+            Some(position) => Ending::Line(*position, wrong),
+            None => Ending::Assembly(fault),
         },
-        AssemblyFault::Narrow(line) => match numbers.get(line) {
-            Some(number) => Ending::Narrow(*number),
+        AssemblyFault::Narrow(line) => match positions.get(line) {
+            Some(position) => Ending::Narrow(*position),
             None => Ending::Assembly(fault),
         },
         AssemblyFault::Memory => Ending::Memory,
@@ -49,11 +52,12 @@ pub fn utf8(bytes: &[u8]) -> Result<&str, Ending> {
 
 /// The bytes of the image of a program that a text says.
 pub fn assembled(alloc: Global, source: &Source<'_>) -> Result<Vec<u8>, Ending>
-    ensures { IfOk result (λ bytes. AreImageOf source.now.program bytes.items) }
+    ensures image { IfOk result (λ bytes. AreImageOf source.now.program bytes.items) }
+    ensures refused { IfErr result (λ e. IsRefusalOf source.now e) }
 {
     match assemble(alloc, &source.program) {
         Ok(image) => Ok(write_image(alloc, &image)?),
-        Err(fault) => Err(ending_of(fault, &source.numbers)),
+        Err(fault) => Err(ending_of(fault, &source.positions)),
     }
 }
 

@@ -10,7 +10,7 @@ use std::alloc::{AllocError, AllocFailed};
 use std::process::ExitCode;
 use thiserror::Error;
 use tp_assembly::{AssemblyFault, LineFault};
-use tp_assembly_text::{SourceFault, TextFault as SourceKind};
+use tp_assembly_text::{Position, SourceFault, TextFault as SourceKind};
 use tp_image::ImageFault;
 use tp_stepper::{End, TellFault};
 
@@ -81,10 +81,10 @@ pub enum Ending {
     Source(SourceFault),
     /// A line of standard input is wrong by itself.
     #[error("tpw: standard input:{0}: {1}\n")]
-    Line(usize, LineFault),
+    Line(Position, LineFault),
     /// A line of standard input is longer than it states.
     #[error("tpw: standard input:{0}: its operand needs a longer spelling\n")]
-    Narrow(usize),
+    Narrow(Position),
     /// Standard input says a program that has no image.
     #[error("tpw: standard input: {0}\n")]
     Assembly(AssemblyFault),

@@ -3,7 +3,7 @@
 use crate::ending::Ending;
 use std::alloc::Global;
 use tp_assembly::{AssemblyFault, Program, addresses};
-use tp_assembly_text::{Local, Source, statement_of};
+use tp_assembly_text::{Local, Position, Source, statement_of};
 use tp_reasons::{Label, Named, SourceText, Statement};
 
 /// The statements of a text at the addresses of their instructions, its labels at theirs, and its names of workspace words.
@@ -27,7 +27,7 @@ pub fn places_of(alloc: Global, program: &Program) -> Result<Vec<u32>, Ending> {
 fn statements_of<'a>(
     alloc: Global,
     text: &'a str,
-    numbers: &[usize],
+    positions: &[Position],
     places: &[u32],
 ) -> Result<Vec<Statement<'a>>, Ending> {
     let mut lines = Vec::new(alloc);
@@ -35,12 +35,12 @@ fn statements_of<'a>(
         lines.push(line)?;
     }
     let mut statements = Vec::new(alloc);
-    for (number, place) in numbers.iter().zip(places) {
-        if let Some(line) = lines.get(number.saturating_sub(1)) {
+    for (position, place) in positions.iter().zip(places) {
+        if let Some(line) = lines.get(position.line.saturating_sub(1)) {
             statements.push(Statement {
                 at: *place as usize,
-                line: *number,
-                text: statement_of(*line),
+                line: position.line,
+                text: statement_of(alloc, *line)?,
             })?;
         }
     }
@@ -88,7 +88,7 @@ impl<'a> Notes<'a> {
     pub fn new(alloc: Global, text: &'a str, source: &Source<'a>) -> Result<Notes<'a>, Ending> {
         let places = places_of(alloc, &source.program)?;
         Ok(Notes {
-            statements: statements_of(alloc, text, &source.numbers, &places)?,
+            statements: statements_of(alloc, text, &source.positions, &places)?,
             labels: labels_of(alloc, source, &places)?,
             words: words_of(alloc, source)?,
         })
