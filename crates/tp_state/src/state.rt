@@ -283,7 +283,7 @@ impl State {
 
 /// What holds of both, of one register. It answers whether it changed.
 #[tactic(auto, using(crate::proofs::OrderLemmas::join_kinds_same))]
-fn join_kind(kind: &mut Kind, other: Kind) -> bool
+pub(crate) fn join_kind(kind: &mut Kind, other: Kind) -> bool
     ensures value { kind.new ≡ join_kinds kind.old other }
     ensures changed { TellsChange result kind.old kind.new }
 {
