@@ -39,7 +39,12 @@ impl Model for Kept {
 
 impl Kept {
     /// The first instruction alone has a state, of so many addresses.
-    pub(crate) fn first(alloc: Global, image: &Image, first: &State, places: usize) -> Result<Kept, AllocError>
+    pub(crate) fn first(
+        alloc: Global,
+        image: &Image,
+        first: &State,
+        places: usize,
+    ) -> Result<Kept, AllocError>
         requires some { 0 < places }
         requires first { first.now ≡ entry image.now }
         ensures sized { IfOk result (λ kept. length kept ≡ places) }

@@ -97,7 +97,11 @@ impl Cells {
     }
 
     /// The cells that planes and values tell of.
-    pub(crate) fn of_words(alloc: Global, values: &[u32], planes: &Planes) -> Result<Cells, AllocError>
+    pub(crate) fn of_words(
+        alloc: Global,
+        values: &[u32],
+        planes: &Planes,
+    ) -> Result<Cells, AllocError>
         requires { IsWhole values.now planes.now.items }
         ensures { IfOk result (λ cells. cells ≡ seen values.now planes.now.items) }
     {
@@ -278,7 +282,12 @@ fn are_kept_alike(values: &[u32], planes: &[Bits], other_values: &[u32], others:
 
 /// What holds of both, word by word. It answers whether anything changed. Most that meet are alike, so this is asked first.
 #[tactic(auto, using(crate::proofs::SeenLemmas::length_seen))]
-pub(crate) fn join_words(values: &[u32], planes: &mut [Bits], other_values: &[u32], others: &[Bits]) -> bool
+pub(crate) fn join_words(
+    values: &[u32],
+    planes: &mut [Bits],
+    other_values: &[u32],
+    others: &[Bits],
+) -> bool
     requires whole { IsWhole values.now planes.old }
     requires others { IsWhole other_values.now others.now }
     requires long { length (seen other_values.now others.now) ≡ length (seen values.now planes.old) }

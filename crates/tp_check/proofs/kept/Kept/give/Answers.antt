@@ -21,4 +21,3 @@ returns-then-comes-clause-some c _ = table_there c.self.inside.states c.self.ins
 
 pub returns-else-comes-clause-some : goal.returns-else-comes-clause-some
 returns-else-comes-clause-some c _ = table_there c.self.inside.states c.self.inside.numbers.items c.args.self.now c.self.view_is c.args.at c.requires.inside c.index.result.now c.index.ensures c.in-Some.number c.in-Some.is ∙ c.give.ensures
-
