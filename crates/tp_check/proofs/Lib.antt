@@ -1,6 +1,7 @@
 pub mod PassLemmas
 mod Heights
 mod TableSteps
+mod NumberedLemmas
 pub mod Places
 mod Loading
 mod Entering

@@ -8,5 +8,7 @@ pub use Rattle.tp_state.specs.Entry
 pub use Rattle.tp_flow.specs.NestKept
 pub mod Carried
 pub mod Joining
+pub mod Numbered
+pub mod Meeting
 pub mod StatesThere
 pub mod NearRefusal

@@ -56,6 +56,10 @@ pub(crate) fn leaves_words(nest: &Nest, place: Placed) -> bool
 fn enters(nest: &Nest, place: Placed, edge: Edge) -> bool
     ensures { result ≡ false → option_and_then (entered_by nest.now place.at) (target nest.now place.at place.next place.instr edge) ≡ None }
 {
+    // Most codes have no loops, and then no edge has to be followed.
+    let Some(_) = nest.range(0) else {
+        return false;
+    };
     match nest.target(place.at, place.next, place.instr, edge) {
         Some(to) => nest.entered(place.at, to).is_some(),
         None => false,

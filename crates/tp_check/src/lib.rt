@@ -6,6 +6,7 @@
 
 mod aside;
 mod effort;
+mod kept;
 pub mod laws;
 mod near;
 mod passes;

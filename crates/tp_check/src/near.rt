@@ -118,5 +118,6 @@ fn joined_after(
             Err(StateFault::Memory) => return Err(AllocError),
         }
     }
-    Ok(passes.slots.joined(ways))
+    let states = Slots::joined(alloc, &passes.slots, ways)?;
+    Ok(states)
 }

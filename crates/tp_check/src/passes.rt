@@ -22,7 +22,7 @@ ghost use Rattle.tp_check.specs.UnderWay.{AreJoins, HasPlaces, MayBeTaken, Stand
 
 use crate::aside::{Registers, leaves_words};
 use crate::effort::Effort;
-use crate::slots::Slots;
+use crate::kept::Kept;
 use crate::table::Table;
 use crate::way::Ways;
 use std::alloc::{AllocError, Global};
@@ -73,7 +73,7 @@ pub fn check_states_counting(
     let places = places_of(listing);
     let ways = Ways::of(alloc, image, listing, nest, places)?;
     let slots = settle(alloc, image, listing, nest, places, &ways, effort)?;
-    Ok(Table::of(alloc, slots, &ways)?)
+    Ok(Table::of(alloc, &slots, &ways)?)
 }
 
 /// Whether the passes come to a table, of an image whose flow has passed and of its code's listing: as `check_states`, but no
@@ -115,7 +115,7 @@ fn settle(
     places: usize,
     ways: &Ways,
     effort: &mut Effort,
-) -> Result<Slots, StateFault>
+) -> Result<Kept, StateFault>
     requires kept { KeepsNest image.now.loops image.now.workspace listing.now }
     requires nest { nest.now ≡ ranges image.now.loops }
     requires join { AreJoins image.now listing.now (joins_at ways.now) }
@@ -145,7 +145,7 @@ fn settle(
 #[derive(Drop)]
 pub(crate) struct Passes {
     /// The states where edges join.
-    pub(crate) slots: Slots,
+    pub(crate) slots: Kept,
     /// Whether the state where edges join has changed since the edges from there were last taken; at first, of each.
     changed: Vec<bool>,
     /// Whether the edges from there were taken before.
@@ -181,10 +181,10 @@ impl Passes {
     {
         // A look into the image tells that it is in range.
         let _ = &image.code;
-        let slots = Slots::first(alloc, image, places)?;
+        let carried = State::entry(alloc, image)?;
+        let slots = Kept::first(alloc, image, &carried, places)?;
         let changed = vec![in alloc; true; places]?;
         let taken = vec![in alloc; false; places]?;
-        let carried = State::entry(alloc, image)?;
         Ok(Passes {
             slots,
             changed,
@@ -262,6 +262,7 @@ impl Passes {
     /// Where edges join, the state that is kept is carried from here on, if it has changed since it last was. One that is
     /// carried here is below it, and rises to it.
     fn start(&mut self, ways: &Ways, at: usize)
+        requires stands { at < length self.old.slots }
         requires inside { at < length self.old.changed.items }
         requires takes { at < length self.old.taken.items }
         requires sized { joins_at ways.now at ≡ true → IfSome (table_of self.old.slots at) (λ s. length s.cells ≡ length self.old.carried.cells) }
@@ -280,8 +281,7 @@ impl Passes {
         if !is_marked {
             return;
         }
-        if let Some(state) = self.slots.at(at) {
-            rise(&mut self.carried, state, comes);
+        if self.slots.give(at, &mut self.carried, comes) {
             self.is_carried = true;
             self.is_again = self.taken[at];
             self.taken[at] = true;
@@ -454,19 +454,6 @@ impl Passes {
             self.changed[to] = true;
         }
         Ok(moved)
-    }
-}
-
-/// A state takes the value of another: one above it, where it comes there, or any.
-fn rise(carried: &mut State, state: &State, comes: bool)
-    requires sized { length state.now.cells ≡ length carried.old.cells }
-    requires below { comes ≡ true → IsBelow carried.old state.now }
-    ensures { carried.new ≡ state.now }
-{
-    if comes {
-        carried.rise_to(state);
-    } else {
-        carried.set_to(state);
     }
 }
 

@@ -44,6 +44,16 @@ impl Slot {
         Ok(Slot { state: Some(state) })
     }
 
+    /// This is known, or nothing.
+    pub(crate) fn of(alloc: Global, state: Option<State>) -> Result<Slot, AllocError>
+        ensures { IfOk result (λ slot. slot ≡ state) }
+    {
+        match state {
+            Some(state) => Slot::holding(alloc, state),
+            None => Ok(Slot::empty()),
+        }
+    }
+
     /// What is known.
     pub(crate) fn get(&self) -> Option<&State>
         ensures { option_copied result ≡ self.now }

@@ -9,6 +9,7 @@ ghost use Rattle.tp_check.specs.Carried.{only_joins};
 ghost use Rattle.tp_check.specs.Joining.{joins_at};
 ghost use Rattle.tp_check.specs.UnderWay.{Gives, GivesState, MovesState, Moves, CameBefore};
 
+use crate::kept::Kept;
 use crate::slot::Slot;
 use crate::way::Ways;
 use std::alloc::{AllocError, Global};
@@ -98,17 +99,28 @@ impl Slots {
         self.states[addr].take()
     }
 
-    /// What is known at the addresses where edges join, and nothing elsewhere.
-    pub(crate) fn joined(self, ways: &Ways) -> Slots
-        ensures sized { length result ≡ length self }
-        ensures states { table_of result ≡ only_joins (joins_at ways.now) (table_of self) }
+    /// What is kept at the addresses where edges join, and nothing elsewhere.
+    pub(crate) fn joined(alloc: Global, kept: &Kept, ways: &Ways) -> Result<Slots, AllocError>
+        ensures sized { IfOk result (λ slots. length slots ≡ length kept.now) }
+        ensures states { IfOk result (λ slots. table_of slots ≡ only_joins (joins_at ways.now) (table_of kept.now)) }
     {
-        let mut slots = self;
-        for at in 0..slots.len() {
-            if !ways.joins(at) {
-                let _ = slots.take(at);
-            }
+        let mut states = Vec::with_capacity(alloc, kept.len())?;
+        for at in 0..kept.len() {
+            let slot = joined_at(alloc, kept, ways, at)?;
+            states.push(slot)?;
         }
-        slots
+        Ok(Slots { states })
     }
+}
+
+/// What is kept at an address, if edges join there.
+fn joined_at(alloc: Global, kept: &Kept, ways: &Ways, at: usize) -> Result<Slot, AllocError>
+    requires { at < length kept.now }
+    ensures { IfOk result (λ slot. slot ≡ only_joins (joins_at ways.now) (table_of kept.now) at) }
+{
+    if !ways.joins(at) {
+        return Ok(Slot::empty());
+    }
+    let state = kept.state_at(alloc, at)?;
+    Slot::of(alloc, state)
 }

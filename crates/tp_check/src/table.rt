@@ -5,7 +5,7 @@ ghost use Rattle.tp_check.specs.Tables.{table_of};
 ghost use Rattle.tp_check.specs.Carried.{AreStatesOf};
 ghost use Rattle.tp_check.specs.Joining.{keeps_at};
 
-use crate::slots::Slots;
+use crate::kept::Kept;
 use crate::way::Ways;
 use std::alloc::{AllocError, Global};
 use tp_state::State;
@@ -20,15 +20,14 @@ pub struct Table {
 
 impl Table {
     /// What is kept of the states that the passes have left.
-    pub(crate) fn of(alloc: Global, slots: Slots, ways: &Ways) -> Result<Table, AllocError>
-        requires few { length slots ≤ 2 ^ 32 }
-        ensures { IfOk result (λ table. AreStatesOf (keeps_at ways.now) (table_of slots) table.states.items) }
+    pub(crate) fn of(alloc: Global, slots: &Kept, ways: &Ways) -> Result<Table, AllocError>
+        requires few { length slots.now ≤ 2 ^ 32 }
+        ensures { IfOk result (λ table. AreStatesOf (keeps_at ways.now) (table_of slots.now) table.states.items) }
     {
-        let mut slots = slots;
         let mut states = Vec::new(alloc);
         for at in 0..slots.len() {
             if ways.keeps(at) {
-                if let Some(state) = slots.take(at) {
+                if let Some(state) = slots.state_at(alloc, at)? {
                     states.push((at as u32, state))?;
                 }
             }

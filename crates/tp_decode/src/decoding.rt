@@ -90,6 +90,8 @@ fn copied(spelling: &[u8]) -> ArrayVec<u8, 8>
     ensures { result.items ≡ spelling.now }
 {
     let mut bytes = ArrayVec::new();
-    let _ = bytes.try_extend_from_slice(spelling);
+    for byte in spelling {
+        bytes.push(*byte);
+    }
     bytes
 }

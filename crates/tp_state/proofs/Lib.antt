@@ -8,6 +8,8 @@ pub mod PlaneLoops
 pub mod PlaneJoins
 pub mod PlaneValues
 pub mod SeenLemmas
+pub mod NoLoops
+pub mod StoredLemmas
 pub mod AgreeLemmas
 pub mod JoinLemmas
 pub mod OrderLemmas

@@ -24,8 +24,8 @@ use tp_image::Image;
 /// stands a value for each word, which means something only where a word is known or a live control word.
 #[derive(Drop)]
 pub struct Cells {
-    values: Vec<u32>,
-    planes: Planes,
+    pub(crate) values: Vec<u32>,
+    pub(crate) planes: Planes,
 }
 
 impl Model for Cells {
@@ -94,6 +94,40 @@ impl Cells {
         ensures { self.new ≡ others.now }
     {
         set_planes(&mut self.planes, &others.planes);
+    }
+
+    /// The cells that planes and values tell of.
+    pub(crate) fn of_words(
+        alloc: Global,
+        values: &[u32],
+        planes: &Planes,
+    ) -> Result<Cells, AllocError>
+        requires { IsWhole values.now planes.now.items }
+        ensures { IfOk result (λ cells. cells ≡ seen values.now planes.now.items) }
+    {
+        let values = Vec::from_slice(alloc, values)?;
+        let planes = copied_planes(planes);
+        Ok(Cells { values, planes })
+    }
+
+    /// It takes the value of cells that planes and values tell of, of as many words.
+    pub(crate) fn set_to_words(&mut self, values: &[u32], planes: &Planes)
+        requires whole { IsWhole values.now planes.now.items }
+        requires sized { length values.now ≡ length self.old }
+        ensures { self.new ≡ seen values.now planes.now.items }
+    {
+        set_words(&mut self.values, &mut self.planes, values, planes);
+    }
+
+    /// The same of cells that say as much or less: a value that means something there stands here already.
+    pub(crate) fn rise_to_words(&mut self, values: &[u32], planes: &Planes)
+        requires whole { IsWhole values.now planes.now.items }
+        requires sized { length values.now ≡ length self.old }
+        requires below { (i : ℕ) → IsTrue (cell_below (cell_at self.old i) (cell_at (seen values.now planes.now.items) i)) }
+        ensures { self.new ≡ seen values.now planes.now.items }
+    {
+        let _ = values;
+        set_planes(&mut self.planes, planes);
     }
 
     /// What holds of both, word by word. It answers whether anything changed.
@@ -248,7 +282,12 @@ fn are_kept_alike(values: &[u32], planes: &[Bits], other_values: &[u32], others:
 
 /// What holds of both, word by word. It answers whether anything changed. Most that meet are alike, so this is asked first.
 #[tactic(auto, using(crate::proofs::SeenLemmas::length_seen))]
-fn join_words(values: &[u32], planes: &mut [Bits], other_values: &[u32], others: &[Bits]) -> bool
+pub(crate) fn join_words(
+    values: &[u32],
+    planes: &mut [Bits],
+    other_values: &[u32],
+    others: &[Bits],
+) -> bool
     requires whole { IsWhole values.now planes.old }
     requires others { IsWhole other_values.now others.now }
     requires long { length (seen other_values.now others.now) ≡ length (seen values.now planes.old) }
@@ -265,7 +304,7 @@ fn join_words(values: &[u32], planes: &mut [Bits], other_values: &[u32], others:
 /// What holds of both, word by word, where words that have a value in both have the same: no value is looked at. It
 /// answers whether anything changed.
 #[tactic(auto, using(crate::proofs::SeenLemmas::length_seen))]
-fn join_agreeing_words(
+pub(crate) fn join_agreeing_words(
     values: &[u32],
     planes: &mut [Bits],
     other_values: &[u32],

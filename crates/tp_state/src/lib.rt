@@ -15,6 +15,8 @@ mod planes;
 mod ranges;
 mod rules;
 mod state;
+mod states;
+mod stored;
 mod values;
 
 pub use cell::Cell;
@@ -23,3 +25,4 @@ pub use fault::{StateCode, StateFault};
 pub use kind::Kind;
 pub use outcome::after;
 pub use state::State;
+pub use states::States;

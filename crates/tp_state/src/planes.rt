@@ -239,7 +239,9 @@ pub(crate) fn copied_planes(planes: &Planes) -> Planes
     ensures { result.items ≡ planes.now.items }
 {
     let mut copy = ArrayVec::new();
-    let _ = copy.try_extend_from_slice(planes.as_slice());
+    for bits in planes.as_slice() {
+        copy.push(*bits);
+    }
     copy
 }
 

@@ -281,9 +281,10 @@ impl State {
     }
 }
 
-/// What holds of both, of one register. It answers whether it changed.
+/// What holds of both, of one register. It answers whether it changed. Most that meet are alike: the test is inlined.
 #[tactic(auto, using(crate::proofs::OrderLemmas::join_kinds_same))]
-fn join_kind(kind: &mut Kind, other: Kind) -> bool
+#[inline(always)]
+pub(crate) fn join_kind(kind: &mut Kind, other: Kind) -> bool
     ensures value { kind.new ≡ join_kinds kind.old other }
     ensures changed { TellsChange result kind.old kind.new }
 {

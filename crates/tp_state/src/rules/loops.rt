@@ -70,8 +70,11 @@ pub(crate) fn entered_at(
 ) -> Option<usize>
     ensures { (image : ImageValue) → nest.now ≡ ranges image.loops → result ≡ entered_at image at next instr edge }
 {
-    let to = nest.target(at, next, instr, edge)?;
-    nest.entered(at, to)
+    // Most codes have no loops, and then no edge has to be followed.
+    match nest.range(0) {
+        None => None,
+        Some(_) => nest.entered(at, nest.target(at, next, instr, edge)?),
+    }
 }
 
 /// Whether it is known that a word has this value.

@@ -6,7 +6,7 @@ use Rattle.tp_check.proofs.slots.Slots.joined.Given as goal
 
 abbrev pub invariant-loop-at : goal.invariant-loop-at
 invariant-loop-at l = record {
-  sized : length l.slots ≡ length l.initial.slots;
-  done : (x : ℕ) → x < l.at → table_of l.slots x ≡ only_joins (joins_at l.ways) (table_of l.initial.slots) x;
-  rest : (x : ℕ) → l.at ≤ x → table_of l.slots x ≡ table_of l.initial.slots x;
+  inside : l.at ≤ length l.kept;
+  sized : length l.states.items ≡ l.at;
+  done : (x : ℕ) → x < l.at → table_of l.states.items x ≡ only_joins (joins_at l.ways) (table_of l.kept) x;
 }

@@ -1,38 +1,32 @@
-use Rattle.std.proofs.Common.{◌≡◌, ◌+◌, ◌≤◌, length, true, false, sym, ◌∙◌, arith}
+use Rattle.std.proofs.Common.{◌≡◌, ◌+◌, ◌≤◌, length, true, false, sym, ap, ◌∙◌, arith}
 use Rattle.tp_check.specs.Tables.{table_of}
 use Rattle.tp_check.specs.Joining.{keeps_at}
 use Rattle.tp_check.proofs.Keeping.{some_skip, some_push, some_all}
 use Rattle.tp_check.proofs.table.Table.of.Goals as goal
-use Rattle.tp_check.proofs.table.Table.of.Goals.{then-keeps+in-Some+in_ok-push, then-keeps+in_default, else-keeps}
+use Rattle.tp_check.proofs.table.Table.of.Goals.{then-keeps+in_ok-state+in-Some+in_ok-push, then-keeps+in_ok-state+in_default, else-keeps}
 
 pub loop-at-preserved : goal.loop-at-preserved
 loop-at-preserved c =
     elim c.if-keeps.branch [
-      | then-keeps+in-Some+in_ok-push w ↦ (rw (w.slots-is, w.states-is) (record {
-        sized = w.take.ensures.sized ∙ c.loop-at.invariant.sized;
+      | then-keeps+in_ok-state+in-Some+in_ok-push w ↦ (rw w.states-is (record {
         inside = inside;
-        rest = λ x le. w.take.ensures.others x (omega (arith, le)) ∙ c.loop-at.invariant.rest x (omega (arith, le));
-        states = some_push (keeps_at c.args.ways.now) (table_of c.args.slots) c.loop-at.at c.loop-at.states.items c.loop-at.invariant.states w.in-Some.state _ w.in_ok-push.ensures.items (sym c.keeps.ensures ∙ w.if-keeps.true)
-            (sym (c.loop-at.invariant.rest c.loop-at.at (omega arith)) ∙ sym w.in-Some.ensures.value);
+        states = some_push (keeps_at c.args.ways.now) (table_of c.args.slots.now) c.loop-at.at c.loop-at.states.items c.loop-at.invariant.states w.in-Some.state _ w.in_ok-push.ensures.items (sym c.keeps.ensures ∙ w.if-keeps.true)
+            (sym w.in_ok-state.ensures ∙ w.in-Some.is);
       }))
-      | then-keeps+in_default w ↦ (rw (w.slots-is, w.states-is) (record {
-        sized = w.take.ensures.sized ∙ c.loop-at.invariant.sized;
+      | then-keeps+in_ok-state+in_default w ↦ (rw w.states-is (record {
         inside = inside;
-        rest = λ x le. w.take.ensures.others x (omega (arith, le)) ∙ c.loop-at.invariant.rest x (omega (arith, le));
-        states = some_skip (keeps_at c.args.ways.now) (table_of c.args.slots) c.loop-at.at c.loop-at.states.items c.loop-at.invariant.states
-            (λ s is stood. absurd (let no = sym (w.in_default.ensures.value ∙ c.loop-at.invariant.rest c.loop-at.at (omega arith) ∙ stood) in cc));
+        states = some_skip (keeps_at c.args.ways.now) (table_of c.args.slots.now) c.loop-at.at c.loop-at.states.items c.loop-at.invariant.states
+            (λ s is stood. absurd (let no = sym w.in_default.is ∙ w.in_ok-state.ensures ∙ stood in cc));
       }))
-      | else-keeps w ↦ (rw (w.slots-is, w.states-is) (record {
-        sized = c.loop-at.invariant.sized;
+      | else-keeps w ↦ (rw w.states-is (record {
         inside = inside;
-        rest = λ x le. c.loop-at.invariant.rest x (omega (arith, le));
-        states = some_skip (keeps_at c.args.ways.now) (table_of c.args.slots) c.loop-at.at c.loop-at.states.items c.loop-at.invariant.states
+        states = some_skip (keeps_at c.args.ways.now) (table_of c.args.slots.now) c.loop-at.at c.loop-at.states.items c.loop-at.invariant.states
             (λ s is stood. absurd (let no : true ≡ false = sym is ∙ sym c.keeps.ensures ∙ w.if-keeps.false in cc));
       }))
     ]
   where
-    inside : c.loop-at.at + 1 ≤ length c.args.slots
+    inside : c.loop-at.at + 1 ≤ length c.args.slots.now
     inside = let e = c.len-at-end.ensures in let f = c.loop-at-test.true in omega (arith, e, f)
 
 pub returns : goal.returns
-returns c = some_all (keeps_at c.args.ways.now) c.args.slots c.loop-at.at c.loop-at.states.items (let e = c.len-at-end.ensures in let f = c.loop-at-test.false in omega (arith, e, f)) c.loop-at.invariant.states
+returns c = some_all (keeps_at c.args.ways.now) c.args.slots.now c.loop-at.at c.loop-at.states.items (let e = c.len-at-end.ensures in let f = c.loop-at-test.false in omega (arith, e, f)) c.loop-at.invariant.states

@@ -1,0 +1,9 @@
+use Rattle.std.proofs.Common.{Some, sym, ◌∙◌}
+use Rattle.tp_check.proofs.NumberedLemmas.{number_there, table_there}
+use Rattle.tp_check.proofs.kept.Kept.state_at.Goals as goal
+
+pub copy_of-requires : goal.copy_of-requires
+copy_of-requires c = c.self.invariant.inside c.args.at c.in-Some.number (number_there c.self.inside.states c.self.inside.numbers.items c.args.self.now c.self.view_is c.args.at c.requires c.index.result.now c.index.ensures (Some c.in-Some.number) c.in-Some.is)
+
+pub returns : goal.returns
+returns c = sym (table_there c.self.inside.states c.self.inside.numbers.items c.args.self.now c.self.view_is c.args.at c.requires c.index.result.now c.index.ensures c.in-Some.number c.in-Some.is ∙ c.in_ok-state.ensures)
