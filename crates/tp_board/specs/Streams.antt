@@ -77,8 +77,11 @@ abbrev pub all_seen : List HandView → FeederView → List View
 all_seen hands f = map hand_seen hands ++ feeder_seen f ∷ []
 
 -- a hand and the feeder that have made no step
+abbrev pub fresh_hand : TableId → TableId → ℕ → ℕ → HandView
+fresh_hand line desk packets members = hand_of_parts line desk (hand packets members) (newcomer packets 1) None
+
 abbrev pub new_hand_of : StreamView → HandView
-new_hand_of q = hand_of_parts q.line q.desk (hand (length q.packets) q.members) (newcomer (length q.packets) 1) None
+new_hand_of q = fresh_hand q.line q.desk (length q.packets) q.members
 
 abbrev pub new_feeder_of : StreamView → FeederView
 new_feeder_of q = feeder_of_parts q.line q.desk (feeder (length q.packets) q.members 1) (newcomer (length q.packets) 1)

@@ -1,5 +1,5 @@
 //! The board: the farm core in four shared words.
-ghost use Rattle.std.specs.Prelude.{◌≡◌, ◌+◌, ◌<◌, ◌≤◌, min, nat_lt, [], length, replicate, All};
+ghost use Rattle.std.specs.Prelude.{◌≡◌, ◌+◌, ◌<◌, ◌≤◌, min, nat_lt, [], length, replicate, All, vec_capacity};
 ghost use Rattle.std.specs.Prelude.{IfOk, IfErr, OnOk};
 ghost use Rattle.tp_board.specs.Views.{newcomer};
 ghost use Rattle.tp_board.specs.Boards.{BoardView, board_of, IsBoard, NewRefuses};
@@ -31,13 +31,16 @@ const LOST: usize = 2;
 
 const STOP: usize = 3;
 
+// The four words, with their rule.
+type Words = Table<(), View, Size, BoardRule, Global>;
+
 /// Packet numbers for the members to draw, shared by `&` between their threads.
 ///
 /// No call takes a lock or waits, and none but `new` takes memory. A seat of another board is
 /// against each call's condition. To a contract a board is its table's name and its two sizes.
 #[derive(Drop)]
 pub struct Board {
-    table: Table<(), View, Size, BoardRule, Global>,
+    table: Words,
     packets: u32,
     members: u32,
 }
@@ -79,16 +82,8 @@ impl Board {
             packets: u64::from(packets),
             members: u64::from(members),
         };
-        let (table, mut token) = Table::<(), View, Size, BoardRule, Global>::of_words(
-            alloc,
-            &[0, 0, 0, 0],
-            &about,
-        )?;
-        for made in 0..members - 1 {
-            let other = table.shared.split_seat::<OneSeat>(&mut token);
-            seats.push_reserved(seated(other, packets));
-        }
-        seats.push_reserved(seated(token, packets));
+        let (table, token) = Words::of_words(alloc, &[0, 0, 0, 0], &about)?;
+        deal_seats(&table, token, packets, members, &mut seats);
         let board = Board {
             table,
             packets,
@@ -243,6 +238,26 @@ impl Board {
         }
         token
     }
+}
+
+// A seat for each member, cut from the one that is all of them.
+fn deal_seats(
+    table: &Words,
+    mut token: atomic_table::Seat<(), View>,
+    packets: u32,
+    members: u32,
+    seats: &mut Vec<Seat>,
+)
+    requires table { (token.table_id ≡ table.now.shared.table_id) × (table.now.shared.table_id.words ≡ 4) }
+    requires whole { (token.me ≡ (newcomer packets members, [])) × (0 < members) }
+    requires room { (seats.old.items ≡ []) × (members ≤ vec_capacity seats.old) }
+    ensures { seats.new.items ≡ replicate members (seat_of table.now.shared.table_id (newcomer packets 1)) }
+{
+    for made in 0..members - 1 {
+        let other = table.shared.split_seat::<OneSeat>(&mut token);
+        seats.push_reserved(seated(other, packets));
+    }
+    seats.push_reserved(seated(token, packets));
 }
 
 // The seat of one member, which has made no step.

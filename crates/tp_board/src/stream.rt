@@ -1,16 +1,17 @@
 //! The stream: packets that one thread feeds and the members take while they run.
-ghost use Rattle.std.specs.Prelude.{◌≡◌, ◌+◌, ◌<◌, ◌≤◌, nat_lt, ℕ, List, None, true, [], ◌∷◌, length, map, replicate, All};
-ghost use Rattle.std.specs.Prelude.{IfOk, IfErr, OnOk, OnErr, IfSome};
+ghost use Rattle.std.specs.Prelude.{◌≡◌, ◌+◌, ◌<◌, ◌≤◌, nat_lt, ℕ, List, None, true, false, [], ◌∷◌, length, map, replicate, All};
+ghost use Rattle.std.specs.Prelude.{IfOk, IfErr, OnOk, OnErr, IfSome, vec_capacity};
 ghost use Rattle.crossbeam_queue.specs.Passes.{view, IsPassOf, ruled_capacity};
 ghost use Rattle.tp_board.specs.Boards.{NewRefuses};
 ghost use Rattle.tp_board.specs.Views.{first_of, newcomer};
-ghost use Rattle.tp_board.specs.Calls.{Makes, sees_no_stop, FinishSays, AbandonSays, StopSays};
+ghost use Rattle.tp_board.specs.Calls.{Makes, sees_no_stop, sees_stop, FinishSays, AbandonSays, StopSays};
 ghost use Rattle.tp_board.specs.Ledgers.{Balances, join_of_all};
 ghost use Rattle.tp_board.specs.Counting.{hand_list};
-ghost use Rattle.tp_board.specs.Lines.{hand};
+ghost use Rattle.tp_board.specs.Lines.{hand, feeder, item_of, put, MayPut, Waits};
+ghost use Rattle.crossbeam_queue.specs.Fifo.{Held};
 ghost use Rattle.tp_board.specs.Openings.{InRange};
 ghost use Rattle.tp_board.specs.Sources.{progress_of, work_of, NextSays};
-ghost use Rattle.tp_board.specs.Streams.{StreamView, stream_of, hand_of_parts, seen_of, hand_seen, feeder_seen, all_seen};
+ghost use Rattle.tp_board.specs.Streams.{StreamView, stream_of, hand_of_parts, fresh_hand, seen_of, hand_seen, feeder_seen, all_seen};
 ghost use Rattle.tp_board.specs.Streams.{IsStream, IsHandOf, IsFeederOf, new_hand_of, new_feeder_of};
 ghost use Rattle.tp_board.specs.Streams.{NextAfter, NextMakes, HasBytes, FeedSays, IsLeft, Agrees};
 
@@ -83,11 +84,9 @@ impl<'p> StreamQueue<'p> {
         let (desk, mut token) = open_desk(alloc, count, members + 1)?;
         let seat = another_seat(&desk, &mut token, count, members + 1);
         hands.push_reserved(handed(first, seat, count, members));
-        for made in 1..members {
-            let other = new_hand(&line, &mut pass);
-            let seat = another_seat(&desk, &mut token, count, members + 1 - made);
-            hands.push_reserved(handed(other, seat, count, members));
-        }
+        deal_hands(
+            &line, &desk, &mut pass, &mut token, count, members, &mut hands,
+        );
         let feeder = Feeder {
             pass,
             token,
@@ -110,26 +109,62 @@ impl<'p> StreamQueue<'p> {
         ensures own { IsFeederOf self.now feeder.new }
         ensures says { FeedSays feeder.old result feeder.new }
     {
-        if look_stop(&self.desk, &mut feeder.token) != 0 {
+        if self.finds_stop(feeder) {
             return Fed::Stopped;
         }
-        let packets = self.packets.len() as u32;
-        if feeder.pushed < packets {
-            let item = Item::Number(feeder.pushed);
-            if !feed(rt, &self.line, &mut feeder.pass, item) {
-                return Fed::Full;
-            }
-            feeder.pushed += 1;
-            return Fed::Pushed;
+        let Some(item) = self.item_due(feeder) else {
+            return Fed::Over;
+        };
+        if self.push(rt, feeder, item) {
+            Fed::Pushed
+        } else {
+            Fed::Full
+        }
+    }
+
+    // Loads the stop mark: whether it is set.
+    fn finds_stop(&self, feeder: &mut Feeder) -> bool
+        requires own { IsFeederOf self.now feeder.old }
+        ensures own { IsFeederOf self.now feeder.new }
+        ensures turn { feeder.new.turn ≡ feeder.old.turn }
+        ensures set { result ≡ true → Makes (feeder_seen feeder.old) (sees_stop ∷ []) (feeder_seen feeder.new) }
+        ensures clear { result ≡ false → Makes (feeder_seen feeder.old) (sees_no_stop ∷ []) (feeder_seen feeder.new) }
+    {
+        look_stop(&self.desk, &mut feeder.token) != 0
+    }
+
+    // The next item, where not all is pushed.
+    fn item_due(&self, feeder: &Feeder) -> Option<Item>
+        requires own { IsFeederOf self.now feeder.now }
+        ensures some { IfSome result (λ i. MayPut feeder.now.turn × (i ≡ item_of feeder.now.turn)) }
+        ensures none { result ≡ None → (feeder.now.turn.pushed ≡ feeder.now.turn.packets) × (feeder.now.turn.marks ≡ feeder.now.turn.members) }
+    {
+        if feeder.pushed < self.packets.len() as u32 {
+            return Some(Item::Number(feeder.pushed));
         }
         if feeder.marks >= self.members {
-            return Fed::Over;
+            return None;
         }
-        if !feed(rt, &self.line, &mut feeder.pass, Item::End) {
-            return Fed::Full;
+        Some(Item::End)
+    }
+
+    // Tries to push the item that is due: whether the queue had room for it.
+    fn push<R: Wait>(&self, rt: &R, feeder: &mut Feeder, item: Item) -> bool
+        requires own { IsFeederOf self.now feeder.old }
+        requires due { MayPut feeder.old.turn × (item ≡ item_of feeder.old.turn) }
+        ensures own { IsFeederOf self.now feeder.new }
+        ensures seen { feeder_seen feeder.new ≡ feeder_seen feeder.old }
+        ensures pushed { result ≡ true → feeder.new.turn ≡ put feeder.old.turn item }
+        ensures full { result ≡ false → (feeder.new.turn ≡ feeder.old.turn) × Held 32 (Waits feeder.old.turn) }
+    {
+        if !feed(rt, &self.line, &mut feeder.pass, item) {
+            return false;
         }
-        feeder.marks += 1;
-        Fed::Pushed
+        match item {
+            Item::Number(_) => feeder.pushed += 1,
+            Item::End => feeder.marks += 1,
+        }
+        true
     }
 
     /// Sets the stop mark, by one step.
@@ -272,6 +307,32 @@ fn tally(drawn: u32, done: u64, lost: u64, stop: u64) -> Ledger
         lost: lost as u32,
         in_hand: (u64::from(drawn) - done - lost) as u32,
         stopped: stop > 0,
+    }
+}
+
+// A hand for each member behind the first, cut from the pass and the seat that feed.
+fn deal_hands(
+    line: &Line,
+    desk: &Desk,
+    pass: &mut Place,
+    token: &mut Token,
+    packets: u32,
+    members: u32,
+    hands: &mut Vec<StreamHand>,
+)
+    requires queue { IsPassOf line.now pass.old × (view pass.old ≡ feeder packets members members) }
+    requires desk { (token.old.table_id ≡ desk.now.shared.table_id) × (desk.now.shared.table_id.words ≡ 3) }
+    requires seats { token.old.me ≡ (newcomer packets members, []) }
+    requires sizes { (0 < members) × (members ≤ 64) × (packets ≤ 1024) }
+    requires first { (hands.old.items ≡ fresh_hand line.now.table.shared.table_id desk.now.shared.table_id packets members ∷ []) × (members ≤ vec_capacity hands.old) }
+    ensures pass { IsPassOf line.now pass.new × (view pass.new ≡ feeder packets members 1) }
+    ensures token { (token.new.table_id ≡ token.old.table_id) × (token.new.me ≡ (newcomer packets 1, [])) }
+    ensures hands { hands.new.items ≡ replicate members (fresh_hand line.now.table.shared.table_id desk.now.shared.table_id packets members) }
+{
+    for made in 1..members {
+        let other = new_hand(line, pass);
+        let seat = another_seat(desk, token, packets, members + 1 - made);
+        hands.push_reserved(handed(other, seat, packets, members));
     }
 }
 

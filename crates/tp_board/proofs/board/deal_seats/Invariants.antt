@@ -1,7 +1,7 @@
 use Rattle.std.proofs.Common.{◌≡◌, ◌-◌, ◌≤◌, [], replicate, vec_capacity}
 use Rattle.tp_board.specs.Views.{newcomer}
 use Rattle.tp_board.specs.Boards.{seat_of}
-use Rattle.tp_board.proofs.board.Board.new.Given as goal
+use Rattle.tp_board.proofs.board.deal_seats.Given as goal
 
 abbrev pub invariant-loop-made : goal.invariant-loop-made
 invariant-loop-made l = record {
