@@ -48,7 +48,12 @@ const CASES: [(&str, usize, usize, TextFault); 48] = [
     ("version 0", 1, 1, TextFault::OutOfRange),
     ("local n[2]\nldl n + 2", 2, 7, TextFault::OutsideLocal),
     ("local n[2], m\n stl n + -1", 2, 8, TextFault::OutsideLocal),
-    ("for i = 0 for 3\nldl i + 2\nend i", 2, 7, TextFault::OutsideLocal),
+    (
+        "for i = 0 for 3\nldl i + 2\nend i",
+        2,
+        7,
+        TextFault::OutsideLocal,
+    ),
     (
         "workspace 8\nlocal a, b[2]\nlocal c, d",
         3,

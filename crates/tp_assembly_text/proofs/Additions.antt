@@ -28,7 +28,7 @@ use Rattle.tp_assembly_text.specs.Faults.{fault_at}
 use Rattle.tp_assembly_text.specs.Drafts.{Said, is_full, place_named, local_named, pushed, locals_named, label_set, room_for_loop, local_said}
 use Rattle.tp_assembly_text.specs.Words.{position_of}
 use Rattle.tp_assembly_text.specs.Grammar.{StatementSaid, SaysNothing, SetsPacket, SetsResults, SetsStart, SetsWorkspace, SetsVersion, NamesLocals, SetsInitial, AddsLines, AddsInstruction, AddsMessage, BeginsLoop, EndsLoop, AddsRow}
-use Rattle.tp_assembly_text.specs.Meaning.{in_turn, initial_added, initials_added, lines_pushed, is_outside, operand_with, local_instr_added, instruction_added, message_lines, message_added, loop_begins, begun, loop_begun, loop_ends, row_of, with_row, row_added, innermost, inner_ended, loop_named, loop_ended, added, unlabelled, labelled, is_colon, line_said}
+use Rattle.tp_assembly_text.specs.Meaning.{in_turn, initial_added, initials_added, lines_pushed, operand_with, local_instr_added, instruction_added, message_lines, message_added, loop_begins, begun, loop_begun, loop_ends, row_of, with_row, row_added, innermost, inner_ended, loop_named, loop_ended, added, unlabelled, labelled, is_colon, line_said}
 use Rattle.tp_assembly_text.specs.Apart.{word_apart, line_apart, label_apart, local_apart, row_apart, begun_apart, draft_apart}
 use Rattle.tp_assembly_text.proofs.Apart.{kept, then_kept, then_in, if_kept, ok_or_kept, numbered, initial_apart, offset_apart, local_instr_apart, instruction_apart, new_loop_apart, statement_apart, a_statement}
 
@@ -55,6 +55,7 @@ local (x ∷ locals) w = by (bytes_eq x.word.text.now w.text.now) (local locals 
   where
     test : LocalName → Bool
     test n = bytes_eq n.word.text.now w.text.now
+
     by : (t : Bool) → find test (map local_apart locals) ≡ option_map local_apart (find test locals)
         → (if t then Some (local_apart x) else find test (map local_apart locals)) ≡ option_map local_apart (if t then Some x else find test locals)
     by true rest = refl

@@ -1,5 +1,5 @@
 -- What each of a list says, one by one.
-use Rattle.std.proofs.Common.{◌≡◌, ℕ, zero, suc, ◌+◌, ◌-◌, Bool, true, false, if◌then◌else◌, List, [], ◌∷◌, ◌++◌, length, map, take, drop, get_or, Some, Result, Ok, Err, IsUtf8, inr, refl, ap, sym, ◌∙◌, ◌<◌, add-one, append_assoc, slice_get, arith}
+use Rattle.std.proofs.Common.{◌≡◌, ℕ, zero, suc, ◌+◌, Bool, true, false, if◌then◌else◌, List, [], ◌∷◌, ◌++◌, length, map, take, get_or, Some, Result, Ok, Err, IsUtf8, inr, refl, ap, sym, ◌∙◌, ◌<◌, add-one, append_assoc, slice_get, arith}
 use Rattle.std.specs.List.{flat_map}
 use Rattle.std.specs.Str.{is_utf8}
 use Rattle.std.proofs.lemmas.Option.{same_Some}

@@ -221,11 +221,7 @@ fn is_beyond(workspace: u32, start: u16, local: &LocalName<'_>) -> bool
 }
 
 /// The first name of which words lie behind such a workspace.
-fn first_beyond<'a>(
-    workspace: u32,
-    start: u16,
-    locals: &[LocalName<'a>],
-) -> Option<LocalName<'a>>
+fn first_beyond<'a>(workspace: u32, start: u16, locals: &[LocalName<'a>]) -> Option<LocalName<'a>>
     ensures { result ≡ find (is_beyond workspace start) locals.now }
 {
     locals

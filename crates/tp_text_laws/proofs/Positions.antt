@@ -1,5 +1,5 @@
 -- Each line that a text adds to a draft has its position.
-use Rattle.std.proofs.Common.{◌≡◌, ℕ, ◌+◌, ◌-◌, nat_lt, Bool, true, false, if◌then◌else◌, List, [], ◌∷◌, ◌++◌, length, map, Option, Some, None, Result, Ok, Err, is_some, refl, ap, sym, ◌∙◌, arith, length-append}
+use Rattle.std.proofs.Common.{◌≡◌, ℕ, ◌+◌, nat_lt, Bool, true, false, if◌then◌else◌, List, [], ◌∷◌, length, map, Result, Ok, Err, is_some, refl, ap, arith, length-append}
 use Rattle.std.specs.Str.Lines.{lines}
 use Rattle.tp_assembly.specs.declared.program.Line.{Line as ProgramLine}
 use Rattle.tp_assembly_text.specs.declared.words.Word.{Word}
@@ -14,13 +14,13 @@ use Rattle.tp_assembly_text.specs.declared.statement.Instruction.TheVariants.{Li
 use Rattle.tp_assembly_text.specs.declared.statement.Message.{Message}
 use Rattle.tp_assembly_text.specs.Limits.{most_words}
 use Rattle.tp_assembly_text.specs.Faults.{then_read, each_read}
-use Rattle.tp_assembly_text.specs.Words.{Token, position_of}
+use Rattle.tp_assembly_text.specs.Words.{position_of}
 use Rattle.tp_assembly_text.specs.Drafts.{Said, empty, is_full, place_named, local_named, pushed, locals_named, label_set, room_for_loop, local_said}
 use Rattle.tp_assembly_text.specs.Grammar.{StatementSaid, SaysNothing, SetsPacket, SetsResults, SetsStart, SetsWorkspace, SetsVersion, NamesLocals, SetsInitial, AddsLines, AddsInstruction, AddsMessage, BeginsLoop, EndsLoop, AddsRow, number_line, statement_said}
-use Rattle.tp_assembly_text.specs.Meaning.{in_turn, local_added, initial_added, initials_added, line_added, lines_pushed, operand_with, local_instr_added, instruction_added, message_lines, message_added, loop_begins, loop_begun, loop_ends, row_of, with_row, row_added, innermost, inner_ended, loop_named, loop_ended, added, unlabelled, labelled, is_colon, line_said}
+use Rattle.tp_assembly_text.specs.Meaning.{in_turn, local_added, initial_added, initials_added, line_added, lines_pushed, operand_with, local_instr_added, instruction_added, message_lines, message_added, loop_begins, loop_begun, loop_ends, row_of, with_row, row_added, innermost, inner_ended, loop_named, loop_ended, added, unlabelled, is_colon, line_said}
 use Rattle.tp_assembly_text.specs.Programs.{ProgramSaid, SourceSaid, line_placed, loop_placed, ended, locals_fit, program_of, finished}
 use Rattle.tp_assembly_text.specs.Apart.{word_for}
-use Rattle.tp_assembly_text.specs.Texts.{words_of_lines, words_say, text_said, source_of}
+use Rattle.tp_assembly_text.specs.Texts.{words_of_lines, text_said, source_of}
 
 -- as many positions as lines
 record ArePaired (d : Said) : Type 0 where

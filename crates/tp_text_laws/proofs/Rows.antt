@@ -21,12 +21,12 @@ use Rattle.tp_image.specs.Limits.{most_loops}
 use Rattle.tp_assembly_text.specs.Limits.{most_count}
 use Rattle.tp_assembly_text.specs.Faults.{fault_at, then_read, each_read, ◌>>=◌}
 use Rattle.tp_assembly_text.specs.Words.{is_plain}
-use Rattle.tp_assembly_text.specs.Drafts.{Said, place_named, room_for_loop}
+use Rattle.tp_assembly_text.specs.Drafts.{Said, place_named}
 use Rattle.tp_assembly_text.specs.Numbers.{begins_number}
 use Rattle.tp_assembly_text.specs.Keywords.{keyword_named}
 use Rattle.tp_assembly_text.specs.Statements.{word_said, end_said, expect_said, target_said, count_read, number_read}
 use Rattle.tp_assembly_text.specs.Grammar.{AddsRow, row_said, keyword_said}
-use Rattle.tp_assembly_text.specs.Meaning.{added, with_row, row_added, line_said}
+use Rattle.tp_assembly_text.specs.Meaning.{added, row_added, line_said}
 use Rattle.tp_assembly_text.specs.Apart.{word_for}
 use Rattle.tp_assembly_text.specs.Programs.{place_of_label, spot_placed, control_said, loop_placed}
 use Rattle.tp_assembly_text.specs.Written.{label_text, spot_text, loop_text, is_at, names_from_row}

@@ -1,5 +1,5 @@
 use Rattle.std.proofs.Common.{◌≡◌, List, ℕ, map, ap, ◌∙◌}
-use Rattle.tp_assembly_text.specs.Words.{Token, token, words_of_line, before_comment, behind_label, statement_text}
+use Rattle.tp_assembly_text.specs.Words.{token, words_of_line, before_comment, behind_label, statement_text}
 use Rattle.tp_assembly_text.proofs.Trimmed.{statement_is, told, not_told}
 use Rattle.tp_assembly_text.proofs.words.statement_of.Goals as goal
 
