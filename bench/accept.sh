@@ -4,6 +4,6 @@
 # as decoding the same code in the same run.
 cd "$(dirname "$0")/../crates/bench" && rt run >/dev/null || exit 1
 accept() {
-    out/bench accept "$1" "$(../../bench/images.py "$1")" "$2"
+    out/bench accept "$1" "$(../../bench/images.py "$1")" "$2" | ../../bench/rates.py accept "$2"
 }
 accept increment 2000 && accept "short and straight" 200 && accept "jumps over few words" 20 && accept "one loop" 1

@@ -21,6 +21,7 @@ sys.path.insert(0, sys.argv[1] + "/bench")
 import images, search
 
 BENCH = sys.argv[1] + "/crates/bench/out/bench"
+RATES = sys.argv[1] + "/bench/rates.py"
 ROUNDS = 5
 CHECKED = [
     "increment", "straight", "jumps", "one loop", "four nested", "sixteen", "behind the loop", "strided stores", "growing range",
@@ -33,7 +34,8 @@ MOST_KIB = 25 * 1024
 
 judged = {name: images.named(name) for name in CHECKED}
 for name, image in judged.items():
-    print(subprocess.run([BENCH, "check", name, image.hex()], stdout=subprocess.PIPE, text=True, check=True).stdout, end="")
+    told = subprocess.run([BENCH, "check", name, image.hex()], stdout=subprocess.PIPE, check=True).stdout
+    print(subprocess.run([RATES, "check"], input=told, stdout=subprocess.PIPE, check=True).stdout.decode(), end="")
 for name, image in search.searches(BENCH):
     judged["found from " + name] = image
 slowest = largest = 0

@@ -4,7 +4,7 @@
 # turn, eleven times each: the best and the median, each as a ratio to one member and to the board in the same run. Then the
 # peak of memory of one batch of heavy packets by four members, from each.
 cd "$(dirname "$0")/../crates/bench" && rt run >/dev/null || exit 1
-out/bench farm || exit 1
+out/bench farm | ../../bench/rates.py farm || exit 1
 exec python3 - <<'PY'
 import os, subprocess
 

@@ -6,6 +6,7 @@
 
 ghost use Rattle.tp_decode.specs.Cutting.{IsCutting};
 
+use crate::took::Took;
 use anyhow::{Result, anyhow, bail};
 use std::alloc::Global;
 use std::fmt;
@@ -18,7 +19,7 @@ use tp_image::{Image, read_image};
 use tp_samples::INCREMENT;
 use tp_state::StateFault;
 
-/// How often check_flow is timed: it is quick.
+/// How often check_flow is made where it is timed: it is quick.
 const FLOW_ROUNDS: u32 = 100;
 
 /// In small: what is found of the increment.
@@ -113,30 +114,7 @@ fn edges_asked(listing: &Listing) -> u64 {
     asked
 }
 
-/// How many times as long as another a time is, to three places.
-#[derive(Clone, Copy)]
-struct Ratio {
-    whole: u128,
-    thousandths: u128,
-}
-
-impl Ratio {
-    fn of(time: u128, other: u128) -> Ratio {
-        let other = other.max(1);
-        Ratio {
-            whole: time / other,
-            thousandths: (time % other).saturating_mul(1000) / other,
-        }
-    }
-}
-
-impl fmt::Display for Ratio {
-    fn fmt<W: fmt::Write>(&self, f: &mut fmt::Formatter<W>) -> fmt::Result {
-        write!(f, "{}.{:03}", self.whole, self.thousandths)
-    }
-}
-
-/// Prints the time, the passes and the outcomes, each beside the time of `check_flow`.
+/// Prints the passes, the outcomes and the edges, and what `check_flow` and the passes took.
 fn timed<R: Runtime<A = Global>>(rt: &R, name: &str, image: &Image, listing: &Listing) -> Result<()>
     requires { IsCutting image.now.code listing.now }
 {
@@ -144,22 +122,17 @@ fn timed<R: Runtime<A = Global>>(rt: &R, name: &str, image: &Image, listing: &Li
     for _ in 0..FLOW_ROUNDS {
         check_flow(image, listing).map_err(|fault| anyhow!("{fault}"))?;
     }
-    let flow = start.elapsed(rt)?.as_nanos() / u128::from(FLOW_ROUNDS);
+    let flow = Took::since(rt, start, true, "check_flow 100 times")?;
     let start = Instant::now(rt)?;
     let Some(Found { states, effort }) = judged(rt.alloc(), image, listing) else {
         bail!("no nest");
     };
-    let both = start.elapsed(rt)?.as_nanos();
-    let micros = both / 1000;
+    let both = Took::since(rt, start, true, "judged")?;
     let Effort { passes, outcomes } = effort;
-    let ratio = both / flow.max(1);
-    let pass = Ratio::of(both / u128::from(passes.max(1)), flow);
-    let outcome = Ratio::of(both / u128::from(outcomes.max(1)), flow);
     let edges = edges_asked(listing);
-    let each = outcomes / edges.max(1);
     let ending = Ending { states };
     println!(rt;
-        "{name}: {micros} microseconds, {ratio} times check_flow; {passes} passes, each {pass} times; {outcomes} outcomes, each {outcome} times; {edges} edges, {each} outcomes on each; {ending}"
+        "{name}: {passes} passes, {outcomes} outcomes, {edges} edges, {ending}{both}{flow}"
     )?;
     Ok(())
 }

@@ -1,12 +1,13 @@
 //! How many instruction bytes a second the machine executes, and the tested machine beside it; and, of two loops, plain
 //! functions that make the same turns over an array.
 //!
-//! Each worker runs once, and what was counted is printed; or each in turn many times, and the best rates are printed.
+//! Each worker runs once, and what was counted is printed; or many times on each in turn, with the times of all its rounds.
 
 mod plain;
 mod rounds;
 mod workers;
 
+use crate::took::Took;
 use anyhow::{Result, anyhow};
 use rounds::{Plain, Run, Runs, Tested, rounds};
 use std::alloc::Global;
@@ -21,36 +22,34 @@ const TIMES: u32 = 7;
 /// The rounds of the first worker that `turns` makes: the packets of four full batches.
 const ROUNDS_ALONE: u32 = 4096;
 
-/// The least times of a worker, in nanoseconds a round.
-#[derive(Clone, Copy)]
-struct Best {
-    counted: u64,
-    machine: u64,
-    tested: u64,
-    plain: u64,
-}
-
 pub(crate) fn measure<R: Runtime<A = Global>>(rt: &R, is_timed: bool) -> Result<()> {
+    let times = if is_timed { TIMES } else { 1 };
     for worker in &WORKERS {
-        let text = Vec::from_slice(rt.alloc(), worker.image)?;
-        let accepted = accept(rt.alloc(), text).map_err(|refusal| anyhow!("{refusal}"))?;
-        if is_timed {
-            timed(rt, worker, &accepted)?;
-        } else {
-            counted(rt, worker, &accepted)?;
+        let accepted = accepted(rt.alloc(), worker)?;
+        for _ in 0..times {
+            told(rt, worker, &accepted, is_timed)?;
         }
     }
     Ok(())
+}
+
+fn accepted(alloc: Global, worker: &Worker) -> Result<Accepted> {
+    let text = Vec::from_slice(alloc, worker.image)?;
+    accept(alloc, text).map_err(|refusal| anyhow!("{refusal}"))
 }
 
 /// Runs the first worker alone, so that another program's processor time can be set beside this one's. What was counted is
 /// printed.
 pub(crate) fn turns<R: Runtime<A = Global>>(rt: &R) -> Result<()> {
     let [worker, ..] = &WORKERS;
-    let text = Vec::from_slice(rt.alloc(), worker.image)?;
-    let accepted = accept(rt.alloc(), text).map_err(|refusal| anyhow!("{refusal}"))?;
+    let accepted = accepted(rt.alloc(), worker)?;
     let packet = accepted.packet_bytes();
-    let run = rounds(rt, &mut machine_with(&accepted), packet, ROUNDS_ALONE)?;
+    let run = rounds(
+        rt.alloc(),
+        &mut machine_with(&accepted),
+        packet,
+        ROUNDS_ALONE,
+    )?;
     println!(rt; "{}: {} instruction bytes", worker.name, run.counted)?;
     Ok(())
 }
@@ -71,103 +70,64 @@ fn tested_with(accepted: &Accepted) -> Tested<'_> {
     }
 }
 
-/// Prints what one round comes to on both machines.
-fn counted<R: Runtime<A = Global>>(rt: &R, worker: &Worker, accepted: &Accepted) -> Result<()> {
-    let name = worker.name;
-    let packet = accepted.packet_bytes();
-    for (kind, run) in [
-        (
-            "the machine",
-            rounds(rt, &mut machine_with(accepted), packet, 1)?,
-        ),
-        ("tested", rounds(rt, &mut tested_with(accepted), packet, 1)?),
-    ] {
-        println!(rt;
-            "{name}, {kind}: {} instruction bytes, result {}",
-            run.counted, run.result_word
-        )?;
-    }
-    let Some(turns) = worker.turns else {
-        return Ok(());
-    };
-    let plain = plain_rounds(rt, turns, accepted, 1)?;
-    println!(rt; "{name}, plain loop: {}", plain.result_word)?;
-    Ok(())
-}
-
-/// Prints the best rates of a worker.
-fn timed<R: Runtime<A = Global>>(rt: &R, worker: &Worker, accepted: &Accepted) -> Result<()> {
-    let mut best = Best {
-        counted: 0,
-        machine: u64::MAX,
-        tested: u64::MAX,
-        plain: u64::MAX,
-    };
-    for _ in 0..TIMES {
-        best = better(rt, worker, accepted, best)?;
-    }
-    let rate = |nanos: u64| best.counted.saturating_mul(1000) / nanos.max(1);
-    let name = worker.name;
-    let tenths = best.tested.saturating_mul(10) / best.machine.max(1);
-    println!(rt;
-        "{name}: {} million instruction bytes a second, tested {}: {}.{} times",
-        rate(best.machine),
-        rate(best.tested),
-        tenths / 10,
-        tenths % 10
-    )?;
-    if worker.turns.is_some() {
-        let times = best.machine / best.plain.max(1);
-        println!(rt; "{name}: {times} times as long as the plain loop")?;
-    }
-    Ok(())
-}
-
-/// One measurement of each, where it is better than those before.
-fn better<R: Runtime<A = Global>>(
+/// Prints what the rounds of a worker come to on both machines, and in the plain function that makes its turns.
+fn told<R: Runtime<A = Global>>(
     rt: &R,
     worker: &Worker,
     accepted: &Accepted,
-    best: Best,
-) -> Result<Best> {
-    let packet = accepted.packet_bytes();
-    let machine = rounds(rt, &mut machine_with(accepted), packet, worker.rounds)?;
-    let tested = rounds(rt, &mut tested_with(accepted), packet, worker.rounds)?;
-    let plain = match worker.turns {
-        Some(turns) => nanos(plain_rounds(rt, turns, accepted, worker.rounds)?),
-        None => best.plain,
+    is_timed: bool,
+) -> Result<()> {
+    let machine = &mut machine_with(accepted);
+    told_of(rt, worker, "the machine", machine, accepted, is_timed)?;
+    let tested = &mut tested_with(accepted);
+    told_of(rt, worker, "tested", tested, accepted, is_timed)?;
+    let Some(turns) = worker.turns else {
+        return Ok(());
     };
-    Ok(Best {
-        counted: machine.counted,
-        machine: best.machine.min(nanos(machine)),
-        tested: best.tested.min(nanos(tested)),
-        plain: best.plain.min(plain),
-    })
+    let name = worker.name;
+    let start = Instant::now(rt)?;
+    let result = plain_rounds(turns, accepted, count_of(worker, is_timed));
+    let took = Took::since(rt, start, is_timed, "all")?;
+    println!(rt; "{name}, plain loop: {result}{took}")?;
+    Ok(())
 }
 
-fn nanos(run: Run) -> u64 {
-    u64::try_from(run.took.as_nanos()).unwrap_or(u64::MAX)
+/// How many rounds are made of a worker.
+fn count_of(worker: &Worker, is_timed: bool) -> u32 {
+    if is_timed { worker.rounds } else { 1 }
 }
 
-/// The same turns by a plain function. Where its words stand is read from the image, so that no compiler knows it.
-fn plain_rounds<R: Runtime>(
+/// Prints what the rounds of a worker come to on one machine.
+fn told_of<R: Runtime<A = Global>, M: Runs>(
     rt: &R,
-    (outer, inner): (u32, u32),
+    worker: &Worker,
+    kind: &str,
+    machine: &mut M,
     accepted: &Accepted,
-    count: u32,
-) -> Result<Run> {
+    is_timed: bool,
+) -> Result<()> {
+    let name = worker.name;
+    let count = count_of(worker, is_timed);
+    let start = Instant::now(rt)?;
+    let run = rounds(rt.alloc(), machine, accepted.packet_bytes(), count)?;
+    let took = Took::since(rt, start, is_timed, "all")?;
+    let Run {
+        counted,
+        result_word,
+    } = run;
+    println!(rt; "{name}, {kind}: {counted} instruction bytes, result {result_word}{took}")?;
+    Ok(())
+}
+
+/// The same turns by a plain function: the word that it leaves. Where its words stand is read from the image, so that no compiler
+/// knows it.
+fn plain_rounds((outer, inner): (u32, u32), accepted: &Accepted, count: u32) -> u32 {
     let sum = accepted.result_bytes() % 8;
     let block = (accepted.packet_bytes() + 1) % 8;
     let mut words = [0u32; plain::WORDS];
-    let start = Instant::now(rt)?;
     for _ in 0..count {
         words[sum] = 0;
         plain::turns(&mut words, sum, block, outer, inner);
     }
-    let took = start.elapsed(rt)?;
-    Ok(Run {
-        counted: u64::from(count),
-        result_word: words[sum],
-        took,
-    })
+    words[sum]
 }

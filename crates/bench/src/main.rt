@@ -1,7 +1,7 @@
 //! How fast the crates are, beside plain code that does the same work in the same run.
 //!
-//! `bench WORD` measures what the word names, and prints times and rates. With no word each is done once, in small, and what was
-//! counted is printed, which is the same at every run.
+//! `bench WORD` measures what the word names, and prints what was counted and how long that took; the scripts make rates of it. With no
+//! word each is done once, in small, and what was counted is printed, which is the same at every run.
 #![tactic(auto)]
 
 mod accept;
@@ -11,6 +11,7 @@ mod farm;
 mod flow;
 mod machine;
 mod states;
+mod took;
 
 use anyhow::{Result, anyhow, bail};
 use std::alloc::Global;

@@ -1,12 +1,13 @@
 //! How many instructions a second the verifier's rules take in place: `State::go_on` over ldl, adc, stl. And how long
 //! `State::join` and `State::is_below` take for two states of 512 words, all known and alike.
 //!
-//! A thousand rounds are made, or millions, and then rates and times are printed.
+//! A thousand rounds are made, or millions, with the time that they took.
 
 ghost use Rattle.std.specs.Prelude.{◌≡◌, length};
 ghost use Rattle.tp_flow.specs.NestRanges.{ranges};
 ghost use Rattle.tp_state.specs.Conditions.{IsPlaced, HasGoodLoops};
 
+use crate::took::Took;
 use anyhow::{Result, anyhow, bail};
 use std::alloc::Global;
 use std::rt::Runtime;
@@ -42,14 +43,9 @@ fn measure_rules<R: Runtime<A = Global>>(rt: &R, is_timed: bool) -> Result<()> {
     let rounds = if is_timed { TIMED_ROUNDS } else { FEW_ROUNDS };
     let start = Instant::now(rt)?;
     let passed = count_passed(&mut state, &image, &nest, rounds);
-    let took = start.elapsed(rt)?;
+    let took = Took::since(rt, start, is_timed, "all")?;
     let word = state.cells.get(8);
-    println!(rt; "ldl, adc, stl: {passed} instructions passed, word 8 is {word:?}")?;
-    if is_timed {
-        let micros = u64::try_from(took.as_micros()).unwrap_or(u64::MAX).max(1);
-        let millions = passed / micros;
-        println!(rt; "{millions} million instructions a second")?;
-    }
+    println!(rt; "ldl, adc, stl: {passed} instructions passed, word 8 is {word:?}{took}")?;
     Ok(())
 }
 
@@ -61,18 +57,13 @@ fn measure_meetings<R: Runtime<A = Global>>(rt: &R, is_timed: bool) -> Result<()
     let rounds = if is_timed { TIMED_MEETINGS } else { FEW_ROUNDS };
     let start = Instant::now(rt)?;
     let unchanged = count_unchanged(&mut state, &first, rounds);
-    let joined = start.elapsed(rt)?;
+    let joined = Took::since(rt, start, is_timed, "joined")?;
     let start = Instant::now(rt)?;
     let below = count_below(&first, &second, &first, rounds);
-    let compared = start.elapsed(rt)?;
-    println!(rt; "512 words: {unchanged} joins changed nothing, {below} comparisons held")?;
-    if is_timed {
-        println!(rt;
-            "join {} ns, is_below {} ns",
-            joined.as_nanos() / u128::from(rounds),
-            compared.as_nanos() / u128::from(rounds)
-        )?;
-    }
+    let compared = Took::since(rt, start, is_timed, "compared")?;
+    println!(rt;
+        "512 words: {unchanged} joins changed nothing, {below} comparisons held{joined}{compared}"
+    )?;
     Ok(())
 }
 

@@ -4,7 +4,6 @@ use std::alloc::Global;
 use std::rt::Runtime;
 use std::thread;
 use std::thread::Threads;
-use std::time::{Duration, Instant};
 
 /// A place at one board, for one thread to work at.
 pub(crate) trait Place: Drop {
@@ -12,32 +11,16 @@ pub(crate) trait Place: Drop {
     fn work(&mut self) -> u64;
 }
 
-/// Packets that were finished, and how long it took.
-#[derive(Clone, Copy)]
-pub(crate) struct Run {
-    pub(crate) finished: u64,
-    took: Duration,
-}
-
-impl Run {
-    pub(crate) fn packets_a_second(&self) -> u64 {
-        let micros = u64::try_from(self.took.as_micros()).unwrap_or(u64::MAX);
-        self.finished.saturating_mul(1_000_000) / micros.max(1)
-    }
-}
-
-/// A thread for each list of places, which it works at in order.
+/// A thread for each list of places, which it works at in order: how many packets were finished.
 pub(crate) fn work_off<R: Runtime<A = Global> + Threads + Sync, P: Place + Send>(
     rt: &R,
     places: Vec<Vec<P>>,
-) -> Result<Run> {
-    let start = Instant::now(rt)?;
+) -> Result<u64> {
     let counts = thread::map_vec(rt, places, &|own: Vec<P>| worked(own))?;
-    let took = start.elapsed(rt)?;
     let finished = counts
         .iter()
         .fold(0u64, |sum, count| sum.wrapping_add(*count));
-    Ok(Run { finished, took })
+    Ok(finished)
 }
 
 fn worked<P: Place>(places: Vec<P>) -> u64 {

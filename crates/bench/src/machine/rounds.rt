@@ -2,12 +2,11 @@
 
 use anyhow::{Result, anyhow};
 use std::alloc::Global;
-use std::rt::Runtime;
-use std::time::{Duration, Instant};
 use tp_accept::Accepted;
 use tp_image::Image;
-use tp_link::{Link, LinkDevice, Links, Medium, Wire};
+use tp_link::{Link, LinkDevice, Links, Wire};
 use tp_machine::Outcome;
+use tp_media::Media;
 
 /// The bytes of the longest packet and the longest result.
 const MESSAGE_BYTES: usize = 64;
@@ -15,12 +14,11 @@ const MESSAGE_BYTES: usize = 64;
 /// More steps than any of the workers makes.
 const LIMIT: u32 = 16_777_216;
 
-/// What was counted over some rounds, the last result's first word, and how long they took.
+/// What was counted over some rounds, and the last result's first word.
 #[derive(Clone, Copy)]
 pub(crate) struct Run {
     pub(crate) counted: u64,
     pub(crate) result_word: u32,
-    pub(crate) took: Duration,
 }
 
 /// A machine, and what it runs.
@@ -76,32 +74,22 @@ fn round<M: Runs>(
 }
 
 /// So many rounds on one machine, each with a packet of so many bytes, which are 0.
-pub(crate) fn rounds<R: Runtime<A = Global>, M: Runs>(
-    rt: &R,
+pub(crate) fn rounds<M: Runs>(
+    alloc: Global,
     machine: &mut M,
     packet: usize,
     count: u32,
 ) -> Result<Run> {
-    let mut packets = Medium::new(rt.alloc(), MESSAGE_BYTES)?;
-    let mut results = Medium::new(rt.alloc(), MESSAGE_BYTES)?;
-    let mut traces = Medium::new(rt.alloc(), MESSAGE_BYTES)?;
-    let mut links = Links {
-        source: Wire::new(&mut packets),
-        sink: Wire::new(&mut results),
-        trace: Wire::new(&mut traces),
+    let mut media = Media::new(alloc, MESSAGE_BYTES)?;
+    let mut links = media.wires();
+    let mut run = Run {
+        counted: 0,
+        result_word: 0,
     };
-    let mut counted = 0u64;
-    let mut result_word = 0;
-    let start = Instant::now(rt)?;
     for _ in 0..count {
         let (word, steps) = round(machine, &mut links, packet)?;
-        counted = counted.saturating_add(u64::from(steps));
-        result_word = word;
+        run.counted = run.counted.saturating_add(u64::from(steps));
+        run.result_word = word;
     }
-    let took = start.elapsed(rt)?;
-    Ok(Run {
-        counted,
-        result_word,
-        took,
-    })
+    Ok(run)
 }
