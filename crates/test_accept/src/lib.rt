@@ -1,5 +1,6 @@
-//! Texts that are accepted or refused, and runs of the accepted ones, worked out by hand; runs on a machine whatever it held before
-//! (`machine`); the media of members. There is no code here but tests.
+//! Codes judged by hand: their flow, what is known along them, the tables of whole workers and what the passes take. Texts that are
+//! accepted or refused, and runs of the accepted ones, worked out by hand; runs on a machine whatever it held before (`machine`); the
+//! media of members. There is no code here but tests.
 #![tactic(auto)]
 
 #[cfg(test)]
@@ -7,10 +8,20 @@ mod answers;
 #[cfg(test)]
 mod changed;
 #[cfg(test)]
+mod flow;
+#[cfg(test)]
+mod images;
+#[cfg(test)]
 mod machine;
 #[cfg(test)]
 mod media;
 #[cfg(test)]
+mod reading;
+#[cfg(test)]
 mod runs;
+#[cfg(test)]
+mod states;
+#[cfg(test)]
+mod tables;
 #[cfg(test)]
 mod texts;

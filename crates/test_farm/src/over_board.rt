@@ -47,16 +47,29 @@ fn a_board_makes_no_difference(rt: HostRuntime) -> Result<(), Fail> {
     Ok(())
 }
 
+const THREE: [u32; 3] = [5, 6, 7];
+
 /// A packet that is done takes two calls of the sink; the third fails.
+const FAILING_CALLS: [u64; 3] = [0, 3, 0];
+
+/// What becomes of three packets over a board, where one member's sink fails.
+fn failing_over_board<R: Threads + Wait + Sync>(rt: &R, alloc: Global) -> Result<Collected, Fail> {
+    let mut media = Media::new(alloc, ROOM)?;
+    let links = alone(alloc, failing(&mut media, FAILING_CALLS))?;
+    over_board(rt, alloc, &THREE, links, &OpenGate)
+}
+
+/// The same over the queue.
+fn failing_over_queue<R: Threads + Wait + Sync>(rt: &R, alloc: Global) -> Result<Collected, Fail> {
+    let mut media = Media::new(alloc, ROOM)?;
+    let links = alone(alloc, failing(&mut media, FAILING_CALLS))?;
+    run_on(rt, alloc, INCREMENT, &THREE, links, &OpenGate)
+}
+
 #[test]
 fn nor_where_a_device_fails(rt: HostRuntime) -> Result<(), Fail> {
-    let words = [5, 6, 7];
-    let mut media = Media::new(rt.alloc(), ROOM)?;
-    let links = alone(rt.alloc(), failing(&mut media, [0, 3, 0]))?;
-    let by_board = over_board(&rt, rt.alloc(), &words, links, &OpenGate)?;
-    let mut media = Media::new(rt.alloc(), ROOM)?;
-    let links = alone(rt.alloc(), failing(&mut media, [0, 3, 0]))?;
-    let by_queue = run_on(&rt, rt.alloc(), INCREMENT, &words, links, &OpenGate)?;
+    let by_board = failing_over_board(&rt, rt.alloc())?;
+    let by_queue = failing_over_queue(&rt, rt.alloc())?;
     let lost = Told::Lost(Link::Sink, DeviceFault::Failed);
     let told = all_told(rt.alloc(), &by_board)?;
     assert!(rt; told.as_slice() == [Told::Done(6), lost, Told::Done(8)].as_slice());

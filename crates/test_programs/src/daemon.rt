@@ -12,6 +12,7 @@ use std::thread::Threads;
 use tp_program::{Ending, run};
 use tp_session::ServeFault;
 
+mod options;
 mod threads;
 
 /// A command line with a word that is no text.

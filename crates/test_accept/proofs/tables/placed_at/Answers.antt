@@ -4,7 +4,7 @@ use Rattle.tp_image.specs.Image.{ImageValue}
 use Rattle.tp_state.specs.declared.state.State.{State}
 use Rattle.tp_state.specs.Conditions.{IsPlaced}
 use Rattle.tp_check.specs.StatesThere.{AreStatesThere}
-use Rattle.test_check.proofs.tables.placed_at.Goals as goal
+use Rattle.test_accept.proofs.tables.placed_at.Goals as goal
 
 placed_in : (image : ImageValue) (states : List (ℕ × State)) → AreStatesThere image states → (i : ℕ) (d a : ℕ × State) → i < length states → a ≡ slice_index_or states i d → IsPlaced image a.1
 placed_in image states sound i d a lt is = (sound i a (slice_get-get_or states i d lt ∙ ap Some (sym is))).sound.placed

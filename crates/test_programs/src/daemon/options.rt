@@ -1,4 +1,4 @@
-//! Command lines, and what they ask for.
+//! Command lines, with the members and the trace flag that they ask for, and the kinds of error that others come to.
 
 use clap::error::ErrorKind as Kind;
 use std::alloc::Global;
