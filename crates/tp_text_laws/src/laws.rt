@@ -53,7 +53,8 @@ pub fn written_program_is_read_back()
 
 /// Each line of a program that a text says has its position.
 pub fn each_line_has_its_position()
-    ensures { (text : List ℕ) (source : SourceSaid) → source_of text ≡ Ok source → length source.positions ≡ length source.program.lines }
+    ensures { (text : List ℕ) (source : SourceSaid) → source_of text ≡ Ok source →
+        length source.positions ≡ length source.program.lines }
 {}
 
 /// A program that has an image may be written, where its operands have 32 bits, as each `i32` has.
