@@ -11,7 +11,7 @@ use Rattle.tp_state.specs.declared.state.State.{State}
 use Rattle.tp_state.specs.declared.fault.StateCode.{StateCode}
 use Rattle.tp_state.specs.declared.fault.StateCode.TheVariants.{S6, S9}
 use Rattle.tp_state.specs.Answer.{◌>>◌, unless}
-use Rattle.tp_state.specs.CellRules.{cell_at, is_free}
+use Rattle.tp_state.specs.CellRules.{cell_at, is_free, has_value}
 
 -- ---- kinds
 
@@ -51,6 +51,17 @@ join_cells (cell.Index l) (cell.Index k) = if l == k then cell.Index l else cell
 join_cells (cell.Count l) (cell.Count k) = if l == k then cell.Count l else cell.Undef
 join_cells c d = cell.Undef
 
+-- each word of the first says as much as the second's, or more; or one does not
+abbrev pub AreBelow : List Cell → List Cell → Type 0
+AreBelow cells others = (i : ℕ) → IsTrue (cell_below (cell_at cells i) (cell_at others i))
+
+abbrev pub OneIsNotBelow : List Cell → List Cell → Type 0
+OneIsNotBelow cells others = (i : ℕ) × (cell_below (cell_at cells i) (cell_at others i) ≡ false)
+
+-- words that have a value in both have the same
+abbrev pub AgreeOnValues : List Cell → List Cell → Type 0
+AgreeOnValues cells others = (i : ℕ) → has_value (cell_at cells i) ≡ true → has_value (cell_at others i) ≡ true → cell_at cells i ≡ cell_at others i
+
 -- two cells of one word are live control words alike, or none of them is one: else nothing is above both
 abbrev pub cells_agree : Cell → Cell → Bool
 cells_agree (cell.Index l) (cell.Index k) = l == k
@@ -67,7 +78,7 @@ pub record IsBelow (s t : State) : Type 0 where
   pub b : IsTrue (kind_below s.b t.b)
   pub c : IsTrue (kind_below s.c t.c)
   pub sized : length s.cells ≡ length t.cells
-  pub cells : (i : ℕ) → IsTrue (cell_below (cell_at s.cells i) (cell_at t.cells i))
+  pub cells : AreBelow s.cells t.cells
 
 -- something is above both: Wptr and the phase are those of both, and the same words are live control words
 pub record MayMeet (s t : State) : Type 0 where

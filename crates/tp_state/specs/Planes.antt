@@ -1,5 +1,5 @@
 -- How what is known of words is kept: two bits of each word, in two planes, and a value.
-use Rattle.std.specs.Prelude.{◌≡◌, ℕ, ◌+◌, ◌-◌, ◌*◌, ◌/◌, ◌%◌, ◌^◌, ◌<◌, ◌≤◌, ◌==◌, Bool, true, false, nat_lt, if◌then◌else◌, List, map, length, slice_index_or, bit_and, bit_or, bit_xor, ◌⊎◌}
+use Rattle.std.specs.Prelude.{◌≡◌, ℕ, ◌+◌, ◌-◌, ◌*◌, ◌/◌, ◌%◌, ◌^◌, ◌<◌, ◌≤◌, ◌==◌, Bool, true, false, not, nat_lt, if◌then◌else◌, List, map, length, slice_index_or, bit_and, bit_or, bit_xor, ◌⊎◌}
 use Rattle.std.specs.Int.{bit_at}
 use Rattle.std.specs.List.{range_with_len}
 use Rattle.tp_decode.specs.Words.{signed}
@@ -90,6 +90,32 @@ pub record IsWhole (values : List ℕ) (planes : List Bits) : Type 0 where
   pub no_more : 64 * length planes < length values + 64
   pub padded : (x : ℕ) → length values ≤ x → x < 64 * length planes → cell_in values planes x ≡ Undef
   pub rows : (x : ℕ) → x < length values → HasByteRow (cell_in values planes x)
+
+-- so many words are known, with the values that they have; and behind these nothing is
+abbrev pub AreKnown : ℕ → List Bits → Type 0
+AreKnown words planes = (values : List ℕ) (i : ℕ) → i < words → cell_in values planes i ≡ cell_of false false (slice_index_or values i 0)
+
+abbrev pub ArePadded : ℕ → List Bits → Type 0
+ArePadded words planes = (values : List ℕ) (i : ℕ) → words ≤ i → i < 64 * length planes → cell_in values planes i ≡ Undef
+
+-- whatever the values are, each word from x to an end is such; or one of them is not
+abbrev pub EachIs : (Cell → Bool) → List Bits → (x end : ℕ) → Type 0
+EachIs test planes x end = (values : List ℕ) (i : ℕ) → x ≤ i → i < end → test (cell_in values planes i) ≡ true
+
+abbrev pub OneIsNot : (Cell → Bool) → List Bits → (x end : ℕ) → Type 0
+OneIsNot test planes x end = (values : List ℕ) → (i : ℕ) × (x ≤ i) × (i < end) × (test (cell_in values planes i) ≡ false)
+
+-- what is known of some word has changed
+abbrev pub OneChanges : List ℕ → (old new : List Bits) → Type 0
+OneChanges values old new = (i : ℕ) × (i < 64 * length old) × ¬ (cell_in values new i ≡ cell_in values old i)
+
+-- a word has these bits, whatever it had before
+abbrev pub with_bits : Bool → Bool → List ℕ → ℕ → Cell → Cell
+with_bits first second values i c = cell_of first second (slice_index_or values i 0)
+
+-- two words have different values
+abbrev pub differ_at : (values others : List ℕ) → ℕ → Bool
+differ_at values others i = not (slice_index_or values i 0 == slice_index_or others i 0)
 
 -- the words from x to an end changed by a function of their numbers and cells, and no others
 pub record ChangesPlanes (values : List ℕ) (old new : List Bits) (f : ℕ → Cell → Cell) (x end : ℕ) : Type 0 where

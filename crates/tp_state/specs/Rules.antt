@@ -5,7 +5,7 @@
 -- S5. The effects of the instructions stand in tp_step/specs/Effects.antt, in the same order.
 --
 -- Sums of a word's number and an operand are whole numbers, never wrapped.
-use Rattle.std.specs.Prelude.{ℕ, ◌+◌, ◌-◌, ◌*◌, ◌/◌, ◌%◌, ◌^◌, ◌==◌, Bool, ◌&&◌, ◌||◌, not, nat_le, nat_lt, if◌then◌else◌, ℤ, pos, negsuc, ◌+ℤ◌, ◌-ℤ◌, ◌*ℤ◌, int_le, int_lt, int_div, List, map, replicate, slice_get, slice_set, Option, Result, Ok, Err}
+use Rattle.std.specs.Prelude.{◌≡◌, ℕ, ◌+◌, ◌-◌, ◌*◌, ◌/◌, ◌%◌, ◌^◌, ◌==◌, Bool, ◌&&◌, ◌||◌, not, nat_le, nat_lt, if◌then◌else◌, ℤ, pos, negsuc, ◌+ℤ◌, ◌-ℤ◌, ◌*ℤ◌, int_le, int_lt, int_div, List, map, replicate, slice_get, slice_set, Option, Result, Ok, Err}
 use Rattle.std.specs.Ordering.{int_eq}
 use Rattle.std.specs.Option.{option_and_then}
 use Rattle.tp_decode.specs.Words.{signed}
@@ -25,7 +25,7 @@ use Rattle.tp_state.specs.declared.cell.Cell.TheVariants as cell
 use Rattle.tp_state.specs.declared.state.State.{State}
 use Rattle.tp_state.specs.declared.fault.StateCode.{StateCode}
 use Rattle.tp_state.specs.declared.fault.StateCode.TheVariants.{S1, S2, S3, S4, S5, S6, S7, S8, S9, S10, S11}
-use Rattle.tp_state.specs.Answer.{◌>>=◌, ◌>>◌, unless, found}
+use Rattle.tp_state.specs.Answer.{◌>>=◌, ◌>>◌, unless, found, answered}
 use Rattle.tp_state.specs.Kinds.{full, exactly, is_exactly, points_at, known, number, pointer, one_word, byte_pointer, word_in, byte_in, range, at_ends}
 use Rattle.tp_state.specs.CellRules.{cell_at, cells_from, with_cells, is_free, are_free, are_defined, read, written, blurred, copied}
 
@@ -489,3 +489,13 @@ rule image at next Sum edge t = do
 rule image at next Mul edge t = do
   (a, b) ← two_numbers t
   Ok (give (at_ends product b a) t)
+
+-- ---- a call that changes a state in place
+
+-- it answers as the instruction's rule does, wherever the instruction stands and on each of its edges
+abbrev pub FollowsRule : {A : Type 0} → ImageValue → Instr → Result A StateCode → (old new : State) → Type 0
+FollowsRule image instr answer old new = (at next : ℕ) (edge : Edge) → answered answer new ≡ rule image at next instr edge old
+
+-- and in each image
+abbrev pub FollowsEachRule : {A : Type 0} → Instr → Result A StateCode → (old new : State) → Type 0
+FollowsEachRule instr answer old new = (image : ImageValue) → FollowsRule image instr answer old new

@@ -1,10 +1,10 @@
 //! What is known of the words of a workspace.
 
-ghost use Rattle.std.specs.Prelude.{◌≡◌, ◌+◌, ◌≤◌, ◌<◌, length, map, replicate, take, drop, slice_set, min, IsTrue, IfOk, pos, ◌++◌, ◌-◌, ℕ, true, false};
+ghost use Rattle.std.specs.Prelude.{◌≡◌, ◌+◌, ◌≤◌, ◌<◌, length, map, replicate, take, drop, slice_set, min, IsTrue, IfOk, ◌++◌, ◌-◌, true, false};
 ghost use Rattle.std.specs.Bool.{Decides};
-ghost use Rattle.tp_state.specs.CellRules.{cell_at, cells_from, with_cells, are_free, are_defined, has_value, blurred, copied};
+ghost use Rattle.tp_state.specs.CellRules.{cell_at, cells_from, with_cells, are_free, are_defined, blurred, copied};
 ghost use Rattle.tp_state.specs.Rules.{are_apart};
-ghost use Rattle.tp_state.specs.Order.{cell_below, joined_cells, TellsChange};
+ghost use Rattle.tp_state.specs.Order.{joined_cells, TellsChange, AreBelow, OneIsNotBelow, AgreeOnValues};
 ghost use Rattle.tp_state.specs.Planes.{seen, IsWhole};
 ghost use Rattle.tp_state.specs.Entry.{first_cells};
 
@@ -90,7 +90,7 @@ impl Cells {
     /// It takes the value of cells that say as much or less: a value that means something there stands here already.
     pub(crate) fn rise_to(&mut self, others: &Cells)
         requires sized { length others.now ≡ length self.old }
-        requires below { (i : ℕ) → IsTrue (cell_below (cell_at self.old i) (cell_at others.now i)) }
+        requires below { AreBelow self.old others.now }
         ensures { self.new ≡ others.now }
     {
         set_planes(&mut self.planes, &others.planes);
@@ -123,7 +123,7 @@ impl Cells {
     pub(crate) fn rise_to_words(&mut self, values: &[u32], planes: &Planes)
         requires whole { IsWhole values.now planes.now.items }
         requires sized { length values.now ≡ length self.old }
-        requires below { (i : ℕ) → IsTrue (cell_below (cell_at self.old i) (cell_at (seen values.now planes.now.items) i)) }
+        requires below { AreBelow self.old (seen values.now planes.now.items) }
         ensures { self.new ≡ seen values.now planes.now.items }
     {
         let _ = values;
@@ -148,7 +148,7 @@ impl Cells {
     /// changed.
     pub(crate) fn join_agreeing(&mut self, others: &Cells) -> bool
         requires sized { length others.now ≡ length self.old }
-        requires agree { (i : ℕ) → has_value (cell_at self.old i) ≡ true → has_value (cell_at others.now i) ≡ true → cell_at self.old i ≡ cell_at others.now i }
+        requires agree { AgreeOnValues self.old others.now }
         ensures value { self.new ≡ joined_cells self.old others.now }
         ensures changed { TellsChange result self.old self.new }
     {
@@ -163,8 +163,8 @@ impl Cells {
     /// Whether each says as much as the other's of the same word or more.
     pub(crate) fn are_below(&self, others: &Cells) -> bool
         requires { length others.now ≡ length self.now }
-        ensures yes { result ≡ true → (i : ℕ) → IsTrue (cell_below (cell_at self.now i) (cell_at others.now i)) }
-        ensures no { result ≡ false → (i : ℕ) × (cell_below (cell_at self.now i) (cell_at others.now i) ≡ false) }
+        ensures yes { result ≡ true → AreBelow self.now others.now }
+        ensures no { result ≡ false → OneIsNotBelow self.now others.now }
     {
         words_below(&self.values, &self.planes, &others.values, &others.planes)
     }
@@ -313,7 +313,7 @@ pub(crate) fn join_agreeing_words(
     requires whole { IsWhole values.now planes.old }
     requires others { IsWhole other_values.now others.now }
     requires long { length (seen other_values.now others.now) ≡ length (seen values.now planes.old) }
-    requires agree { (i : ℕ) → has_value (cell_at (seen values.now planes.old) i) ≡ true → has_value (cell_at (seen other_values.now others.now) i) ≡ true → cell_at (seen values.now planes.old) i ≡ cell_at (seen other_values.now others.now) i }
+    requires agree { AgreeOnValues (seen values.now planes.old) (seen other_values.now others.now) }
     ensures whole { IsWhole values.now planes.new }
     ensures value { seen values.now planes.new ≡ joined_cells (seen values.now planes.old) (seen other_values.now others.now) }
     ensures changed { TellsChange result (seen values.now planes.old) (seen values.now planes.new) }
@@ -327,8 +327,8 @@ fn words_below(values: &[u32], planes: &[Bits], other_values: &[u32], others: &[
     requires whole { IsWhole values.now planes.now }
     requires others { IsWhole other_values.now others.now }
     requires long { length (seen other_values.now others.now) ≡ length (seen values.now planes.now) }
-    ensures yes { result ≡ true → (i : ℕ) → IsTrue (cell_below (cell_at (seen values.now planes.now) i) (cell_at (seen other_values.now others.now) i)) }
-    ensures no { result ≡ false → (i : ℕ) × (cell_below (cell_at (seen values.now planes.now) i) (cell_at (seen other_values.now others.now) i) ≡ false) }
+    ensures yes { result ≡ true → AreBelow (seen values.now planes.now) (seen other_values.now others.now) }
+    ensures no { result ≡ false → OneIsNotBelow (seen values.now planes.now) (seen other_values.now others.now) }
 {
     if are_kept_alike(values, planes, other_values, others) {
         return true;

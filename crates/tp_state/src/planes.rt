@@ -1,9 +1,9 @@
 //! Planes of bits: two bits of each workspace word say what its cell is, but for the value of one that has a value.
 
-ghost use Rattle.std.specs.Prelude.{◌≡◌, ℕ, ◌+◌, ◌-◌, ◌*◌, ◌^◌, ◌<◌, ◌≤◌, ◌==◌, ◌&&◌, nat_le, nat_lt, length, List, IfOk, true, false, if◌then◌else◌, slice_index_or, bit_or, bit_xor};
+ghost use Rattle.std.specs.Prelude.{◌≡◌, ℕ, ◌+◌, ◌-◌, ◌*◌, ◌^◌, ◌<◌, ◌≤◌, ◌==◌, ◌&&◌, nat_le, nat_lt, length, List, true, false, slice_index_or, bit_or, bit_xor};
 ghost use Rattle.tp_state.specs.declared.cell.Cell.TheVariants.{Undef};
 ghost use Rattle.tp_state.specs.CellRules.{blurred, is_free, is_defined};
-ghost use Rattle.tp_state.specs.Planes.{is_set, live_of, cell_of, bits_cell, HasByteRow, with_mask, blurred_bits, live_bits, undefined_bits, joined_bits, failing_bits, no_bits, cell_in, IsWhole, ChangesPlanes, Agree, Moves};
+ghost use Rattle.tp_state.specs.Planes.{is_set, live_of, cell_of, bits_cell, HasByteRow, with_mask, blurred_bits, live_bits, undefined_bits, joined_bits, failing_bits, no_bits, cell_in, IsWhole, ChangesPlanes, AreKnown, ArePadded, EachIs, OneIsNot, OneChanges, with_bits, Agree, Moves};
 ghost use Rattle.tp_state.specs.Order.{join_cells, cell_below};
 
 use crate::cell::Cell;
@@ -211,8 +211,8 @@ pub(crate) fn whole_planes(words: usize) -> Planes
     requires { words ≤ 512 }
     ensures enough { words ≤ 64 * length result.items }
     ensures no_more { 64 * length result.items < words + 64 }
-    ensures known { (values : List ℕ) (i : ℕ) → i < words → cell_in values result.items i ≡ cell_of false false (slice_index_or values i 0) }
-    ensures padded { (values : List ℕ) (i : ℕ) → words ≤ i → i < 64 * length result.items → cell_in values result.items i ≡ Undef }
+    ensures known { AreKnown words result.items }
+    ensures padded { ArePadded words result.items }
 {
     let mut planes = clear_planes((words + WORDS - 1) / WORDS);
     close_planes(&mut planes, words);
@@ -250,8 +250,8 @@ fn close_planes(planes: &mut [Bits], words: usize)
     requires enough { words ≤ 64 * length planes.old }
     requires few { length planes.old < 2 ^ 32 }
     requires clear { (k : ℕ) → k < length planes.old → slice_index_or planes.old k no_bits ≡ no_bits }
-    ensures known { (values : List ℕ) (i : ℕ) → i < words → cell_in values planes.new i ≡ cell_of false false (slice_index_or values i 0) }
-    ensures padded { (values : List ℕ) (i : ℕ) → words ≤ i → i < 64 * length planes.new → cell_in values planes.new i ≡ Undef }
+    ensures known { AreKnown words planes.new }
+    ensures padded { ArePadded words planes.new }
 {
     let end = WORDS * planes.len();
     put_all(planes, words, end, Kept::of(Cell::Undef));
@@ -274,7 +274,7 @@ pub(crate) fn put_all(planes: &mut [Bits], x: usize, end: usize, kept: Kept)
     requires order { x ≤ end }
     requires room { end ≤ 64 * length planes.old }
     requires few { length planes.old < 2 ^ 32 }
-    ensures { (values : List ℕ) → ChangesPlanes values planes.old planes.new (λ i c. cell_of kept.first kept.second (slice_index_or values i 0)) x end }
+    ensures { (values : List ℕ) → ChangesPlanes values planes.old planes.new (with_bits kept.first kept.second values) x end }
 {
     for w in x / WORDS..(end + WORDS - 1) / WORDS {
         planes[w] = planes[w].put(within(w, x, end), kept);
@@ -284,7 +284,7 @@ pub(crate) fn put_all(planes: &mut [Bits], x: usize, end: usize, kept: Kept)
 /// One word takes a cell's bits.
 pub(crate) fn put_one(planes: &mut [Bits], x: usize, kept: Kept)
     requires room { x < 64 * length planes.old }
-    ensures { (values : List ℕ) → ChangesPlanes values planes.old planes.new (λ i c. cell_of kept.first kept.second (slice_index_or values i 0)) x (x + 1) }
+    ensures { (values : List ℕ) → ChangesPlanes values planes.old planes.new (with_bits kept.first kept.second values) x (x + 1) }
 {
     planes[x / WORDS] = planes[x / WORDS].put(one(x % WORDS), kept);
 }
@@ -306,8 +306,8 @@ pub(crate) fn all_free(planes: &[Bits], x: usize, end: usize) -> bool
     requires order { x ≤ end }
     requires room { end ≤ 64 * length planes.now }
     requires few { length planes.now < 2 ^ 32 }
-    ensures yes { result ≡ true → (values : List ℕ) (i : ℕ) → x ≤ i → i < end → is_free (cell_in values planes.now i) ≡ true }
-    ensures no { result ≡ false → (values : List ℕ) → (i : ℕ) × (x ≤ i) × (i < end) × (is_free (cell_in values planes.now i) ≡ false) }
+    ensures yes { result ≡ true → EachIs is_free planes.now x end }
+    ensures no { result ≡ false → OneIsNot is_free planes.now x end }
 {
     for w in x / WORDS..(end + WORDS - 1) / WORDS {
         if planes[w].live() & within(w, x, end) != 0 {
@@ -322,8 +322,8 @@ pub(crate) fn all_defined(planes: &[Bits], x: usize, end: usize) -> bool
     requires order { x ≤ end }
     requires room { end ≤ 64 * length planes.now }
     requires few { length planes.now < 2 ^ 32 }
-    ensures yes { result ≡ true → (values : List ℕ) (i : ℕ) → x ≤ i → i < end → is_defined (cell_in values planes.now i) ≡ true }
-    ensures no { result ≡ false → (values : List ℕ) → (i : ℕ) × (x ≤ i) × (i < end) × (is_defined (cell_in values planes.now i) ≡ false) }
+    ensures yes { result ≡ true → EachIs is_defined planes.now x end }
+    ensures no { result ≡ false → OneIsNot is_defined planes.now x end }
 {
     for w in x / WORDS..(end + WORDS - 1) / WORDS {
         if planes[w].undefined() & within(w, x, end) != 0 {
@@ -353,7 +353,7 @@ pub(crate) fn join_planes(
     requires whole { IsWhole values.now planes.old }
     ensures joined { ChangesPlanes values.now planes.old planes.new (λ i c. join_cells c (cell_in other_values.now others.now i)) 0 (64 * length planes.old) }
     ensures stays { result ≡ false → planes.new ≡ planes.old }
-    ensures moves { result ≡ true → (i : ℕ) × (i < 64 * length planes.old) × ¬ (cell_in values.now planes.new i ≡ cell_in values.now planes.old i) }
+    ensures moves { result ≡ true → OneChanges values.now planes.old planes.new }
 {
     let mut moved = 0;
     for w in 0..planes.len() {
@@ -369,7 +369,7 @@ pub(crate) fn join_agreeing_planes(planes: &mut [Bits], others: &[Bits]) -> bool
     requires { length others.now ≡ length planes.old }
     ensures joined { (values other_values : List ℕ) → Agree values other_values planes.old others.now → ChangesPlanes values planes.old planes.new (λ i c. join_cells c (cell_in other_values others.now i)) 0 (64 * length planes.old) }
     ensures stays { result ≡ false → planes.new ≡ planes.old }
-    ensures moves { result ≡ true → (values other_values : List ℕ) → Agree values other_values planes.old others.now → (i : ℕ) × (i < 64 * length planes.old) × ¬ (cell_in values planes.new i ≡ cell_in values planes.old i) }
+    ensures moves { result ≡ true → (values other_values : List ℕ) → Agree values other_values planes.old others.now → OneChanges values planes.old planes.new }
 {
     let mut moved = 0;
     for w in 0..planes.len() {

@@ -2,7 +2,7 @@
 
 ghost use Rattle.std.specs.Prelude.{◌≡◌, ℕ, ◌+◌, ◌*◌, ◌<◌, ◌≤◌, ◌==◌, true, false, not, length, slice_index_or};
 ghost use Rattle.std.specs.Bool.{Decides};
-ghost use Rattle.tp_state.specs.Planes.{is_set};
+ghost use Rattle.tp_state.specs.Planes.{is_set, differ_at};
 
 use crate::planes::{WORDS, one};
 use std::simd::prelude::*;
@@ -36,7 +36,7 @@ fn word_differs(values: &[u32], others: &[u32]) -> bool
 pub(crate) fn differing(values: &[u32], others: &[u32], w: usize, closed: u64) -> u64
     requires same { length others.now ≡ length values.now }
     requires some { 64 * w < length values.now }
-    ensures { (j : ℕ) → j < 64 → 64 * w + j < length values.now → is_set closed j ≡ false → is_set result j ≡ not (slice_index_or values.now (64 * w + j) 0 == slice_index_or others.now (64 * w + j) 0) }
+    ensures { (j : ℕ) → j < 64 → 64 * w + j < length values.now → is_set closed j ≡ false → is_set result j ≡ differ_at values.now others.now (64 * w + j) }
 {
     if closed == u64::MAX {
         return 0;
@@ -54,7 +54,7 @@ pub(crate) fn differing(values: &[u32], others: &[u32], w: usize, closed: u64) -
 fn differing_word(values: &[u32], others: &[u32]) -> u64
     requires values { 64 ≤ length values.now }
     requires others { 64 ≤ length others.now }
-    ensures { (j : ℕ) → j < 64 → is_set result j ≡ not (slice_index_or values.now j 0 == slice_index_or others.now j 0) }
+    ensures { (j : ℕ) → j < 64 → is_set result j ≡ differ_at values.now others.now j }
 {
     u32x64::from_slice(values)
         .simd_ne(u32x64::from_slice(others))
@@ -66,7 +66,7 @@ fn differing_word(values: &[u32], others: &[u32]) -> u64
 fn differing_few(values: &[u32], others: &[u32]) -> u64
     requires same { length others.now ≡ length values.now }
     requires few { length values.now < 64 }
-    ensures { (j : ℕ) → j < length values.now → is_set result j ≡ not (slice_index_or values.now j 0 == slice_index_or others.now j 0) }
+    ensures { (j : ℕ) → j < length values.now → is_set result j ≡ differ_at values.now others.now j }
 {
     let mut bits = 0;
     for j in 0..values.len() {

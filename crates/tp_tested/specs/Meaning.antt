@@ -26,6 +26,10 @@ pub record Messages : Type 0 where
   pub sent : List ℕ
   pub traced : List ℕ
 
+-- what a machine knows of its bytes
+abbrev pub memory_in : Machine → Memory
+memory_in m = memory_of m.defined m.bytes
+
 abbrev pub state_of : Machine → Messages → State
 state_of m p = record {
   iptr = m.iptr;
@@ -34,7 +38,7 @@ state_of m p = record {
   areg = m.areg;
   breg = m.breg;
   creg = m.creg;
-  memory = memory_of m.defined m.bytes;
+  memory = memory_in m;
   error = m.error;
   phase = phase_number p.phase;
   stopped = is_stopped p.phase;

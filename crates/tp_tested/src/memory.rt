@@ -1,7 +1,7 @@
 //! The workspace. Where an image has fewer words than a machine keeps, those behind them are undefined at its start.
 
-ghost use Rattle.std.specs.Prelude.{◌≡◌, ℕ, ◌+◌, ◌-◌, ◌≤◌, ◌<◌, length, MatchOption, Some, None, IsTrue};
-ghost use Rattle.tp_step.specs.Memory.{word_at, with_bytes, undefined, bytes_at};
+ghost use Rattle.std.specs.Prelude.{◌≡◌, ◌+◌, ◌-◌, ◌≤◌, ◌<◌, length, MatchOption, Some, None, IsTrue};
+ghost use Rattle.tp_step.specs.Memory.{word_at, with_bytes, undefined};
 ghost use Rattle.tp_step.specs.State.{mem_start, in_workspace, load, store, descheduled};
 
 use crate::machine::Machine;
@@ -10,14 +10,14 @@ use tp_image::Image;
 use tp_machine::MEM_START;
 
 impl Machine {
-    ghost use Rattle.tp_tested.specs.Meaning.{memory_of, state_of, Messages, Made};
+    ghost use Rattle.tp_tested.specs.Meaning.{memory_of, state_of, Messages, Made, memory_in};
 
     /// The byte at an address of the workspace, if it is defined.
     #[tactic(auto, unfolding(crate::specs::Meaning::memory_of))]
     pub fn cell(&self, a: u32) -> Option<u8>
         requires low { mem_start ≤ a }
         requires high { a < mem_start + 2048 }
-        ensures { result ≡ memory_of self.now.defined self.now.bytes a }
+        ensures { result ≡ memory_in self.now a }
     {
         let i = (a - MEM_START) as usize;
         if self.defined[i] {
@@ -32,7 +32,7 @@ impl Machine {
     pub(crate) fn word(&self, a: u32) -> Option<u32>
         requires low { mem_start ≤ a }
         requires high { a + 4 ≤ mem_start + 2048 }
-        ensures { result ≡ word_at (memory_of self.now.defined self.now.bytes) a }
+        ensures { result ≡ word_at (memory_in self.now) a }
     {
         let b0 = self.cell(a)?;
         let b1 = self.cell(a + 1)?;
@@ -60,7 +60,7 @@ impl Machine {
         requires low { mem_start ≤ a }
         requires high { a + length bytes.now ≤ mem_start + 2048 }
         ensures rest { self.new ≡ record self.old { bytes = self.new.bytes; defined = self.new.defined } }
-        ensures memory { memory_of self.new.defined self.new.bytes ≡ with_bytes (memory_of self.old.defined self.old.bytes) a bytes.now }
+        ensures memory { memory_in self.new ≡ with_bytes (memory_in self.old) a bytes.now }
     {
         let i = (a - MEM_START) as usize;
         self.bytes[i..i + bytes.len()].copy_from_slice(bytes);
@@ -86,7 +86,7 @@ impl Machine {
         requires low { mem_start ≤ a }
         requires high { a + n ≤ mem_start + 2048 }
         ensures rest { self.new ≡ record self.old { defined = self.new.defined } }
-        ensures memory { memory_of self.new.defined self.new.bytes ≡ undefined (memory_of self.old.defined self.old.bytes) a n }
+        ensures memory { memory_in self.new ≡ undefined (memory_in self.old) a n }
     {
         let i = (a - MEM_START) as usize;
         self.defined[i..i + n].fill(false);
@@ -106,7 +106,7 @@ impl Machine {
         requires low { mem_start + 20 ≤ self.old.wptr }
         requires high { self.old.wptr ≤ mem_start + 2048 }
         ensures rest { self.new ≡ record self.old { areg = None; breg = None; creg = None; defined = self.new.defined } }
-        ensures memory { memory_of self.new.defined self.new.bytes ≡ undefined (memory_of self.old.defined self.old.bytes) (self.old.wptr - 20) 20 }
+        ensures memory { memory_in self.new ≡ undefined (memory_in self.old) (self.old.wptr - 20) 20 }
     {
         self.undefine(self.wptr - 20, 20);
         self.lose_registers();

@@ -2,11 +2,11 @@
 #![tactic(auto, using(crate::proofs::Casts::casts), unfolding(tp_step::specs::Effects::effect))]
 
 ghost use Rattle.std.specs.Prelude.{◌≡◌, ◌+◌, ◌-◌, ◌*◌, ◌==◌, ◌≤◌, ◌<◌, ◌&&◌, true, if◌then◌else◌, Some, None, Ok, take, drop, MatchResult};
-ghost use Rattle.tp_decode.specs.declared.instr.Instr.TheVariants.{Input, Output, Stopp, MoveBytes};
+ghost use Rattle.tp_decode.specs.declared.instr.Instr.TheVariants.{Input, Output, MoveBytes};
 ghost use Rattle.tp_link.specs.Device.{after_receive, MayAnswerReceive};
 ghost use Rattle.tp_step.specs.Memory.{bytes_at, with_bytes};
 ghost use Rattle.tp_step.specs.State.{mem_start};
-ghost use Rattle.tp_step.specs.Effects.{effect, is_trace, link0_output, link1_output, link0_input, may_move, has_move};
+ghost use Rattle.tp_step.specs.Effects.{effect, is_trace, link0_output, link0_input, may_move, has_move};
 ghost use Rattle.tp_machine.specs.Devices.{devices_of};
 ghost use Rattle.tp_tested.specs.Phases.{phase_number};
 
@@ -83,13 +83,13 @@ fn refused(link: Link, code: DeviceFault) -> Turn
 }
 
 impl Machine {
-    ghost use Rattle.tp_tested.specs.Meaning.{memory_of, state_of, Made, Turned};
+    ghost use Rattle.tp_tested.specs.Meaning.{state_of, Made, Turned, memory_in};
 
     /// Whether the n bytes from an address of the workspace on are all defined.
     pub(crate) fn is_defined(&self, a: u32, n: u32) -> bool
         requires low { mem_start ≤ a }
         requires high { a + n ≤ mem_start + 2048 }
-        ensures { bytes_at (memory_of self.now.defined self.now.bytes) a n ≡ (if result then Some (take n (drop (a - mem_start) self.now.bytes)) else None) }
+        ensures { bytes_at (memory_in self.now) a n ≡ (if result then Some (take n (drop (a - mem_start) self.now.bytes)) else None) }
     {
         let i = (a - MEM_START) as usize;
         let tags = &self.defined[i..i + n as usize];
@@ -114,8 +114,8 @@ impl Machine {
         ensures device { D.state device.new ≡ after_receive (D.state device.old) n result }
         ensures answer { MayAnswerReceive (D.state device.old) n result }
         ensures memory { MatchResult result
-            (λ _. memory_of self.new.defined self.new.bytes ≡ with_bytes (memory_of self.old.defined self.old.bytes) a (take n (D.state device.old).held))
-            (λ _. memory_of self.new.defined self.new.bytes ≡ memory_of self.old.defined self.old.bytes) }
+            (λ _. memory_in self.new ≡ with_bytes (memory_in self.old) a (take n (D.state device.old).held))
+            (λ _. memory_in self.new ≡ memory_in self.old) }
     {
         let i = (a - MEM_START) as usize;
         let end = i + n as usize;
@@ -146,7 +146,7 @@ impl Machine {
         requires source_low { mem_start ≤ source }
         requires source_high { source + n ≤ mem_start + 2048 }
         ensures rest { self.new ≡ record self.old { bytes = self.new.bytes; defined = self.new.defined } }
-        ensures memory { memory_of self.new.defined self.new.bytes ≡ with_bytes (memory_of self.old.defined self.old.bytes) target (take n (drop (source - mem_start) self.old.bytes)) }
+        ensures memory { memory_in self.new ≡ with_bytes (memory_in self.old) target (take n (drop (source - mem_start) self.old.bytes)) }
     {
         let from = (source - MEM_START) as usize;
         let to = (target - MEM_START) as usize;

@@ -23,7 +23,7 @@ fn first_word(image: &Image, i: u32) -> u32
 
 impl Machine {
     ghost use Rattle.std.specs.Prelude.{None, pos, false, replicate};
-    ghost use Rattle.tp_tested.specs.Meaning.{memory_of, state_of};
+    ghost use Rattle.tp_tested.specs.Meaning.{state_of, memory_in};
 
     /// A machine in which nothing is defined.
     pub fn new() -> Machine
@@ -48,7 +48,7 @@ impl Machine {
     /// Nothing of the workspace is defined any more.
     fn clear(&mut self)
         ensures rest { self.new ≡ record self.old { defined = self.new.defined } }
-        ensures memory { memory_of self.new.defined self.new.bytes ≡ nothing_defined }
+        ensures memory { memory_in self.new ≡ nothing_defined }
     {
         self.defined.fill(false);
     }
@@ -56,7 +56,7 @@ impl Machine {
     /// The workspace begins with the image's initial words, and then zeros. Whatever it held is gone.
     fn fill_workspace(&mut self, image: &Image)
         ensures rest { self.new ≡ record self.old { bytes = self.new.bytes; defined = self.new.defined } }
-        ensures memory { memory_of self.new.defined self.new.bytes ≡ with_bytes nothing_defined mem_start (flat_map (to_le_bytes w32) (first_words image.now)) }
+        ensures memory { memory_in self.new ≡ with_bytes nothing_defined mem_start (flat_map (to_le_bytes w32) (first_words image.now)) }
     {
         self.clear();
         for i in 0..image.workspace {

@@ -1,6 +1,6 @@
 //! Places to deschedule, and loops.
 
-ghost use Rattle.std.specs.Prelude.{◌≡◌, ℕ, ◌+◌, ◌<◌, pos, ◌-ℤ◌, ◌≤◌, length, slice_get, IfSome, IsSome};
+ghost use Rattle.std.specs.Prelude.{◌≡◌, ◌+◌, ◌<◌, pos, ◌-ℤ◌, ◌≤◌, length, slice_get, IfSome, IsSome};
 ghost use Rattle.std.specs.Ordering.{int_eq};
 ghost use Rattle.tp_decode.specs.declared.instr.Instr.TheVariants.{Jump, Lend};
 ghost use Rattle.tp_image.specs.Image.{ImageValue};
@@ -9,7 +9,7 @@ ghost use Rattle.tp_flow.specs.NestRanges.{ranges};
 ghost use Rattle.tp_state.specs.Answer.{answered};
 ghost use Rattle.tp_state.specs.Kinds.{is_exactly};
 ghost use Rattle.tp_state.specs.Conditions.{KeepsPlace, IsPlaced, HasGoodLoops};
-ghost use Rattle.tp_state.specs.Rules.{rule, row_ended_at, with_block};
+ghost use Rattle.tp_state.specs.Rules.{rule, row_ended_at, with_block, FollowsEachRule};
 ghost use Rattle.tp_state.specs.After.{is_known, entering, entered_at};
 
 use crate::cell::Cell;
@@ -92,7 +92,7 @@ impl State {
     pub(super) fn jump(&mut self, n: i32) -> Result<(), StateCode>
         requires roomy { 5 ≤ self.old.wptr }
         requires inside { self.old.wptr ≤ length self.old.cells }
-        ensures value { (image : ImageValue) (at next : ℕ) (edge : Edge) → answered result self.new ≡ rule image at next (Jump n) edge self.old }
+        ensures value { FollowsEachRule (Jump n) result self.old self.new }
         ensures kept { KeepsPlace self.old self.new }
     {
         self.deschedule()

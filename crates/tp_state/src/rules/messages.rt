@@ -1,13 +1,11 @@
 //! Messages, and words that are copied.
 
-ghost use Rattle.std.specs.Prelude.{◌≡◌, ℕ, ◌+◌, ◌<◌, ◌≤◌, ◌^◌, length};
+ghost use Rattle.std.specs.Prelude.{◌≡◌, ◌+◌, ◌<◌, ◌≤◌, ◌^◌, length};
 ghost use Rattle.tp_decode.specs.declared.instr.Instr.TheVariants.{Input, Output, MoveBytes};
-ghost use Rattle.tp_flow.specs.declared.edge.Edge.{Edge};
 ghost use Rattle.tp_step.specs.Effects.{has_move};
-ghost use Rattle.tp_image.specs.Image.{number_of};
 ghost use Rattle.tp_state.specs.Answer.{answered};
 ghost use Rattle.tp_state.specs.Conditions.{KeepsPlace, IsPlaced};
-ghost use Rattle.tp_state.specs.Rules.{rule, count_of, is_one_length, is_trace_length, words_to_send, phase_after, is_move_length, are_apart, moved};
+ghost use Rattle.tp_state.specs.Rules.{rule, count_of, is_one_length, is_trace_length, words_to_send, phase_after, is_move_length, are_apart, moved, FollowsRule};
 
 use crate::cell::Cell;
 use crate::fault::StateCode;
@@ -104,7 +102,7 @@ impl State {
     #[tactic(auto, unfolding(crate::specs::Rules::rule))]
     pub(super) fn input(&mut self, image: &Image) -> Result<(), StateCode>
         requires { IsPlaced image.now self.old }
-        ensures value { (at next : ℕ) (edge : Edge) → answered result self.new ≡ rule image.now at next Input edge self.old }
+        ensures value { FollowsRule image.now Input result self.old self.new }
         ensures kept { KeepsPlace self.old self.new }
     {
         self.a.known()?;
@@ -135,7 +133,7 @@ impl State {
     #[tactic(auto, unfolding(crate::specs::Rules::rule, crate::specs::Rules::descheduled))]
     pub(super) fn output(&mut self, image: &Image) -> Result<(), StateCode>
         requires { IsPlaced image.now self.old }
-        ensures value { (at next : ℕ) (edge : Edge) → answered result self.new ≡ rule image.now at next Output edge self.old }
+        ensures value { FollowsRule image.now Output result self.old self.new }
         ensures kept { KeepsPlace self.old self.new }
     {
         self.a.known()?;
@@ -162,7 +160,7 @@ impl State {
     #[tactic(auto, unfolding(crate::specs::Rules::rule))]
     pub(super) fn move_bytes(&mut self, image: &Image) -> Result<(), StateCode>
         requires { IsPlaced image.now self.old }
-        ensures value { (at next : ℕ) (edge : Edge) → answered result self.new ≡ rule image.now at next MoveBytes edge self.old }
+        ensures value { FollowsRule image.now MoveBytes result self.old self.new }
         ensures kept { KeepsPlace self.old self.new }
     {
         if !has_move(image) {

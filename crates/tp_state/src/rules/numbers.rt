@@ -1,12 +1,8 @@
 //! Numbers.
 
-ghost use Rattle.std.specs.Prelude.{◌≡◌, ℕ};
 ghost use Rattle.tp_decode.specs.declared.instr.Instr.TheVariants.{Adc, Eqc, Diff, Add, Prod, Gt, Sub, Csub0, Rem, Div, BitNot, BitXor, Shr, Shl, BitAnd, BitOr, Sum, Mul};
-ghost use Rattle.tp_image.specs.Image.{ImageValue};
-ghost use Rattle.tp_flow.specs.declared.edge.Edge.{Edge};
-ghost use Rattle.tp_state.specs.Answer.{answered};
 ghost use Rattle.tp_state.specs.Conditions.{KeepsPlace};
-ghost use Rattle.tp_state.specs.Rules.{rule};
+ghost use Rattle.tp_state.specs.Rules.{rule, FollowsEachRule};
 
 use crate::fault::StateCode;
 use crate::kind::Kind;
@@ -23,7 +19,7 @@ impl State {
     /// adc.
     #[tactic(auto, unfolding(crate::specs::Rules::rule))]
     pub(super) fn adc(&mut self, n: i32) -> Result<(), StateCode>
-        ensures value { (image : ImageValue) (at next : ℕ) (edge : Edge) → answered result self.new ≡ rule image at next (Adc n) edge self.old }
+        ensures value { FollowsEachRule (Adc n) result self.old self.new }
         ensures kept { KeepsPlace self.old self.new }
     {
         let a = self.one_number()?;
@@ -34,7 +30,7 @@ impl State {
     /// eqc.
     #[tactic(auto, unfolding(crate::specs::Rules::rule))]
     pub(super) fn eqc(&mut self, n: i32) -> Result<(), StateCode>
-        ensures value { (image : ImageValue) (at next : ℕ) (edge : Edge) → answered result self.new ≡ rule image at next (Eqc n) edge self.old }
+        ensures value { FollowsEachRule (Eqc n) result self.old self.new }
         ensures kept { KeepsPlace self.old self.new }
     {
         self.one_number()?;
@@ -45,7 +41,7 @@ impl State {
     /// not.
     #[tactic(auto, unfolding(crate::specs::Rules::rule))]
     pub(super) fn bit_not(&mut self) -> Result<(), StateCode>
-        ensures value { (image : ImageValue) (at next : ℕ) (edge : Edge) → answered result self.new ≡ rule image at next BitNot edge self.old }
+        ensures value { FollowsEachRule BitNot result self.old self.new }
         ensures kept { KeepsPlace self.old self.new }
     {
         let a = self.one_number()?;
@@ -56,8 +52,8 @@ impl State {
     /// add and sum.
     #[tactic(auto, unfolding(crate::specs::Rules::rule))]
     pub(super) fn add(&mut self) -> Result<(), StateCode>
-        ensures add { (image : ImageValue) (at next : ℕ) (edge : Edge) → answered result self.new ≡ rule image at next Add edge self.old }
-        ensures sum { (image : ImageValue) (at next : ℕ) (edge : Edge) → answered result self.new ≡ rule image at next Sum edge self.old }
+        ensures add { FollowsEachRule Add result self.old self.new }
+        ensures sum { FollowsEachRule Sum result self.old self.new }
         ensures kept { KeepsPlace self.old self.new }
     {
         let (a, b) = self.two_numbers()?;
@@ -68,8 +64,8 @@ impl State {
     /// sub and diff.
     #[tactic(auto, unfolding(crate::specs::Rules::rule))]
     pub(super) fn sub(&mut self) -> Result<(), StateCode>
-        ensures sub { (image : ImageValue) (at next : ℕ) (edge : Edge) → answered result self.new ≡ rule image at next Sub edge self.old }
-        ensures diff { (image : ImageValue) (at next : ℕ) (edge : Edge) → answered result self.new ≡ rule image at next Diff edge self.old }
+        ensures sub { FollowsEachRule Sub result self.old self.new }
+        ensures diff { FollowsEachRule Diff result self.old self.new }
         ensures kept { KeepsPlace self.old self.new }
     {
         let (a, b) = self.two_numbers()?;
@@ -80,8 +76,8 @@ impl State {
     /// mul and prod.
     #[tactic(auto, unfolding(crate::specs::Rules::rule))]
     pub(super) fn mul(&mut self) -> Result<(), StateCode>
-        ensures mul { (image : ImageValue) (at next : ℕ) (edge : Edge) → answered result self.new ≡ rule image at next Mul edge self.old }
-        ensures prod { (image : ImageValue) (at next : ℕ) (edge : Edge) → answered result self.new ≡ rule image at next Prod edge self.old }
+        ensures mul { FollowsEachRule Mul result self.old self.new }
+        ensures prod { FollowsEachRule Prod result self.old self.new }
         ensures kept { KeepsPlace self.old self.new }
     {
         let (a, b) = self.two_numbers()?;
@@ -92,7 +88,7 @@ impl State {
     /// div.
     #[tactic(auto, unfolding(crate::specs::Rules::rule))]
     pub(super) fn div(&mut self) -> Result<(), StateCode>
-        ensures value { (image : ImageValue) (at next : ℕ) (edge : Edge) → answered result self.new ≡ rule image at next Div edge self.old }
+        ensures value { FollowsEachRule Div result self.old self.new }
         ensures kept { KeepsPlace self.old self.new }
     {
         let (a, b) = self.two_numbers()?;
@@ -103,7 +99,7 @@ impl State {
     /// rem.
     #[tactic(auto, unfolding(crate::specs::Rules::rule))]
     pub(super) fn rem(&mut self) -> Result<(), StateCode>
-        ensures value { (image : ImageValue) (at next : ℕ) (edge : Edge) → answered result self.new ≡ rule image at next Rem edge self.old }
+        ensures value { FollowsEachRule Rem result self.old self.new }
         ensures kept { KeepsPlace self.old self.new }
     {
         let (a, b) = self.two_numbers()?;
@@ -114,7 +110,7 @@ impl State {
     /// and.
     #[tactic(auto, unfolding(crate::specs::Rules::rule))]
     pub(super) fn bit_and(&mut self) -> Result<(), StateCode>
-        ensures value { (image : ImageValue) (at next : ℕ) (edge : Edge) → answered result self.new ≡ rule image at next BitAnd edge self.old }
+        ensures value { FollowsEachRule BitAnd result self.old self.new }
         ensures kept { KeepsPlace self.old self.new }
     {
         let (a, b) = self.two_numbers()?;
@@ -125,8 +121,8 @@ impl State {
     /// or and xor.
     #[tactic(auto, unfolding(crate::specs::Rules::rule))]
     pub(super) fn bit_or(&mut self) -> Result<(), StateCode>
-        ensures or { (image : ImageValue) (at next : ℕ) (edge : Edge) → answered result self.new ≡ rule image at next BitOr edge self.old }
-        ensures xor { (image : ImageValue) (at next : ℕ) (edge : Edge) → answered result self.new ≡ rule image at next BitXor edge self.old }
+        ensures or { FollowsEachRule BitOr result self.old self.new }
+        ensures xor { FollowsEachRule BitXor result self.old self.new }
         ensures kept { KeepsPlace self.old self.new }
     {
         self.two_numbers()?;
@@ -137,7 +133,7 @@ impl State {
     /// gt.
     #[tactic(auto, unfolding(crate::specs::Rules::rule))]
     pub(super) fn gt(&mut self) -> Result<(), StateCode>
-        ensures value { (image : ImageValue) (at next : ℕ) (edge : Edge) → answered result self.new ≡ rule image at next Gt edge self.old }
+        ensures value { FollowsEachRule Gt result self.old self.new }
         ensures kept { KeepsPlace self.old self.new }
     {
         self.two_numbers()?;
@@ -148,7 +144,7 @@ impl State {
     /// csub0.
     #[tactic(auto, unfolding(crate::specs::Rules::rule))]
     pub(super) fn csub0(&mut self) -> Result<(), StateCode>
-        ensures value { (image : ImageValue) (at next : ℕ) (edge : Edge) → answered result self.new ≡ rule image at next Csub0 edge self.old }
+        ensures value { FollowsEachRule Csub0 result self.old self.new }
         ensures kept { KeepsPlace self.old self.new }
     {
         self.two_numbers()?;
@@ -159,7 +155,7 @@ impl State {
     /// shr.
     #[tactic(auto, unfolding(crate::specs::Rules::rule))]
     pub(super) fn shr(&mut self) -> Result<(), StateCode>
-        ensures value { (image : ImageValue) (at next : ℕ) (edge : Edge) → answered result self.new ≡ rule image at next Shr edge self.old }
+        ensures value { FollowsEachRule Shr result self.old self.new }
         ensures kept { KeepsPlace self.old self.new }
     {
         let (a, b) = self.two_numbers()?;
@@ -173,7 +169,7 @@ impl State {
     /// shl.
     #[tactic(auto, unfolding(crate::specs::Rules::rule))]
     pub(super) fn shl(&mut self) -> Result<(), StateCode>
-        ensures value { (image : ImageValue) (at next : ℕ) (edge : Edge) → answered result self.new ≡ rule image at next Shl edge self.old }
+        ensures value { FollowsEachRule Shl result self.old self.new }
         ensures kept { KeepsPlace self.old self.new }
     {
         let (a, b) = self.two_numbers()?;

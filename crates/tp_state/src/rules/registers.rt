@@ -1,12 +1,12 @@
 //! Registers and places: what reads no word.
 
-ghost use Rattle.std.specs.Prelude.{◌≡◌, ℕ, ◌≤◌, ◌<◌, length};
-ghost use Rattle.tp_decode.specs.declared.instr.Instr.TheVariants.{Ldlp, Ldc, Ldnlp, Cj, Ajw, Rev, Wsub, Bsub, Seterr, Stopp, Mint};
+ghost use Rattle.std.specs.Prelude.{◌≡◌, ℕ, ◌<◌};
+ghost use Rattle.tp_decode.specs.declared.instr.Instr.TheVariants.{Ldlp, Ldc, Ldnlp, Cj, Ajw, Rev, Wsub, Bsub, Stopp, Mint};
 ghost use Rattle.tp_image.specs.Image.{ImageValue};
 ghost use Rattle.tp_flow.specs.declared.edge.Edge.{Edge};
 ghost use Rattle.tp_state.specs.Answer.{answered};
 ghost use Rattle.tp_state.specs.Conditions.{KeepsPlace, IsPlaced};
-ghost use Rattle.tp_state.specs.Rules.{rule};
+ghost use Rattle.tp_state.specs.Rules.{rule, FollowsRule, FollowsEachRule};
 
 use crate::fault::StateCode;
 use crate::kind::Kind;
@@ -18,7 +18,7 @@ use tp_image::Image;
 impl State {
     #[tactic(auto, unfolding(crate::specs::Rules::rule))]
     pub(super) fn ldlp(&mut self, image: &Image, n: i32) -> Result<(), StateCode>
-        ensures value { (at next : ℕ) (edge : Edge) → answered result self.new ≡ rule image.now at next (Ldlp n) edge self.old }
+        ensures value { FollowsRule image.now (Ldlp n) result self.old self.new }
         ensures kept { KeepsPlace self.old self.new }
     {
         let x = self.local(image, n)?;
@@ -28,7 +28,7 @@ impl State {
 
     #[tactic(auto, unfolding(crate::specs::Rules::rule))]
     pub(super) fn ldc(&mut self, n: i32) -> Result<(), StateCode>
-        ensures value { (image : ImageValue) (at next : ℕ) (edge : Edge) → answered result self.new ≡ rule image at next (Ldc n) edge self.old }
+        ensures value { FollowsEachRule (Ldc n) result self.old self.new }
         ensures kept { KeepsPlace self.old self.new }
     {
         self.push(Kind::Int(n, n));
@@ -37,7 +37,7 @@ impl State {
 
     #[tactic(auto, unfolding(crate::specs::Rules::rule))]
     pub(super) fn mint(&mut self) -> Result<(), StateCode>
-        ensures value { (image : ImageValue) (at next : ℕ) (edge : Edge) → answered result self.new ≡ rule image at next Mint edge self.old }
+        ensures value { FollowsEachRule Mint result self.old self.new }
         ensures kept { KeepsPlace self.old self.new }
     {
         self.push(Kind::Int(i32::MIN, i32::MIN));
@@ -46,7 +46,7 @@ impl State {
 
     #[tactic(auto, unfolding(crate::specs::Rules::rule))]
     pub(super) fn ldnlp(&mut self, image: &Image, n: i32) -> Result<(), StateCode>
-        ensures value { (at next : ℕ) (edge : Edge) → answered result self.new ≡ rule image.now at next (Ldnlp n) edge self.old }
+        ensures value { FollowsRule image.now (Ldnlp n) result self.old self.new }
         ensures kept { KeepsPlace self.old self.new }
     {
         let kind = words_further(image, n, self.a)?;
@@ -70,7 +70,7 @@ impl State {
     #[tactic(auto, unfolding(crate::specs::Rules::rule))]
     pub(super) fn ajw(&mut self, image: &Image, n: i32) -> Result<(), StateCode>
         requires { IsPlaced image.now self.old }
-        ensures value { (at next : ℕ) (edge : Edge) → answered result self.new ≡ rule image.now at next (Ajw n) edge self.old }
+        ensures value { FollowsRule image.now (Ajw n) result self.old self.new }
         ensures placed { IsPlaced image.now self.new }
     {
         self.wptr = frame_on(image, self.wptr, n)?;
@@ -79,7 +79,7 @@ impl State {
 
     #[tactic(auto, unfolding(crate::specs::Rules::rule))]
     pub(super) fn rev(&mut self) -> Result<(), StateCode>
-        ensures value { (image : ImageValue) (at next : ℕ) (edge : Edge) → answered result self.new ≡ rule image at next Rev edge self.old }
+        ensures value { FollowsEachRule Rev result self.old self.new }
         ensures kept { KeepsPlace self.old self.new }
     {
         let a = self.a.known()?;
@@ -91,7 +91,7 @@ impl State {
 
     #[tactic(auto, unfolding(crate::specs::Rules::rule))]
     pub(super) fn wsub(&mut self, image: &Image) -> Result<(), StateCode>
-        ensures value { (at next : ℕ) (edge : Edge) → answered result self.new ≡ rule image.now at next Wsub edge self.old }
+        ensures value { FollowsRule image.now Wsub result self.old self.new }
         ensures kept { KeepsPlace self.old self.new }
     {
         self.a.known()?;
@@ -105,7 +105,7 @@ impl State {
 
     #[tactic(auto, unfolding(crate::specs::Rules::rule))]
     pub(super) fn bsub(&mut self, image: &Image) -> Result<(), StateCode>
-        ensures value { (at next : ℕ) (edge : Edge) → answered result self.new ≡ rule image.now at next Bsub edge self.old }
+        ensures value { FollowsRule image.now Bsub result self.old self.new }
         ensures kept { KeepsPlace self.old self.new }
     {
         self.a.known()?;
@@ -119,7 +119,7 @@ impl State {
 
     #[tactic(auto, unfolding(crate::specs::Rules::rule))]
     pub(super) fn stopp(&mut self) -> Result<(), StateCode>
-        ensures value { (image : ImageValue) (at next : ℕ) (edge : Edge) → answered result self.new ≡ rule image at next Stopp edge self.old }
+        ensures value { FollowsEachRule Stopp result self.old self.new }
         ensures kept { KeepsPlace self.old self.new }
     {
         if self.phase == 2 {

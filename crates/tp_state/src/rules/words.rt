@@ -1,13 +1,10 @@
 //! Words and bytes of the workspace.
 
-ghost use Rattle.std.specs.Prelude.{◌≡◌, ℕ, ◌+◌, ◌-◌, ◌<◌, ◌^◌};
+ghost use Rattle.std.specs.Prelude.{◌≡◌, ◌+◌, ◌-◌, ◌<◌, ◌^◌};
 ghost use Rattle.tp_decode.specs.declared.instr.Instr.TheVariants.{Ldnl, Ldl, Stl, Stnl, Lb, Sb};
-ghost use Rattle.tp_image.specs.Image.{ImageValue};
-ghost use Rattle.tp_flow.specs.declared.edge.Edge.{Edge};
-ghost use Rattle.tp_state.specs.Answer.{answered};
 ghost use Rattle.tp_state.specs.CellRules.{are_free, are_defined};
 ghost use Rattle.tp_state.specs.Conditions.{KeepsPlace, IsPlaced, HasGoodLoops};
-ghost use Rattle.tp_state.specs.Rules.{rule, between, words_of_bytes, with_blurred};
+ghost use Rattle.tp_state.specs.Rules.{rule, between, words_of_bytes, with_blurred, FollowsRule, FollowsEachRule};
 
 use crate::fault::StateCode;
 use crate::kind::Kind;
@@ -20,7 +17,7 @@ impl State {
     #[tactic(auto, unfolding(crate::specs::Rules::rule))]
     pub(super) fn ldl(&mut self, image: &Image, n: i32) -> Result<(), StateCode>
         requires { HasGoodLoops image.now }
-        ensures value { (at next : ℕ) (edge : Edge) → answered result self.new ≡ rule image.now at next (Ldl n) edge self.old }
+        ensures value { FollowsRule image.now (Ldl n) result self.old self.new }
         ensures kept { KeepsPlace self.old self.new }
     {
         let x = self.local(image, n)?;
@@ -32,7 +29,7 @@ impl State {
     #[tactic(auto, unfolding(crate::specs::Rules::rule))]
     pub(super) fn stl(&mut self, image: &Image, n: i32) -> Result<(), StateCode>
         requires { IsPlaced image.now self.old }
-        ensures value { (at next : ℕ) (edge : Edge) → answered result self.new ≡ rule image.now at next (Stl n) edge self.old }
+        ensures value { FollowsRule image.now (Stl n) result self.old self.new }
         ensures kept { KeepsPlace self.old self.new }
     {
         let kind = self.a.known()?;
@@ -73,7 +70,7 @@ impl State {
     #[tactic(auto, unfolding(crate::specs::Rules::rule))]
     pub(super) fn ldnl(&mut self, image: &Image, n: i32) -> Result<(), StateCode>
         requires { HasGoodLoops image.now }
-        ensures value { (at next : ℕ) (edge : Edge) → answered result self.new ≡ rule image.now at next (Ldnl n) edge self.old }
+        ensures value { FollowsRule image.now (Ldnl n) result self.old self.new }
         ensures kept { KeepsPlace self.old self.new }
     {
         self.a.known()?;
@@ -94,7 +91,7 @@ impl State {
     #[tactic(auto, unfolding(crate::specs::Rules::rule))]
     pub(super) fn stnl(&mut self, image: &Image, n: i32) -> Result<(), StateCode>
         requires { IsPlaced image.now self.old }
-        ensures value { (at next : ℕ) (edge : Edge) → answered result self.new ≡ rule image.now at next (Stnl n) edge self.old }
+        ensures value { FollowsRule image.now (Stnl n) result self.old self.new }
         ensures kept { KeepsPlace self.old self.new }
     {
         self.a.known()?;
@@ -115,7 +112,7 @@ impl State {
 
     #[tactic(auto, unfolding(crate::specs::Rules::rule))]
     pub(super) fn lb(&mut self) -> Result<(), StateCode>
-        ensures value { (image : ImageValue) (at next : ℕ) (edge : Edge) → answered result self.new ≡ rule image at next Lb edge self.old }
+        ensures value { FollowsEachRule Lb result self.old self.new }
         ensures kept { KeepsPlace self.old self.new }
     {
         self.a.known()?;
@@ -129,7 +126,7 @@ impl State {
 
     #[tactic(auto, unfolding(crate::specs::Rules::rule))]
     pub(super) fn sb(&mut self) -> Result<(), StateCode>
-        ensures value { (image : ImageValue) (at next : ℕ) (edge : Edge) → answered result self.new ≡ rule image at next Sb edge self.old }
+        ensures value { FollowsEachRule Sb result self.old self.new }
         ensures kept { KeepsPlace self.old self.new }
     {
         self.a.known()?;
