@@ -1,5 +1,5 @@
 -- States by address, where an address has the number of its state.
-use Rattle.std.proofs.Common.{◌≡◌, ◌⊎◌, inl, inr, ◌==◌, ℕ, zero, suc, ◌+◌, ◌<◌, List, [], ◌∷◌, ◌++◌, length, map, replicate, slice_get, slice_set, slice_index_or, Option, Some, None, Bool, Result, Ok, Err, refl, sym, ap, ◌∙◌, subst, arith, length-set, length-append, get_or-set_same, get_or-set_other}
+use Rattle.std.proofs.Common.{◌≡◌, ◌⊎◌, inl, inr, ◌==◌, ℕ, zero, suc, ◌+◌, ◌<◌, List, [], ◌∷◌, ◌++◌, length, replicate, slice_get, slice_set, slice_index_or, Option, Some, None, Bool, Result, Ok, Err, refl, sym, ap, ◌∙◌, subst, arith, length-set, length-append, get_or-set_same, get_or-set_other}
 use Rattle.std.specs.Prelude.{IfOk, OnErr, true}
 use Rattle.std.specs.Option.{option_and_then}
 use Rattle.std.proofs.lemmas.Bool.{cases_eq}
@@ -15,7 +15,7 @@ use Rattle.tp_state.specs.Entry.{entry}
 use Rattle.tp_check.specs.Tables.{Table, table_of, with_state, no_states}
 use Rattle.tp_state.specs.declared.fault.StateCode.{StateCode}
 use Rattle.tp_state.specs.Answer.{answered}
-use Rattle.tp_state.specs.Order.{IsBelow, join, meeting, TellsChange}
+use Rattle.tp_state.specs.Order.{IsBelow, join, TellsChange}
 use Rattle.tp_state.specs.Stored.{IsMetAt}
 use Rattle.tp_check.specs.Passes.{enter, first_table, met, placed}
 use Rattle.tp_check.specs.UnderWay.{Gives, Moves, MovesState}

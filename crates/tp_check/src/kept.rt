@@ -123,6 +123,15 @@ impl Kept {
         let state = self.states.copy_of(alloc, number)?;
         Ok(Some(state))
     }
+
+    /// A copy.
+    pub(crate) fn copy_of(&self, alloc: Global) -> Result<Kept, AllocError>
+        ensures { IfOk result (λ copy. copy ≡ self.now) }
+    {
+        let states = self.states.copy_of_all(alloc)?;
+        let numbers = Vec::from_slice(alloc, &self.numbers)?;
+        Ok(Kept { states, numbers })
+    }
 }
 
 /// The first address alone has a number.

@@ -8,6 +8,7 @@ mod aside;
 mod effort;
 mod kept;
 pub mod laws;
+mod milestones;
 mod near;
 mod passes;
 mod slot;

@@ -1,7 +1,6 @@
-use Rattle.std.proofs.Common.{◌≡◌, ◌+◌, ◌∷◌, [], length, ap, ◌∙◌, arith, length-append}
+use Rattle.std.proofs.Common.{◌+◌, ◌∷◌, [], length, ap, ◌∙◌, arith, length-append}
 use Rattle.tp_check.specs.Tables.{table_of}
 use Rattle.tp_check.specs.Joining.{joins_at}
-use Rattle.tp_check.specs.Carried.{only_joins}
 use Rattle.tp_check.proofs.Keeping.{all_joined}
 use Rattle.tp_check.proofs.NumberedLemmas.{joined_more}
 use Rattle.tp_check.proofs.slots.Slots.joined.Goals as goal
