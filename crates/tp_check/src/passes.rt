@@ -525,13 +525,12 @@ fn none_marked(alloc: Global, places: usize) -> Result<Vec<bool>, AllocError>
 fn is_any(flags: &[bool]) -> bool
     ensures { result ≡ false → (at : ℕ) → is_in flags.now at ≡ false }
 {
-    let mut found = false;
     for flag in flags {
         if *flag {
-            found = true;
+            return true;
         }
     }
-    found
+    false
 }
 
 /// How many addresses there are, up to that of the last instruction: at least one.

@@ -3,4 +3,4 @@ use Rattle.tp_check.specs.UnderWay.{is_in}
 use Rattle.tp_check.proofs.passes.is_any.Given as goal
 
 abbrev pub invariant-loop-flag : goal.invariant-loop-flag
-invariant-loop-flag l = l.found ≡ false → (at : ℕ) → at < l.flag-index → is_in l.flags at ≡ false
+invariant-loop-flag l = (at : ℕ) → at < l.flag-index → is_in l.flags at ≡ false
