@@ -22,8 +22,8 @@ fn near(rt: &(impl Abort + AllocGlobal), bytes: &[u8]) -> Option<NearRefusal> {
 fn stands_before_the_first_pass(rt: HostRuntime) {
     let near = near(&rt, READS_AFTER_JUMP).expect(&rt, "a refusal");
     assert_eq!(rt; near.passes, 0);
-    assert!(rt; near.states.at(0).is_some());
-    assert!(rt; near.states.at(8).is_none());
+    assert!(rt; near.states.has(0));
+    assert!(rt; !near.states.has(8));
 }
 
 #[test]
@@ -105,7 +105,7 @@ fn stands_before_each_of_many_passes(rt: HostRuntime) -> Result<(), Fail> {
         let near = near(&rt, &image).expect(&rt, "a refusal");
         let passes = words.saturating_sub(2);
         assert_eq!(rt; near.passes, u64::from(passes), "{words} words");
-        match near.states.at(usize::from(HEAD)) {
+        match near.states.state_at(rt.alloc(), usize::from(HEAD))? {
             None => assert_eq!(rt; passes, 0),
             Some(head) => {
                 let last = usize::from(passes) + 8;

@@ -342,10 +342,6 @@ module _ (image : ImageValue) (cuts : List Cut) (range : InRange image) (spelled
       let one = one_after old new on.number m on.after rests leaves gives in
       record { number = suc on.number; after = one.0; stays = one.1 }
 
-  pub fewer_left : (old new : Passes) (was m : Bool) → was ≡ true → Leaves image m old new → left_of image m new < left_of image was old
-  fewer_left old new was true is leaves = rw is (omega (arith, leaves.falls refl))
-  fewer_left old new was false is leaves = rw is (omega arith)
-
   -- the refusal of a pass is the verdict
   pub is_refusal : (old : Passes) (moved : Bool) (on : IsBetween image cuts joins old moved) (e : StateFault) (P : Table → Type 0) → Carries {X = Bool} (Err e) (over image joins (edges_in cuts) on.after.whole) P → IsRefusalOf image cuts e
   is_refusal old moved on (Refused code place) P gives = record { number = suc on.number; comes = one_as_defined on.number on.after.whole on.after.comes ∙ gives; stays = refl }

@@ -12,9 +12,9 @@ ghost use Rattle.tp_check.specs.Joining.{joins_at};
 ghost use Rattle.tp_check.specs.UnderWay.{AreJoins, HasPlaces};
 ghost use Rattle.tp_check.specs.NearRefusal.{IsNearRefusal, IsLastQuiet, IsJoined, IsMilestone, AreMilestones, RefusesNothing};
 
+use crate::kept::Kept;
 use crate::milestones::{Milestone, Milestones};
 use crate::passes::{Passes, places_of};
-use crate::slots::Slots;
 use crate::way::Ways;
 use std::alloc::{AllocError, Global};
 use tp_decode::Listing;
@@ -28,7 +28,7 @@ pub struct NearRefusal {
     /// How many passes were made. They refuse nothing, and of the next two one refuses.
     pub passes: u64,
     /// What is known then where edges join, from which the next pass comes to the same as from all that is known.
-    pub states: Slots,
+    pub states: Kept,
 }
 
 /// Where the passes over a code stand before the one that refuses, of an image whose flow has passed and of its code's listing;
@@ -107,7 +107,7 @@ fn joined_after(
     ways: &Ways,
     from: Milestone,
     number: u64,
-) -> Result<Slots, AllocError>
+) -> Result<Kept, AllocError>
     requires range { InRange image.now }
     requires kept { KeepsNest image.now.loops image.now.workspace listing.now }
     requires nest { nest.now ≡ ranges image.now.loops }
@@ -115,8 +115,8 @@ fn joined_after(
     requires stands { IsMilestone image.now listing.now (joins_at ways.now) from }
     requires early { from.number ≤ number }
     requires quiet { (table : WholeTable) × (passes image.now listing.now number ≡ Ok table) }
-    ensures joined { IfOk result (λ slots. IsJoined image.now listing.now (joins_at ways.now) number (table_of slots)) }
-    ensures places { IfOk result (λ slots. HasPlaces listing.now (length slots)) }
+    ensures joined { IfOk result (λ states. IsJoined image.now listing.now (joins_at ways.now) number (table_of states)) }
+    ensures places { IfOk result (λ states. HasPlaces listing.now (length states)) }
 {
     listing.is_spelled();
     let Milestone {
@@ -130,6 +130,7 @@ fn joined_after(
             Err(StateFault::Memory) => return Err(AllocError),
         }
     }
-    let states = Slots::joined(alloc, &passes.slots, ways)?;
+    let mut states = passes.slots;
+    states.keep_joined(ways);
     Ok(states)
 }

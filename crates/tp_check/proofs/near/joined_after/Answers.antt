@@ -28,10 +28,10 @@ loop-pass-preserved c =
 
 pub returns-clause-joined : goal.returns-clause-joined
 returns-clause-joined c =
-    is_joined c.args.image.now c.args.listing.now c.requires.range c.is_spelled.ensures c.requires.kept (joins_at c.args.ways.now) c.requires.join c.loop-pass.passes c.args.number _ (subst (IsAfter c.args.image.now c.args.listing.now (joins_at c.args.ways.now) c.loop-pass.passes) all c.loop-pass.invariant) c.in_ok-states.ensures.states
+    is_joined c.args.image.now c.args.listing.now c.requires.range c.is_spelled.ensures c.requires.kept (joins_at c.args.ways.now) c.requires.join c.loop-pass.passes c.args.number _ (subst (IsAfter c.args.image.now c.args.listing.now (joins_at c.args.ways.now) c.loop-pass.passes) all c.loop-pass.invariant) c.keep_joined.ensures.states
   where
     all : c.loop-pass._pass ≡ c.args.number
     all = let e = c.loop-pass.auto._pass-end in let f = c.loop-pass-test.false in let g = c.requires.early in omega (arith, e, f, g)
 
 pub returns-clause-places : goal.returns-clause-places
-returns-clause-places c at starts = rw c.in_ok-states.ensures.sized (c.loop-pass.invariant.places at starts)
+returns-clause-places c at starts = rw c.keep_joined.ensures.sized (c.loop-pass.invariant.places at starts)
