@@ -16,6 +16,8 @@ mod machine;
 #[cfg(test)]
 mod media;
 #[cfg(test)]
+mod near;
+#[cfg(test)]
 mod reading;
 #[cfg(test)]
 mod runs;

@@ -11,7 +11,7 @@ use crate::reading::read;
 use crate::states::refused;
 use std::alloc::{AllocError, Global};
 use std::process::Abort;
-use tp_check::{Effort, Table, check_states, check_states_counting, judge_states, near_refusal};
+use tp_check::{Effort, Table, check_states, check_states_counting, judge_states};
 use tp_decode::{Instr, Listing};
 use tp_flow::{Edge, Nest, check_flow};
 use tp_image::Image;
@@ -273,8 +273,8 @@ fn assert_counted(rt: &(impl Abort + AllocGlobal), bytes: &[u8], expected: Count
 fn counts_passes_and_outcomes(rt: HostRuntime) {
     // 13 instructions, one behind the other, stopp with them, and no state but the first is kept
     assert_counted(&rt, INCREMENT, (None, 1, 13));
-    // 19 instructions with a cj; its ways meet before what follows is taken, and the second pass has nothing to take
-    assert_counted(&rt, STORES_BY_TWO_WAYS, (None, 2, 19 + 1));
+    // 19 instructions with a cj; its ways meet before what follows is taken, and nothing is left to take
+    assert_counted(&rt, STORES_BY_TWO_WAYS, (None, 1, 19 + 1));
     // 23 instructions with a lend; then the sum at the head is a number that is not known, and the 12 from there on follow
     assert_counted(&rt, SUM_TO_TEN_THOUSAND, (None, 2, 23 + 1 + 12 + 1));
 }
@@ -290,20 +290,4 @@ fn counts_up_to_a_refusal(rt: HostRuntime) {
         LOADS_ANY_WORD_IN_LATER_TURNS,
         (refused(StateCode::S3, 14), 2, 24 + 1 + 3),
     );
-}
-
-/// How many passes are made up to near the refusal, and whether a state stands then at an address; none, where nothing is
-/// refused.
-fn near(rt: &(impl Abort + AllocGlobal), bytes: &[u8], at: usize) -> Option<(u64, bool)> {
-    let (image, listing) = read(rt, bytes);
-    let nest = check_flow(&image, &listing).expect(rt, "a nest");
-    let near = near_refusal(rt.alloc(), &image, &listing, &nest).expect(rt, "memory")?;
-    Some((near.passes, near.states.at(at).is_some()))
-}
-
-#[test]
-fn stands_near_a_refusal(rt: HostRuntime) {
-    assert_eq!(rt; near(&rt, READS_AFTER_JUMP, 0), Some((0, true)));
-    assert_eq!(rt; near(&rt, READS_AFTER_JUMP, 8), Some((0, false)));
-    assert_eq!(rt; near(&rt, INCREMENT, 0), None);
 }

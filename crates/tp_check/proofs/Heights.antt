@@ -34,10 +34,6 @@ size_is : (z : ℤ) → pos 0 ≤ℤ z → pos (size z) ≡ z
 size_is (pos n) h = refl
 size_is (negsuc n) h = absurd (omega (arith, ints))
 
-size_none : (z : ℤ) → z ≤ℤ pos 0 → size z ≡ 0
-size_none (pos n) h = omega (arith, ints)
-size_none (negsuc n) h = refl
-
 cases_int : (a b : ℤ) → (a ≤ℤ b) ⊎ ((b +ℤ pos 1) ≤ℤ a)
 cases_int a b = by_test (int_le a b) refl
   where
@@ -152,9 +148,6 @@ cell_sinks (Count l) Undef = inr (omega arith)
 cell_sinks (Count l) Any = inr (omega arith)
 cell_sinks (Count l) (Known m) = inr (omega arith)
 cell_sinks (Count l) (Index k) = inr (omega arith)
-
-cells_height : List Cell → ℕ
-cells_height cells = sum_by cell_height cells
 
 first_and_rest : (c c' : Cell) (cs cs' : List Cell) → Sinks cell_height c c' → Sinks (sum_by cell_height) cs cs' → Sinks (sum_by cell_height) (c ∷ cs) (c' ∷ cs')
 first_and_rest c c' cs cs' (inl e) (inl e') = inl (rw (e, e') refl)

@@ -1,5 +1,5 @@
 -- What is kept of a table, address by address.
-use Rattle.std.proofs.Common.{◌≡◌, ◌≢◌, ℕ, zero, suc, ◌+◌, ◌<◌, ◌≤◌, ◌⊎◌, inl, inr, Bool, true, false, if◌then◌else◌, IsTrue, List, [], ◌∷◌, ◌++◌, length, slice_get, Option, Some, None, refl, sym, ap, ◌∙◌, subst, arith}
+use Rattle.std.proofs.Common.{◌≡◌, ℕ, zero, suc, ◌+◌, ◌<◌, ◌≤◌, ◌⊎◌, inl, inr, Bool, true, false, if◌then◌else◌, IsTrue, List, [], ◌∷◌, ◌++◌, length, slice_get, Option, Some, None, refl, sym, ap, ◌∙◌, subst, arith}
 use mathlib.Core.Path.{fun_ext}
 use Rattle.std.specs.Option.{option_and_then}
 use Rattle.std.proofs.lemmas.Bool.{cases_eq, cases_lt}
@@ -33,9 +33,6 @@ there_one (x ∷ xs) y (suc i) a is = by_place (there_one xs y i a is)
     by_place : (slice_get xs i ≡ Some a) ⊎ ((i ≡ length xs) × (y ≡ a)) → (slice_get (x ∷ xs) (suc i) ≡ Some a) ⊎ ((suc i ≡ length (x ∷ xs)) × (y ≡ a))
     by_place (inl is) = inl is
     by_place (inr (last, same)) = inr (omega (arith, last), same)
-
-pub some_none : (keeps : ℕ → Bool) (table : Table) (states : List (ℕ × State)) → states ≡ [] → AreSome keeps table 0 states
-some_none keeps table states none = subst (AreSome keeps table 0) (sym none) (record { rising = λ i j a b lt is. absurd cc; below = λ i a is. absurd cc; each = λ i a is. absurd cc; all = λ at s lt. absurd (omega (arith, lt)) })
 
 module _ (keeps : ℕ → Bool) (table : Table) (k : ℕ) (states : List (ℕ × State)) (some : AreSome keeps table k states) where
   -- an address at which none is kept
@@ -101,22 +98,6 @@ some_all keeps slots k states end some = record { rising = some.rising; each = s
     by_place at s is stood (inr past) = absurd (no_state_past slots at s (omega (arith, end, past)) stood)
 
 -- ---- what is kept where edges join
-
--- below an address all is as it is to be, and from there on as at first
-module _ (joins : ℕ → Bool) (first : Table) (at : ℕ) (old : Table) (done : (x : ℕ) → x < at → old x ≡ only_joins joins first x) (rest : (x : ℕ) → at ≤ x → old x ≡ first x) where
-  pub one_cleared : (new : Table) → joins at ≡ false → new at ≡ None → ((x : ℕ) → x ≢ at → new x ≡ old x) → (x : ℕ) → x < at + 1 → new x ≡ only_joins joins first x
-  one_cleared new lone none others x lt = by_place (cases_eq x at)
-    where
-      by_place : (x ≡ at) ⊎ (x ≡ at → ⊥) → new x ≡ only_joins joins first x
-      by_place (inl same) = ap new same ∙ none ∙ sym (ap (λ b. if b then first at else None) lone) ∙ sym (ap (only_joins joins first) same)
-      by_place (inr other) = others x other ∙ done x (omega (arith, lt, other))
-
-  pub one_left : joins at ≡ true → (x : ℕ) → x < at + 1 → old x ≡ only_joins joins first x
-  one_left joined x lt = by_place (cases_eq x at)
-    where
-      by_place : (x ≡ at) ⊎ (x ≡ at → ⊥) → old x ≡ only_joins joins first x
-      by_place (inl same) = ap old same ∙ rest at (omega arith) ∙ sym (ap (λ b. if b then first at else None) joined) ∙ sym (ap (only_joins joins first) same)
-      by_place (inr other) = done x (omega (arith, lt, other))
 
 pub all_joined : (joins : ℕ → Bool) (first now : List (Option State)) (k : ℕ) → length first ≤ k → length now ≡ length first → ((x : ℕ) → x < k → table_of now x ≡ only_joins joins (table_of first) x) → table_of now ≡ only_joins joins (table_of first)
 all_joined joins first now k end sized done = fun_ext λ x. by_place x (cases_lt x k)

@@ -3,6 +3,7 @@ use Rattle.std.proofs.Common.{◌≡◌, ℕ, zero, suc, ◌+◌, ◌-◌, ◌<�
 use mathlib.Core.Path.{fun_ext}
 use Rattle.std.proofs.lemmas.Bool.Decides.{Decides-eqb}
 use Rattle.std.specs.List.{AllByRecursion}
+use Rattle.std.specs.Prelude.{IfSome}
 use Rattle.tp_decode.specs.Cutting.{Cut, IsSpelled}
 use Rattle.tp_flow.specs.NestKept.{KeepsNest}
 use Rattle.tp_image.specs.Image.{ImageValue, InRange}
@@ -13,14 +14,15 @@ use Rattle.tp_state.specs.declared.fault.StateFault.TheVariants.{Refused, Memory
 use Rattle.tp_state.specs.Answer.{◌>>=◌}
 use Rattle.tp_state.specs.Entry.{entry}
 use Rattle.tp_check.specs.declared.passes.Passes.{Passes}
+use Rattle.tp_check.specs.declared.milestones.Milestones.{Milestones}
 use Rattle.tp_check.specs.Tables.{Table, table_of}
 use Rattle.tp_check.specs.Passes.{edges_in, first_table, pass, passes}
 use Rattle.tp_check.specs.Carried.{over, only_joins}
-use Rattle.tp_check.specs.UnderWay.{AreJoins, IsBefore, Carries, Moves}
-use Rattle.tp_check.specs.NearRefusal.{IsNearRefusal, IsLastQuiet, IsJoined, RefusesNothing}
+use Rattle.tp_check.specs.UnderWay.{AreJoins, IsBefore, Carries, IsAfter, Leaves}
+use Rattle.tp_check.specs.NearRefusal.{IsNearRefusal, IsLastQuiet, IsJoined, IsMilestone, AreMilestones, RefusesNothing}
 use Rattle.tp_check.proofs.PassLemmas.{fewer, quiet_verdict}
 use Rattle.tp_check.proofs.CarriedPasses.{Good, good_after, one_pass}
-use Rattle.tp_check.proofs.Verdict.{IsAfter, one_after, one_as_defined, zero_joins}
+use Rattle.tp_check.proofs.Verdict.{one_after, one_as_defined, zero_joins}
 
 -- what stands where edges join, at one address
 joined_at : (joins : ℕ → Bool) (table other : Table) → ((at : ℕ) → joins at ≡ true → table at ≡ other at) → only_joins joins table ≡ only_joins joins other
@@ -48,6 +50,12 @@ only_first image joins first = fun_ext λ at. by_test at (at == 0) (joins at) re
 pub refused_so : (fault : StateFault) (code : StateCode) (place : ℕ) (wanted : Result Table StateFault) (P : Table → Type 0) → fault ≡ Refused code place → Carries {X = Bool} (Err fault) wanted P → wanted ≡ Err fault
 refused_so (Refused c p) code place wanted P is gives = gives
 refused_so Memory code place wanted P is gives = absurd cc
+
+pub no_milestones : (image : ImageValue) (cuts : List Cut) (joins : ℕ → Bool) (kept : Milestones) → kept.last ≡ None → kept.earlier ≡ None → AreMilestones image cuts joins kept
+no_milestones image cuts joins kept last earlier = record {
+  last = subst (λ o. IfSome o (IsMilestone image cuts joins)) (sym last) tt;
+  earlier = subst (λ o. IfSome o (IsMilestone image cuts joins)) (sym earlier) tt;
+}
 
 -- 2^64 - 1 passes that refuse nothing are all that a word can count
 pub all_counted : (image : ImageValue) (cuts : List Cut) (n : ℕ) (table : Table) → 2 ^ 64 - 1 ≤ n → passes image cuts n ≡ Ok table → RefusesNothing image cuts
@@ -83,14 +91,14 @@ module _ (image : ImageValue) (cuts : List Cut) (range : InRange image) (spelled
           stands at s false is = absurd cc
 
   -- one pass more changes something, or nothing, or refuses, or cannot refuse
-  pub next_after : (old new : Passes) (n : ℕ) (m : Bool) → IsAfter image cuts joins old n → new.is_carried ≡ false → Moves image m old.slots new.slots
+  pub next_after : (old new : Passes) (n : ℕ) (m : Bool) → IsAfter image cuts joins old n → new.is_carried ≡ false → Leaves image m old new
       → ((whole : Table) → IsBefore image cuts joins old 0 whole → Carries (Ok m) (over image joins (edges_in cuts) whole) (IsBefore image cuts joins new 0)) → IsAfter image cuts joins new (n + 1)
-  next_after old new n m on rests moves gives = subst (IsAfter image cuts joins new) (sym (add-one n)) (one_after image cuts range spelled kept joins join old new n m on rests moves gives).0
+  next_after old new n m on rests leaves gives = subst (IsAfter image cuts joins new) (sym (add-one n)) (one_after image cuts range spelled kept joins join old new n m on rests leaves gives).0
 
-  pub unchanged : (old new : Passes) (n : ℕ) (m : Bool) → m ≡ false → IsAfter image cuts joins old n → new.is_carried ≡ false → Moves image m old.slots new.slots
+  pub unchanged : (old new : Passes) (n : ℕ) (m : Bool) → m ≡ false → IsAfter image cuts joins old n → new.is_carried ≡ false → Leaves image m old new
       → ((whole : Table) → IsBefore image cuts joins old 0 whole → Carries (Ok m) (over image joins (edges_in cuts) whole) (IsBefore image cuts joins new 0)) → RefusesNothing image cuts
-  unchanged old new n m same on rests moves gives k lt =
-      let one = one_after image cuts range spelled kept joins join old new n m on rests moves gives in
+  unchanged old new n m same on rests leaves gives k lt =
+      let one = one_after image cuts range spelled kept joins join old new n m on rests leaves gives in
       quiet_verdict image cuts one.0.whole (one.1 same) k
 
   refuses_next : (p : Passes) (n : ℕ) (on : IsAfter image cuts joins p n) (fault : StateFault) → over image joins (edges_in cuts) on.whole ≡ Err fault → pass image cuts on.whole ≡ Err fault
@@ -146,7 +154,7 @@ module _ (image : ImageValue) (cuts : List Cut) (range : InRange image) (spelled
           let none : m ≡ zero = omega (arith, is) in
           let at_first : Ok (first_table image) ≡ Ok table = sym (ap (passes image cuts) none) ∙ comes in
           let same : first_table image ≡ table = cc in
-          inl (are ∙ subst (λ t. only_joins joins t ≡ t) same (only_first image joins (zero_joins image cuts range spelled kept joins join)))
+          inl (are ∙ subst (λ t. only_joins joins t ≡ t) same (only_first image joins (zero_joins image cuts joins join)))
       by_number (suc q) m is l table comes are =
           let e : q ≡ m = omega (arith, is) in
           inr (l.table, sym (ap (λ r. r >>= pass image cuts) comes) ∙ sym (ap (λ k. passes image cuts (suc k)) e) ∙ l.comes)

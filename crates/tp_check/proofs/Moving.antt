@@ -31,14 +31,6 @@ moves_none image states = record { sized = refl; stays = λ e. refl; falls = λ 
 
 -- ---- the definition's answers, one edge after another
 
--- an edge that refuses nothing
-pub along_on : (image : ImageValue) (p : Placed) (edge : Edge) (more : List (Placed × Edge)) (table new : Table) → go_along image p edge (table p.at) table ≡ Ok new → along image ((p, edge) ∷ more) table ≡ along image more new
-along_on image p edge more table new is = ap (λ r. r >>= along image more) is
-
--- and one that refuses
-pub along_stops : (image : ImageValue) (p : Placed) (edge : Edge) (more : List (Placed × Edge)) (table : Table) (fault : StateFault) → go_along image p edge (table p.at) table ≡ Err fault → along image ((p, edge) ∷ more) table ≡ Err fault
-along_stops image p edge more table fault is = ap (λ r. r >>= along image more) is
-
 -- edges after edges
 pub along_append : (image : ImageValue) (xs ys : List (Placed × Edge)) (table : Table) → along image (xs ++ ys) table ≡ (along image xs table >>= along image ys)
 along_append image [] ys table = refl

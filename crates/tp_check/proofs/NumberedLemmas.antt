@@ -1,7 +1,7 @@
 -- States by address, where an address has the number of its state.
-use Rattle.std.proofs.Common.{◌≡◌, ◌⊎◌, inl, inr, ◌==◌, ℕ, zero, suc, ◌+◌, ◌<◌, List, [], ◌∷◌, ◌++◌, length, map, replicate, slice_get, slice_set, slice_index_or, Option, Some, None, Bool, Result, Ok, Err, refl, sym, ap, ◌∙◌, subst, arith, length-set, length-append, get_or-set_same, get_or-set_other}
-use Rattle.std.specs.Prelude.{IfOk, OnErr, true}
-use Rattle.std.specs.Option.{option_and_then}
+use Rattle.std.proofs.Common.{◌≡◌, ◌⊎◌, inl, inr, ◌==◌, if◌then◌else◌, ℕ, zero, suc, ◌<◌, List, [], ◌∷◌, ◌++◌, length, replicate, slice_get, slice_set, slice_index_or, Option, Some, None, Bool, true, false, Result, Ok, Err, refl, sym, ap, ◌∙◌, subst, arith, length-set, length-append, get_or-set_same, get_or-set_other}
+use Rattle.std.specs.Prelude.{IfOk, OnErr}
+use Rattle.std.specs.Option.{option_and_then, is_some}
 use Rattle.std.proofs.lemmas.Bool.{cases_eq}
 use Rattle.std.proofs.lemmas.Bool.Decides.{nat_tests}
 use Rattle.std.proofs.lemmas.List.{length-map, get_or-map, ext_get_or}
@@ -12,17 +12,18 @@ use Rattle.tp_state.specs.declared.state.State.{State}
 use Rattle.tp_state.specs.declared.fault.StateFault.{StateFault}
 use Rattle.tp_state.specs.declared.fault.StateFault.TheVariants.{Refused, Memory}
 use Rattle.tp_state.specs.Entry.{entry}
-use Rattle.tp_check.specs.Tables.{Table, table_of, with_state, no_states}
+use Rattle.tp_check.specs.Tables.{table_of, with_state, no_states}
 use Rattle.tp_state.specs.declared.fault.StateCode.{StateCode}
 use Rattle.tp_state.specs.Answer.{answered}
-use Rattle.tp_state.specs.Order.{IsBelow, join, meeting, TellsChange}
+use Rattle.tp_state.specs.Order.{IsBelow, join, TellsChange}
 use Rattle.tp_state.specs.Stored.{IsMetAt}
 use Rattle.tp_check.specs.Passes.{enter, first_table, met, placed}
 use Rattle.tp_check.specs.UnderWay.{Gives, Moves, MovesState}
 use Rattle.tp_check.specs.Carried.{only_joins}
-use Rattle.tp_check.specs.Numbered.{number_at, states_by, AreNumbers}
+use Rattle.tp_check.specs.Numbered.{number_at, joined_number, states_by, AreNumbers}
 use Rattle.tp_check.specs.Meeting.{Meets}
 use Rattle.tp_check.proofs.Heights.{HasWords, joined_moves}
+use Rattle.tp_check.proofs.Keeping.{all_joined}
 use Rattle.tp_check.proofs.TableSteps.{table_at, table_set, enter_gives, enter_moves}
 
 same_test : (n m : ℕ) → n ≡ m → (n == m) ≡ true
@@ -55,6 +56,11 @@ pub get_there : {A : Type 0} (xs : List A) (n : ℕ) (d : A) → n < length xs �
 get_there [] n d h = absurd (omega (arith, h))
 get_there (x ∷ xs) zero d h = refl
 get_there (x ∷ xs) (suc n) d h = get_there xs n d (omega (arith, h))
+
+get_any : (states : List State) (n : ℕ) → n < length states → (s : State) × (slice_get states n ≡ Some s)
+get_any [] n lt = absurd (omega (arith, lt))
+get_any (s ∷ states) zero lt = (s, refl)
+get_any (s ∷ states) (suc n) lt = get_any states n (omega (arith, lt))
 
 -- ---- reading
 
@@ -196,6 +202,22 @@ module _ (states : List State) (numbers : List (Option ℕ)) (slots : List (Opti
     pub table_nowhere : o ≡ None → table_of slots i ≡ None
     table_nowhere e = ap (λ l. table_of l i) (sym view) ∙ table_by states numbers i inside_numbers ∙ ap (option_and_then (slice_get states)) (number_there None e)
 
+-- ---- an address with a number or without
+
+module _ (states : List State) (numbers : List (Option ℕ)) (slots : List (Option State)) (view : states_by states numbers ≡ slots) (i : ℕ) where
+  pub inside_of : i < length numbers → i < length slots
+  inside_of lt = let e : length slots ≡ length numbers = sym (ap length view) ∙ length_by states numbers in omega (arith, lt, e)
+
+pub has_state : (states : List State) (numbers : List (Option ℕ)) (slots : List (Option State)) → states_by states numbers ≡ slots → AreNumbers states numbers → (i : ℕ) → i < length slots → (o : Option ℕ) → o ≡ slice_index_or numbers i o → is_some o ≡ is_some (table_of slots i)
+has_state states numbers slots view are i inside o index = by_number o refl
+  where
+    by_number : (is : Option ℕ) → o ≡ is → is_some o ≡ is_some (table_of slots i)
+    by_number None e = ap is_some e ∙ sym (ap is_some (table_nowhere states numbers slots view i inside o index e))
+    by_number (Some n) e =
+        let there = table_there states numbers slots view i inside o index n e in
+        let kept = are.inside i n (number_there states numbers slots view i inside o index (Some n) e) in
+        ap is_some e ∙ sym (ap is_some (there ∙ (get_any states n kept).1))
+
 pub met_numbers : (image : ImageValue) (states : List State) (numbers : List (Option ℕ)) (to n : ℕ) (there s : State) (new : List State) (r : Result Bool StateFault) → AreNumbers states numbers → Meets image r to n there s states new → OnErr r (new ≡ states) → AreNumbers new numbers
 met_numbers image states numbers to n there s new (Ok moved) are it kept = subst (λ l. AreNumbers l numbers) (sym it.is) (still_numbers states numbers n it.state are)
 met_numbers image states numbers to n there s new (Err e) are it kept = subst (λ l. AreNumbers l numbers) (sym kept) are
@@ -248,19 +270,31 @@ module _ (image : ImageValue) (places : ℕ) (some : 0 < places) (s : State) (st
 
 -- ---- a list of states that grows
 
-pub table_more : (states : List (Option State)) (o : Option State) (x : ℕ) → x < length states → table_of (states ++ o ∷ []) x ≡ table_of states x
-table_more [] o x h = absurd (omega (arith, h))
-table_more (u ∷ states) o zero h = refl
-table_more (u ∷ states) o (suc x) h = table_more states o x (omega (arith, h))
+-- ---- what is kept where edges join
 
-pub table_last : (states : List (Option State)) (o : Option State) → table_of (states ++ o ∷ []) (length states) ≡ o
-table_last [] None = refl
-table_last [] (Some s) = refl
-table_last (u ∷ states) o = table_last states o
+-- numbers where edges join are those of states, each of one address
+module _ (joins : ℕ → Bool) (states : List State) (old new : List (Option ℕ)) (same : (x : ℕ) → number_at new x ≡ joined_number joins old x) where
+  was : (x n : ℕ) → number_at new x ≡ Some n → number_at old x ≡ Some n
+  was x n is = by_join (joins x) (sym (same x) ∙ is)
+    where
+      by_join : (b : Bool) → (if b then number_at old x else None) ≡ Some n → number_at old x ≡ Some n
+      by_join true e = e
+      by_join false e = absurd cc
 
-pub joined_more : (joins : ℕ → Bool) (first : Table) (states : List (Option State)) (o : Option State) (at : ℕ) → length states ≡ at → ((x : ℕ) → x < at → table_of states x ≡ only_joins joins first x) → o ≡ only_joins joins first at → (x : ℕ) → x < at + 1 → table_of (states ++ o ∷ []) x ≡ only_joins joins first x
-joined_more joins first states o at sized done is x lt = by_place (cases_eq x at)
-  where
-    by_place : (x ≡ at) ⊎ (x ≡ at → ⊥) → table_of (states ++ o ∷ []) x ≡ only_joins joins first x
-    by_place (inl same) = ap (table_of (states ++ o ∷ [])) (same ∙ sym sized) ∙ table_last states o ∙ is ∙ sym (ap (only_joins joins first) same)
-    by_place (inr other) = table_more states o x (omega (arith, lt, other, sized)) ∙ done x (omega (arith, lt, other))
+  pub joined_are : AreNumbers states old → AreNumbers states new
+  joined_are are = record {
+    inside = λ at n is. are.inside at n (was at n is);
+    apart = λ at other n is also. are.apart at other n (was at n is) (was other n also);
+  }
+
+  pub joined_states : length new ≡ length old → table_of (states_by states new) ≡ only_joins joins (table_of (states_by states old))
+  joined_states sized = all_joined joins (states_by states old) (states_by states new) (length old) (omega (arith, length_by states old)) (length_by states new ∙ sized ∙ sym (length_by states old)) each
+    where
+      pushed : (b : Bool) (o : Option ℕ) → option_and_then (slice_get states) (if b then o else None) ≡ (if b then option_and_then (slice_get states) o else None)
+      pushed true o = refl
+      pushed false o = refl
+
+      each : (x : ℕ) → x < length old → table_of (states_by states new) x ≡ only_joins joins (table_of (states_by states old)) x
+      each x lt =
+          table_by states new x (omega (arith, lt, sized)) ∙ ap (option_and_then (slice_get states)) (same x) ∙ pushed (joins x) (number_at old x)
+          ∙ ap (λ o. if joins x then o else None) (sym (table_by states old x lt))

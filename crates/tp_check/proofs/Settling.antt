@@ -10,9 +10,7 @@ use Rattle.tp_decode.proofs.NumberLemmas.{placed as placed_cut}
 use Rattle.tp_flow.specs.declared.edge.Edge.{Edge}
 use Rattle.tp_image.specs.Image.{ImageValue}
 use Rattle.tp_state.specs.declared.state.State.{State}
-use Rattle.tp_state.specs.declared.fault.StateCode.{StateCode}
 use Rattle.tp_state.specs.declared.fault.StateFault.{StateFault}
-use Rattle.tp_state.specs.declared.fault.StateFault.TheVariants.{Refused}
 use Rattle.tp_state.specs.Answer.{◌>>=◌}
 use Rattle.tp_state.specs.After.{after}
 use Rattle.tp_check.specs.Tables.{Table, with_state, asked}
@@ -32,9 +30,6 @@ bind_ok (Ok t) = refl
 bind_ok (Err e) = refl
 
 module _ (image : ImageValue) (joins : ℕ → Bool) (p : Placed) (edge : Edge) (table : Table) (s : State) (here : table p.at ≡ Some s) where
-  pub over_refused : (code : StateCode) → after image p.at p.next p.instr edge s ≡ Err code → over image joins ((p, edge) ∷ []) table ≡ Err (Refused code p.at)
-  over_refused code refuses = rw (here, refuses) refl
-
   module _ (v : State) (goes : after image p.at p.next p.instr edge s ≡ Ok v) where
     over_arrives : over image joins ((p, edge) ∷ []) table ≡ arrive joins (target_of image (p, edge)) v table
     over_arrives = rw (here, goes) (bind_ok (arrive joins (target_of image (p, edge)) v table))

@@ -1,8 +1,7 @@
 -- What a table becomes where a state comes to an address.
-use Rattle.std.proofs.Common.{◌≡◌, ℕ, zero, suc, ◌<◌, nat_eq, if◌then◌else◌, Bool, false, List, [], ◌∷◌, ◌++◌, length, slice_set, slice_index_or, Option, Some, None, Result, Ok, Err, refl, sym, ap, ◌∙◌, subst, arith}
+use Rattle.std.proofs.Common.{◌≡◌, ℕ, zero, suc, ◌<◌, nat_eq, if◌then◌else◌, Bool, false, List, [], ◌∷◌, length, slice_set, slice_index_or, Option, Some, None, Result, Ok, Err, refl, sym, ap, ◌∙◌, subst, arith}
 use mathlib.Core.Path.{fun_ext}
 use Rattle.std.specs.Option.{option_and_then}
-use Rattle.std.specs.Prelude.{IfSome}
 use Rattle.std.proofs.lemmas.Bool.Decides.{nat_tests}
 use Rattle.std.proofs.Common.{length-set}
 use Rattle.std.proofs.lemmas.List.{set-get_or}
@@ -11,10 +10,8 @@ use Rattle.tp_state.specs.declared.state.State.{State}
 use Rattle.tp_state.specs.declared.fault.StateFault.{StateFault}
 use Rattle.tp_state.specs.declared.fault.StateFault.TheVariants.{Refused, Memory}
 use Rattle.tp_state.specs.Answer.{◌>>=◌}
-use Rattle.tp_state.specs.Conditions.{IsPlaced}
 use Rattle.tp_check.specs.Tables.{table_of, with_state}
-use Rattle.tp_check.specs.Passes.{enter, placed, met, first_table}
-use Rattle.tp_state.specs.Entry.{entry}
+use Rattle.tp_check.specs.Passes.{enter, placed, met}
 use Rattle.tp_check.specs.UnderWay.{Gives, GivesState, MovesState, Moves, height}
 use Rattle.tp_check.proofs.Heights.{table_sinks}
 
@@ -45,9 +42,6 @@ table_set states i t h = fun_ext λ x. set_there states i t x h
 
 -- ---- a state comes to an address
 
-pub slot_placed : (image : ImageValue) (states : List (Option State)) (i : ℕ) (there : Option State) → i < length states → IfSome (table_of states i) (IsPlaced image) → there ≡ slice_index_or states i None → IfSome there (IsPlaced image)
-slot_placed image states i there h placed is = subst (λ o. IfSome o (IsPlaced image)) (table_at states i h ∙ sym is) placed
-
 pub enter_gives : (states : List (Option State)) (i : ℕ) (there new : Option State) (s : State) (r : Result Bool StateFault) → i < length states → there ≡ slice_index_or states i None → GivesState r new (placed i (met there s)) → Gives r (table_of (slice_set states i new)) (enter (Some i) s (table_of states))
 unfolding enter
 enter_gives states i there new s r h is given = by_answer r (placed i (met there s)) (ap (λ o. placed i (met o s)) (table_at states i h ∙ sym is)) given
@@ -63,27 +57,3 @@ enter_moves image states i there new moved h is moves = record {
   stays = λ same. ap (slice_set states i) (moves.stays same ∙ is) ∙ set-get_or states i None;
   falls = λ differs. table_sinks image states i new h (subst (λ o. height image new < height image o) is (moves.falls differs));
 }
-
--- what stands in a slot, whatever stands for none
-pub in_slot : (states : List (Option State)) (i : ℕ) (there d : Option State) → i < length states → there ≡ slice_index_or states i d → there ≡ slice_index_or states i None
-in_slot [] i there d h is = absurd (omega (arith, h))
-in_slot (o ∷ states) zero there d h is = is
-in_slot (o ∷ states) (suc i) there d h is = in_slot states i there d (omega (arith, h)) is
-
--- ---- the first table
-
-pub table_push : (states : List (Option State)) → table_of (states ++ None ∷ []) ≡ table_of states
-table_push states = fun_ext λ x. at states x
-  where
-    at : (states : List (Option State)) (x : ℕ) → table_of (states ++ None ∷ []) x ≡ table_of states x
-    at [] zero = refl
-    at [] (suc x) = refl
-    at (o ∷ states) zero = refl
-    at (o ∷ states) (suc x) = at states x
-
-pub table_first : (image : ImageValue) → table_of (Some (entry image) ∷ []) ≡ first_table image
-table_first image = fun_ext λ x. at x
-  where
-    at : (x : ℕ) → table_of (Some (entry image) ∷ []) x ≡ first_table image x
-    at zero = refl
-    at (suc x) = let other : nat_eq (suc x) 0 ≡ false = grind (arith, nat_tests) in rw other refl

@@ -123,7 +123,7 @@ as_long image joins p whole way at is = by_state (table_of p.slots at) refl
 
 module _ (image : ImageValue) (joins : ℕ → Bool) (p : Placed) (table : Table) where
   -- an edge that has settled changes nothing
-  edge_stays : (edge : Edge) → ((s : State) → table p.at ≡ Some s → Settles image joins table p.at p.next p.instr s edge) → over image joins ((p, edge) ∷ []) table ≡ Ok table
+  pub edge_stays : (edge : Edge) → ((s : State) → table p.at ≡ Some s → Settles image joins table p.at p.next p.instr s edge) → over image joins ((p, edge) ∷ []) table ≡ Ok table
   edge_stays edge each = by_state (table p.at) refl
     where
       by_join : (s : State) (here : table p.at ≡ Some s) (r : Settles image joins table p.at p.next p.instr s edge) (to : ℕ) → target_of image (p, edge) ≡ Some to → (b : Bool) → joins to ≡ b → over image joins ((p, edge) ∷ []) table ≡ Ok table
@@ -138,7 +138,7 @@ module _ (image : ImageValue) (joins : ℕ → Bool) (p : Placed) (table : Table
       by_state None e = over_none image joins p edge table e
       by_state (Some s) e = by_target s e (each s e) (target_of image (p, edge)) refl
 
-  ways_stay : (ways : List Edge) → ((k : ℕ) (d : Edge) → k < length ways → over image joins ((p, slice_index_or ways k d) ∷ []) table ≡ Ok table) → over image joins (from p ways) table ≡ Ok table
+  pub ways_stay : (ways : List Edge) → ((k : ℕ) (d : Edge) → k < length ways → over image joins ((p, slice_index_or ways k d) ∷ []) table ≡ Ok table) → over image joins (from p ways) table ≡ Ok table
   ways_stay [] each = refl
   ways_stay (w ∷ ways) each =
       over_one image joins (p, w) (from p ways) table ∙ ap (λ r. r >>= over image joins (from p ways)) (each 0 w (omega arith)) ∙ ways_stay ways (λ k d lt. each (suc k) d (omega (arith, lt)))

@@ -1,5 +1,5 @@
 -- The edges of an instruction: one, or two.
-use Rattle.std.proofs.Common.{◌≡◌, ◌≢◌, ℕ, ◌<◌, ◌≤◌, ◌⊎◌, inl, inr, ℤ, Bool, true, false, ◌||◌, List, [], ◌∷◌, length, slice_index_or, Option, Some, None, Result, Ok, Err, refl, sym, ap, ◌∙◌, subst, arith}
+use Rattle.std.proofs.Common.{◌≡◌, ◌≢◌, ℕ, ◌<◌, ◌≤◌, ◌⊎◌, inl, inr, ℤ, Bool, true, false, List, [], ◌∷◌, length, slice_index_or, Option, Some, None, Result, Ok, Err, refl, sym, ap, ◌∙◌, subst, arith}
 use Rattle.std.specs.Prelude.{IfSome}
 use Rattle.std.proofs.lemmas.Bool.{cases_eq}
 use Rattle.std.proofs.lemmas.Option.{same_Some}
@@ -25,9 +25,8 @@ use Rattle.tp_check.specs.declared.aside.Registers.{Registers}
 use Rattle.tp_check.specs.Tables.{Table, asked}
 use Rattle.tp_check.specs.Passes.{from, edges_of, edges_in}
 use Rattle.tp_check.specs.Carried.{target_of, over, IsAmong}
-use Rattle.tp_check.specs.UnderWay.{IsNumberOf, HasCome, IsBefore, IsAmidst, IsBegun, IsOnEdge, IsAfterEdge, LeavesWords, Carries, StandsIn, Moves}
+use Rattle.tp_check.specs.UnderWay.{IsNumberOf, HasCome, IsBefore, IsAmidst, IsBegun, IsOnEdge, IsAfterEdge, LeavesWords, Carries, StandsIn}
 use Rattle.tp_check.proofs.Again.{asked_apart}
-use Rattle.tp_check.proofs.Moving.{table_le}
 use Rattle.tp_check.proofs.Respected.{edge_there}
 use Rattle.tp_check.proofs.Turning.{over_one, turned}
 use Rattle.tp_check.proofs.Ways.{then_more}
@@ -66,10 +65,6 @@ put_over : (s u v : State) → RegistersAlone s u → RegistersAlone s v → rec
 put_over s u v alone also = ap (λ (t : State). record t { a = u.a; b = u.b; c = u.c }) also ∙ sym alone
 
 -- ---- one edge after the other
-
-pub both_move : (image : ImageValue) (first then_ last : List (Option State)) (moved also : Bool) → Moves image moved first then_ → Moves image also then_ last → Moves image (moved || also) first last
-both_move image first then_ last true also m n = record { sized = n.sized ∙ m.sized; stays = λ e. absurd (cc); falls = λ e. omega (arith, m.falls refl, table_le image also then_ last n) }
-both_move image first then_ last false also m n = subst (λ states. Moves image also states last) (m.stays refl) n
 
 pub amid_with : (image : ImageValue) (cuts : List Cut) (joins : ℕ → Bool) (p : Passes) (place : Placed) (done : ℕ) (whole : Table) (x : State) (y : Option State) → IsPlaced image x → IfSome y (IsPlaced image) → IsAmidst image cuts joins p place done whole → IsAmidst image cuts joins (record p { carried = x; spare = y }) place done whole
 amid_with image cuts joins p place done whole x y fits also m = record {

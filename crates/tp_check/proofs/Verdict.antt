@@ -1,5 +1,5 @@
 -- One pass, instruction by instruction, and one after another.
-use Rattle.std.proofs.Common.{◌≡◌, ℕ, zero, suc, ◌+◌, ◌<◌, ◌≤◌, ◌^◌, ◌⊎◌, inl, inr, ◌==◌, ◌&&◌, nat_le, if◌then◌else◌, Bool, true, false, List, [], ◌∷◌, ◌++◌, length, slice_get, Option, Some, None, Result, Ok, Err, refl, sym, ap, ◌∙◌, subst, rules, arith, drop, add-one, drop-cons}
+use Rattle.std.proofs.Common.{◌≡◌, ℕ, zero, suc, ◌+◌, ◌<◌, ◌≤◌, ◌^◌, ◌⊎◌, inl, inr, ◌==◌, ◌&&◌, nat_le, if◌then◌else◌, Bool, true, false, List, [], ◌∷◌, ◌++◌, length, slice_get, slice_index_or, Option, Some, None, Result, Ok, Err, refl, sym, ap, ◌∙◌, subst, rules, arith, drop, add-one, drop-cons}
 use mathlib.Core.Path.{fun_ext}
 use Rattle.std.specs.Prelude.{IfErr, IfSome, IsErrAnd}
 use Rattle.std.specs.List.{flat_map, AllByRecursion}
@@ -24,11 +24,11 @@ use Rattle.tp_state.specs.Conditions.{IsPlaced}
 use Rattle.tp_state.specs.Entry.{entry}
 use Rattle.tp_state.specs.Sound.{IsSound}
 use Rattle.tp_check.specs.declared.passes.Passes.{Passes}
-use Rattle.tp_check.specs.Tables.{Table, table_of}
+use Rattle.tp_check.specs.Tables.{Table, table_of, asked}
 use Rattle.tp_check.specs.Passes.{edges_of, edges_in, first_table, pass, passes, IsVerdict, IsRefusalOf}
 use Rattle.tp_check.specs.Carried.{over, only_joins, is_kept, is_head, reached, AreStatesOf, IsTableOf}
 use Rattle.tp_check.specs.StatesThere.{AreStatesThere}
-use Rattle.tp_check.specs.UnderWay.{is_in, AreJoins, HasPlaces, marks, IsBefore, StandsIn, Carries, Moves, IsSettled, table_height}
+use Rattle.tp_check.specs.UnderWay.{is_in, AreJoins, HasPlaces, Settles, marks, IsBefore, StandsIn, Carries, IsAfter, IsCopyOf, Leaves, IsSettled, table_height}
 use Rattle.tp_check.proofs.Places.{stands_at, number_of}
 use Rattle.tp_check.proofs.Entering.{first_grown}
 use Rattle.tp_check.proofs.Nests.{or_left}
@@ -36,6 +36,8 @@ use Rattle.tp_check.proofs.CarriedPasses.{good_after, one_pass}
 use Rattle.tp_check.proofs.Trails.{edge_by_edge}
 use Rattle.tp_check.proofs.Nests.{IsOne, lone, are_states}
 use Rattle.tp_check.proofs.Lone.{IsStateAt}
+use Rattle.tp_check.proofs.Stepping.{and_false}
+use Rattle.tp_check.proofs.Turning.{edge_stays, ways_stay}
 use Rattle.tp_check.proofs.Ways.{then_more}
 use Rattle.tp_check.proofs.Respected.{stands_there}
 use Rattle.tp_rules.proofs.SoundJoins.{entry_sound}
@@ -160,29 +162,80 @@ module _ (image : ImageValue) (cuts : List Cut) (joins : ℕ → Bool) where
           below : x < on.at → (x == on.at) ≡ false
           below lt = grind (arith, nat_tests)
 
+-- ---- a pass that changes nothing
+
+-- where no address is marked, each edge has settled
+nothing_marked : (image : ImageValue) (cuts : List Cut) (joins : ℕ → Bool) → AllByRecursion (λ c. 0 < length c.bytes) cuts → (p : Passes) (whole : Table) → IsBefore image cuts joins p 0 whole → p.is_carried ≡ false
+    → ((at : ℕ) → is_in p.changed.items at ≡ false) → over image joins (edges_in cuts) whole ≡ Ok whole
+nothing_marked image cuts joins spelled p whole before rests none = all_stay (placed_from 0 cuts) (λ i q is. each q (stands_in cuts i q spelled is))
+  where
+    no_mark : (x : ℕ) → marks joins p 0 x ≡ false
+    no_mark x = by_join (joins x) refl
+      where
+        by_join : (b : Bool) → joins x ≡ b → marks joins p 0 x ≡ false
+        by_join true e = ap (λ c. if c then is_in p.changed.items x else (x == 0) && p.is_carried) e ∙ none x
+        by_join false e = ap (λ c. if c then is_in p.changed.items x else (x == 0) && p.is_carried) e ∙ and_false (x == 0) p.is_carried rests
+
+    each : (q : Placed) → StandsIn cuts q → over image joins (edges_of q) whole ≡ Ok whole
+    each q stands = ways_stay image joins q whole (asked q.instr) (λ k d lt. edge_stays image joins q whole (slice_index_or (asked q.instr) k d) (settles k d lt))
+      where
+        settles : (k : ℕ) (d : Edge) → k < length (asked q.instr) → (s : State) → whole q.at ≡ Some s → Settles image joins whole q.at q.next q.instr s (slice_index_or (asked q.instr) k d)
+        settles = rw (stands.next, stands.instr) (λ k d lt s stood. before.taken q.at stands.cut stands.there k d lt (no_mark q.at) s stood)
+
+    all_stay : (ps : List Placed) → ((i : ℕ) (q : Placed) → slice_get ps i ≡ Some q → over image joins (edges_of q) whole ≡ Ok whole) → over image joins (flat_map edges_of ps) whole ≡ Ok whole
+    all_stay [] go = refl
+    all_stay (q ∷ ps) go =
+        ap (λ es. over image joins es whole) (flat_map-cons edges_of q ps) ∙ over_append image joins (edges_of q) (flat_map edges_of ps) whole
+        ∙ ap (λ r. r >>= over image joins (flat_map edges_of ps)) (go 0 q refl) ∙ all_stay ps (λ i r is. go (suc i) r is)
+
 -- ---- the passes
 
--- after so many passes
-pub record IsAfter (image : ImageValue) (cuts : List Cut) (joins : ℕ → Bool) (p : Passes) (number : ℕ) : Type 0 where
-  pub places : HasPlaces cuts (length p.slots)
-  pub few : length p.slots ≤ 2 ^ 32
-  pub rests : p.is_carried ≡ false
-  pub whole : Table
-  pub before : IsBefore image cuts joins p 0 whole
-  pub comes : passes image cuts number ≡ Ok whole
-
--- between two passes; whether the last one changed a state that is kept
-pub record IsBetween (image : ImageValue) (cuts : List Cut) (joins : ℕ → Bool) (p : Passes) (moved : Bool) : Type 0 where
+-- between two passes; whether the last one left edges to be taken
+pub record IsBetween (image : ImageValue) (cuts : List Cut) (joins : ℕ → Bool) (p : Passes) (is_left : Bool) : Type 0 where
   pub number : ℕ
   pub after : IsAfter image cuts joins p number
-  pub stays : moved ≡ false → IsVerdict image cuts (Ok after.whole)
+  pub stays : is_left ≡ false → IsVerdict image cuts (Ok after.whole)
 
--- the passes that are left, and the one that sees that nothing changes
+-- the passes that are left
 abbrev pub left_of : ImageValue → Bool → Passes → ℕ
 left_of image true p = 1 + table_height image p.slots
-left_of image false p = table_height image p.slots
+left_of image false p = 0
 
-module _ (image : ImageValue) (cuts : List Cut) (range : InRange image) (spelled : AllByRecursion IsSpelled cuts) (kept : KeepsNest image.loops image.workspace cuts) (joins : ℕ → Bool) (join : AreJoins image cuts joins) where
+module _ (image : ImageValue) (cuts : List Cut) (joins : ℕ → Bool) where
+  -- a copy stands where the passes do
+  pub copied : (p copy : Passes) (n : ℕ) → IsAfter image cuts joins p n → IsCopyOf p copy → IsAfter image cuts joins copy n
+  copied p copy n on is = record {
+    places = λ at starts. rw is.slots (on.places at starts);
+    few = rw is.slots on.few;
+    rests = rests;
+    whole = on.whole;
+    before = record {
+      way = record {
+        flags = ap length is.changed ∙ on.before.way.flags ∙ ap length (sym is.slots);
+        takes = ap length is.taken ∙ on.before.way.takes ∙ ap length (sym is.slots);
+        carried = rw is.carried on.before.way.carried;
+        spare = subst (λ o. IfSome o (IsPlaced image)) (sym is.spare) tt;
+        slots = λ x joined. on.before.way.slots x joined ∙ ap (λ states. table_of states x) (sym is.slots);
+        grown = on.before.way.grown;
+        sound = on.before.way.sound;
+      };
+      here = λ sure. absurd (let no : false ≡ true = sym rests ∙ sure in cc);
+      taken = λ x cut there k d lt mark. on.before.taken x cut there k d lt (same_mark x ∙ mark);
+      again = λ _ sure. absurd (let no : false ≡ true = sym rests ∙ sure in cc);
+      early = λ x cut joined sure there. on.before.early x cut joined (sym (ap (λ items. is_in items x) is.taken) ∙ sure) there;
+    };
+    comes = on.comes;
+  }
+    where
+      rests : copy.is_carried ≡ false
+      rests = is.is_carried ∙ on.rests
+
+      same_mark : (x : ℕ) → marks joins p 0 x ≡ marks joins copy 0 x
+      same_mark x =
+          ap (λ items. if joins x then is_in items x else (x == 0) && p.is_carried) (sym is.changed)
+          ∙ ap (λ b. if joins x then is_in copy.changed.items x else (x == 0) && b) (sym is.is_carried)
+
+module _ (image : ImageValue) (cuts : List Cut) (joins : ℕ → Bool) (join : AreJoins image cuts joins) where
   pub zero_joins : joins 0 ≡ true
   zero_joins = by_join (joins 0) refl
     where
@@ -191,9 +244,10 @@ module _ (image : ImageValue) (cuts : List Cut) (range : InRange image) (spelled
       by_join false e = let no : true ≡ false = or_left true (is_head image 0) (nat_le 2 (reached image cuts 0)) (join.wide 0 e) in cc
 
   -- before the first pass
-  pub none_made : (p : Passes) (places : ℕ) → HasPlaces cuts places → places ≤ 2 ^ 32 → length p.slots ≡ places → length p.changed.items ≡ places → table_of p.slots ≡ first_table image
-      → ((at : ℕ) → at < places → is_in p.changed.items at ≡ true) → length p.taken.items ≡ places → ((at : ℕ) → at < places → is_in p.taken.items at ≡ false) → p.is_carried ≡ false → IsPlaced image p.carried → p.spare ≡ None → IsAfter image cuts joins p 0
-  none_made p places inside few sized flags table marked takes fresh rests carried spare = record {
+  pub none_made : InRange image → KeepsNest image.loops image.workspace cuts → (p : Passes) (places : ℕ) → HasPlaces cuts places → places ≤ 2 ^ 32 → length p.slots ≡ places → length p.changed.items ≡ places
+      → table_of p.slots ≡ first_table image → is_in p.changed.items 0 ≡ true → length p.taken.items ≡ places → ((at : ℕ) → at < places → is_in p.taken.items at ≡ false)
+      → p.is_carried ≡ false → IsPlaced image p.carried → p.spare ≡ None → IsAfter image cuts joins p 0
+  none_made range kept p places inside few sized flags table marked takes fresh rests carried spare = record {
     places = λ at starts. rw sized (inside at starts);
     few = rw sized few;
     rests = rests;
@@ -225,7 +279,7 @@ module _ (image : ImageValue) (cuts : List Cut) (range : InRange image) (spelled
       never : (x : ℕ) (cut : Cut) → cut_at cuts x ≡ Some cut → (s : State) → first_table image x ≡ Some s → marks joins p 0 x ≡ false → (x ≡ 0) ⊎ (x ≡ 0 → ⊥) → ⊥
       never x cut there s stood mark (inl same) =
           let is : joins x ≡ true = ap joins same ∙ zero_joins in
-          let on = marked x (inside x (ap is_some there)) in
+          let on : is_in p.changed.items x ≡ true = ap (is_in p.changed.items) same ∙ marked in
           let no : true ≡ false = sym on ∙ sym (ap (λ c. if c then is_in p.changed.items x else (x == 0) && p.is_carried) is) ∙ mark in
           cc
       never x cut there s stood mark (inr other) =
@@ -233,6 +287,7 @@ module _ (image : ImageValue) (cuts : List Cut) (range : InRange image) (spelled
           let none : None ≡ Some s = sym (ap (λ b. if b then Some (entry image) else None) no) ∙ stood in
           cc
 
+module _ (image : ImageValue) (cuts : List Cut) (range : InRange image) (spelled : AllByRecursion IsSpelled cuts) (kept : KeepsNest image.loops image.workspace cuts) (joins : ℕ → Bool) (join : AreJoins image cuts joins) where
   pub none_between : (p : Passes) → IsAfter image cuts joins p 0 → IsBetween image cuts joins p true
   none_between p none = record { number = 0; after = none; stays = λ e. absurd cc }
 
@@ -243,13 +298,13 @@ module _ (image : ImageValue) (cuts : List Cut) (range : InRange image) (spelled
       ∙ (edge_by_edge image range.rows kept.good joins (IsOne image cuts kept joins join.wide) (IsStateAt image) (lone image cuts kept joins join.wide) (are_states image cuts kept joins join.wide range spelled) (edges_in cuts) (λ i e is. (i, is)) table
       (good_after image cuts range spelled kept joins join.wide n table comes)).0
 
-  pub one_after : (old new : Passes) (n : ℕ) (m : Bool) → IsAfter image cuts joins old n → new.is_carried ≡ false → Moves image m old.slots new.slots
+  pub one_after : (old new : Passes) (n : ℕ) (m : Bool) → IsAfter image cuts joins old n → new.is_carried ≡ false → Leaves image m old new
       → ((whole : Table) → IsBefore image cuts joins old 0 whole → Carries (Ok m) (over image joins (edges_in cuts) whole) (IsBefore image cuts joins new 0))
       → (after : IsAfter image cuts joins new (suc n)) × (m ≡ false → IsVerdict image cuts (Ok after.whole))
-  one_after old new n m on rests moves gives = (
+  one_after old new n m on rests leaves gives = (
     record {
-      places = λ at starts. rw moves.sized (on.places at starts);
-      few = rw moves.sized on.few;
+      places = λ at starts. rw leaves.sized (on.places at starts);
+      few = rw leaves.sized on.few;
       rests = rests;
       whole = done.0;
       before = done.2;
@@ -265,29 +320,27 @@ module _ (image : ImageValue) (cuts : List Cut) (range : InRange image) (spelled
       comes = one_as_defined n on.whole on.comes ∙ done.1
 
       stays : m ≡ false → IsVerdict image cuts (Ok done.0)
-      stays e = record {
-        number = suc n;
-        comes = comes;
-        stays = (one_pass image cuts range spelled kept joins join.wide done.0 (good_after image cuts range spelled kept joins join.wide (suc n) done.0 comes)).0
-            ∙ ap (over image joins (edges_in cuts)) (fun_ext λ x. alike x (joins x) refl)
-            ∙ sym (one_pass image cuts range spelled kept joins join.wide on.whole (good_after image cuts range spelled kept joins join.wide n on.whole on.comes)).0
-            ∙ sym (ap (λ r. r >>= pass image cuts) on.comes) ∙ comes;
-      }
+      stays e = record { number = suc n; comes = comes; stays = by_end (leaves.ends e) }
         where
-          alike : (x : ℕ) (b : Bool) → joins x ≡ b → only_joins joins done.0 x ≡ only_joins joins on.whole x
-          alike x true is =
-              ap (λ c. if c then done.0 x else None) is ∙ done.2.way.slots x is ∙ ap (λ states. table_of states x) (moves.stays e) ∙ sym (on.before.way.slots x is) ∙ sym (ap (λ c. if c then on.whole x else None) is)
-          alike x false is = ap (λ c. if c then done.0 x else None) is ∙ sym (ap (λ c. if c then on.whole x else None) is)
+          alike : new.slots ≡ old.slots → (x : ℕ) (b : Bool) → joins x ≡ b → only_joins joins done.0 x ≡ only_joins joins on.whole x
+          alike same x true is =
+              ap (λ c. if c then done.0 x else None) is ∙ done.2.way.slots x is ∙ ap (λ states. table_of states x) same ∙ sym (on.before.way.slots x is) ∙ sym (ap (λ c. if c then on.whole x else None) is)
+          alike same x false is = ap (λ c. if c then done.0 x else None) is ∙ sym (ap (λ c. if c then on.whole x else None) is)
 
-  pub one_more : (old new : Passes) (moved m : Bool) → IsBetween image cuts joins old moved → new.is_carried ≡ false → Moves image m old.slots new.slots
+          by_end : (new.slots ≡ old.slots) ⊎ ((at : ℕ) → is_in new.changed.items at ≡ false) → pass image cuts done.0 ≡ Ok done.0
+          by_end (inl same) =
+              (one_pass image cuts range spelled kept joins join.wide done.0 (good_after image cuts range spelled kept joins join.wide (suc n) done.0 comes)).0
+              ∙ ap (over image joins (edges_in cuts)) (fun_ext λ x. alike same x (joins x) refl)
+              ∙ sym (one_pass image cuts range spelled kept joins join.wide on.whole (good_after image cuts range spelled kept joins join.wide n on.whole on.comes)).0
+              ∙ sym (ap (λ r. r >>= pass image cuts) on.comes) ∙ comes
+          by_end (inr none) =
+              sym (ap (λ r. r >>= pass image cuts) comes) ∙ one_as_defined (suc n) done.0 comes ∙ nothing_marked image cuts joins kept.spelled new done.0 done.2 rests none
+
+  pub one_more : (old new : Passes) (was m : Bool) → IsBetween image cuts joins old was → new.is_carried ≡ false → Leaves image m old new
       → ((whole : Table) → IsBefore image cuts joins old 0 whole → Carries (Ok m) (over image joins (edges_in cuts) whole) (IsBefore image cuts joins new 0)) → IsBetween image cuts joins new m
-  one_more old new moved m on rests moves gives =
-      let one = one_after old new on.number m on.after rests moves gives in
+  one_more old new was m on rests leaves gives =
+      let one = one_after old new on.number m on.after rests leaves gives in
       record { number = suc on.number; after = one.0; stays = one.1 }
-
-  pub fewer_left : (old new : Passes) (moved m : Bool) → moved ≡ true → Moves image m old.slots new.slots → left_of image m new < left_of image moved old
-  fewer_left old new moved true is moves = rw is (omega (arith, moves.falls refl))
-  fewer_left old new moved false is moves = rw is (let same : table_height image new.slots ≡ table_height image old.slots = ap (table_height image) (moves.stays refl) in omega (arith, same))
 
   -- the refusal of a pass is the verdict
   pub is_refusal : (old : Passes) (moved : Bool) (on : IsBetween image cuts joins old moved) (e : StateFault) (P : Table → Type 0) → Carries {X = Bool} (Err e) (over image joins (edges_in cuts) on.after.whole) P → IsRefusalOf image cuts e

@@ -1,11 +1,14 @@
 -- Where the passes stand before one of them refuses.
-use Rattle.std.specs.Prelude.{◌≡◌, ℕ, ◌+◌, ◌<◌, ◌^◌, Bool, List, ◌⊎◌, Ok, Err}
+use Rattle.std.specs.Prelude.{◌≡◌, ℕ, ◌+◌, ◌<◌, ◌^◌, Bool, List, ◌⊎◌, Ok, Err, IfSome}
 use Rattle.tp_decode.specs.Cutting.{Cut}
 use Rattle.tp_image.specs.Image.{ImageValue}
 use Rattle.tp_state.specs.declared.fault.StateFault.{StateFault}
+use Rattle.tp_check.specs.declared.milestones.Milestone.{Milestone}
+use Rattle.tp_check.specs.declared.milestones.Milestones.{Milestones}
 use Rattle.tp_check.specs.Tables.{Table, HasPlacedStates}
 use Rattle.tp_check.specs.Passes.{pass, passes}
 use Rattle.tp_check.specs.Carried.{only_joins}
+use Rattle.tp_check.specs.UnderWay.{IsAfter}
 
 -- no number of passes that a word of 64 bits can count refuses anything
 abbrev pub RefusesNothing : ImageValue → List Cut → Type 0
@@ -24,6 +27,15 @@ pub record IsJoined (image : ImageValue) (cuts : List Cut) (joins : ℕ → Bool
   pub comes : passes image cuts n ≡ Ok table
   pub placed : HasPlacedStates image table
   pub are : states ≡ only_joins joins table
+
+-- passes stand where their number tells
+abbrev pub IsMilestone : ImageValue → List Cut → (ℕ → Bool) → Milestone → Type 0
+IsMilestone image cuts joins m = IsAfter image cuts joins m.passes m.number
+
+-- so do those that are kept
+pub record AreMilestones (image : ImageValue) (cuts : List Cut) (joins : ℕ → Bool) (kept : Milestones) : Type 0 where
+  pub last : IfSome kept.last (IsMilestone image cuts joins)
+  pub earlier : IfSome kept.earlier (IsMilestone image cuts joins)
 
 -- So many passes refuse nothing, and of the next two one does. From these states the next pass comes to the same as from the
 -- table of those passes; they are that table, unless the next pass refuses nothing.

@@ -11,6 +11,7 @@ use Rattle.tp_flow.specs.declared.range.LoopRange.{LoopRange}
 use Rattle.tp_flow.specs.NestRanges.{ranges}
 use Rattle.tp_flow.specs.LoopsAround.{is_around, entered_by}
 use Rattle.tp_flow.specs.AroundKept.{KeepsAround}
+use Rattle.tp_flow.specs.NestKept.{KeepsNest}
 use Rattle.tp_flow.specs.Edges.{target}
 use Rattle.tp_flow.specs.RowRules.{is_start}
 use Rattle.tp_image.specs.Image.{ImageValue, InRange}
@@ -30,7 +31,7 @@ use Rattle.tp_state.specs.After.{after}
 use Rattle.tp_check.specs.declared.passes.Passes.{Passes}
 use Rattle.tp_check.specs.Tables.{Table, table_of, asked}
 use Rattle.tp_check.specs.EdgesRespect.{HasAbove}
-use Rattle.tp_check.specs.Passes.{edges_in, IsVerdict}
+use Rattle.tp_check.specs.Passes.{edges_in, passes, IsVerdict}
 use Rattle.tp_check.specs.Carried.{AreWide, IsAmong, IsLone, target_of}
 
 -- ---- what a table keeps
@@ -239,15 +240,6 @@ pub record LeavesWords (nest : List LoopRange) (place : Placed) : Type 0 where
 abbrev pub HasPlaces : List Cut → ℕ → Type 0
 HasPlaces cuts places = (at : ℕ) → IsTrue (is_start cuts at) → at < places
 
--- ---- when they are done
-
--- The passes have come to a table that one more leaves as it is: where edges join, these are its states.
-pub record IsSettled (image : ImageValue) (cuts : List Cut) (joins : ℕ → Bool) (slots : List (Option State)) : Type 0 where
-  pub few : length slots ≤ 2 ^ 32
-  pub whole : Table
-  pub verdict : IsVerdict image cuts (Ok whole)
-  pub there : (at : ℕ) → joins at ≡ true → whole at ≡ table_of slots at
-
 -- ---- how far the passes have to go
 
 -- a whole number, or 0 in place of one below 0
@@ -279,6 +271,48 @@ height image (Some s) = state_height s
 -- and to a table
 unfoldable pub table_height : ImageValue → List (Option State) → ℕ
 table_height image states = sum_by (height image) states
+
+-- ---- between two passes
+
+-- so many passes have been made
+pub record IsAfter (image : ImageValue) (cuts : List Cut) (joins : ℕ → Bool) (p : Passes) (number : ℕ) : Type 0 where
+  pub places : HasPlaces cuts (length p.slots)
+  pub few : length p.slots ≤ 2 ^ 32
+  pub rests : p.is_carried ≡ false
+  pub whole : Table
+  pub before : IsBefore image cuts joins p 0 whole
+  pub comes : passes image cuts number ≡ Ok whole
+
+-- none has, over a code whose instructions stand at so many addresses
+abbrev pub IsBeginning : ImageValue → ℕ → Passes → Type 0
+IsBeginning image places p =
+    (cuts : List Cut) (joins : ℕ → Bool) → HasPlaces cuts places → KeepsNest image.loops image.workspace cuts → AreJoins image cuts joins
+    → IsAfter image cuts joins p 0
+
+-- a copy of them, without the room for a second state
+pub record IsCopyOf (p copy : Passes) : Type 0 where
+  pub slots : copy.slots ≡ p.slots
+  pub changed : copy.changed.items ≡ p.changed.items
+  pub taken : copy.taken.items ≡ p.taken.items
+  pub is_carried : copy.is_carried ≡ p.is_carried
+  pub carried : copy.carried ≡ p.carried
+  pub spare : copy.spare ≡ None
+
+-- Whether a pass leaves edges to be taken is told: where it does, fewer changes are left; and where it does not, it has changed no
+-- state that is kept, or has left no address marked.
+pub record Leaves (image : ImageValue) (is_left : Bool) (old new : Passes) : Type 0 where
+  pub sized : length new.slots ≡ length old.slots
+  pub falls : is_left ≡ true → table_height image new.slots < table_height image old.slots
+  pub ends : is_left ≡ false → (new.slots ≡ old.slots) ⊎ ((at : ℕ) → is_in new.changed.items at ≡ false)
+
+-- ---- when they are done
+
+-- The passes have come to a table that one more leaves as it is: where edges join, these are its states.
+pub record IsSettled (image : ImageValue) (cuts : List Cut) (joins : ℕ → Bool) (slots : List (Option State)) : Type 0 where
+  pub few : length slots ≤ 2 ^ 32
+  pub whole : Table
+  pub verdict : IsVerdict image cuts (Ok whole)
+  pub there : (at : ℕ) → joins at ≡ true → whole at ≡ table_of slots at
 
 -- ---- what a step of the passes does
 

@@ -1,6 +1,6 @@
 //! What the passes take.
 
-/// What the passes have taken, from the first to the one that refused or changed nothing. A count stays at the greatest
+/// What the passes have taken, from the first to the one that refused or left nothing to be taken. A count stays at the greatest
 /// number that it can hold.
 #[derive(Debug, Clone, Copy, Default, PartialEq, Eq)]
 pub struct Effort {

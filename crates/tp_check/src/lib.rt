@@ -8,15 +8,14 @@ mod aside;
 mod effort;
 mod kept;
 pub mod laws;
+mod milestones;
 mod near;
 mod passes;
-mod slot;
-mod slots;
 mod table;
 mod way;
 
 pub use effort::Effort;
+pub use kept::Kept;
 pub use near::{NearRefusal, near_refusal};
 pub use passes::{check_states, check_states_counting, judge_states, places_of};
-pub use slots::Slots;
 pub use table::Table;

@@ -10,10 +10,11 @@ ghost use Rattle.tp_check.specs.Tables.{Table as WholeTable, table_of};
 ghost use Rattle.tp_check.specs.Passes.{passes};
 ghost use Rattle.tp_check.specs.Joining.{joins_at};
 ghost use Rattle.tp_check.specs.UnderWay.{AreJoins, HasPlaces};
-ghost use Rattle.tp_check.specs.NearRefusal.{IsNearRefusal, IsLastQuiet, IsJoined, RefusesNothing};
+ghost use Rattle.tp_check.specs.NearRefusal.{IsNearRefusal, IsLastQuiet, IsJoined, IsMilestone, AreMilestones, RefusesNothing};
 
+use crate::kept::Kept;
+use crate::milestones::{Milestone, Milestones};
 use crate::passes::{Passes, places_of};
-use crate::slots::Slots;
 use crate::way::Ways;
 use std::alloc::{AllocError, Global};
 use tp_decode::Listing;
@@ -27,12 +28,13 @@ pub struct NearRefusal {
     /// How many passes were made. They refuse nothing, and of the next two one refuses.
     pub passes: u64,
     /// What is known then where edges join, from which the next pass comes to the same as from all that is known.
-    pub states: Slots,
+    pub states: Kept,
 }
 
 /// Where the passes over a code stand before the one that refuses, of an image whose flow has passed and of its code's listing;
-/// or none, where 2^64 - 1 passes refuse nothing. The passes carry one state, as those of `check_states` do; they are made
-/// twice, since what is known where edges join changes while a pass is made.
+/// or none, where 2^64 - 1 passes refuse nothing. The passes carry one state, as those of `check_states` do. What is known
+/// where edges join changes while a pass is made, so some of them are made again: from where they stood when their number had
+/// doubled last, which is at most half of them.
 pub fn near_refusal(
     alloc: Global,
     image: &Image,
@@ -47,15 +49,19 @@ pub fn near_refusal(
 {
     let places = places_of(listing);
     let ways = Ways::of(alloc, image, listing, nest, places)?;
-    let Some(quiet) = quiet_passes(alloc, image, listing, nest, places, &ways)? else {
+    let mut milestones = Milestones::none();
+    let Some(quiet) = quiet_passes(alloc, image, listing, nest, places, &ways, &mut milestones)?
+    else {
         return Ok(None);
     };
     let passes = quiet.saturating_sub(1);
-    let states = joined_after(alloc, image, listing, nest, places, &ways, passes)?;
+    let from = milestones.latest(alloc, image, places, passes)?;
+    let states = joined_after(alloc, image, listing, nest, &ways, from, passes)?;
     Ok(Some(NearRefusal { passes, states }))
 }
 
-/// How many passes refuse nothing, where the next one refuses; or none, where 2^64 - 1 passes refuse nothing.
+/// How many passes refuse nothing, where the next one refuses; or none, where 2^64 - 1 passes refuse nothing. Where they stand
+/// when their number has doubled is kept.
 fn quiet_passes(
     alloc: Global,
     image: &Image,
@@ -63,6 +69,7 @@ fn quiet_passes(
     nest: &Nest,
     places: usize,
     ways: &Ways,
+    milestones: &mut Milestones,
 ) -> Result<Option<u64>, AllocError>
     requires kept { KeepsNest image.now.loops image.now.workspace listing.now }
     requires nest { nest.now ≡ ranges image.now.loops }
@@ -72,6 +79,7 @@ fn quiet_passes(
     requires all { HasPlaces listing.now places }
     ensures last { IfOk result (λ found. IfSome found (IsLastQuiet image.now listing.now)) }
     ensures none { IfOk result (λ found. found ≡ None → RefusesNothing image.now listing.now) }
+    ensures milestones { AreMilestones image.now listing.now (joins_at ways.now) milestones.old → AreMilestones image.now listing.now (joins_at ways.now) milestones.new }
     // This is known of every image, and of every listing.
     ensures in_range { InRange image.now }
     ensures spelled { AllByRecursion IsSpelled listing.now }
@@ -79,6 +87,7 @@ fn quiet_passes(
     listing.is_spelled();
     let mut passes = Passes::begin(alloc, image, places)?;
     for number in 0..u64::MAX {
+        milestones.pass_by(alloc, number, &passes)?;
         match passes.pass(alloc, image, listing, nest, ways) {
             Ok(true) => {}
             Ok(false) => return Ok(None),
@@ -89,35 +98,39 @@ fn quiet_passes(
     Ok(None)
 }
 
-/// What is known where edges join after so many passes, which refuse nothing.
+/// What is known where edges join after so many passes, which refuse nothing: they are made from where fewer of them stand.
 fn joined_after(
     alloc: Global,
     image: &Image,
     listing: &Listing,
     nest: &Nest,
-    places: usize,
     ways: &Ways,
+    from: Milestone,
     number: u64,
-) -> Result<Slots, AllocError>
+) -> Result<Kept, AllocError>
+    requires range { InRange image.now }
     requires kept { KeepsNest image.now.loops image.now.workspace listing.now }
     requires nest { nest.now ≡ ranges image.now.loops }
     requires join { AreJoins image.now listing.now (joins_at ways.now) }
-    requires some { 0 < places }
-    requires few { places ≤ 2 ^ 32 }
-    requires all { HasPlaces listing.now places }
+    requires stands { IsMilestone image.now listing.now (joins_at ways.now) from }
+    requires early { from.number ≤ number }
     requires quiet { (table : WholeTable) × (passes image.now listing.now number ≡ Ok table) }
-    ensures joined { IfOk result (λ slots. IsJoined image.now listing.now (joins_at ways.now) number (table_of slots)) }
-    ensures places { IfOk result (λ slots. HasPlaces listing.now (length slots)) }
+    ensures joined { IfOk result (λ states. IsJoined image.now listing.now (joins_at ways.now) number (table_of states)) }
+    ensures places { IfOk result (λ states. HasPlaces listing.now (length states)) }
 {
     listing.is_spelled();
-    let mut passes = Passes::begin(alloc, image, places)?;
-    for _pass in 0..number {
+    let Milestone {
+        number: made,
+        mut passes,
+    } = from;
+    for _pass in made..number {
         match passes.pass(alloc, image, listing, nest, ways) {
             Ok(_) => {}
             Err(StateFault::Refused { .. }) => unreachable!(),
             Err(StateFault::Memory) => return Err(AllocError),
         }
     }
-    let states = Slots::joined(alloc, &passes.slots, ways)?;
+    let mut states = passes.slots;
+    states.keep_joined(ways);
     Ok(states)
 }

@@ -1,6 +1,6 @@
-//! The passes: a table is made edge by edge until a pass changes nothing.
+//! The passes: a table is made edge by edge until a pass leaves no edge to be taken.
 
-ghost use Rattle.std.specs.Prelude.{◌≡◌, ◌≢◌, ◌<◌, ◌≤◌, ◌+◌, ◌^◌, ◌∷◌, [], ℕ, true, false, length, List, slice_index_or, Some, None, Ok, IfOk, IfErr, IfSome, OnOk};
+ghost use Rattle.std.specs.Prelude.{◌≡◌, ◌≢◌, ◌<◌, ◌≤◌, ◌+◌, ◌^◌, ◌∷◌, [], ℕ, true, false, length, List, Some, Ok, IfOk, IfErr, IfSome, OnOk};
 ghost use Rattle.std.specs.List.{AllByRecursion};
 ghost use Rattle.tp_decode.specs.Cutting.{Cut, IsSpelled};
 ghost use Rattle.tp_decode.specs.declared.instr.Instr.{Instr as AnInstr};
@@ -14,11 +14,11 @@ ghost use Rattle.tp_state.specs.Order.{IsBelow};
 ghost use Rattle.tp_state.specs.declared.fault.StateFault.TheVariants as fault;
 ghost use Rattle.tp_check.specs.Tables.{Table as WholeTable, table_of, asked};
 ghost use Rattle.tp_check.specs.EdgesRespect.{HasNoTable};
-ghost use Rattle.tp_check.specs.Passes.{first_table, enter, edges_of, edges_in, IsVerdict, IsRefusalOf};
+ghost use Rattle.tp_check.specs.Passes.{enter, edges_of, edges_in, IsVerdict, IsRefusalOf};
 ghost use Rattle.tp_check.specs.Carried.{over, IsTableOf};
 ghost use Rattle.tp_check.specs.StatesThere.{AreStatesThere};
 ghost use Rattle.tp_check.specs.Joining.{joins_at, keeps_at};
-ghost use Rattle.tp_check.specs.UnderWay.{AreJoins, HasPlaces, MayBeTaken, StandsIn, IsBefore, Carries, Gives, Moves, marked, SameButSlots, IsStarted, KeepsSound, CameBefore, IsBegun, IsOnEdge, IsAfterEdge, IsLedOn, IsSettled};
+ghost use Rattle.tp_check.specs.UnderWay.{is_in, IsBeginning, IsCopyOf, Leaves, AreJoins, HasPlaces, MayBeTaken, StandsIn, IsBefore, Carries, Gives, Moves, marked, SameButSlots, IsStarted, KeepsSound, CameBefore, IsBegun, IsOnEdge, IsAfterEdge, IsLedOn, IsSettled};
 
 use crate::aside::{Registers, leaves_words};
 use crate::effort::Effort;
@@ -105,7 +105,7 @@ pub fn judge_states(
     Ok(())
 }
 
-/// The states where edges join, when a pass has changed none of them; or the first refusal. What the passes have taken is added
+/// The states where edges join, when a pass leaves no edge to be taken; or the first refusal. What the passes have taken is added
 /// to `effort`.
 fn settle(
     alloc: Global,
@@ -131,12 +131,12 @@ fn settle(
 {
     listing.is_spelled();
     let mut passes = Passes::begin(alloc, image, places)?;
-    let mut moved = true;
-    while moved {
+    let mut is_left = true;
+    while is_left {
         effort.passes = effort.passes.saturating_add(1);
         let answer = passes.pass(alloc, image, listing, nest, ways);
         effort.outcomes = passes.outcomes;
-        moved = answer?;
+        is_left = answer?;
     }
     Ok(passes.slots)
 }
@@ -146,7 +146,8 @@ fn settle(
 pub(crate) struct Passes {
     /// The states where edges join.
     pub(crate) slots: Kept,
-    /// Whether the state where edges join has changed since the edges from there were last taken; at first, of each.
+    /// By address, whether it is marked: edges join there, and the state has changed since the edges from there were last taken. At
+    /// first the first address is.
     changed: Vec<bool>,
     /// Whether the edges from there were taken before.
     taken: Vec<bool>,
@@ -167,15 +168,8 @@ impl Passes {
     /// Before the first pass.
     pub(crate) fn begin(alloc: Global, image: &Image, places: usize) -> Result<Passes, AllocError>
         requires some { 0 < places }
-        ensures slots { IfOk result (λ p. table_of p.slots ≡ first_table image.now) }
-        ensures sized { IfOk result (λ p. length p.slots ≡ places) }
-        ensures flags { IfOk result (λ p. length p.changed.items ≡ places) }
-        ensures marked { IfOk result (λ p. (at : ℕ) → at < places → slice_index_or p.changed.items at false ≡ true) }
-        ensures takes { IfOk result (λ p. length p.taken.items ≡ places) }
-        ensures fresh { IfOk result (λ p. (at : ℕ) → at < places → slice_index_or p.taken.items at false ≡ false) }
-        ensures rests { IfOk result (λ p. p.is_carried ≡ false) }
-        ensures carried { IfOk result (λ p. IsPlaced image.now p.carried) }
-        ensures spare { IfOk result (λ p. p.spare ≡ None) }
+        requires few { places ≤ 2 ^ 32 }
+        ensures begins { IfOk result (IsBeginning image.now places) }
         // This is known of every image.
         ensures in_range { InRange image.now }
     {
@@ -183,8 +177,8 @@ impl Passes {
         let _ = &image.code;
         let carried = State::entry(alloc, image)?;
         let slots = Kept::first(alloc, image, &carried, places)?;
-        let changed = vec![in alloc; true; places]?;
-        let taken = vec![in alloc; false; places]?;
+        let changed = first_marked(alloc, places)?;
+        let taken = none_marked(alloc, places)?;
         Ok(Passes {
             slots,
             changed,
@@ -197,8 +191,58 @@ impl Passes {
         })
     }
 
-    /// One pass. It answers whether a state that is kept has changed.
+    /// A copy, between two passes.
+    pub(crate) fn copy_of(&self, alloc: Global) -> Result<Passes, AllocError>
+        ensures { IfOk result (IsCopyOf self.now) }
+    {
+        let slots = self.slots.copy_of(alloc)?;
+        let changed = Vec::from_slice(alloc, &self.changed)?;
+        let taken = Vec::from_slice(alloc, &self.taken)?;
+        let carried = self.carried.copy_of(alloc)?;
+        Ok(Passes {
+            slots,
+            changed,
+            taken,
+            is_carried: self.is_carried,
+            is_again: self.is_again,
+            carried,
+            spare: None,
+            outcomes: self.outcomes,
+        })
+    }
+
+    /// One pass. It answers whether it leaves edges to be taken: whether it has changed a state that is kept, and one is marked
+    /// from which they have still to be taken.
     pub(crate) fn pass(
+        &mut self,
+        alloc: Global,
+        image: &Image,
+        listing: &Listing,
+        nest: &Nest,
+        ways: &Ways,
+    ) -> Result<bool, StateFault>
+        requires range { InRange image.now }
+        requires kept { KeepsNest image.now.loops image.now.workspace listing.now }
+        requires spelled { AllByRecursion IsSpelled listing.now }
+        requires nest { nest.now ≡ ranges image.now.loops }
+        requires join { AreJoins image.now listing.now (joins_at ways.now) }
+        requires places { HasPlaces listing.now (length self.old.slots) }
+        requires rests { self.old.is_carried ≡ false }
+        requires way { (whole : WholeTable) × IsBefore image.now listing.now (joins_at ways.now) self.old 0 whole }
+        ensures gives { (whole : WholeTable) → IsBefore image.now listing.now (joins_at ways.now) self.old 0 whole →
+            Carries result (over image.now (joins_at ways.now) (edges_in listing.now) whole) (IsBefore image.now listing.now (joins_at ways.now) self.new 0) }
+        ensures rests { OnOk result (self.new.is_carried ≡ false) }
+        ensures leaves { IfOk result (λ is_left. Leaves image.now is_left self.old self.new) }
+    {
+        if self.take_all(alloc, image, listing, nest, ways)? {
+            Ok(is_any(&self.changed))
+        } else {
+            Ok(false)
+        }
+    }
+
+    /// The edges of each instruction are taken, by rising address. It answers whether a state that is kept has changed.
+    fn take_all(
         &mut self,
         alloc: Global,
         image: &Image,
@@ -455,6 +499,38 @@ impl Passes {
         }
         Ok(moved)
     }
+}
+
+/// The first of so many addresses is marked, and no other: it alone has a state before the first pass.
+fn first_marked(alloc: Global, places: usize) -> Result<Vec<bool>, AllocError>
+    requires { 0 < places }
+    ensures sized { IfOk result (λ flags. length flags.items ≡ places) }
+    ensures first { IfOk result (λ flags. is_in flags.items 0 ≡ true) }
+{
+    let mut flags = none_marked(alloc, places)?;
+    flags[0] = true;
+    Ok(flags)
+}
+
+/// So many addresses, none of them marked.
+fn none_marked(alloc: Global, places: usize) -> Result<Vec<bool>, AllocError>
+    ensures sized { IfOk result (λ flags. length flags.items ≡ places) }
+    ensures none { IfOk result (λ flags. (at : ℕ) → at < places → is_in flags.items at ≡ false) }
+{
+    let flags = vec![in alloc; false; places]?;
+    Ok(flags)
+}
+
+/// Whether an address is marked.
+fn is_any(flags: &[bool]) -> bool
+    ensures { result ≡ false → (at : ℕ) → is_in flags.now at ≡ false }
+{
+    for flag in flags {
+        if *flag {
+            return true;
+        }
+    }
+    false
 }
 
 /// How many addresses there are, up to that of the last instruction: at least one.

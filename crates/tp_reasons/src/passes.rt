@@ -13,7 +13,7 @@ ghost use Rattle.tp_reasons.specs.FirstRefusals.{IsFirstRefusal, EndsAs};
 
 use crate::refusal::{EdgeRefusal, FirstRefusal};
 use std::alloc::{AllocError, Global};
-use tp_check::{NearRefusal, Slots, near_refusal};
+use tp_check::{Kept, NearRefusal, near_refusal};
 use tp_decode::{Instr, Listing, Placed};
 use tp_flow::{Edge, Nest, edges};
 use tp_image::Image;
@@ -98,7 +98,7 @@ fn pass(
     image: &Image,
     nest: &Nest,
     asked: &[Asked],
-    table: &mut Slots,
+    table: &mut Kept,
 ) -> Result<Option<EdgeRefusal>, AllocError>
     requires good { HasGoodLoops image.now }
     requires nest { nest.now ≡ ranges image.now.loops }
@@ -133,7 +133,7 @@ fn take(
     nest: &Nest,
     instruction: Placed,
     edge: Edge,
-    table: &mut Slots,
+    table: &mut Kept,
 ) -> Result<bool, StateFault>
     requires good { HasGoodLoops image.now }
     requires nest { nest.now ≡ ranges image.now.loops }
@@ -145,10 +145,10 @@ fn take(
     ensures stays { OnErr result (table.new ≡ table.old) }
 {
     let Placed { at, instr, next } = instruction;
-    let Some(before) = table.at(at) else {
+    let Some(before) = table.state_at(alloc, at)? else {
         return Ok(false);
     };
-    let outcome = after(alloc, before, at, next, instr, edge, image, nest)?;
+    let outcome = after(alloc, &before, at, next, instr, edge, image, nest)?;
     match nest.target(at, next, instr, edge) {
         Some(to) => table.enter(alloc, image, to, &outcome, false),
         None => Ok(false),

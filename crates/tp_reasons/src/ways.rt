@@ -28,7 +28,7 @@ pub(crate) fn ways_of(
         if found.passes == 0 && *from == refused.instruction && *edge == refused.edge {
             return Ok(ways);
         }
-        if found.table.at(from.at).is_some() {
+        if found.table.has(from.at) {
             if let Some(to) = nest.target(from.at, from.next, from.instr, *edge) {
                 ways.push(Way {
                     from: *from,

@@ -4,7 +4,7 @@ use crate::known::KnownRegister;
 use crate::ways::Way;
 use std::alloc::{AllocError, Global};
 use std::fmt;
-use tp_check::Slots;
+use tp_check::Kept;
 use tp_decode::{Instr, Placed};
 use tp_flow::{Edge, Nest};
 use tp_image::Image;
@@ -164,33 +164,40 @@ pub(crate) fn written_by(
     }
 }
 
-/// What the way along an edge does to a word.
-fn wrote_along(image: &Image, nest: &Nest, table: &Slots, way: &Way, word: usize) -> Option<Wrote> {
-    written_by(
-        image,
-        nest,
-        way.from,
-        way.edge,
-        table.at(way.from.at)?,
-        word,
-    )
+/// A way along an edge, and what it does to a word.
+#[derive(Clone, Copy)]
+pub(crate) struct Passage {
+    pub(crate) way: Way,
+    /// None where it leaves the word as it is.
+    pub(crate) wrote: Option<Wrote>,
 }
 
-/// Marks each address from which an edge that leaves a word as it is leads to a marked one. Whether there is one more.
-fn mark_before(
+/// What each way does to a word.
+pub(crate) fn passages_of(
+    alloc: Global,
     image: &Image,
     nest: &Nest,
-    table: &Slots,
+    table: &Kept,
     ways: &[Way],
     word: usize,
-    marks: &mut [bool],
-) -> bool {
+) -> Result<Vec<Passage>, AllocError> {
+    let mut passages = Vec::with_capacity(alloc, ways.len())?;
+    for way in ways {
+        let wrote = match table.state_at(alloc, way.from.at)? {
+            Some(state) => written_by(image, nest, way.from, way.edge, &state, word),
+            None => None,
+        };
+        passages.push(Passage { way: *way, wrote })?;
+    }
+    Ok(passages)
+}
+
+/// Marks each address from which an edge that leaves the word as it is leads to a marked one. Whether there is one more.
+fn mark_before(passages: &[Passage], marks: &mut [bool]) -> bool {
     let mut has_more = false;
-    for way in ways.iter().rev() {
-        if marks.get(way.to) == Some(&true)
-            && wrote_along(image, nest, table, way, word).is_none()
-        {
-            if let Some(mark) = marks.get_mut(way.from.at) {
+    for passage in passages.iter().rev() {
+        if passage.wrote.is_none() && marks.get(passage.way.to) == Some(&true) {
+            if let Some(mark) = marks.get_mut(passage.way.from.at) {
                 has_more = has_more || !*mark;
                 *mark = true;
             }
@@ -199,41 +206,22 @@ fn mark_before(
     has_more
 }
 
-/// The addresses at which what a word has is what it has at one of them.
+/// The addresses, of so many, at which the word has what it has at one of them.
 pub(crate) fn same_before(
     alloc: Global,
-    image: &Image,
-    nest: &Nest,
-    table: &Slots,
-    ways: &[Way],
-    word: usize,
+    places: usize,
+    passages: &[Passage],
     at: usize,
 ) -> Result<Vec<bool>, AllocError> {
     let mut marks = Vec::new(alloc);
-    marks.resize(table.len(), false)?;
+    marks.resize(places, false)?;
     if let Some(mark) = marks.get_mut(at) {
         *mark = true;
     }
-    for _ in 0..table.len() {
-        if !mark_before(image, nest, table, ways, word, &mut marks) {
+    for _ in 0..places {
+        if !mark_before(passages, &mut marks) {
             return Ok(marks);
         }
     }
     Ok(marks)
-}
-
-/// The instruction that writes a word on an edge to a marked address, and what it does to it.
-pub(crate) fn writer_along(
-    image: &Image,
-    nest: &Nest,
-    table: &Slots,
-    way: &Way,
-    word: usize,
-    marks: &[bool],
-) -> Option<Wrote> {
-    if marks.get(way.to) == Some(&true) {
-        wrote_along(image, nest, table, way, word)
-    } else {
-        None
-    }
 }

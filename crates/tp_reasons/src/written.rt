@@ -5,10 +5,9 @@ use crate::refusal::{EdgeRefusal, FirstRefusal};
 use crate::source::SourceText;
 use crate::telling::TellFault;
 use crate::ways::{Way, ways_of};
-use crate::writers::{Wrote, same_before, writer_along, written_by};
+use crate::writers::{Passage, Wrote, passages_of, same_before, written_by};
 use std::alloc::Global;
 use std::io::Write;
-use tp_check::Slots;
 use tp_decode::{Instr, Listing, Placed};
 use tp_flow::Nest;
 use tp_image::Image;
@@ -58,8 +57,9 @@ fn tell_writers<W: Write>(
         found,
         ..
     } = finding;
-    let table: &Slots = &found.table;
-    let marks = same_before(alloc, image, nest, table, ways, word, at)?;
+    let table = &found.table;
+    let passages = passages_of(alloc, image, nest, table, ways, word)?;
+    let marks = same_before(alloc, table.len(), &passages, at)?;
     if marks.first() == Some(&true) {
         let first = image.initial.get(word).copied().unwrap_or(0).cast_signed();
         let word = source.word(word);
@@ -69,9 +69,9 @@ fn tell_writers<W: Write>(
         )
         .map_err(|_| TellFault::Write)?;
     }
-    for way in ways {
-        if let Some(did) = writer_along(image, nest, table, way, word, &marks) {
-            tell_writer(source, word, way.from, did, output)?;
+    for Passage { way, wrote } in &passages {
+        if let (Some(wrote), Some(true)) = (wrote, marks.get(way.to)) {
+            tell_writer(source, word, way.from, *wrote, output)?;
         }
     }
     Ok(())
@@ -96,8 +96,8 @@ fn tell_register<W: Write>(
         instr,
         ..
     } = origin;
-    let read = match (instr, finding.found.table.at(from)) {
-        (Instr::Ldl(n), Some(state)) => local_word(state, n),
+    let read = match (instr, finding.found.table.state_at(alloc, from)?) {
+        (Instr::Ldl(n), Some(state)) => local_word(&state, n),
         _ => None,
     };
     let Some(word) = read else {
@@ -191,20 +191,20 @@ pub(crate) fn tell_written<W: Write>(
 ) -> Result<(), TellFault> {
     let refusal = &finding.found.refusal;
     let at = refusal.instruction.at;
-    let Some(state) = finding.found.table.at(at) else {
+    let Some(state) = finding.found.table.state_at(alloc, at)? else {
         return Ok(());
     };
     let ways = ways_of(alloc, finding.listing, finding.nest, finding.found)?;
     match (refusal.code, refusal.instruction.instr) {
-        (StateCode::S2, instr) => match wrong_register(instr, state) {
+        (StateCode::S2, instr) => match wrong_register(instr, &state) {
             Some(register) => tell_register(alloc, finding, &ways, register, output),
             None => Ok(()),
         },
-        (StateCode::S4, Instr::Ldl(n)) => match local_word(state, n) {
+        (StateCode::S4, Instr::Ldl(n)) => match local_word(&state, n) {
             Some(word) => tell_writers(alloc, finding, &ways, word, at, output),
             None => Ok(()),
         },
-        (StateCode::S5, _) => tell_block(alloc, finding, &ways, state, output),
+        (StateCode::S5, _) => tell_block(alloc, finding, &ways, &state, output),
         _ => Ok(()),
     }
 }

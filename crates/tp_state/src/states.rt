@@ -165,6 +165,37 @@ impl States {
         let row = &self.rows[stored.row];
         stored.alone(alloc, row.values())
     }
+
+    /// A copy of all.
+    pub fn copy_of_all(&self, alloc: Global) -> Result<States, AllocError>
+        ensures { IfOk result (λ copy. copy ≡ self.now) }
+    {
+        let stored = copied_stored(alloc, &self.stored)?;
+        let rows = copied_rows(alloc, &self.rows)?;
+        Ok(States { stored, rows })
+    }
+}
+
+/// A copy of states that are kept in rows.
+fn copied_stored(alloc: Global, stored: &[Stored]) -> Result<Vec<Stored>, AllocError>
+    ensures { IfOk result (λ copy. copy.items ≡ stored.now) }
+{
+    let mut copy = Vec::with_capacity(alloc, stored.len())?;
+    for state in stored {
+        copy.push(state.copy())?;
+    }
+    Ok(copy)
+}
+
+/// A copy of rows.
+fn copied_rows(alloc: Global, rows: &[Row]) -> Result<Vec<Row>, AllocError>
+    ensures { IfOk result (λ copy. copy.items ≡ rows.now) }
+{
+    let mut copy = Vec::with_capacity(alloc, rows.len())?;
+    for row in rows {
+        copy.push(Row::of(alloc, row.values())?)?;
+    }
+    Ok(copy)
 }
 
 /// The number of a row that has these values: the last one's, or that of one more.

@@ -9,7 +9,7 @@ ghost use Rattle.tp_state.specs.Stored.{state_with};
 use crate::cells::{Cells, join_agreeing_words, join_words};
 use crate::fault::StateCode;
 use crate::kind::Kind;
-use crate::planes::Planes;
+use crate::planes::{Planes, copied_planes};
 use crate::state::{State, join_kind};
 use std::alloc::{AllocError, Global};
 
@@ -108,6 +108,21 @@ impl Stored {
         state.b = self.b;
         state.c = self.c;
         state.cells.rise_to_words(values, &self.planes);
+    }
+
+    /// A copy, whose row is the same.
+    pub(crate) fn copy(&self) -> Stored
+        ensures { result ≡ self.now }
+    {
+        Stored {
+            wptr: self.wptr,
+            a: self.a,
+            b: self.b,
+            c: self.c,
+            phase: self.phase,
+            planes: copied_planes(&self.planes),
+            row: self.row,
+        }
     }
 
     /// A state by itself.

@@ -1,6 +1,5 @@
-use Rattle.std.proofs.Common.{◌≡◌, refl, sym, ap, ◌∙◌, subst}
+use Rattle.std.proofs.Common.{refl, sym, ap, ◌∙◌, subst}
 use Rattle.std.proofs.lemmas.Option.{same_Some}
-use Rattle.tp_state.specs.declared.state.State.{State}
 use Rattle.tp_state.specs.Order.{IsBelow, join}
 use Rattle.tp_state.specs.Answer.{answered}
 use Rattle.tp_check.specs.Passes.{placed}

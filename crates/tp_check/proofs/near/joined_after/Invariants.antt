@@ -1,5 +1,5 @@
 use Rattle.tp_check.specs.Joining.{joins_at}
-use Rattle.tp_check.proofs.Verdict.{IsAfter}
+use Rattle.tp_check.specs.UnderWay.{IsAfter}
 use Rattle.tp_check.proofs.near.joined_after.Given as goal
 
 abbrev pub invariant-loop-pass : goal.invariant-loop-pass

@@ -2,8 +2,13 @@ use Rattle.std.proofs.Common.{◌≡◌, ◌-◌, subst, arith}
 use Rattle.std.specs.Prelude.{IfSome}
 use Rattle.tp_check.specs.Joining.{joins_at}
 use Rattle.tp_check.specs.NearRefusal.{IsLastQuiet}
-use Rattle.tp_check.proofs.LastQuiet.{before_last, is_near}
+use Rattle.tp_check.proofs.LastQuiet.{before_last, is_near, no_milestones}
 use Rattle.tp_check.proofs.near.near_refusal.Goals as goal
+
+pub joined_after-requires-clause-stands : goal.joined_after-requires-clause-stands
+joined_after-requires-clause-stands c =
+    c.in_ok-from.ensures.stands c.args.listing.now (joins_at c.in_ok-ways.ways) c.places_of-places.ensures.all c.requires.kept c.in_ok-ways.ensures.joins
+    (c.quiet_passes.ensures.milestones (no_milestones c.args.image.now c.args.listing.now (joins_at c.in_ok-ways.ways) _ c.none-milestones.ensures.last c.none-milestones.ensures.earlier))
 
 pub joined_after-requires-clause-quiet : goal.joined_after-requires-clause-quiet
 joined_after-requires-clause-quiet c =

@@ -1,4 +1,4 @@
-use Rattle.std.proofs.Common.{◌≡◌, ap, sym, ◌∙◌, subst, slice_index_or, slice_set, Some, None, Ok, true}
+use Rattle.std.proofs.Common.{◌≡◌, ◌∙◌, subst, slice_index_or, slice_set, Some, None, Ok, true}
 use Rattle.std.specs.Prelude.{IfOk, IfSome}
 use Rattle.tp_state.specs.Conditions.{IsPlaced}
 use Rattle.tp_check.specs.Tables.{table_of}

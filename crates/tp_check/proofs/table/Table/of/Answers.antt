@@ -1,4 +1,4 @@
-use Rattle.std.proofs.Common.{◌≡◌, ◌+◌, ◌≤◌, length, true, false, sym, ap, ◌∙◌, arith}
+use Rattle.std.proofs.Common.{◌≡◌, ◌+◌, ◌≤◌, length, true, false, sym, ◌∙◌, arith}
 use Rattle.tp_check.specs.Tables.{table_of}
 use Rattle.tp_check.specs.Joining.{keeps_at}
 use Rattle.tp_check.proofs.Keeping.{some_skip, some_push, some_all}

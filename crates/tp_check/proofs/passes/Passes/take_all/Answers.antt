@@ -7,8 +7,8 @@ use Rattle.tp_check.proofs.Loading.{loads_word}
 use Rattle.tp_check.proofs.Places.{stands_at}
 use Rattle.tp_check.proofs.Ways.{carried_on}
 use Rattle.tp_check.proofs.Verdict.{stands_in, none_come, here_before, stop_there, come_on, come_all}
-use Rattle.tp_check.proofs.passes.Passes.pass.Goals as goal
-use Rattle.tp_check.proofs.passes.Passes.pass.Goals.{in-Some+in_ok-take+then-branch, in-Some+in_ok-take+else-branch, in_default}
+use Rattle.tp_check.proofs.passes.Passes.take_all.Goals as goal
+use Rattle.tp_check.proofs.passes.Passes.take_all.Goals.{in-Some+in_ok-take+then-branch, in-Some+in_ok-take+else-branch, in_default}
 
 pub loop-i-init : goal.loop-i-init
 loop-i-init c = record {

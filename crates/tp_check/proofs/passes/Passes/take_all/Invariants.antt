@@ -2,7 +2,7 @@ use Rattle.tp_check.specs.Tables.{Table}
 use Rattle.tp_check.specs.Joining.{joins_at}
 use Rattle.tp_check.specs.UnderWay.{IsBefore, Moves}
 use Rattle.tp_check.proofs.Verdict.{Comes}
-use Rattle.tp_check.proofs.passes.Passes.pass.Given as goal
+use Rattle.tp_check.proofs.passes.Passes.take_all.Given as goal
 
 abbrev pub invariant-loop-i : goal.invariant-loop-i
 invariant-loop-i l = record {

@@ -1,0 +1,118 @@
+//! Where the passes stand before one of them refuses.
+
+ghost use Rattle.std.specs.Prelude.{◌<◌, ◌≤◌};
+
+use crate::reading::read;
+use std::alloc::{AllocError, Global};
+use std::process::Abort;
+use std::test::Fail;
+use tp_check::{NearRefusal, near_refusal};
+use tp_flow::check_flow;
+use tp_samples::*;
+use tp_state::Cell;
+
+/// The passes near the refusal; none, where nothing is refused.
+fn near(rt: &(impl Abort + AllocGlobal), bytes: &[u8]) -> Option<NearRefusal> {
+    let (image, listing) = read(rt, bytes);
+    let nest = check_flow(&image, &listing).expect(rt, "a nest");
+    near_refusal(rt.alloc(), &image, &listing, &nest).expect(rt, "memory")
+}
+
+#[test]
+fn stands_before_the_first_pass(rt: HostRuntime) {
+    let near = near(&rt, READS_AFTER_JUMP).expect(&rt, "a refusal");
+    assert_eq!(rt; near.passes, 0);
+    assert!(rt; near.states.has(0));
+    assert!(rt; !near.states.has(8));
+}
+
+#[test]
+fn finds_no_refusal(rt: HostRuntime) {
+    assert!(rt; near(&rt, INCREMENT).is_none());
+}
+
+/// A header of version 2 but for its code bytes: 32 words, Wptr at word 8, a row.
+const HEADER: [u8; 12] = [
+    0x20, 0x00, 0x08, 0x00, 0x01, 0x00, 0x01, 0x00, 0x01, 0x00, 0x00, 0x00,
+];
+
+/// What takes the packet, and what sets the loop's block: ldc 0, stl 21, ldc 1, stl 22.
+const BEGINNING: [u8; 12] = [
+    0x10, 0x24, 0xF2, 0x54, 0x44, 0xF7, 0x40, 0x21, 0xD5, 0x41, 0x21, 0xD6,
+];
+
+/// Where the loop begins.
+const HEAD: u8 = 12;
+
+/// The loop's block.
+const BLOCK: u8 = 21;
+
+/// What sends the result, before a word is taken as a number.
+const SENDING: [u8; 5] = [0x10, 0x24, 0xF2, 0x44, 0xFB];
+
+/// ldlp 0, wsub, stopp.
+const ENDING: [u8; 4] = [0x10, 0xFA, 0x21, 0xF5];
+
+/// The function codes of ldlp, ldc, ldl and stl, in the upper half of a byte.
+const LDLP: u8 = 0x10;
+
+const LDC: u8 = 0x40;
+
+const LDL: u8 = 0x70;
+
+const STL: u8 = 0xD0;
+
+/// An instruction with an operand below 256, spelled by two bytes.
+fn spelled(function: u8, operand: u8) -> [u8; 2] {
+    [0x20 | operand >> 4, function | operand & 15]
+}
+
+/// A loop that moves so many words of its workspace, from the first on, to the next place, and then takes the last one that was
+/// written as the number of a word. What the packet has brought goes one word further with each pass.
+fn moving(alloc: Global, words: u8) -> Result<Vec<u8>, AllocError>
+    requires some { 0 < words }
+    requires few { words ≤ 20 }
+{
+    let body = 4 * words;
+    let lend = HEAD + body + 4;
+    let mut image = Vec::from_slice(alloc, b"TPW2")?;
+    image.extend_from_slice(&[lend + 2 + 11, 0])?;
+    image.extend_from_slice(&HEADER)?;
+    for field in [HEAD, lend, 8 + BLOCK, 1, 0, 0] {
+        image.extend_from_slice(&[field, 0])?;
+    }
+    image.extend_from_slice(&BEGINNING)?;
+    for back in 0..words {
+        let to = words - back;
+        image.extend_from_slice(&spelled(LDL, to - 1))?;
+        image.extend_from_slice(&spelled(STL, to))?;
+    }
+    image.extend_from_slice(&spelled(LDLP, BLOCK))?;
+    image.extend_from_slice(&spelled(LDC, body + 6))?;
+    image.extend_from_slice(&[0x22, 0xF1])?;
+    image.extend_from_slice(&SENDING)?;
+    image.extend_from_slice(&spelled(LDL, words))?;
+    image.extend_from_slice(&ENDING)?;
+    Ok(image)
+}
+
+/// The pass that refuses has the number of the last word that is written: it knows no longer what stands there. So the passes
+/// that refuse nothing are 0 to 19, and their number has just doubled, is one less, and one more.
+#[test]
+fn stands_before_each_of_many_passes(rt: HostRuntime) -> Result<(), Fail> {
+    for words in 1..21 {
+        let image = moving(rt.alloc(), words)?;
+        let near = near(&rt, &image).expect(&rt, "a refusal");
+        let passes = words.saturating_sub(2);
+        assert_eq!(rt; near.passes, u64::from(passes), "{words} words");
+        match near.states.state_at(rt.alloc(), usize::from(HEAD))? {
+            None => assert_eq!(rt; passes, 0),
+            Some(head) => {
+                let last = usize::from(passes) + 8;
+                assert_eq!(rt; head.cells.get(last), Cell::Any, "{words} words");
+                assert_eq!(rt; head.cells.get(last + 1), Cell::Known(0), "{words} words");
+            }
+        }
+    }
+    Ok(())
+}
