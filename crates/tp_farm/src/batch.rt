@@ -155,7 +155,8 @@ pub fn run_batch<'j, R: Threads + Wait + Sync, D: LinkDevice + Send, G: Gate>(
     ensures refused { IfSome (job_fault (length links.items) (batch_of job.now)) (λ fault. result ≡ Err fault) }
     ensures err { job_fault (length links.items) (batch_of job.now) ≡ None → IfErr result IsFromOutside }
 {
-    if let Some(fault) = job_fault(job, links.len()) {
+    let members = links.len();
+    if let Some(fault) = job_fault(job, members) {
         return Err(fault);
     }
     let collector = Collector::new(alloc, job.batch, job.image.image(), job.packets)?;
@@ -165,8 +166,8 @@ pub fn run_batch<'j, R: Threads + Wait + Sync, D: LinkDevice + Send, G: Gate>(
             links,
         });
     }
-    let room = Reserved::for_members(alloc, links.len())?;
-    let made = StreamQueue::new(alloc, job.packets, links.len() as u32);
+    let room = Reserved::for_members(alloc, members)?;
+    let made = StreamQueue::new(alloc, job.packets, members as u32);
     let Ok((stream, feeder, hands)) = made else {
         return Err(FarmFault::Memory);
     };
@@ -175,6 +176,7 @@ pub fn run_batch<'j, R: Threads + Wait + Sync, D: LinkDevice + Send, G: Gate>(
         job: &*job,
         gate: &*gate,
         source: &stream,
+        share: job.packets.len().div_ceil(members),
     };
     let (returned, feeder) = run_members(rt, alloc, &shared, feeder, hands, links)?;
     settle(

@@ -134,13 +134,14 @@ fn take_turn<W: LendingSource, D: LinkDevice, G: Gate>(
     }
 }
 
-/// A member's whole work: it takes packets until there are no more, or the batch is stopped, or a fault comes. One turn
-/// more than there are packets is enough.
+/// A member's whole work: it makes room for its share, and takes packets until there are no more, or the batch is stopped, or a
+/// fault comes. One turn more than there are packets is enough.
 pub(crate) fn work<W: LendingSource, D: LinkDevice, G: Gate>(
     rt: &impl Wait,
     job: &Job<'_>,
     gate: &G,
     source: &W,
+    share: usize,
     member: &mut Member<W::Hand, D>,
 ) -> End
     requires own { W.is_own source.now member.old.hand }
@@ -154,6 +155,10 @@ pub(crate) fn work<W: LendingSource, D: LinkDevice, G: Gate>(
     ensures refused { IsRefused (G.has_answered gate.now member.old.number) (W.progress member.new.hand) result }
     ensures end { EndsBy (batch_of job.now) (G.open_for_good gate.now) (W.progress member.new.hand) result }
 {
+    if member.filed.reserve_exact(share).is_err() {
+        source.stop(&mut member.hand);
+        return End::Memory;
+    }
     for _ in 0..job.packets.len() + 1 {
         if let Some(end) = take_turn(rt, job, gate, source, member) {
             return end;

@@ -151,7 +151,8 @@ pub fn run_batch_over_board<'j, R: Threads + Wait + Sync, D: LinkDevice + Send, 
     ensures refused { IfSome (job_fault (length links.items) (batch_of job.now)) (λ fault. result ≡ Err fault) }
     ensures err { job_fault (length links.items) (batch_of job.now) ≡ None → IfErr result IsFromOutside }
 {
-    if let Some(fault) = job_fault(job, links.len()) {
+    let members = links.len();
+    if let Some(fault) = job_fault(job, members) {
         return Err(fault);
     }
     let collector = Collector::new(alloc, job.batch, job.image.image(), job.packets)?;
@@ -161,8 +162,8 @@ pub fn run_batch_over_board<'j, R: Threads + Wait + Sync, D: LinkDevice + Send, 
             links,
         });
     }
-    let room = Reserved::for_members(alloc, links.len())?;
-    let made = Board::new(alloc, job.packets.len() as u32, links.len() as u32);
+    let room = Reserved::for_members(alloc, members)?;
+    let made = Board::new(alloc, job.packets.len() as u32, members as u32);
     let Ok((board, seats)) = made else {
         return Err(FarmFault::Memory);
     };
@@ -172,6 +173,7 @@ pub fn run_batch_over_board<'j, R: Threads + Wait + Sync, D: LinkDevice + Send, 
         job: &*job,
         gate: &*gate,
         source: &source,
+        share: job.packets.len().div_ceil(members),
     };
     let returned = run_all(rt, alloc, &shared, seats, links)?;
     let board = source.into_board();

@@ -29,6 +29,8 @@ pub(crate) struct Shared<'j, G, S> {
     pub(crate) job: &'j Job<'j>,
     pub(crate) gate: &'j G,
     pub(crate) source: &'j S,
+    /// How many packets come to each member, where all take as many.
+    pub(crate) share: usize,
 }
 
 /// The whole work of the member of a number, on a machine of its own.
@@ -54,7 +56,14 @@ pub(crate) fn work_as<S: LendingSource, D: LinkDevice, G: Gate>(
         filed: Vec::new(alloc),
         entry,
     };
-    let end = work(rt, shared.job, shared.gate, shared.source, &mut member);
+    let end = work(
+        rt,
+        shared.job,
+        shared.gate,
+        shared.source,
+        shared.share,
+        &mut member,
+    );
     let Member {
         hand,
         links,

@@ -22,7 +22,7 @@ use Rattle.tp_farm.proofs.batch.run_batch.Goals as goal
 pub run_members-requires-clause-set : goal.run_members-requires-clause-set
 run_members-requires-clause-set g c κs within = record {
   packets = ap (λ s. s.packets) c.in-Ok.ensures.stream;
-  whole = (begun c.len.result (batch_of c.args.job.now) (sym c.job_fault.ensures ∙ c.in_default.is)).whole;
+  whole = (begun c.len-members.result (batch_of c.args.job.now) (sym c.job_fault.ensures ∙ c.in_default.is)).whole;
 }
 
 pub run_members-requires-clause-fresh : goal.run_members-requires-clause-fresh
@@ -34,18 +34,18 @@ run_members-requires-clause-fed g c κs within = fresh_feeder _ _ c.in-Ok.ensure
 pub settle-requires-clause-members : goal.settle-requires-clause-members
 settle-requires-clause-members g c κs within =
     let long = AllZip-long _ _ _ c.in_ok-returned.ensures.worked in
-    omega (arith, ap (λ q. q.members) c.in-Ok.ensures.stream, long, c.in_ok-returned.returned.ok.0, c.args.links.ok.0, c.len-3.ensures)
+    omega (arith, ap (λ q. q.members) c.in-Ok.ensures.stream, long, c.in_ok-returned.returned.ok.0, c.args.links.ok.0, c.len-members.ensures)
 
 pub settle-requires-clause-some : goal.settle-requires-clause-some
 settle-requires-clause-some g c κs within =
     let long = AllZip-long _ _ _ c.in_ok-returned.ensures.worked in
-    let some = (begun c.len.result (batch_of c.args.job.now) (sym c.job_fault.ensures ∙ c.in_default.is)).some in
-    omega (arith, some, long, c.in_ok-returned.returned.ok.0, c.args.links.ok.0, c.len.ensures)
+    let some = (begun c.len-members.result (batch_of c.args.job.now) (sym c.job_fault.ensures ∙ c.in_default.is)).some in
+    omega (arith, some, long, c.in_ok-returned.returned.ok.0, c.args.links.ok.0, c.len-members.ensures)
 
 pub settle-requires-clause-room : goal.settle-requires-clause-room
 settle-requires-clause-room g c κs within =
     let long = AllZip-long _ _ _ c.in_ok-returned.ensures.worked in
-    subst (λ n. HasRoom n c.in_ok-room.room) (omega (arith, long, c.in_ok-returned.returned.ok.0, c.args.links.ok.0, c.len-2.ensures)) c.in_ok-room.ensures
+    subst (λ n. HasRoom n c.in_ok-room.room) (omega (arith, long, c.in_ok-returned.returned.ok.0, c.args.links.ok.0, c.len-members.ensures)) c.in_ok-room.ensures
 
 pub returns-clause-batch : goal.returns-clause-batch
 returns-clause-batch g c =
@@ -53,7 +53,7 @@ returns-clause-batch g c =
 
 pub returns-clause-begins : goal.returns-clause-begins
 returns-clause-begins g c =
-    let long : length c.args.links.items ≡ c.len.result = omega (arith, c.args.links.ok.0, c.len.ensures) in
+    let long : length c.args.links.items ≡ c.len-members.result = omega (arith, c.args.links.ok.0, c.len-members.ensures) in
     on_ok _ c.settle.result (ap (λ n. job_fault n (batch_of c.args.job.now)) long ∙ sym c.job_fault.ensures ∙ c.in_default.is)
 
 pub returns-clause-goes_well : goal.returns-clause-goes_well
