@@ -14,7 +14,8 @@ pub struct Kept {
     /// In order of number, from 0.
     pub packets: Vec<Packet>,
     ghost few: { vec_len packets ≤ 1024 },
-    ghost whole: { IsTrue (list_all (λ p. length p.items == 4 * image.image.packet && list_all (λ b. nat_lt b 256) p.items) packets.items) },
+    ghost whole: { IsTrue (list_all (λ p.
+        length p.items == 4 * image.image.packet && list_all (λ b. nat_lt b 256) p.items) packets.items) },
 }
 
 /// A session that has run its packets keeps the room of no more than so many.

@@ -86,7 +86,7 @@ fn run_on<D: LinkDevice>(
     requires length { length _packet.now.items ≡ 4 * accepted.now.image.packet }
     ensures settings { SameSettings (devices_of D.state links.old) (devices_of D.state links.new) }
     ensures rises { Rises (devices_of D.state links.old) (devices_of D.state links.new) (λ which. failed_in which result) }
-    ensures given { IfOk result (λ outcome. HasGiven accepted.now.image _packet.now.items outcome (devices_of D.state links.new)) }
+    ensures given { IfOk result (λ o. HasGiven accepted.now.image _packet.now.items o (devices_of D.state links.new)) }
     ensures reason { IfErr result (HasReason accepted.now.image _packet.now.items (devices_of D.state links.old)) }
 {
     machine.run(accepted, links)

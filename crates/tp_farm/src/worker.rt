@@ -1,7 +1,7 @@
 //! A member's thread.
 
 ghost use Rattle.std.specs.Prelude.{◌≡◌, IfSome};
-ghost use Rattle.tp_farm.specs.Working.{IsSet, IsFresh, HasWorked, work_of};
+ghost use Rattle.tp_farm.specs.Working.{IsSet, IsFresh, HasWorkedOn};
 
 use crate::gate::Gate;
 use crate::handling::Received;
@@ -44,7 +44,7 @@ pub(crate) fn work_as<S: LendingSource, D: LinkDevice, G: Gate>(
 ) -> Returned<S::Hand, Filed, D>
     requires set { IsSet S.packets shared.now }
     requires fresh { IsFresh (S.is_own shared.now.source.now) S.progress hand }
-    ensures { HasWorked D.state (S.is_own shared.now.source.now) S.progress (work_of G.open_for_good shared.now) links result }
+    ensures { HasWorkedOn D.state S.is_own S.progress G.open_for_good shared.now links result }
 {
     let entry = Snapshot::of(&links);
     let mut member = Member {
