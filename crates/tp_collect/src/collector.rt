@@ -62,7 +62,6 @@ impl<'j> Collector<'j> {
     }
 
     /// Files a result under its packet's number. A refused one is handed back, and nothing changes. It takes no memory.
-    #[inline(always)]
     pub fn put(&mut self, done: Done) -> Result<(), (PutFault, Done)>
         requires { done.batch ≡ self.old.batch.number → done.packet < length self.old.batch.packets → Names self.old.batch done }
         ensures answer { result ≡ put_answer done (put_fault self.old done) }
@@ -109,7 +108,6 @@ impl<'j> Collector<'j> {
 }
 
 /// Why nothing may be filed under a number.
-#[inline(always)]
 fn refusal(entries: &[Entry], number: u32) -> Option<PutFault>
     ensures { result ≡ number_fault entries.now number }
 {
@@ -124,7 +122,6 @@ fn refusal(entries: &[Entry], number: u32) -> Option<PutFault>
 }
 
 /// Whether nothing is filed in an entry.
-#[inline(always)]
 fn is_vacant(entry: &Entry) -> bool
     ensures { result ≡ is_vacant entry.now }
 {
@@ -132,7 +129,6 @@ fn is_vacant(entry: &Entry) -> bool
 }
 
 /// An entry takes the place of that of a number.
-#[inline(always)]
 fn file(entries: &mut Vec<Entry>, number: u32, entry: Entry)
     requires { number < vec_len entries.old }
     ensures { entries.new.items ≡ slice_set entries.old.items number entry }

@@ -58,7 +58,6 @@ pub(crate) fn take_hands<H: Drop, D: LinkDevice>(
 }
 
 /// Files one result or loss.
-#[inline(always)]
 fn file_one(collector: &mut Collector<'_>, one: Filed)
     requires of { IsOfBatch collector.old.batch one }
     requires vacant { slice_get collector.old.entries (number_of one) ≡ Some vacant }

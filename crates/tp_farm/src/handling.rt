@@ -155,6 +155,7 @@ fn receive_trace<D: LinkDevice>(
 /// Runs the worker on the packet of a number, over the member's devices: they are emptied, the packet is sent to the
 /// source, the worker runs, and the result and the trace are received. The first refusal ends it. A trace of more than
 /// 256 bytes is refused as K2 of the trace.
+// Inlined, as what makes a `Done` is: else each packet's result is copied on its way to where it is filed.
 #[tactic(auto, using(crate::proofs::Refusals::same_reason))]
 #[inline(always)]
 pub(crate) fn handle<D: LinkDevice>(
