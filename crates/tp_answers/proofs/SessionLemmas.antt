@@ -1,5 +1,7 @@
 -- Sessions by name, and the map that keeps them.
-use Rattle.std.proofs.Common.{◌≡◌, ℕ, zero, suc, ◌+◌, ◌<◌, ◌≤◌, is_some, nat_eq, nat_lt, nat_le, not, Bool, true, false, cond, if◌then◌else◌, List, [], ◌∷◌, ◌++◌, length, map, slice_get, slice_set, remove, position, vec_len, Option, Some, None, IfSome, subst, refl, ap, sym, ◌∙◌, arith}
+use Rattle.std.proofs.Common.{◌≡◌, ℕ, zero, suc, ◌+◌, ◌<◌, ◌≤◌, is_some, nat_eq, nat_lt, nat_le, not, Bool, true, false, cond}
+use Rattle.std.proofs.Common.{if◌then◌else◌, List, [], ◌∷◌, ◌++◌, length, map, slice_get, slice_set, remove, position, vec_len}
+use Rattle.std.proofs.Common.{Option, Some, None, IfSome, subst, refl, ap, sym, ◌∙◌, arith}
 use Rattle.std.specs.Cmp.Lexicographic.{pointwise, same_text}
 use Rattle.std.specs.List.{position_or_len}
 use Rattle.std.specs.Map.{keys_of, values_of}
@@ -13,7 +15,8 @@ use Rattle.tp_image.specs.Image.{ImageValue}
 use Rattle.tp_accept.specs.declared.accepted.Accepted.{Accepted}
 use Rattle.tp_answers.specs.declared.session.Kept.{Kept}
 use Rattle.tp_answers.specs.Answers.{is_full}
-use Rattle.tp_answers.specs.Sessions.{most_sessions, Session, is_of, named, with_session, without_session, with_packet, without_packets}
+use Rattle.tp_answers.specs.Sessions.{most_sessions, Session, is_of, named, with_session, without_session, with_packet}
+use Rattle.tp_answers.specs.Sessions.{without_packets}
 use Rattle.tp_answers.specs.Open.{session_of}
 use Rattle.tp_answers.proofs.Places.{IsFirst, NonePasses, first_found, none_found}
 
@@ -37,7 +40,9 @@ placed_first name (s ∷ sessions) zero first = record {
   is_named = ap (λ b. if b then Some s else named name sessions) first;
   name_is = same_text name s.name (sym first);
   within = omega arith;
-  replaced = λ new e. sym (ap (λ n. if is_of n s then new ∷ sessions else s ∷ with_session new sessions) e ∙ ap (λ b. if b then new ∷ sessions else s ∷ with_session new sessions) first);
+  replaced =
+      λ new e. sym (ap (λ n. if is_of n s then new ∷ sessions else s ∷ with_session new sessions) e
+      ∙ ap (λ b. if b then new ∷ sessions else s ∷ with_session new sessions) first);
   removed = sym (ap (λ b. if b then sessions else s ∷ without_session name sessions) first);
 }
 placed_first name (s ∷ sessions) (suc i) first =
@@ -47,32 +52,41 @@ placed_first name (s ∷ sessions) (suc i) first =
       is_named = ap (λ b. if b then Some s else named name sessions) first.0 ∙ rest.is_named;
       name_is = rest.name_is;
       within = omega (arith, rest.within);
-      replaced = λ new e. ap (λ l. s ∷ l) (rest.replaced new e) ∙ sym (ap (λ n. if is_of n s then new ∷ sessions else s ∷ with_session new sessions) e ∙ ap (λ b. if b then new ∷ sessions else s ∷ with_session new sessions) first.0);
+      replaced =
+          λ new e. ap (λ l. s ∷ l) (rest.replaced new e)
+          ∙ sym (ap (λ n. if is_of n s then new ∷ sessions else s ∷ with_session new sessions) e
+          ∙ ap (λ b. if b then new ∷ sessions else s ∷ with_session new sessions) first.0);
       removed = ap (λ l. s ∷ l) rest.removed ∙ sym (ap (λ b. if b then sessions else s ∷ without_session name sessions) first.0);
     }
 
-pub placed : (name : List ℕ) (sessions : List Session) (i : ℕ) → position (is_of name) sessions ≡ Some i → IsPlaced name sessions i
+pub placed : (name : List ℕ) (sessions : List Session) (i : ℕ) → position (is_of name) sessions ≡ Some i
+    → IsPlaced name sessions i
 placed name sessions i found = placed_first name sessions i (first_found (is_of name) sessions i found)
 
 absent_from : (name : List ℕ) (sessions : List Session) → NonePasses (is_of name) sessions → named name sessions ≡ None
 absent_from name [] none = refl
-absent_from name (s ∷ sessions) none = ap (λ b. if b then Some s else named name sessions) none.0 ∙ absent_from name sessions none.1
+absent_from name (s ∷ sessions) none =
+    ap (λ b. if b then Some s else named name sessions) none.0 ∙ absent_from name sessions none.1
 
 pub absent : (name : List ℕ) (sessions : List Session) → position (is_of name) sessions ≡ None → named name sessions ≡ None
 absent name sessions none = absent_from name sessions (none_found (is_of name) sessions none)
 
 -- whether one more may open, where this is the place of its name
-pub full_none : (name : List ℕ) (sessions : List Session) (place : Option ℕ) (none : Bool) → place ≡ position (is_of name) sessions → is_some place ≡ not none → none ≡ true → most_sessions ≤ length sessions → is_full name sessions ≡ true
+pub full_none : (name : List ℕ) (sessions : List Session) (place : Option ℕ) (none : Bool)
+    → place ≡ position (is_of name) sessions → is_some place ≡ not none → none ≡ true → most_sessions ≤ length sessions
+    → is_full name sessions ≡ true
 full_none name sessions None none at is e many =
     let test : nat_le most_sessions (length sessions) ≡ true = grind (arith, nat_tests, many) in
     rw (absent name sessions (sym at)) test
 full_none name sessions (Some i) none at is e many = cc
 
-pub full_some : (name : List ℕ) (sessions : List Session) (place : Option ℕ) (none : Bool) → place ≡ position (is_of name) sessions → is_some place ≡ not none → none ≡ false → is_full name sessions ≡ false
+pub full_some : (name : List ℕ) (sessions : List Session) (place : Option ℕ) (none : Bool)
+    → place ≡ position (is_of name) sessions → is_some place ≡ not none → none ≡ false → is_full name sessions ≡ false
 full_some name sessions None none at is e = cc
 full_some name sessions (Some i) none at is e = let it = placed name sessions i (sym at) in rw it.is_named refl
 
-pub full_room : (name : List ℕ) (sessions : List Session) (place : Option ℕ) → place ≡ position (is_of name) sessions → length sessions < most_sessions → is_full name sessions ≡ false
+pub full_room : (name : List ℕ) (sessions : List Session) (place : Option ℕ) → place ≡ position (is_of name) sessions
+    → length sessions < most_sessions → is_full name sessions ≡ false
 full_room name sessions None at few =
     let test : nat_le most_sessions (length sessions) ≡ false = grind (arith, nat_tests, few) in
     rw (absent name sessions (sym at)) test
@@ -80,16 +94,20 @@ full_room name sessions (Some i) at few = let it = placed name sessions i (sym a
 
 -- ---- the entries of a map, as sessions
 
-module _ {K V : Type 0} (text : K → List ℕ) (view : List ℕ → V → Session) (names : (n : List ℕ) (v : V) → (view n v).name ≡ n) where
+module _ {K V : Type 0} (text : K → List ℕ) (view : List ℕ → V → Session)
+    (names : (n : List ℕ) (v : V) → (view n v).name ≡ n) where
   abbrev eq : K → K → Bool
   eq a b = pointwise nat_eq (text a) (text b)
 
   abbrev entry : K × V → Session
   entry e = view (text e.0) e.1
 
-  before_same : (k : K) (es : List (K × V)) → position_or_len (eq k) (keys_of es) ≡ position_or_len (is_of (text k)) (map entry es)
+  before_same : (k : K) (es : List (K × V)) → position_or_len (eq k) (keys_of es) ≡ position_or_len (is_of (text k))
+      (map entry es)
   before_same k [] = refl
-  before_same k (e ∷ es) = ap (λ n. cond (not (pointwise nat_eq (text k) n)) (1 + position_or_len (eq k) (keys_of es)) 0) (sym (names (text e.0) e.1)) ∙ ap (λ m. cond (not (is_of (text k) (entry e))) (1 + m) 0) (before_same k es)
+  before_same k (e ∷ es) =
+      ap (λ n. cond (not (pointwise nat_eq (text k) n)) (1 + position_or_len (eq k) (keys_of es)) 0) (sym (names (text e.0) e.1))
+      ∙ ap (λ m. cond (not (is_of (text k) (entry e))) (1 + m) 0) (before_same k es)
 
   length_same : (es : List (K × V)) → length (keys_of es) ≡ length (map entry es)
   length_same [] = refl
@@ -98,28 +116,39 @@ module _ {K V : Type 0} (text : K → List ℕ) (view : List ℕ → V → Sessi
   pub found_same : (k : K) (es : List (K × V)) → position (eq k) (keys_of es) ≡ position (is_of (text k)) (map entry es)
   found_same k es =
       ap (λ n. cond (nat_lt n (length (keys_of es))) (Some n) None) (before_same k es)
-      ∙ ap (λ l. cond (nat_lt (position_or_len (is_of (text k)) (map entry es)) l) (Some (position_or_len (is_of (text k)) (map entry es))) None) (length_same es)
+      ∙ ap (λ l. cond (nat_lt (position_or_len (is_of (text k)) (map entry es)) l)
+      (Some (position_or_len (is_of (text k)) (map entry es))) None) (length_same es)
 
-  pub put_same : (k : K) (v : V) (es : List (K × V)) → map entry (insert_entry eq es k v) ≡ with_session (view (text k) v) (map entry es)
+  pub put_same : (k : K) (v : V) (es : List (K × V))
+      → map entry (insert_entry eq es k v) ≡ with_session (view (text k) v) (map entry es)
   put_same k v [] = refl
   put_same k v (e ∷ es) = by_test (put_same k v es) (eq k e.0) refl
     where
       named_test : {t : Bool} → eq k e.0 ≡ t → is_of (view (text k) v).name (entry e) ≡ t
-      named_test is = ap (λ n. pointwise nat_eq n (entry e).name) (names (text k) v) ∙ ap (λ n. pointwise nat_eq (text k) n) (names (text e.0) e.1) ∙ is
+      named_test is =
+          ap (λ n. pointwise nat_eq n (entry e).name) (names (text k) v)
+          ∙ ap (λ n. pointwise nat_eq (text k) n) (names (text e.0) e.1) ∙ is
 
       by_test : map entry (insert_entry eq es k v) ≡ with_session (view (text k) v) (map entry es) → (t : Bool) → eq k e.0 ≡ t
-          → map entry (if t then (e.0, v) ∷ es else e ∷ insert_entry eq es k v) ≡ with_session (view (text k) v) (map entry (e ∷ es))
-      by_test rest false is = ap (λ l. entry e ∷ l) rest ∙ sym (ap (λ b. if b then view (text k) v ∷ map entry es else entry e ∷ with_session (view (text k) v) (map entry es)) (named_test is))
+          → map entry (if t then (e.0, v) ∷ es else e ∷ insert_entry eq es k v) ≡ with_session (view (text k) v)
+          (map entry (e ∷ es))
+      by_test rest false is =
+          ap (λ l. entry e ∷ l) rest ∙ sym (ap (λ b. if b then view (text k) v ∷ map entry es else entry e ∷ with_session
+          (view (text k) v) (map entry es)) (named_test is))
       by_test rest true is =
           ap (λ n. view n v ∷ map entry es) (sym (same_text (text k) (text e.0) (sym is)))
-          ∙ sym (ap (λ b. if b then view (text k) v ∷ map entry es else entry e ∷ with_session (view (text k) v) (map entry es)) (named_test is))
+          ∙ sym (ap (λ b. if b then view (text k) v ∷ map entry es else entry e ∷ with_session (view (text k) v) (map entry es))
+          (named_test is))
 
-  pub set_same : (es : List (K × V)) (i : ℕ) (w : V) (s : Session) → slice_get (map entry es) i ≡ Some s → map entry (set_value_at es i w) ≡ slice_set (map entry es) i (view s.name w)
+  pub set_same : (es : List (K × V)) (i : ℕ) (w : V) (s : Session) → slice_get (map entry es) i ≡ Some s
+      → map entry (set_value_at es i w) ≡ slice_set (map entry es) i (view s.name w)
   set_same [] i w s at = cc
-  set_same (e ∷ es) zero w s at = ap (λ n. view n w ∷ map entry es) (sym (names (text e.0) e.1) ∙ ap (λ s. s.name) (same_Some (entry e) s at))
+  set_same (e ∷ es) zero w s at =
+      ap (λ n. view n w ∷ map entry es) (sym (names (text e.0) e.1) ∙ ap (λ s. s.name) (same_Some (entry e) s at))
   set_same (e ∷ es) (suc i) w s at = ap (λ l. entry e ∷ l) (set_same es i w s at)
 
-  pub at_same : (es : List (K × V)) (i : ℕ) (v : V) (s : Session) → slice_get (values_of es) i ≡ Some v → slice_get (map entry es) i ≡ Some s → s ≡ view s.name v
+  pub at_same : (es : List (K × V)) (i : ℕ) (v : V) (s : Session) → slice_get (values_of es) i ≡ Some v
+      → slice_get (map entry es) i ≡ Some s → s ≡ view s.name v
   at_same [] i v s value at = cc
   at_same (e ∷ es) zero v s value at =
       let is : entry e ≡ s = same_Some (entry e) s at in
@@ -132,7 +161,8 @@ module _ {K V : Type 0} (text : K → List ℕ) (view : List ℕ → V → Sessi
   remove_same (e ∷ es) zero = refl
   remove_same (e ∷ es) (suc i) = ap (λ l. entry e ∷ l) (remove_same es i)
 
-  pub some_at : (es : List (K × V)) (i : ℕ) (v : V) → slice_get (values_of es) i ≡ Some v → (n : List ℕ) × (slice_get (map entry es) i ≡ Some (view n v))
+  pub some_at : (es : List (K × V)) (i : ℕ) (v : V) → slice_get (values_of es) i ≡ Some v
+      → (n : List ℕ) × (slice_get (map entry es) i ≡ Some (view n v))
   some_at [] i v value = cc
   some_at (e ∷ es) zero v value = (text e.0, ap (λ u. Some (view (text e.0) u)) (same_Some e.1 v value))
   some_at (e ∷ es) (suc i) v value = some_at es i v value
@@ -151,19 +181,27 @@ bytes_of packets = map (λ p. p.items) packets
 pub few_kept : (name : List ℕ) (kept : Kept) → length (session_of name kept).packets < 1024 → vec_len kept.packets < 1024
 few_kept name kept few = omega (arith, few, kept.packets.ok.0, length-map kept.packets.items (λ p. p.items))
 
-pub forgot : (s : Session) (kept new : Kept) → s ≡ session_of s.name kept → new.image ≡ kept.image → new.packets.items ≡ [] → session_of s.name new ≡ without_packets s
+pub forgot : (s : Session) (kept new : Kept) → s ≡ session_of s.name kept → new.image ≡ kept.image → new.packets.items ≡ []
+    → session_of s.name new ≡ without_packets s
 forgot s kept new is image none =
-    ap (λ i. with_parts s.name i.image (bytes_of new.packets.items)) image ∙ ap (λ ps. with_parts s.name kept.image.image (bytes_of ps)) none
+    ap (λ i. with_parts s.name i.image (bytes_of new.packets.items)) image
+    ∙ ap (λ ps. with_parts s.name kept.image.image (bytes_of ps)) none
     ∙ sym (ap (λ t. with_parts s.name t.image []) is)
 
-pub kept_more : (s : Session) (kept new : Kept) (packet : ArrayVec ℕ 256 (Unit {0})) → s ≡ session_of s.name kept → new.image ≡ kept.image → new.packets.items ≡ kept.packets.items ++ packet ∷ [] → session_of s.name new ≡ with_packet s packet.items
+pub kept_more : (s : Session) (kept new : Kept) (packet : ArrayVec ℕ 256 (Unit {0})) → s ≡ session_of s.name kept
+    → new.image ≡ kept.image → new.packets.items ≡ kept.packets.items ++ packet ∷ []
+    → session_of s.name new ≡ with_packet s packet.items
 kept_more s kept new packet is image more =
-    ap (λ i. with_parts s.name i.image (bytes_of new.packets.items)) image ∙ ap (λ ps. with_parts s.name kept.image.image (bytes_of ps)) more
+    ap (λ i. with_parts s.name i.image (bytes_of new.packets.items)) image
+    ∙ ap (λ ps. with_parts s.name kept.image.image (bytes_of ps)) more
     ∙ ap (with_parts s.name kept.image.image) (map-append (λ p. p.items) kept.packets.items (packet ∷ []))
     ∙ sym (ap (λ t. with_parts s.name t.image (t.packets ++ packet.items ∷ [])) is)
 
 pub packets_kept : (s : Session) (kept : Kept) → s ≡ session_of s.name kept → length s.packets ≡ vec_len kept.packets
 packets_kept s kept is = ap (λ t. length t.packets) is ∙ length-map kept.packets.items (λ p. p.items) ∙ sym kept.packets.ok.0
 
-pub opened_none : (name : List ℕ) (image : Accepted) (kept : Kept) → kept.image ≡ image → kept.packets.items ≡ [] → session_of name kept ≡ record { name = name; image = image.image; packets = [] }
-opened_none name image kept same none = ap (λ i. with_parts name i.image (bytes_of kept.packets.items)) same ∙ ap (λ ps. with_parts name image.image (bytes_of ps)) none
+pub opened_none : (name : List ℕ) (image : Accepted) (kept : Kept) → kept.image ≡ image → kept.packets.items ≡ []
+    → session_of name kept ≡ record { name = name; image = image.image; packets = [] }
+opened_none name image kept same none =
+    ap (λ i. with_parts name i.image (bytes_of kept.packets.items)) same
+    ∙ ap (λ ps. with_parts name image.image (bytes_of ps)) none

@@ -1,5 +1,7 @@
 -- Texts in parts.
-use Rattle.std.proofs.Common.{Fits, get_or, nat_lt, ◌≡◌, ℕ, zero, suc, ◌+◌, List, [], ◌∷◌, ◌++◌, length, take, Some, Result, Ok, Err, IfOk, refl, ap, sym, ◌∙◌, arith, append_assoc, slice_get, codes, add-one, nat_eq, Bool, true, false}
+use Rattle.std.proofs.Common.{Fits, get_or, nat_lt, ◌≡◌, ℕ, zero, suc, ◌+◌, List, [], ◌∷◌, ◌++◌, length, take, Some, Result, Ok}
+use Rattle.std.proofs.Common.{Err, IfOk, refl, ap, sym, ◌∙◌, arith, append_assoc, slice_get, codes, add-one, nat_eq, Bool, true}
+use Rattle.std.proofs.Common.{false}
 use Rattle.std.specs.List.{flat_map, list_all}
 use Rattle.std.proofs.lemmas.List.{append-nil}
 use Rattle.std.proofs.lemmas.Option.{same_Some}
@@ -12,7 +14,8 @@ use Rattle.std.specs.Int.{from_bool, w8}
 use Rattle.tp_answers.specs.Told.{written, kept_line, flag, trace_text, done_line}
 
 -- a text that is said to have bytes has bytes that equal them
-pub told : {S E : Type 0} (bytes : S → List ℕ) (r : Result S E) (x y : List ℕ) → IfOk r (λ s. bytes s ≡ x) → x ≡ y → IfOk r (λ s. bytes s ≡ y)
+pub told : {S E : Type 0} (bytes : S → List ℕ) (r : Result S E) (x y : List ℕ) → IfOk r (λ s. bytes s ≡ x) → x ≡ y
+    → IfOk r (λ s. bytes s ≡ y)
 told bytes (Ok s) x y h e = h ∙ e
 told bytes (Err e') x y h e = tt
 
@@ -28,10 +31,12 @@ as_many_starts at [] = refl
 as_many_starts at (cut ∷ cuts) = ap suc (as_many_starts (at + length cut.bytes) cuts)
 
 -- one line more
-pub line_more : (lines : List (List ℕ)) (i : ℕ) (line : List ℕ) → slice_get lines i ≡ Some line → flat_map written (take (i + 1) lines) ≡ flat_map written (take i lines) ++ line ++ codes "\n"
+pub line_more : (lines : List (List ℕ)) (i : ℕ) (line : List ℕ) → slice_get lines i ≡ Some line
+    → flat_map written (take (i + 1) lines) ≡ flat_map written (take i lines) ++ line ++ codes "\n"
 line_more lines i line e = ap (λ n. flat_map written (take n lines)) (add-one i) ∙ by_recursion lines i line e
   where
-    by_recursion : (lines : List (List ℕ)) (i : ℕ) (line : List ℕ) → slice_get lines i ≡ Some line → flat_map written (take (suc i) lines) ≡ flat_map written (take i lines) ++ line ++ codes "\n"
+    by_recursion : (lines : List (List ℕ)) (i : ℕ) (line : List ℕ) → slice_get lines i ≡ Some line
+        → flat_map written (take (suc i) lines) ≡ flat_map written (take i lines) ++ line ++ codes "\n"
     by_recursion [] i line e = cc
     by_recursion (l ∷ lines) zero line e = append-nil (written l) ∙ ap written (same_Some l line e)
     by_recursion (l ∷ lines) (suc i) line e =
@@ -56,7 +61,8 @@ text_of_some [] e = cc
 text_of_some (b ∷ trace) e = refl
 
 -- the bytes of a trace, or a dash
-pub text_of_trace : (trace : List ℕ) → (true ≡ nat_eq (length trace) 0 → trace_text trace ≡ codes "-") × (false ≡ nat_eq (length trace) 0 → trace_text trace ≡ encode_lower trace)
+pub text_of_trace : (trace : List ℕ) → (true ≡ nat_eq (length trace) 0 → trace_text trace ≡ codes "-")
+    × (false ≡ nat_eq (length trace) 0 → trace_text trace ≡ encode_lower trace)
 text_of_trace trace = (text_of_none trace, text_of_some trace)
 
 -- numbers that are bytes
@@ -68,8 +74,11 @@ all_bytes (x ∷ xs) fit =
     rw test (all_bytes xs (λ i. fit (suc i)))
 
 -- the parts of a result's line, one behind another
-pub result_told : (before number error steps result : List ℕ) {a b c d e f : List ℕ} → a ≡ before ++ codes "R " → b ≡ a ++ number ++ codes " " → c ≡ b ++ error ++ codes " " → d ≡ c ++ steps ++ codes " " → e ≡ d ++ result → f ≡ e ++ codes "\n"
+pub result_told : (before number error steps result : List ℕ) {a b c d e f : List ℕ} → a ≡ before ++ codes "R "
+    → b ≡ a ++ number ++ codes " " → c ≡ b ++ error ++ codes " " → d ≡ c ++ steps ++ codes " " → e ≡ d ++ result
+    → f ≡ e ++ codes "\n"
     → f ≡ before ++ written (codes "R " ++ number ++ codes " " ++ error ++ codes " " ++ steps ++ codes " " ++ result)
 result_told before number error steps result at_a at_b at_c at_d at_e at_f =
     let field : List ℕ → List ℕ → List ℕ = λ n l. l ++ n ++ codes " " in
-    at_f ∙ ap (λ l. l ++ codes "\n") (at_e ∙ ap (λ l. l ++ result) (at_d ∙ ap (field steps) (at_c ∙ ap (field error) (at_b ∙ ap (field number) at_a)))) ∙ simp append_assoc
+    at_f ∙ ap (λ l. l ++ codes "\n") (at_e ∙ ap (λ l. l ++ result)
+    (at_d ∙ ap (field steps) (at_c ∙ ap (field error) (at_b ∙ ap (field number) at_a)))) ∙ simp append_assoc

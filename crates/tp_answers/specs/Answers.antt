@@ -2,7 +2,8 @@
 --
 -- An answer is a relation, since a verdict and a run are: what a line asks for, where serving stands before it, the bytes of
 -- the answer, and where serving stands after it.
-use Rattle.std.specs.Prelude.{◌≡◌, ℕ, ◌+◌, ◌*◌, ◌%◌, ◌^◌, ◌<◌, ◌≤◌, ◌⊎◌, ◌==◌, ◌&&◌, nat_le, not, is_some, Bool, true, false, if◌then◌else◌, List, [], ◌∷◌, ◌++◌, length, map, codes, Option, Some, None, Ok, Err}
+use Rattle.std.specs.Prelude.{◌≡◌, ℕ, ◌+◌, ◌*◌, ◌%◌, ◌^◌, ◌<◌, ◌≤◌, ◌⊎◌, ◌==◌, ◌&&◌, nat_le, not, is_some, Bool, true, false}
+use Rattle.std.specs.Prelude.{if◌then◌else◌, List, [], ◌∷◌, ◌++◌, length, map, codes, Option, Some, None, Ok, Err}
 use Rattle.tp_decode.specs.Cutting.{cutting}
 use Rattle.tp_image.specs.Image.{ImageValue}
 use Rattle.tp_image.specs.Text.{IsTextOf}
@@ -14,8 +15,10 @@ use Rattle.tp_accept.specs.Refusals.{refusal_code_text}
 use Rattle.tp_accept.specs.Verdict.{Answer, IsAnswer}
 use Rattle.tp_collect.specs.DoneValue.{most_trace}
 use Rattle.tp_requests.specs.Requests.{Asked, ToList, ToOpen, ToKeep, ToRun, ToRunAll, ToDrop}
-use Rattle.tp_answers.specs.Sessions.{Session, most_sessions, most_packets, named, with_session, without_session, with_packet, without_packets}
-use Rattle.tp_answers.specs.Told.{refusal, listing_answer, yes_line, kept_line, gone_line, run_lines, lost_line, done_line, of_line, all_line}
+use Rattle.tp_answers.specs.Sessions.{Session, most_sessions, most_packets, named, with_session, without_session, with_packet}
+use Rattle.tp_answers.specs.Sessions.{without_packets}
+use Rattle.tp_answers.specs.Told.{refusal, listing_answer, yes_line, kept_line, gone_line, run_lines, lost_line, done_line}
+use Rattle.tp_answers.specs.Told.{of_line, all_line}
 
 -- Where serving stands between two lines: the open sessions, in the order in which they were opened, and the number of the
 -- next batch.
@@ -45,7 +48,8 @@ pub record IsOpened (name text told_line : List ℕ) (before : Standing) (told :
   pub image : ImageValue
   pub spelled : IsTextOf text image
   pub told_is : told ≡ told_line
-  pub opened : after ≡ record before { sessions = with_session record { name = name; image = image; packets = [] } before.sessions }
+  pub opened :
+      after ≡ record before { sessions = with_session record { name = name; image = image; packets = [] } before.sessions }
 
 -- by the verdict on the text
 abbrev pub IsOpenedBy : Answer → (name text : List ℕ) → Standing → List ℕ → Standing → Type 0
@@ -75,7 +79,8 @@ packet_refusal s packet =
 abbrev pub AnswersKept : Option (List ℕ) → ℕ → Session → List ℕ → Standing → List ℕ → Standing → Type 0
 AnswersKept (Some code) number s packet before told after = IsRefused code number before told after
 AnswersKept None number s packet before told after =
-    (told ≡ kept_line (length s.packets)) × (after ≡ record before { sessions = with_session (with_packet s packet) before.sessions })
+    (told ≡ kept_line (length s.packets))
+    × (after ≡ record before { sessions = with_session (with_packet s packet) before.sessions })
 
 abbrev pub AnswersPacket : Option Session → ℕ → List ℕ → Standing → List ℕ → Standing → Type 0
 AnswersPacket None number packet before told after = IsRefused (codes "P2") number before told after
@@ -108,7 +113,8 @@ IsPacketAnswer trace image n packet told = IsResult trace image n packet told �
 abbrev pub ArePacketAnswers : Bool → ImageValue → ℕ → List (List ℕ) → List ℕ → Type 0
 ArePacketAnswers trace image n [] told = told ≡ []
 ArePacketAnswers trace image n (packet ∷ packets) told =
-    (here : List ℕ) × (rest : List ℕ) × IsPacketAnswer trace image n packet here × ArePacketAnswers trace image (n + 1) packets rest × (told ≡ here ++ rest)
+    (here : List ℕ) × (rest : List ℕ) × IsPacketAnswer trace image n packet here
+    × ArePacketAnswers trace image (n + 1) packets rest × (told ≡ here ++ rest)
 
 -- what is told of a session's packets, and how many there were
 pub record IsRun (trace : Bool) (s : Session) (told : List ℕ) : Type 0 where
@@ -119,7 +125,7 @@ pub record IsRun (trace : Bool) (s : Session) (told : List ℕ) : Type 0 where
 -- the packets are forgotten, the image stays
 pub record IsRunAndForgotten (trace : Bool) (s : Session) (before : Standing) (told : List ℕ) (after : Standing) : Type 0 where
   pub run : IsRun trace s told
-  pub forgotten : after ≡ record { sessions = with_session (without_packets s) before.sessions; batches = batches_more 1 before.batches }
+  pub forgotten : after ≡ standing (with_session (without_packets s) before.sessions) (batches_more 1 before.batches)
 
 abbrev pub AnswersRun : Option Session → Bool → ℕ → Standing → List ℕ → Standing → Type 0
 AnswersRun None trace number before told after = IsRefused (codes "P2") number before told after
@@ -136,7 +142,8 @@ pub record AreRunAndForgotten (trace : Bool) (before : Standing) (told : List �
   pub answers : List ℕ
   pub each : AreRuns trace before.sessions answers
   pub told_is : told ≡ answers ++ all_line (length before.sessions)
-  pub forgotten : after ≡ record { sessions = map without_packets before.sessions; batches = batches_more (length before.sessions) before.batches }
+  pub forgotten :
+      after ≡ standing (map without_packets before.sessions) (batches_more (length before.sessions) before.batches)
 
 -- ---- <name> DROP
 
@@ -150,8 +157,12 @@ AnswersDrop (Some s) number name before told after =
 abbrev pub Answers : Bool → ℕ → Option Asked → Standing → List ℕ → Standing → Type 0
 Answers trace number None before told after = IsRefused (codes "E1") number before told after
 Answers trace number (Some (ToList code)) before told after = (told ≡ listing_answer (cutting code)) × (after ≡ before)
-Answers trace number (Some (ToOpen name text)) before told after = AnswersImage (is_full name before.sessions) number name text before told after
-Answers trace number (Some (ToKeep name packet)) before told after = AnswersPacket (named name before.sessions) number packet before told after
-Answers trace number (Some (ToRun name)) before told after = AnswersRun (named name before.sessions) trace number before told after
+Answers trace number (Some (ToOpen name text)) before told after =
+    AnswersImage (is_full name before.sessions) number name text before told after
+Answers trace number (Some (ToKeep name packet)) before told after =
+    AnswersPacket (named name before.sessions) number packet before told after
+Answers trace number (Some (ToRun name)) before told after =
+    AnswersRun (named name before.sessions) trace number before told after
 Answers trace number (Some ToRunAll) before told after = AreRunAndForgotten trace before told after
-Answers trace number (Some (ToDrop name)) before told after = AnswersDrop (named name before.sessions) number name before told after
+Answers trace number (Some (ToDrop name)) before told after =
+    AnswersDrop (named name before.sessions) number name before told after

@@ -49,7 +49,10 @@ flag true = 1
 -- a packet's result: its number, the error flag, the steps, the bytes sent on link 0
 abbrev pub result_line : ℕ → Run → List ℕ
 result_line n run =
-    written (codes "R " ++ decimal n ++ codes " " ++ decimal (flag run.error) ++ codes " " ++ decimal run.steps ++ codes " " ++ encode_lower run.result)
+    written (
+    codes "R " ++ decimal n ++ codes " " ++ decimal (flag run.error) ++ codes " " ++ decimal run.steps ++ codes " "
+    ++ encode_lower run.result
+    )
 
 -- the bytes sent on link 1
 abbrev pub trace_text : List ℕ → List ℕ

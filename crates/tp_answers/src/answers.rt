@@ -8,9 +8,9 @@ ghost use Rattle.tp_decode.specs.Cutting.{cutting};
 ghost use Rattle.tp_accept.specs.Refusals.{refusal_code_text};
 ghost use Rattle.tp_accept.specs.Verdict.{allowed};
 ghost use Rattle.tp_answers.specs.Sessions.{is_of, named};
-ghost use Rattle.tp_answers.specs.Told.{written, refusal, listing_answer, yes_line, GoesOnWith};
-ghost use Rattle.tp_answers.specs.Answers.{is_full, IsJudged, AnswersImage, AnswersPacket, AnswersDrop, standing};
-ghost use Rattle.tp_answers.specs.Open.{sessions_of};
+ghost use Rattle.tp_answers.specs.Told.{written, refusal, listing_answer, yes_line};
+ghost use Rattle.tp_answers.specs.Answers.{is_full, IsJudged, AnswersImage, AnswersPacket, AnswersDrop};
+ghost use Rattle.tp_answers.specs.Open.{sessions_of, TellsOfSessions};
 
 use crate::session::Kept;
 use crate::sessions::Sessions;
@@ -94,8 +94,8 @@ fn judge(
     text: Vec<u8>,
 ) -> Result<(), AllocError>
     requires { place ≡ position (is_of name.items) (sessions_of sessions.old) }
-    ensures { (batches : ℕ) → OnOk result (GoesOnWith (λ line. IsJudged name.items text.items
-        (standing (sessions_of sessions.old) batches) line (standing (sessions_of sessions.new) batches)) told.old.items told.new.items) }
+    ensures { (batches : ℕ) → OnOk result (TellsOfSessions batches (IsJudged name.items text.items)
+        sessions.old sessions.new told.old.items told.new.items) }
 {
     match accept(alloc, text) {
         Ok(image) => {
@@ -118,8 +118,9 @@ pub fn open(
     name: Name,
     text: Vec<u8>,
 ) -> Result<(), AllocError>
-    ensures { (batches : ℕ) → OnOk result (GoesOnWith (λ line. AnswersImage (is_full name.items (sessions_of sessions.old)) number name.items text.items
-        (standing (sessions_of sessions.old) batches) line (standing (sessions_of sessions.new) batches)) told.old.items told.new.items) }
+    ensures { (batches : ℕ) → OnOk result (TellsOfSessions batches
+        (AnswersImage (is_full name.items (sessions_of sessions.old)) number name.items text.items)
+        sessions.old sessions.new told.old.items told.new.items) }
 {
     let place = sessions.find(&name);
     if place.is_none() && sessions.len() >= MOST_SESSIONS {
@@ -148,8 +149,9 @@ pub fn keep(
     name: &Name,
     bytes: &Spelled<'_>,
 ) -> Result<(), AllocError>
-    ensures { (batches : ℕ) → OnOk result (GoesOnWith (λ line. AnswersPacket (named name.now.items (sessions_of sessions.old)) number (bytes_spelled bytes.now)
-        (standing (sessions_of sessions.old) batches) line (standing (sessions_of sessions.new) batches)) told.old.items told.new.items) }
+    ensures { (batches : ℕ) → OnOk result (TellsOfSessions batches
+        (AnswersPacket (named name.now.items (sessions_of sessions.old)) number (bytes_spelled bytes.now))
+        sessions.old sessions.new told.old.items told.new.items) }
 {
     let Some(index) = sessions.find(name) else {
         return refusal(told, "P2", number);
@@ -173,8 +175,9 @@ pub fn close(
     number: u64,
     name: &Name,
 ) -> Result<(), AllocError>
-    ensures { (batches : ℕ) → OnOk result (GoesOnWith (λ line. AnswersDrop (named name.now.items (sessions_of sessions.old)) number name.now.items
-        (standing (sessions_of sessions.old) batches) line (standing (sessions_of sessions.new) batches)) told.old.items told.new.items) }
+    ensures { (batches : ℕ) → OnOk result (TellsOfSessions batches
+        (AnswersDrop (named name.now.items (sessions_of sessions.old)) number name.now.items)
+        sessions.old sessions.new told.old.items told.new.items) }
 {
     let Some(index) = sessions.find(name) else {
         return refusal(told, "P2", number);

@@ -14,7 +14,21 @@ pub struct Kept {
     /// In order of number, from 0.
     pub packets: Vec<Packet>,
     ghost few: { vec_len packets ≤ 1024 },
-    ghost whole: { IsTrue (list_all (λ p. length p.items == 4 * image.image.packet && list_all (λ b. nat_lt b 256) p.items) packets.items) },
+    ghost whole: { IsTrue (list_all (λ p.
+        length p.items == 4 * image.image.packet && list_all (λ b. nat_lt b 256) p.items) packets.items) },
+}
+
+/// A session that has run its packets keeps the room of no more than so many.
+const KEPT_ROOM: usize = 16;
+
+/// Gives back the room of many packets, where none is there.
+fn give_back(packets: &mut Vec<Packet>)
+    ensures items { packets.new.items ≡ packets.old.items }
+    ensures len { vec_len packets.new ≡ vec_len packets.old }
+{
+    if packets.capacity() > KEPT_ROOM {
+        packets.shrink_to_fit();
+    }
 }
 
 impl Kept {
@@ -41,11 +55,12 @@ impl Kept {
         Ok(())
     }
 
-    /// Forgets its packets.
+    /// Forgets its packets. The room of many is given back.
     pub fn forget(&mut self)
         ensures image { self.new.image ≡ self.old.image }
         ensures packets { self.new.packets.items ≡ [] }
     {
         self.packets.clear();
+        give_back(&mut self.packets);
     }
 }

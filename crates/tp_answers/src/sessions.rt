@@ -1,6 +1,7 @@
 //! All sessions.
 
-ghost use Rattle.std.specs.Prelude.{◌≡◌, ◌*◌, ◌<◌, [], ◌∷◌, Some, length, position, remove, slice_get, slice_set, nat_lt, IsTrue, OnOk, IfSome};
+ghost use Rattle.std.specs.Prelude.{◌≡◌, ◌*◌, ◌<◌, [], ◌∷◌, Some, length, position, remove, slice_get, slice_set, nat_lt};
+ghost use Rattle.std.specs.Prelude.{IsTrue, OnOk, IfSome};
 ghost use Rattle.std.specs.List.{list_all};
 ghost use Rattle.tp_answers.specs.Sessions.{Session, is_of, with_session, with_packet, without_packets};
 ghost use Rattle.tp_answers.specs.Open.{session_of, sessions_of};

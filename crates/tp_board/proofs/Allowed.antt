@@ -20,12 +20,20 @@ use Rattle.tp_board.proofs.Totals.{le_total}
 
 module _ {S : Type 0} (k : Size) (slots id : ℕ) (me : Me S View) where
   -- a step of a seat that may make it
-  pub allowed : (event : Event) → MayStep event me.0 → me.0.parts ≡ 1 → Allows (Holds k) slots id me (place_of (row_of event).word) (row_of event).change (Tells event (step 0 0 0 0 none) me)
-  allowed event may one s h _ at _ =
-      ((row_of event).view me.0 (found_by event s.words), keeps, tt, moves k s.words s.views id me.0 h at event may one, (refl, may, word_fresh k s.words s.views id me.0 h at (row_of event).word one))
+  pub allowed : (event : Event) → MayStep event me.0 → me.0.parts ≡ 1
+      → Allows (Holds k) slots id me (place_of (row_of event).word) (row_of event).change (Tells event (step 0 0 0 0 none) me)
+  allowed event may one s h _ at _ = (
+    (row_of event).view me.0 (found_by event s.words),
+    keeps,
+    tt,
+    moves k s.words s.views id me.0 h at event may one,
+    (refl, may, word_fresh k s.words s.views id me.0 h at (row_of event).word one),
+  )
 
-  pub splits : (p m : ℕ) → 0 < m → me.0 ≡ newcomer p m → Splits {S = S} (Holds k) id me.0 (newcomer me.0.packets (me.0.parts - 1)) (newcomer me.0.packets 1)
-  splits p m some_part is = subst (λ (v : View). Splits {S = S} (Holds k) id v (newcomer v.packets (v.parts - 1)) (newcomer v.packets 1)) (sym is)
+  pub splits : (p m : ℕ) → 0 < m → me.0 ≡ newcomer p m
+      → Splits {S = S} (Holds k) id me.0 (newcomer me.0.packets (me.0.parts - 1)) (newcomer me.0.packets 1)
+  splits p m some_part is =
+      subst (λ (v : View). Splits {S = S} (Holds k) id v (newcomer v.packets (v.parts - 1)) (newcomer v.packets 1)) (sym is)
       (λ s h at. (h.0, h.1, split_rule k h.0 s.views id p m some_part h.2 at))
 
   pub joins : (other : ℕ) (u : View) → 0 < me.0.parts → Joins {S = S} (Holds k) id me.0 other u (join_of me.0 u) (newcomer 0 0)
@@ -50,11 +58,13 @@ opens S p m few_packets few_members = (
 )
   where
     only : (id : ℕ) (v : View) → get_elem? (newcomer p m ∷ []) id ≡ some v → Fits (size p m) nothing_seen v
-    only zero v at = subst (Fits (size p m) nothing_seen) (some-injective (newcomer p m) v at) (newcomer_fits (size p m) nothing_seen p m refl)
+    only zero v at =
+        subst (Fits (size p m) nothing_seen) (some-injective (newcomer p m) v at) (newcomer_fits (size p m) nothing_seen p m refl)
     only (suc id) v at = absurd (some-ne-none v (sym at))
 
 -- the seat that has the parts of all members knows what the rule says of the words
-pub closes : (S : Type 0) (k : Size) (id : ℕ) (v : View) (ws : List ℕ) (s : State S View) → k.members ≤ v.parts → Seen (Holds k) id v s → s.words ≡ ws → (w : Counters) × (ws ≡ words_of w) × Whole k w v × (v.parts ≡ k.members)
+pub closes : (S : Type 0) (k : Size) (id : ℕ) (v : View) (ws : List ℕ) (s : State S View) → k.members ≤ v.parts
+    → Seen (Holds k) id v s → s.words ≡ ws → (w : Counters) × (ws ≡ words_of w) × Whole k w v × (v.parts ≡ k.members)
 closes S k id v ws s most h e =
     let r = h.0.2 in
     let every : v.parts ≡ k.members = (let a = le_total (λ v. v.parts) s.views id v h.1 in let b = r.parts in omega arith) in

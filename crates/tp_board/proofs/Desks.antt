@@ -1,5 +1,6 @@
 -- Each step at a stream's three words keeps their rule.
-use Rattle.std.proofs.Common.{◌≡◌, ◌≢◌, ℕ, zero, suc, ◌+◌, ◌-◌, ◌*◌, ◌%◌, ◌^◌, ◌<◌, ◌≤◌, min, bit_or, List, [], ◌∷◌, ◌++◌, length, set, sym, refl, ap, ◌∙◌, subst, ⊎_elim, arith, length-append}
+use Rattle.std.proofs.Common.{◌≡◌, ◌≢◌, ℕ, zero, suc, ◌+◌, ◌-◌, ◌*◌, ◌%◌, ◌^◌, ◌<◌, ◌≤◌, min, bit_or, List, [], ◌∷◌, ◌++◌, length}
+use Rattle.std.proofs.Common.{set, sym, refl, ap, ◌∙◌, subst, ⊎_elim, arith, length-append}
 use Rattle.std.specs.Prelude.{slice_index, slice_set}
 use mathlib.Core.Option.{some, none, some-ne-none, some-injective}
 use lib.ListN.{get_elem?}
@@ -21,7 +22,10 @@ use Rattle.tp_board.proofs.Moves.{added, one_or, set_same}
 use Rattle.tp_board.proofs.Totals.{total_set, total_snoc, le_total, total_le, others_none, all_of, each_set}
 
 wider : (s w u : Counters) → AtMost s w → AtMost w u → AtMost s u
-wider s w u a b = let a0 = a.claimed in let b0 = b.claimed in let a1 = a.done in let b1 = b.done in let a2 = a.lost in let b2 = b.lost in let a3 = a.stop in let b3 = b.stop in
+wider s w u a b =
+    let a0 =
+    a.claimed in let b0 =
+    b.claimed in let a1 = a.done in let b1 = b.done in let a2 = a.lost in let b2 = b.lost in let a3 = a.stop in let b3 = b.stop in
     record { claimed = omega arith; done = omega arith; lost = omega arith; stop = omega arith }
 
 grown : (k : Size) (w u : Counters) (v : View) → AtMost w u → FitsDesk k w v → FitsDesk k u v
@@ -33,18 +37,23 @@ total_times c (v ∷ vs) = let ih = total_times c vs in grind arith
 
 done_small : (k : Size) (w : Counters) (views : List View) → DeskRule k w views → w.done ≤ 66560
 done_small k w views r =
-    let a = total_le (λ v. length v.finished) (λ v. 1024 * v.parts) views (λ id v at. let f = (r.fits id v at).few in omega arith) in
+    let a =
+    total_le (λ v. length v.finished) (λ v. 1024 * v.parts) views (λ id v at. let f = (r.fits id v at).few in omega arith) in
     let b = total_times 1024 views in let c = r.parts in let d = r.few_seats in let e = r.done in omega arith
 
 lost_small : (k : Size) (w : Counters) (views : List View) → DeskRule k w views → w.lost ≤ 66560
 lost_small k w views r =
-    let a = total_le (λ v. length v.abandoned) (λ v. 1024 * v.parts) views (λ id v at. let f = (r.fits id v at).few in omega arith) in
+    let a =
+    total_le (λ v. length v.abandoned) (λ v. 1024 * v.parts) views (λ id v at. let f = (r.fits id v at).few in omega arith) in
     let b = total_times 1024 views in let c = r.parts in let d = r.few_seats in let e = r.lost in omega arith
 
 -- one view and the words change together
-changed : (k : Size) (w w' : Counters) (views : List View) (id : ℕ) (v u : View) → DeskRule k w views → get_elem? views id ≡ some v
-    → w'.claimed ≡ 0 → u.parts ≡ v.parts → w'.done + length v.finished ≡ w.done + length u.finished → w'.lost + length v.abandoned ≡ w.lost + length u.abandoned
-    → w'.stop ≡ min 1 (total (λ v. v.stop_callers) (set views id u)) → AtMost w w' → FitsDesk k w' u → DeskRule k w' (set views id u)
+changed : (k : Size) (w w' : Counters) (views : List View) (id : ℕ) (v u : View) → DeskRule k w views
+    → get_elem? views id ≡ some v
+    → w'.claimed ≡ 0 → u.parts ≡ v.parts → w'.done + length v.finished ≡ w.done + length u.finished
+    → w'.lost + length v.abandoned ≡ w.lost + length u.abandoned
+    → w'.stop ≡ min 1 (total (λ v. v.stop_callers) (set views id u)) → AtMost w w' → FitsDesk k w' u
+    → DeskRule k w' (set views id u)
 changed k w w' views id v u r at unclaimed same done lost stop more mine = record {
   few_seats = r.few_seats;
   no_claim = unclaimed;
@@ -55,8 +64,10 @@ changed k w w' views id v u r at unclaimed same done lost stop more mine = recor
   fits = each_set (FitsDesk k w') views id u mine (λ j y _ e. grown k w w' y more (r.fits j y e));
 }
 
-module _ (k : Size) (words : List ℕ) (views : List View) (id : ℕ) (v : View) (h : KeepsDesk k words views) (at : get_elem? views id ≡ some v) where
-  pub finish_keeps : (n : ℕ) → v.parts ≡ 1 → length v.finished + length v.abandoned < 1024 → KeepsDesk k (slice_set words 0 ((slice_index words 0 + 1) % 2 ^ 64)) (set views id (after_finish (holding v (n ∷ []))))
+module _ (k : Size) (words : List ℕ) (views : List View) (id : ℕ) (v : View) (h : KeepsDesk k words views)
+    (at : get_elem? views id ≡ some v) where
+  pub finish_keeps : (n : ℕ) → v.parts ≡ 1 → length v.finished + length v.abandoned < 1024
+      → KeepsDesk k (slice_set words 0 ((slice_index words 0 + 1) % 2 ^ 64)) (set views id (after_finish (holding v (n ∷ []))))
   finish_keeps n one room =
       let w = h.0 in let r = h.2 in let small = done_small k w views r in let f = r.fits id v at in
       let u = after_finish (holding v (n ∷ [])) in
@@ -64,12 +75,15 @@ module _ (k : Size) (words : List ℕ) (views : List View) (id : ℕ) (v : View)
       let long = length-append v.finished (n ∷ []) in
       let more : AtMost w w' = record { claimed = omega arith; done = omega arith; lost = omega arith; stop = omega arith } in (
         w',
-        ap (λ ws. slice_set ws 0 ((slice_index ws 0 + 1) % 2 ^ 64)) h.1 ∙ ap (λ d. d ∷ w.lost ∷ w.stop ∷ []) (added w.done (omega arith)),
-        changed k w w' views id v u r at r.no_claim refl (omega arith) (omega arith) (let a = total_set (λ v. v.stop_callers) views id v u at in let b = r.stop in omega arith) more
+        ap (λ ws. slice_set ws 0 ((slice_index ws 0 + 1) % 2 ^ 64)) h.1
+            ∙ ap (λ d. d ∷ w.lost ∷ w.stop ∷ []) (added w.done (omega arith)),
+        changed k w w' views id v u r at r.no_claim refl (omega arith) (omega arith)
+            (let a = total_set (λ v. v.stop_callers) views id v u at in let b = r.stop in omega arith) more
             (record { few = omega arith; seen = wider v.seen w w' f.seen more; idle = (λ e. absurd (omega arith)) }),
       )
 
-  pub abandon_keeps : (n : ℕ) → v.parts ≡ 1 → length v.finished + length v.abandoned < 1024 → KeepsDesk k (slice_set words 1 ((slice_index words 1 + 1) % 2 ^ 64)) (set views id (after_abandon (holding v (n ∷ []))))
+  pub abandon_keeps : (n : ℕ) → v.parts ≡ 1 → length v.finished + length v.abandoned < 1024
+      → KeepsDesk k (slice_set words 1 ((slice_index words 1 + 1) % 2 ^ 64)) (set views id (after_abandon (holding v (n ∷ []))))
   abandon_keeps n one room =
       let w = h.0 in let r = h.2 in let small = lost_small k w views r in let f = r.fits id v at in
       let u = after_abandon (holding v (n ∷ [])) in
@@ -77,8 +91,10 @@ module _ (k : Size) (words : List ℕ) (views : List View) (id : ℕ) (v : View)
       let long = length-append v.abandoned (n ∷ []) in
       let more : AtMost w w' = record { claimed = omega arith; done = omega arith; lost = omega arith; stop = omega arith } in (
         w',
-        ap (λ ws. slice_set ws 1 ((slice_index ws 1 + 1) % 2 ^ 64)) h.1 ∙ ap (λ d. w.done ∷ d ∷ w.stop ∷ []) (added w.lost (omega arith)),
-        changed k w w' views id v u r at r.no_claim refl (omega arith) (omega arith) (let a = total_set (λ v. v.stop_callers) views id v u at in let b = r.stop in omega arith) more
+        ap (λ ws. slice_set ws 1 ((slice_index ws 1 + 1) % 2 ^ 64)) h.1
+            ∙ ap (λ d. w.done ∷ d ∷ w.stop ∷ []) (added w.lost (omega arith)),
+        changed k w w' views id v u r at r.no_claim refl (omega arith) (omega arith)
+            (let a = total_set (λ v. v.stop_callers) views id v u at in let b = r.stop in omega arith) more
             (record { few = omega arith; seen = wider v.seen w w' f.seen more; idle = (λ e. absurd (omega arith)) }),
       )
 
@@ -90,29 +106,48 @@ module _ (k : Size) (words : List ℕ) (views : List View) (id : ℕ) (v : View)
       let was = r.stop in
       let more : AtMost w w' = record { claimed = omega arith; done = omega arith; lost = omega arith; stop = omega arith } in (
         w',
-        ap (λ ws. slice_set ws 2 (bit_or (slice_index ws 2) 1)) h.1 ∙ ap (λ n. w.done ∷ w.lost ∷ n ∷ []) (ap (λ n. bit_or n 1) r.stop ∙ one_or (total (λ v. v.stop_callers) views)),
-        changed k w w' views id v u r at r.no_claim refl (omega arith) (omega arith) (let a = total_set (λ v. v.stop_callers) views id v u at in let b = le_total (λ v. v.stop_callers) views id v at in omega arith) more
+        ap (λ ws. slice_set ws 2 (bit_or (slice_index ws 2) 1)) h.1 ∙ ap (λ n. w.done ∷ w.lost ∷ n ∷ [])
+            (ap (λ n. bit_or n 1) r.stop ∙ one_or (total (λ v. v.stop_callers) views)),
+        changed k w w' views id v u r at r.no_claim refl (omega arith) (omega arith)
+            (let a = total_set (λ v. v.stop_callers) views id v u at in let b = le_total
+            (λ v. v.stop_callers) views id v at in omega arith) more
             (record { few = f.few; seen = wider v.seen w w' f.seen more; idle = (λ e. absurd (omega arith)) }),
       )
 
-  pub look_keeps : (what : Shown) → 0 < place_of what → let n = slice_index words (desk_place_of what) in KeepsDesk k (slice_set words (desk_place_of what) n) (set views id (after_look v what n))
+  pub look_keeps : (what : Shown) → 0 < place_of what
+      → let n =
+      slice_index words (desk_place_of what) in KeepsDesk k (slice_set words (desk_place_of what) n)
+      (set views id (after_look v what n))
   look_keeps what kept =
       let place = desk_place_of what in
       subst (λ ws. KeepsDesk k ws (set views id (after_look v what (slice_index words place)))) (sym (set_same place words))
-      (subst (λ ws. KeepsDesk k words (set views id (after_look v what (slice_index ws place)))) (sym h.1) (h.0, h.1, looked h.0 h.2 what kept))
+      (subst (λ ws. KeepsDesk k words (set views id (after_look v what (slice_index ws place)))) (sym h.1)
+      (h.0, h.1, looked h.0 h.2 what kept))
     where
-      saw : (w : Counters) → DeskRule k w views → (seen : Counters) → AtMost seen w → DeskRule k w (set views id (with_seen v seen))
+      saw : (w : Counters) → DeskRule k w views → (seen : Counters) → AtMost seen w
+          → DeskRule k w (set views id (with_seen v seen))
       saw w r seen least =
           let f = r.fits id v at in let u = with_seen v seen in
           let same : AtMost w w = record { claimed = omega arith; done = omega arith; lost = omega arith; stop = omega arith } in
-          changed k w w views id v u r at r.no_claim refl (omega arith) (omega arith) (let a = total_set (λ v. v.stop_callers) views id v u at in let b = r.stop in omega arith) same
+          changed k w w views id v u r at r.no_claim refl (omega arith) (omega arith)
+          (let a = total_set (λ v. v.stop_callers) views id v u at in let b = r.stop in omega arith) same
           (record { few = f.few; seen = least; idle = f.idle })
 
-      looked : (w : Counters) → DeskRule k w views → (what : Shown) → 0 < place_of what → DeskRule k w (set views id (after_look v what (slice_index (desk_words_of w) (desk_place_of what))))
+      looked : (w : Counters) → DeskRule k w views → (what : Shown) → 0 < place_of what
+          → DeskRule k w (set views id (after_look v what (slice_index (desk_words_of w) (desk_place_of what))))
       looked w r shown.Claimed kept = absurd (omega arith)
-      looked w r shown.Done kept = let s = (r.fits id v at).seen in saw w r (counters v.seen.claimed w.done v.seen.lost v.seen.stop) (record { claimed = s.claimed; done = omega arith; lost = s.lost; stop = s.stop })
-      looked w r shown.Lost kept = let s = (r.fits id v at).seen in saw w r (counters v.seen.claimed v.seen.done w.lost v.seen.stop) (record { claimed = s.claimed; done = s.done; lost = omega arith; stop = s.stop })
-      looked w r shown.Stop kept = let s = (r.fits id v at).seen in saw w r (counters v.seen.claimed v.seen.done v.seen.lost w.stop) (record { claimed = s.claimed; done = s.done; lost = s.lost; stop = omega arith })
+      looked w r shown.Done kept =
+          let s =
+          (r.fits id v at).seen in saw w r (counters v.seen.claimed w.done v.seen.lost v.seen.stop)
+          (record { claimed = s.claimed; done = omega arith; lost = s.lost; stop = s.stop })
+      looked w r shown.Lost kept =
+          let s =
+          (r.fits id v at).seen in saw w r (counters v.seen.claimed v.seen.done w.lost v.seen.stop)
+          (record { claimed = s.claimed; done = s.done; lost = omega arith; stop = s.stop })
+      looked w r shown.Stop kept =
+          let s =
+          (r.fits id v at).seen in saw w r (counters v.seen.claimed v.seen.done v.seen.lost w.stop)
+          (record { claimed = s.claimed; done = s.done; lost = s.lost; stop = omega arith })
 
   pub stop_fresh : let n = slice_index words 2 in (v.seen.stop ≤ n) × (min 1 v.stop_callers ≤ n) × (n ≤ 1)
   stop_fresh =
@@ -133,21 +168,43 @@ module _ (k : Size) (words : List ℕ) (views : List View) (id : ℕ) (v : View)
       (omega arith, omega arith)
 
 module _ {S : Type 0} (k : Size) (slots id : ℕ) (me : Me S View) where
-  pub finishes : (n : ℕ) → me.0.parts ≡ 1 → length me.0.finished + length me.0.abandoned < 1024 → Allows (DeskHolds k) slots id me 0 (λ n. (n + 1) % 2 ^ 64) (Reports Finish n (step slots 0 1 0 none) me)
-  finishes n one room s h _ at _ =
-      (after_finish (holding me.0 (n ∷ [])), keeps, tt, finish_keeps k s.words s.views id me.0 h at n one room, (refl, (n, refl), done_fresh k s.words s.views id me.0 h at))
+  pub finishes : (n : ℕ) → me.0.parts ≡ 1 → length me.0.finished + length me.0.abandoned < 1024
+      → Allows (DeskHolds k) slots id me 0 (λ n. (n + 1) % 2 ^ 64) (Reports Finish n (step slots 0 1 0 none) me)
+  finishes n one room s h _ at _ = (
+    after_finish (holding me.0 (n ∷ [])),
+    keeps,
+    tt,
+    finish_keeps k s.words s.views id me.0 h at n one room,
+    (refl, (n, refl), done_fresh k s.words s.views id me.0 h at),
+  )
 
-  pub abandons : (n : ℕ) → me.0.parts ≡ 1 → length me.0.finished + length me.0.abandoned < 1024 → Allows (DeskHolds k) slots id me 1 (λ n. (n + 1) % 2 ^ 64) (Reports Abandon n (step slots 1 1 0 none) me)
-  abandons n one room s h _ at _ =
-      (after_abandon (holding me.0 (n ∷ [])), keeps, tt, abandon_keeps k s.words s.views id me.0 h at n one room, (refl, (n, refl), lost_fresh k s.words s.views id me.0 h at))
+  pub abandons : (n : ℕ) → me.0.parts ≡ 1 → length me.0.finished + length me.0.abandoned < 1024
+      → Allows (DeskHolds k) slots id me 1 (λ n. (n + 1) % 2 ^ 64) (Reports Abandon n (step slots 1 1 0 none) me)
+  abandons n one room s h _ at _ = (
+    after_abandon (holding me.0 (n ∷ [])),
+    keeps,
+    tt,
+    abandon_keeps k s.words s.views id me.0 h at n one room,
+    (refl, (n, refl), lost_fresh k s.words s.views id me.0 h at),
+  )
 
   pub stops : me.0.parts ≡ 1 → Allows (DeskHolds k) slots id me 2 (λ n. bit_or n 1) (Tells Stop (step slots 2 1 0 none) me)
-  stops one s h _ at _ =
-      (after_stop me.0, keeps, tt, stop_keeps k s.words s.views id me.0 h at one, (refl, tt, stop_fresh k s.words s.views id me.0 h at))
+  stops one s h _ at _ = (
+    after_stop me.0,
+    keeps,
+    tt,
+    stop_keeps k s.words s.views id me.0 h at one,
+    (refl, tt, stop_fresh k s.words s.views id me.0 h at),
+  )
 
   pub looks : Allows (DeskHolds k) slots id me 2 (λ n. n) (Tells (Look shown.Stop) (step slots 2 0 0 none) me)
-  looks s h _ at _ =
-      (after_look me.0 shown.Stop (slice_index s.words 2), keeps, tt, look_keeps k s.words s.views id me.0 h at shown.Stop (omega arith), (refl, tt, stop_fresh k s.words s.views id me.0 h at))
+  looks s h _ at _ = (
+    after_look me.0 shown.Stop (slice_index s.words 2),
+    keeps,
+    tt,
+    look_keeps k s.words s.views id me.0 h at shown.Stop (omega arith),
+    (refl, tt, stop_fresh k s.words s.views id me.0 h at),
+  )
 
 pub newcomer_fits : (k : Size) (w : Counters) (p m : ℕ) → FitsDesk k w (newcomer p m)
 newcomer_fits k w p m = record {
@@ -156,16 +213,26 @@ newcomer_fits k w p m = record {
   idle = (λ _. (refl, refl, refl));
 }
 
-split_rule : (k : Size) (w : Counters) (views : List View) (id p m : ℕ) → 0 < m → DeskRule k w views → get_elem? views id ≡ some (newcomer p m)
+split_rule : (k : Size) (w : Counters) (views : List View) (id p m : ℕ) → 0 < m → DeskRule k w views
+    → get_elem? views id ≡ some (newcomer p m)
     → DeskRule k w (set views id (newcomer p (m - 1)) ++ newcomer p 1 ∷ [])
 split_rule k w views id p m some_part r at =
-    let v : View = newcomer p m in let u : View = newcomer p (m - 1) in let n : View = newcomer p 1 in let vs = set views id u in record {
+    let v : View =
+    newcomer p m in let u : View = newcomer p (m - 1) in let n : View = newcomer p 1 in let vs = set views id u in record {
       few_seats = r.few_seats;
       no_claim = r.no_claim;
-      parts = (let a = total_set (λ v. v.parts) views id v u at in let b = r.parts in let c = total_snoc (λ v. v.parts) vs n in omega arith);
-      done = (let a = total_set (λ v. length v.finished) views id v u at in let b = r.done in let c = total_snoc (λ v. length v.finished) vs n in omega arith);
-      lost = (let a = total_set (λ v. length v.abandoned) views id v u at in let b = r.lost in let c = total_snoc (λ v. length v.abandoned) vs n in omega arith);
-      stop = (let a = total_set (λ v. v.stop_callers) views id v u at in let b = r.stop in let c = total_snoc (λ v. v.stop_callers) vs n in omega arith);
+      parts =
+          (let a = total_set (λ v. v.parts) views id v u at in let b = r.parts in let c = total_snoc
+          (λ v. v.parts) vs n in omega arith);
+      done =
+          (let a = total_set (λ v. length v.finished) views id v u at in let b = r.done in let c = total_snoc
+          (λ v. length v.finished) vs n in omega arith);
+      lost =
+          (let a = total_set (λ v. length v.abandoned) views id v u at in let b = r.lost in let c = total_snoc
+          (λ v. length v.abandoned) vs n in omega arith);
+      stop =
+          (let a = total_set (λ v. v.stop_callers) views id v u at in let b = r.stop in let c = total_snoc
+          (λ v. v.stop_callers) vs n in omega arith);
       fits = (λ j y e. ⊎_elim
           (λ was. each_set (FitsDesk k w) views id u (newcomer_fits k w p (m - 1)) (λ j y _ e. r.fits j y e) j y was)
           (λ (same : n ≡ y). subst (FitsDesk k w) same (newcomer_fits k w p 1))
@@ -174,31 +241,47 @@ split_rule k w views id p m some_part r at =
 
 joined_fits : (k : Size) (w : Counters) (v u : View) → 0 < v.parts → FitsDesk k w v → FitsDesk k w u → FitsDesk k w (join_of v u)
 joined_fits k w v u some_part f g = record {
-  few = (let a = f.few in let b = g.few in let d = length-append v.finished u.finished in let e = length-append v.abandoned u.abandoned in omega arith);
-  seen = (let a0 = f.seen.claimed in let b0 = g.seen.claimed in let a1 = f.seen.done in let b1 = g.seen.done in let a2 = f.seen.lost in let b2 = g.seen.lost in let a3 = f.seen.stop in let b3 = g.seen.stop in
+  few =
+      (let a = f.few in let b = g.few in let d = length-append v.finished u.finished in let e = length-append v.abandoned
+      u.abandoned in omega arith);
+  seen =
+      (let a0 = f.seen.claimed in let b0 = g.seen.claimed in let a1 = f.seen.done in let b1 = g.seen.done in
+      let a2 = f.seen.lost in let b2 = g.seen.lost in let a3 = f.seen.stop in let b3 = g.seen.stop in
       record { claimed = omega arith; done = omega arith; lost = omega arith; stop = omega arith });
   idle = (λ e. absurd (omega arith));
 }
 
-join_rule : (k : Size) (w : Counters) (views : List View) (id : ℕ) (v : View) (other : ℕ) (u : View) → 0 < v.parts → DeskRule k w views → get_elem? views id ≡ some v → other ≢ id → get_elem? (set views id (join_of v u)) other ≡ some u
+join_rule : (k : Size) (w : Counters) (views : List View) (id : ℕ) (v : View) (other : ℕ) (u : View) → 0 < v.parts
+    → DeskRule k w views → get_elem? views id ≡ some v → other ≢ id → get_elem? (set views id (join_of v u)) other ≡ some u
     → DeskRule k w (set (set views id (join_of v u)) other (newcomer 0 0))
 join_rule k w views id v other u some_part r at apart there =
     let b : View = join_of v u in let s : View = newcomer 0 0 in let vs = set views id b in
-    let was : get_elem? views other ≡ some u = ⊎_elim (λ (t : (other ≡ id) × (b ≡ u)). absurd (apart t.0)) (λ (t : (other ≢ id) × (get_elem? views other ≡ some u)). t.1) (at_set views id other b u there) in
+    let was : get_elem? views other ≡ some u =
+    ⊎_elim (λ (t : (other ≡ id) × (b ≡ u)). absurd (apart t.0)) (λ (t : (other ≢ id) × (get_elem? views other ≡ some u)). t.1)
+    (at_set views id other b u there) in
     let sum = λ (f : View → ℕ). total_set f views id v b at in
     let rest = λ (f : View → ℕ). total_set f vs other u s there in record {
       few_seats = r.few_seats;
       no_claim = r.no_claim;
       parts = (let a = sum (λ v. v.parts) in let c = rest (λ v. v.parts) in let d = r.parts in omega arith);
-      done = (let a = sum (λ v. length v.finished) in let c = rest (λ v. length v.finished) in let d = r.done in let e = length-append v.finished u.finished in omega arith);
-      lost = (let a = sum (λ v. length v.abandoned) in let c = rest (λ v. length v.abandoned) in let d = r.lost in let e = length-append v.abandoned u.abandoned in omega arith);
+      done =
+          (let a = sum (λ v. length v.finished) in let c = rest
+          (λ v. length v.finished) in let d = r.done in let e = length-append v.finished u.finished in omega arith);
+      lost =
+          (let a = sum (λ v. length v.abandoned) in let c = rest
+          (λ v. length v.abandoned) in let d = r.lost in let e = length-append v.abandoned u.abandoned in omega arith);
       stop = (let a = sum (λ v. v.stop_callers) in let c = rest (λ v. v.stop_callers) in let d = r.stop in omega arith);
-      fits = each_set (FitsDesk k w) vs other s (newcomer_fits k w 0 0) (λ j y _ e. each_set (FitsDesk k w) views id b (joined_fits k w v u some_part (r.fits id v at) (r.fits other u was)) (λ j y _ e. r.fits j y e) j y e);
+      fits =
+          each_set (FitsDesk k w) vs other s (newcomer_fits k w 0 0)
+          (λ j y _ e. each_set (FitsDesk k w) views id b (joined_fits k w v u some_part (r.fits id v at) (r.fits other u was))
+          (λ j y _ e. r.fits j y e) j y e);
     }
 
 module _ {S : Type 0} (k : Size) (id : ℕ) (v : View) where
-  pub splits : (p m : ℕ) → 0 < m → v ≡ newcomer p m → Splits {S = S} (DeskHolds k) id v (newcomer v.packets (v.parts - 1)) (newcomer v.packets 1)
-  splits p m some_part is = subst (λ (v : View). Splits {S = S} (DeskHolds k) id v (newcomer v.packets (v.parts - 1)) (newcomer v.packets 1)) (sym is)
+  pub splits : (p m : ℕ) → 0 < m → v ≡ newcomer p m
+      → Splits {S = S} (DeskHolds k) id v (newcomer v.packets (v.parts - 1)) (newcomer v.packets 1)
+  splits p m some_part is =
+      subst (λ (v : View). Splits {S = S} (DeskHolds k) id v (newcomer v.packets (v.parts - 1)) (newcomer v.packets 1)) (sym is)
       (λ s h at. (h.0, h.1, split_rule k h.0 s.views id p m some_part h.2 at))
 
   pub joins : (other : ℕ) (u : View) → 0 < v.parts → Joins {S = S} (DeskHolds k) id v other u (join_of v u) (newcomer 0 0)
@@ -208,11 +291,20 @@ pub opens : (S : Type 0) (p m : ℕ) → m ≤ 65 → DeskHolds {S = S} (size p 
 opens S p m few_seats = (
   nothing_seen,
   refl,
-  record { few_seats = few_seats; no_claim = refl; parts = omega arith; done = refl; lost = refl; stop = omega arith; fits = only },
+  record {
+    few_seats = few_seats;
+    no_claim = refl;
+    parts = omega arith;
+    done = refl;
+    lost = refl;
+    stop = omega arith;
+    fits = only;
+  },
 )
   where
     only : (id : ℕ) (v : View) → get_elem? (newcomer p m ∷ []) id ≡ some v → FitsDesk (size p m) nothing_seen v
-    only zero v at = subst (FitsDesk (size p m) nothing_seen) (some-injective (newcomer p m) v at) (newcomer_fits (size p m) nothing_seen p m)
+    only zero v at =
+        subst (FitsDesk (size p m) nothing_seen) (some-injective (newcomer p m) v at) (newcomer_fits (size p m) nothing_seen p m)
     only (suc id) v at = absurd (some-ne-none v (sym at))
 
 -- what the rule says of the view that has every part
@@ -223,12 +315,15 @@ pub record WholeDesk (w : Counters) (v : View) : Type 0 where
   pub stop : w.stop ≡ min 1 v.stop_callers
   pub seen : AtMost v.seen w
 
-pub closes : (S : Type 0) (k : Size) (id : ℕ) (v : View) (ws : List ℕ) (s : State S View) → k.members ≤ v.parts → Seen (DeskHolds k) id v s → s.words ≡ ws → (w : Counters) × (ws ≡ desk_words_of w) × WholeDesk w v × (v.parts ≡ k.members)
+pub closes : (S : Type 0) (k : Size) (id : ℕ) (v : View) (ws : List ℕ) (s : State S View) → k.members ≤ v.parts
+    → Seen (DeskHolds k) id v s → s.words ≡ ws → (w : Counters) × (ws ≡ desk_words_of w) × WholeDesk w v × (v.parts ≡ k.members)
 closes S k id v ws s most h e =
     let r = h.0.2 in
     let every : v.parts ≡ k.members = (let a = le_total (λ v. v.parts) s.views id v h.1 in let b = r.parts in omega arith) in
     let none = others_none (λ v. v.parts) s.views id v h.1 (r.parts ∙ sym every) in
-    let of = λ (f : View → ℕ) (g : (u : View) → FitsDesk k h.0.0 u → u.parts ≡ 0 → f u ≡ 0). all_of f s.views id v h.1 (λ j u apart there. g u (r.fits j u there) (none j u apart there)) in (
+    let of =
+    λ (f : View → ℕ) (g : (u : View) → FitsDesk k h.0.0 u → u.parts ≡ 0 → f u ≡ 0). all_of f s.views id v h.1
+    (λ j u apart there. g u (r.fits j u there) (none j u apart there)) in (
       h.0.0,
       sym e ∙ h.0.1,
       record {

@@ -9,14 +9,18 @@ no_hand : (hand : Option ℕ) → ((x : ℕ) → hand ≡ Some x → ⊥) → ha
 no_hand None h = refl
 no_hand (Some n) h = absurd (h n refl)
 
-pub hand_empty : (v : View) (p : ℕ) (hand : Option ℕ) (ended stop_seen : Bool) → IsSeat v p hand ended stop_seen → ((x : ℕ) → hand ≡ Some x → ⊥) → v.hand ≡ []
+pub hand_empty : (v : View) (p : ℕ) (hand : Option ℕ) (ended stop_seen : Bool) → IsSeat v p hand ended stop_seen
+    → ((x : ℕ) → hand ≡ Some x → ⊥) → v.hand ≡ []
 hand_empty v p hand ended stop_seen ok h = ok.hand_is ∙ no_hand hand h
 
-pub hand_full : (v : View) (p : ℕ) (hand : Option ℕ) (ended stop_seen : Bool) (n : ℕ) → IsSeat v p hand ended stop_seen → hand ≡ Some n → v.hand ≡ n ∷ []
+pub hand_full : (v : View) (p : ℕ) (hand : Option ℕ) (ended stop_seen : Bool) (n : ℕ) → IsSeat v p hand ended stop_seen
+    → hand ≡ Some n → v.hand ≡ n ∷ []
 hand_full v p hand ended stop_seen n ok e = ok.hand_is ∙ ap hand_list e
 
-pub still_going : (v : View) (p : ℕ) (hand : Option ℕ) (ended stop_seen : Bool) → IsSeat v p hand ended stop_seen → ended ≡ false → v.ended ≡ 0
+pub still_going : (v : View) (p : ℕ) (hand : Option ℕ) (ended stop_seen : Bool) → IsSeat v p hand ended stop_seen → ended ≡ false
+    → v.ended ≡ 0
 still_going v p hand ended stop_seen ok e = ok.ended_is ∙ ap (λ (b : Bool). if b then 1 else 0) e
 
-pub stop_unseen : (v : View) (p : ℕ) (hand : Option ℕ) (ended stop_seen : Bool) → IsSeat v p hand ended stop_seen → stop_seen ≡ false → v.seen.stop ≡ 0
+pub stop_unseen : (v : View) (p : ℕ) (hand : Option ℕ) (ended stop_seen : Bool) → IsSeat v p hand ended stop_seen
+    → stop_seen ≡ false → v.seen.stop ≡ 0
 stop_unseen v p hand ended stop_seen ok e = ok.stop_seen_is ∙ ap (λ (b : Bool). if b then 1 else 0) e

@@ -1,5 +1,6 @@
 -- A board on which no step was made keeps the rule, and stands for the opening farm.
-use Rattle.std.proofs.Common.{replicate, ◌≡◌, ℕ, zero, suc, ◌≤◌, min, nat_eq, [], ◌∷◌, length, map, None, sym, refl, ap, ◌∙◌, subst, arith}
+use Rattle.std.proofs.Common.{replicate, ◌≡◌, ℕ, zero, suc, ◌≤◌, min, nat_eq, [], ◌∷◌, length, map, None, sym, refl, ap, ◌∙◌}
+use Rattle.std.proofs.Common.{subst, arith}
 use Rattle.tp_board.specs.declared.view.Counters.{Counters}
 use Rattle.tp_board.specs.declared.view.View.{View}
 use Rattle.tp_board.specs.Counting.{times, once_below}
@@ -27,14 +28,18 @@ opening_rule p m few_packets few_members =
       done = sym (total_same (λ u. length u.finished) v m refl);
       lost = sym (total_same (λ u. length u.abandoned) v m refl);
       stop = sym (ap (min 1) (total_same (λ u. u.stop_callers) v m refl));
-      fits = (λ id u at. subst (Fits (size p m) nothing_seen) (at_replicate v u m id at) (newcomer_fits (size p m) nothing_seen p 1 refl));
+      fits =
+          (λ id u at. subst (Fits (size p m) nothing_seen) (at_replicate v u m id at)
+          (newcomer_fits (size p m) nothing_seen p 1 refl));
     }
 
 -- no other words
 opening_only : (p m : ℕ) (w : Counters) → Rule (size p m) w (opening_views p m) → words_of w ≡ opening_words
 opening_only p m w r =
     let v = newcomer p 1 in
-    let claimed : w.claimed ≡ 0 = (let a = r.drawn in let b = total_same (λ u. length u.drawn) v m refl in let c = r.ended in let d = total_same (λ u. u.ended) v m refl in omega arith) in
+    let claimed : w.claimed ≡ 0 =
+    (let a = r.drawn in let b = total_same (λ u. length u.drawn) v m refl in let c = r.ended in let d = total_same
+    (λ u. u.ended) v m refl in omega arith) in
     let done : w.done ≡ 0 = r.done ∙ total_same (λ u. length u.finished) v m refl in
     let lost : w.lost ≡ 0 = r.lost ∙ total_same (λ u. length u.abandoned) v m refl in
     let stop : w.stop ≡ 0 = r.stop ∙ ap (min 1) (total_same (λ u. u.stop_callers) v m refl) in

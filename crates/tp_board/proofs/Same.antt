@@ -1,5 +1,6 @@
 -- Farms that are one but for the order of what is done and of what is lost.
-use Rattle.std.proofs.Common.{◌≡◌, ℕ, ◌+◌, ◌<◌, ◌==◌, ltb, Bool, true, false, List, [], ◌∷◌, length, Option, Some, None, refl, ap, ◌∙◌, subst, ⊎_elim, arith}
+use Rattle.std.proofs.Common.{◌≡◌, ℕ, ◌+◌, ◌<◌, ◌==◌, ltb, Bool, true, false, List, [], ◌∷◌, length, Option, Some, None, refl, ap}
+use Rattle.std.proofs.Common.{◌∙◌, subst, ⊎_elim, arith}
 use Rattle.std.specs.Prelude.{if◌then◌else◌}
 use Rattle.std.proofs.lemmas.Bool.{eq-eqb, ne_eqb, cases_eq}
 use Rattle.tp_board.specs.declared.event.Event.{Event}
@@ -49,7 +50,8 @@ same_length [] [] h = refl
 same_length [] (y ∷ ys) h = absurd (let a = h y in let b = here y in omega arith)
 same_length (x ∷ xs) ys h =
     let some_x : 0 < times x ys = (let a = h x in let b = here x in omega arith) in
-    let rest : (z : ℕ) → times z xs ≡ times z (without x ys) = λ z. let a = h z in let b = without_times x ys some_x z in omega arith in
+    let rest : (z : ℕ) → times z xs ≡ times z (without x ys) =
+    λ z. let a = h z in let b = without_times x ys some_x z in omega arith in
     let ih = same_length xs (without x ys) rest in
     let l = without_length x ys some_x in
     omega arith
@@ -58,27 +60,58 @@ same_length (x ∷ xs) ys h =
 abbrev Agree : Step → Step → Type 0
 Agree a b = IsSame a.1 b.1 × (a.0 ≡ b.0)
 
-module _ (p d : ℕ) (hs : List (Option ℕ)) (stop : Bool) (done lost done' lost' : List ℕ) (e : (x : ℕ) → times x done ≡ times x done') (l : (x : ℕ) → times x lost ≡ times x lost') where
+module _ (p d : ℕ) (hs : List (Option ℕ)) (stop : Bool) (done lost done' lost' : List ℕ)
+    (e : (x : ℕ) → times x done ≡ times x done') (l : (x : ℕ) → times x lost ≡ times x lost') where
   same_farm : (q : ℕ) (gs : List (Option ℕ)) (b : Bool) → IsSame (farm p q gs done lost b) (farm p q gs done' lost' b)
   same_farm q gs b = record { packets = refl; drawn = refl; hands = refl; done = e; lost = l; stop = refl }
 
-  claims : (m : ℕ) (h : Option ℕ) → Agree (claim_step (farm p d hs done lost stop) m h) (claim_step (farm p d hs done' lost' stop) m h)
+  claims : (m : ℕ) (h : Option ℕ) → Agree (claim_step (farm p d hs done lost stop) m h)
+      (claim_step (farm p d hs done' lost' stop) m h)
   claims m (Some n) = (same_farm d hs stop, refl)
   claims m None = draws (ltb d p)
     where
-      draws : (b : Bool) → Agree (if b then (Number d, farm p (d + 1) (hands_with (farm p d hs done lost stop) m (Some d)) done lost stop) else (NoMore, farm p d hs done lost stop)) (if b then (Number d, farm p (d + 1) (hands_with (farm p d hs done' lost' stop) m (Some d)) done' lost' stop) else (NoMore, farm p d hs done' lost' stop))
+      draws : (b : Bool) → Agree (if b then (
+        Number d,
+        farm p (d + 1) (hands_with (farm p d hs done lost stop) m (Some d)) done
+            lost stop,
+      ) else (NoMore, farm p d hs done lost stop))
+          (if b then (Number d, farm p (d + 1) (hands_with (farm p d hs done' lost' stop) m (Some d)) done' lost' stop) else
+          (NoMore, farm p d hs done' lost' stop))
       draws true = (same_farm (d + 1) (hands_with (farm p d hs done lost stop) m (Some d)) stop, refl)
       draws false = (same_farm d hs stop, refl)
 
-  finishes : (m : ℕ) (h : Option ℕ) → Agree (finish_step (farm p d hs done lost stop) m h) (finish_step (farm p d hs done' lost' stop) m h)
+  finishes : (m : ℕ) (h : Option ℕ) → Agree (finish_step (farm p d hs done lost stop) m h)
+      (finish_step (farm p d hs done' lost' stop) m h)
   finishes m None = (same_farm d hs stop, refl)
-  finishes m (Some n) = (record { packets = refl; drawn = refl; hands = refl; done = (λ x. let a = times-append x done (n ∷ []) in let b = times-append x done' (n ∷ []) in let c = e x in omega arith); lost = l; stop = refl }, refl)
+  finishes m (Some n) = (
+    record {
+      packets = refl;
+      drawn = refl;
+      hands = refl;
+      done = (λ x. let a = times-append x done (n ∷ []) in let b = times-append x done' (n ∷ []) in let c = e x in omega arith);
+      lost = l;
+      stop = refl;
+    },
+    refl,
+  )
 
-  abandons : (m : ℕ) (h : Option ℕ) → Agree (abandon_step (farm p d hs done lost stop) m h) (abandon_step (farm p d hs done' lost' stop) m h)
+  abandons : (m : ℕ) (h : Option ℕ) → Agree (abandon_step (farm p d hs done lost stop) m h)
+      (abandon_step (farm p d hs done' lost' stop) m h)
   abandons m None = (same_farm d hs stop, refl)
-  abandons m (Some n) = (record { packets = refl; drawn = refl; hands = refl; done = e; lost = (λ x. let a = times-append x lost (n ∷ []) in let b = times-append x lost' (n ∷ []) in let c = l x in omega arith); stop = refl }, refl)
+  abandons m (Some n) = (
+    record {
+      packets = refl;
+      drawn = refl;
+      hands = refl;
+      done = e;
+      lost = (λ x. let a = times-append x lost (n ∷ []) in let b = times-append x lost' (n ∷ []) in let c = l x in omega arith);
+      stop = refl;
+    },
+    refl,
+  )
 
-  steps : (m : ℕ) (event : Event) → Agree (step (farm p d hs done lost stop) m event) (step (farm p d hs done' lost' stop) m event)
+  steps : (m : ℕ) (event : Event) → Agree (step (farm p d hs done lost stop) m event)
+      (step (farm p d hs done' lost' stop) m event)
   steps m Claim = claims m (hand_of (farm p d hs done lost stop) m)
   steps m Finish = finishes m (hand_of (farm p d hs done lost stop) m)
   steps m Abandon = abandons m (hand_of (farm p d hs done lost stop) m)

@@ -31,7 +31,8 @@ seat_there (v ∷ vs) zero one = refl
 seat_there (v ∷ vs) (suc id) one = seat_there vs id one
 
 -- farms that are one but for an order run alike
-pub same_after : (s t : Farm) (events : List (ℕ × Event)) → IsSame s t → IsSame (farm_after s events) (farm_after t events) × (replies s events ≡ replies t events)
+pub same_after : (s t : Farm) (events : List (ℕ × Event)) → IsSame s t
+    → IsSame (farm_after s events) (farm_after t events) × (replies s events ≡ replies t events)
 same_after s t [] h = (h, refl)
 same_after s t (e ∷ es) h =
     let first = same_step s t e.0 e.1 h in
@@ -41,9 +42,11 @@ same_after s t (e ∷ es) h =
 abbrev Told : Size → List ℕ → List View → List (ℕ × Event) → Type 0
 Told k words views events =
     let board = board_after words views events in
-    KeepsRule k board.0 board.1 × IsSame (farm_of k board.0 board.1) (farm_after (farm_of k words views) events) × (board_replies words views events ≡ replies (farm_of k words views) events)
+    KeepsRule k board.0 board.1 × IsSame (farm_of k board.0 board.1) (farm_after (farm_of k words views) events)
+    × (board_replies words views events ≡ replies (farm_of k words views) events)
 
-told : (k : Size) (words : List ℕ) (views : List View) (events : List (ℕ × Event)) → KeepsRule k words views → IsSchedule words views events → Told k words views events
+told : (k : Size) (words : List ℕ) (views : List View) (events : List (ℕ × Event)) → KeepsRule k words views
+    → IsSchedule words views events → Told k words views events
 told k words views [] h s = (h, same_self (farm_of k words views), refl)
 told k words views (e ∷ es) h s =
     let made = step_law e.1 k words views e.0 (view_at views e.0) (h, seat_there views e.0 s.0, s.0) s.1 in
@@ -52,7 +55,8 @@ told k words views (e ∷ es) h s =
     let run = same_after (farm_of k (words_after e.1 words) (views_after words views e)) before.1 es made.1.farm in (
       ih.0,
       same_then _ _ _ ih.1 run.0,
-      ap (λ r. r ∷ board_replies (words_after e.1 words) (views_after words views e) es) (sym made.1.answered) ∙ ap (λ rs. before.0 ∷ rs) (ih.2 ∙ run.1),
+      ap (λ r. r ∷ board_replies (words_after e.1 words) (views_after words views e) es) (sym made.1.answered)
+          ∙ ap (λ rs. before.0 ∷ rs) (ih.2 ∙ run.1),
     )
 
 pub schedule_law : ScheduleLaw
@@ -63,5 +67,7 @@ schedule_law k words views events h s =
       rule = t.0;
       farm = t.1;
       answered = t.2;
-      in_order = drawn_run (farm_of k words views) (farm_after (farm_of k words views) events) events (board_replies words views events) t.2 refl ∙ ap (λ n. numbers_from first (n - first)) (sym t.1.drawn);
+      in_order =
+          drawn_run (farm_of k words views) (farm_after (farm_of k words views) events) events
+          (board_replies words views events) t.2 refl ∙ ap (λ n. numbers_from first (n - first)) (sym t.1.drawn);
     }

@@ -20,25 +20,29 @@ total_two : {X : Type 0} (f g : X → ℕ) (xs : List X) → total (λ x. f x + 
 total_two f g [] = refl
 total_two f g (x ∷ xs) = let ih = total_two f g xs in omega arith
 
-pub at_map : {X Y : Type 0} (g : X → Y) (xs : List X) (id : ℕ) (y : Y) → get_elem? (map g xs) id ≡ some y → (x : X) × (get_elem? xs id ≡ some x) × (g x ≡ y)
+pub at_map : {X Y : Type 0} (g : X → Y) (xs : List X) (id : ℕ) (y : Y) → get_elem? (map g xs) id ≡ some y
+    → (x : X) × (get_elem? xs id ≡ some x) × (g x ≡ y)
 at_map g [] id y at = absurd (some-ne-none y (sym at))
 at_map g (x ∷ xs) zero y at = (x, refl, some-injective (g x) y at)
 at_map g (x ∷ xs) (suc id) y at = at_map g xs id y at
 
-pub map_at : {X Y : Type 0} (g : X → Y) (xs : List X) (id : ℕ) (x : X) → get_elem? xs id ≡ some x → get_elem? (map g xs) id ≡ some (g x)
+pub map_at : {X Y : Type 0} (g : X → Y) (xs : List X) (id : ℕ) (x : X) → get_elem? xs id ≡ some x
+    → get_elem? (map g xs) id ≡ some (g x)
 map_at g [] id x at = absurd (some-ne-none x (sym at))
 map_at g (y ∷ ys) zero x at = ap (λ z. some (g z)) (some-injective y x at)
 map_at g (y ∷ ys) (suc id) x at = map_at g ys id x at
 
 -- the queue's rule is over these packets, since somebody has a stand
-pub sizes_told : (packets members : ℕ) (items : List Item) (words : List ℕ) (stands : List HandState) → (h : KeepsStream packets members items words stands) → h.line.packets ≡ packets
+pub sizes_told : (packets members : ℕ) (items : List Item) (words : List ℕ) (stands : List HandState)
+    → (h : KeepsStream packets members items words stands) → h.line.packets ≡ packets
 sizes_told packets members items words [] h = let a = h.line.parts in absurd (omega arith)
 sizes_told packets members items words (s ∷ ss) h =
     let so = h.each 0 s refl in
     let one = so.one_pass in
     sym ((h.line.fits 0 s.turn refl).sizes (omega arith)).0 ∙ so.packets_is
 
-pub pops_are : (packets members : ℕ) (items : List Item) (words : List ℕ) (stands : List HandState) → (h : KeepsStream packets members items words stands) → pops stands ≡ h.line.drawn + h.line.ended
+pub pops_are : (packets members : ℕ) (items : List Item) (words : List ℕ) (stands : List HandState)
+    → (h : KeepsStream packets members items words stands) → pops stands ≡ h.line.drawn + h.line.ended
 pops_are packets members items words stands h =
     let r = h.line in
     let popped = sym (total_map (λ (t : Turn). length t.popped) (λ (s : HandState). s.turn) stands) ∙ r.counted in
@@ -54,7 +58,9 @@ stand_law packets members items words stands h =
     let told = sizes_told packets members items words stands h in
     let popped = sym (total_map (λ (t : Turn). length t.popped) (λ (s : HandState). s.turn) stands) ∙ r.counted in
     let ended = sym (total_map (λ (t : Turn). t.ended) (λ (s : HandState). s.turn) stands) ∙ r.ended_is in
-    let claims = claims_at r.drawn r.ended packets (let a = r.behind in let b = r.within in omega arith) (λ some_end. let t = r.taken in let a = r.marks_last (omega arith) in let b = r.ends_last some_end in omega arith) in
+    let claims =
+    claims_at r.drawn r.ended packets (let a = r.behind in let b = r.within in omega arith)
+    (λ some_end. let t = r.taken in let a = r.marks_last (omega arith) in let b = r.ends_last some_end in omega arith) in
     let least = claims.0 in
     let over = claims.1 in
     let all = pops_are packets members items words stands h in
@@ -83,12 +89,20 @@ stand_law packets members items words stands h =
         few_packets = h.in_range.2;
         few_members = (let a = h.in_range.1 in omega arith);
         parts = total_map (λ (v : View). v.parts) hand_seen stands ∙ place (λ (v : View). v.parts) ∙ d.parts;
-        each_once = (λ x. total_map (λ (v : View). times x v.drawn) hand_seen stands ∙ sym (total_map (λ (t : Turn). times x t.popped) (λ (s : HandState). s.turn) stands) ∙ r.each_once x ∙ ap (once_below x) (sym drawn));
+        each_once =
+            (λ x. total_map (λ (v : View). times x v.drawn) hand_seen stands
+            ∙ sym (total_map (λ (t : Turn). times x t.popped) (λ (s : HandState). s.turn) stands) ∙ r.each_once x
+            ∙ ap (once_below x) (sym drawn));
         drawn = total_map (λ (v : View). length v.drawn) hand_seen stands ∙ popped ∙ sym drawn;
         ended = (let a = total_map (λ (v : View). v.ended) hand_seen stands in let b = ended in omega arith);
-        done = d.done ∙ sym (total_map (λ (v : View). length v.finished) hand_seen stands ∙ place (λ (v : View). length v.finished));
-        lost = d.lost ∙ sym (total_map (λ (v : View). length v.abandoned) hand_seen stands ∙ place (λ (v : View). length v.abandoned));
-        stop = d.stop ∙ ap (min 1) (sym (total_map (λ (v : View). v.stop_callers) hand_seen stands ∙ place (λ (v : View). v.stop_callers)));
+        done =
+            d.done ∙ sym (total_map (λ (v : View). length v.finished) hand_seen stands ∙ place (λ (v : View). length v.finished));
+        lost =
+            d.lost ∙ sym (total_map (λ (v : View). length v.abandoned) hand_seen stands
+            ∙ place (λ (v : View). length v.abandoned));
+        stop =
+            d.stop ∙ ap (min 1) (sym (total_map (λ (v : View). v.stop_callers) hand_seen stands
+            ∙ place (λ (v : View). v.stop_callers)));
         fits = fits;
       },
     )

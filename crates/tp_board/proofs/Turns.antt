@@ -1,6 +1,7 @@
 -- Each step at the queue of a stream keeps its rule.
 use Rattle.std.specs.Prelude.{if◌then◌else◌}
-use Rattle.std.proofs.Common.{Bool, ◌≡◌, ◌≢◌, ℕ, zero, suc, ◌+◌, ◌-◌, ◌<◌, ◌≤◌, List, [], ◌∷◌, ◌++◌, length, map, replicate, set, sym, refl, ap, ◌∙◌, subst, ⊎_elim, arith, length-append, append_assoc}
+use Rattle.std.proofs.Common.{Bool, ◌≡◌, ◌≢◌, ℕ, zero, suc, ◌+◌, ◌-◌, ◌<◌, ◌≤◌, List, [], ◌∷◌, ◌++◌, length, map, replicate, set}
+use Rattle.std.proofs.Common.{sym, refl, ap, ◌∙◌, subst, ⊎_elim, arith, length-append, append_assoc}
 use Rattle.std.proofs.lemmas.Bool.{lt-ltb, le-ltb, cases_lt}
 use Rattle.std.proofs.lemmas.List.{append-nil}
 use mathlib.Core.Option.{some}
@@ -13,13 +14,16 @@ use Rattle.tp_board.specs.Rule.{total}
 use Rattle.tp_board.specs.declared.line.Item.{Item}
 use Rattle.tp_board.specs.declared.line.Item.TheVariants.{Number, End}
 use Rattle.tp_board.specs.declared.line.Turn.{Turn}
-use Rattle.tp_board.specs.Lines.{first, feeder, hand, nobody, without_one, joined, put, took, Took, item_of, MayPut, line, FitsLine, Streamed, Waits, Left, LeftAt}
+use Rattle.tp_board.specs.Lines.{first, feeder, hand, nobody, without_one, joined, put, took, Took, item_of, MayPut, line}
+use Rattle.tp_board.specs.Lines.{FitsLine, Streamed, Waits, Left, LeftAt}
 use Rattle.tp_board.proofs.Counting.{times-append, once_more}
 use Rattle.tp_board.proofs.Totals.{total_set, total_snoc, le_total, others_none, all_of, each_set}
 
 count_snoc : (from n : ℕ) → numbers_from from (suc n) ≡ numbers_from from n ++ (from + n) ∷ []
 count_snoc from zero = ap (λ x. x ∷ []) (let e : from ≡ from + 0 = omega arith in e)
-count_snoc from (suc n) = ap (λ l. from ∷ l) (count_snoc (from + 1) n ∙ ap (λ x. numbers_from (from + 1) n ++ x ∷ []) (let e : from + 1 + n ≡ from + suc n = omega arith in e))
+count_snoc from (suc n) =
+    ap (λ l. from ∷ l) (count_snoc (from + 1) n ∙ ap (λ x. numbers_from (from + 1) n ++ x ∷ [])
+    (let e : from + 1 + n ≡ from + suc n = omega arith in e))
 
 numbers_snoc : (xs : List ℕ) (n : ℕ) → map (λ n. Number n) (xs ++ n ∷ []) ≡ map (λ n. Number n) xs ++ Number n ∷ []
 numbers_snoc [] n = refl
@@ -30,9 +34,12 @@ ends_snoc zero = refl
 ends_snoc (suc n) = ap (λ l. End ∷ l) (ends_snoc n)
 
 -- the feeder has what all passes have pushed
-alone : (f : Turn → ℕ) → ((p m : ℕ) (v : Turn) → FitsLine p m v → v.feeds ≡ 0 → f v ≡ 0) → (items : List Item) (views : List Turn) (id : ℕ) (v : Turn) → v.feeds ≡ 1 → Streamed items views → get_elem? views id ≡ some v → total f views ≡ f v
+alone : (f : Turn → ℕ) → ((p m : ℕ) (v : Turn) → FitsLine p m v → v.feeds ≡ 0 → f v ≡ 0)
+    → (items : List Item) (views : List Turn) (id : ℕ) (v : Turn) → v.feeds ≡ 1 → Streamed items views
+    → get_elem? views id ≡ some v → total f views ≡ f v
 alone f none items views id v one r at =
-    all_of f views id v at (λ j u apart there. none r.packets r.members u (r.fits j u there) (others_none (λ v. v.feeds) views id v at (r.feeds ∙ sym one) j u apart there))
+    all_of f views id v at (λ j u apart there. none r.packets r.members u (r.fits j u there)
+    (others_none (λ v. v.feeds) views id v at (r.feeds ∙ sym one) j u apart there))
 
 abbrev heads : Item → List Item → Item
 heads d [] = d
@@ -43,19 +50,24 @@ tails [] = []
 tails (x ∷ xs) = xs
 
 -- none popped so far is as great as the number drawn
-all_below : (x : ℕ) (views : List Turn) (id : ℕ) (v : Turn) (n : ℕ) → get_elem? views id ≡ some v → total (λ v. times x v.popped) views ≡ once_below x n → 0 < times x v.popped → x < n
+all_below : (x : ℕ) (views : List Turn) (id : ℕ) (v : Turn) (n : ℕ) → get_elem? views id ≡ some v
+    → total (λ v. times x v.popped) views ≡ once_below x n → 0 < times x v.popped → x < n
 all_below x views id v n at e some_time = ⊎_elim (λ l. l)
-    (λ (past : n ≤ x). let a = le_total (λ v. times x v.popped) views id v at in let b : once_below x n ≡ 0 = rw (le-ltb x n past) refl in absurd (omega arith))
+    (λ (past : n ≤ x). let a = le_total (λ v. times x v.popped) views id v at in let b : once_below x n ≡ 0 = rw
+    (le-ltb x n past) refl in absurd (omega arith))
     (cases_lt x n)
 
 module _ where
-  feeds_number : (n id : ℕ) (v : Turn) (next : ℕ) → v.feeds ≡ 1 → v.pushed ≡ next → v.marks ≡ 0 → next < v.packets → 0 < v.parts → Pushes Streamed n id v (Number next) (λ w. w ≡ put v (Number next))
+  feeds_number : (n id : ℕ) (v : Turn) (next : ℕ) → v.feeds ≡ 1 → v.pushed ≡ next → v.marks ≡ 0 → next < v.packets → 0 < v.parts
+      → Pushes Streamed n id v (Number next) (λ w. w ≡ put v (Number next))
   feeds_number n id v next one same none below some_part items views _ r at =
       let u = put v (Number next) in
       let mine = r.fits id v at in
       let size = mine.sizes some_part in let size0 = size.0 in let size1 = size.1 in
-      let pushed : r.pushed ≡ next = sym r.pushed_is ∙ alone (λ v. v.pushed) (λ _ _ v f e. (f.fed e).0) items views id v one r at ∙ same in
-      let marks : r.marks ≡ 0 = sym r.marks_is ∙ alone (λ v. v.marks) (λ _ _ v f e. (f.fed e).1) items views id v one r at ∙ none in
+      let pushed : r.pushed ≡ next =
+      sym r.pushed_is ∙ alone (λ v. v.pushed) (λ _ _ v f e. (f.fed e).0) items views id v one r at ∙ same in
+      let marks : r.marks ≡ 0 =
+      sym r.marks_is ∙ alone (λ v. v.marks) (λ _ _ v f e. (f.fed e).1) items views id v one r at ∙ none in
       let behind = r.behind in let taken = r.taken in
       let no_end : r.marks - r.ended ≡ 0 = omega arith in
       let long : r.pushed + 1 - r.drawn ≡ suc (r.pushed - r.drawn) = omega arith in
@@ -73,9 +85,16 @@ module _ where
           ended_is = (let a = total_set (λ v. v.ended) views id v u at in let b = r.ended_is in omega arith);
           parts = (let a = total_set (λ v. v.parts) views id v u at in let b = r.parts in omega arith);
           feeds = (let a = total_set (λ v. v.feeds) views id v u at in let b = r.feeds in omega arith);
-          in_line = ap (λ l. l ++ Number next ∷ []) (r.in_line ∙ ap (λ k. map (λ n. Number n) (numbers_from r.drawn (r.pushed - r.drawn)) ++ replicate k End) no_end ∙ append-nil (map (λ n. Number n) (numbers_from r.drawn (r.pushed - r.drawn))))
-              ∙ sym (ap (λ k. map (λ n. Number n) (numbers_from r.drawn (r.pushed + 1 - r.drawn)) ++ replicate k End) no_end ∙ append-nil (map (λ n. Number n) (numbers_from r.drawn (r.pushed + 1 - r.drawn))) ∙ ap (λ k. map (λ n. Number n) (numbers_from r.drawn k)) long
-              ∙ ap (map (λ n. Number n)) (count_snoc r.drawn (r.pushed - r.drawn)) ∙ numbers_snoc (numbers_from r.drawn (r.pushed - r.drawn)) (r.drawn + (r.pushed - r.drawn)) ∙ ap (λ x. map (λ n. Number n) (numbers_from r.drawn (r.pushed - r.drawn)) ++ Number x ∷ []) last);
+          in_line =
+              ap (λ l. l ++ Number next ∷ []) (r.in_line ∙ ap
+              (λ k. map (λ n. Number n) (numbers_from r.drawn (r.pushed - r.drawn)) ++ replicate k End) no_end
+              ∙ append-nil (map (λ n. Number n) (numbers_from r.drawn (r.pushed - r.drawn))))
+              ∙ sym (ap (λ k. map (λ n. Number n) (numbers_from r.drawn (r.pushed + 1 - r.drawn)) ++ replicate k End) no_end
+              ∙ append-nil (map (λ n. Number n) (numbers_from r.drawn (r.pushed + 1 - r.drawn)))
+              ∙ ap (λ k. map (λ n. Number n) (numbers_from r.drawn k)) long
+              ∙ ap (map (λ n. Number n)) (count_snoc r.drawn (r.pushed - r.drawn))
+              ∙ numbers_snoc (numbers_from r.drawn (r.pushed - r.drawn)) (r.drawn + (r.pushed - r.drawn))
+              ∙ ap (λ x. map (λ n. Number n) (numbers_from r.drawn (r.pushed - r.drawn)) ++ Number x ∷ []) last);
           behind = (omega arith);
           within = (omega arith);
           marked = r.marked;
@@ -84,18 +103,28 @@ module _ where
           ends_last = (λ some_end. absurd (omega arith));
           each_once = (λ x. let a = total_set (λ v. times x v.popped) views id v u at in let b = r.each_once x in omega arith);
           counted = (let a = total_set (λ v. length v.popped) views id v u at in let b = r.counted in omega arith);
-          fits = each_set (FitsLine r.packets r.members) views id u (record { sizes = mine.sizes; fed = (λ e. absurd (omega arith)); idle = (λ e. absurd (let z = (mine.idle e).0 in omega arith)) }) (λ j y _ e. r.fits j y e);
+          fits =
+              each_set (FitsLine r.packets r.members) views id u
+              (record {
+                sizes = mine.sizes;
+                fed = (λ e. absurd (omega arith));
+                idle = (λ e. absurd (let z = (mine.idle e).0 in omega arith));
+              }) (λ j y _ e. r.fits j y e);
         },
         refl,
       )
 
-  feeds_end : (n id : ℕ) (v : Turn) → v.feeds ≡ 1 → v.pushed ≡ v.packets → v.marks < v.members → 0 < v.parts → Pushes Streamed n id v End (λ w. w ≡ put v End)
+  feeds_end : (n id : ℕ) (v : Turn) → v.feeds ≡ 1 → v.pushed ≡ v.packets → v.marks < v.members → 0 < v.parts
+      → Pushes Streamed n id v End (λ w. w ≡ put v End)
   feeds_end n id v one all few some_part items views _ r at =
       let u = put v End in
       let mine = r.fits id v at in
       let size = mine.sizes some_part in let size0 = size.0 in let size1 = size.1 in
-      let pushed : r.pushed ≡ r.packets = sym r.pushed_is ∙ alone (λ v. v.pushed) (λ _ _ v f e. (f.fed e).0) items views id v one r at ∙ all ∙ (mine.sizes some_part).0 in
-      let marks : r.marks ≡ v.marks = sym r.marks_is ∙ alone (λ v. v.marks) (λ _ _ v f e. (f.fed e).1) items views id v one r at in
+      let pushed : r.pushed ≡ r.packets =
+      sym r.pushed_is ∙ alone (λ v. v.pushed) (λ _ _ v f e. (f.fed e).0) items views id v one r at ∙ all
+      ∙ (mine.sizes some_part).0 in
+      let marks : r.marks ≡ v.marks =
+      sym r.marks_is ∙ alone (λ v. v.marks) (λ _ _ v f e. (f.fed e).1) items views id v one r at in
       let taken = r.taken in
       let long : r.marks + 1 - r.ended ≡ suc (r.marks - r.ended) = omega arith in
       let numbers = map (λ n. Number n) (numbers_from r.drawn (r.pushed - r.drawn)) in (
@@ -112,7 +141,9 @@ module _ where
           ended_is = (let a = total_set (λ v. v.ended) views id v u at in let b = r.ended_is in omega arith);
           parts = (let a = total_set (λ v. v.parts) views id v u at in let b = r.parts in omega arith);
           feeds = (let a = total_set (λ v. v.feeds) views id v u at in let b = r.feeds in omega arith);
-          in_line = ap (λ l. l ++ End ∷ []) r.in_line ∙ append_assoc numbers (replicate (r.marks - r.ended) End) (End ∷ []) ∙ ap (λ l. numbers ++ l) (ends_snoc (r.marks - r.ended) ∙ ap (λ k. replicate k End) (sym long));
+          in_line =
+              ap (λ l. l ++ End ∷ []) r.in_line ∙ append_assoc numbers (replicate (r.marks - r.ended) End) (End ∷ [])
+              ∙ ap (λ l. numbers ++ l) (ends_snoc (r.marks - r.ended) ∙ ap (λ k. replicate k End) (sym long));
           behind = r.behind;
           within = r.within;
           marked = (omega arith);
@@ -121,7 +152,13 @@ module _ where
           ends_last = r.ends_last;
           each_once = (λ x. let a = total_set (λ v. times x v.popped) views id v u at in let b = r.each_once x in omega arith);
           counted = (let a = total_set (λ v. length v.popped) views id v u at in let b = r.counted in omega arith);
-          fits = each_set (FitsLine r.packets r.members) views id u (record { sizes = mine.sizes; fed = (λ e. absurd (omega arith)); idle = (λ e. absurd (let z = (mine.idle e).0 in omega arith)) }) (λ j y _ e. r.fits j y e);
+          fits =
+              each_set (FitsLine r.packets r.members) views id u
+              (record {
+                sizes = mine.sizes;
+                fed = (λ e. absurd (omega arith));
+                idle = (λ e. absurd (let z = (mine.idle e).0 in omega arith));
+              }) (λ j y _ e. r.fits j y e);
         },
         refl,
       )
@@ -129,7 +166,8 @@ module _ where
   abbrev Taken : (items : List Item) (views : List Turn) (id : ℕ) (v : Turn) → Item → Type 0
   Taken items views id v x = (w : Turn) × Streamed items (set views id w) × Took v x w
 
-  takes_number : (items : List Item) (x : Item) (views : List Turn) (id : ℕ) (v : Turn) → 0 < v.parts → (r : Streamed (x ∷ items) views) → get_elem? views id ≡ some v → r.drawn < r.pushed → Taken items views id v x
+  takes_number : (items : List Item) (x : Item) (views : List Turn) (id : ℕ) (v : Turn) → 0 < v.parts
+      → (r : Streamed (x ∷ items) views) → get_elem? views id ≡ some v → r.drawn < r.pushed → Taken items views id v x
   takes_number items x views id v some_part r at below =
       let u = took v (Number r.drawn) in
       let mine = r.fits id v at in
@@ -160,14 +198,29 @@ module _ where
           taken = r.taken;
           marks_last = r.marks_last;
           ends_last = (λ some_end. absurd (let z = r.ends_last some_end in omega arith));
-          each_once = (λ x. let a = total_set (λ v. times x v.popped) views id v u at in let b = r.each_once x in let c = times-append x v.popped (r.drawn ∷ []) in let d = once_more x r.drawn in omega arith);
-          counted = (let a = total_set (λ v. length v.popped) views id v u at in let b = r.counted in let c = length-append v.popped (r.drawn ∷ []) in omega arith);
-          fits = each_set (FitsLine r.packets r.members) views id u (record { sizes = mine.sizes; fed = mine.fed; idle = (λ e. absurd (omega arith)) }) (λ j y _ e. r.fits j y e);
+          each_once =
+              (λ x. let a = total_set (λ v. times x v.popped) views id v u at in let b = r.each_once x in let c = times-append x
+              v.popped (r.drawn ∷ []) in let d = once_more x r.drawn in omega arith);
+          counted =
+              (let a = total_set (λ v. length v.popped) views id v u at in let b = r.counted in let c = length-append v.popped
+              (r.drawn ∷ []) in omega arith);
+          fits =
+              each_set (FitsLine r.packets r.members) views id u
+              (record { sizes = mine.sizes; fed = mine.fed; idle = (λ e. absurd (omega arith)) }) (λ j y _ e. r.fits j y e);
         },
-        (refl, (omega arith, (let a = le_total (λ v. length v.popped) views id v at in let b = r.counted in omega arith), λ y some_time. all_below y views id v r.drawn at (r.each_once y) some_time)),
+        (
+          refl,
+          (
+            omega arith,
+            (let a = le_total (λ v. length v.popped) views id v at in let b = r.counted in omega arith),
+            λ y some_time. all_below y views id v r.drawn at (r.each_once y) some_time,
+          ),
+        ),
       )
 
-  takes_end : (items : List Item) (x : Item) (views : List Turn) (id : ℕ) (v : Turn) → 0 < v.parts → (r : Streamed (x ∷ items) views) → get_elem? views id ≡ some v → r.pushed ≤ r.drawn → r.ended < r.marks → Taken items views id v x
+  takes_end : (items : List Item) (x : Item) (views : List Turn) (id : ℕ) (v : Turn) → 0 < v.parts
+      → (r : Streamed (x ∷ items) views) → get_elem? views id ≡ some v → r.pushed ≤ r.drawn → r.ended < r.marks
+      → Taken items views id v x
   takes_end items x views id v some_part r at above more =
       let u = took v End in
       let mine = r.fits id v at in
@@ -177,7 +230,8 @@ module _ where
       let long : r.marks - r.ended ≡ suc (r.marks - (r.ended + 1)) = omega arith in
       let is = r.in_line ∙ ap (λ k. line r.drawn k (r.marks - r.ended)) none ∙ ap (line r.drawn 0) long in
       let kind : x ≡ End = ap (heads x) is in
-      let rest : items ≡ line r.drawn (r.pushed - r.drawn) (r.marks - (r.ended + 1)) = ap tails is ∙ ap (λ k. line r.drawn k (r.marks - (r.ended + 1))) (sym none) in
+      let rest : items ≡ line r.drawn (r.pushed - r.drawn) (r.marks - (r.ended + 1)) =
+      ap tails is ∙ ap (λ k. line r.drawn k (r.marks - (r.ended + 1))) (sym none) in
       subst (Taken items views id v) (sym kind) (
         u,
         record {
@@ -201,7 +255,9 @@ module _ where
           ends_last = (λ _. let z : r.drawn ≡ r.pushed = omega arith in z);
           each_once = (λ x. let a = total_set (λ v. times x v.popped) views id v u at in let b = r.each_once x in omega arith);
           counted = (let a = total_set (λ v. length v.popped) views id v u at in let b = r.counted in omega arith);
-          fits = each_set (FitsLine r.packets r.members) views id u (record { sizes = mine.sizes; fed = mine.fed; idle = (λ e. absurd (omega arith)) }) (λ j y _ e. r.fits j y e);
+          fits =
+              each_set (FitsLine r.packets r.members) views id u
+              (record { sizes = mine.sizes; fed = mine.fed; idle = (λ e. absurd (omega arith)) }) (λ j y _ e. r.fits j y e);
         },
         (refl, tt),
       )
@@ -222,28 +278,38 @@ module _ where
   pub left : (id : ℕ) (v : Turn) → v.members + 1 ≤ v.parts → Learns Streamed id v (Left v)
   left id v every items views r at =
       let size = (r.fits id v at).sizes (omega arith) in let size0 = size.0 in let size1 = size.1 in
-      let none = others_none (λ v. v.parts) views id v at (let a = r.parts in let b = le_total (λ v. v.parts) views id v at in omega arith) in
-      let of = λ (f : Turn → ℕ) (h : (u : Turn) → FitsLine r.packets r.members u → u.parts ≡ 0 → f u ≡ 0). all_of f views id v at (λ j u apart there. h u (r.fits j u there) (none j u apart there)) in
+      let none =
+      others_none (λ v. v.parts) views id v at (let a = r.parts in let b = le_total
+      (λ v. v.parts) views id v at in omega arith) in
+      let of =
+      λ (f : Turn → ℕ) (h : (u : Turn) → FitsLine r.packets r.members u → u.parts ≡ 0 → f u ≡ 0). all_of f views id v at
+      (λ j u apart there. h u (r.fits j u there) (none j u apart there)) in
       let pushed : r.pushed ≡ v.pushed = sym r.pushed_is ∙ of (λ v. v.pushed) (λ u f e. (f.fed (f.idle e).0).0) in
       let marks : r.marks ≡ v.marks = sym r.marks_is ∙ of (λ v. v.marks) (λ u f e. (f.fed (f.idle e).0).1) in
       let ended : r.ended ≡ v.ended = sym r.ended_is ∙ of (λ v. v.ended) (λ u f e. (f.idle e).2) in (
         r.drawn,
-        r.in_line ∙ ap (λ n. line r.drawn (n - r.drawn) (r.marks - r.ended)) pushed ∙ ap (λ n. line r.drawn (v.pushed - r.drawn) (n - r.ended)) marks ∙ ap (λ n. line r.drawn (v.pushed - r.drawn) (v.marks - n)) ended,
+        r.in_line ∙ ap (λ n. line r.drawn (n - r.drawn) (r.marks - r.ended)) pushed
+            ∙ ap (λ n. line r.drawn (v.pushed - r.drawn) (n - r.ended)) marks
+            ∙ ap (λ n. line r.drawn (v.pushed - r.drawn) (v.marks - n)) ended,
         (let z = r.behind in omega arith),
         (λ x. sym (of (λ v. times x v.popped) (λ u f e. ap (times x) (f.idle e).1)) ∙ r.each_once x),
         sym (of (λ v. length v.popped) (λ u f e. ap length (f.idle e).1)) ∙ r.counted,
         (let z = r.within in omega arith),
-        (λ some_end. let taken = r.taken in let a = r.marks_last (omega arith) in let b = r.ends_last (omega arith) in omega arith),
+        (λ some_end. let taken = r.taken in let a = r.marks_last (omega arith) in let b = r.ends_last
+            (omega arith) in omega arith),
       )
 
   -- the pass that feeds has pushed all that was pushed
   pub waits : (id : ℕ) (v : Turn) → v.feeds ≡ 1 → Learns Streamed id v (Waits v)
   waits id v one items views r at =
-      let pushed : r.pushed ≡ v.pushed = sym r.pushed_is ∙ alone (λ v. v.pushed) (λ _ _ v f e. (f.fed e).0) items views id v one r at in
-      let marks : r.marks ≡ v.marks = sym r.marks_is ∙ alone (λ v. v.marks) (λ _ _ v f e. (f.fed e).1) items views id v one r at in (
+      let pushed : r.pushed ≡ v.pushed =
+      sym r.pushed_is ∙ alone (λ v. v.pushed) (λ _ _ v f e. (f.fed e).0) items views id v one r at in
+      let marks : r.marks ≡ v.marks =
+      sym r.marks_is ∙ alone (λ v. v.marks) (λ _ _ v f e. (f.fed e).1) items views id v one r at in (
         r.drawn,
         r.ended,
-        r.in_line ∙ ap (λ n. line r.drawn (n - r.drawn) (r.marks - r.ended)) pushed ∙ ap (λ n. line r.drawn (v.pushed - r.drawn) (n - r.ended)) marks,
+        r.in_line ∙ ap (λ n. line r.drawn (n - r.drawn) (r.marks - r.ended)) pushed
+            ∙ ap (λ n. line r.drawn (v.pushed - r.drawn) (n - r.ended)) marks,
         (let z = r.behind in omega arith),
         (let z = r.taken in omega arith),
       )
@@ -252,12 +318,15 @@ module _ where
   pub feeds : (n id : ℕ) (v : Turn) (x : Item) → MayPut v → x ≡ item_of v → Pushes Streamed n id v x (λ w. w ≡ put v x)
   feeds n id v x may is = ⊎_elim
       (λ (below : v.pushed < v.packets).
-      let kind : x ≡ Number v.pushed = is ∙ ap (λ (b : Bool). if b then Number v.pushed else End) (lt-ltb v.pushed v.packets below) in
-      subst (λ x. Pushes Streamed n id v x (λ w. w ≡ put v x)) (sym kind) (feeds_number n id v v.pushed may.1 refl (may.3 below) below may.0))
+      let kind : x ≡ Number v.pushed =
+      is ∙ ap (λ (b : Bool). if b then Number v.pushed else End) (lt-ltb v.pushed v.packets below) in
+      subst (λ x. Pushes Streamed n id v x (λ w. w ≡ put v x)) (sym kind)
+      (feeds_number n id v v.pushed may.1 refl (may.3 below) below may.0))
       (λ (above : v.packets ≤ v.pushed).
       let kind : x ≡ End = is ∙ ap (λ (b : Bool). if b then Number v.pushed else End) (le-ltb v.pushed v.packets above) in
       let within = may.2 in
-      subst (λ x. Pushes Streamed n id v x (λ w. w ≡ put v x)) (sym kind) (feeds_end n id v may.1 (omega arith) (may.4 above) may.0))
+      subst (λ x. Pushes Streamed n id v x (λ w. w ≡ put v x)) (sym kind)
+      (feeds_end n id v may.1 (omega arith) (may.4 above) may.0))
       (cases_lt v.pushed v.packets)
 
   pub forks : (id : ℕ) (v : Turn) → 1 < v.parts → v.feeds ≡ 1 → Forks Streamed id v (without_one v) (hand v.packets v.members)
@@ -271,11 +340,21 @@ module _ where
         pushed = r.pushed;
         marks = r.marks;
         ended = r.ended;
-        pushed_is = (let a = total_set (λ v. v.pushed) views id v u at in let b = r.pushed_is in let c = total_snoc (λ v. v.pushed) vs new in omega arith);
-        marks_is = (let a = total_set (λ v. v.marks) views id v u at in let b = r.marks_is in let c = total_snoc (λ v. v.marks) vs new in omega arith);
-        ended_is = (let a = total_set (λ v. v.ended) views id v u at in let b = r.ended_is in let c = total_snoc (λ v. v.ended) vs new in omega arith);
-        parts = (let a = total_set (λ v. v.parts) views id v u at in let b = r.parts in let c = total_snoc (λ v. v.parts) vs new in omega arith);
-        feeds = (let a = total_set (λ v. v.feeds) views id v u at in let b = r.feeds in let c = total_snoc (λ v. v.feeds) vs new in omega arith);
+        pushed_is =
+            (let a = total_set (λ v. v.pushed) views id v u at in let b = r.pushed_is in let c = total_snoc
+            (λ v. v.pushed) vs new in omega arith);
+        marks_is =
+            (let a = total_set (λ v. v.marks) views id v u at in let b = r.marks_is in let c = total_snoc
+            (λ v. v.marks) vs new in omega arith);
+        ended_is =
+            (let a = total_set (λ v. v.ended) views id v u at in let b = r.ended_is in let c = total_snoc
+            (λ v. v.ended) vs new in omega arith);
+        parts =
+            (let a = total_set (λ v. v.parts) views id v u at in let b = r.parts in let c = total_snoc
+            (λ v. v.parts) vs new in omega arith);
+        feeds =
+            (let a = total_set (λ v. v.feeds) views id v u at in let b = r.feeds in let c = total_snoc
+            (λ v. v.feeds) vs new in omega arith);
         in_line = r.in_line;
         behind = r.behind;
         within = r.within;
@@ -283,11 +362,18 @@ module _ where
         taken = r.taken;
         marks_last = r.marks_last;
         ends_last = r.ends_last;
-        each_once = (λ x. let a = total_set (λ v. times x v.popped) views id v u at in let b = r.each_once x in let c = total_snoc (λ v. times x v.popped) vs new in omega arith);
-        counted = (let a = total_set (λ v. length v.popped) views id v u at in let b = r.counted in let c = total_snoc (λ v. length v.popped) vs new in omega arith);
+        each_once =
+            (λ x. let a = total_set (λ v. times x v.popped) views id v u at in let b = r.each_once x in let c = total_snoc
+            (λ v. times x v.popped) vs new in omega arith);
+        counted =
+            (let a = total_set (λ v. length v.popped) views id v u at in let b = r.counted in let c = total_snoc
+            (λ v. length v.popped) vs new in omega arith);
         fits = (λ j y e. ⊎_elim
-            (λ was. each_set (FitsLine r.packets r.members) views id u (record { sizes = (λ _. mine.sizes (omega arith)); fed = mine.fed; idle = (λ e. absurd (omega arith)) }) (λ j y _ e. r.fits j y e) j y was)
-            (λ (same : new ≡ y). subst (FitsLine r.packets r.members) same (record { sizes = (λ _. mine.sizes (omega arith)); fed = (λ _. (refl, refl)); idle = (λ e. absurd (omega arith)) }))
+            (λ was. each_set (FitsLine r.packets r.members) views id u
+            (record { sizes = (λ _. mine.sizes (omega arith)); fed = mine.fed; idle = (λ e. absurd (omega arith)) })
+            (λ j y _ e. r.fits j y e) j y was)
+            (λ (same : new ≡ y). subst (FitsLine r.packets r.members) same
+            (record { sizes = (λ _. mine.sizes (omega arith)); fed = (λ _. (refl, refl)); idle = (λ e. absurd (omega arith)) }))
             (at_snoc vs new y j e));
       }
 
@@ -299,23 +385,37 @@ module _ where
       let mine = r.fits id first f0 in
       let size = mine.sizes (omega arith) in let size1 = size.1 in
       let none = others_none (λ v. v.parts) views id first f0 (let a = r.parts in omega arith) in
-      let of = λ (f : Turn → ℕ) (h : (u : Turn) → FitsLine r.packets r.members u → u.parts ≡ 0 → f u ≡ 0). all_of f views id first f0 (λ j u apart there. h u (r.fits j u there) (none j u apart there)) in
+      let of =
+      λ (f : Turn → ℕ) (h : (u : Turn) → FitsLine r.packets r.members u → u.parts ≡ 0 → f u ≡ 0). all_of f views id first f0
+      (λ j u apart there. h u (r.fits j u there) (none j u apart there)) in
       let pushed = of (λ v. v.pushed) (λ u f e. (f.fed (f.idle e).0).0) in
       let marks = of (λ v. v.marks) (λ u f e. (f.fed (f.idle e).0).1) in
       let ended = of (λ v. v.ended) (λ u f e. (f.idle e).2) in
       let popped = of (λ v. length v.popped) (λ u f e. ap length (f.idle e).1) in
-      let pushed_is = r.pushed_is in let marks_is = r.marks_is in let ended_is = r.ended_is in let counted = r.counted in let behind = r.behind in record {
+      let pushed_is =
+      r.pushed_is in let marks_is =
+      r.marks_is in let ended_is = r.ended_is in let counted = r.counted in let behind = r.behind in record {
         packets = p;
         members = m;
         drawn = r.drawn;
         pushed = r.pushed;
         marks = r.marks;
         ended = r.ended;
-        pushed_is = (let a = total_set (λ v. v.pushed) views id first u f0 in let b = r.pushed_is in let c = total_snoc (λ v. v.pushed) vs new in omega arith);
-        marks_is = (let a = total_set (λ v. v.marks) views id first u f0 in let b = r.marks_is in let c = total_snoc (λ v. v.marks) vs new in omega arith);
-        ended_is = (let a = total_set (λ v. v.ended) views id first u f0 in let b = r.ended_is in let c = total_snoc (λ v. v.ended) vs new in omega arith);
-        parts = (let a = total_set (λ v. v.parts) views id first u f0 in let b = r.parts in let c = total_snoc (λ v. v.parts) vs new in omega arith);
-        feeds = (let a = total_set (λ v. v.feeds) views id first u f0 in let b = r.feeds in let c = total_snoc (λ v. v.feeds) vs new in omega arith);
+        pushed_is =
+            (let a = total_set (λ v. v.pushed) views id first u f0 in let b = r.pushed_is in let c = total_snoc
+            (λ v. v.pushed) vs new in omega arith);
+        marks_is =
+            (let a = total_set (λ v. v.marks) views id first u f0 in let b = r.marks_is in let c = total_snoc
+            (λ v. v.marks) vs new in omega arith);
+        ended_is =
+            (let a = total_set (λ v. v.ended) views id first u f0 in let b = r.ended_is in let c = total_snoc
+            (λ v. v.ended) vs new in omega arith);
+        parts =
+            (let a = total_set (λ v. v.parts) views id first u f0 in let b = r.parts in let c = total_snoc
+            (λ v. v.parts) vs new in omega arith);
+        feeds =
+            (let a = total_set (λ v. v.feeds) views id first u f0 in let b = r.feeds in let c = total_snoc
+            (λ v. v.feeds) vs new in omega arith);
         in_line = r.in_line;
         behind = r.behind;
         within = (omega arith);
@@ -323,19 +423,35 @@ module _ where
         taken = r.taken;
         marks_last = (λ some_mark. absurd (omega arith));
         ends_last = r.ends_last;
-        each_once = (λ x. let a = total_set (λ v. times x v.popped) views id first u f0 in let b = r.each_once x in let c = total_snoc (λ v. times x v.popped) vs new in omega arith);
-        counted = (let a = total_set (λ v. length v.popped) views id first u f0 in let b = r.counted in let c = total_snoc (λ v. length v.popped) vs new in omega arith);
+        each_once =
+            (λ x. let a = total_set (λ v. times x v.popped) views id first u f0 in let b = r.each_once x in let c = total_snoc
+            (λ v. times x v.popped) vs new in omega arith);
+        counted =
+            (let a = total_set (λ v. length v.popped) views id first u f0 in let b = r.counted in let c = total_snoc
+            (λ v. length v.popped) vs new in omega arith);
         fits = (λ j y e. ⊎_elim
-            (λ was. each_set (FitsLine p m) views id u (record { sizes = (λ _. (refl, refl)); fed = (λ e. (refl, refl)); idle = (λ e. absurd (omega arith)) })
-            (λ j y apart e. let g = r.fits j y e in record { sizes = (λ some_part. absurd (let z = none j y apart e in omega arith)); fed = g.fed; idle = g.idle }) j y was)
-            (λ (same : new ≡ y). subst (FitsLine p m) same (record { sizes = (λ _. (refl, refl)); fed = (λ _. (refl, refl)); idle = (λ e. absurd (omega arith)) }))
+            (λ was. each_set (FitsLine p m) views id u (record {
+              sizes = (λ _. (refl, refl));
+              fed = (λ e. (refl, refl));
+              idle = (λ e. absurd (omega arith));
+            })
+            (λ j y apart e. let g = r.fits j y e in record {
+              sizes =
+                  (λ some_part. absurd (let z = none j y apart e in omega arith));
+              fed = g.fed;
+              idle = g.idle;
+            }) j y was)
+            (λ (same : new ≡ y). subst (FitsLine p m) same
+            (record { sizes = (λ _. (refl, refl)); fed = (λ _. (refl, refl)); idle = (λ e. absurd (omega arith)) }))
             (at_snoc vs new y j e));
       }
 
   pub merges : (id : ℕ) (v : Turn) (other : ℕ) (u : Turn) → 0 < v.parts → Merges Streamed id v other u (joined v u) nobody
   merges id v other u some_part items views r at apart there =
       let b = joined v u in let vs = set views id b in
-      let was : get_elem? views other ≡ some u = ⊎_elim (λ (t : (other ≡ id) × (b ≡ u)). absurd (apart t.0)) (λ (t : (other ≢ id) × (get_elem? views other ≡ some u)). t.1) (at_set views id other b u there) in
+      let was : get_elem? views other ≡ some u =
+      ⊎_elim (λ (t : (other ≡ id) × (b ≡ u)). absurd (apart t.0)) (λ (t : (other ≢ id) × (get_elem? views other ≡ some u)). t.1)
+      (at_set views id other b u there) in
       let mine = r.fits id v at in let theirs = r.fits other u was in
       let sum = λ (f : Turn → ℕ). total_set f views id v b at in
       let rest = λ (f : Turn → ℕ). total_set f vs other u nobody there in record {
@@ -357,10 +473,23 @@ module _ where
         taken = r.taken;
         marks_last = r.marks_last;
         ends_last = r.ends_last;
-        each_once = (λ x. let a = sum (λ v. times x v.popped) in let c = rest (λ v. times x v.popped) in let d = r.each_once x in let e = times-append x v.popped u.popped in omega arith);
-        counted = (let a = sum (λ v. length v.popped) in let c = rest (λ v. length v.popped) in let d = r.counted in let e = length-append v.popped u.popped in omega arith);
-        fits = each_set (FitsLine r.packets r.members) vs other nobody (record { sizes = (λ e. absurd (omega arith)); fed = (λ _. (refl, refl)); idle = (λ _. (refl, refl, refl)) })
-            (λ j y _ e. each_set (FitsLine r.packets r.members) views id b (record { sizes = (λ _. mine.sizes some_part); fed = (λ (none : v.feeds + u.feeds ≡ 0). let a : v.feeds ≡ 0 = omega arith in let c : u.feeds ≡ 0 = omega arith in let d = mine.fed a in let f = theirs.fed c in ((let d0 = d.0 in let f0 = f.0 in omega arith), (let d1 = d.1 in let f1 = f.1 in omega arith))); idle = (λ e. absurd (omega arith)) }) (λ j y _ e. r.fits j y e) j y e);
+        each_once =
+            (λ x. let a = sum (λ v. times x v.popped) in let c = rest (λ v. times x v.popped) in let d = r.each_once
+            x in let e = times-append x v.popped u.popped in omega arith);
+        counted =
+            (let a = sum (λ v. length v.popped) in let c = rest
+            (λ v. length v.popped) in let d = r.counted in let e = length-append v.popped u.popped in omega arith);
+        fits =
+            each_set (FitsLine r.packets r.members) vs other nobody
+            (record { sizes = (λ e. absurd (omega arith)); fed = (λ _. (refl, refl)); idle = (λ _. (refl, refl, refl)) })
+            (λ j y _ e. each_set (FitsLine r.packets r.members) views id b
+            (record {
+              sizes = (λ _. mine.sizes some_part);
+              fed = (λ (none : v.feeds + u.feeds ≡ 0). let a : v.feeds ≡ 0 = omega arith in let c : u.feeds ≡ 0 = omega
+                  arith in let d = mine.fed a in let f = theirs.fed
+                  c in ((let d0 = d.0 in let f0 = f.0 in omega arith), (let d1 = d.1 in let f1 = f.1 in omega arith)));
+              idle = (λ e. absurd (omega arith));
+            }) (λ j y _ e. r.fits j y e) j y e);
       }
 
 -- a line that holds nothing has no number left

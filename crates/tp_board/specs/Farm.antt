@@ -1,5 +1,6 @@
 -- The farm core: its state, and what each event of a member makes of it.
-use Rattle.std.specs.Prelude.{ℕ, ◌+◌, ltb, Bool, true, false, List, [], ◌∷◌, ◌++◌, length, Option, Some, None, IsSome, slice_index_or, slice_set, replicate, if◌then◌else◌}
+use Rattle.std.specs.Prelude.{ℕ, ◌+◌, ltb, Bool, true, false, List, [], ◌∷◌, ◌++◌, length, Option, Some, None, IsSome}
+use Rattle.std.specs.Prelude.{slice_index_or, slice_set, replicate, if◌then◌else◌}
 use Rattle.tp_board.specs.declared.event.Shown.{Shown}
 use Rattle.tp_board.specs.declared.event.Shown.TheVariants as shown
 use Rattle.tp_board.specs.declared.event.Event.{Event}
@@ -18,7 +19,8 @@ pub record Farm : Type 0 where
   pub stop : Bool
 
 abbrev pub farm : ℕ → ℕ → List (Option ℕ) → List ℕ → List ℕ → Bool → Farm
-farm packets drawn hands done lost stop = record { packets = packets; drawn = drawn; hands = hands; done = done; lost = lost; stop = stop }
+farm packets drawn hands done lost stop =
+    record { packets = packets; drawn = drawn; hands = hands; done = done; lost = lost; stop = stop }
 
 -- nothing is drawn, done or lost, no hand has anything, and the mark is clear
 abbrev pub opening_farm : ℕ → ℕ → Farm

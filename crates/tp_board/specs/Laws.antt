@@ -16,7 +16,8 @@ use Rattle.tp_board.specs.Steps.{row_of, MayStep, found_by, words_after}
 
 -- the words and views that a step of the seat `id` leaves keep the rule; the farm that they stand
 -- for is what that member's event makes of the farm before, and this is the event's reply
-pub record IsEvent (k : Size) (words : List ℕ) (views : List View) (words' : List ℕ) (views' : List View) (id : ℕ) (event : Event) (reply : Reply) : Type 0 where
+pub record IsEvent (k : Size) (words : List ℕ) (views : List View) (words' : List ℕ) (views' : List View)
+    (id : ℕ) (event : Event) (reply : Reply) : Type 0 where
   pub rule : KeepsRule k words' views'
   pub farm : IsSame (farm_of k words' views') (step (farm_of k words views) id event).1
   pub answered : (step (farm_of k words views) id event).0 ≡ reply

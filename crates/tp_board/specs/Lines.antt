@@ -11,7 +11,16 @@ use Rattle.tp_board.specs.Rule.{total}
 use Rattle.tp_board.specs.Runs.{numbers_from}
 
 abbrev pub turn : ℕ → ℕ → ℕ → ℕ → ℕ → ℕ → List ℕ → ℕ → Turn
-turn packets members parts feeds pushed marks popped ended = record { packets = packets; members = members; parts = parts; feeds = feeds; pushed = pushed; marks = marks; popped = popped; ended = ended }
+turn packets members parts feeds pushed marks popped ended = record {
+  packets = packets;
+  members = members;
+  parts = parts;
+  feeds = feeds;
+  pushed = pushed;
+  marks = marks;
+  popped = popped;
+  ended = ended;
+}
 
 -- ---- passes that have made no step
 -- the first pass, which has not been told the sizes
@@ -33,7 +42,9 @@ abbrev pub without_one : Turn → Turn
 without_one v = record v { parts = v.parts - 1 }
 
 abbrev pub joined : Turn → Turn → Turn
-joined v w = turn v.packets v.members (v.parts + w.parts) (v.feeds + w.feeds) (v.pushed + w.pushed) (v.marks + w.marks) (v.popped ++ w.popped) (v.ended + w.ended)
+joined v w =
+    turn v.packets v.members (v.parts + w.parts) (v.feeds + w.feeds) (v.pushed + w.pushed) (v.marks + w.marks)
+    (v.popped ++ w.popped) (v.ended + w.ended)
 
 -- ---- pushes and pops
 -- what is pushed next: the packets in order of number, and then the marks
@@ -42,7 +53,9 @@ item_of v = if ltb v.pushed v.packets then Number v.pushed else End
 
 -- the pass feeds, and not all is pushed
 abbrev pub MayPut : Turn → Type 0
-MayPut v = (0 < v.parts) × (v.feeds ≡ 1) × (v.pushed ≤ v.packets) × (v.pushed < v.packets → v.marks ≡ 0) × (v.packets ≤ v.pushed → v.marks < v.members)
+MayPut v =
+    (0 < v.parts) × (v.feeds ≡ 1) × (v.pushed ≤ v.packets)
+    × (v.pushed < v.packets → v.marks ≡ 0) × (v.packets ≤ v.pushed → v.marks < v.members)
 
 abbrev pub put : Turn → Item → Turn
 put v (Number n) = record v { pushed = v.pushed + 1 }
@@ -100,7 +113,9 @@ pub record Streamed (items : List Item) (views : List Turn) : Type 0 where
 -- ---- what a pass knows of the queue
 -- the one that feeds: what it pushed and nobody has popped
 abbrev pub Waits : Turn → List Item → Type 0
-Waits v items = (drawn : ℕ) × (ended : ℕ) × (items ≡ line drawn (v.pushed - drawn) (v.marks - ended)) × (drawn ≤ v.pushed) × (ended ≤ v.marks)
+Waits v items =
+    (drawn : ℕ) × (ended : ℕ) × (items ≡ line drawn (v.pushed - drawn) (v.marks - ended))
+    × (drawn ≤ v.pushed) × (ended ≤ v.marks)
 
 -- the pass with every part: it popped the numbers below some `drawn`, each once, and the queue holds
 -- the rest of what it pushed

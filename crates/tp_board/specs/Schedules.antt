@@ -40,7 +40,8 @@ board_replies words views (e ∷ es) =
 -- a schedule keeps the rule; the farm that it leaves is what its events make of the farm before,
 -- with their replies; and the numbers that it draws are those from the count drawn before it on, in
 -- order
-pub record IsRun (k : Size) (words : List ℕ) (views : List View) (events : List (ℕ × Event)) (words' : List ℕ) (views' : List View) : Type 0 where
+pub record IsRun (k : Size) (words : List ℕ) (views : List View) (events : List (ℕ × Event))
+    (words' : List ℕ) (views' : List View) : Type 0 where
   pub rule : KeepsRule k words' views'
   pub farm : IsSame (farm_of k words' views') (farm_after (farm_of k words views) events)
   pub answered : board_replies words views events ≡ replies (farm_of k words views) events

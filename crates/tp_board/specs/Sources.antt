@@ -7,7 +7,7 @@ use Rattle.tp_board.specs.declared.source.Work.{Work}
 use Rattle.tp_board.specs.declared.source.Work.TheVariants as work
 use Rattle.tp_board.specs.declared.source.Lent.{Lent}
 use Rattle.tp_board.specs.declared.source.Lent.TheVariants as lent
-use Rattle.tp_board.specs.Boards.{BoardView}
+use Rattle.tp_board.specs.Boards.{BoardView, SeatView}
 use Rattle.tp_board.specs.Views.{first_of}
 
 -- what a hand has done at its source: the numbers that it was given, where each of them went, what
@@ -74,3 +74,7 @@ progress_of v = record {
   stop_seen = nat_lt 0 v.seen.stop;
   stop_called = nat_lt 0 v.stop_callers;
 }
+
+-- what a seat has done at its board
+abbrev pub seat_progress : SeatView → Progress
+seat_progress s = progress_of s.view

@@ -69,9 +69,11 @@ after_push s x = record s { turn = put s.turn x }
 
 -- the stream that a step leaves keeps its rules, and the board that it stands for is what this event
 -- makes of the board before, with this reply
-pub record IsStreamEvent (packets members : ℕ) (words : List ℕ) (stands : List HandState) (items' : List Item) (words' : List ℕ) (stands' : List HandState) (id : ℕ) (event : Event) (reply : Reply) : Type 0 where
+pub record IsStreamEvent (packets members : ℕ) (words : List ℕ) (stands : List HandState)
+    (items' : List Item) (words' : List ℕ) (stands' : List HandState) (id : ℕ) (event : Event) (reply : Reply) : Type 0 where
   pub rule : KeepsStream packets members items' words' stands'
-  pub made : IsEvent (size packets (members + 1)) (pops stands ∷ words) (map hand_seen stands) (pops stands' ∷ words') (map hand_seen stands') id event reply
+  pub made : IsEvent (size packets (members + 1)) (pops stands ∷ words) (map hand_seen stands)
+      (pops stands' ∷ words') (map hand_seen stands') id event reply
 
 -- a pop of a packet is Claim answered with its number, and a pop of an end mark Claim answered NoMore,
 -- by one who has nothing in hand and has not learnt the end, and who finds the count of pops fresh
@@ -140,4 +142,5 @@ WordLaw event =
     → let n = found_at event words in
     let row = row_of event in
     IsFresh (hand_seen s) row.word n
-    × IsStreamEvent packets members words stands items (words_with event words) (slice_set stands id (after_event s event n)) id event (row.reply (hand_seen s) n)
+    × IsStreamEvent packets members words stands items (words_with event words)
+    (slice_set stands id (after_event s event n)) id event (row.reply (hand_seen s) n)

@@ -9,7 +9,8 @@ use Rattle.tp_board.specs.FarmOf.{farm_of, IsSame}
 use Rattle.tp_board.specs.Lines.{MayPut, item_of, feeder, hand, nobody}
 use Rattle.tp_board.specs.Openings.{InRange}
 use Rattle.tp_board.specs.Runs.{farm_after, replies, DrawsInOrder}
-use Rattle.tp_board.specs.Stages.{HandState, hand_seen, KeepsStream, pops, after_pop, after_push, pop_reply, IsAtWords, found_at, words_with, after_event}
+use Rattle.tp_board.specs.Stages.{HandState, hand_seen, KeepsStream, pops, after_pop, after_push, pop_reply, IsAtWords, found_at}
+use Rattle.tp_board.specs.Stages.{words_with, after_event}
 use Rattle.tp_board.specs.Steps.{row_of, MayStep}
 use Rattle.tp_board.specs.Views.{newcomer, spent_view}
 use Rattle.tp_board.specs.Words.{size}
@@ -58,7 +59,8 @@ MayPop (x ∷ items) s = MayStep Claim (hand_seen s)
 abbrev pub MayMake : Stage → ℕ × StreamStep → Type 0
 MayMake g (id, push) = ((hand_state_at g id).turn.parts ≡ 1) × MayPut (hand_state_at g id).turn
 MayMake g (id, pop) = ((hand_state_at g id).turn.parts ≡ 1) × MayPop g.items (hand_state_at g id)
-MayMake g (id, at_words event) = ((hand_state_at g id).turn.parts ≡ 1) × IsAtWords event × MayStep event (hand_seen (hand_state_at g id))
+MayMake g (id, at_words event) =
+    ((hand_state_at g id).turn.parts ≡ 1) × IsAtWords event × MayStep event (hand_seen (hand_state_at g id))
 
 abbrev pub popped_from : Stage → ℕ → List Item → Stage
 popped_from g id [] = g
@@ -66,10 +68,12 @@ popped_from g id (x ∷ items) = stage items g.words (hand_states_with g id (aft
 
 abbrev pub stage_after : Stage → ℕ × StreamStep → Stage
 stage_after g (id, push) =
-    let x = item_of (hand_state_at g id).turn in stage (g.items ++ x ∷ []) g.words (hand_states_with g id (after_push (hand_state_at g id) x))
+    let x = item_of (hand_state_at g id).turn in
+    stage (g.items ++ x ∷ []) g.words (hand_states_with g id (after_push (hand_state_at g id) x))
 stage_after g (id, pop) = popped_from g id g.items
 stage_after g (id, at_words event) =
-    stage g.items (words_with event g.words) (hand_states_with g id (after_event (hand_state_at g id) event (found_at event g.words)))
+    stage g.items (words_with event g.words)
+    (hand_states_with g id (after_event (hand_state_at g id) event (found_at event g.words)))
 
 -- the event of the core that it is; a push is none
 abbrev pub event_of : ℕ × StreamStep → List (ℕ × Event)

@@ -1,5 +1,6 @@
 -- What a stream, its hands and its feeder are to a contract, and what its calls say.
-use Rattle.std.specs.Prelude.{◌≡◌, ℕ, ◌+◌, ◌-◌, ◌<◌, ◌≤◌, ◌⊎◌, Bool, List, [], ◌∷◌, ◌++◌, length, map, replicate, Option, Some, None, slice_get, if◌then◌else◌}
+use Rattle.std.specs.Prelude.{◌≡◌, ℕ, ◌+◌, ◌-◌, ◌<◌, ◌≤◌, ◌⊎◌, Bool, List, [], ◌∷◌, ◌++◌, length, map, replicate, Option, Some}
+use Rattle.std.specs.Prelude.{None, slice_get, if◌then◌else◌}
 use Rattle.atomic_table.specs.Seated.{TableId}
 use Rattle.crossbeam_queue.specs.Fifo.{Held}
 use Rattle.crossbeam_queue.specs.Passes.{Pass, view}
@@ -18,6 +19,7 @@ use Rattle.tp_board.specs.Counting.{times, hand_list, AreBelow}
 use Rattle.tp_board.specs.Lines.{hand, feeder, item_of, put, MayPut, Waits}
 use Rattle.tp_board.specs.Openings.{InRange}
 use Rattle.tp_board.specs.Runs.{numbers_from}
+use Rattle.tp_board.specs.Sources.{Progress, progress_of}
 use Rattle.tp_board.specs.Views.{newcomer, all_drawn}
 use Rattle.tp_board.specs.Words.{size}
 
@@ -68,6 +70,10 @@ feeder_of_parts line desk turn place = record { line = line; desk = desk; turn =
 
 abbrev pub hand_seen : HandView → View
 hand_seen h = seen_of h.turn h.place (hand_list h.number)
+
+-- what a hand has done at its stream
+abbrev pub hand_progress : HandView → Progress
+hand_progress h = progress_of (hand_seen h)
 
 abbrev pub feeder_seen : FeederView → View
 feeder_seen f = seen_of f.turn f.place []
@@ -152,7 +158,8 @@ NextAfter before v (work.Packet n bytes) w =
     × Makes v (before ++ sees_no_stop ∷ made event.Claim n (reply.Number n) ∷ []) w
 NextAfter before v work.NoMore w =
     ((v.ended ≡ 1) × Makes v [] w)
-    ⊎ ((v.ended ≡ 0) × (v.seen.stop ≡ 0) × ((n : ℕ) × (v.packets ≤ n) × Makes v (before ++ sees_no_stop ∷ made event.Claim n reply.NoMore ∷ []) w))
+    ⊎ ((v.ended ≡ 0) × (v.seen.stop ≡ 0)
+    × ((n : ℕ) × (v.packets ≤ n) × Makes v (before ++ sees_no_stop ∷ made event.Claim n reply.NoMore ∷ []) w))
 NextAfter before v work.Stopped w =
     (v.ended ≡ 0)
     × (((v.seen.stop ≡ 1) × Makes v [] w) ⊎ ((v.seen.stop ≡ 0) × Makes v (before ++ sees_stop ∷ []) w))
@@ -167,6 +174,10 @@ HasBytes packets (work.Packet n bytes) = slice_get packets n ≡ Some bytes.item
 HasBytes packets work.NoMore = Unit {0}
 HasBytes packets work.Stopped = Unit {0}
 
+-- all packets are pushed, and all end marks
+abbrev pub IsAllPushed : Turn → Type 0
+IsAllPushed t = (t.pushed ≡ t.packets) × (t.marks ≡ t.members)
+
 -- a load of the stop mark, which was 0, and nothing at the queue
 abbrev pub LooksOnly : FeederView → FeederView → Type 0
 LooksOnly f g = Makes (feeder_seen f) (sees_no_stop ∷ []) (feeder_seen g) × (g.turn ≡ f.turn)
@@ -180,7 +191,7 @@ FeedSays f fed.Pushed g =
     × (g.turn ≡ put f.turn (item_of f.turn))
 FeedSays f fed.Full g = LooksOnly f g × MayPut f.turn × Held 32 (Waits f.turn)
 FeedSays f fed.Stopped g = Makes (feeder_seen f) (sees_stop ∷ []) (feeder_seen g) × (g.turn ≡ f.turn)
-FeedSays f fed.Over g = LooksOnly f g × (f.turn.pushed ≡ f.turn.packets) × (f.turn.marks ≡ f.turn.members)
+FeedSays f fed.Over g = LooksOnly f g × IsAllPushed f.turn
 
 -- ---- the close
 -- the numbers that the hands drew and those left in the queue, from `drawn` to `pushed`, are the

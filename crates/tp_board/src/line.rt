@@ -160,7 +160,8 @@ pub fn opened(alloc: Global, packets: u32, members: u32) -> Result<(Line, Place,
 fn deal<B: Sizes>(line: &Line, pass: &mut Place, packets: u32, members: u32) -> Place
     requires queue { IsPassOf line.now pass.old × (view pass.old ≡ first) }
     requires sizes { (B.packets ≡ packets) × (B.members ≡ members) × (0 < members) }
-    ensures { IsSamePass pass.old pass.new × IsPassOf line.now result × (view pass.new ≡ feeder packets members members) × (view result ≡ hand packets members) }
+    ensures { IsSamePass pass.old pass.new × IsPassOf line.now result
+        × (view pass.new ≡ feeder packets members members) × (view result ≡ hand packets members) }
 {
     line.another::<FirstHand<B>>(pass)
 }
@@ -169,7 +170,8 @@ fn deal<B: Sizes>(line: &Line, pass: &mut Place, packets: u32, members: u32) -> 
 pub fn new_hand(line: &Line, pass: &mut Place) -> Place
     requires queue { IsPassOf line.now pass.old }
     requires parts { (1 < (view pass.old).parts) × ((view pass.old).feeds ≡ 1) }
-    ensures { IsSamePass pass.old pass.new × IsPassOf line.now result × (view pass.new ≡ without_one (view pass.old)) × (view result ≡ hand (view pass.old).packets (view pass.old).members) }
+    ensures { IsSamePass pass.old pass.new × IsPassOf line.now result
+        × (view pass.new ≡ without_one (view pass.old)) × (view result ≡ hand (view pass.old).packets (view pass.old).members) }
 {
     line.another::<OneHand>(pass)
 }
@@ -201,7 +203,8 @@ pub fn feed<R: Wait>(rt: &R, line: &Line, pass: &mut Place, item: Item) -> bool
 pub fn take<R: Wait>(rt: &R, line: &Line, pass: &mut Place) -> Option<Item>
     requires queue { IsPassOf line.now pass.old }
     requires part { 0 < (view pass.old).parts }
-    ensures { IsSamePass pass.old pass.new × MatchOption result (view pass.new ≡ view pass.old) (λ x. Took (view pass.old) x (view pass.new)) }
+    ensures { IsSamePass pass.old pass.new
+        × MatchOption result (view pass.new ≡ view pass.old) (λ x. Took (view pass.old) x (view pass.new)) }
 {
     line.pop_as::<Takes, R>(rt, pass)
 }
@@ -210,7 +213,9 @@ pub fn take<R: Wait>(rt: &R, line: &Line, pass: &mut Place) -> Option<Item>
 fn drain<R: Wait>(rt: &R, line: &Line, pass: &mut Place) -> Option<Item>
     requires queue { IsPassOf line.now pass.old }
     requires parts { (view pass.old).members + 1 ≤ (view pass.old).parts }
-    ensures { IsSamePass pass.old pass.new × MatchOption result ((view pass.new ≡ view pass.old) × Left (view pass.old) []) (λ x. Took (view pass.old) x (view pass.new)) }
+    ensures { IsSamePass pass.old pass.new
+        × MatchOption result ((view pass.new ≡ view pass.old) × Left (view pass.old) [])
+        (λ x. Took (view pass.old) x (view pass.new)) }
 {
     line.pop_as::<Rest, R>(rt, pass)
 }

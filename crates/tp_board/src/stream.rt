@@ -10,10 +10,11 @@ ghost use Rattle.tp_board.specs.Counting.{hand_list};
 ghost use Rattle.tp_board.specs.Lines.{hand, feeder, item_of, put, MayPut, Waits};
 ghost use Rattle.crossbeam_queue.specs.Fifo.{Held};
 ghost use Rattle.tp_board.specs.Openings.{InRange};
-ghost use Rattle.tp_board.specs.Sources.{progress_of, work_of, NextSays};
-ghost use Rattle.tp_board.specs.Streams.{StreamView, stream_of, hand_of_parts, fresh_hand, seen_of, hand_seen, feeder_seen, all_seen};
+ghost use Rattle.tp_board.specs.Sources.{work_of, NextSays};
+ghost use Rattle.tp_board.specs.Streams.{StreamView, stream_of, hand_of_parts, fresh_hand, seen_of, hand_seen};
+ghost use Rattle.tp_board.specs.Streams.{hand_progress, feeder_seen, all_seen};
 ghost use Rattle.tp_board.specs.Streams.{IsStream, IsHandOf, IsFeederOf, new_hand_of, new_feeder_of};
-ghost use Rattle.tp_board.specs.Streams.{NextAfter, NextMakes, HasBytes, FeedSays, IsLeft, Agrees};
+ghost use Rattle.tp_board.specs.Streams.{NextAfter, NextMakes, HasBytes, IsAllPushed, FeedSays, IsLeft, Agrees};
 
 use crate::answer::{BoardFault, Ledger, MAX_MEMBERS, MAX_PACKETS};
 use crate::desk::{
@@ -44,9 +45,11 @@ pub struct StreamQueue<'p> {
 impl<'p> Model for StreamQueue<'p> {
     ghost Value = { StreamView };
 
-    ghost view = { λ s. stream_of s.line.table.shared.table_id s.desk.shared.table_id (map (λ p. p.items) s.packets.now) s.members };
+    ghost view = { λ s.
+        stream_of s.line.table.shared.table_id s.desk.shared.table_id (map (λ p. p.items) s.packets.now) s.members };
 
-    ghost invariant = { λ s. IsStream s.desk.shared.table_id s.desk.shared.key (ruled_capacity s.line) (length s.packets.now) s.members };
+    ghost invariant = { λ s.
+        IsStream s.desk.shared.table_id s.desk.shared.key (ruled_capacity s.line) (length s.packets.now) s.members };
 }
 
 /// A4: a hand of the stream is missing. All is handed back as it was.
@@ -137,7 +140,7 @@ impl<'p> StreamQueue<'p> {
     fn item_due(&self, feeder: &Feeder) -> Option<Item>
         requires own { IsFeederOf self.now feeder.now }
         ensures some { IfSome result (λ i. MayPut feeder.now.turn × (i ≡ item_of feeder.now.turn)) }
-        ensures none { result ≡ None → (feeder.now.turn.pushed ≡ feeder.now.turn.packets) × (feeder.now.turn.marks ≡ feeder.now.turn.members) }
+        ensures none { result ≡ None → IsAllPushed feeder.now.turn }
     {
         if feeder.pushed < self.packets.len() as u32 {
             return Some(Item::Number(feeder.pushed));
@@ -182,7 +185,7 @@ impl<'p> StreamQueue<'p> {
         requires own { IsHandOf self.now hand.old }
         requires empty { first_of (hand_list hand.old.number) ≡ None }
         ensures own { IsHandOf self.now hand.new }
-        ensures work { NextSays self.now.packets (progress_of (hand_seen hand.old)) (work_of result) (progress_of (hand_seen hand.new)) }
+        ensures work { NextSays self.now.packets (hand_progress hand.old) (work_of result) (hand_progress hand.new) }
         ensures steps { NextMakes (hand_seen hand.old) (work_of result) (hand_seen hand.new) }
     {
         if hand.ended {
@@ -207,7 +210,8 @@ impl<'p> StreamQueue<'p> {
         requires empty { hand.old.number ≡ None }
         requires going { ((hand_seen hand.old).ended ≡ 0) × ((hand_seen hand.old).seen.stop ≡ 0) }
         ensures own { IsHandOf self.now hand.new }
-        ensures none { result ≡ None → (hand.new.number ≡ None) × Makes (hand_seen hand.old) (sees_no_stop ∷ []) (hand_seen hand.new) }
+        ensures none { result ≡ None →
+            (hand.new.number ≡ None) × Makes (hand_seen hand.old) (sees_no_stop ∷ []) (hand_seen hand.new) }
         ensures some { IfSome result (λ t. NextAfter [] (hand_seen hand.old) (work_of t) (hand_seen hand.new)) }
         ensures bytes { IfSome result (λ t. HasBytes self.now.packets (work_of t)) }
     {
@@ -276,10 +280,13 @@ impl<'p> StreamQueue<'p> {
     fn gather(&self, feeder: Feeder, mut rest: Vec<StreamHand>) -> (Place, Token)
         requires feeder { IsFeederOf self.now feeder }
         requires rest { All (IsHandOf self.now) rest.items }
-        ensures own { (result.0.table_id ≡ self.now.line) × (result.0.me.1 ≡ []) × (result.1.table_id ≡ self.now.desk) × (result.1.me.1 ≡ []) }
-        ensures view { (numbers : List ℕ) × (seen_of (view result.0) result.1.me.0 numbers ≡ join_of_all (feeder_seen feeder) (map hand_seen rest.items)) }
+        ensures own { (result.0.table_id ≡ self.now.line) × (result.0.me.1 ≡ [])
+            × (result.1.table_id ≡ self.now.desk) × (result.1.me.1 ≡ []) }
+        ensures view { (numbers : List ℕ) ×
+            (seen_of (view result.0) result.1.me.0 numbers ≡ join_of_all (feeder_seen feeder) (map hand_seen rest.items)) }
         ensures agrees { Agrees (join_of_all (feeder_seen feeder) (map hand_seen rest.items)) }
-        ensures sizes { ((view result.0).packets ≡ length self.now.packets) × ((view result.0).members ≡ self.now.members) × ((view result.0).pushed ≡ feeder.turn.pushed) }
+        ensures sizes { ((view result.0).packets ≡ length self.now.packets) × ((view result.0).members ≡ self.now.members)
+            × ((view result.0).pushed ≡ feeder.turn.pushed) }
         ensures parts { ((view result.0).parts ≡ length rest.items + 1) × (result.1.me.0.parts ≡ length rest.items + 1) }
     {
         let mut pass = feeder.pass;
@@ -324,10 +331,12 @@ fn deal_hands(
     requires desk { (token.old.table_id ≡ desk.now.shared.table_id) × (desk.now.shared.table_id.words ≡ 3) }
     requires seats { token.old.me ≡ (newcomer packets members, []) }
     requires sizes { (0 < members) × (members ≤ 64) × (packets ≤ 1024) }
-    requires first { (hands.old.items ≡ fresh_hand line.now.table.shared.table_id desk.now.shared.table_id packets members ∷ []) × (members ≤ vec_capacity hands.old) }
+    requires first { hands.old.items ≡ fresh_hand line.now.table.shared.table_id desk.now.shared.table_id packets members ∷ [] }
+    requires room { members ≤ vec_capacity hands.old }
     ensures pass { IsPassOf line.now pass.new × (view pass.new ≡ feeder packets members 1) }
     ensures token { (token.new.table_id ≡ token.old.table_id) × (token.new.me ≡ (newcomer packets 1, [])) }
-    ensures hands { hands.new.items ≡ replicate members (fresh_hand line.now.table.shared.table_id desk.now.shared.table_id packets members) }
+    ensures hands { hands.new.items ≡
+        replicate members (fresh_hand line.now.table.shared.table_id desk.now.shared.table_id packets members) }
 {
     for made in 1..members {
         let other = new_hand(line, pass);
@@ -360,7 +369,7 @@ impl<'p> WorkSource for StreamQueue<'p> {
 
     ghost is_own = { IsHandOf };
 
-    ghost progress = { λ h. progress_of (hand_seen h) };
+    ghost progress = { hand_progress };
 
     ghost packets = { λ s. s.packets };
 
@@ -368,9 +377,9 @@ impl<'p> WorkSource for StreamQueue<'p> {
     /// answer. An end mark is NoMore. It may wait.
     fn next(&self, rt: &impl Wait, hand: &mut StreamHand) -> Work
         requires own { IsHandOf self.now hand.old }
-        requires empty { (progress_of (hand_seen hand.old)).in_hand ≡ None }
+        requires empty { (hand_progress hand.old).in_hand ≡ None }
         ensures own { IsHandOf self.now hand.new }
-        ensures work { NextSays self.now.packets (progress_of (hand_seen hand.old)) result (progress_of (hand_seen hand.new)) }
+        ensures work { NextSays self.now.packets (hand_progress hand.old) result (hand_progress hand.new) }
         ensures steps { NextMakes (hand_seen hand.old) result (hand_seen hand.new) }
     {
         answered(self.next_item(rt, hand))
@@ -380,9 +389,9 @@ impl<'p> WorkSource for StreamQueue<'p> {
     fn finish(&self, hand: &mut StreamHand) -> Result<u32, BoardFault>
         requires { IsHandOf self.now hand.old }
         ensures own { IsHandOf self.now hand.new }
-        ensures ok { IfOk result (λ n. HandFinished (progress_of (hand_seen hand.old)) n (progress_of (hand_seen hand.new))) }
+        ensures ok { IfOk result (λ n. HandFinished (hand_progress hand.old) n (hand_progress hand.new)) }
         ensures err { IfErr result (λ e. e ≡ EmptyHand) }
-        ensures empty { OnErr result ((progress_of (hand_seen hand.old)).in_hand ≡ None) }
+        ensures empty { OnErr result ((hand_progress hand.old).in_hand ≡ None) }
         ensures unchanged { OnErr result (hand.new ≡ hand.old) }
         ensures steps { IfOk result (λ n. FinishSays (hand_seen hand.old) n (hand_seen hand.new)) }
     {
@@ -398,9 +407,9 @@ impl<'p> WorkSource for StreamQueue<'p> {
     fn abandon(&self, hand: &mut StreamHand) -> Result<u32, BoardFault>
         requires { IsHandOf self.now hand.old }
         ensures own { IsHandOf self.now hand.new }
-        ensures ok { IfOk result (λ n. HandAbandoned (progress_of (hand_seen hand.old)) n (progress_of (hand_seen hand.new))) }
+        ensures ok { IfOk result (λ n. HandAbandoned (hand_progress hand.old) n (hand_progress hand.new)) }
         ensures err { IfErr result (λ e. e ≡ EmptyHand) }
-        ensures empty { OnErr result ((progress_of (hand_seen hand.old)).in_hand ≡ None) }
+        ensures empty { OnErr result ((hand_progress hand.old).in_hand ≡ None) }
         ensures unchanged { OnErr result (hand.new ≡ hand.old) }
         ensures steps { IfOk result (λ n. AbandonSays (hand_seen hand.old) n (hand_seen hand.new)) }
     {
@@ -416,7 +425,7 @@ impl<'p> WorkSource for StreamQueue<'p> {
     fn stop(&self, hand: &mut StreamHand)
         requires { IsHandOf self.now hand.old }
         ensures own { IsHandOf self.now hand.new }
-        ensures called { progress_of (hand_seen hand.new) ≡ record (progress_of (hand_seen hand.old)) { stop_called = true } }
+        ensures called { hand_progress hand.new ≡ record (hand_progress hand.old) { stop_called = true } }
         ensures steps { StopSays (hand_seen hand.old) (hand_seen hand.new) }
     {
         set_stop(&self.desk, &mut hand.token);
@@ -427,9 +436,9 @@ impl<'p> LendingSource for StreamQueue<'p> {
     /// The same loads and tries.
     fn lend(&self, rt: &impl Wait, hand: &mut StreamHand) -> Lent<'_>
         requires own { IsHandOf self.now hand.old }
-        requires empty { (progress_of (hand_seen hand.old)).in_hand ≡ None }
+        requires empty { (hand_progress hand.old).in_hand ≡ None }
         ensures own { IsHandOf self.now hand.new }
-        ensures work { NextSays self.now.packets (progress_of (hand_seen hand.old)) (work_of result) (progress_of (hand_seen hand.new)) }
+        ensures work { NextSays self.now.packets (hand_progress hand.old) (work_of result) (hand_progress hand.new) }
         ensures steps { NextMakes (hand_seen hand.old) (work_of result) (hand_seen hand.new) }
     {
         self.next_item(rt, hand)

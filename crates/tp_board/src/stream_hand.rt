@@ -54,7 +54,8 @@ impl Model for StreamHand {
 
     ghost view = { λ h. hand_of_parts h.pass.table_id h.token.table_id (turn_of h.pass) h.token.me.0 h.number };
 
-    ghost invariant = { λ h. IsHand (turn_of h.pass) h.token.me.0 h.number h.ended h.stop_seen × (h.pass.me.1 ≡ []) × (h.token.me.1 ≡ []) };
+    ghost invariant = { λ h.
+        IsHand (turn_of h.pass) h.token.me.0 h.number h.ended h.stop_seen × (h.pass.me.1 ≡ []) × (h.token.me.1 ≡ []) };
 }
 
 /// The right to feed one stream.

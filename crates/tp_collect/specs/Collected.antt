@@ -11,6 +11,9 @@ pub record Batch : Type 0 where
   pub image : ImageValue
   pub packets : List (List ℕ)
 
+abbrev pub batch_of_parts : ℕ → ImageValue → List (List ℕ) → Batch
+batch_of_parts number image packets = record { number = number; image = image; packets = packets }
+
 -- the result names the batch's image, and its own packet of the batch
 pub record Names (batch : Batch) (done : DoneValue) : Type 0 where
   pub image : done.image ≡ batch.image

@@ -1,5 +1,6 @@
 -- What a collector does with what it is given.
-use Rattle.std.specs.Prelude.{ℕ, Bool, true, false, ◌==◌, if◌then◌else◌, List, Option, Some, None, Result, Ok, Err, slice_get, slice_set}
+use Rattle.std.specs.Prelude.{ℕ, Bool, true, false, ◌==◌, if◌then◌else◌, List, Option, Some, None, Result, Ok, Err}
+use Rattle.std.specs.Prelude.{slice_get, slice_set}
 use Rattle.tp_link.specs.declared.links.LinkFault.{LinkFault}
 use Rattle.tp_collect.specs.declared.collected.Entry.{Entry}
 use Rattle.tp_collect.specs.declared.collected.Entry.TheVariants as entry
@@ -17,6 +18,9 @@ most_packets = 1024
 pub record Collection : Type 0 where
   pub batch : Batch
   pub entries : List Entry
+
+abbrev pub collection : Batch → List Entry → Collection
+collection batch entries = record { batch = batch; entries = entries }
 
 -- what stands where nothing is filed
 abbrev pub vacant : Entry

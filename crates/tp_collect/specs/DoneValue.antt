@@ -14,8 +14,25 @@ pub record DoneValue : Type 0 where
   pub image : ImageValue
   pub bytes : List ℕ
 
+-- a run, by what it gives
+abbrev pub run_giving : (result : List ℕ) → (error : Bool) → (steps : ℕ) → (trace : List ℕ) → Run
+run_giving result error steps trace = record { result = result; error = error; steps = steps; trace = trace }
+
 abbrev pub run_of_done : DoneValue → Run
-run_of_done done = record { result = done.result; error = done.error; steps = done.steps; trace = done.trace }
+run_of_done done = run_giving done.result done.error done.steps done.trace
+
+-- the result that a run is, of the packet of a number of a batch
+abbrev pub done_by : Run → (batch packet : ℕ) → ImageValue → (bytes : List ℕ) → DoneValue
+done_by run batch packet image bytes = record {
+  batch = batch;
+  packet = packet;
+  result = run.result;
+  error = run.error;
+  steps = run.steps;
+  trace = run.trace;
+  image = image;
+  bytes = bytes;
+}
 
 -- the most bytes of a packet's trace
 abbrev pub most_trace : ℕ

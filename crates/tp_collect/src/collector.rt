@@ -2,8 +2,9 @@
 
 ghost use Rattle.std.specs.Prelude.{◌≡◌, ◌<◌, ◌≤◌, length, map, replicate, IfOk, slice_set, vec_len};
 ghost use Rattle.tp_collect.specs.declared.collected.Entry.TheVariants as entry;
-ghost use Rattle.tp_collect.specs.Collected.{IsCollected, Names};
-ghost use Rattle.tp_collect.specs.Collecting.{most_packets, vacant, is_vacant, lost_by, number_fault, put_fault, filed, put_answer, lose_answer};
+ghost use Rattle.tp_collect.specs.Collected.{IsCollected, Names, batch_of_parts};
+ghost use Rattle.tp_collect.specs.Collecting.{most_packets, collection, vacant, is_vacant, lost_by};
+ghost use Rattle.tp_collect.specs.Collecting.{number_fault, put_fault, filed, put_answer, lose_answer};
 
 use crate::collected::{Collected, Entry, LostCause};
 use crate::done::Done;
@@ -26,16 +27,17 @@ pub struct Collector<'j> {
 }
 
 impl<'j> Model for Collector<'j> {
-    ghost use Rattle.tp_collect.specs.Collecting.{Collection};
+    ghost use Rattle.tp_collect.specs.Collecting.{Collection, collection};
 
     ghost Value = { Collection };
 
     ghost use Rattle.std.specs.Prelude.{map};
-    ghost use Rattle.tp_collect.specs.Collected.{IsCollected};
+    ghost use Rattle.tp_collect.specs.Collected.{IsCollected, batch_of_parts};
 
-    ghost view = { λ c. record { batch = record { number = c.batch; image = c.image.now; packets = map (λ p. p.items) c.packets.now }; entries = c.entries.items } };
+    ghost view = { λ c. collection (batch_of_parts c.batch c.image.now (map (λ p. p.items) c.packets.now)) c.entries.items };
 
-    ghost invariant = { λ c. IsCollected (record { number = c.batch; image = c.image.now; packets = map (λ p. p.items) c.packets.now }) c.entries.items };
+    ghost invariant = { λ c.
+        IsCollected (batch_of_parts c.batch c.image.now (map (λ p. p.items) c.packets.now)) c.entries.items };
 }
 
 impl<'j> Collector<'j> {
@@ -47,7 +49,8 @@ impl<'j> Collector<'j> {
         packets: &'j [ArrayVec<u8, MESSAGE_BYTES>],
     ) -> Result<Collector<'j>, AllocError>
         requires { length packets.now ≤ most_packets }
-        ensures { IfOk result (λ c. c ≡ record { batch = record { number = batch; image = image.now; packets = map (λ p. p.items) packets.now }; entries = replicate (length packets.now) vacant }) }
+        ensures { IfOk result (λ c. c ≡ collection (batch_of_parts batch image.now (map (λ p. p.items) packets.now))
+            (replicate (length packets.now) vacant)) }
     {
         let entries = all_vacant(alloc, packets.len())?;
         Ok(Collector {
@@ -59,7 +62,6 @@ impl<'j> Collector<'j> {
     }
 
     /// Files a result under its packet's number. A refused one is handed back, and nothing changes. It takes no memory.
-    #[inline(always)]
     pub fn put(&mut self, done: Done) -> Result<(), (PutFault, Done)>
         requires { done.batch ≡ self.old.batch.number → done.packet < length self.old.batch.packets → Names self.old.batch done }
         ensures answer { result ≡ put_answer done (put_fault self.old done) }
@@ -106,7 +108,6 @@ impl<'j> Collector<'j> {
 }
 
 /// Why nothing may be filed under a number.
-#[inline(always)]
 fn refusal(entries: &[Entry], number: u32) -> Option<PutFault>
     ensures { result ≡ number_fault entries.now number }
 {
@@ -121,7 +122,6 @@ fn refusal(entries: &[Entry], number: u32) -> Option<PutFault>
 }
 
 /// Whether nothing is filed in an entry.
-#[inline(always)]
 fn is_vacant(entry: &Entry) -> bool
     ensures { result ≡ is_vacant entry.now }
 {
@@ -129,7 +129,6 @@ fn is_vacant(entry: &Entry) -> bool
 }
 
 /// An entry takes the place of that of a number.
-#[inline(always)]
 fn file(entries: &mut Vec<Entry>, number: u32, entry: Entry)
     requires { number < vec_len entries.old }
     ensures { entries.new.items ≡ slice_set entries.old.items number entry }

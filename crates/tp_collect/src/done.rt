@@ -2,6 +2,7 @@
 
 ghost use Rattle.std.specs.Prelude.{◌≡◌, ◌≤◌, length};
 ghost use Rattle.tp_step.specs.Runs.{RunsAlone};
+ghost use Rattle.tp_collect.specs.DoneValue.{run_giving, done_by};
 
 use crate::limits::MESSAGE_BYTES;
 use arrayvec::ArrayVec;
@@ -43,6 +44,7 @@ impl Model for Done {
 }
 
 /// These bytes. The room behind them is cleared.
+// Inlined, as what makes a `Done` is: else each packet's result is copied twice more on its way to where it is filed.
 #[inline(always)]
 fn message(bytes: &[u8]) -> ArrayVec<u8, MESSAGE_BYTES>
     requires { length bytes.now ≤ 256 }
@@ -67,8 +69,9 @@ impl Done {
         steps: u32,
         trace: ArrayVec<u8, MESSAGE_BYTES>,
     ) -> Done
-        requires { RunsAlone image.now bytes.now.items record { result = result_bytes.items; error = error; steps = steps; trace = trace.items } }
-        ensures { result ≡ record { batch = batch; packet = packet; result = result_bytes.items; error = error; steps = steps; trace = trace.items; image = image.now; bytes = bytes.now.items } }
+        requires { RunsAlone image.now bytes.now.items (run_giving result_bytes.items error steps trace.items) }
+        ensures { result ≡ done_by (run_giving result_bytes.items error steps trace.items)
+            batch packet image.now bytes.now.items }
     {
         Done {
             batch,
@@ -96,8 +99,8 @@ impl Done {
     ) -> Done
         requires result { length result_bytes.now ≤ 256 }
         requires trace { length trace.now ≤ 256 }
-        requires alone { RunsAlone image.now bytes.now.items record { result = result_bytes.now; error = error; steps = steps; trace = trace.now } }
-        ensures { result ≡ record { batch = batch; packet = packet; result = result_bytes.now; error = error; steps = steps; trace = trace.now; image = image.now; bytes = bytes.now.items } }
+        requires alone { RunsAlone image.now bytes.now.items (run_giving result_bytes.now error steps trace.now) }
+        ensures { result ≡ done_by (run_giving result_bytes.now error steps trace.now) batch packet image.now bytes.now.items }
     {
         Done::new(
             batch,

@@ -1,5 +1,7 @@
 -- Why a batch does not begin.
-use Rattle.std.proofs.Common.{◌≡◌, ℕ, ◌+◌, ◌*◌, ◌<◌, ◌≤◌, Bool, true, false, not, cond, ◌==◌, ◌||◌, nat_lt, if◌then◌else◌, List, [], ◌∷◌, map, position, length, get_or, Option, Some, None, Result, Ok, Err, IfOk, OnOk, refl, ap, arith}
+use Rattle.std.proofs.Common.{◌≡◌, ℕ, ◌+◌, ◌*◌, ◌<◌, ◌≤◌, Bool, true, false, not, cond, ◌==◌, ◌||◌, nat_lt, if◌then◌else◌, List}
+use Rattle.std.proofs.Common.{[], ◌∷◌, map, position, length, get_or, Option, Some, None, Result, Ok, Err, IfOk, OnOk, refl, ap}
+use Rattle.std.proofs.Common.{arith}
 use Rattle.std.specs.List.{position_or_len}
 use Rattle.std.specs.Option.{option_map}
 use Rattle.std.proofs.lemmas.List.{length-map}
@@ -9,7 +11,7 @@ use Rattle.tp_collect.specs.Collected.{Batch}
 use Rattle.tp_farm.specs.declared.fault.FarmFault.TheVariants.{Members, Packets, Length}
 use Rattle.tp_farm.specs.Jobs.{AreWhole}
 use Rattle.tp_collect.specs.Collecting.{most_packets}
-use Rattle.tp_farm.specs.Refused.{job_fault, first_other, most_members}
+use Rattle.tp_farm.specs.Refused.{job_fault, first_other, most_members, Begins}
 
 module _ {X Y : Type 0} (f : X → Y) (p : Y → Bool) where
   first-map : (xs : List X) → position_or_len p (map f xs) ≡ position_or_len (λ x. p (f x)) xs
@@ -20,24 +22,19 @@ module _ {X Y : Type 0} (f : X → Y) (p : Y → Bool) where
   position-map xs = rw (first-map xs, length-map xs f) refl
 
 -- neither G1 nor G2
-pub job_begins : (members : ℕ) (batch : Batch) → (members ≡ 0 → ⊥) → members ≤ 64 → length batch.packets ≤ 1024 → job_fault members batch ≡ option_map Length (first_other batch)
+pub job_begins : (members : ℕ) (batch : Batch) → (members ≡ 0 → ⊥) → members ≤ 64 → length batch.packets ≤ 1024
+    → job_fault members batch ≡ option_map Length (first_other batch)
 job_begins members batch some few less =
     let tests : ((members == 0) || nat_lt most_members members) ≡ false = grind (arith, nat_tests) in
     let more : nat_lt most_packets (length batch.packets) ≡ false = grind (arith, nat_tests) in
     rw (tests, more) refl
 
--- what holds where a batch begins
-pub record Begins (members : ℕ) (batch : Batch) : Type 0 where
-  pub some : 0 < members
-  pub few : members ≤ 64
-  pub less : length batch.packets ≤ 1024
-  pub whole : AreWhole batch
-
 module _ {X : Type 0} (p : X → Bool) (xs : List X) where
   no_first : position p xs ≡ None → length xs ≤ position_or_len p xs
   no_first e = by_test (nat_lt (position_or_len p xs) (length xs)) refl e
     where
-      by_test : (b : Bool) → nat_lt (position_or_len p xs) (length xs) ≡ b → cond b (Some (position_or_len p xs)) None ≡ None → length xs ≤ position_or_len p xs
+      by_test : (b : Bool) → nat_lt (position_or_len p xs) (length xs) ≡ b → cond b (Some (position_or_len p xs)) None ≡ None
+          → length xs ≤ position_or_len p xs
       by_test true is e = cc
       by_test false is e = grind (arith, nat_tests, is)
 
@@ -45,16 +42,21 @@ module _ {X : Type 0} (p : X → Bool) (xs : List X) where
   all_other e k d lt = fails_before_first p xs k d (omega (arith, no_first e, lt))
 
 first_whole : (batch : Batch) → first_other batch ≡ None → AreWhole batch
-first_whole batch e k d lt = same (get_or batch.packets k d) (all_other (λ packet. not (length packet == 4 * batch.image.packet)) batch.packets e k d lt)
+first_whole batch e k d lt =
+    same (get_or batch.packets k d) (all_other (λ packet. not (length packet == 4 * batch.image.packet)) batch.packets e k d lt)
   where
     same : (packet : List ℕ) → not (length packet == 4 * batch.image.packet) ≡ false → length packet ≡ 4 * batch.image.packet
     same packet is = grind (arith, nat_tests, is)
 
 -- no refusal
 pub begun : (members : ℕ) (batch : Batch) → job_fault members batch ≡ None → Begins members batch
-begun members batch e = by_tests ((members == 0) || nat_lt most_members members) refl (nat_lt most_packets (length batch.packets)) refl (first_other batch) refl e
+begun members batch e =
+    by_tests ((members == 0) || nat_lt most_members members) refl (nat_lt most_packets (length batch.packets)) refl
+    (first_other batch) refl e
   where
-    by_tests : (a : Bool) → ((members == 0) || nat_lt most_members members) ≡ a → (b : Bool) → nat_lt most_packets (length batch.packets) ≡ b → (o : Option ℕ) → first_other batch ≡ o → (if a then Some Members else if b then Some Packets else option_map Length o) ≡ None → Begins members batch
+    by_tests : (a : Bool) → ((members == 0) || nat_lt most_members members) ≡ a → (b : Bool)
+        → nat_lt most_packets (length batch.packets) ≡ b → (o : Option ℕ) → first_other batch ≡ o
+        → (if a then Some Members else if b then Some Packets else option_map Length o) ≡ None → Begins members batch
     by_tests true is b more o first e = cc
     by_tests false is true more o first e = cc
     by_tests false is false more (Some n) first e = cc

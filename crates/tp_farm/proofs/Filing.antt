@@ -13,7 +13,9 @@ pub record MayFile (batch : Batch) (result : List Entry) (c : Collection) (rest 
   pub vacant : FindVacant c.entries rest
   pub leads : filed_in c.entries rest ≡ result
 
-pub files_one : (batch : Batch) (result : List Entry) (c c' : Collection) (f : Filed) (rest rest' : List Filed) → MayFile batch result c rest → rest ≡ f ∷ rest' → c' ≡ record c { entries = slice_set c.entries (number_of f) (entry_of f) } → MayFile batch result c' rest'
+pub files_one : (batch : Batch) (result : List Entry) (c c' : Collection) (f : Filed) (rest rest' : List Filed)
+    → MayFile batch result c rest → rest ≡ f ∷ rest' → c' ≡ record c { entries = slice_set c.entries (number_of f) (entry_of f) }
+    → MayFile batch result c' rest'
 files_one batch result c c' f rest rest' h step is =
     let v : FindVacant c.entries (f ∷ rest') = subst (FindVacant c.entries) step h.vacant in
     record {
@@ -22,23 +24,27 @@ files_one batch result c c' f rest rest' h step is =
       leads = ap (λ x. filed_in x.entries rest') is ∙ sym (ap (filed_in c.entries) step) ∙ h.leads;
     }
 
-pub next_vacant : (batch : Batch) (result : List Entry) (c : Collection) (f : Filed) (rest rest' : List Filed) → MayFile batch result c rest → rest ≡ f ∷ rest' → slice_get c.entries (number_of f) ≡ Some vacant
+pub next_vacant : (batch : Batch) (result : List Entry) (c : Collection) (f : Filed) (rest rest' : List Filed)
+    → MayFile batch result c rest → rest ≡ f ∷ rest' → slice_get c.entries (number_of f) ≡ Some vacant
 next_vacant batch result c f rest rest' h step =
     let v : FindVacant c.entries (f ∷ rest') = subst (FindVacant c.entries) step h.vacant in v.0
 
 -- ---- several, and then more
 
-pub vacant_parts : (entries : List Entry) (xs ys : List Filed) → FindVacant entries (xs ++ ys) → FindVacant entries xs × FindVacant (filed_in entries xs) ys
+pub vacant_parts : (entries : List Entry) (xs ys : List Filed) → FindVacant entries (xs ++ ys)
+    → FindVacant entries xs × FindVacant (filed_in entries xs) ys
 vacant_parts entries [] ys v = (tt, v)
 vacant_parts entries (x ∷ xs) ys v =
     let more = vacant_parts (slice_set entries (number_of x) (entry_of x)) xs ys v.1 in
     ((v.0, more.0), more.1)
 
-pub filed_in-append : (entries : List Entry) (xs ys : List Filed) → filed_in entries (xs ++ ys) ≡ filed_in (filed_in entries xs) ys
+pub filed_in-append : (entries : List Entry) (xs ys : List Filed)
+    → filed_in entries (xs ++ ys) ≡ filed_in (filed_in entries xs) ys
 filed_in-append entries [] ys = refl
 filed_in-append entries (x ∷ xs) ys = filed_in-append (slice_set entries (number_of x) (entry_of x)) xs ys
 
-pub files_more : (batch : Batch) (result : List Entry) (c c' : Collection) (xs ys : List Filed) → MayFile batch result c (xs ++ ys) → c' ≡ record c { entries = filed_in c.entries xs } → MayFile batch result c' ys
+pub files_more : (batch : Batch) (result : List Entry) (c c' : Collection) (xs ys : List Filed)
+    → MayFile batch result c (xs ++ ys) → c' ≡ record c { entries = filed_in c.entries xs } → MayFile batch result c' ys
 files_more batch result c c' xs ys h is = record {
   batch_is = ap (λ x. x.batch) is ∙ h.batch_is;
   vacant = subst (λ x. FindVacant x.entries ys) (sym is) (vacant_parts c.entries xs ys h.vacant).1;
@@ -50,11 +56,15 @@ module _ {X : Type 0} (of : X → List Filed) where
   pub first_of : (x : X) (rest rest' : List X) → rest ≡ x ∷ rest' → all_filed (map of rest) ≡ of x ++ all_filed (map of rest')
   first_of x rest rest' step = ap (λ xs. all_filed (map of xs)) step
 
-  pub files_all : (batch : Batch) (result : List Entry) (c c' : Collection) (x : X) (rest rest' : List X) → MayFile batch result c (all_filed (map of rest)) → rest ≡ x ∷ rest' → c' ≡ record c { entries = filed_in c.entries (of x) } → MayFile batch result c' (all_filed (map of rest'))
+  pub files_all : (batch : Batch) (result : List Entry) (c c' : Collection) (x : X) (rest rest' : List X)
+      → MayFile batch result c (all_filed (map of rest)) → rest ≡ x ∷ rest'
+      → c' ≡ record c { entries = filed_in c.entries (of x) } → MayFile batch result c' (all_filed (map of rest'))
   files_all batch result c c' x rest rest' h step is =
-      files_more batch result c c' (of x) (all_filed (map of rest')) (subst (MayFile batch result c) (first_of x rest rest' step) h) is
+      files_more batch result c c' (of x) (all_filed (map of rest'))
+      (subst (MayFile batch result c) (first_of x rest rest' step) h) is
 
-  pub first_vacant : (batch : Batch) (result : List Entry) (c : Collection) (x : X) (rest rest' : List X) → MayFile batch result c (all_filed (map of rest)) → rest ≡ x ∷ rest' → FindVacant c.entries (of x)
+  pub first_vacant : (batch : Batch) (result : List Entry) (c : Collection) (x : X) (rest rest' : List X)
+      → MayFile batch result c (all_filed (map of rest)) → rest ≡ x ∷ rest' → FindVacant c.entries (of x)
   first_vacant batch result c x rest rest' h step =
       let g = subst (MayFile batch result c) (first_of x rest rest' step) h in
       (vacant_parts c.entries (of x) (all_filed (map of rest')) g.vacant).0
@@ -62,6 +72,7 @@ module _ {X : Type 0} (of : X → List Filed) where
 -- ---- a list that is moved, as f sees it
 
 module _ {X Y : Type 0} (f : X → Y) where
-  pub moved : (ls ls' all : List Y) (x : X) (rest rest' : List X) → ls' ≡ ls ++ f x ∷ [] → rest ≡ x ∷ rest' → ls ++ map f rest ≡ all → ls' ++ map f rest' ≡ all
+  pub moved : (ls ls' all : List Y) (x : X) (rest rest' : List X) → ls' ≡ ls ++ f x ∷ [] → rest ≡ x ∷ rest'
+      → ls ++ map f rest ≡ all → ls' ++ map f rest' ≡ all
   moved ls ls' all x rest rest' e step was =
       ap (λ v. v ++ map f rest') e ∙ append_assoc ls (f x ∷ []) (map f rest') ∙ ap (λ v. ls ++ map f v) (sym step) ∙ was

@@ -15,3 +15,4 @@ pub mod Feeding
 pub mod Views
 pub mod Seats
 pub mod Promising
+pub mod Answering

@@ -28,7 +28,8 @@ none_tells which [] is = refl
 none_tells which (x ∷ entries) is = cc
 
 -- no member has done anything
-pub nothing_run : (batch : Batch) (open_for_good : Bool) (all : List Devices) (entries : List Entry) → length batch.packets ≡ 0 → IsCollected batch entries → IsBatch batch open_for_good all all entries
+pub nothing_run : (batch : Batch) (open_for_good : Bool) (all : List Devices) (entries : List Entry) → length batch.packets ≡ 0
+    → IsCollected batch entries → IsBatch batch open_for_good all all entries
 nothing_run batch o all entries zero collected =
     let none : entries ≡ [] = is_nothing entries (collected.count ∙ zero) in
     record {

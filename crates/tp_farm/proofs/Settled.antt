@@ -18,26 +18,33 @@ use Rattle.tp_farm.specs.Closing.{AddsUp}
 use Rattle.tp_farm.specs.MemberResults.{member_results}
 use Rattle.tp_farm.specs.Batches.{IsBatch}
 use Rattle.tp_farm.proofs.Settling.{Member, AllDidWell, hands, everything, all_vacant, settled}
-use Rattle.tp_farm.proofs.Together.{members_of, did_well, before_is, after_is, hands_is, filed_is, length_is, hands_own, all_of_batch}
+use Rattle.tp_farm.proofs.Together.{members_of, did_well, before_is, after_is, hands_is, filed_is, length_is, hands_own}
+use Rattle.tp_farm.proofs.Together.{all_of_batch}
 
-module _ {H D : Type 0} (state : D → DeviceState) (own : H → Type 0) (progress : H → Progress) (work : Work) (bs : List (Links D)) (rs : List (Returned H Filed D)) (worked : AllZip (HasWorked state own progress work) bs rs) where
+module _ {H D : Type 0} (state : D → DeviceState) (own : H → Type 0) (progress : H → Progress) (work : Work)
+    (bs : List (Links D)) (rs : List (Returned H Filed D)) (worked : AllZip (HasWorked state own progress work) bs rs) where
   -- what was empty holds what came
   came : {X : Type 0} (old new come : List X) → old ≡ [] → new ≡ old ++ come → new ≡ come
   came old new come none is = is ∙ ap (λ xs. xs ++ come) none
 
   pub own_hands : (old new : List H) → old ≡ [] → new ≡ old ++ map (λ r. r.hand) rs → All own new
-  own_hands old new none is = subst (All own) (sym (came old new (map (λ r. r.hand) rs) none is)) (hands_own state own progress work bs rs worked)
+  own_hands old new none is =
+      subst (All own) (sym (came old new (map (λ r. r.hand) rs) none is)) (hands_own state own progress work bs rs worked)
 
-  module _ (c : Collection) (n : ℕ) (begins : c ≡ record { batch = work.batch; entries = replicate n vacant }) (old new : List (MemberResults D)) (none : old ≡ []) (kept : new ≡ old ++ map member_results rs) where
+  module _ (c : Collection) (n : ℕ) (begins : c ≡ record { batch = work.batch; entries = replicate n vacant })
+      (old new : List (MemberResults D)) (none : old ≡ []) (kept : new ≡ old ++ map member_results rs) where
     kept_is : new ≡ map member_results rs
     kept_is = came old new (map member_results rs) none kept
 
     pub kept_of_batch : All (λ k. All (IsOfBatch c.batch) k.filed.items) new
     kept_of_batch =
         subst (λ ks. All (λ k. All (IsOfBatch c.batch) k.filed.items) ks) (sym kept_is)
-        (subst (λ b. All (λ k. All (IsOfBatch b) k.filed.items) (map member_results rs)) (sym (ap (λ x. x.batch) begins)) (all_of_batch state own progress work bs rs worked))
+        (subst (λ b. All (λ k. All (IsOfBatch b) k.filed.items) (map member_results rs)) (sym (ap (λ x. x.batch) begins))
+        (all_of_batch state own progress work bs rs worked))
 
-    module _ (well : All (λ r. fault_of_end r.end ≡ None) rs) (hands0 hands1 : List H) (no_hands : hands0 ≡ []) (came_in : hands1 ≡ hands0 ++ map (λ r. r.hand) rs) (l : Ledger) (adds_up : AddsUp n (map progress hands1) l) (sized : n ≡ length work.batch.packets) where
+    module _ (well : All (λ r. fault_of_end r.end ≡ None) rs) (hands0 hands1 : List H) (no_hands : hands0 ≡ [])
+        (came_in : hands1 ≡ hands0 ++ map (λ r. r.hand) rs) (l : Ledger) (adds_up : AddsUp n (map progress hands1) l)
+        (sized : n ≡ length work.batch.packets) where
       ms : List Member
       ms = members_of state own progress bs rs
 
@@ -47,11 +54,15 @@ module _ {H D : Type 0} (state : D → DeviceState) (own : H → Type 0) (progre
 
       added_up : AddsUp n (hands ms) l
       unfolding ms
-      added_up = subst (λ ps. AddsUp n ps l) (ap (map progress) (came hands0 hands1 (map (λ r. r.hand) rs) no_hands came_in) ∙ sym (hands_is state own progress work bs rs worked)) adds_up
+      added_up =
+          subst (λ ps. AddsUp n ps l) (ap (map progress) (came hands0 hands1 (map (λ r. r.hand) rs) no_hands came_in)
+          ∙ sym (hands_is state own progress work bs rs worked)) adds_up
 
       filed_same : all_filed (map (λ k. k.filed.items) new) ≡ everything ms
       unfolding ms
-      filed_same = ap (λ ks. all_filed (map (λ k. k.filed.items) ks)) kept_is ∙ sym (ap all_filed (filed_is state own progress work bs rs worked))
+      filed_same =
+          ap (λ ks. all_filed (map (λ k. k.filed.items) ks)) kept_is
+          ∙ sym (ap all_filed (filed_is state own progress work bs rs worked))
 
       entries_is : c.entries ≡ replicate n vacant
       entries_is = ap (λ x. x.entries) begins
@@ -59,11 +70,17 @@ module _ {H D : Type 0} (state : D → DeviceState) (own : H → Type 0) (progre
       pub vacant_at_first : FindVacant c.entries (all_filed (map (λ k. k.filed.items) new))
       vacant_at_first =
           subst (λ fs. FindVacant c.entries fs) (sym filed_same)
-          (subst (λ es. FindVacant es (everything ms)) (sym entries_is) (all_vacant work.batch work.open_for_good n l ms all_well added_up sized))
+          (subst (λ es. FindVacant es (everything ms)) (sym entries_is)
+          (all_vacant work.batch work.open_for_good n l ms all_well added_up sized))
 
-      module _ (c' : Collection) (filed : c' ≡ record c { entries = filed_in c.entries (all_filed (map (λ k. k.filed.items) new)) }) (entries : List Entry) (finished : entries ≡ c'.entries) (collected : IsCollected c'.batch entries) (any : 0 < length rs) (links0 links1 : List (Links D)) (no_links : links0 ≡ []) (links : links1 ≡ links0 ++ map (λ k. k.links) new) where
+      module _ (c' : Collection) (filed : c' ≡ record c
+          { entries = filed_in c.entries (all_filed (map (λ k. k.filed.items) new)) }) (entries : List Entry)
+          (finished : entries ≡ c'.entries) (collected : IsCollected c'.batch entries) (any : 0 < length rs)
+          (links0 links1 : List (Links D)) (no_links : links0 ≡ []) (links : links1 ≡ links0 ++ map (λ k. k.links) new) where
         entries_filed : entries ≡ filed_in (replicate n vacant) (everything ms)
-        entries_filed = finished ∙ ap (λ x. x.entries) filed ∙ ap (λ es. filed_in es (all_filed (map (λ k. k.filed.items) new))) entries_is ∙ ap (filed_in (replicate n vacant)) filed_same
+        entries_filed =
+            finished ∙ ap (λ x. x.entries) filed ∙ ap (λ es. filed_in es (all_filed (map (λ k. k.filed.items) new))) entries_is
+            ∙ ap (filed_in (replicate n vacant)) filed_same
 
         batch_same : c'.batch ≡ work.batch
         batch_same = ap (λ x. x.batch) filed ∙ ap (λ x. x.batch) begins
@@ -78,7 +95,12 @@ module _ {H D : Type 0} (state : D → DeviceState) (own : H → Type 0) (progre
         pub is_batch : IsBatch work.batch work.open_for_good (map (devices_of state) bs) (map (devices_of state) links1) entries
         unfolding ms
         is_batch =
-            let it = settled work.batch work.open_for_good n l ms all_well added_up sized entries entries_filed (subst (λ b. IsCollected b entries) batch_same collected) some_members in
-            subst (λ xs. IsBatch work.batch work.open_for_good (map (devices_of state) bs) (map (devices_of state) xs) entries) (sym links_is)
-            (subst (λ xs. IsBatch work.batch work.open_for_good (map (devices_of state) bs) xs entries) (after_is state own progress work bs rs worked)
-            (subst (λ xs. IsBatch work.batch work.open_for_good xs (map (λ m. m.after) ms) entries) (before_is state own progress work bs rs worked) it))
+            let it =
+            settled work.batch work.open_for_good n l ms all_well added_up sized entries entries_filed
+            (subst (λ b. IsCollected b entries) batch_same collected) some_members in
+            subst (λ xs. IsBatch work.batch work.open_for_good (map (devices_of state) bs) (map (devices_of state) xs) entries)
+            (sym links_is)
+            (subst (λ xs. IsBatch work.batch work.open_for_good (map (devices_of state) bs) xs entries)
+            (after_is state own progress work bs rs worked)
+            (subst (λ xs. IsBatch work.batch work.open_for_good xs (map (λ m. m.after) ms) entries)
+            (before_is state own progress work bs rs worked) it))

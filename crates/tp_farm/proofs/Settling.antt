@@ -1,5 +1,6 @@
 -- What the members of a batch come to, all together.
-use Rattle.std.proofs.Common.{◌≡◌, ℕ, ◌+◌, ◌<◌, ◌≤◌, ◌⊎◌, inl, inr, Bool, true, false, ltb, if◌then◌else◌, List, [], ◌∷◌, ◌++◌, map, length, replicate, Some, None, slice_get, sum_by, zero, suc, refl, sym, ap, ◌∙◌, subst, arith}
+use Rattle.std.proofs.Common.{◌≡◌, ℕ, ◌+◌, ◌<◌, ◌≤◌, ◌⊎◌, inl, inr, Bool, true, false, ltb, if◌then◌else◌, List, [], ◌∷◌, ◌++◌}
+use Rattle.std.proofs.Common.{map, length, replicate, Some, None, slice_get, sum_by, zero, suc, refl, sym, ap, ◌∙◌, subst, arith}
 use Rattle.std.proofs.lemmas.Bool.Decides.{nat_tests}
 use Rattle.std.specs.Option.{option_map}
 use Rattle.std.proofs.lemmas.List.{map-append, length-replicate, get_or-replicate}
@@ -83,12 +84,15 @@ module _ (batch : Batch) (o : Bool) where
   same_all [] h = tt
   same_all (m ∷ ms) h = (h.0.accounts.settings, same_all ms h.1)
 
-  rises_at : (which : Link) (m : Member) → KeepsAccounts batch m.before m.after m.progress m.filed → (device_at which m.after).faults ≡ (device_at which m.before).faults + sum_by (filed_failed which) m.filed
+  rises_at : (which : Link) (m : Member) → KeepsAccounts batch m.before m.after m.progress m.filed
+      → (device_at which m.after).faults ≡ (device_at which m.before).faults + sum_by (filed_failed which) m.filed
   rises_at Source m h = h.rises.source
   rises_at Sink m h = h.rises.sink
   rises_at Trace m h = h.rises.trace
 
-  failed_all : (which : Link) (ms : List Member) → AllDidWell batch o ms → failures_at which (map (λ m. m.after) ms) ≡ failures_at which (map (λ m. m.before) ms) + sum_by (filed_failed which) (everything ms)
+  failed_all : (which : Link) (ms : List Member) → AllDidWell batch o ms
+      → failures_at which (map (λ m. m.after) ms) ≡ failures_at which (map (λ m. m.before) ms) + sum_by (filed_failed which)
+      (everything ms)
   failed_all which [] h = refl
   failed_all which (m ∷ ms) h =
       omega (
@@ -107,25 +111,35 @@ module _ (batch : Batch) (o : Bool) where
   HasLost members (filed.Done done) = Unit {0}
   HasLost members (filed.Lost number fault) = LostBySome batch members number fault
 
-  lost_at : (members : List Devices) (i : ℕ) (devices : Devices) (f : Filed) → slice_get members i ≡ Some devices → IsFiled batch devices f → HasLost members f
+  lost_at : (members : List Devices) (i : ℕ) (devices : Devices) (f : Filed) → slice_get members i ≡ Some devices
+      → IsFiled batch devices f → HasLost members f
   lost_at members i devices (filed.Done done) at h = tt
-  lost_at members i devices (filed.Lost number fault) at h = record { packet = h.packet; is = h.is; member = i; devices = devices; there = at; cause = h.cause }
+  lost_at members i devices (filed.Lost number fault) at h =
+      record { packet = h.packet; is = h.is; member = i; devices = devices; there = at; cause = h.cause }
 
   -- of members of whom some others stand before
-  lost_from : (members : List Devices) (n : ℕ) (ms : List Member) → ((i : ℕ) (m : Member) → slice_get ms i ≡ Some m → slice_get members (n + i) ≡ Some m.before) → AllDidWell batch o ms → All (HasLost members) (everything ms)
+  lost_from : (members : List Devices) (n : ℕ) (ms : List Member)
+      → ((i : ℕ) (m : Member) → slice_get ms i ≡ Some m → slice_get members (n + i) ≡ Some m.before) → AllDidWell batch o ms
+      → All (HasLost members) (everything ms)
   lost_from members n [] at h = All-nil (HasLost members)
   lost_from members n (m ∷ ms) at h =
       All-append (HasLost members) m.filed (everything ms)
-      (All-weaker (IsFiled batch m.before) (HasLost members) (λ f is. lost_at members n m.before f (subst (λ k. slice_get members k ≡ Some m.before) (omega arith) (at 0 m refl)) is) m.filed h.0.accounts.filed)
-      (lost_from members (n + 1) ms (λ i u is. subst (λ k. slice_get members k ≡ Some u.before) (omega arith) (at (suc i) u is)) h.1)
+      (All-weaker (IsFiled batch m.before) (HasLost members)
+      (λ f is. lost_at members n m.before f (subst (λ k. slice_get members k ≡ Some m.before) (omega arith) (at 0 m refl)) is)
+      m.filed h.0.accounts.filed)
+      (lost_from members (n + 1) ms (λ i u is. subst (λ k. slice_get members k ≡ Some u.before) (omega arith) (at (suc i) u is))
+      h.1)
 
-  before_at : (ms : List Member) (i : ℕ) (m : Member) → slice_get ms i ≡ Some m → slice_get (map (λ m. m.before) ms) i ≡ Some m.before
+  before_at : (ms : List Member) (i : ℕ) (m : Member) → slice_get ms i ≡ Some m
+      → slice_get (map (λ m. m.before) ms) i ≡ Some m.before
   before_at [] i m is = cc
   before_at (u ∷ ms) zero m is = ap (λ o. option_map (λ m. m.before) o) is
   before_at (u ∷ ms) (suc i) m is = before_at ms i m is
 
   lost_all : (ms : List Member) → AllDidWell batch o ms → All (HasLost (map (λ m. m.before) ms)) (everything ms)
-  lost_all ms h = lost_from (map (λ m. m.before) ms) 0 ms (λ i m is. subst (λ k. slice_get (map (λ m. m.before) ms) k ≡ Some m.before) (omega arith) (before_at ms i m is)) h
+  lost_all ms h =
+      lost_from (map (λ m. m.before) ms) 0 ms (λ i m is. subst (λ k. slice_get (map (λ m. m.before) ms) k ≡ Some m.before)
+      (omega arith) (before_at ms i m is)) h
 
   none_of : (which : Link) (k : ℕ) → sum_by (tells_failure which) (replicate k vacant) ≡ 0
   none_of which zero = refl
@@ -133,7 +147,8 @@ module _ (batch : Batch) (o : Bool) where
 
   -- ---- the entries
 
-  module _ (n : ℕ) (l : Ledger) (ms : List Member) (h : AllDidWell batch o ms) (b : AddsUp n (hands ms) l) (sized : n ≡ length batch.packets) where
+  module _ (n : ℕ) (l : Ledger) (ms : List Member) (h : AllDidWell batch o ms) (b : AddsUp n (hands ms) l)
+      (sized : n ≡ length batch.packets) where
     -- each number is filed once at most, and it was drawn
     few : (x : ℕ) → times x (numbers (everything ms)) ≤ once_below x l.drawn
     few x = omega (arith, filed_numbers x ms h, b.few x)
@@ -166,33 +181,49 @@ module _ (batch : Batch) (o : Bool) where
     none_told : (which : Link) → sum_by (tells_failure which) (replicate n vacant) ≡ 0
     none_told which = none_of which n
 
-    failures : (which : Link) (entries : List Entry) → entries ≡ filed_in (replicate n vacant) (everything ms) → failures_at which (map (λ m. m.after) ms) ≡ failures_at which (map (λ m. m.before) ms) + sum_by (tells_failure which) entries
+    failures : (which : Link) (entries : List Entry) → entries ≡ filed_in (replicate n vacant) (everything ms)
+        → failures_at which (map (λ m. m.after) ms) ≡ failures_at which (map (λ m. m.before) ms) + sum_by
+        (tells_failure which) entries
     failures which entries is =
-        omega (arith, failed_all which ms h, ap (sum_by (tells_failure which)) is, tells_all which (replicate n vacant) (everything ms) all_vacant, none_told which)
+        omega (
+          arith,
+          failed_all which ms h,
+          ap (sum_by (tells_failure which)) is,
+          tells_all which (replicate n vacant) (everything ms) all_vacant,
+          none_told which,
+        )
 
-    losses : (entries : List Entry) → entries ≡ filed_in (replicate n vacant) (everything ms) → (i : ℕ) (fault : LinkFault) → slice_get entries i ≡ Some (entry.Lost (cause.Link fault)) → LostBySome batch (map (λ m. m.before) ms) i fault
+    losses : (entries : List Entry) → entries ≡ filed_in (replicate n vacant) (everything ms) → (i : ℕ) (fault : LinkFault)
+        → slice_get entries i ≡ Some (entry.Lost (cause.Link fault)) → LostBySome batch (map (λ m. m.before) ms) i fault
     losses entries is i fault at =
-        by_origin (comes_from (HasLost (map (λ m. m.before) ms)) (replicate n vacant) (everything ms) i (entry.Lost (cause.Link fault)) all_vacant (lost_all ms h) (sym (ap (λ es. slice_get es i) is) ∙ at))
+        by_origin (comes_from (HasLost (map (λ m. m.before) ms)) (replicate n vacant) (everything ms) i
+        (entry.Lost (cause.Link fault)) all_vacant (lost_all ms h) (sym (ap (λ es. slice_get es i) is) ∙ at))
       where
         not_vacant : slice_get (replicate n vacant) i ≡ Some (entry.Lost (cause.Link fault)) → ⊥
         not_vacant e =
             let within = slice_get_within (replicate n vacant) i (entry.Lost (cause.Link fault)) e in
-            let is_vacant : slice_get (replicate n vacant) i ≡ Some vacant = slice_get-get_or (replicate n vacant) i vacant within ∙ ap Some (get_or-replicate n i vacant vacant (omega (arith, length-replicate n vacant, within))) in
+            let is_vacant : slice_get (replicate n vacant) i ≡ Some vacant =
+            slice_get-get_or (replicate n vacant) i vacant within
+            ∙ ap Some (get_or-replicate n i vacant vacant (omega (arith, length-replicate n vacant, within))) in
             differ (same_Some _ _ (sym is_vacant ∙ e))
           where
             differ : vacant ≡ entry.Lost (cause.Link fault) → ⊥
             differ e = cc
 
-        of_filed : (f : Filed) → HasLost (map (λ m. m.before) ms) f → number_of f ≡ i → entry_of f ≡ entry.Lost (cause.Link fault) → LostBySome batch (map (λ m. m.before) ms) i fault
+        of_filed : (f : Filed) → HasLost (map (λ m. m.before) ms) f → number_of f ≡ i
+            → entry_of f ≡ entry.Lost (cause.Link fault) → LostBySome batch (map (λ m. m.before) ms) i fault
         of_filed (filed.Done d) so number e = cc
         of_filed (filed.Lost k f) so number e =
             let same : f ≡ fault = same_fault f fault e in
-            subst (λ j. LostBySome batch (map (λ m. m.before) ms) j fault) number (subst (λ g. LostBySome batch (map (λ m. m.before) ms) k g) same so)
+            subst (λ j. LostBySome batch (map (λ m. m.before) ms) j fault) number
+            (subst (λ g. LostBySome batch (map (λ m. m.before) ms) k g) same so)
           where
             same_fault : (f g : LinkFault) → entry.Lost (cause.Link f) ≡ entry.Lost (cause.Link g) → f ≡ g
             same_fault f g e = cc
 
-        by_origin : (slice_get (replicate n vacant) i ≡ Some (entry.Lost (cause.Link fault))) ⊎ Comes (HasLost (map (λ m. m.before) ms)) i (entry.Lost (cause.Link fault)) → LostBySome batch (map (λ m. m.before) ms) i fault
+        by_origin : (slice_get (replicate n vacant) i ≡ Some (entry.Lost (cause.Link fault)))
+            ⊎ Comes (HasLost (map (λ m. m.before) ms)) i (entry.Lost (cause.Link fault))
+            → LostBySome batch (map (λ m. m.before) ms) i fault
         by_origin (inl e) = absurd (not_vacant e)
         by_origin (inr c) = of_filed c.filed c.so c.number c.is
 
@@ -263,7 +294,8 @@ module _ (batch : Batch) (o : Bool) where
               by_test true is = refl
               by_test false is = absurd (grind (arith, nat_tests, is, lt))
 
-    stopped : (entries : List Entry) → entries ≡ filed_in (replicate n vacant) (everything ms) → length entries ≡ n → 0 < length ms → (i : ℕ) → slice_get entries i ≡ Some vacant → o ≡ false
+    stopped : (entries : List Entry) → entries ≡ filed_in (replicate n vacant) (everything ms) → length entries ≡ n
+        → 0 < length ms → (i : ℕ) → slice_get entries i ≡ Some vacant → o ≡ false
     stopped entries is long any i at = by_gate o refl
       where
         by_gate : (g : Bool) → o ≡ g → o ≡ false
@@ -273,7 +305,8 @@ module _ (batch : Batch) (o : Bool) where
             let none = none_filed (replicate n vacant) (everything ms) i all_vacant (sym (ap (λ es. slice_get es i) is) ∙ at) in
             absurd (omega (arith, none, each_filed e i any lt))
 
-    pub settled : (entries : List Entry) → entries ≡ filed_in (replicate n vacant) (everything ms) → IsCollected batch entries → 0 < length ms → IsBatch batch o (map (λ m. m.before) ms) (map (λ m. m.after) ms) entries
+    pub settled : (entries : List Entry) → entries ≡ filed_in (replicate n vacant) (everything ms) → IsCollected batch entries
+        → 0 < length ms → IsBatch batch o (map (λ m. m.before) ms) (map (λ m. m.after) ms) entries
     settled entries is collected any = record {
       collected = collected;
       settings = same_all ms h;

@@ -16,7 +16,8 @@ module _ {H X : Type 0} (of : H → X) (good : H → Type 0) (all : List X) wher
     each = subst (λ v. All good v) (sym e) (All-nil good);
   }
 
-  pub one_started : (rest rest' : List X) (x : X) (hs hs' : List H) (h : H) → IsUpTo of good all rest hs → rest ≡ x ∷ rest' → of h ≡ x → good h → hs' ≡ hs ++ h ∷ [] → IsUpTo of good all rest' hs'
+  pub one_started : (rest rest' : List X) (x : X) (hs hs' : List H) (h : H) → IsUpTo of good all rest hs → rest ≡ x ∷ rest'
+      → of h ≡ x → good h → hs' ≡ hs ++ h ∷ [] → IsUpTo of good all rest' hs'
   one_started rest rest' x hs hs' h was step is ok grown = record {
     seen =
         ap (λ v. map of v ++ rest') grown

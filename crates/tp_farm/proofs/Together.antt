@@ -19,39 +19,54 @@ module _ {H D : Type 0} (state : D → DeviceState) (own : H → Type 0) (progre
   pub members_of : List (Links D) → List (Returned H Filed D) → List Member
   members_of [] rs = []
   members_of (b ∷ bs) [] = []
-  members_of (b ∷ bs) (r ∷ rs) = record { before = devices_of state b; after = devices_of state r.links; progress = progress r.hand; filed = r.filed.items; end = r.end } ∷ members_of bs rs
+  members_of (b ∷ bs) (r ∷ rs) =
+      record {
+        before = devices_of state b;
+        after = devices_of state r.links;
+        progress = progress r.hand;
+        filed = r.filed.items;
+        end = r.end;
+      } ∷ members_of bs rs
 
   module _ (work : Work) where
     abbrev Worked : List (Links D) → List (Returned H Filed D) → Type 0
     Worked bs rs = AllZip (HasWorked state own progress work) bs rs
 
-    pub did_well : (bs : List (Links D)) (rs : List (Returned H Filed D)) → Worked bs rs → All (λ r. fault_of_end r.end ≡ None) rs → AllDidWell work.batch work.open_for_good (members_of bs rs)
+    pub did_well : (bs : List (Links D)) (rs : List (Returned H Filed D)) → Worked bs rs
+        → All (λ r. fault_of_end r.end ≡ None) rs → AllDidWell work.batch work.open_for_good (members_of bs rs)
     unfolding members_of
     did_well [] rs h well = tt
     did_well (b ∷ bs) [] h well = absurd h
-    did_well (b ∷ bs) (r ∷ rs) h well = (record { accounts = h.0.accounts; ends = h.0.ends; well = All-head (λ r. fault_of_end r.end ≡ None) r rs well }, did_well bs rs h.1 (All-tail (λ r. fault_of_end r.end ≡ None) r rs well))
+    did_well (b ∷ bs) (r ∷ rs) h well = (
+      record { accounts = h.0.accounts; ends = h.0.ends; well = All-head (λ r. fault_of_end r.end ≡ None) r rs well },
+      did_well bs rs h.1 (All-tail (λ r. fault_of_end r.end ≡ None) r rs well),
+    )
 
-    pub before_is : (bs : List (Links D)) (rs : List (Returned H Filed D)) → Worked bs rs → map (λ m. m.before) (members_of bs rs) ≡ map (devices_of state) bs
+    pub before_is : (bs : List (Links D)) (rs : List (Returned H Filed D)) → Worked bs rs
+        → map (λ m. m.before) (members_of bs rs) ≡ map (devices_of state) bs
     unfolding members_of
     before_is [] rs h = refl
     before_is (b ∷ bs) [] h = absurd h
     before_is (b ∷ bs) (r ∷ rs) h = ap (λ xs. devices_of state b ∷ xs) (before_is bs rs h.1)
 
-    pub after_is : (bs : List (Links D)) (rs : List (Returned H Filed D)) → Worked bs rs → map (λ m. m.after) (members_of bs rs) ≡ map (devices_of state) (map (λ k. k.links) (map member_results rs))
+    pub after_is : (bs : List (Links D)) (rs : List (Returned H Filed D)) → Worked bs rs
+        → map (λ m. m.after) (members_of bs rs) ≡ map (devices_of state) (map (λ k. k.links) (map member_results rs))
     unfolding members_of
     after_is [] [] h = refl
     after_is [] (r ∷ rs) h = absurd h
     after_is (b ∷ bs) [] h = absurd h
     after_is (b ∷ bs) (r ∷ rs) h = ap (λ xs. devices_of state r.links ∷ xs) (after_is bs rs h.1)
 
-    pub hands_is : (bs : List (Links D)) (rs : List (Returned H Filed D)) → Worked bs rs → hands (members_of bs rs) ≡ map progress (map (λ r. r.hand) rs)
+    pub hands_is : (bs : List (Links D)) (rs : List (Returned H Filed D)) → Worked bs rs
+        → hands (members_of bs rs) ≡ map progress (map (λ r. r.hand) rs)
     unfolding members_of
     hands_is [] [] h = refl
     hands_is [] (r ∷ rs) h = absurd h
     hands_is (b ∷ bs) [] h = absurd h
     hands_is (b ∷ bs) (r ∷ rs) h = ap (λ xs. progress r.hand ∷ xs) (hands_is bs rs h.1)
 
-    pub filed_is : (bs : List (Links D)) (rs : List (Returned H Filed D)) → Worked bs rs → map (λ m. m.filed) (members_of bs rs) ≡ map (λ k. k.filed.items) (map member_results rs)
+    pub filed_is : (bs : List (Links D)) (rs : List (Returned H Filed D)) → Worked bs rs
+        → map (λ m. m.filed) (members_of bs rs) ≡ map (λ k. k.filed.items) (map member_results rs)
     unfolding members_of
     filed_is [] [] h = refl
     filed_is [] (r ∷ rs) h = absurd h
@@ -75,10 +90,12 @@ module _ {H D : Type 0} (state : D → DeviceState) (own : H → Type 0) (progre
     of_batch devices (filed.Done d) h = h
     of_batch devices (filed.Lost n f) h = tt
 
-    pub all_of_batch : (bs : List (Links D)) (rs : List (Returned H Filed D)) → Worked bs rs → All (λ k. All (IsOfBatch work.batch) k.filed.items) (map member_results rs)
+    pub all_of_batch : (bs : List (Links D)) (rs : List (Returned H Filed D)) → Worked bs rs
+        → All (λ k. All (IsOfBatch work.batch) k.filed.items) (map member_results rs)
     all_of_batch bs [] h = All-nil (λ k. All (IsOfBatch work.batch) k.filed.items)
     all_of_batch [] (r ∷ rs) h = absurd h
     all_of_batch (b ∷ bs) (r ∷ rs) h =
         All-cons (λ k. All (IsOfBatch work.batch) k.filed.items) (member_results r) (map member_results rs)
-        (All-weaker (IsFiled work.batch (devices_of state b)) (IsOfBatch work.batch) (of_batch (devices_of state b)) r.filed.items h.0.accounts.filed)
+        (All-weaker (IsFiled work.batch (devices_of state b)) (IsOfBatch work.batch)
+        (of_batch (devices_of state b)) r.filed.items h.0.accounts.filed)
         (all_of_batch bs rs h.1)

@@ -1,5 +1,6 @@
 -- What the close of a stream says of the views of its hands and its feeder, as a close says of any source's hands.
-use Rattle.std.proofs.Common.{◌≡◌, ℕ, ◌+◌, ◌<◌, ◌≤◌, true, false, List, [], ◌∷◌, ◌++◌, map, length, None, nat_lt, suc, refl, ap, subst, arith, length-append}
+use Rattle.std.proofs.Common.{◌≡◌, ℕ, ◌+◌, ◌<◌, ◌≤◌, true, false, List, [], ◌∷◌, ◌++◌, map, length, None, nat_lt, suc, refl, ap}
+use Rattle.std.proofs.Common.{subst, arith, length-append}
 use Rattle.std.proofs.lemmas.Bool.Decides.{nat_tests}
 use Rattle.std.proofs.lemmas.List.Elements.{All-nil, All-cons, All-head, All-tail, All-push}
 use Rattle.std.specs.List.{All}
@@ -12,7 +13,7 @@ use Rattle.tp_board.specs.Views as view
 use Rattle.tp_board.specs.Rule.{total}
 use Rattle.tp_board.specs.Ledgers.{Balances}
 use Rattle.tp_board.specs.Sources.{Progress, progress_of}
-use Rattle.tp_board.specs.Streams.{HandView, FeederView, hand_seen, feeder_seen, all_seen}
+use Rattle.tp_board.specs.Streams.{HandView, FeederView, hand_seen, hand_progress, feeder_seen, all_seen}
 use Rattle.tp_farm.specs.Closing.{all_finished, all_abandoned, put_down, IsBorneOut, AddsUp}
 use Rattle.tp_farm.specs.Feeding.{HasOnlyFed}
 use Rattle.tp_farm.proofs.Numbers.{times-append}
@@ -41,7 +42,9 @@ module _ (n : ℕ) (views : List View) (l : Ledger) (b : Balances n views l) whe
 
   nothing_in_hand : (vs : List View) → All (λ p. p.in_hand ≡ None) (map progress_of vs) → view.all_in_hand vs ≡ []
   nothing_in_hand [] h = refl
-  nothing_in_hand (v ∷ vs) h = rw (none_left v.hand (All-head (λ p. p.in_hand ≡ None) (progress_of v) (map progress_of vs) h)) (nothing_in_hand vs (All-tail (λ p. p.in_hand ≡ None) (progress_of v) (map progress_of vs) h))
+  nothing_in_hand (v ∷ vs) h =
+      rw (none_left v.hand (All-head (λ p. p.in_hand ≡ None) (progress_of v) (map progress_of vs) h))
+      (nothing_in_hand vs (All-tail (λ p. p.in_hand ≡ None) (progress_of v) (map progress_of vs) h))
     where
       none_left : (hand : List ℕ) → view.first_of hand ≡ None → hand ≡ []
       none_left [] e = refl
@@ -63,16 +66,20 @@ module _ (n : ℕ) (views : List View) (l : Ledger) (b : Balances n views l) whe
       )
 
   -- of views of which some others stand before
-  borne_out : (k : ℕ) (vs : List View) → ((i : ℕ) (v : View) → get_elem? vs i ≡ some v → get_elem? views (k + i) ≡ some v) → total (λ v. v.ended) vs ≤ total (λ v. v.ended) views → length (view.all_drawn vs) ≤ length (view.all_drawn views) → All (IsBorneOut n l) (map progress_of vs)
+  borne_out : (k : ℕ) (vs : List View) → ((i : ℕ) (v : View) → get_elem? vs i ≡ some v → get_elem? views (k + i) ≡ some v)
+      → total (λ v. v.ended) vs ≤ total (λ v. v.ended) views → length (view.all_drawn vs) ≤ length (view.all_drawn views)
+      → All (IsBorneOut n l) (map progress_of vs)
   borne_out k [] at ended drawn = All-nil (IsBorneOut n l)
   borne_out k (v ∷ vs) at ended drawn =
       All-cons (IsBorneOut n l) (progress_of v) (map progress_of vs)
       (record {
         taken = omega (arith, length-append v.drawn (view.all_drawn vs), drawn, b.drawn);
         ended = λ is. b.ended (omega (arith, was_true v.ended is, ended));
-        stop_seen = λ is. b.stop_seen k v (subst (λ j. get_elem? views j ≡ some v) (omega arith) (at 0 v refl)) (was_true v.seen.stop is);
+        stop_seen =
+            λ is. b.stop_seen k v (subst (λ j. get_elem? views j ≡ some v) (omega arith) (at 0 v refl)) (was_true v.seen.stop is);
       })
-      (borne_out (k + 1) vs (λ i u is. subst (λ j. get_elem? views j ≡ some u) (omega arith) (at (suc i) u is)) (omega (arith, ended)) (omega (arith, length-append v.drawn (view.all_drawn vs), drawn)))
+      (borne_out (k + 1) vs (λ i u is. subst (λ j. get_elem? views j ≡ some u) (omega arith) (at (suc i) u is))
+      (omega (arith, ended)) (omega (arith, length-append v.drawn (view.all_drawn vs), drawn)))
 
   pub adds_up : AddsUp n (map progress_of views) l
   adds_up = record {
@@ -85,7 +92,8 @@ module _ (n : ℕ) (views : List View) (l : Ledger) (b : Balances n views l) whe
 
 -- ---- a hand that has put nothing down, behind the others
 
-times_finished : (x : ℕ) (ps : List Progress) (last : Progress) → times x (all_finished (ps ++ last ∷ [])) ≡ times x (all_finished ps) + times x last.finished
+times_finished : (x : ℕ) (ps : List Progress) (last : Progress)
+    → times x (all_finished (ps ++ last ∷ [])) ≡ times x (all_finished ps) + times x last.finished
 times_finished x [] last = omega (arith, times-append x last.finished [])
 times_finished x (p ∷ ps) last =
     omega (
@@ -95,7 +103,8 @@ times_finished x (p ∷ ps) last =
       times_finished x ps last,
     )
 
-times_abandoned : (x : ℕ) (ps : List Progress) (last : Progress) → times x (all_abandoned (ps ++ last ∷ [])) ≡ times x (all_abandoned ps) + times x last.abandoned
+times_abandoned : (x : ℕ) (ps : List Progress) (last : Progress)
+    → times x (all_abandoned (ps ++ last ∷ [])) ≡ times x (all_abandoned ps) + times x last.abandoned
 times_abandoned x [] last = omega (arith, times-append x last.abandoned [])
 times_abandoned x (p ∷ ps) last =
     omega (
@@ -107,11 +116,15 @@ times_abandoned x (p ∷ ps) last =
 
 all_before : {X : Type 0} (P : X → Type 0) (xs : List X) (last : X) → All P (xs ++ last ∷ []) → All P xs
 all_before P [] last h = All-nil P
-all_before P (x ∷ xs) last h = All-cons P x xs (All-head P x (xs ++ last ∷ []) h) (all_before P xs last (All-tail P x (xs ++ last ∷ []) h))
+all_before P (x ∷ xs) last h =
+    All-cons P x xs (All-head P x (xs ++ last ∷ []) h) (all_before P xs last (All-tail P x (xs ++ last ∷ []) h))
 
-module _ (n : ℕ) (ps : List Progress) (last : Progress) (l : Ledger) (finished : last.finished ≡ []) (abandoned : last.abandoned ≡ []) (in_hand : last.in_hand ≡ None) (going : last.stop_called ≡ false) (b : AddsUp n (ps ++ last ∷ []) l) where
+module _ (n : ℕ) (ps : List Progress) (last : Progress) (l : Ledger) (finished : last.finished ≡ [])
+    (abandoned : last.abandoned ≡ []) (in_hand : last.in_hand ≡ None) (going : last.stop_called ≡ false)
+    (b : AddsUp n (ps ++ last ∷ []) l) where
   none_put_down : (x : ℕ) → put_down x (ps ++ last ∷ []) ≡ put_down x ps
-  none_put_down x = omega (arith, times_finished x ps last, times_abandoned x ps last, ap (times x) finished, ap (times x) abandoned)
+  none_put_down x =
+      omega (arith, times_finished x ps last, times_abandoned x ps last, ap (times x) finished, ap (times x) abandoned)
 
   without_last : AddsUp n ps l
   without_last = record {
@@ -124,11 +137,14 @@ module _ (n : ℕ) (ps : List Progress) (last : Progress) (l : Ledger) (finished
 
 -- ---- the hands of a stream, and its feeder
 
-same_hands : (hands : List HandView) (last : View) → map progress_of (map hand_seen hands ++ last ∷ []) ≡ map (λ h. progress_of (hand_seen h)) hands ++ progress_of last ∷ []
+same_hands : (hands : List HandView) (last : View)
+    → map progress_of (map hand_seen hands ++ last ∷ []) ≡ map hand_progress hands ++ progress_of last ∷ []
 same_hands [] last = refl
-same_hands (h ∷ hands) last = ap (λ ps. progress_of (hand_seen h) ∷ ps) (same_hands hands last)
+same_hands (h ∷ hands) last = ap (λ ps. hand_progress h ∷ ps) (same_hands hands last)
 
-pub hands_add_up : (n : ℕ) (hands : List HandView) (f : FeederView) (l : Ledger) → HasOnlyFed f → Balances n (all_seen hands f) l → AddsUp n (map (λ h. progress_of (hand_seen h)) hands) l
+pub hands_add_up : (n : ℕ) (hands : List HandView) (f : FeederView) (l : Ledger) → HasOnlyFed f → Balances n (all_seen hands f) l
+    → AddsUp n (map hand_progress hands) l
 hands_add_up n hands f l fed b =
-    without_last n (map (λ h. progress_of (hand_seen h)) hands) (progress_of (feeder_seen f)) l fed.none_finished fed.none_abandoned refl (ap (nat_lt 0) fed.not_stopped)
+    without_last n (map hand_progress hands) (progress_of (feeder_seen f)) l fed.none_finished fed.none_abandoned refl
+    (ap (nat_lt 0) fed.not_stopped)
     (subst (λ ps. AddsUp n ps l) (same_hands hands (feeder_seen f)) (adds_up n (all_seen hands f) l b))

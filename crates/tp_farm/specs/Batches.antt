@@ -47,6 +47,7 @@ pub record IsBatch (batch : Batch) (open_for_good : Bool) (before after : List D
   -- as many entries tell of a failure of a link as its devices have failed in all
   pub failures : (which : Link) → failures_at which after ≡ failures_at which before + sum_by (tells_failure which) entries
   -- each loss by a device has its cause
-  pub losses : (i : ℕ) (fault : LinkFault) → slice_get entries i ≡ Some (entry.Lost (cause.Link fault)) → LostBySome batch before i fault
+  pub losses : (i : ℕ) (fault : LinkFault) → slice_get entries i ≡ Some (entry.Lost (cause.Link fault))
+      → LostBySome batch before i fault
   -- a packet is lost by a stop only where the gate is not open for good
   pub stopped : (i : ℕ) → slice_get entries i ≡ Some (entry.Lost cause.Stopped) → open_for_good ≡ false

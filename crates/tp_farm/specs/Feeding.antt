@@ -1,6 +1,6 @@
 -- What a batch's own thread does at its stream.
 use Rattle.std.specs.Prelude.{◌≡◌, ◌⊎◌, []}
-use Rattle.tp_board.specs.Streams.{FeederView}
+use Rattle.tp_board.specs.Streams.{FeederView, IsAllPushed}
 
 -- it has put nothing down, and has not stopped the stream
 pub record HasOnlyFed (f : FeederView) : Type 0 where
@@ -10,4 +10,4 @@ pub record HasOnlyFed (f : FeederView) : Type 0 where
 
 -- it has pushed all packets and an end mark for each member, or it has seen the stop mark
 abbrev pub HasEnded : FeederView → Type 0
-HasEnded f = ((f.turn.pushed ≡ f.turn.packets) × (f.turn.marks ≡ f.turn.members)) ⊎ (f.place.seen.stop ≡ 1)
+HasEnded f = IsAllPushed f.turn ⊎ (f.place.seen.stop ≡ 1)

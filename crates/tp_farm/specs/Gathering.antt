@@ -1,9 +1,9 @@
 -- How what members file becomes the entries of a batch.
-use Rattle.std.specs.Prelude.{◌≡◌, ℕ, List, [], ◌∷◌, ◌++◌, Some, None, Option, slice_get, slice_set}
+use Rattle.std.specs.Prelude.{◌≡◌, ℕ, List, [], ◌∷◌, ◌++◌, length, replicate, Some, None, Option, slice_get, slice_set}
 use Rattle.tp_collect.specs.declared.collected.Entry.{Entry}
 use Rattle.tp_collect.specs.declared.collected.Entry.TheVariants as entry
 use Rattle.tp_collect.specs.Collected.{Batch, IsResult}
-use Rattle.tp_collect.specs.Collecting.{vacant, lost_by}
+use Rattle.tp_collect.specs.Collecting.{Collection, collection, vacant, lost_by}
 use Rattle.tp_farm.specs.declared.member.Filed.{Filed}
 use Rattle.tp_farm.specs.declared.member.Filed.TheVariants as filed
 use Rattle.tp_farm.specs.declared.member.End.{End}
@@ -25,6 +25,10 @@ abbrev pub IsOfBatch : Batch → Filed → Type 0
 IsOfBatch batch (filed.Done done) = IsResult batch done.packet done
 IsOfBatch batch (filed.Lost number fault) = Unit {0}
 
+-- a collector of a batch in which nothing is filed
+abbrev pub nothing_filed : Batch → Collection
+nothing_filed batch = collection batch (replicate (length batch.packets) vacant)
+
 -- the entries when all these are filed, one after another
 abbrev pub filed_in : List Entry → List Filed → List Entry
 filed_in entries [] = entries
@@ -33,7 +37,8 @@ filed_in entries (f ∷ more) = filed_in (slice_set entries (number_of f) (entry
 -- each of these finds nothing filed under its number
 abbrev pub FindVacant : List Entry → List Filed → Type 0
 FindVacant entries [] = Unit {0}
-FindVacant entries (f ∷ more) = (slice_get entries (number_of f) ≡ Some vacant) × FindVacant (slice_set entries (number_of f) (entry_of f)) more
+FindVacant entries (f ∷ more) =
+    (slice_get entries (number_of f) ≡ Some vacant) × FindVacant (slice_set entries (number_of f) (entry_of f)) more
 
 -- what several members filed, one after another
 abbrev pub all_filed : List (List Filed) → List Filed

@@ -14,5 +14,6 @@ pub mod MemberResults
 pub mod Batches
 pub mod Reserved
 pub mod Promised
+pub mod Answered
 pub use Rattle.tp_machine.specs.Devices
 pub use Rattle.tp_collect.specs.Collected

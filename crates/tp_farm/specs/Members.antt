@@ -1,12 +1,14 @@
 -- What a member does with its packets: what it files, and how it ends.
 use Rattle.std.specs.Prelude.{◌≡◌, ℕ, ◌<◌, ◌⊎◌, Bool, true, false, List, [], ◌∷◌, length, sum_by, Some, None, slice_get, All}
+use Rattle.tp_link.specs.Device.{DeviceState}
 use Rattle.tp_link.specs.declared.links.Link.{Link}
 use Rattle.tp_link.specs.declared.links.LinkFault.{LinkFault}
-use Rattle.tp_machine.specs.Devices.{Devices}
+use Rattle.tp_machine.specs.Devices.{Devices, devices_of}
 use Rattle.tp_board.specs.Sources.{Progress}
 use Rattle.tp_collect.specs.Collected.{Batch, IsResult}
 use Rattle.tp_farm.specs.declared.member.Filed.{Filed}
 use Rattle.tp_farm.specs.declared.member.Filed.TheVariants as filed
+use Rattle.tp_farm.specs.declared.member.Member.{Member}
 use Rattle.tp_farm.specs.declared.member.End.{End}
 use Rattle.tp_farm.specs.declared.member.End.TheVariants as end
 use Rattle.tp_farm.specs.Settings.{SameSettings, Rises, failed_by}
@@ -48,6 +50,11 @@ pub record KeepsAccounts (batch : Batch) (before now : Devices) (p : Progress) (
   pub filed : All (IsFiled batch before) these
   pub finished : p.finished ≡ done_numbers these
   pub abandoned : p.abandoned ≡ lost_numbers these
+
+abbrev pub HasAccounts : {H D : Type 0} → (D → DeviceState) → (H → Progress) → Batch → Member H D → Type 0
+HasAccounts state progress batch member =
+    KeepsAccounts batch (devices_of state member.entry.value) (devices_of state member.links)
+    (progress member.hand) member.filed.items
 
 -- ---- how a member ends
 

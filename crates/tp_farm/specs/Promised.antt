@@ -34,7 +34,8 @@ pub record IsPromised (batch : Batch) (budget : ℕ) (entries : List Entry) (i :
 
 -- so it is of each packet
 abbrev pub GoesWell : Batch → (budget : ℕ) → List Entry → Type 0
-GoesWell batch budget entries = (i : ℕ) (packet : List ℕ) → slice_get batch.packets i ≡ Some packet → IsPromised batch budget entries i packet
+GoesWell batch budget entries =
+    (i : ℕ) (packet : List ℕ) → slice_get batch.packets i ≡ Some packet → IsPromised batch budget entries i packet
 
 -- ---- over devices that do their work, under a gate that is open for good
 
@@ -65,4 +66,5 @@ pub record IsComplete (batch : Batch) (budget : ℕ) (entries : List Entry) (i :
 
 -- so does each packet
 abbrev pub LosesLongTracesAlone : Batch → (budget : ℕ) → List Entry → Type 0
-LosesLongTracesAlone batch budget entries = (i : ℕ) (packet : List ℕ) → slice_get batch.packets i ≡ Some packet → IsComplete batch budget entries i packet
+LosesLongTracesAlone batch budget entries =
+    (i : ℕ) (packet : List ℕ) → slice_get batch.packets i ≡ Some packet → IsComplete batch budget entries i packet

@@ -1,8 +1,9 @@
 -- Why a batch gives nothing.
-use Rattle.std.specs.Prelude.{ℕ, ◌*◌, ◌==◌, not, ◌||◌, nat_lt, if◌then◌else◌, length, position, Option, Some}
+use Rattle.std.specs.Prelude.{ℕ, ◌*◌, ◌<◌, ◌≤◌, ◌==◌, not, ◌||◌, nat_lt, if◌then◌else◌, length, position, Option, Some}
 use Rattle.std.specs.Option.{option_map}
 use Rattle.tp_collect.specs.Collected.{Batch}
 use Rattle.tp_collect.specs.Collecting.{most_packets}
+use Rattle.tp_farm.specs.Jobs.{AreWhole}
 use Rattle.tp_farm.specs.declared.fault.FarmFault.{FarmFault}
 use Rattle.tp_farm.specs.declared.fault.FarmFault.TheVariants.{Members, Packets, Length, Thread, Memory}
 
@@ -20,6 +21,13 @@ job_fault members batch =
     if (members == 0) || nat_lt most_members members then Some Members
     else if nat_lt most_packets (length batch.packets) then Some Packets
     else option_map Length (first_other batch)
+
+-- what stands where none of these holds
+pub record Begins (members : ℕ) (batch : Batch) : Type 0 where
+  pub some : 0 < members
+  pub few : members ≤ 64
+  pub less : length batch.packets ≤ 1024
+  pub whole : AreWhole batch
 
 -- why a batch that has begun gives nothing: what it runs on refused a thread (G4) or memory
 abbrev pub IsFromOutside : FarmFault → Type 0

@@ -13,7 +13,8 @@ pub record IsReady (packet : List ℕ) (now : Devices) : Type 0 where
 
 -- the sink and the trace hold what the run of the packet alone gave
 pub record HasGiven (image : ImageValue) (packet : List ℕ) (outcome : Outcome) (now : Devices) : Type 0 where
-  pub alone : RunsAlone image packet record { result = now.sink.held; error = outcome.error; steps = outcome.steps; trace = now.trace.held }
+  pub alone : RunsAlone image packet
+      record { result = now.sink.held; error = outcome.error; steps = outcome.steps; trace = now.trace.held }
 
 -- the run of the packet alone sends this on link 1
 pub record HasTraced (image : ImageValue) (packet traced : List ℕ) : Type 0 where

@@ -1,5 +1,6 @@
 -- What a member's thread gives back, whatever source its packets come from.
 use Rattle.std.specs.Prelude.{◌≡◌, ℕ, Bool, List}
+use Rattle.std.specs.List.{AllZip}
 use Rattle.tp_link.specs.Device.{DeviceState}
 use Rattle.tp_link.specs.declared.links.Links.{Links}
 use Rattle.tp_board.specs.Sources.{Progress}
@@ -39,7 +40,24 @@ pub record IsFresh {H : Type 0} (own : H → Type 0) (progress : H → Progress)
 
 -- a member that had these devices has done its work: its hand is one of the source's, its accounts are in order, and it has
 -- ended as it says
-pub record HasWorked {H D : Type 0} (state : D → DeviceState) (own : H → Type 0) (progress : H → Progress) (work : Work) (before : Links D) (r : Returned H Filed D) : Type 0 where
+pub record HasWorked {H D : Type 0} (state : D → DeviceState) (own : H → Type 0) (progress : H → Progress) (work : Work)
+    (before : Links D) (r : Returned H Filed D) : Type 0 where
   pub is_own : own r.hand
   pub accounts : KeepsAccounts work.batch (devices_of state before) (devices_of state r.links) (progress r.hand) r.filed.items
   pub ends : EndsBy work.batch work.open_for_good (progress r.hand) r.end
+
+-- so have members, each with its own devices
+abbrev pub HaveWorked : {H D : Type 0} → (D → DeviceState) → (H → Type 0) → (H → Progress) → Work
+    → List (Links D) → List (Returned H Filed D) → Type 0
+HaveWorked state own progress work before rs = AllZip (HasWorked state own progress work) before rs
+
+-- the work is that which members share, and the hand is one of the shared's source
+abbrev pub HasWorkedOn : {G S H D : Type 0} → (D → DeviceState) → (S → H → Type 0) → (H → Progress) → (G → Bool) → Shared G S
+    → Links D → Returned H Filed D → Type 0
+HasWorkedOn state own progress open_for_good shared before r =
+    HasWorked state (own shared.source.now) progress (work_of open_for_good shared) before r
+
+abbrev pub HaveWorkedOn : {G S H D : Type 0} → (D → DeviceState) → (S → H → Type 0) → (H → Progress) → (G → Bool) → Shared G S
+    → List (Links D) → List (Returned H Filed D) → Type 0
+HaveWorkedOn state own progress open_for_good shared before rs =
+    AllZip (HasWorkedOn state own progress open_for_good shared) before rs

@@ -1,18 +1,16 @@
 //! Batches.
 
-ghost use Rattle.std.specs.Prelude.{◌≡◌, ◌==◌, ◌<◌, not, None, Some, Err, All, map, position, replicate, IfSome, IfOk, IfErr, OnOk, length, vec_len};
-ghost use Rattle.std.specs.List.{AllZip};
+ghost use Rattle.std.specs.Prelude.{◌≡◌, ◌==◌, ◌<◌, not, All, None, Err, position, replicate, IfSome, IfOk, IfErr, OnOk};
+ghost use Rattle.std.specs.Prelude.{length, vec_len};
 ghost use Rattle.tp_board.specs.Ledgers.{Balances};
-ghost use Rattle.tp_board.specs.Sources.{progress_of};
-ghost use Rattle.tp_board.specs.Streams.{IsHandOf, IsFeederOf, hand_seen, all_seen};
-ghost use Rattle.tp_machine.specs.Devices.{devices_of};
+ghost use Rattle.tp_board.specs.Streams.{IsHandOf, IsFeederOf, hand_progress, all_seen};
 ghost use Rattle.tp_farm.specs.Feeding.{HasOnlyFed};
 ghost use Rattle.tp_collect.specs.Collecting.{vacant};
 ghost use Rattle.tp_farm.specs.Jobs.{batch_of};
-ghost use Rattle.tp_farm.specs.Working.{HasWorked, work_on};
-ghost use Rattle.tp_farm.specs.Refused.{job_fault, IsFromOutside};
-ghost use Rattle.tp_farm.specs.Batches.{IsBatch};
-ghost use Rattle.tp_farm.specs.Promised.{ArePackets, GoesWell};
+ghost use Rattle.tp_farm.specs.Working.{HaveWorked, work_on};
+ghost use Rattle.tp_farm.specs.Refused.{job_fault, Begins, IsFromOutside};
+ghost use Rattle.tp_farm.specs.Gathering.{nothing_filed};
+ghost use Rattle.tp_farm.specs.Answered.{IsBatchOver, AnswersBatch};
 ghost use Rattle.tp_farm.specs.Reserved.{HasRoom};
 
 use crate::fault::FarmFault;
@@ -58,6 +56,27 @@ pub(crate) fn job_fault(job: &Job<'_>, members: usize) -> Option<FarmFault>
     match first_other(job.packets, job.image.packet_bytes()) {
         Some(number) => Some(FarmFault::Length(number as u32)),
         None => None,
+    }
+}
+
+/// A collector of the packets of a job that begins.
+pub(crate) fn begin<'j>(
+    alloc: Global,
+    job: &'j Job<'j>,
+    members: usize,
+) -> Result<Collector<'j>, FarmFault>
+    ensures collector { IfOk result (λ c. c ≡ nothing_filed (batch_of job.now)) }
+    ensures begins { OnOk result (job_fault members (batch_of job.now) ≡ None) }
+    ensures begun { OnOk result (Begins members (batch_of job.now)) }
+    ensures refused { IfSome (job_fault members (batch_of job.now)) (λ fault. result ≡ Err fault) }
+    ensures err { job_fault members (batch_of job.now) ≡ None → IfErr result IsFromOutside }
+{
+    if let Some(fault) = job_fault(job, members) {
+        return Err(fault);
+    }
+    match Collector::new(alloc, job.batch, job.image.image(), job.packets) {
+        Ok(collector) => Ok(collector),
+        Err(_) => Err(FarmFault::Memory),
     }
 }
 
@@ -113,7 +132,8 @@ fn settle<R: Wait, D: LinkDevice, G: Gate>(
     mut room: Reserved<StreamHand, D>,
     _before: Snapshot<Vec<Links<D>>>,
 ) -> Result<Batch<D>, FarmFault>
-    requires worked { AllZip (HasWorked D.state (IsHandOf stream) (λ h. progress_of (hand_seen h)) (work_on G.open_for_good _job.now _gate.now)) _before.value.items returned.items }
+    requires worked { HaveWorked D.state (IsHandOf stream) hand_progress (work_on G.open_for_good _job.now _gate.now)
+        _before.value.items returned.items }
     requires feeder { IsFeederOf stream feeder }
     requires fed { HasOnlyFed feeder }
     requires members { vec_len returned ≡ stream.members }
@@ -121,7 +141,7 @@ fn settle<R: Wait, D: LinkDevice, G: Gate>(
     requires packets { stream.packets ≡ (batch_of _job.now).packets }
     requires collector { collector ≡ record { batch = batch_of _job.now; entries = replicate (length stream.packets) vacant } }
     requires room { HasRoom (vec_len returned) room }
-    ensures batch { IfOk result (λ b. IsBatch (batch_of _job.now) (G.open_for_good _gate.now) (map (devices_of D.state) _before.value.items) (map (devices_of D.state) b.links.items) b.collected) }
+    ensures batch { IfOk result (IsBatchOver D.state (work_on G.open_for_good _job.now _gate.now) _before.value.items) }
     ensures err { IfErr result IsFromOutside }
 {
     take_hands(returned, &mut room.hands, &mut room.kept)?;
@@ -139,8 +159,9 @@ fn settle<R: Wait, D: LinkDevice, G: Gate>(
 /// Accepted code never goes wrong: each packet's worker ends by stopp within the budget and is never stuck, and each
 /// result that is collected is what the run of its packet alone gives.
 ///
-/// G1, G2 and G3 are tested first, in this order. A batch of no packets starts no thread. Where a thread cannot be started no further one is, and the members that
-/// were started go on until they end. A member to which memory was refused stops the batch first.
+/// G1, G2 and G3 are tested first, in this order. A batch of no packets starts no thread. Where a thread cannot be started no
+/// further one is, and the members that were started go on until they end. A member to which memory was refused stops the batch
+/// first.
 pub fn run_batch<'j, R: Threads + Wait + Sync, D: LinkDevice + Send, G: Gate>(
     rt: &R,
     alloc: Global,
@@ -148,25 +169,38 @@ pub fn run_batch<'j, R: Threads + Wait + Sync, D: LinkDevice + Send, G: Gate>(
     links: Vec<Links<D>>,
     gate: &'j G,
 ) -> Result<Batch<D>, FarmFault>
-    ensures batch { IfOk result (λ b. IsBatch (batch_of job.now) (G.open_for_good gate.now) (map (devices_of D.state) links.items) (map (devices_of D.state) b.links.items) b.collected) }
-    ensures goes_well { ArePackets (batch_of job.now) →
-        IfOk result (λ b. GoesWell (batch_of job.now) job.now.image.now.budget b.collected) }
-    ensures begins { OnOk result (job_fault (length links.items) (batch_of job.now) ≡ None) }
-    ensures refused { IfSome (job_fault (length links.items) (batch_of job.now)) (λ fault. result ≡ Err fault) }
-    ensures err { job_fault (length links.items) (batch_of job.now) ≡ None → IfErr result IsFromOutside }
+    ensures { AnswersBatch D.state G.open_for_good job.now gate.now links.items result }
 {
-    if let Some(fault) = job_fault(job, links.len()) {
-        return Err(fault);
-    }
-    let collector = Collector::new(alloc, job.batch, job.image.image(), job.packets)?;
+    let collector = match begin(alloc, job, links.len()) {
+        Ok(collector) => collector,
+        Err(fault) => return Err(fault),
+    };
     if job.packets.is_empty() {
         return Ok(Batch {
             collected: collector.finish(),
             links,
         });
     }
-    let room = Reserved::for_members(alloc, links.len())?;
-    let made = StreamQueue::new(alloc, job.packets, links.len() as u32);
+    run_begun(rt, alloc, job, links, gate, collector)
+}
+
+/// Runs the packets of a job that begins, from a stream.
+fn run_begun<'j, R: Threads + Wait + Sync, D: LinkDevice + Send, G: Gate>(
+    rt: &R,
+    alloc: Global,
+    job: &'j Job<'j>,
+    links: Vec<Links<D>>,
+    gate: &'j G,
+    collector: Collector<'_>,
+) -> Result<Batch<D>, FarmFault>
+    requires begins { Begins (vec_len links) (batch_of job.now) }
+    requires collector { collector ≡ nothing_filed (batch_of job.now) }
+    ensures batch { IfOk result (IsBatchOver D.state (work_on G.open_for_good job.now gate.now) links.items) }
+    ensures err { IfErr result IsFromOutside }
+{
+    let members = links.len();
+    let room = Reserved::for_members(alloc, members)?;
+    let made = StreamQueue::new(alloc, job.packets, members as u32);
     let Ok((stream, feeder, hands)) = made else {
         return Err(FarmFault::Memory);
     };
@@ -175,6 +209,7 @@ pub fn run_batch<'j, R: Threads + Wait + Sync, D: LinkDevice + Send, G: Gate>(
         job: &*job,
         gate: &*gate,
         source: &stream,
+        share: job.packets.len().div_ceil(members),
     };
     let (returned, feeder) = run_members(rt, alloc, &shared, feeder, hands, links)?;
     settle(

@@ -1,11 +1,12 @@
 //! What the members give back becomes one batch.
 
-ghost use Rattle.std.specs.Prelude.{◌≡◌, ◌≤◌, ◌+◌, ◌++◌, None, Some, All, map, slice_get, slice_set, OnOk, IfErr, vec_len, vec_capacity};
+ghost use Rattle.std.specs.Prelude.{◌≡◌, ◌≤◌, ◌+◌, ◌++◌, None, Some, All, map, slice_get, slice_set, OnOk, IfErr};
+ghost use Rattle.std.specs.Prelude.{vec_len, vec_capacity};
 ghost use Rattle.tp_collect.specs.Collected.{Batch};
 ghost use Rattle.tp_collect.specs.Collecting.{vacant};
 ghost use Rattle.tp_farm.specs.Refused.{IsFromOutside};
-ghost use Rattle.tp_farm.specs.Gathering.{number_of, entry_of, IsOfBatch, filed_in, FindVacant, all_filed, fault_of_end};
-ghost use Rattle.tp_farm.specs.MemberResults.{member_results};
+ghost use Rattle.tp_farm.specs.Gathering.{number_of, entry_of, IsOfBatch, filed_in, FindVacant, fault_of_end};
+ghost use Rattle.tp_farm.specs.MemberResults.{member_results, filed_by};
 
 use crate::fault::FarmFault;
 use crate::member::{End, Filed};
@@ -57,7 +58,6 @@ pub(crate) fn take_hands<H: Drop, D: LinkDevice>(
 }
 
 /// Files one result or loss.
-#[inline(always)]
 fn file_one(collector: &mut Collector<'_>, one: Filed)
     requires of { IsOfBatch collector.old.batch one }
     requires vacant { slice_get collector.old.entries (number_of one) ≡ Some vacant }
@@ -91,9 +91,9 @@ pub(crate) fn gather_all<D: LinkDevice>(
     links: &mut Vec<Links<D>>,
 )
     requires of { All (λ k. All (IsOfBatch collector.old.batch) k.filed.items) kept.items }
-    requires vacant { FindVacant collector.old.entries (all_filed (map (λ k. k.filed.items) kept.items)) }
+    requires vacant { FindVacant collector.old.entries (filed_by kept.items) }
     requires room { vec_len links.old + vec_len kept ≤ vec_capacity links.old }
-    ensures entries { collector.new ≡ record collector.old { entries = filed_in collector.old.entries (all_filed (map (λ k. k.filed.items) kept.items)) } }
+    ensures entries { collector.new ≡ record collector.old { entries = filed_in collector.old.entries (filed_by kept.items) } }
     ensures links { links.new.items ≡ links.old.items ++ map (λ k. k.links) kept.items }
 {
     for one in kept {

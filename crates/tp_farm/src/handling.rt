@@ -86,7 +86,7 @@ fn run_on<D: LinkDevice>(
     requires length { length _packet.now.items ≡ 4 * accepted.now.image.packet }
     ensures settings { SameSettings (devices_of D.state links.old) (devices_of D.state links.new) }
     ensures rises { Rises (devices_of D.state links.old) (devices_of D.state links.new) (λ which. failed_in which result) }
-    ensures given { IfOk result (λ outcome. HasGiven accepted.now.image _packet.now.items outcome (devices_of D.state links.new)) }
+    ensures given { IfOk result (λ o. HasGiven accepted.now.image _packet.now.items o (devices_of D.state links.new)) }
     ensures reason { IfErr result (HasReason accepted.now.image _packet.now.items (devices_of D.state links.old)) }
 {
     machine.run(accepted, links)
@@ -155,6 +155,7 @@ fn receive_trace<D: LinkDevice>(
 /// Runs the worker on the packet of a number, over the member's devices: they are emptied, the packet is sent to the
 /// source, the worker runs, and the result and the trace are received. The first refusal ends it. A trace of more than
 /// 256 bytes is refused as K2 of the trace.
+// Inlined, as what makes a `Done` is: else each packet's result is copied on its way to where it is filed.
 #[tactic(auto, using(crate::proofs::Refusals::same_reason))]
 #[inline(always)]
 pub(crate) fn handle<D: LinkDevice>(

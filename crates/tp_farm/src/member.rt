@@ -1,9 +1,8 @@
 //! A member's work: taking packets, handling them, and filing what became of them.
 
 ghost use Rattle.std.specs.Prelude.{◌≡◌, ◌<◌, true, IfSome, Some, None, slice_get, vec_len, vec_capacity};
-ghost use Rattle.tp_machine.specs.Devices.{devices_of};
 ghost use Rattle.tp_farm.specs.Jobs.{batch_of, AreWhole};
-ghost use Rattle.tp_farm.specs.Members.{KeepsAccounts, EndsBy, IsRefused};
+ghost use Rattle.tp_farm.specs.Members.{HasAccounts, EndsBy, IsRefused};
 ghost use Rattle.tp_farm.specs.Turns.{no_progress, MayTake, HasTaken, HasPutDown};
 
 use crate::gate::Gate;
@@ -64,11 +63,11 @@ fn file_packet<W: WorkSource, D: LinkDevice, G: Gate>(
     requires whole { AreWhole (batch_of job.now) }
     requires packet { slice_get (batch_of job.now).packets number ≡ Some packet.now.items }
     requires room { vec_len member.old.filed < vec_capacity member.old.filed }
-    requires accounts { KeepsAccounts (batch_of job.now) (devices_of D.state member.old.entry.value) (devices_of D.state member.old.links) (W.progress member.old.hand) member.old.filed.items }
+    requires accounts { HasAccounts D.state W.progress (batch_of job.now) member.old }
     ensures own { W.is_own source.now member.new.hand }
     ensures number { member.new.number ≡ member.old.number }
     ensures entry { member.new.entry.value ≡ member.old.entry.value }
-    ensures accounts { KeepsAccounts (batch_of job.now) (devices_of D.state member.new.entry.value) (devices_of D.state member.new.links) (W.progress member.new.hand) member.new.filed.items }
+    ensures accounts { HasAccounts D.state W.progress (batch_of job.now) member.new }
     ensures put_down { HasPutDown (W.progress member.old.hand) (W.progress member.new.hand) }
 {
     gate.claimed(member.number, number);
@@ -106,11 +105,11 @@ fn take_turn<W: LendingSource, D: LinkDevice, G: Gate>(
     requires may { MayTake (W.progress member.old.hand) }
     requires packets { W.packets source.now ≡ (batch_of job.now).packets }
     requires whole { AreWhole (batch_of job.now) }
-    requires accounts { KeepsAccounts (batch_of job.now) (devices_of D.state member.old.entry.value) (devices_of D.state member.old.links) (W.progress member.old.hand) member.old.filed.items }
+    requires accounts { HasAccounts D.state W.progress (batch_of job.now) member.old }
     ensures own { W.is_own source.now member.new.hand }
     ensures number { member.new.number ≡ member.old.number }
     ensures entry { member.new.entry.value ≡ member.old.entry.value }
-    ensures accounts { KeepsAccounts (batch_of job.now) (devices_of D.state member.new.entry.value) (devices_of D.state member.new.links) (W.progress member.new.hand) member.new.filed.items }
+    ensures accounts { HasAccounts D.state W.progress (batch_of job.now) member.new }
     ensures going { result ≡ None → HasTaken (W.progress member.old.hand) (W.progress member.new.hand) }
     ensures allowed { result ≡ None → G.has_answered gate.now member.old.number true }
     ensures refused { IfSome result (IsRefused (G.has_answered gate.now member.old.number) (W.progress member.new.hand)) }
@@ -134,26 +133,31 @@ fn take_turn<W: LendingSource, D: LinkDevice, G: Gate>(
     }
 }
 
-/// A member's whole work: it takes packets until there are no more, or the batch is stopped, or a fault comes. One turn
-/// more than there are packets is enough.
+/// A member's whole work: it makes room for its share, and takes packets until there are no more, or the batch is stopped, or a
+/// fault comes. One turn more than there are packets is enough.
 pub(crate) fn work<W: LendingSource, D: LinkDevice, G: Gate>(
     rt: &impl Wait,
     job: &Job<'_>,
     gate: &G,
     source: &W,
+    share: usize,
     member: &mut Member<W::Hand, D>,
 ) -> End
     requires own { W.is_own source.now member.old.hand }
     requires fresh { W.progress member.old.hand ≡ no_progress }
     requires packets { W.packets source.now ≡ (batch_of job.now).packets }
     requires whole { AreWhole (batch_of job.now) }
-    requires accounts { KeepsAccounts (batch_of job.now) (devices_of D.state member.old.entry.value) (devices_of D.state member.old.links) (W.progress member.old.hand) member.old.filed.items }
+    requires accounts { HasAccounts D.state W.progress (batch_of job.now) member.old }
     ensures own { W.is_own source.now member.new.hand }
     ensures entry { member.new.entry.value ≡ member.old.entry.value }
-    ensures accounts { KeepsAccounts (batch_of job.now) (devices_of D.state member.new.entry.value) (devices_of D.state member.new.links) (W.progress member.new.hand) member.new.filed.items }
+    ensures accounts { HasAccounts D.state W.progress (batch_of job.now) member.new }
     ensures refused { IsRefused (G.has_answered gate.now member.old.number) (W.progress member.new.hand) result }
     ensures end { EndsBy (batch_of job.now) (G.open_for_good gate.now) (W.progress member.new.hand) result }
 {
+    if member.filed.reserve_exact(share).is_err() {
+        source.stop(&mut member.hand);
+        return End::Memory;
+    }
     for _ in 0..job.packets.len() + 1 {
         if let Some(end) = take_turn(rt, job, gate, source, member) {
             return end;

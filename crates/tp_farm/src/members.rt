@@ -2,11 +2,10 @@
 
 ghost use Rattle.std.specs.Prelude.{◌≡◌, ◌≤◌, ◌+◌, ◌++◌, ◌∷◌, [], true, map, IfSome, IfOk, IfErr, All, vec_len, vec_capacity};
 ghost use Rattle.std.specs.List.{AllZip};
-ghost use Rattle.tp_board.specs.Sources.{progress_of};
-ghost use Rattle.tp_board.specs.Streams.{IsHandOf, IsFeederOf, hand_seen};
+ghost use Rattle.tp_board.specs.Streams.{IsHandOf, IsFeederOf, hand_progress};
 ghost use Rattle.tp_farm.specs.Feeding.{HasOnlyFed, HasEnded};
 ghost use Rattle.tp_farm.specs.Refused.{IsFromOutside};
-ghost use Rattle.tp_farm.specs.Working.{IsSet, IsFresh, HasWorked, work_of};
+ghost use Rattle.tp_farm.specs.Working.{IsSet, IsFresh, HasWorkedOn, HaveWorkedOn};
 
 use crate::fault::FarmFault;
 use crate::gate::Gate;
@@ -30,9 +29,9 @@ struct MemberPromise<'j, G, D, S> {
 
 impl<'j, G: Gate, D: LinkDevice, S: WorkSource> Promise<Returned<S::Hand, Filed, D>>
     for MemberPromise<'j, G, D, S> {
-    ghost use Rattle.tp_farm.specs.Working.{HasWorked, work_of};
+    ghost use Rattle.tp_farm.specs.Working.{HasWorkedOn};
 
-    ghost kept_by = { λ p r. HasWorked D.state (S.is_own p.shared.now.source.now) S.progress (work_of G.open_for_good p.shared.now) p.before.value r };
+    ghost kept_by = { λ p r. HasWorkedOn D.state S.is_own S.progress G.open_for_good p.shared.now p.before.value r };
 }
 
 /// A member's thread.
@@ -64,7 +63,7 @@ where
         move || -> Returned<S::Hand, Filed, D>
             requires set { IsSet S.packets shared.now }
             requires fresh { IsFresh (S.is_own shared.now.source.now) S.progress hand }
-            ensures worked { HasWorked D.state (S.is_own shared.entry.now.source.now) S.progress (work_of G.open_for_good shared.entry.now) links result }
+            ensures worked { HasWorkedOn D.state S.is_own S.progress G.open_for_good shared.entry.now links result }
         { work_as(rt, alloc, shared, number, hand, links) },
     );
     match started {
@@ -180,7 +179,9 @@ pub(crate) fn join_all<R: Threads + Wait, D: LinkDevice, G: Gate, S: WorkSource>
 ) -> Result<Vec<Returned<S::Hand, Filed, D>>, FarmFault>
 where
     S::Hand: Drop,
-    ensures joined { IfOk result (λ rs. (started.entry.all_started ≡ true) × AllZip (λ h r. HasWorked D.state (S.is_own h.promise.shared.now.source.now) S.progress (work_of G.open_for_good h.promise.shared.now) h.promise.before.value r) started.entry.handles.items rs.items) }
+    ensures joined { IfOk result (λ rs. (started.entry.all_started ≡ true) × AllZip
+        (λ h r. HasWorkedOn D.state S.is_own S.progress G.open_for_good h.promise.shared.now h.promise.before.value r)
+        started.entry.handles.items rs.items) }
     ensures err { IfErr result IsFromOutside }
 {
     match join_promised(rt, started.handles) {
@@ -212,12 +213,13 @@ fn start_feed_and_join<'s, 'e, R: Threads + Wait + Sync, D: LinkDevice + Send + 
     all: Vec<Links<D>>,
 ) -> Result<(Vec<Returned<StreamHand, Filed, D>>, Feeder), FarmFault>
     requires set { IsSet (λ s. s.packets) shared.now }
-    requires fresh { All (IsFresh (IsHandOf shared.now.source.now) (λ h. progress_of (hand_seen h))) hands.items }
+    requires fresh { All (IsFresh (IsHandOf shared.now.source.now) hand_progress) hands.items }
     requires feeder { IsFeederOf shared.now.source.now feeder }
     requires fed { HasOnlyFed feeder }
     requires hands { vec_len hands ≡ vec_len all }
     requires members { vec_len all ≤ 64 }
-    ensures worked { IfOk result (λ r. AllZip (HasWorked D.state (IsHandOf shared.now.source.now) (λ h. progress_of (hand_seen h)) (work_of G.open_for_good shared.now)) all.items r.0.items) }
+    ensures worked { IfOk result (λ r.
+        HaveWorkedOn D.state IsHandOf hand_progress G.open_for_good shared.now all.items r.0.items) }
     ensures feeder { IfOk result (λ r. IsFeederOf shared.now.source.now r.1 × HasOnlyFed r.1) }
     ensures err { IfErr result IsFromOutside }
 {
@@ -242,12 +244,13 @@ pub(crate) fn run_members<R: Threads + Wait + Sync, D: LinkDevice + Send, G: Gat
     all: Vec<Links<D>>,
 ) -> Result<(Vec<Returned<StreamHand, Filed, D>>, Feeder), FarmFault>
     requires set { IsSet (λ s. s.packets) shared.now }
-    requires fresh { All (IsFresh (IsHandOf shared.now.source.now) (λ h. progress_of (hand_seen h))) hands.items }
+    requires fresh { All (IsFresh (IsHandOf shared.now.source.now) hand_progress) hands.items }
     requires feeder { IsFeederOf shared.now.source.now feeder }
     requires fed { HasOnlyFed feeder }
     requires hands { vec_len hands ≡ vec_len all }
     requires members { vec_len all ≤ 64 }
-    ensures worked { IfOk result (λ r. AllZip (HasWorked D.state (IsHandOf shared.now.source.now) (λ h. progress_of (hand_seen h)) (work_of G.open_for_good shared.now)) all.items r.0.items) }
+    ensures worked { IfOk result (λ r.
+        HaveWorkedOn D.state IsHandOf hand_progress G.open_for_good shared.now all.items r.0.items) }
     ensures feeder { IfOk result (λ r. IsFeederOf shared.now.source.now r.1 × HasOnlyFed r.1) }
     ensures err { IfErr result IsFromOutside }
 {
@@ -256,12 +259,13 @@ pub(crate) fn run_members<R: Threads + Wait + Sync, D: LinkDevice + Send, G: Gat
         rt,
         |scope| -> Result<(Vec<Returned<StreamHand, Filed, D>>, Feeder), FarmFault>
             requires set { IsSet (λ s. s.packets) shared.now }
-            requires fresh { All (IsFresh (IsHandOf shared.now.source.now) (λ h. progress_of (hand_seen h))) hands.items }
+            requires fresh { All (IsFresh (IsHandOf shared.now.source.now) hand_progress) hands.items }
             requires feeder { IsFeederOf shared.now.source.now feeder }
             requires fed { HasOnlyFed feeder }
             requires hands { vec_len hands ≡ vec_len all }
             requires members { vec_len all ≤ 64 }
-            ensures worked { IfOk result (λ r. AllZip (HasWorked D.state (IsHandOf shared.entry.now.source.now) (λ h. progress_of (hand_seen h)) (work_of G.open_for_good shared.entry.now)) all.items r.0.items) }
+            ensures worked { IfOk result (λ r.
+                HaveWorkedOn D.state IsHandOf hand_progress G.open_for_good shared.entry.now all.items r.0.items) }
             ensures feeder { IfOk result (λ r. IsFeederOf shared.entry.now.source.now r.1 × HasOnlyFed r.1) }
             ensures err { IfErr result IsFromOutside }
         { start_feed_and_join(rt, scope, alloc, shared, feeder, hands, all) },

@@ -3,21 +3,19 @@
 //!
 //! [`run_batch`]: crate::run_batch
 
-ghost use Rattle.std.specs.Prelude.{◌≡◌, ◌≤◌, ◌<◌, None, Some, Err, All, map, replicate, IfSome, IfOk, IfErr, OnOk, length, vec_len};
-ghost use Rattle.std.specs.List.{AllZip};
+ghost use Rattle.std.specs.Prelude.{◌≡◌, ◌≤◌, ◌<◌, All, replicate, IfOk, IfErr, length, vec_len};
 ghost use Rattle.tp_board.specs.Boards.{IsSeatOf, views_of};
-ghost use Rattle.tp_board.specs.Sources.{progress_of};
+ghost use Rattle.tp_board.specs.Sources.{seat_progress};
 ghost use Rattle.tp_board.specs.Ledgers.{Balances};
 ghost use Rattle.tp_collect.specs.Collecting.{vacant};
-ghost use Rattle.tp_machine.specs.Devices.{devices_of};
 ghost use Rattle.tp_farm.specs.Jobs.{batch_of};
-ghost use Rattle.tp_farm.specs.Working.{IsSet, IsFresh, HasWorked, work_on, work_of};
-ghost use Rattle.tp_farm.specs.Refused.{job_fault, IsFromOutside};
-ghost use Rattle.tp_farm.specs.Batches.{IsBatch};
-ghost use Rattle.tp_farm.specs.Promised.{ArePackets, GoesWell};
+ghost use Rattle.tp_farm.specs.Working.{IsSet, IsFresh, HaveWorked, HaveWorkedOn, work_on};
+ghost use Rattle.tp_farm.specs.Refused.{Begins, IsFromOutside};
+ghost use Rattle.tp_farm.specs.Gathering.{nothing_filed};
+ghost use Rattle.tp_farm.specs.Answered.{IsBatchOver, AnswersBatch};
 ghost use Rattle.tp_farm.specs.Reserved.{HasRoom};
 
-use crate::batch::{Batch, Reserved, job_fault};
+use crate::batch::{Batch, Reserved, begin};
 use crate::fault::FarmFault;
 use crate::gate::Gate;
 use crate::gathering::{gather_all, take_hands};
@@ -56,7 +54,7 @@ where
     requires fresh { All (IsFresh (S.is_own shared.now.source.now) S.progress) hands.items }
     requires hands { vec_len hands ≡ vec_len all }
     requires members { vec_len all ≤ 64 }
-    ensures worked { IfOk result (λ rs. AllZip (HasWorked D.state (S.is_own shared.now.source.now) S.progress (work_of G.open_for_good shared.now)) all.items rs.items) }
+    ensures worked { IfOk result (λ rs. HaveWorkedOn D.state S.is_own S.progress G.open_for_good shared.now all.items rs.items) }
     ensures err { IfErr result IsFromOutside }
 {
     let started = start_all(rt, scope, alloc, shared, hands, all)?;
@@ -77,7 +75,7 @@ where
     requires fresh { All (IsFresh (S.is_own shared.now.source.now) S.progress) hands.items }
     requires hands { vec_len hands ≡ vec_len all }
     requires members { vec_len all ≤ 64 }
-    ensures worked { IfOk result (λ rs. AllZip (HasWorked D.state (S.is_own shared.now.source.now) S.progress (work_of G.open_for_good shared.now)) all.items rs.items) }
+    ensures worked { IfOk result (λ rs. HaveWorkedOn D.state S.is_own S.progress G.open_for_good shared.now all.items rs.items) }
     ensures err { IfErr result IsFromOutside }
 {
     thread::scope(
@@ -88,7 +86,8 @@ where
             requires fresh { All (IsFresh (S.is_own shared.now.source.now) S.progress) hands.items }
             requires hands { vec_len hands ≡ vec_len all }
             requires members { vec_len all ≤ 64 }
-            ensures worked { IfOk result (λ rs. AllZip (HasWorked D.state (S.is_own shared.entry.now.source.now) S.progress (work_of G.open_for_good shared.entry.now)) all.items rs.items) }
+            ensures worked { IfOk result (λ rs.
+                HaveWorkedOn D.state S.is_own S.progress G.open_for_good shared.entry.now all.items rs.items) }
             ensures err { IfErr result IsFromOutside }
         { start_and_join(rt, scope, alloc, shared, hands, all) },
     )
@@ -117,13 +116,14 @@ fn settle<D: LinkDevice, G: Gate>(
     mut room: Reserved<Seat, D>,
     _before: Snapshot<Vec<Links<D>>>,
 ) -> Result<Batch<D>, FarmFault>
-    requires worked { AllZip (HasWorked D.state (IsSeatOf board) (λ s. progress_of s.view) (work_on G.open_for_good _job.now _gate.now)) _before.value.items returned.items }
+    requires worked { HaveWorked D.state (IsSeatOf board) seat_progress (work_on G.open_for_good _job.now _gate.now)
+        _before.value.items returned.items }
     requires members { vec_len returned ≡ board.members }
     requires some { 0 < vec_len returned }
     requires packets { board.packets ≡ length (batch_of _job.now).packets }
     requires collector { collector ≡ record { batch = batch_of _job.now; entries = replicate board.packets vacant } }
     requires room { HasRoom (vec_len returned) room }
-    ensures batch { IfOk result (λ b. IsBatch (batch_of _job.now) (G.open_for_good _gate.now) (map (devices_of D.state) _before.value.items) (map (devices_of D.state) b.links.items) b.collected) }
+    ensures batch { IfOk result (IsBatchOver D.state (work_on G.open_for_good _job.now _gate.now) _before.value.items) }
     ensures err { IfErr result IsFromOutside }
 {
     take_hands(returned, &mut room.hands, &mut room.kept)?;
@@ -144,25 +144,38 @@ pub fn run_batch_over_board<'j, R: Threads + Wait + Sync, D: LinkDevice + Send, 
     links: Vec<Links<D>>,
     gate: &'j G,
 ) -> Result<Batch<D>, FarmFault>
-    ensures batch { IfOk result (λ b. IsBatch (batch_of job.now) (G.open_for_good gate.now) (map (devices_of D.state) links.items) (map (devices_of D.state) b.links.items) b.collected) }
-    ensures goes_well { ArePackets (batch_of job.now) →
-        IfOk result (λ b. GoesWell (batch_of job.now) job.now.image.now.budget b.collected) }
-    ensures begins { OnOk result (job_fault (length links.items) (batch_of job.now) ≡ None) }
-    ensures refused { IfSome (job_fault (length links.items) (batch_of job.now)) (λ fault. result ≡ Err fault) }
-    ensures err { job_fault (length links.items) (batch_of job.now) ≡ None → IfErr result IsFromOutside }
+    ensures { AnswersBatch D.state G.open_for_good job.now gate.now links.items result }
 {
-    if let Some(fault) = job_fault(job, links.len()) {
-        return Err(fault);
-    }
-    let collector = Collector::new(alloc, job.batch, job.image.image(), job.packets)?;
+    let collector = match begin(alloc, job, links.len()) {
+        Ok(collector) => collector,
+        Err(fault) => return Err(fault),
+    };
     if job.packets.is_empty() {
         return Ok(Batch {
             collected: collector.finish(),
             links,
         });
     }
-    let room = Reserved::for_members(alloc, links.len())?;
-    let made = Board::new(alloc, job.packets.len() as u32, links.len() as u32);
+    run_begun(rt, alloc, job, links, gate, collector)
+}
+
+/// Runs the packets of a job that begins, from a board.
+fn run_begun<'j, R: Threads + Wait + Sync, D: LinkDevice + Send, G: Gate>(
+    rt: &R,
+    alloc: Global,
+    job: &'j Job<'j>,
+    links: Vec<Links<D>>,
+    gate: &'j G,
+    collector: Collector<'_>,
+) -> Result<Batch<D>, FarmFault>
+    requires begins { Begins (vec_len links) (batch_of job.now) }
+    requires collector { collector ≡ nothing_filed (batch_of job.now) }
+    ensures batch { IfOk result (IsBatchOver D.state (work_on G.open_for_good job.now gate.now) links.items) }
+    ensures err { IfErr result IsFromOutside }
+{
+    let members = links.len();
+    let room = Reserved::for_members(alloc, members)?;
+    let made = Board::new(alloc, job.packets.len() as u32, members as u32);
     let Ok((board, seats)) = made else {
         return Err(FarmFault::Memory);
     };
@@ -172,6 +185,7 @@ pub fn run_batch_over_board<'j, R: Threads + Wait + Sync, D: LinkDevice + Send, 
         job: &*job,
         gate: &*gate,
         source: &source,
+        share: job.packets.len().div_ceil(members),
     };
     let returned = run_all(rt, alloc, &shared, seats, links)?;
     let board = source.into_board();

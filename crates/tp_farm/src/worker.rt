@@ -1,7 +1,7 @@
 //! A member's thread.
 
 ghost use Rattle.std.specs.Prelude.{◌≡◌, IfSome};
-ghost use Rattle.tp_farm.specs.Working.{IsSet, IsFresh, HasWorked, work_of};
+ghost use Rattle.tp_farm.specs.Working.{IsSet, IsFresh, HasWorkedOn};
 
 use crate::gate::Gate;
 use crate::handling::Received;
@@ -29,6 +29,8 @@ pub(crate) struct Shared<'j, G, S> {
     pub(crate) job: &'j Job<'j>,
     pub(crate) gate: &'j G,
     pub(crate) source: &'j S,
+    /// How many packets come to each member, where all take as many.
+    pub(crate) share: usize,
 }
 
 /// The whole work of the member of a number, on a machine of its own.
@@ -42,7 +44,7 @@ pub(crate) fn work_as<S: LendingSource, D: LinkDevice, G: Gate>(
 ) -> Returned<S::Hand, Filed, D>
     requires set { IsSet S.packets shared.now }
     requires fresh { IsFresh (S.is_own shared.now.source.now) S.progress hand }
-    ensures { HasWorked D.state (S.is_own shared.now.source.now) S.progress (work_of G.open_for_good shared.now) links result }
+    ensures { HasWorkedOn D.state S.is_own S.progress G.open_for_good shared.now links result }
 {
     let entry = Snapshot::of(&links);
     let mut member = Member {
@@ -54,7 +56,14 @@ pub(crate) fn work_as<S: LendingSource, D: LinkDevice, G: Gate>(
         filed: Vec::new(alloc),
         entry,
     };
-    let end = work(rt, shared.job, shared.gate, shared.source, &mut member);
+    let end = work(
+        rt,
+        shared.job,
+        shared.gate,
+        shared.source,
+        shared.share,
+        &mut member,
+    );
     let Member {
         hand,
         links,

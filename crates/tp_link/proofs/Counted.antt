@@ -29,7 +29,8 @@ failing_from k n (first ∷ before) answer later q (next, follows, more) =
     let rest = failing_from k (n + 1) before answer later q (rw (← one_more k n, ← follows.counted) more) in
     (λ e. omega (arith, rest.0 e), λ e. rest.1 (omega (arith, e)))
 
-counted_from : (k n : ℕ) (answers : List Answer) (q : FaultPlan) → AreAnswers (counted k n) answers q → q ≡ counted k (n + length answers)
+counted_from : (k n : ℕ) (answers : List Answer) (q : FaultPlan) → AreAnswers (counted k n) answers q
+    → q ≡ counted k (n + length answers)
 unfolding AreAnswers
 counted_from k n [] q e = e ∙ ap (counted k) (omega arith)
 counted_from k n (first ∷ answers) q (next, follows, more) =

@@ -59,7 +59,8 @@
 //! }
 //! ```
 ghost use Rattle.std.specs.Prelude.{◌≡◌, ◌≤◌, ◌<◌, length, All};
-ghost use Rattle.tp_link.specs.Device.{DeviceState, after_send, after_receive, after_close, received, MayAnswerSend, MayAnswerReceive};
+ghost use Rattle.tp_link.specs.Device.{DeviceState, after_send, after_receive, after_close, received};
+ghost use Rattle.tp_link.specs.Device.{MayAnswerSend, MayAnswerReceive};
 
 use thiserror::Error;
 

@@ -1,5 +1,7 @@
 -- What reading has told.
-use Rattle.std.proofs.Common.{◌≡◌, ◌≢◌, ℕ, zero, suc, ◌+◌, ◌-◌, ◌<◌, min, nat_lt, nat_eq, Bool, true, false, ◌||◌, List, [], ◌∷◌, ◌++◌, length, take, drop, Option, Result, Ok, Err, OnOk, OnErr, IfErr, refl, ap, sym, subst, ◌∙◌, arith, append_assoc, length-append}
+use Rattle.std.proofs.Common.{◌≡◌, ◌≢◌, ℕ, zero, suc, ◌+◌, ◌-◌, ◌<◌, min, nat_lt, nat_eq, Bool, true, false, ◌||◌, List, [], ◌∷◌}
+use Rattle.std.proofs.Common.{◌++◌, length, take, drop, Option, Result, Ok, Err, OnOk, OnErr, IfErr, refl, ap, sym, subst, ◌∙◌}
+use Rattle.std.proofs.Common.{arith, append_assoc, length-append}
 use Rattle.std.specs.Io.KnownBytes.{Appends}
 use Rattle.std.proofs.lemmas.Bool.Decides.{nat_tests}
 use Rattle.std.proofs.lemmas.List.{append-nil, take-append-drop, length-take}
@@ -17,7 +19,8 @@ use Rattle.tp_session.specs.Standing.{standing_of, StaysOn, IsWant}
 use Rattle.tp_session.specs.Stand.{Stand, number_after, IsPlain, Keeps, IsAt, HasToldEnded, Fails, FailsAtEnd, HasToldAll, GoesOn}
 use Rattle.tp_session.proofs.KnownBytes.{appends_more, appends_same, appends_front}
 use Rattle.tp_session.proofs.LineLemmas.{take_all}
-use Rattle.tp_session.proofs.StandLemmas.{answers_more, number_more, with_bytes, stands_more, line_now, lines_now, with_line, begins_line, stands_line, told_ended, told_whole, told_rest}
+use Rattle.tp_session.proofs.StandLemmas.{answers_more, number_more, with_bytes, stands_more, line_now, lines_now, with_line}
+use Rattle.tp_session.proofs.StandLemmas.{begins_line, stands_line, told_ended, told_whole, told_rest}
 
 -- ---- a line that is kept whole, or in part
 
@@ -36,42 +39,54 @@ take_fewer (x ∷ xs) zero (suc most) is = absurd (omega (arith, is))
 take_fewer (x ∷ xs) (suc kept) zero is = absurd (omega (arith, is))
 take_fewer (x ∷ xs) (suc kept) (suc most) is = ap (λ l. x ∷ l) (take_fewer xs kept most (omega (arith, is)))
 
-kept_line : (most : ℕ) (line bytes : List ℕ) (kept : ℕ) → kept ≡ min (length bytes) (most - length line) → take most line ++ take kept bytes ≡ take most (line ++ bytes)
+kept_line : (most : ℕ) (line bytes : List ℕ) (kept : ℕ) → kept ≡ min (length bytes) (most - length line)
+    → take most line ++ take kept bytes ≡ take most (line ++ bytes)
 kept_line zero line bytes zero is = refl
 kept_line zero line bytes (suc kept) is = absurd (omega (arith, is))
 kept_line (suc most) [] bytes kept is = take_fewer bytes kept (suc most) (omega (arith, is))
 kept_line (suc most) (b ∷ line) bytes kept is = ap (λ l. b ∷ l) (kept_line most line bytes kept (omega (arith, is)))
 
-kept_long : (most line bytes kept : ℕ) → kept ≡ min bytes (most - line) → (nat_lt most line || nat_lt kept bytes) ≡ nat_lt most (line + bytes)
+kept_long : (most line bytes kept : ℕ) → kept ≡ min bytes (most - line)
+    → (nat_lt most line || nat_lt kept bytes) ≡ nat_lt most (line + bytes)
 kept_long most line bytes kept is = grind (arith, nat_tests, is)
 
-pub kept_whole : (p : Progress) (number : ℕ) (line : List ℕ) → Keeps p number line → p.long ≡ false → (p.line.items ≡ line) × (nat_lt most_line (length line) ≡ false)
+pub kept_whole : (p : Progress) (number : ℕ) (line : List ℕ) → Keeps p number line → p.long ≡ false
+    → (p.line.items ≡ line) × (nat_lt most_line (length line) ≡ false)
 kept_whole p number line keeps short =
     let test : nat_lt most_line (length line) ≡ false = sym keeps.long_is ∙ short in
     (keeps.line_is ∙ take_all most_line line (grind (arith, nat_tests)), test)
 
-pub said_whole : (line : List ℕ) (ended : Bool) → ended ≡ true → without_return line ≡ said_in record { bytes = line; ended = ended }
+pub said_whole : (line : List ℕ) (ended : Bool) → ended ≡ true
+    → without_return line ≡ said_in record { bytes = line; ended = ended }
 said_whole line ended e = rw e refl
 
 pub said_rest : (line : List ℕ) (ended : Bool) → ended ≡ false → line ≡ said_in record { bytes = line; ended = ended }
 said_rest line ended e = rw e refl
 
-pub answered_now : (trace : Bool) (p : Progress) (number : ℕ) (line says : List ℕ) (ended : Bool) (before : Standing) (told : List ℕ) (after : Standing) → Keeps p number line → nat_lt most_line (length line) ≡ false
-    → says ≡ said_in record { bytes = line; ended = ended } → Answers trace p.number (asked_by says) before told after → Answers trace number (asked_in record { bytes = line; ended = ended }) before told after
+pub answered_now : (trace : Bool) (p : Progress) (number : ℕ) (line says : List ℕ) (ended : Bool) (before : Standing)
+    (told : List ℕ) (after : Standing) → Keeps p number line → nat_lt most_line (length line) ≡ false
+    → says ≡ said_in record { bytes = line; ended = ended } → Answers trace p.number (asked_by says) before told after
+    → Answers trace number (asked_in record { bytes = line; ended = ended }) before told after
 answered_now trace p number line says ended before told after keeps short is answer =
     let numbered = subst (λ n. Answers trace n (asked_by says) before told after) keeps.number_is answer in
     let said = subst (λ l. Answers trace number (asked_by l) before told after) is numbered in
     rw short said
 
 -- more of a line, of which so much is kept as there is room for
-pub keeps_more : (p q : Progress) (number : ℕ) (line bytes : List ℕ) (kept : ℕ) → Keeps p number line → kept ≡ min (length bytes) (most_line - length p.line.items) → q.number ≡ p.number → q.line.items ≡ p.line.items ++ take kept bytes
+pub keeps_more : (p q : Progress) (number : ℕ) (line bytes : List ℕ) (kept : ℕ) → Keeps p number line
+    → kept ≡ min (length bytes) (most_line - length p.line.items) → q.number ≡ p.number
+    → q.line.items ≡ p.line.items ++ take kept bytes
     → q.long ≡ (p.long || nat_lt kept (length bytes)) → Keeps q number (line ++ bytes)
 keeps_more p q number line bytes kept keeps many number_is line_is long_is =
     let had : length p.line.items ≡ min most_line (length line) = ap length keeps.line_is ∙ length-take most_line line in
     record {
       number_is = number_is ∙ keeps.number_is;
-      line_is = line_is ∙ ap (λ l. l ++ take kept bytes) keeps.line_is ∙ kept_line most_line line bytes kept (omega (arith, had, many));
-      long_is = long_is ∙ ap (λ b. b || nat_lt kept (length bytes)) keeps.long_is ∙ kept_long most_line (length line) (length bytes) kept (omega (arith, had, many)) ∙ ap (nat_lt most_line) (sym (length-append line bytes));
+      line_is =
+          line_is ∙ ap (λ l. l ++ take kept bytes) keeps.line_is ∙ kept_line most_line line bytes kept (omega (arith, had, many));
+      long_is =
+          long_is ∙ ap (λ b. b || nat_lt kept (length bytes)) keeps.long_is
+          ∙ kept_long most_line (length line) (length bytes) kept (omega (arith, had, many))
+          ∙ ap (nat_lt most_line) (sym (length-append line bytes));
     }
 
 pub nothing_left : (line kept : List ℕ) (n : ℕ) → kept ≡ take most_line line → n ≡ length kept → true ≡ nat_eq n 0 → line ≡ []
@@ -80,23 +95,32 @@ nothing_left (b ∷ line) kept n is long none =
     let nothing : n ≡ 0 = grind (arith, nat_tests, none) in
     absurd (omega (arith, nothing, long, ap length is, length-take most_line (b ∷ line)))
 
-pub something_left : (line kept : List ℕ) (n : ℕ) → kept ≡ take most_line line → n ≡ length kept → false ≡ nat_eq n 0 → 0 < length line
+pub something_left : (line kept : List ℕ) (n : ℕ) → kept ≡ take most_line line → n ≡ length kept → false ≡ nat_eq n 0
+    → 0 < length line
 something_left line kept n is long some =
     let other : n ≢ 0 = grind (arith, nat_tests, some) in
     omega (arith, other, long, ap length is, length-take most_line line)
 
 -- ---- from one stand to the next
 
-module _ {D : Type 0} (state : D → DeviceState) (trace : Bool) (begun now : Option (List ℕ)) (p : Progress) (service : Service D) (s : Stand) (at : IsAt state trace begun p service now s) where
+module _ {D : Type 0} (state : D → DeviceState) (trace : Bool) (begun now : Option (List ℕ)) (p : Progress) (service : Service D)
+    (s : Stand) (at : IsAt state trace begun p service now s) where
   -- the answer to the line that is being read
-  pub answer_at : (ended : Bool) (here : List ℕ) (after : Standing) → Answers service.trace (number_after 1 s.lines) (asked_in (line_now s ended)) (standing_of service) here after
+  pub answer_at : (ended : Bool) (here : List ℕ) (after : Standing)
+      → Answers service.trace (number_after 1 s.lines) (asked_in (line_now s ended)) (standing_of service) here after
       → Answers trace (number_after 1 s.lines) (asked_in (line_now s ended)) s.standing here after
   answer_at ended here after answer =
       subst (λ b. Answers trace (number_after 1 s.lines) (asked_in (line_now s ended)) b here after) at.standing
-      (subst (λ t. Answers t (number_after 1 s.lines) (asked_in (line_now s ended)) (standing_of service) here after) at.trace_is answer)
+      (subst (λ t. Answers t (number_after 1 s.lines) (asked_in (line_now s ended)) (standing_of service) here after) at.trace_is
+      answer)
 
   has_told : (taken : List ℕ) → taken ≡ s.taken → HasToldEnded trace taken begun now
-  has_told taken is = record { told = s.told; is = subst (λ l. AreTold trace (ended_lines l) s.told) (sym is) (told_ended trace s at.stands); wrote = at.wrote }
+  has_told taken is =
+      record {
+        told = s.told;
+        is = subst (λ l. AreTold trace (ended_lines l) s.told) (sym is) (told_ended trace s at.stands);
+        wrote = at.wrote;
+      }
 
   -- what was wanted was refused before anything was written
   pub fails_wanting : (bytes : List ℕ) (e : ServeFault) → IsWant e → Fails trace s.taken bytes begun now e
@@ -111,26 +135,50 @@ module _ {D : Type 0} (state : D → DeviceState) (trace : Bool) (begun now : Op
   wanting_at_end Read want = absurd want
   wanting_at_end Write want = absurd want
 
-  some_written : (now' : Option (List ℕ)) (here : List ℕ) (n : ℕ) → Appends now now' (take n here) → (m : ℕ) × Appends begun now' (take m (s.told ++ here))
+  some_written : (now' : Option (List ℕ)) (here : List ℕ) (n : ℕ) → Appends now now' (take n here)
+      → (m : ℕ) × Appends begun now' (take m (s.told ++ here))
   some_written now' here n wrote =
-      let all : s.told ++ here ≡ (s.told ++ take n here) ++ drop n here = ap (λ l. s.told ++ l) (sym (take-append-drop n here)) ∙ sym (append_assoc s.told (take n here) (drop n here)) in
-      appends_front begun now' (s.told ++ take n here) (drop n here) (s.told ++ here) all (appends_more begun now now' s.told (take n here) at.wrote wrote)
+      let all : s.told ++ here ≡ (s.told ++ take n here) ++ drop n here =
+      ap (λ l. s.told ++ l) (sym (take-append-drop n here)) ∙ sym (append_assoc s.told (take n here) (drop n here)) in
+      appends_front begun now' (s.told ++ take n here) (drop n here) (s.told ++ here) all
+      (appends_more begun now now' s.told (take n here) at.wrote wrote)
 
   -- the answer could not be written
-  pub fails_writing : (now' : Option (List ℕ)) (here : List ℕ) (after : Standing) → Answers trace (number_after 1 s.lines) (asked_in (line_now s true)) s.standing here after → (n : ℕ) × Appends now now' (take n here)
+  pub fails_writing : (now' : Option (List ℕ)) (here : List ℕ) (after : Standing)
+      → Answers trace (number_after 1 s.lines) (asked_in (line_now s true)) s.standing here after
+      → (n : ℕ) × Appends now now' (take n here)
       → Fails trace s.taken (line_feed ∷ []) begun now' Write
   fails_writing now' here after answer wrote =
-      let some = some_written now' here wrote.0 wrote.1 in
-      (lines_now s true, begins_line trace s at.stands, record { told = s.told ++ here; is = (after, answers_more trace 1 nothing_open s.lines s.told s.standing (line_now s true) here after at.stands.answered answer); some = some.0; wrote = some.1 })
+      let some = some_written now' here wrote.0 wrote.1 in (
+        lines_now s true,
+        begins_line trace s at.stands,
+        record {
+          told = s.told ++ here;
+          is = (
+            after,
+            answers_more trace 1 nothing_open s.lines s.told s.standing
+                (line_now s true) here after at.stands.answered answer,
+          );
+          some = some.0;
+          wrote = some.1;
+        },
+      )
 
-  pub goes_line : (q : Progress) (service' : Service D) (now' : Option (List ℕ)) (here : List ℕ) → Answers trace (number_after 1 s.lines) (asked_in (line_now s true)) s.standing here (standing_of service')
-      → StaysOn state service service' → Appends now now' here → q.number ≡ next_number p.number → q.line.items ≡ [] → q.long ≡ false → GoesOn state trace begun q service' now' (s.taken ++ line_feed ∷ [])
+  pub goes_line : (q : Progress) (service' : Service D) (now' : Option (List ℕ)) (here : List ℕ)
+      → Answers trace (number_after 1 s.lines) (asked_in (line_now s true)) s.standing here (standing_of service')
+      → StaysOn state service service' → Appends now now' here → q.number ≡ next_number p.number → q.line.items ≡ []
+      → q.long ≡ false → GoesOn state trace begun q service' now' (s.taken ++ line_feed ∷ [])
   goes_line q service' now' here answer stays wrote number_is line_is long_is = record {
     stand = with_line s here (standing_of service');
     taken_is = refl;
     is = record {
       stands = stands_line trace s here (standing_of service') at.stands answer;
-      keeps = record { number_is = number_is ∙ ap next_number at.keeps.number_is ∙ sym (number_more 1 s.lines (line_now s true)); line_is = line_is; long_is = long_is };
+      keeps =
+          record {
+            number_is = number_is ∙ ap next_number at.keeps.number_is ∙ sym (number_more 1 s.lines (line_now s true));
+            line_is = line_is;
+            long_is = long_is;
+          };
       standing = refl;
       trace_is = stays.trace ∙ at.trace_is;
       fit = stays.fit at.fit;
@@ -138,46 +186,74 @@ module _ {D : Type 0} (state : D → DeviceState) (trace : Bool) (begun now : Op
     };
   }
 
-  pub goes_plain : (q : Progress) (bytes : List ℕ) → IsPlain bytes → Keeps q (number_after 1 s.lines) (s.line ++ bytes) → GoesOn state trace begun q service now (s.taken ++ bytes)
+  pub goes_plain : (q : Progress) (bytes : List ℕ) → IsPlain bytes → Keeps q (number_after 1 s.lines) (s.line ++ bytes)
+      → GoesOn state trace begun q service now (s.taken ++ bytes)
   goes_plain q bytes plain keeps = record {
     stand = with_bytes s bytes;
     taken_is = refl;
-    is = record { stands = stands_more trace s bytes at.stands plain; keeps = keeps; standing = at.standing; trace_is = at.trace_is; fit = at.fit; wrote = at.wrote };
+    is =
+        record {
+          stands = stands_more trace s bytes at.stands plain;
+          keeps = keeps;
+          standing = at.standing;
+          trace_is = at.trace_is;
+          fit = at.fit;
+          wrote = at.wrote;
+        };
   }
 
   -- the end of the input
   pub told_nothing_more : s.line ≡ [] → HasToldAll trace s.taken begun now
   told_nothing_more none = record { told = s.told; is = told_whole trace s at.stands none; wrote = at.wrote }
 
-  module _ (some : 0 < length s.line) (here : List ℕ) (after : Standing) (answer : Answers trace (number_after 1 s.lines) (asked_in (line_now s false)) s.standing here after) (now' : Option (List ℕ)) {U : Type 0} (r : Result U ServeFault) where
+  module _ (some : 0 < length s.line) (here : List ℕ) (after : Standing)
+      (answer : Answers trace (number_after 1 s.lines) (asked_in (line_now s false)) s.standing here after)
+      (now' : Option (List ℕ)) {U : Type 0} (r : Result U ServeFault) where
     pub told_last : OnOk r (Appends now now' here) → OnOk r (HasToldAll trace s.taken begun now')
     told_last wrote = by_result r wrote
       where
         by_result : (r : Result U ServeFault) → OnOk r (Appends now now' here) → OnOk r (HasToldAll trace s.taken begun now')
-        by_result (Ok u) h = record { told = s.told ++ here; is = told_rest trace s here after at.stands some answer; wrote = appends_more begun now now' s.told here at.wrote h }
+        by_result (Ok u) h =
+            record {
+              told = s.told ++ here;
+              is = told_rest trace s here after at.stands some answer;
+              wrote = appends_more begun now now' s.told here at.wrote h;
+            }
         by_result (Err e) h = tt
 
-    pub fails_last : OnErr r ((n : ℕ) × Appends now now' (take n here)) → IfErr r (λ e. e ≡ Write) → IfErr r (FailsAtEnd trace s.taken begun now')
+    pub fails_last : OnErr r ((n : ℕ) × Appends now now' (take n here)) → IfErr r (λ e. e ≡ Write)
+        → IfErr r (FailsAtEnd trace s.taken begun now')
     fails_last wrote fault = by_result r wrote fault
       where
-        by_result : (r : Result U ServeFault) → OnErr r ((n : ℕ) × Appends now now' (take n here)) → IfErr r (λ e. e ≡ Write) → IfErr r (FailsAtEnd trace s.taken begun now')
+        by_result : (r : Result U ServeFault) → OnErr r ((n : ℕ) × Appends now now' (take n here)) → IfErr r (λ e. e ≡ Write)
+            → IfErr r (FailsAtEnd trace s.taken begun now')
         by_result (Ok u) h f = tt
         by_result (Err e) h f =
             let written = some_written now' here h.0 h.1 in
-            rw f record { told = s.told ++ here; is = (told_rest trace s here after at.stands some answer); some = written.0; wrote = written.1 }
+            rw f record {
+              told = s.told ++ here;
+              is = (told_rest trace s here after at.stands some answer);
+              some = written.0;
+              wrote = written.1;
+            }
 
 -- ---- some bytes
 
-pub goes_same : {D : Type 0} (state : D → DeviceState) (trace : Bool) (begun now : Option (List ℕ)) (p : Progress) (service : Service D) (xs ys : List ℕ) → xs ≡ ys → GoesOn state trace begun p service now xs → GoesOn state trace begun p service now ys
+pub goes_same : {D : Type 0} (state : D → DeviceState) (trace : Bool) (begun now : Option (List ℕ)) (p : Progress)
+    (service : Service D) (xs ys : List ℕ) → xs ≡ ys → GoesOn state trace begun p service now xs
+    → GoesOn state trace begun p service now ys
 goes_same state trace begun now p service xs ys e goes = record { stand = goes.stand; taken_is = goes.taken_is ∙ e; is = goes.is }
 
 -- the lines that some of the first bytes end were told
-before_more : (trace : Bool) (first taken front middle rest bytes : List ℕ) (begun now : Option (List ℕ)) → taken ≡ first ++ front → bytes ≡ front ++ (middle ++ rest)
-    → (n : ℕ) × HasToldEnded trace (taken ++ take n middle) begun now → (n : ℕ) × HasToldEnded trace (first ++ take n bytes) begun now
+before_more : (trace : Bool) (first taken front middle rest bytes : List ℕ) (begun now : Option (List ℕ))
+    → taken ≡ first ++ front → bytes ≡ front ++ (middle ++ rest)
+    → (n : ℕ) × HasToldEnded trace (taken ++ take n middle) begun now
+    → (n : ℕ) × HasToldEnded trace (first ++ take n bytes) begun now
 before_more trace first taken front middle rest bytes begun now is split (n, told) =
     let xs = front ++ take n middle in
     let all : bytes ≡ xs ++ (drop n middle ++ rest) =
-    split ∙ ap (λ l. front ++ (l ++ rest)) (sym (take-append-drop n middle)) ∙ ap (λ l. front ++ l) (append_assoc (take n middle) (drop n middle) rest)
+    split ∙ ap (λ l. front ++ (l ++ rest)) (sym (take-append-drop n middle))
+    ∙ ap (λ l. front ++ l) (append_assoc (take n middle) (drop n middle) rest)
     ∙ sym (append_assoc front (take n middle) (drop n middle ++ rest)) in
     let same : taken ++ take n middle ≡ first ++ take (length xs) bytes =
     ap (λ l. l ++ take n middle) is ∙ append_assoc first front (take n middle)
@@ -185,7 +261,9 @@ before_more trace first taken front middle rest bytes begun now is split (n, tol
     (length xs, subst (λ l. HasToldEnded trace l begun now) same told)
 
 -- an error at bytes behind some others
-pub fails_more : (trace : Bool) (first taken front middle rest bytes : List ℕ) (begun now : Option (List ℕ)) (e : ServeFault) → taken ≡ first ++ front → bytes ≡ front ++ (middle ++ rest) → Fails trace taken middle begun now e → Fails trace first bytes begun now e
+pub fails_more : (trace : Bool) (first taken front middle rest bytes : List ℕ) (begun now : Option (List ℕ)) (e : ServeFault)
+    → taken ≡ first ++ front → bytes ≡ front ++ (middle ++ rest) → Fails trace taken middle begun now e
+    → Fails trace first bytes begun now e
 fails_more trace first taken front middle rest bytes begun now Read is split fails = absurd fails
 fails_more trace first taken front middle rest bytes begun now Write is split fails = (
   fails.0,
@@ -193,14 +271,20 @@ fails_more trace first taken front middle rest bytes begun now Write is split fa
     rest = λ more. fails.1.rest (rest ++ more);
     is = λ more.
         ap lines_of (
-        ap (λ l. (first ++ l) ++ more) split ∙ append_assoc first (front ++ (middle ++ rest)) more ∙ ap (λ l. first ++ l) (append_assoc front (middle ++ rest) more)
-        ∙ sym (append_assoc first front ((middle ++ rest) ++ more)) ∙ ap (λ l. (first ++ front) ++ l) (append_assoc middle rest more) ∙ ap (λ l. l ++ (middle ++ (rest ++ more))) (sym is) ∙ sym (append_assoc taken middle (rest ++ more))
+        ap (λ l. (first ++ l) ++ more) split ∙ append_assoc first (front ++ (middle ++ rest)) more
+        ∙ ap (λ l. first ++ l) (append_assoc front (middle ++ rest) more)
+        ∙ sym (append_assoc first front ((middle ++ rest) ++ more)) ∙ ap (λ l. (first ++ front) ++ l)
+        (append_assoc middle rest more) ∙ ap (λ l. l ++ (middle ++ (rest ++ more))) (sym is)
+        ∙ sym (append_assoc taken middle (rest ++ more))
         ) ∙ fails.1.is (rest ++ more);
   },
   fails.2,
 )
-fails_more trace first taken front middle rest bytes begun now Memory is split fails = before_more trace first taken front middle rest bytes begun now is split fails
-fails_more trace first taken front middle rest bytes begun now Thread is split fails = before_more trace first taken front middle rest bytes begun now is split fails
+fails_more trace first taken front middle rest bytes begun now Memory is split fails =
+    before_more trace first taken front middle rest bytes begun now is split fails
+fails_more trace first taken front middle rest bytes begun now Thread is split fails =
+    before_more trace first taken front middle rest bytes begun now is split fails
 
-pub some_of : (now now' : Option (List ℕ)) (xs ys : List ℕ) → xs ≡ ys → (n : ℕ) × Appends now now' (take n xs) → (n : ℕ) × Appends now now' (take n ys)
+pub some_of : (now now' : Option (List ℕ)) (xs ys : List ℕ) → xs ≡ ys → (n : ℕ) × Appends now now' (take n xs)
+    → (n : ℕ) × Appends now now' (take n ys)
 some_of now now' xs ys e (n, wrote) = (n, appends_same now now' (take n xs) (take n ys) (ap (take n) e) wrote)

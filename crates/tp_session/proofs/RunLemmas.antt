@@ -1,5 +1,7 @@
 -- Runs of the packets of a session.
-use Rattle.std.proofs.Common.{◌≡◌, ℕ, zero, suc, ◌++◌, take, drop, ◌+◌, ◌*◌, ◌≤◌, ◌<◌, nat_eq, nat_lt, not, ◌&&◌, Bool, true, false, cond, List, [], ◌∷◌, length, map, position, slice_get, vec_len, All, Some, None, refl, ap, sym, subst, ◌∙◌, arith}
+use Rattle.std.proofs.Common.{◌≡◌, ℕ, zero, suc, ◌++◌, take, drop, ◌+◌, ◌*◌, ◌≤◌, ◌<◌, nat_eq, nat_lt, not, ◌&&◌, Bool, true}
+use Rattle.std.proofs.Common.{false, cond, List, [], ◌∷◌, length, map, position, slice_get, vec_len, All, Some, None, refl, ap}
+use Rattle.std.proofs.Common.{sym, subst, ◌∙◌, arith}
 use Rattle.std.specs.List.{list_all, AllZip, position_or_len}
 use Rattle.std.proofs.Math.Logic.{∥∥₁_elim}
 use Rattle.std.specs.Coded.{le_prop}
@@ -49,7 +51,8 @@ bytes_below (b ∷ packet) e =
     let least : b < 256 = grind (arith, nat_tests, test) in
     All-cons (λ byte. byte < 256) b packet least (bytes_below packet both.1)
 
-pub whole_packets : (image : ImageValue) (packets : List (List ℕ)) → list_all (is_whole image) packets ≡ true → All (IsPacket image) packets
+pub whole_packets : (image : ImageValue) (packets : List (List ℕ)) → list_all (is_whole image) packets ≡ true
+    → All (IsPacket image) packets
 whole_packets image [] e = All-nil (IsPacket image)
 whole_packets image (p ∷ packets) e =
     let all = and_true (is_whole image p) (list_all (is_whole image) packets) e in
@@ -58,7 +61,8 @@ whole_packets image (p ∷ packets) e =
     let long : length p ≡ 4 * image.packet = grind (arith, nat_tests, test) in
     All-cons (IsPacket image) p packets record { long = long; bytes = bytes_below p both.1 } (whole_packets image packets all.1)
 
-all_before : (image : ImageValue) (packets : List (List ℕ)) → list_all (is_whole image) packets ≡ true → position_or_len (λ p. not (nat_eq (length p) (4 * image.packet))) packets ≡ length packets
+all_before : (image : ImageValue) (packets : List (List ℕ)) → list_all (is_whole image) packets ≡ true
+    → position_or_len (λ p. not (nat_eq (length p) (4 * image.packet))) packets ≡ length packets
 all_before image [] e = refl
 all_before image (p ∷ packets) e =
     let all = and_true (is_whole image p) (list_all (is_whole image) packets) e in
@@ -67,12 +71,15 @@ all_before image (p ∷ packets) e =
     ap (λ b. cond (not (not b)) (1 + position_or_len (λ p. not (nat_eq (length p) (4 * image.packet))) packets) 0) both.0
     ∙ ap (λ n. 1 + n) (all_before image packets all.1) ∙ one
 
-none_other : (image : ImageValue) (packets : List (List ℕ)) → list_all (is_whole image) packets ≡ true → position (λ p. not (nat_eq (length p) (4 * image.packet))) packets ≡ None
+none_other : (image : ImageValue) (packets : List (List ℕ)) → list_all (is_whole image) packets ≡ true
+    → position (λ p. not (nat_eq (length p) (4 * image.packet))) packets ≡ None
 none_other image packets e =
     let test : nat_lt (length packets) (length packets) ≡ false = grind (arith, nat_tests) in
-    ap (λ n. cond (nat_lt n (length packets)) (Some n) None) (all_before image packets e) ∙ ap (λ b. cond b (Some (length packets)) None) test
+    ap (λ n. cond (nat_lt n (length packets)) (Some n) None) (all_before image packets e)
+    ∙ ap (λ b. cond b (Some (length packets)) None) test
 
-pub may_begin : (members : ℕ) (batch : Batch) → 1 ≤ members → members ≤ 64 → length batch.packets ≤ 1024 → list_all (is_whole batch.image) batch.packets ≡ true → job_fault members batch ≡ None
+pub may_begin : (members : ℕ) (batch : Batch) → 1 ≤ members → members ≤ 64 → length batch.packets ≤ 1024
+    → list_all (is_whole batch.image) batch.packets ≡ true → job_fault members batch ≡ None
 may_begin members batch least most few whole =
     let some : nat_eq members 0 ≡ false = grind (arith, nat_tests) in
     let enough : nat_lt 64 members ≡ false = grind (arith, nat_tests) in
@@ -81,76 +88,117 @@ may_begin members batch least most few whole =
 
 -- ---- devices that are fit
 
-pub short_messages : (image : ImageValue) (budget : ℕ) → ∥ IsAcceptable image budget ∥₁ → (4 * image.packet ≤ 256) × (4 * image.result ≤ 256)
+pub short_messages : (image : ImageValue) (budget : ℕ) → ∥ IsAcceptable image budget ∥₁
+    → (4 * image.packet ≤ 256) × (4 * image.result ≤ 256)
 short_messages image budget acceptable = (
   ∥∥₁_elim acceptable le_prop (λ a. omega (arith, a.in_range.packet.1)),
   ∥∥₁_elim acceptable le_prop (λ a. omega (arith, a.in_range.result.1)),
 )
 
-fit_takes : (image : ImageValue) (devices : Devices) → 4 * image.packet ≤ 256 → 4 * image.result ≤ 256 → AreFitOf devices → TakeAll image devices
+fit_takes : (image : ImageValue) (devices : Devices) → 4 * image.packet ≤ 256 → 4 * image.result ≤ 256 → AreFitOf devices
+    → TakeAll image devices
 fit_takes image devices packet result fit = record {
   source = record { opened = fit.source.opened; sure = fit.source.sound; room = omega (arith, packet, fit.source.room) };
   sink = record { opened = fit.sink.opened; sure = fit.sink.sound; room = omega (arith, result, fit.sink.room) };
   trace = record { opened = fit.trace.opened; sure = fit.trace.sound; room = fit.trace.room };
 }
 
-pub all_take : (image : ImageValue) (all : List Devices) → 4 * image.packet ≤ 256 → 4 * image.result ≤ 256 → All AreFitOf all → All (TakeAll image) all
+pub all_take : (image : ImageValue) (all : List Devices) → 4 * image.packet ≤ 256 → 4 * image.result ≤ 256 → All AreFitOf all
+    → All (TakeAll image) all
 all_take image [] packet result fit = All-nil (TakeAll image)
-all_take image (d ∷ all) packet result fit = All-cons (TakeAll image) d all (fit_takes image d packet result (All-head AreFitOf d all fit)) (all_take image all packet result (All-rest AreFitOf d all (d ∷ all) refl fit))
+all_take image (d ∷ all) packet result fit =
+    All-cons (TakeAll image) d all (fit_takes image d packet result (All-head AreFitOf d all fit))
+    (all_take image all packet result (All-rest AreFitOf d all (d ∷ all) refl fit))
 
 fit_still : (d e : Devices) → SameSettings d e → AreFitOf d → AreFitOf e
 fit_still d e same fit = record {
-  source = record { opened = same.source.opened ∙ fit.source.opened; room = omega (arith, same.source.room, fit.source.room); sound = same.source.fallible ∙ fit.source.sound };
-  sink = record { opened = same.sink.opened ∙ fit.sink.opened; room = omega (arith, same.sink.room, fit.sink.room); sound = same.sink.fallible ∙ fit.sink.sound };
-  trace = record { opened = same.trace.opened ∙ fit.trace.opened; room = omega (arith, same.trace.room, fit.trace.room); sound = same.trace.fallible ∙ fit.trace.sound };
+  source =
+      record {
+        opened = same.source.opened ∙ fit.source.opened;
+        room = omega (arith, same.source.room, fit.source.room);
+        sound = same.source.fallible ∙ fit.source.sound;
+      };
+  sink =
+      record {
+        opened = same.sink.opened ∙ fit.sink.opened;
+        room = omega (arith, same.sink.room, fit.sink.room);
+        sound = same.sink.fallible ∙ fit.sink.sound;
+      };
+  trace =
+      record {
+        opened = same.trace.opened ∙ fit.trace.opened;
+        room = omega (arith, same.trace.room, fit.trace.room);
+        sound = same.trace.fallible ∙ fit.trace.sound;
+      };
 }
 
 pub all_fit_still : (before after : List Devices) → AllZip SameSettings before after → All AreFitOf before → All AreFitOf after
 all_fit_still [] [] same fit = All-nil AreFitOf
 all_fit_still [] (e ∷ after) same fit = absurd same
 all_fit_still (d ∷ before) [] same fit = absurd same
-all_fit_still (d ∷ before) (e ∷ after) same fit = All-cons AreFitOf e after (fit_still d e same.0 (All-head AreFitOf d before fit)) (all_fit_still before after same.1 (All-rest AreFitOf d before (d ∷ before) refl fit))
+all_fit_still (d ∷ before) (e ∷ after) same fit =
+    All-cons AreFitOf e after (fit_still d e same.0 (All-head AreFitOf d before fit))
+    (all_fit_still before after same.1 (All-rest AreFitOf d before (d ∷ before) refl fit))
 
 -- devices of the first members, and of the others
-pub fit_taken : {A : Type 0} (f : A → Devices) (n : ℕ) (links : List A) → All AreFitOf (map f links) → All AreFitOf (map f (take n links))
+pub fit_taken : {A : Type 0} (f : A → Devices) (n : ℕ) (links : List A) → All AreFitOf (map f links)
+    → All AreFitOf (map f (take n links))
 fit_taken f zero links fit = All-nil AreFitOf
 fit_taken f (suc n) [] fit = All-nil AreFitOf
-fit_taken f (suc n) (l ∷ links) fit = All-cons AreFitOf (f l) (map f (take n links)) (All-head AreFitOf (f l) (map f links) fit) (fit_taken f n links (All-rest AreFitOf (f l) (map f links) (f l ∷ map f links) refl fit))
+fit_taken f (suc n) (l ∷ links) fit =
+    All-cons AreFitOf (f l) (map f (take n links)) (All-head AreFitOf (f l) (map f links) fit)
+    (fit_taken f n links (All-rest AreFitOf (f l) (map f links) (f l ∷ map f links) refl fit))
 
-pub fit_left : {A : Type 0} (f : A → Devices) (n : ℕ) (links : List A) → All AreFitOf (map f links) → All AreFitOf (map f (drop n links))
+pub fit_left : {A : Type 0} (f : A → Devices) (n : ℕ) (links : List A) → All AreFitOf (map f links)
+    → All AreFitOf (map f (drop n links))
 fit_left f zero links fit = fit
 fit_left f (suc n) [] fit = All-nil AreFitOf
 fit_left f (suc n) (l ∷ links) fit = fit_left f n links (All-rest AreFitOf (f l) (map f links) (f l ∷ map f links) refl fit)
 
-pub fit_both : {A : Type 0} (f : A → Devices) (xs ys : List A) → All AreFitOf (map f xs) → All AreFitOf (map f ys) → All AreFitOf (map f (xs ++ ys))
+pub fit_both : {A : Type 0} (f : A → Devices) (xs ys : List A) → All AreFitOf (map f xs) → All AreFitOf (map f ys)
+    → All AreFitOf (map f (xs ++ ys))
 fit_both f [] ys one other = other
-fit_both f (x ∷ xs) ys one other = All-cons AreFitOf (f x) (map f (xs ++ ys)) (All-head AreFitOf (f x) (map f xs) one) (fit_both f xs ys (All-rest AreFitOf (f x) (map f xs) (f x ∷ map f xs) refl one) other)
+fit_both f (x ∷ xs) ys one other =
+    All-cons AreFitOf (f x) (map f (xs ++ ys)) (All-head AreFitOf (f x) (map f xs) one)
+    (fit_both f xs ys (All-rest AreFitOf (f x) (map f xs) (f x ∷ map f xs) refl one) other)
 
-pub as_many : {A B : Type 0} (f : A → Devices) (g : B → Devices) (xs : List A) (ys : List B) → AllZip SameSettings (map f xs) (map g ys) → length ys ≡ length xs
+pub as_many : {A B : Type 0} (f : A → Devices) (g : B → Devices) (xs : List A) (ys : List B)
+    → AllZip SameSettings (map f xs) (map g ys) → length ys ≡ length xs
 as_many f g xs ys same = sym (length-map ys g) ∙ AllZip-long SameSettings (map f xs) (map g ys) same ∙ length-map xs f
 
 -- ---- outcomes
 
-too_much : (image : ImageValue) (packet : List ℕ) (run : Run) → RunsAlone image packet run → most_trace < length run.trace → TracesTooMuch image packet
+too_much : (image : ImageValue) (packet : List ℕ) (run : Run) → RunsAlone image packet run → most_trace < length run.trace
+    → TracesTooMuch image packet
 too_much image packet run alone more =
     let end = ends_in image packet run alone in
-    record { state = end.0; way = record { count = run.steps; leads = end.1.leads }; more = subst (λ r. most_trace < length r.trace) end.1.gives more }
+    record {
+      state = end.0;
+      way = record { count = run.steps; leads = end.1.leads };
+      more = subst (λ r. most_trace < length r.trace) end.1.gives more;
+    }
 
-is_outcome : (image : ImageValue) (packet : List ℕ) (run : Run) (e : Entry) → RunsAlone image packet run → ComesTo run e → IsOutcome image packet e
-is_outcome image packet run (entry.Done done) alone comes = (subst (RunsAlone image packet) (sym comes.0) alone, subst (λ r. length r.trace ≤ most_trace) (sym comes.0) comes.1)
+is_outcome : (image : ImageValue) (packet : List ℕ) (run : Run) (e : Entry) → RunsAlone image packet run → ComesTo run e
+    → IsOutcome image packet e
+is_outcome image packet run (entry.Done done) alone comes =
+    (subst (RunsAlone image packet) (sym comes.0) alone, subst (λ r. length r.trace ≤ most_trace) (sym comes.0) comes.1)
 is_outcome image packet run (entry.Lost (cause.Link fault)) alone comes = too_much image packet run alone comes.1
 is_outcome image packet run (entry.Lost cause.Stopped) alone comes = absurd comes
 
 outcomes_of : (image : ImageValue) (packets : List (List ℕ)) (entries : List Entry) → length entries ≡ length packets
-    → ((i : ℕ) (packet : List ℕ) → slice_get packets i ≡ Some packet → (e : Entry) × (slice_get entries i ≡ Some e) × IsOutcome image packet e) → AreOutcomes image packets entries
+    → ((i : ℕ) (packet : List ℕ) → slice_get packets i ≡ Some packet
+    → (e : Entry) × (slice_get entries i ≡ Some e) × IsOutcome image packet e) → AreOutcomes image packets entries
 outcomes_of image [] [] long each = tt
 outcomes_of image [] (e ∷ entries) long each = absurd (omega (arith, long))
 outcomes_of image (p ∷ packets) [] long each = absurd (omega (arith, long))
 outcomes_of image (p ∷ packets) (e ∷ entries) long each =
-    let first = each 0 p refl in
-    (subst (IsOutcome image p) (sym (same_Some e first.0 first.1)) first.2, outcomes_of image packets entries (omega (arith, long)) (λ i packet at. each (suc i) packet at))
+    let first = each 0 p refl in (
+      subst (IsOutcome image p) (sym (same_Some e first.0 first.1)) first.2,
+      outcomes_of image packets entries (omega (arith, long)) (λ i packet at. each (suc i) packet at),
+    )
 
-pub outcomes : (batch : Batch) (budget : ℕ) (entries : List Entry) → length entries ≡ length batch.packets → LosesLongTracesAlone batch budget entries → AreOutcomes batch.image batch.packets entries
+pub outcomes : (batch : Batch) (budget : ℕ) (entries : List Entry) → length entries ≡ length batch.packets
+    → LosesLongTracesAlone batch budget entries → AreOutcomes batch.image batch.packets entries
 outcomes batch budget entries long complete =
     outcomes_of batch.image batch.packets entries long λ i packet at.
     let c = complete i packet at in
@@ -161,9 +209,11 @@ outcomes batch budget entries long complete =
 abbrev Packet : Type 0
 Packet = ArrayVec ℕ 256 (Unit {0})
 
-pub kept_whole : (kept : Kept) (packets : List Packet) → packets ≡ kept.packets.items → list_all (is_whole kept.image.image) (map (λ p. p.items) packets) ≡ true
+pub kept_whole : (kept : Kept) (packets : List Packet) → packets ≡ kept.packets.items
+    → list_all (is_whole kept.image.image) (map (λ p. p.items) packets) ≡ true
 kept_whole kept packets e =
-    ap (λ ps. list_all (is_whole kept.image.image) (map (λ p. p.items) ps)) e ∙ list_all-map (is_whole kept.image.image) (λ p. p.items) kept.packets.items ∙ kept.whole
+    ap (λ ps. list_all (is_whole kept.image.image) (map (λ p. p.items) ps)) e
+    ∙ list_all-map (is_whole kept.image.image) (λ p. p.items) kept.packets.items ∙ kept.whole
 
 pub kept_few : (kept : Kept) (packets : List Packet) → packets ≡ kept.packets.items → length (map (λ p. p.items) packets) ≤ 1024
 kept_few kept packets e = omega (arith, length-map packets (λ p. p.items), ap length e, kept.packets.ok.0, kept.few)
@@ -171,5 +221,7 @@ kept_few kept packets e = omega (arith, length-map packets (λ p. p.items), ap l
 pub kept_count : (kept : Kept) (n : ℕ) → n ≡ vec_len kept.packets → n ≡ length (map (λ p. p.items) kept.packets.items)
 kept_count kept n e = e ∙ kept.packets.ok.0 ∙ sym (length-map kept.packets.items (λ p. p.items))
 
-pub of_kept : (kept : Kept) (packets : List Packet) (entries : List Entry) → packets ≡ kept.packets.items → AreOutcomes kept.image.image (map (λ p. p.items) packets) entries → AreOutcomes kept.image.image (map (λ p. p.items) kept.packets.items) entries
+pub of_kept : (kept : Kept) (packets : List Packet) (entries : List Entry) → packets ≡ kept.packets.items
+    → AreOutcomes kept.image.image (map (λ p. p.items) packets) entries
+    → AreOutcomes kept.image.image (map (λ p. p.items) kept.packets.items) entries
 of_kept kept packets entries e outcomes = subst (λ ps. AreOutcomes kept.image.image (map (λ p. p.items) ps) entries) e outcomes

@@ -1,5 +1,6 @@
 -- From one stand to the next.
-use Rattle.std.proofs.Common.{◌≡◌, ℕ, ◌<◌, Bool, true, false, List, [], ◌∷◌, ◌++◌, length, refl, ap, sym, subst, ◌∙◌, arith, append_assoc}
+use Rattle.std.proofs.Common.{◌≡◌, ℕ, ◌<◌, Bool, true, false, List, [], ◌∷◌, ◌++◌, length, refl, ap, sym, subst, ◌∙◌, arith}
+use Rattle.std.proofs.Common.{append_assoc}
 use Rattle.std.specs.List.{filter}
 use Rattle.std.proofs.lemmas.List.{append-nil}
 use Rattle.tp_requests.specs.Lines.{Line, line_feed, lines_of, ended_lines}
@@ -10,14 +11,31 @@ use Rattle.tp_session.proofs.LineLemmas.{plain_more, lines_plain, lines_none, li
 
 -- ---- the answers to one line more
 
-pub answers_more : (trace : Bool) (number : ℕ) (before : Standing) (lines : List Line) (told : List ℕ) (between : Standing) (line : Line) (here : List ℕ) (after : Standing)
-    → AreAnswers trace number before lines told between → Answers trace (number_after number lines) (asked_in line) between here after → AreAnswers trace number before (lines ++ line ∷ []) (told ++ here) after
-answers_more trace number before [] told between line here after all one =
-    (here, [], after, subst (λ s. Answers trace number (asked_in line) s here after) all.1 one, (refl, refl), ap (λ l. l ++ here) all.0 ∙ sym (append-nil here))
-answers_more trace number before (first ∷ lines) told between line here after (front, rest, next, answer, others, is) one =
-    (front, rest ++ here, next, answer, answers_more trace (next_number number) next lines rest between line here after others one, ap (λ l. l ++ here) is ∙ append_assoc front rest here)
+pub answers_more : (trace : Bool) (number : ℕ) (before : Standing) (lines : List Line) (told : List ℕ) (between : Standing)
+    (line : Line) (here : List ℕ) (after : Standing)
+    → AreAnswers trace number before lines told between
+    → Answers trace (number_after number lines) (asked_in line) between here after
+    → AreAnswers trace number before (lines ++ line ∷ []) (told ++ here) after
+answers_more trace number before [] told between line here after all one = (
+  here,
+  [],
+  after,
+  subst (λ s. Answers trace number (asked_in line) s here after) all.1 one,
+  (refl, refl),
+  ap (λ l. l ++ here) all.0 ∙ sym (append-nil here),
+)
+answers_more trace number before (first ∷ lines) told between line here after (front, rest, next, answer, others, is) one = (
+  front,
+  rest ++ here,
+  next,
+  answer,
+  answers_more trace (next_number number) next lines rest between line here after others
+      one,
+  ap (λ l. l ++ here) is ∙ append_assoc front rest here,
+)
 
-pub number_more : (number : ℕ) (lines : List Line) (line : Line) → number_after number (lines ++ line ∷ []) ≡ next_number (number_after number lines)
+pub number_more : (number : ℕ) (lines : List Line) (line : Line)
+    → number_after number (lines ++ line ∷ []) ≡ next_number (number_after number lines)
 number_more number [] line = refl
 number_more number (first ∷ lines) line = number_more (next_number number) lines line
 
@@ -57,7 +75,9 @@ with_bytes s bytes = record s { taken = s.taken ++ bytes; line = s.line ++ bytes
 pub stands_more : (trace : Bool) (s : Stand) (bytes : List ℕ) → Stands trace s → IsPlain bytes → Stands trace (with_bytes s bytes)
 stands_more trace s bytes stands plain = record {
   ended = stands.ended;
-  goes = λ more. ap lines_of (append_assoc s.taken bytes more) ∙ stands.goes (bytes ++ more) ∙ ap (λ l. s.lines ++ lines_of l) (sym (append_assoc s.line bytes more));
+  goes =
+      λ more. ap lines_of (append_assoc s.taken bytes more) ∙ stands.goes (bytes ++ more)
+      ∙ ap (λ l. s.lines ++ lines_of l) (sym (append_assoc s.line bytes more));
   plain = plain_more s.line bytes stands.plain plain;
   answered = stands.answered;
 }
@@ -72,18 +92,22 @@ lines_now s ended = s.lines ++ line_now s ended ∷ []
 
 -- behind its line feed
 abbrev pub with_line : Stand → List ℕ → Standing → Stand
-with_line s here after = record { taken = s.taken ++ line_feed ∷ []; lines = lines_now s true; line = []; told = s.told ++ here; standing = after }
+with_line s here after =
+    record { taken = s.taken ++ line_feed ∷ []; lines = lines_now s true; line = []; told = s.told ++ here; standing = after }
 
 -- whatever follows
 pub begins_line : (trace : Bool) (s : Stand) → Stands trace s → Begins (s.taken ++ line_feed ∷ []) (lines_now s true)
 begins_line trace s stands = record {
   rest = lines_of;
   is = λ more.
-      ap lines_of (append_assoc s.taken (line_feed ∷ []) more) ∙ stands.goes (line_feed ∷ more) ∙ ap (λ l. s.lines ++ l) (lines_ended s.line more stands.plain)
+      ap lines_of (append_assoc s.taken (line_feed ∷ []) more) ∙ stands.goes (line_feed ∷ more)
+      ∙ ap (λ l. s.lines ++ l) (lines_ended s.line more stands.plain)
       ∙ sym (append_assoc s.lines (line_now s true ∷ []) (lines_of more));
 }
 
-pub stands_line : (trace : Bool) (s : Stand) (here : List ℕ) (after : Standing) → Stands trace s → Answers trace (number_after 1 s.lines) (asked_in (line_now s true)) s.standing here after → Stands trace (with_line s here after)
+pub stands_line : (trace : Bool) (s : Stand) (here : List ℕ) (after : Standing) → Stands trace s
+    → Answers trace (number_after 1 s.lines) (asked_in (line_now s true)) s.standing here after
+    → Stands trace (with_line s here after)
 unfolding begins_line
 stands_line trace s here after stands answer = record {
   ended = filter-append (λ line. line.ended) s.lines (line_now s true ∷ []) ∙ ap (λ l. l ++ line_now s true ∷ []) stands.ended;
@@ -95,8 +119,10 @@ stands_line trace s here after stands answer = record {
 -- the lines that the taken bytes end
 pub ended_so_far : (trace : Bool) (s : Stand) → Stands trace s → ended_lines s.taken ≡ s.lines
 ended_so_far trace s stands =
-    ap ended_lines (sym (append-nil s.taken)) ∙ ap (filter (λ line. line.ended)) (stands.goes []) ∙ filter-append (λ line. line.ended) s.lines (lines_of (s.line ++ []))
-    ∙ ap (λ l. filter (λ line. line.ended) s.lines ++ ended_lines l) (append-nil s.line) ∙ ap (λ l. filter (λ line. line.ended) s.lines ++ l) (ended_plain s.line stands.plain)
+    ap ended_lines (sym (append-nil s.taken)) ∙ ap (filter (λ line. line.ended)) (stands.goes [])
+    ∙ filter-append (λ line. line.ended) s.lines (lines_of (s.line ++ []))
+    ∙ ap (λ l. filter (λ line. line.ended) s.lines ++ ended_lines l) (append-nil s.line)
+    ∙ ap (λ l. filter (λ line. line.ended) s.lines ++ l) (ended_plain s.line stands.plain)
     ∙ append-nil (filter (λ line. line.ended) s.lines) ∙ stands.ended
 
 pub told_ended : (trace : Bool) (s : Stand) → Stands trace s → AreTold trace (ended_lines s.taken) s.told
@@ -105,7 +131,8 @@ told_ended trace s stands = (s.standing, rw (ended_so_far trace s stands) stands
 -- all lines, where nothing is left
 pub lines_whole : (trace : Bool) (s : Stand) → Stands trace s → s.line ≡ [] → lines_of s.taken ≡ s.lines
 lines_whole trace s stands none =
-    ap lines_of (sym (append-nil s.taken)) ∙ stands.goes [] ∙ ap (λ l. s.lines ++ lines_of (l ++ [])) none ∙ ap (λ l. s.lines ++ l) lines_none ∙ append-nil s.lines
+    ap lines_of (sym (append-nil s.taken)) ∙ stands.goes [] ∙ ap (λ l. s.lines ++ lines_of (l ++ [])) none
+    ∙ ap (λ l. s.lines ++ l) lines_none ∙ append-nil s.lines
 
 pub told_whole : (trace : Bool) (s : Stand) → Stands trace s → s.line ≡ [] → AreTold trace (lines_of s.taken) s.told
 told_whole trace s stands none = (s.standing, rw (lines_whole trace s stands none) stands.answered)
@@ -113,12 +140,18 @@ told_whole trace s stands none = (s.standing, rw (lines_whole trace s stands non
 -- all lines, where a rest is left
 pub lines_rest : (trace : Bool) (s : Stand) → Stands trace s → 0 < length s.line → lines_of s.taken ≡ lines_now s false
 lines_rest trace s stands some =
-    ap lines_of (sym (append-nil s.taken)) ∙ stands.goes [] ∙ ap (λ l. s.lines ++ lines_of l) (append-nil s.line) ∙ ap (λ l. s.lines ++ l) (by_line s.line some stands.plain)
+    ap lines_of (sym (append-nil s.taken)) ∙ stands.goes [] ∙ ap (λ l. s.lines ++ lines_of l) (append-nil s.line)
+    ∙ ap (λ l. s.lines ++ l) (by_line s.line some stands.plain)
   where
     by_line : (line : List ℕ) → 0 < length line → IsPlain line → lines_of line ≡ record { bytes = line; ended = false } ∷ []
     by_line [] some plain = absurd (omega (arith, some))
     by_line (b ∷ line) some plain = lines_plain b line plain
 
-pub told_rest : (trace : Bool) (s : Stand) (here : List ℕ) (after : Standing) → Stands trace s → 0 < length s.line → Answers trace (number_after 1 s.lines) (asked_in (line_now s false)) s.standing here after → AreTold trace (lines_of s.taken) (s.told ++ here)
-told_rest trace s here after stands some answer =
-    (after, rw (lines_rest trace s stands some) (answers_more trace 1 nothing_open s.lines s.told s.standing (line_now s false) here after stands.answered answer))
+pub told_rest : (trace : Bool) (s : Stand) (here : List ℕ) (after : Standing) → Stands trace s → 0 < length s.line
+    → Answers trace (number_after 1 s.lines) (asked_in (line_now s false)) s.standing here after
+    → AreTold trace (lines_of s.taken) (s.told ++ here)
+told_rest trace s here after stands some answer = (
+  after,
+  rw (lines_rest trace s stands some) (answers_more trace 1 nothing_open s.lines s.told s.standing
+      (line_now s false) here after stands.answered answer),
+)

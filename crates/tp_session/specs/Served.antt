@@ -1,5 +1,6 @@
 -- What is written for an input.
-use Rattle.std.specs.Prelude.{◌≡◌, ℕ, ◌+◌, ◌-◌, ◌^◌, ◌≤◌, min, nat_lt, if◌then◌else◌, Bool, List, [], ◌∷◌, ◌++◌, length, take, Option, Some, None, Result, Ok, Err}
+use Rattle.std.specs.Prelude.{◌≡◌, ℕ, ◌+◌, ◌-◌, ◌^◌, ◌≤◌, min, nat_lt, if◌then◌else◌, Bool, List, [], ◌∷◌, ◌++◌, length, take}
+use Rattle.std.specs.Prelude.{Option, Some, None, Result, Ok, Err}
 use Rattle.std.specs.Io.KnownBytes.{Appends, Consumes, IsAtEnd}
 use Rattle.tp_requests.specs.Lines.{Line, lines_of, ended_lines, said_in}
 use Rattle.tp_requests.specs.Requests.{Asked, asked_by}
@@ -59,7 +60,8 @@ pub record IsServedBefore (trace : Bool) (input : List ℕ) (left old new : Opti
 abbrev pub Serves : Bool → List ℕ → Option (List ℕ) → Option (List ℕ) → Option (List ℕ) → Result (Unit {0}) ServeFault → Type 0
 Serves trace input left old new (Ok _) = (told : List ℕ) × IsAtEnd left × IsServed trace input told × Appends old new told
 Serves trace input left old new (Err fault.Read) =
-    (taken : List ℕ) × (told : List ℕ) × Consumes (Some input) left taken × AreTold trace (ended_lines taken) told × Appends old new told
+    (taken : List ℕ) × (told : List ℕ) × Consumes (Some input) left taken × AreTold trace (ended_lines taken) told
+    × Appends old new told
 Serves trace input left old new (Err fault.Memory) = IsServedBefore trace input left old new
 Serves trace input left old new (Err fault.Thread) = IsServedBefore trace input left old new
 Serves trace input left old new (Err fault.Write) =

@@ -45,13 +45,20 @@ pub record Keeps (p : Progress) (number : ℕ) (line : List ℕ) : Type 0 where
   pub long_is : p.long ≡ nat_lt most_line (length line)
 
 -- What is kept, and what was written since a beginning, is that of a stand.
-pub record IsAt {D : Type 0} (state : D → DeviceState) (trace : Bool) (begun : Option (List ℕ)) (p : Progress) (service : Service D) (now : Option (List ℕ)) (s : Stand) : Type 0 where
+pub record IsAt {D : Type 0} (state : D → DeviceState) (trace : Bool) (begun : Option (List ℕ))
+    (p : Progress) (service : Service D) (now : Option (List ℕ)) (s : Stand) : Type 0 where
   pub stands : Stands trace s
   pub keeps : Keeps p (number_after 1 s.lines) s.line
   pub standing : standing_of service ≡ s.standing
   pub trace_is : service.trace ≡ trace
   pub fit : AreFit state service.links.items
   pub wrote : Appends begun now s.told
+
+-- it is so of each stand that this may be
+abbrev pub AtEachStand : {D : Type 0} → (D → DeviceState) → Progress → Service D → (now : Option (List ℕ))
+    → (Bool → Option (List ℕ) → Stand → Type 0) → Type 0
+AtEachStand state p service now says =
+    (trace : Bool) (begun : Option (List ℕ)) (s : Stand) → IsAt state trace begun p service now s → says trace begun s
 
 -- the answers to the lines that some bytes end are written
 pub record HasToldEnded (trace : Bool) (taken : List ℕ) (begun now : Option (List ℕ)) : Type 0 where
@@ -92,7 +99,8 @@ pub record HasToldAll (trace : Bool) (input : List ℕ) (begun now : Option (Lis
   pub wrote : Appends begun now told
 
 -- one stand further, by these bytes
-pub record GoesOn {D : Type 0} (state : D → DeviceState) (trace : Bool) (begun : Option (List ℕ)) (p : Progress) (service : Service D) (now : Option (List ℕ)) (taken : List ℕ) : Type 0 where
+pub record GoesOn {D : Type 0} (state : D → DeviceState) (trace : Bool) (begun : Option (List ℕ))
+    (p : Progress) (service : Service D) (now : Option (List ℕ)) (taken : List ℕ) : Type 0 where
   pub stand : Stand
   pub taken_is : stand.taken ≡ taken
   pub is : IsAt state trace begun p service now stand

@@ -1,11 +1,12 @@
 -- Where serving stands, as it is kept.
-use Rattle.std.specs.Prelude.{◌≡◌, ◌≤◌, length}
+use Rattle.std.specs.Prelude.{◌≡◌, ℕ, ◌≤◌, List, length, Option}
 use Rattle.tp_link.specs.Device.{DeviceState}
 use Rattle.tp_session.specs.declared.fault.ServeFault.{ServeFault}
 use Rattle.tp_session.specs.declared.fault.ServeFault.TheVariants.{Memory, Thread}
 use Rattle.tp_session.specs.declared.service.Service.{Service}
 use Rattle.tp_requests.specs.Requests.{Asked, ToList}
-use Rattle.tp_answers.specs.Answers.{Standing, standing}
+use Rattle.tp_answers.specs.Told.{GoesOnWith}
+use Rattle.tp_answers.specs.Answers.{Standing, standing, Answers}
 use Rattle.tp_answers.specs.Open.{sessions_of}
 use Rattle.tp_session.specs.Fitness.{AreFit, AreAsMany}
 
@@ -28,3 +29,8 @@ IsWant fault = ⊥
 abbrev pub IsListable : Asked → Type 0
 IsListable (ToList code) = length code ≤ 65535
 IsListable other = Unit {0}
+
+-- what is told goes on with the answer to a line, which leads from one service to the other
+abbrev pub TellsAnswer : {D : Type 0} → (number : ℕ) → Option Asked → (before after : Service D) → (told told' : List ℕ) → Type 0
+TellsAnswer number asked before after told told' =
+    GoesOnWith (λ line. Answers before.trace number asked (standing_of before) line (standing_of after)) told told'

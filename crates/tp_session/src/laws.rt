@@ -9,8 +9,9 @@ use tp_accept::laws::one_text_has_one_answer;
 
 /// A line has one answer, and leads to one standing.
 pub fn one_line_has_one_answer()
-    ensures { (trace : Bool) (number : ℕ) (asked : Option Asked) (before : Standing) (told told' : List ℕ) (after after' : Standing) →
-        Answers trace number asked before told after → Answers trace number asked before told' after' → (told ≡ told') × (after ≡ after') }
+    ensures { (trace : Bool) (number : ℕ) (asked : Option Asked) (before : Standing) (told told' : List ℕ)
+        (after after' : Standing) → Answers trace number asked before told after →
+        Answers trace number asked before told' after' → (told ≡ told') × (after ≡ after') }
 {
     one_text_has_one_answer();
 }

@@ -1,14 +1,13 @@
 //! Reading lines, and answering each.
 
-ghost use Rattle.std.specs.Prelude.{◌≡◌, ℕ, Bool, List, Option, Some, [], ◌∷◌, ◌++◌, OnOk, OnErr, IfErr, IfSome, MatchOption, position, ◌==◌, ◌<◌, length, take};
+ghost use Rattle.std.specs.Prelude.{◌≡◌, ℕ, List, Some, [], ◌∷◌, ◌++◌, OnOk, OnErr, IfErr, IfSome, MatchOption};
+ghost use Rattle.std.specs.Prelude.{position, ◌==◌, ◌<◌, length, take};
 ghost use Rattle.std.specs.Io.KnownBytes.{Appends};
 ghost use Rattle.tp_requests.specs.Lines.{line_feed, without_return};
-ghost use Rattle.tp_answers.specs.Told.{GoesOnWith};
-ghost use Rattle.tp_answers.specs.Answers.{Answers};
 ghost use Rattle.tp_session.specs.Served.{asked_in};
 ghost use Rattle.tp_session.specs.Fitness.{AreFit, HasMembers, AreAsMany};
-ghost use Rattle.tp_session.specs.Standing.{standing_of, StaysOn, IsWant};
-ghost use Rattle.tp_session.specs.Stand.{Stand, IsPlain, Keeps, IsAt, GoesOn, Fails, FailsAtEnd, HasToldAll};
+ghost use Rattle.tp_session.specs.Standing.{StaysOn, TellsAnswer, IsWant};
+ghost use Rattle.tp_session.specs.Stand.{IsPlain, Keeps, AtEachStand, GoesOn, Fails, FailsAtEnd, HasToldAll};
 
 use crate::MAX_LINE;
 use crate::fault::ServeFault;
@@ -52,8 +51,9 @@ fn answer<R: Threads + Wait + Sync, D: LinkDevice + Send>(
     told: &mut Vec<u8>,
 ) -> Result<(), ServeFault>
     requires { HasMembers service.old.links.items }
-    ensures told { AreFit D.state service.old.links.items → (number : ℕ) (line : List ℕ) → Keeps progress.now number line → OnOk result (GoesOnWith (λ lines.
-        Answers service.old.trace number (asked_in record { bytes = line; ended = ended }) (standing_of service.old) lines (standing_of service.new)) told.old.items told.new.items) }
+    ensures told { AreFit D.state service.old.links.items → (number : ℕ) (line : List ℕ) → Keeps progress.now number line →
+        OnOk result (TellsAnswer number (asked_in record { bytes = line; ended = ended }) service.old service.new
+        told.old.items told.new.items) }
     ensures stays { OnOk result (StaysOn D.state service.old service.new) }
     ensures want { IfErr result IsWant }
 {
@@ -110,10 +110,10 @@ fn end_line<R: Threads + Wait + Sync, D: LinkDevice + Send, W: Write>(
     told: &mut Vec<u8>,
 ) -> Result<(), ServeFault>
     requires { HasMembers service.old.links.items }
-    ensures ok { (trace : Bool) (begun : Option (List ℕ)) (s : Stand) → IsAt D.state trace begun progress.old service.old (W.contents writer.old) s →
-        OnOk result (GoesOn D.state trace begun progress.new service.new (W.contents writer.new) (s.taken ++ 10 ∷ [])) }
-    ensures err { (trace : Bool) (begun : Option (List ℕ)) (s : Stand) → IsAt D.state trace begun progress.old service.old (W.contents writer.old) s →
-        IfErr result (Fails trace s.taken (10 ∷ []) begun (W.contents writer.new)) }
+    ensures ok { AtEachStand D.state progress.old service.old (W.contents writer.old) (λ trace begun s.
+        OnOk result (GoesOn D.state trace begun progress.new service.new (W.contents writer.new) (s.taken ++ 10 ∷ []))) }
+    ensures err { AtEachStand D.state progress.old service.old (W.contents writer.old) (λ trace begun s.
+        IfErr result (Fails trace s.taken (10 ∷ []) begun (W.contents writer.new))) }
     ensures members { OnOk result (AreAsMany service.old.links.items service.new.links.items) }
 {
     told.clear();
@@ -136,7 +136,8 @@ fn first_line_feed(bytes: &[u8]) -> Option<usize>
 
 /// The bytes before the first line feed, and those behind it.
 fn split_line(bytes: &[u8]) -> Option<(&[u8], &[u8])>
-    ensures { MatchOption result (IsPlain bytes.now) (λ parts. IsPlain parts.0.now × (bytes.now ≡ parts.0.now ++ line_feed ∷ parts.1.now)) }
+    ensures { MatchOption result (IsPlain bytes.now) (λ parts.
+        IsPlain parts.0.now × (bytes.now ≡ parts.0.now ++ line_feed ∷ parts.1.now)) }
 {
     match first_line_feed(bytes) {
         Some(at) => Some((&bytes[..at], &bytes[at + 1..])),
@@ -146,7 +147,8 @@ fn split_line(bytes: &[u8]) -> Option<(&[u8], &[u8])>
 
 /// Takes more of the line that is being read.
 fn take_plain(progress: &mut Progress, bytes: &[u8]) -> Result<(), AllocError>
-    ensures kept { (number : ℕ) (line : List ℕ) → Keeps progress.old number line → OnOk result (Keeps progress.new number (line ++ bytes.now)) }
+    ensures kept { (number : ℕ) (line : List ℕ) → Keeps progress.old number line →
+        OnOk result (Keeps progress.new number (line ++ bytes.now)) }
 {
     let kept = bytes.len().min(MAX_LINE - progress.line.len());
     progress.line.extend_from_slice(&bytes[..kept])?;
@@ -167,10 +169,10 @@ pub(crate) fn feed<R: Threads + Wait + Sync, D: LinkDevice + Send, W: Write>(
     bytes: &[u8],
 ) -> Result<(), ServeFault>
     requires { HasMembers service.old.links.items }
-    ensures ok { (trace : Bool) (begun : Option (List ℕ)) (s : Stand) → IsAt D.state trace begun progress.old service.old (W.contents writer.old) s →
-        OnOk result (GoesOn D.state trace begun progress.new service.new (W.contents writer.new) (s.taken ++ bytes.now)) }
-    ensures err { (trace : Bool) (begun : Option (List ℕ)) (s : Stand) → IsAt D.state trace begun progress.old service.old (W.contents writer.old) s →
-        IfErr result (Fails trace s.taken bytes.now begun (W.contents writer.new)) }
+    ensures ok { AtEachStand D.state progress.old service.old (W.contents writer.old) (λ trace begun s.
+        OnOk result (GoesOn D.state trace begun progress.new service.new (W.contents writer.new) (s.taken ++ bytes.now))) }
+    ensures err { AtEachStand D.state progress.old service.old (W.contents writer.old) (λ trace begun s.
+        IfErr result (Fails trace s.taken bytes.now begun (W.contents writer.new))) }
     ensures members { OnOk result (AreAsMany service.old.links.items service.new.links.items) }
 {
     let mut rest = bytes;
@@ -193,10 +195,10 @@ pub(crate) fn finish<R: Threads + Wait + Sync, D: LinkDevice + Send, W: Write>(
     told: &mut Vec<u8>,
 ) -> Result<(), ServeFault>
     requires { HasMembers service.old.links.items }
-    ensures ok { (trace : Bool) (begun : Option (List ℕ)) (s : Stand) → IsAt D.state trace begun progress.now service.old (W.contents writer.old) s →
-        OnOk result (HasToldAll trace s.taken begun (W.contents writer.new)) }
-    ensures err { (trace : Bool) (begun : Option (List ℕ)) (s : Stand) → IsAt D.state trace begun progress.now service.old (W.contents writer.old) s →
-        IfErr result (FailsAtEnd trace s.taken begun (W.contents writer.new)) }
+    ensures ok { AtEachStand D.state progress.now service.old (W.contents writer.old) (λ trace begun s.
+        OnOk result (HasToldAll trace s.taken begun (W.contents writer.new))) }
+    ensures err { AtEachStand D.state progress.now service.old (W.contents writer.old) (λ trace begun s.
+        IfErr result (FailsAtEnd trace s.taken begun (W.contents writer.new))) }
 {
     if progress.line.is_empty() {
         return Ok(());

@@ -36,7 +36,8 @@ fn fault_of(fault: FarmFault) -> ServeFault
     }
 }
 
-/// Runs the packets of a job on the members, from a board, since all of them are there. The links come back, as many as there were.
+/// Runs the packets of a job on the members, from a board, since all of them are there. The links come back, as many as there
+/// were.
 fn run_packets<R: Threads + Wait + Sync, D: LinkDevice + Send>(
     rt: &R,
     alloc: Global,
@@ -46,7 +47,8 @@ fn run_packets<R: Threads + Wait + Sync, D: LinkDevice + Send>(
     requires members { HasMembers links.old.items }
     requires begins { job_fault (length links.old.items) (batch_of job.now) ≡ None }
     requires packets { ArePackets (batch_of job.now) }
-    ensures outcomes { AreFit D.state links.old.items → IfOk result (AreOutcomes (batch_of job.now).image (batch_of job.now).packets) }
+    ensures outcomes { AreFit D.state links.old.items →
+        IfOk result (AreOutcomes (batch_of job.now).image (batch_of job.now).packets) }
     ensures members { OnOk result (AreAsMany links.old.items links.new.items) }
     ensures fit { AreFit D.state links.old.items → OnOk result (AreFit D.state links.new.items) }
     ensures want { IfErr result IsWant }
@@ -73,7 +75,8 @@ fn run_on_enough<R: Threads + Wait + Sync, D: LinkDevice + Send>(
     requires members { HasMembers links.old.items }
     requires begins { (members : ℕ) → 1 ≤ members → members ≤ 64 → job_fault members (batch_of job.now) ≡ None }
     requires packets { ArePackets (batch_of job.now) }
-    ensures outcomes { AreFit D.state links.old.items → IfOk result (AreOutcomes (batch_of job.now).image (batch_of job.now).packets) }
+    ensures outcomes { AreFit D.state links.old.items →
+        IfOk result (AreOutcomes (batch_of job.now).image (batch_of job.now).packets) }
     ensures members { OnOk result (AreAsMany links.old.items links.new.items) }
     ensures fit { AreFit D.state links.old.items → OnOk result (AreFit D.state links.new.items) }
     ensures want { IfErr result IsWant }

@@ -1,14 +1,14 @@
 //! The service: what is kept between two lines, and the answer to each.
 
 ghost use Rattle.std.specs.Prelude.{◌≡◌, ◌≤◌, ◌<◌, ◌++◌, Some, length, slice_get, slice_set, IfErr, OnOk};
-ghost use Rattle.tp_requests.specs.Requests.{asked, asked_by};
-ghost use Rattle.tp_answers.specs.Sessions.{Session, named, without_packets};
+ghost use Rattle.tp_requests.specs.Requests.{ToRun, asked, asked_by};
+ghost use Rattle.tp_answers.specs.Sessions.{Session, without_packets};
 ghost use Rattle.tp_answers.specs.Told.{of_line, all_line, GoesOnWith};
-ghost use Rattle.tp_answers.specs.Answers.{Answers, AnswersRun, AreRunAndForgotten, IsRun, batches_more};
+ghost use Rattle.tp_answers.specs.Answers.{AreRunAndForgotten, IsRun, batches_more};
 ghost use Rattle.tp_session.specs.Served.{most_line};
 ghost use Rattle.tp_answers.specs.Open.{sessions_of};
 ghost use Rattle.tp_session.specs.Fitness.{AreFit, HasMembers};
-ghost use Rattle.tp_session.specs.Standing.{standing_of, StaysOn, IsWant, IsListable};
+ghost use Rattle.tp_session.specs.Standing.{standing_of, StaysOn, TellsAnswer, IsWant, IsListable};
 
 use crate::fault::ServeFault;
 use crate::running::run_session;
@@ -58,7 +58,8 @@ impl<D: LinkDevice + Send> Service<D> {
     ) -> Result<(), ServeFault>
         requires there { index < length (sessions_of self.old.sessions) }
         requires members { HasMembers self.old.links.items }
-        ensures run { AreFit D.state self.old.links.items → (s : Session) → slice_get (sessions_of self.old.sessions) index ≡ Some s →
+        ensures run { AreFit D.state self.old.links.items → (s : Session) →
+            slice_get (sessions_of self.old.sessions) index ≡ Some s →
             OnOk result (GoesOnWith (IsRun self.old.trace s) text.old.items text.new.items) }
         ensures forgotten { (s : Session) → slice_get (sessions_of self.old.sessions) index ≡ Some s →
             OnOk result (sessions_of self.new.sessions ≡ slice_set (sessions_of self.old.sessions) index (without_packets s)) }
@@ -91,8 +92,8 @@ impl<D: LinkDevice + Send> Service<D> {
         told: &mut Vec<u8>,
     ) -> Result<(), ServeFault>
         requires { HasMembers self.old.links.items }
-        ensures told { AreFit D.state self.old.links.items → OnOk result (GoesOnWith (λ line.
-            AnswersRun (named name.now.items (sessions_of self.old.sessions)) self.old.trace number (standing_of self.old) line (standing_of self.new)) told.old.items told.new.items) }
+        ensures told { AreFit D.state self.old.links.items →
+            OnOk result (TellsAnswer number (Some (ToRun name.now.items)) self.old self.new told.old.items told.new.items) }
         ensures stays { OnOk result (StaysOn D.state self.old self.new) }
         ensures want { IfErr result IsWant }
     {
@@ -112,7 +113,8 @@ impl<D: LinkDevice + Send> Service<D> {
     ) -> Result<(), ServeFault>
         requires { HasMembers self.old.links.items }
         ensures told { AreFit D.state self.old.links.items → OnOk result (GoesOnWith (λ lines.
-            AreRunAndForgotten self.old.trace (standing_of self.old) lines (standing_of self.new)) told.old.items told.new.items) }
+            AreRunAndForgotten self.old.trace (standing_of self.old) lines (standing_of self.new))
+            told.old.items told.new.items) }
         ensures stays { OnOk result (StaysOn D.state self.old self.new) }
         ensures want { IfErr result IsWant }
     {
@@ -136,8 +138,8 @@ impl<D: LinkDevice + Send> Service<D> {
     ) -> Result<(), ServeFault>
         requires members { HasMembers self.old.links.items }
         requires listed { IsListable (asked request) }
-        ensures told { AreFit D.state self.old.links.items → OnOk result (GoesOnWith (λ lines.
-            Answers self.old.trace number (Some (asked request.entry)) (standing_of self.old) lines (standing_of self.new)) told.old.items told.new.items) }
+        ensures told { AreFit D.state self.old.links.items →
+            OnOk result (TellsAnswer number (Some (asked request.entry)) self.old self.new told.old.items told.new.items) }
         ensures stays { OnOk result (StaysOn D.state self.old self.new) }
         ensures want { IfErr result IsWant }
     {
@@ -165,8 +167,8 @@ impl<D: LinkDevice + Send> Service<D> {
     ) -> Result<(), ServeFault>
         requires members { HasMembers self.old.links.items }
         requires short { length line.now ≤ most_line }
-        ensures told { AreFit D.state self.old.links.items → OnOk result (GoesOnWith (λ lines.
-            Answers self.old.trace number (asked_by line.now) (standing_of self.old) lines (standing_of self.new)) told.old.items told.new.items) }
+        ensures told { AreFit D.state self.old.links.items →
+            OnOk result (TellsAnswer number (asked_by line.now) self.old self.new told.old.items told.new.items) }
         ensures stays { OnOk result (StaysOn D.state self.old self.new) }
         ensures want { IfErr result IsWant }
     {

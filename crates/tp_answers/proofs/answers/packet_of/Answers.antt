@@ -10,5 +10,7 @@ all_new xs ws e = grind (arith, common_steps)
 
 pub returns-clause-bytes : goal.returns-clause-bytes
 returns-clause-bytes c =
-    let kept : length c.decode_into.new.bytes ≡ length c.truncate.new.self.items = grind (arith, c.decode_into.auto.bytes, c.as_mut_slice.ensures.value) in
-    rw (all_new c.truncate.new.self.items c.decode_into.new.bytes kept, c.decode_into.ensures) (spelled_are_bytes c.args.bytes.now.digits.now)
+    let kept : length c.decode_into.new.bytes ≡ length c.truncate.new.self.items =
+    grind (arith, c.decode_into.auto.bytes, c.as_mut_slice.ensures.value) in
+    rw (all_new c.truncate.new.self.items c.decode_into.new.bytes kept, c.decode_into.ensures)
+    (spelled_are_bytes c.args.bytes.now.digits.now)

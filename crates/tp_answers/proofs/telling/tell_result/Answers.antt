@@ -7,8 +7,16 @@ use Rattle.tp_answers.proofs.telling.tell_result.Goals as goal
 pub returns : goal.returns
 returns c =
     let done = c.args.done.now in
-    let error : decimal c.from.result ≡ decimal (flag done.error) = ap decimal (c.from.ensures ∙ flag_is c.done.inside.error ∙ ap (λ d. flag d.error) c.done.view_is) in
-    let field : c.tell_field-2.new.text.items ≡ c.tell_field.new.text.items ++ decimal (flag done.error) ++ codes " " = c.in_ok-tell_field-2.ensures ∙ ap (λ n. c.tell_field.new.text.items ++ n ++ codes " ") error in
-    let steps : c.tell_field-3.new.text.items ≡ c.tell_field-2.new.text.items ++ decimal done.steps ++ codes " " = c.in_ok-tell_field-3.ensures ∙ ap (λ n. c.tell_field-2.new.text.items ++ decimal n ++ codes " ") (c.from-2.ensures ∙ ap (λ d. d.steps) c.done.view_is) in
-    let result : c.tell_hex.new.text.items ≡ c.tell_field-3.new.text.items ++ encode_lower done.result = c.in_ok-tell_hex.ensures ∙ ap (λ bytes. c.tell_field-3.new.text.items ++ encode_lower bytes) (c.as_slice.ensures.value ∙ ap (λ d. d.result) c.done.view_is) in
-    result_told c.args.text.now.items (decimal c.args.number) (decimal (flag done.error)) (decimal done.steps) (encode_lower done.result) c.in_ok-extend_from_slice.ensures.items c.in_ok-tell_field.ensures field steps result c.in_ok-push.ensures.items
+    let error : decimal c.from.result ≡ decimal (flag done.error) =
+    ap decimal (c.from.ensures ∙ flag_is c.done.inside.error ∙ ap (λ d. flag d.error) c.done.view_is) in
+    let field : c.tell_field-2.new.text.items ≡ c.tell_field.new.text.items ++ decimal (flag done.error) ++ codes " " =
+    c.in_ok-tell_field-2.ensures ∙ ap (λ n. c.tell_field.new.text.items ++ n ++ codes " ") error in
+    let steps : c.tell_field-3.new.text.items ≡ c.tell_field-2.new.text.items ++ decimal done.steps ++ codes " " =
+    c.in_ok-tell_field-3.ensures ∙ ap (λ n. c.tell_field-2.new.text.items ++ decimal n ++ codes " ")
+    (c.from-2.ensures ∙ ap (λ d. d.steps) c.done.view_is) in
+    let result : c.tell_hex.new.text.items ≡ c.tell_field-3.new.text.items ++ encode_lower done.result =
+    c.in_ok-tell_hex.ensures ∙ ap (λ bytes. c.tell_field-3.new.text.items ++ encode_lower bytes)
+    (c.as_slice.ensures.value ∙ ap (λ d. d.result) c.done.view_is) in
+    result_told c.args.text.now.items (decimal c.args.number) (decimal (flag done.error)) (decimal done.steps)
+    (encode_lower done.result) c.in_ok-extend_from_slice.ensures.items c.in_ok-tell_field.ensures field steps result
+    c.in_ok-push.ensures.items

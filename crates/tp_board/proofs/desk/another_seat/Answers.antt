@@ -3,4 +3,11 @@ use Rattle.tp_board.proofs.Desks.{splits}
 use Rattle.tp_board.proofs.desk.another_seat.Goals as goal
 
 pub split_seat-requires : goal.split_seat-requires
-split_seat-requires c = let three = c.requires.desk.1 in (c.requires.desk.0, omega arith, splits _ _ _ c.args.packets c.args.seats c.requires.some.1 (ap (λ m. m.0) c.requires.some.0))
+split_seat-requires c =
+    let three =
+    c.requires.desk.1 in (
+      c.requires.desk.0,
+      omega arith,
+      splits _ _ _ c.args.packets c.args.seats c.requires.some.1
+          (ap (λ m. m.0) c.requires.some.0),
+    )

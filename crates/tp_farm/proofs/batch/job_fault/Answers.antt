@@ -9,20 +9,26 @@ use Rattle.tp_farm.proofs.batch.job_fault.Goals as goal
 
 pub returns-in-Some : goal.returns-in-Some
 returns-in-Some c =
-    let less : length (batch_of c.args.job.now).packets ≡ length c.args.job.now.packets.now = length-map c.args.job.now.packets.now (λ p. p.items) in
+    let less : length (batch_of c.args.job.now).packets ≡ length c.args.job.now.packets.now =
+    length-map c.args.job.now.packets.now (λ p. p.items) in
     let other : first_other (batch_of c.args.job.now) ≡ Some c.in-Some.number =
-    position-map (λ p. p.items) (λ packet. not (length packet == 4 * c.args.job.now.image.now.image.packet)) c.args.job.now.packets.now
+    position-map (λ p. p.items) (λ packet. not (length packet == 4 * c.args.job.now.image.now.image.packet))
+    c.args.job.now.packets.now
     ∙ ap (λ (n : ℕ). position (λ x. not (length x.items == n)) c.args.job.now.packets.now) (sym c.packet_bytes.ensures.value)
     ∙ sym c.first_other.ensures.value
     ∙ c.in-Some.is in
-    sym (job_begins c.args.members (batch_of c.args.job.now) c.if-members-eq0.false (omega (arith, c.if-members.false)) (omega (arith, less, c.if-job.false)) ∙ ap (option_map Length) other)
+    sym (job_begins c.args.members (batch_of c.args.job.now) c.if-members-eq0.false (omega (arith, c.if-members.false))
+    (omega (arith, less, c.if-job.false)) ∙ ap (option_map Length) other)
 
 pub returns-in-None : goal.returns-in-None
 returns-in-None c =
-    let less : length (batch_of c.args.job.now).packets ≡ length c.args.job.now.packets.now = length-map c.args.job.now.packets.now (λ p. p.items) in
+    let less : length (batch_of c.args.job.now).packets ≡ length c.args.job.now.packets.now =
+    length-map c.args.job.now.packets.now (λ p. p.items) in
     let other : first_other (batch_of c.args.job.now) ≡ None =
-    position-map (λ p. p.items) (λ packet. not (length packet == 4 * c.args.job.now.image.now.image.packet)) c.args.job.now.packets.now
+    position-map (λ p. p.items) (λ packet. not (length packet == 4 * c.args.job.now.image.now.image.packet))
+    c.args.job.now.packets.now
     ∙ ap (λ (n : ℕ). position (λ x. not (length x.items == n)) c.args.job.now.packets.now) (sym c.packet_bytes.ensures.value)
     ∙ sym c.first_other.ensures.value
     ∙ c.in-None.is in
-    sym (job_begins c.args.members (batch_of c.args.job.now) c.if-members-eq0.false (omega (arith, c.if-members.false)) (omega (arith, less, c.if-job.false)) ∙ ap (option_map Length) other)
+    sym (job_begins c.args.members (batch_of c.args.job.now) c.if-members-eq0.false (omega (arith, c.if-members.false))
+    (omega (arith, less, c.if-job.false)) ∙ ap (option_map Length) other)

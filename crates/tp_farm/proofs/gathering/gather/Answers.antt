@@ -17,7 +17,9 @@ loop-one-preserved c =
 pub file_one-requires-clause-of : goal.file_one-requires-clause-of
 file_one-requires-clause-of c =
     let was = c.loop-one.invariant in let step = c.in-Some.ensures.steps.0 in
-    subst (λ b. IsOfBatch b c.in-Some.one) (sym was.3.batch_is) (All-head (IsOfBatch c.args.collector.now.batch) c.in-Some.one _ (subst (All (IsOfBatch c.args.collector.now.batch)) step was.2))
+    subst (λ b. IsOfBatch b c.in-Some.one) (sym was.3.batch_is)
+    (All-head (IsOfBatch c.args.collector.now.batch) c.in-Some.one _
+    (subst (All (IsOfBatch c.args.collector.now.batch)) step was.2))
 
 pub file_one-requires-clause-vacant : goal.file_one-requires-clause-vacant
 file_one-requires-clause-vacant c = next_vacant _ _ _ _ _ _ c.loop-one.invariant.3 c.in-Some.ensures.steps.0

@@ -9,4 +9,5 @@ invariant-loop-one l =
     (goal.iterator-loop-one).can_next l.one-iterator
     × (goal.iterator-loop-one).is_finite l.one-iterator
     × All (IsOfBatch l.initial.collector.batch) (into_iter_items l.one-iterator)
-    × MayFile l.initial.collector.batch (filed_in l.initial.collector.entries l.fn.filed.items) l.collector (into_iter_items l.one-iterator)
+    × MayFile l.initial.collector.batch (filed_in l.initial.collector.entries l.fn.filed.items) l.collector
+    (into_iter_items l.one-iterator)

@@ -19,7 +19,9 @@ loop-one-preserved g c =
 pub gather-requires-clause-of : goal.gather-requires-clause-of
 gather-requires-clause-of g c =
     let was = c.loop-one.invariant in let step = c.in-Some.ensures.steps.0 in
-    subst (λ b. All (IsOfBatch b) c.in-Some.one.filed.items) (sym was.3.batch_is) (All-head (λ k. All (IsOfBatch c.args.collector.now.batch) k.filed.items) c.in-Some.one _ (subst (All (λ k. All (IsOfBatch c.args.collector.now.batch) k.filed.items)) step was.2))
+    subst (λ b. All (IsOfBatch b) c.in-Some.one.filed.items) (sym was.3.batch_is)
+    (All-head (λ k. All (IsOfBatch c.args.collector.now.batch) k.filed.items) c.in-Some.one _
+    (subst (All (λ k. All (IsOfBatch c.args.collector.now.batch) k.filed.items)) step was.2))
 
 pub gather-requires-clause-vacant : goal.gather-requires-clause-vacant
 gather-requires-clause-vacant g c = first_vacant (λ k. k.filed.items) _ _ _ _ _ _ c.loop-one.invariant.3 c.in-Some.ensures.steps.0

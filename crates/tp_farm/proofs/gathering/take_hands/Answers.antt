@@ -17,11 +17,13 @@ loop-one-preserved g c =
       omega (arith, was.3, step.1, c.push_reserved-in-loop-one.ensures.len, c.push_reserved-in-loop-one.ensures.capacity),
       moved (λ r. r.hand) _ _ _ c.in-Some.one _ _ c.push_reserved.ensures.items step.0 was.4,
       moved member_results _ _ _ c.in-Some.one _ _ c.push_reserved-in-loop-one.ensures.items step.0 was.5,
-      λ more. was.6 (subst (All (λ r. fault_of_end r.end ≡ None)) (sym step.0) (All-cons (λ r. fault_of_end r.end ≡ None) c.in-Some.one _ well more)),
+      λ more. was.6 (subst (All (λ r. fault_of_end r.end ≡ None)) (sym step.0)
+          (All-cons (λ r. fault_of_end r.end ≡ None) c.in-Some.one _ well more)),
     )
 
 pub returns-in-Some-fault_of_end-clause-err : goal.returns-in-Some-fault_of_end-clause-err
-returns-in-Some-fault_of_end-clause-err g c = fault_reason _ c.in-Some-fault_of_end.fault (sym c.fault_of_end.ensures ∙ c.in-Some-fault_of_end.is)
+returns-in-Some-fault_of_end-clause-err g c =
+    fault_reason _ c.in-Some-fault_of_end.fault (sym c.fault_of_end.ensures ∙ c.in-Some-fault_of_end.is)
 
 pub returns-clause-well : goal.returns-clause-well
 returns-clause-well g c =

@@ -11,6 +11,9 @@ invariant-loop-one g l =
     × (goal.iterator-loop-one g).is_finite l.one-iterator
     × (vec_len l.hands + into_iter_len l.one-iterator ≤ vec_capacity l.hands)
     × (vec_len l.kept + into_iter_len l.one-iterator ≤ vec_capacity l.kept)
-    × (l.hands.items ++ map (λ r. r.hand) (into_iter_items l.one-iterator) ≡ l.initial.hands.items ++ map (λ r. r.hand) l.fn.returned.items)
-    × (l.kept.items ++ map member_results (into_iter_items l.one-iterator) ≡ l.initial.kept.items ++ map member_results l.fn.returned.items)
-    × (All (λ r. fault_of_end r.end ≡ None) (into_iter_items l.one-iterator) → All (λ r. fault_of_end r.end ≡ None) l.fn.returned.items)
+    × (l.hands.items ++ map (λ r. r.hand) (into_iter_items l.one-iterator) ≡ l.initial.hands.items
+    ++ map (λ r. r.hand) l.fn.returned.items)
+    × (l.kept.items ++ map member_results (into_iter_items l.one-iterator) ≡ l.initial.kept.items
+    ++ map member_results l.fn.returned.items)
+    × (All (λ r. fault_of_end r.end ≡ None) (into_iter_items l.one-iterator)
+    → All (λ r. fault_of_end r.end ≡ None) l.fn.returned.items)

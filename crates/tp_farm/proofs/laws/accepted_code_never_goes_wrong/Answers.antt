@@ -6,4 +6,5 @@ use Rattle.tp_farm.proofs.laws.accepted_code_never_goes_wrong.Goals as goal
 pub returns : goal.returns
 returns c = λ opened before after entries packets b.
     let accepted = c.args.job.now.image.now in
-    goes_well (batch_of c.args.job.now) accepted.budget (never_goes_wrong_of accepted.image accepted.budget accepted.acceptable) packets opened before after entries b
+    goes_well (batch_of c.args.job.now) accepted.budget (never_goes_wrong_of accepted.image accepted.budget accepted.acceptable)
+    packets opened before after entries b

@@ -7,4 +7,5 @@ use Rattle.tp_farm.proofs.laws.long_traces_alone_are_lost.Goals as goal
 pub returns : goal.returns
 returns c = λ before after entries packets take b.
     let accepted = c.args.job.now.image.now in
-    loses_long_traces (batch_of c.args.job.now) accepted.budget (never_goes_wrong_of accepted.image accepted.budget accepted.acceptable) packets true before after entries b refl take
+    loses_long_traces (batch_of c.args.job.now) accepted.budget
+    (never_goes_wrong_of accepted.image accepted.budget accepted.acceptable) packets true before after entries b refl take

@@ -1,7 +1,6 @@
 use Rattle.std.proofs.Common.{◌≡◌, length}
-use Rattle.tp_machine.specs.Devices.{devices_of}
 use Rattle.tp_farm.specs.Jobs.{batch_of}
-use Rattle.tp_farm.specs.Members.{KeepsAccounts}
+use Rattle.tp_farm.specs.Members.{HasAccounts}
 use Rattle.tp_farm.specs.Turns.{MayTake}
 use Rattle.tp_farm.proofs.member.work.Given as goal
 
@@ -10,6 +9,6 @@ invariant-loop g l =
     g.W.WorkSource.is_own l.source l.member.hand
     × (l.member.number ≡ l.initial.member.number)
     × (l.member.entry.value ≡ l.initial.member.entry.value)
-    × KeepsAccounts (batch_of l.job) (devices_of g.D.LinkDevice.state l.member.entry.value) (devices_of g.D.LinkDevice.state l.member.links) (g.W.WorkSource.progress l.member.hand) l.member.filed.items
+    × HasAccounts g.D.LinkDevice.state g.W.WorkSource.progress (batch_of l.job) l.member
     × MayTake (g.W.WorkSource.progress l.member.hand)
     × (length (g.W.WorkSource.progress l.member.hand).taken ≡ l.counter)

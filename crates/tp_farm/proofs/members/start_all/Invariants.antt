@@ -9,7 +9,8 @@ abbrev pub invariant-loop-links : goal.invariant-loop-links
 invariant-loop-links g l =
     (goal.iterator-loop-links g).can_next l.links-iterator
     × (goal.iterator-loop-links g).is_finite l.links-iterator
-    × IsUpTo (λ h. h.promise.before.value) (λ h. h.promise.shared.now ≡ l.shared) l.fn.all.items (into_iter_items l.links-iterator) l.handles.items
+    × IsUpTo (λ h. h.promise.before.value) (λ h. h.promise.shared.now ≡ l.shared) l.fn.all.items
+    (into_iter_items l.links-iterator) l.handles.items
     × All (IsFresh (g.S.WorkSource.is_own l.shared.source.now) g.S.WorkSource.progress) l.hands.items
     × (vec_len l.hands ≡ into_iter_len l.links-iterator)
     × (vec_len l.handles + into_iter_len l.links-iterator ≡ vec_len l.fn.all)

@@ -1,6 +1,6 @@
 use Rattle.std.proofs.Common.{◌≡◌, subst}
 use Rattle.std.specs.List.{AllZip}
-use Rattle.tp_farm.specs.Working.{HasWorked, work_of}
+use Rattle.tp_farm.specs.Working.{HasWorkedOn}
 use Rattle.tp_farm.proofs.Beginning.{if_ok}
 use Rattle.tp_farm.proofs.Joining.{joined_zip}
 use Rattle.tp_farm.proofs.over_board.start_and_join.Goals as goal
@@ -8,7 +8,13 @@ use Rattle.tp_farm.proofs.over_board.start_and_join.Goals as goal
 pub returns-clause-worked : goal.returns-clause-worked
 returns-clause-worked g c =
     let hs = c.in_ok-started.started.handles in
-    let R = HasWorked g.D.LinkDevice.state (g.S.WorkSource.is_own c.args.shared.now.source.now) g.S.WorkSource.progress (work_of g.G.Gate.open_for_good c.args.shared.now) in
+    let source = g.S.WorkSource in
+    let R = HasWorkedOn g.D.LinkDevice.state source.is_own source.progress g.G.Gate.open_for_good c.args.shared.now in
     if_ok _ _ c.join_all.result c.join_all.ensures.joined λ rs joined.
     subst (λ v. AllZip R v rs.items) (c.in_ok-started.ensures.before joined.0)
-    (joined_zip (λ h. h.promise.before.value) _ R (λ h. h.promise.shared.now ≡ c.args.shared.now) (λ h r e k. subst (λ s. HasWorked g.D.LinkDevice.state (g.S.WorkSource.is_own s.source.now) g.S.WorkSource.progress (work_of g.G.Gate.open_for_good s) h.promise.before.value r) e k) hs.items rs.items c.in_ok-started.ensures.shared joined.1)
+    (joined_zip (λ h. h.promise.before.value) _ R (λ h. h.promise.shared.now ≡ c.args.shared.now)
+    (λ h r e k.
+    subst (λ s. HasWorkedOn g.D.LinkDevice.state source.is_own source.progress g.G.Gate.open_for_good s
+    h.promise.before.value r)
+    e k)
+    hs.items rs.items c.in_ok-started.ensures.shared joined.1)

@@ -23,7 +23,9 @@ returns-in_err-take_plain-clause-err g c trace begun s at =
     let line = c.in-Some.line.now in
     let behind = c.in-Some.behind.now in
     let p = err_from_is_err_and c.from_residual.result c.from_residual.ensures.1 in
-    rw (p.1, p.2) (fails_more trace s.taken so_far.stand.taken was.front line (10 ∷ behind) c.args.bytes.now begun (g.W.Write.contents c.loop-line.writer) Memory so_far.taken_is (was.parted ∙ ap (λ l. was.front ++ l) c.in-Some.ensures.1) (fails_wanting _ _ _ _ _ _ so_far.stand so_far.is line Memory tt))
+    rw (p.1, p.2) (fails_more trace s.taken so_far.stand.taken was.front line (10 ∷ behind) c.args.bytes.now begun
+    (g.W.Write.contents c.loop-line.writer) Memory so_far.taken_is (was.parted ∙ ap (λ l. was.front ++ l) c.in-Some.ensures.1)
+    (fails_wanting _ _ _ _ _ _ so_far.stand so_far.is line Memory tt))
 
 pub returns-in_err-end_line-clause-err : goal.returns-in_err-end_line-clause-err
 returns-in_err-end_line-clause-err g c trace begun s at =
@@ -31,11 +33,16 @@ returns-in_err-end_line-clause-err g c trace begun s at =
     let so_far = was.goes trace begun s at in
     let line = c.in-Some.line.now in
     let behind = c.in-Some.behind.now in
-    let after = goes_plain _ _ _ _ _ _ so_far.stand so_far.is c.take_plain.new.progress line c.in-Some.ensures.0 (c.in_ok-take_plain.ensures.kept (number_after 1 so_far.stand.lines) so_far.stand.line so_far.is.keeps) in
+    let after =
+    goes_plain _ _ _ _ _ _ so_far.stand so_far.is c.take_plain.new.progress line c.in-Some.ensures.0
+    (c.in_ok-take_plain.ensures.kept (number_after 1 so_far.stand.lines) so_far.stand.line so_far.is.keeps) in
     let p = err_from_is_err_and c.from_residual-in_err-end_line.result c.from_residual-in_err-end_line.ensures.1 in
     rw (p.1, p.2) (
-    fails_more trace s.taken after.stand.taken (was.front ++ line) (10 ∷ []) behind c.args.bytes.now begun (g.W.Write.contents c.end_line.new.writer) _ (after.taken_is ∙ ap (λ l. l ++ line) so_far.taken_is ∙ append_assoc s.taken was.front line)
-    (was.parted ∙ ap (λ l. was.front ++ l) c.in-Some.ensures.1 ∙ sym (append_assoc was.front line (10 ∷ behind))) (c.in_err-end_line.ensures.err trace begun after.stand after.is)
+    fails_more trace s.taken after.stand.taken (was.front ++ line) (10 ∷ []) behind c.args.bytes.now begun
+    (g.W.Write.contents c.end_line.new.writer) _ (after.taken_is ∙ ap (λ l. l ++ line) so_far.taken_is
+    ∙ append_assoc s.taken was.front line)
+    (was.parted ∙ ap (λ l. was.front ++ l) c.in-Some.ensures.1 ∙ sym (append_assoc was.front line (10 ∷ behind)))
+    (c.in_err-end_line.ensures.err trace begun after.stand after.is)
     )
 
 pub loop-line-preserved : goal.loop-line-preserved
@@ -47,12 +54,17 @@ loop-line-preserved g c =
       members = still_members _ _ was.members c.in_ok-end_line.ensures.members;
       as_many = c.in_ok-end_line.ensures.members ∙ was.as_many;
       front = (was.front ++ line) ++ 10 ∷ [];
-      parted = was.parted ∙ ap (λ l. was.front ++ l) c.in-Some.ensures.1 ∙ sym (append_assoc was.front line (10 ∷ behind)) ∙ sym (append_assoc (was.front ++ line) (10 ∷ []) behind);
+      parted =
+          was.parted ∙ ap (λ l. was.front ++ l) c.in-Some.ensures.1 ∙ sym (append_assoc was.front line (10 ∷ behind))
+          ∙ sym (append_assoc (was.front ++ line) (10 ∷ []) behind);
       goes = λ trace begun s at.
           let so_far = was.goes trace begun s at in
-          let after = goes_plain _ _ _ _ _ _ so_far.stand so_far.is c.take_plain.new.progress line c.in-Some.ensures.0 (c.in_ok-take_plain.ensures.kept (number_after 1 so_far.stand.lines) so_far.stand.line so_far.is.keeps) in
+          let after =
+          goes_plain _ _ _ _ _ _ so_far.stand so_far.is c.take_plain.new.progress line c.in-Some.ensures.0
+          (c.in_ok-take_plain.ensures.kept (number_after 1 so_far.stand.lines) so_far.stand.line so_far.is.keeps) in
           let taken = after.taken_is ∙ ap (λ l. l ++ line) so_far.taken_is ∙ append_assoc s.taken was.front line in
-          goes_same _ trace begun _ _ _ _ _ (ap (λ l. l ++ 10 ∷ []) taken ∙ append_assoc s.taken (was.front ++ line) (10 ∷ [])) (c.in_ok-end_line.ensures.ok trace begun after.stand after.is);
+          goes_same _ trace begun _ _ _ _ _ (ap (λ l. l ++ 10 ∷ []) taken ∙ append_assoc s.taken (was.front ++ line) (10 ∷ []))
+          (c.in_ok-end_line.ensures.ok trace begun after.stand after.is);
     }
 
 pub returns-in_err-take_plain-2-clause-err : goal.returns-in_err-take_plain-2-clause-err
@@ -62,12 +74,17 @@ returns-in_err-take_plain-2-clause-err g c trace begun s at =
     let rest = c.loop-line.rest.now in
     let all : c.args.bytes.now ≡ was.front ++ (rest ++ []) = was.parted ∙ ap (λ l. was.front ++ l) (sym (append-nil rest)) in
     let p = err_from_is_err_and c.from_residual-in_err-take_plain-2.result c.from_residual-in_err-take_plain-2.ensures.1 in
-    rw (p.1, p.2) (fails_more trace s.taken so_far.stand.taken was.front rest [] c.args.bytes.now begun (g.W.Write.contents c.loop-line.writer) Memory so_far.taken_is all (fails_wanting _ _ _ _ _ _ so_far.stand so_far.is rest Memory tt))
+    rw (p.1, p.2) (fails_more trace s.taken so_far.stand.taken was.front rest [] c.args.bytes.now begun
+    (g.W.Write.contents c.loop-line.writer) Memory so_far.taken_is all
+    (fails_wanting _ _ _ _ _ _ so_far.stand so_far.is rest Memory tt))
 
 pub returns-clause-ok : goal.returns-clause-ok
 returns-clause-ok g c trace begun s at =
     let was = c.loop-line.invariant in
     let so_far = was.goes trace begun s at in
     let rest = c.loop-line.rest.now in
-    let after = goes_plain _ _ _ _ _ _ so_far.stand so_far.is c.take_plain-2.new.progress rest c.in_default.ensures (c.in_ok-take_plain-2.ensures.kept (number_after 1 so_far.stand.lines) so_far.stand.line so_far.is.keeps) in
-    goes_same _ trace begun _ _ _ _ _ (ap (λ l. l ++ rest) so_far.taken_is ∙ append_assoc s.taken was.front rest ∙ ap (λ l. s.taken ++ l) (sym was.parted)) after
+    let after =
+    goes_plain _ _ _ _ _ _ so_far.stand so_far.is c.take_plain-2.new.progress rest c.in_default.ensures
+    (c.in_ok-take_plain-2.ensures.kept (number_after 1 so_far.stand.lines) so_far.stand.line so_far.is.keeps) in
+    goes_same _ trace begun _ _ _ _ _ (ap (λ l. l ++ rest) so_far.taken_is ∙ append_assoc s.taken was.front rest
+    ∙ ap (λ l. s.taken ++ l) (sym was.parted)) after

@@ -4,11 +4,14 @@ use Rattle.tp_session.specs.Standing.{standing_of}
 use Rattle.tp_session.specs.Stand.{number_after}
 use Rattle.tp_session.proofs.KnownBytes.{appends_same}
 use Rattle.tp_session.proofs.ServiceLemmas.{from_nothing}
-use Rattle.tp_session.proofs.ReadingLemmas.{answer_at, wanting_at_end, told_nothing_more, told_last, fails_last, nothing_left, something_left, some_of}
+use Rattle.tp_session.proofs.ReadingLemmas.{answer_at, wanting_at_end, told_nothing_more, told_last, fails_last, nothing_left}
+use Rattle.tp_session.proofs.ReadingLemmas.{something_left, some_of}
 use Rattle.tp_session.proofs.reading.finish.Goals as goal
 
 pub returns-then-is_empty-clause-ok : goal.returns-then-is_empty-clause-ok
-returns-then-is_empty-clause-ok g c trace begun s at = told_nothing_more _ _ _ _ _ _ s at (nothing_left s.line _ _ at.keeps.line_is c.args.progress.now.line.ok.0 c.if-is_empty.ensures)
+returns-then-is_empty-clause-ok g c trace begun s at =
+    told_nothing_more _ _ _ _ _ _ s at (nothing_left s.line _ _ at.keeps.line_is c.args.progress.now.line.ok.0
+    c.if-is_empty.ensures)
 
 pub returns-in_err-answer-clause-err : goal.returns-in_err-answer-clause-err
 returns-in_err-answer-clause-err g c trace begun s at =
@@ -18,11 +21,18 @@ returns-in_err-answer-clause-err g c trace begun s at =
 pub returns-clause-ok : goal.returns-clause-ok
 returns-clause-ok g c trace begun s at =
     let some = something_left s.line _ _ at.keeps.line_is c.args.progress.now.line.ok.0 c.if-is_empty.ensures in
-    let answer = answer_at _ _ _ _ _ _ s at false c.answer.new.told.items (standing_of c.answer.new.service) (from_nothing _ _ _ c.clear.ensures.items (c.in_ok-answer.ensures.told at.fit (number_after 1 s.lines) s.line at.keeps)) in
-    told_last _ _ _ _ _ _ s at some _ _ answer _ c.write_whole.result (on_ok_weaker c.write_whole.result (appends_same _ _ _ _ c.as_slice.ensures.value) c.write_whole.ensures.ok)
+    let answer =
+    answer_at _ _ _ _ _ _ s at false c.answer.new.told.items (standing_of c.answer.new.service)
+    (from_nothing _ _ _ c.clear.ensures.items (c.in_ok-answer.ensures.told at.fit (number_after 1 s.lines) s.line at.keeps)) in
+    told_last _ _ _ _ _ _ s at some _ _ answer _ c.write_whole.result
+    (on_ok_weaker c.write_whole.result (appends_same _ _ _ _ c.as_slice.ensures.value) c.write_whole.ensures.ok)
 
 pub returns-clause-err : goal.returns-clause-err
 returns-clause-err g c trace begun s at =
     let some = something_left s.line _ _ at.keeps.line_is c.args.progress.now.line.ok.0 c.if-is_empty.ensures in
-    let answer = answer_at _ _ _ _ _ _ s at false c.answer.new.told.items (standing_of c.answer.new.service) (from_nothing _ _ _ c.clear.ensures.items (c.in_ok-answer.ensures.told at.fit (number_after 1 s.lines) s.line at.keeps)) in
-    fails_last _ _ _ _ _ _ s at some _ _ answer _ c.write_whole.result (on_err_weaker c.write_whole.result (some_of _ _ _ _ c.as_slice.ensures.value) c.write_whole.ensures.err) c.write_whole.ensures.fault
+    let answer =
+    answer_at _ _ _ _ _ _ s at false c.answer.new.told.items (standing_of c.answer.new.service)
+    (from_nothing _ _ _ c.clear.ensures.items (c.in_ok-answer.ensures.told at.fit (number_after 1 s.lines) s.line at.keeps)) in
+    fails_last _ _ _ _ _ _ s at some _ _ answer _ c.write_whole.result
+    (on_err_weaker c.write_whole.result (some_of _ _ _ _ c.as_slice.ensures.value) c.write_whole.ensures.err)
+    c.write_whole.ensures.fault

@@ -10,7 +10,8 @@ returns-then-kept-bytes c = record {
       let bytes = c.args.bytes.now in
       let cut = c.if-kept-bytes.true in
       let test : nat_lt c.min-kept.result (length bytes) ≡ true = grind (arith, nat_tests, cut) in
-      keeps_more p _ number line bytes c.min-kept.result keeps (omega (arith, c.len.ensures, c.min-kept.ensures)) refl c.in_ok-extend_from_slice.ensures.items (or_true p.long _ test);
+      keeps_more p _ number line bytes c.min-kept.result keeps (omega (arith, c.len.ensures, c.min-kept.ensures)) refl
+      c.in_ok-extend_from_slice.ensures.items (or_true p.long _ test);
 }
 
 pub returns-else-kept-bytes : goal.returns-else-kept-bytes
@@ -20,5 +21,6 @@ returns-else-kept-bytes c = record {
       let bytes = c.args.bytes.now in
       let whole = c.if-kept-bytes.false in
       let test : nat_lt c.min-kept.result (length bytes) ≡ false = grind (arith, nat_tests, whole) in
-      keeps_more p _ number line bytes c.min-kept.result keeps (omega (arith, c.len.ensures, c.min-kept.ensures)) refl c.in_ok-extend_from_slice.ensures.items (or_false p.long _ test);
+      keeps_more p _ number line bytes c.min-kept.result keeps (omega (arith, c.len.ensures, c.min-kept.ensures)) refl
+      c.in_ok-extend_from_slice.ensures.items (or_false p.long _ test);
 }

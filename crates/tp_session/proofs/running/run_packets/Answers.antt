@@ -12,15 +12,19 @@ returns-in-Ok-clause-outcomes g c fit =
     let short = short_messages accepted.image accepted.budget accepted.acceptable in
     let lent = subst (λ v. All AreFitOf (map (devices_of state) v.items)) (sym c.replace-lent.ensures.value) fit in
     let take = all_take accepted.image (map (devices_of state) c.replace-lent.result.items) short.0 short.1 lent in
-    outcomes (batch_of c.args.job.now) accepted.budget _ c.in-Ok.ensures.batch.collected.count (c.long_traces_alone_are_lost.ensures _ _ _ c.requires.packets take c.in-Ok.ensures.batch)
+    outcomes (batch_of c.args.job.now) accepted.budget _ c.in-Ok.ensures.batch.collected.count
+    (c.long_traces_alone_are_lost.ensures _ _ _ c.requires.packets take c.in-Ok.ensures.batch)
 
 pub returns-in-Ok-clause-members : goal.returns-in-Ok-clause-members
 returns-in-Ok-clause-members g c =
     let state = g.D.LinkDevice.state in
-    let many = as_many (devices_of state) (devices_of state) c.replace-lent.result.items c.in-Ok.batch.links.items c.in-Ok.ensures.batch.settings in
+    let many =
+    as_many (devices_of state) (devices_of state) c.replace-lent.result.items c.in-Ok.batch.links.items
+    c.in-Ok.ensures.batch.settings in
     many ∙ ap (λ v. length v.items) c.replace-lent.ensures.value
 
 pub returns-in-Ok-clause-fit : goal.returns-in-Ok-clause-fit
 returns-in-Ok-clause-fit g c fit =
     let state = g.D.LinkDevice.state in
-    all_fit_still _ _ c.in-Ok.ensures.batch.settings (subst (λ v. All AreFitOf (map (devices_of state) v.items)) (sym c.replace-lent.ensures.value) fit)
+    all_fit_still _ _ c.in-Ok.ensures.batch.settings
+    (subst (λ v. All AreFitOf (map (devices_of state) v.items)) (sym c.replace-lent.ensures.value) fit)

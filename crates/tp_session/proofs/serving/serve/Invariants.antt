@@ -11,5 +11,7 @@ invariant-loop g l = record {
   room : length l.buffer ≡ most_read;
   members : HasMembers l.service.links.items;
   as_many : AreAsMany l.fn.farm.links.items l.service.links.items;
-  so_far : AreFit g.D.LinkDevice.state l.fn.farm.links.items → IfSome (g.R.Read.remaining l.fn.reader) (λ input. SoFar g.D.LinkDevice.state l.fn.farm.trace input (g.R.Read.remaining l.reader) (g.W.Write.contents l.fn.writer) (g.W.Write.contents l.writer) l.progress l.service);
+  so_far : AreFit g.D.LinkDevice.state l.fn.farm.links.items
+      → IfSome (g.R.Read.remaining l.fn.reader) (λ input. SoFar g.D.LinkDevice.state l.fn.farm.trace input
+      (g.R.Read.remaining l.reader) (g.W.Write.contents l.fn.writer) (g.W.Write.contents l.writer) l.progress l.service);
 }

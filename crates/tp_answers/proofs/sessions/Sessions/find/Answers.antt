@@ -4,4 +4,6 @@ use Rattle.tp_answers.proofs.SessionLemmas.{found_same}
 use Rattle.tp_answers.proofs.sessions.Sessions.find.Goals as goal
 
 pub returns : goal.returns
-returns c = c.get_index_of.ensures.index ∙ found_same (λ k. k.items) session_of (λ n v. refl) c.args.name.now c.args.self.now.by_name.entries
+returns c =
+    c.get_index_of.ensures.index ∙ found_same (λ k. k.items) session_of
+    (λ n v. refl) c.args.name.now c.args.self.now.by_name.entries

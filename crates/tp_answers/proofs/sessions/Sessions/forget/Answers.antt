@@ -6,6 +6,9 @@ use Rattle.tp_answers.proofs.sessions.Sessions.forget.Goals as goal
 pub returns : goal.returns
 returns c s there =
     let entries = c.args.self.now.by_name.entries in
-    let was = at_same (λ k. k.items) session_of (λ n v. refl) entries c.args.index c.index_mut-kept.result.now s c.index_mut-kept.ensures.value there in
+    let was =
+    at_same (λ k. k.items) session_of (λ n v. refl) entries c.args.index c.index_mut-kept.result.now s
+    c.index_mut-kept.ensures.value there in
     set_same (λ k. k.items) session_of (λ n v. refl) entries c.args.index c.forget.new.self s there
-    ∙ ap (slice_set (sessions_of c.args.self.now) c.args.index) (forgot s c.index_mut-kept.result.now c.forget.new.self was c.forget.ensures.image c.forget.ensures.packets)
+    ∙ ap (slice_set (sessions_of c.args.self.now) c.args.index)
+    (forgot s c.index_mut-kept.result.now c.forget.new.self was c.forget.ensures.image c.forget.ensures.packets)

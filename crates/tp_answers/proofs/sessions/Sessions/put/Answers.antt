@@ -4,4 +4,6 @@ use Rattle.tp_answers.proofs.SessionLemmas.{put_same}
 use Rattle.tp_answers.proofs.sessions.Sessions.put.Goals as goal
 
 pub returns : goal.returns
-returns c = ap (map (λ e. session_of e.0.items e.1)) c.in_ok-insert.ensures.entries ∙ put_same (λ k. k.items) session_of (λ n v. refl) c.args.name c.args.kept c.args.self.now.by_name.entries
+returns c =
+    ap (map (λ e. session_of e.0.items e.1)) c.in_ok-insert.ensures.entries
+    ∙ put_same (λ k. k.items) session_of (λ n v. refl) c.args.name c.args.kept c.args.self.now.by_name.entries

@@ -4,4 +4,6 @@ use Rattle.tp_answers.proofs.SessionLemmas.{remove_same}
 use Rattle.tp_answers.proofs.sessions.Sessions.remove.Goals as goal
 
 pub returns : goal.returns
-returns c = ap (map (λ e. session_of e.0.items e.1)) (search rules) ∙ remove_same (λ k. k.items) session_of (λ n v. refl) c.args.self.now.by_name.entries c.args.index
+returns c =
+    ap (map (λ e. session_of e.0.items e.1)) (search rules) ∙ remove_same (λ k. k.items) session_of (λ n v. refl)
+    c.args.self.now.by_name.entries c.args.index

@@ -19,7 +19,10 @@ fetch_add-found-requires c =
     let ok = c.seat.invariant.0 in (
       looked.0 ∙ own,
       omega arith,
-      allowed _ _ _ _ event.Claim
-          (ap (λ m. m.0.hand) looked.2.0 ∙ hand_empty _ _ _ _ _ ok c.in_default.not-Some, ap (λ m. m.0.ended) looked.2.0 ∙ still_going _ _ _ _ _ ok c.if-seat.false)
+      allowed _ _ _ _ event.Claim (
+        ap (λ m. m.0.hand) looked.2.0 ∙ hand_empty _ _ _ _ _ ok c.in_default.not-Some,
+        ap (λ m. m.0.ended) looked.2.0
+            ∙ still_going _ _ _ _ _ ok c.if-seat.false,
+      )
           (ap (λ m. m.0.parts) looked.2.0 ∙ ok.one),
     )

@@ -17,9 +17,11 @@ tally-requires c =
     let less = ap length c.in-Some.ensures.items in
     let more = length-append c.pop.new.self.items (c.in-Some.first ∷ []) in
     let key = c.self.invariant.told in
-    let all : c.self.inside.table.shared.key.members ≤ c.gather-token.result.me.0.parts = (let m = ap (λ k. k.members) key in omega arith) in
+    let all : c.self.inside.table.shared.key.members ≤ c.gather-token.result.me.0.parts =
+    (let m = ap (λ k. k.members) key in omega arith) in
     let f = c.close_with-closed.ensures.values.2 in
-    let h = closes (Unit {0}) c.self.inside.table.shared.key c.gather-token.result.id c.gather-token.result.me.0 _ f.0 all f.1 f.2 in
+    let h =
+    closes (Unit {0}) c.self.inside.table.shared.key c.gather-token.result.id c.gather-token.result.me.0 _ f.0 all f.1 f.2 in
     let claimed = word_at _ h.0 0 _ _ h.1 refl c.word-claimed.ensures in
     let done = word_at _ h.0 1 _ _ h.1 refl c.word-done.ensures in
     let lost = word_at _ h.0 2 _ _ h.1 refl c.word-lost.ensures in
@@ -39,7 +41,9 @@ returns-clause-all c =
     let more = length-append c.pop.new.self.items (c.in-Some.first ∷ []) in
     let key = ap (λ k. k.members) c.self.invariant.told in
     let f = c.close_with-closed.ensures.values.2 in
-    let h = closes (Unit {0}) c.self.inside.table.shared.key c.gather-token.result.id c.gather-token.result.me.0 _ f.0 (omega arith) f.1 f.2 in
+    let h =
+    closes (Unit {0}) c.self.inside.table.shared.key c.gather-token.result.id c.gather-token.result.me.0 _ f.0
+    (omega arith) f.1 f.2 in
     let every = h.3 in
     let members = ap (λ b. b.members) c.self.view_is in
     omega arith
@@ -52,9 +56,11 @@ returns-clause-ledger c =
     let less = ap length items in
     let more = length-append c.pop.new.self.items (c.in-Some.first ∷ []) in
     let key = c.self.invariant.told in
-    let all : c.self.inside.table.shared.key.members ≤ c.gather-token.result.me.0.parts = (let m = ap (λ k. k.members) key in omega arith) in
+    let all : c.self.inside.table.shared.key.members ≤ c.gather-token.result.me.0.parts =
+    (let m = ap (λ k. k.members) key in omega arith) in
     let f = c.close_with-closed.ensures.values.2 in
-    let h = closes (Unit {0}) c.self.inside.table.shared.key c.gather-token.result.id c.gather-token.result.me.0 _ f.0 all f.1 f.2 in
+    let h =
+    closes (Unit {0}) c.self.inside.table.shared.key c.gather-token.result.id c.gather-token.result.me.0 _ f.0 all f.1 f.2 in
     let claimed = word_at _ h.0 0 _ _ h.1 refl c.word-claimed.ensures in
     let done = word_at _ h.0 1 _ _ h.1 refl c.word-done.ensures in
     let lost = word_at _ h.0 2 _ _ h.1 refl c.word-lost.ensures in
@@ -63,9 +69,11 @@ returns-clause-ledger c =
     let v = c.in-Some.first.view in
     let us = views_of c.pop.new.self.items in
     let whole : Whole (size c.self.inside.packets c.self.inside.members) h.0 (join_of_all v us) =
-    subst (λ (k : Size). Whole k h.0 (join_of_all v us)) key (subst (λ (u : View). Whole c.self.inside.table.shared.key h.0 u) (ap (λ m. m.0) c.gather-token.ensures.view) h.2) in
+    subst (λ (k : Size). Whole k h.0 (join_of_all v us)) key
+    (subst (λ (u : View). Whole c.self.inside.table.shared.key h.0 u) (ap (λ m. m.0) c.gather-token.ensures.view) h.2) in
     subst (λ (p : ℕ). Balances p (views_of c.args.seats.items) c.tally.result) (ap (λ b. b.packets) c.self.view_is)
-    (subst (λ (vs : List View). Balances c.self.inside.packets vs c.tally.result) (sym (views_pop c.args.seats.items c.pop.new.self.items c.in-Some.first items))
+    (subst (λ (vs : List View). Balances c.self.inside.packets vs c.tally.result)
+    (sym (views_pop c.args.seats.items c.pop.new.self.items c.in-Some.first items))
     (accounts c.self.inside.packets c.self.inside.members h.0 v us c.tally.result whole
     (t.drawn ∙ ap (λ (n : ℕ). min n c.self.inside.packets) claimed)
     (t.done ∙ done)

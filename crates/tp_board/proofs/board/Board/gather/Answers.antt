@@ -9,8 +9,14 @@ pub join_seat-requires : goal.join_seat-requires
 join_seat-requires c =
     let here = sym (ap (λ v. v.table) c.self.view_is) in
     let four = c.self.invariant.words in
-    let popped = All-pop (IsSeatOf c.args.self.now) _ _ (Some c.in-Some.next) c.in-Some.ensures.items c.loop-next.invariant.others in
-    (c.loop-next.invariant.own ∙ here, ap (λ v. v.table) c.next.view_is ∙ popped.1.0 ∙ here, c.next.invariant.1, omega arith, joins _ 0 _ c.loop-next.token.me _ _ c.loop-next.invariant.some_part)
+    let popped =
+    All-pop (IsSeatOf c.args.self.now) _ _ (Some c.in-Some.next) c.in-Some.ensures.items c.loop-next.invariant.others in (
+      c.loop-next.invariant.own ∙ here,
+      ap (λ v. v.table) c.next.view_is ∙ popped.1.0 ∙ here,
+      c.next.invariant.1,
+      omega arith,
+      joins _ 0 _ c.loop-next.token.me _ _ c.loop-next.invariant.some_part,
+    )
 
 pub loop-next-preserved : goal.loop-next-preserved
 loop-next-preserved c =
@@ -29,6 +35,8 @@ loop-next-preserved c =
       home = ap (λ m. m.1) j.2 ∙ i.home;
       some_part = omega arith;
       parts = omega arith;
-      view = folded_pop c.loop-next.token.me.0 c.next.inside.token.me.0 c.join_seat.new.seat.me.0 _ _ c.in-Some.next items (ap (λ v. v.view) c.next.view_is) me ∙ i.view;
+      view =
+          folded_pop c.loop-next.token.me.0 c.next.inside.token.me.0 c.join_seat.new.seat.me.0 _ _ c.in-Some.next items
+          (ap (λ v. v.view) c.next.view_is) me ∙ i.view;
       others = popped.0;
     }

@@ -7,4 +7,5 @@ pub invariant_of-self : goal.invariant_of-self
 invariant_of-self c =
     let long = ap (λ s. length s.hands) c.self.view_is in
     let m : c.args.member < length c.self.inside.hands.items = (let r = c.requires in omega arith) in
-    accounts_claim _ _ _ _ _ _ _ m (sym (get_or_read c.self.inside.hands.items _ _ m c.index.ensures None) ∙ c.in_default.is) c.if-self.false c.self.invariant
+    accounts_claim _ _ _ _ _ _ _ m (sym (get_or_read c.self.inside.hands.items _ _ m c.index.ensures None) ∙ c.in_default.is)
+    c.if-self.false c.self.invariant

@@ -9,7 +9,10 @@ pub invariant_of-self-2 : goal.invariant_of-self-2
 invariant_of-self-2 c =
     let long = ap (λ s. length s.hands) c.self.view_is in
     let m : c.args.member < length c.self.inside.hands.items = (let r = c.requires in omega arith) in
-    let kept = accounts_finish c.self.inside.packets c.self.inside.drawn c.self.inside.hands.items c.self.inside.done.items c.self.inside.lost.items c.self.inside.stop c.args.member c.in-Some.number m
+    let kept =
+    accounts_finish c.self.inside.packets c.self.inside.drawn c.self.inside.hands.items c.self.inside.done.items
+    c.self.inside.lost.items c.self.inside.stop c.args.member c.in-Some.number m
     (sym (get_or_read c.self.inside.hands.items _ _ m c.index.ensures None) ∙ c.in-Some.is) c.self.invariant in
     let pushed = c.push_reserved.ensures.items ∙ ap (λ l. l ++ c.in-Some.number ∷ []) c.reserve.ensures.items in
-    subst (λ (d : List ℕ). Accounts (farm c.self.inside.packets c.self.inside.drawn (set c.self.inside.hands.items c.args.member None) d c.self.inside.lost.items c.self.inside.stop)) (sym pushed) kept
+    subst (λ (d : List ℕ). Accounts (farm c.self.inside.packets c.self.inside.drawn
+    (set c.self.inside.hands.items c.args.member None) d c.self.inside.lost.items c.self.inside.stop)) (sym pushed) kept

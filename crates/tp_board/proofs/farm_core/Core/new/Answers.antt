@@ -9,4 +9,6 @@ invariant_of-result c =
     let P = λ (hs : List (Option ℕ)) (done lost : List ℕ). Accounts (farm c.args.packets 0 hs done lost false) in
     let h = accounts_opening c.args.packets c.args.members in
     let hands : c.in_ok-hands.hands.items ≡ replicate c.args.members None = search rules in
-    subst (λ hs. P hs c.new.result.items c.new-2.result.items) (sym hands) (subst (λ done. P (replicate c.args.members None) done c.new-2.result.items) (sym c.new.ensures.items) (subst (λ lost. P (replicate c.args.members None) [] lost) (sym c.new-2.ensures.items) h))
+    subst (λ hs. P hs c.new.result.items c.new-2.result.items) (sym hands)
+    (subst (λ done. P (replicate c.args.members None) done c.new-2.result.items) (sym c.new.ensures.items)
+    (subst (λ lost. P (replicate c.args.members None) [] lost) (sym c.new-2.ensures.items) h))

@@ -25,9 +25,11 @@ tally-requires g c =
     let t = c.gather-pass.ensures in
     let parts = t.parts.1 in
     let key = c.self.invariant.told in
-    let all : c.self.inside.desk.shared.key.members ≤ c.gather-pass.result.1.me.0.parts = (let m = ap (λ k. k.members) key in omega arith) in
+    let all : c.self.inside.desk.shared.key.members ≤ c.gather-pass.result.1.me.0.parts =
+    (let m = ap (λ k. k.members) key in omega arith) in
     let f = c.close_with-closed.ensures.values.2 in
-    let h = closes (Unit {0}) c.self.inside.desk.shared.key c.gather-pass.result.1.id c.gather-pass.result.1.me.0 _ f.0 all f.1 f.2 in
+    let h =
+    closes (Unit {0}) c.self.inside.desk.shared.key c.gather-pass.result.1.id c.gather-pass.result.1.me.0 _ f.0 all f.1 f.2 in
     let done = desk_word_at _ h.0 0 _ _ h.1 refl c.word-done.ensures in
     let lost = desk_word_at _ h.0 1 _ _ h.1 refl c.word-lost.ensures in
     let agrees = subst Agrees (sym t.view.1) t.agrees in
@@ -43,7 +45,9 @@ returns-clause-all g c =
     let parts = c.gather-pass.ensures.parts.1 in
     let key = ap (λ k. k.members) c.self.invariant.told in
     let f = c.close_with-closed.ensures.values.2 in
-    let h = closes (Unit {0}) c.self.inside.desk.shared.key c.gather-pass.result.1.id c.gather-pass.result.1.me.0 _ f.0 (omega arith) f.1 f.2 in
+    let h =
+    closes (Unit {0}) c.self.inside.desk.shared.key c.gather-pass.result.1.id c.gather-pass.result.1.me.0 _ f.0
+    (omega arith) f.1 f.2 in
     let every = h.3 in
     let members = ap (λ (q : StreamView). q.members) c.self.view_is in
     omega arith
@@ -55,7 +59,9 @@ returns-clause-ledger g c =
     let parts = t.parts.1 in
     let key = ap (λ k. k.members) c.self.invariant.told in
     let f = c.close_with-closed.ensures.values.2 in
-    let h = closes (Unit {0}) c.self.inside.desk.shared.key c.gather-pass.result.1.id c.gather-pass.result.1.me.0 _ f.0 (omega arith) f.1 f.2 in
+    let h =
+    closes (Unit {0}) c.self.inside.desk.shared.key c.gather-pass.result.1.id c.gather-pass.result.1.me.0 _ f.0
+    (omega arith) f.1 f.2 in
     let done = desk_word_at _ h.0 0 _ _ h.1 refl c.word-done.ensures in
     let lost = desk_word_at _ h.0 1 _ _ h.1 refl c.word-lost.ensures in
     let stop = desk_word_at _ h.0 2 _ _ h.1 refl c.word-stop.ensures in
@@ -69,8 +75,11 @@ returns-clause-ledger g c =
     let within : n ≤ packets = omega arith in
     let v = feeder_seen c.args.feeder in
     let us = map hand_seen c.args.hands.items in
-    let whole = subst (λ (u : View). Whole (size packets c.args.self.members) (counters (n + turn.ended) h.0.done h.0.lost h.0.stop) u) t.view.1
-    (whole_stream packets c.args.self.members n turn c.gather-pass.result.1.me.0 t.view.0 h.0 sizes left h.2 (omega arith) (subst Agrees (sym t.view.1) t.agrees)) in
+    let whole =
+    subst (λ (u : View). Whole (size packets c.args.self.members) (counters (n + turn.ended) h.0.done h.0.lost h.0.stop) u)
+    t.view.1
+    (whole_stream packets c.args.self.members n turn c.gather-pass.result.1.me.0 t.view.0 h.0 sizes left h.2 (omega arith)
+    (subst Agrees (sym t.view.1) t.agrees)) in
     let e = c.tally.ensures in
     accounts packets c.args.self.members (counters (n + turn.ended) h.0.done h.0.lost h.0.stop) v us c.tally.result whole
     (e.drawn ∙ drawn_at n turn.ended packets within (λ some_end. left.ended some_end ∙ sizes))
@@ -86,7 +95,8 @@ returns-clause-left g c =
     let n = c.drained-drawn.result in
     let turn = view c.gather-pass.result.0 in
     let e = c.tally.ensures in
-    let pushed : turn.pushed ≡ c.feeder.inside.pushed = t.sizes.2 ∙ ap (λ (f : FeederView). f.turn.pushed) (sym c.feeder.view_is) ∙ c.feeder.invariant.0.pushed_is in
+    let pushed : turn.pushed ≡ c.feeder.inside.pushed =
+    t.sizes.2 ∙ ap (λ (f : FeederView). f.turn.pushed) (sym c.feeder.view_is) ∙ c.feeder.invariant.0.pushed_is in
     let drew = (returns-clause-ledger g c).drew in
     let below = subst (λ (m : ℕ). AreBelow (all_drawn views) m) e.drawn drew in
     subst (λ (m : ℕ). IsLeft views m c.tally.result.drawn) pushed

@@ -28,7 +28,8 @@ loop-next-preserved c =
     let ms = hand_list c.next.inside.number in
     let me = ap (λ m. m.0) s.me in
     let both : seen_of (view c.join.new.pass) c.join_seats.new.token.me.0 (ns ++ ms) ≡ join_of (seen_of t p ns) (seen_of u q ms) =
-    ap (λ (z : Turn). seen_of z c.join_seats.new.token.me.0 (ns ++ ms)) j.1 ∙ ap (λ (z : View). seen_of (joined t u) z (ns ++ ms)) me ∙ sym (seen_join t u p q ns ms) in
+    ap (λ (z : Turn). seen_of z c.join_seats.new.token.me.0 (ns ++ ms)) j.1
+    ∙ ap (λ (z : View). seen_of (joined t u) z (ns ++ ms)) me ∙ sym (seen_join t u p q ns ms) in
     let pass_parts = ap (λ (z : Turn). z.parts) j.1 in
     let seat_parts = ap (λ (z : View). z.parts) me in
     let one_pass = ok.one_pass in
@@ -48,7 +49,8 @@ loop-next-preserved c =
       seen = (
         ns ++ ms,
         subst Agrees (sym both) (agrees_join (seen_of t p ns) (seen_of u q ms) i.seen.1 ok.agrees),
-        gathered_hand (seen_of t p ns) _ _ _ c.in-Some.next items (both ∙ ap (λ (h : HandView). join_of (seen_of t p ns) (hand_seen h)) c.next.view_is) ∙ i.seen.2,
+        gathered_hand (seen_of t p ns) _ _ _ c.in-Some.next items
+            (both ∙ ap (λ (h : HandView). join_of (seen_of t p ns) (hand_seen h)) c.next.view_is) ∙ i.seen.2,
       );
       others = popped.0;
     }

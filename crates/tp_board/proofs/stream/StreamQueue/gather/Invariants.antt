@@ -9,9 +9,13 @@ invariant-loop-next l = record {
   pass : (l.pass.table_id ≡ l.self.line) × (l.pass.me.1 ≡ []);
   token : (l.token.table_id ≡ l.self.desk) × (l.token.me.1 ≡ []);
   some_part : (0 < (view l.pass).parts) × (0 < l.token.me.0.parts);
-  parts : ((view l.pass).parts + length l.rest.items ≡ length l.fn.rest.items + 1) × (l.token.me.0.parts + length l.rest.items ≡ length l.fn.rest.items + 1);
-  sizes : ((view l.pass).packets ≡ length l.self.packets) × ((view l.pass).members ≡ l.self.members) × ((view l.pass).pushed ≡ l.fn.feeder.turn.pushed);
-  seen : (numbers : List ℕ) × Agrees (seen_of (view l.pass) l.token.me.0 numbers) × (join_of_all (seen_of (view l.pass) l.token.me.0 numbers) (map hand_seen l.rest.items) ≡ join_of_all (feeder_seen l.fn.feeder) (map hand_seen l.fn.rest.items));
+  parts : ((view l.pass).parts + length l.rest.items ≡ length l.fn.rest.items + 1)
+      × (l.token.me.0.parts + length l.rest.items ≡ length l.fn.rest.items + 1);
+  sizes : ((view l.pass).packets ≡ length l.self.packets) × ((view l.pass).members ≡ l.self.members)
+      × ((view l.pass).pushed ≡ l.fn.feeder.turn.pushed);
+  seen : (numbers : List ℕ) × Agrees (seen_of (view l.pass) l.token.me.0 numbers)
+      × (join_of_all (seen_of (view l.pass) l.token.me.0 numbers) (map hand_seen l.rest.items) ≡ join_of_all
+      (feeder_seen l.fn.feeder) (map hand_seen l.fn.rest.items));
   others : All (IsHandOf l.self) l.rest.items;
 }
 

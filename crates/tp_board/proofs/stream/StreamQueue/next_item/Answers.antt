@@ -11,14 +11,18 @@ pub returns-in-Some-try_next-clause-steps : goal.returns-in-Some-try_next-clause
 returns-in-Some-try_next-clause-steps g c =
     let ok = c.hand.invariant.0 in
     let is = c.hand.view_is in
-    let going = ap (λ (h : HandView). h.turn.ended) (sym is) ∙ ok.ended_is ∙ ap (λ (b : Bool). if b then 1 else 0) c.if-hand.false in
-    let none = ap (λ (h : HandView). h.place.seen.stop) (sym is) ∙ ok.stop_seen_is ∙ ap (λ (b : Bool). if b then 1 else 0) c.if-hand-2.false in
+    let going =
+    ap (λ (h : HandView). h.turn.ended) (sym is) ∙ ok.ended_is ∙ ap (λ (b : Bool). if b then 1 else 0) c.if-hand.false in
+    let none =
+    ap (λ (h : HandView). h.place.seen.stop) (sym is) ∙ ok.stop_seen_is
+    ∙ ap (λ (b : Bool). if b then 1 else 0) c.if-hand-2.false in
     let made = c.loop.invariant.made in
     (made.0, next_after _ _ _ made.0 (work_of c.in-Some-try_next.lent) none made.1 c.in-Some-try_next.ensures.some going)
 
 pub returns-in-Some-try_next-clause-work : goal.returns-in-Some-try_next-clause-work
 returns-in-Some-try_next-clause-work g c =
-    next_says _ _ _ (work_of c.in-Some-try_next.lent) (ap hand_list (no_number _ c.requires.empty)) (returns-in-Some-try_next-clause-steps g c) c.in-Some-try_next.ensures.bytes
+    next_says _ _ _ (work_of c.in-Some-try_next.lent) (ap hand_list (no_number _ c.requires.empty))
+    (returns-in-Some-try_next-clause-steps g c) c.in-Some-try_next.ensures.bytes
 
 pub loop-preserved : goal.loop-preserved
 loop-preserved g c =

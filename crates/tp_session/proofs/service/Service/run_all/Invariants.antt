@@ -11,8 +11,10 @@ use Rattle.tp_session.proofs.service.Service.run_all.Given as goal
 abbrev pub invariant-loop-index : goal.invariant-loop-index
 invariant-loop-index g l = record {
   stays : StaysOn g.D.LinkDevice.state l.fn.self l.self;
-  runs : AreFit g.D.LinkDevice.state l.fn.self.links.items → GoesOnWith (AreRuns l.fn.self.trace (take l.index (sessions_of l.fn.self.sessions))) l.fn.told.items l.told.items;
-  forgotten : sessions_of l.self.sessions ≡ map without_packets (take l.index (sessions_of l.fn.self.sessions)) ++ drop l.index (sessions_of l.fn.self.sessions);
+  runs : AreFit g.D.LinkDevice.state l.fn.self.links.items
+      → GoesOnWith (AreRuns l.fn.self.trace (take l.index (sessions_of l.fn.self.sessions))) l.fn.told.items l.told.items;
+  forgotten : sessions_of l.self.sessions ≡ map without_packets (take l.index (sessions_of l.fn.self.sessions))
+      ++ drop l.index (sessions_of l.fn.self.sessions);
   counted : l.self.batches ≡ batches_more l.index l.fn.self.batches;
   all : l.count ≡ length (sessions_of l.fn.self.sessions);
 }
