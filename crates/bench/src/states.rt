@@ -87,10 +87,23 @@ fn one_round(state: &mut State, image: &Image, nest: &Nest) -> u64
     requires nest { nest.now ≡ ranges image.now.loops }
     ensures { IsPlaced image.now state.new }
 {
-    let loaded = state.go_on(6, 7, Instr::Ldl(0), Edge::Next, image, nest);
-    let added = state.go_on(7, 8, Instr::Adc(1), Edge::Next, image, nest);
-    let stored = state.go_on(8, 9, Instr::Stl(0), Edge::Next, image, nest);
-    u64::from(loaded.is_ok()) + u64::from(added.is_ok()) + u64::from(stored.is_ok())
+    let loaded = passes(state, 6, Instr::Ldl(0), image, nest);
+    let added = passes(state, 7, Instr::Adc(1), image, nest);
+    let stored = passes(state, 8, Instr::Stl(0), image, nest);
+    u64::from(loaded) + u64::from(added) + u64::from(stored)
+}
+
+/// Whether an instruction of one byte passes.
+fn passes(state: &mut State, at: u8, instr: Instr, image: &Image, nest: &Nest) -> bool
+    requires placed { IsPlaced image.now state.old }
+    requires good { HasGoodLoops image.now }
+    requires nest { nest.now ≡ ranges image.now.loops }
+    ensures { IsPlaced image.now state.new }
+{
+    let at = usize::from(at);
+    state
+        .go_on(at, at + 1, instr, Edge::Next, image, nest)
+        .is_ok()
 }
 
 /// How many joins of so many change nothing.
@@ -99,9 +112,17 @@ fn count_unchanged(state: &mut State, other: &State, rounds: u32) -> u64
 {
     let mut unchanged = 0u64;
     for _round in 0..rounds {
-        unchanged = unchanged.saturating_add(u64::from(matches!(state.join(other), Ok(false))));
+        unchanged = unchanged.saturating_add(u64::from(is_unchanged(state, other)));
     }
     unchanged
+}
+
+/// Whether a join changes nothing.
+fn is_unchanged(state: &mut State, other: &State) -> bool
+    requires { length other.now.cells ≡ length state.old.cells }
+    ensures { length other.now.cells ≡ length state.new.cells }
+{
+    state.join(other) == Ok(false)
 }
 
 /// How many times a state is below another, of so many: below one of two in turn, so that no round is like the one before.

@@ -7,7 +7,7 @@ use std::thread::Threads;
 use tp_accept::accept;
 use tp_board::Packet;
 use tp_collect::{Collected, Done, Entry, LostCause};
-use tp_farm::{Batch, Gate, Job, run_batch};
+use tp_farm::{Batch, FarmFault, Gate, Job, run_batch};
 use tp_link::{DeviceFault, FaultyWire, Link, LinkDevice, LinkFault, Links};
 use tp_media::{Media, boxed, media_of};
 use tp_samples::INCREMENT;
@@ -16,7 +16,7 @@ use tp_samples::INCREMENT;
 pub(crate) const BATCH: u64 = 7;
 
 /// What became of a packet, its result as one word.
-#[derive(Clone, Copy, Debug, PartialEq, Eq)]
+#[derive(Clone, Copy, PartialEq, Eq)]
 pub(crate) enum Told {
     Done(u32),
     Lost(Link, DeviceFault),
@@ -66,6 +66,24 @@ pub(crate) fn count_up(alloc: Global, count: u32) -> Result<Vec<u32>, AllocError
     Ok(words)
 }
 
+/// The batch of these packets, when an image's worker runs on them, or what it is refused with.
+pub(crate) fn batch_of<R: Threads + Wait + Sync, D: LinkDevice + Send, G: Gate>(
+    rt: &R,
+    alloc: Global,
+    image: &[u8],
+    packets: &[Packet],
+    links: Vec<Links<D>>,
+    gate: &G,
+) -> Result<Result<Batch<D>, FarmFault>, Fail> {
+    let image = accept(alloc, Vec::from_slice(alloc, image)?)?;
+    let job = Job {
+        batch: BATCH,
+        image: &image,
+        packets,
+    };
+    Ok(run_batch(rt, alloc, &job, links, gate))
+}
+
 /// The batch of packets of one word each, when an image's worker runs on them.
 pub(crate) fn batch_on<R: Threads + Wait + Sync, D: LinkDevice + Send, G: Gate>(
     rt: &R,
@@ -75,14 +93,8 @@ pub(crate) fn batch_on<R: Threads + Wait + Sync, D: LinkDevice + Send, G: Gate>(
     links: Vec<Links<D>>,
     gate: &G,
 ) -> Result<Batch<D>, Fail> {
-    let image = accept(alloc, Vec::from_slice(alloc, image)?)?;
     let packets = packets(alloc, words)?;
-    let job = Job {
-        batch: BATCH,
-        image: &image,
-        packets: &packets,
-    };
-    Ok(run_batch(rt, alloc, &job, links, gate)?)
+    Ok(batch_of(rt, alloc, image, &packets, links, gate)??)
 }
 
 /// What becomes of these packets.

@@ -4,7 +4,6 @@ ghost use Rattle.tp_board.specs.Boards.{IsSeatOf};
 
 use std::alloc::Global;
 use std::process::Abort;
-use std::test::Fail;
 use tp_board::{Board, BoardFault, Claim, CloseFault, Ledger, Seat, Shown};
 
 #[test]
@@ -25,14 +24,25 @@ fn sizes_refused(rt: HostRuntime) {
     assert!(rt; Board::new(rt.alloc(), 1024, 64).is_ok());
 }
 
+/// The last two of a board's seats that are left.
+pub(crate) fn last_two(board: &Board, seats: &mut Vec<Seat>) -> Option<(Seat, Seat)>
+    requires { All (IsSeatOf board.now) seats.old.items }
+    ensures left { All (IsSeatOf board.now) seats.new.items }
+    ensures first { IfSome result (λ r. IsSeatOf board.now r.0) }
+    ensures second { IfSome result (λ r. IsSeatOf board.now r.1) }
+{
+    let second = seats.pop()?;
+    let first = seats.pop()?;
+    Some((first, second))
+}
+
 /// A board of two seats.
 fn board_of_two(alloc: Global, packets: u32) -> Option<(Board, Seat, Seat)>
     ensures zero { IfSome result (λ r. IsSeatOf r.0 r.1) }
     ensures one { IfSome result (λ r. IsSeatOf r.0 r.2) }
 {
     let (board, mut seats) = Board::new(alloc, packets, 2).ok()?;
-    let one = seats.pop()?;
-    let zero = seats.pop()?;
+    let (zero, one) = last_two(&board, &mut seats)?;
     Some((board, zero, one))
 }
 
@@ -107,6 +117,19 @@ fn closed(board: Board, mut seats: Vec<Seat>, last: Seat) -> Option<Ledger>
     board.close(seats).ok()
 }
 
+/// The accounts of a board of two seats after these steps. It is closed without its second seat first, and then with both.
+fn ledger_after(
+    rt: &impl Abort,
+    alloc: Global,
+    packets: u32,
+    steps: &[(u8, Step)],
+) -> Option<Ledger> {
+    let (board, mut zero, mut one) = board_of_two(alloc, packets)?;
+    assert_steps(rt, &board, &mut zero, &mut one, steps);
+    let (board, seats) = refused_close(alloc, board, zero)?;
+    closed(board, seats, one)
+}
+
 const THREE_PACKETS: [(u8, Step); 13] = [
     (0, Step::Claim(Claim::Packet(0))),
     (0, Step::Claim(Claim::Busy(0))),
@@ -124,10 +147,7 @@ const THREE_PACKETS: [(u8, Step); 13] = [
 ];
 
 #[test]
-fn board_of_three_packets(rt: HostRuntime) -> Result<(), Fail> {
-    let (board, mut zero, mut one) = board_of_two(rt.alloc(), 3).ok_or("no board")?;
-    assert_steps(&rt, &board, &mut zero, &mut one, &THREE_PACKETS);
-    let (board, seats) = refused_close(rt.alloc(), board, zero).ok_or("closed without a seat")?;
+fn board_of_three_packets(rt: HostRuntime) {
     let wanted = Ledger {
         drawn: 3,
         done: 1,
@@ -135,8 +155,8 @@ fn board_of_three_packets(rt: HostRuntime) -> Result<(), Fail> {
         in_hand: 1,
         stopped: false,
     };
-    assert_eq!(rt; closed(board, seats, one), Some(wanted));
-    Ok(())
+    let ledger = ledger_after(&rt, rt.alloc(), 3, &THREE_PACKETS);
+    assert_eq!(rt; ledger, Some(wanted));
 }
 
 const STOPPED: [(u8, Step); 4] = [
@@ -147,9 +167,7 @@ const STOPPED: [(u8, Step); 4] = [
 ];
 
 #[test]
-fn stopped_at_once(rt: HostRuntime) -> Result<(), Fail> {
-    let (board, mut zero, mut one) = board_of_two(rt.alloc(), 100).ok_or("no board")?;
-    assert_steps(&rt, &board, &mut zero, &mut one, &STOPPED);
+fn stopped_at_once(rt: HostRuntime) {
     let wanted = Ledger {
         drawn: 0,
         done: 0,
@@ -157,7 +175,6 @@ fn stopped_at_once(rt: HostRuntime) -> Result<(), Fail> {
         in_hand: 0,
         stopped: true,
     };
-    let first = vec![in rt.alloc(); zero]?;
-    assert_eq!(rt; closed(board, first, one), Some(wanted));
-    Ok(())
+    let ledger = ledger_after(&rt, rt.alloc(), 100, &STOPPED);
+    assert_eq!(rt; ledger, Some(wanted));
 }

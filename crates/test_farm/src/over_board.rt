@@ -71,8 +71,8 @@ fn nor_where_a_device_fails(rt: HostRuntime) -> Result<(), Fail> {
     let by_board = failing_over_board(&rt, rt.alloc())?;
     let by_queue = failing_over_queue(&rt, rt.alloc())?;
     let lost = Told::Lost(Link::Sink, DeviceFault::Failed);
-    let told = all_told(rt.alloc(), &by_board)?;
-    assert!(rt; told.as_slice() == [Told::Done(6), lost, Told::Done(8)].as_slice());
+    let wanted = [Told::Done(6), lost, Told::Done(8)];
+    assert!(rt; all_told(rt.alloc(), &by_board)?.as_slice() == wanted.as_slice());
     assert!(rt; same(&by_board, &by_queue));
     Ok(())
 }

@@ -10,7 +10,7 @@ use tp_media::Media;
 use tp_samples::*;
 
 /// What a gate hears of the member of a number.
-#[derive(Clone, Copy, Debug, PartialEq, Eq)]
+#[derive(Clone, Copy, PartialEq, Eq)]
 enum Heard {
     Asked(u32),
     /// It has taken the packet of the second number.

@@ -1,13 +1,12 @@
 //! Batches that do not begin, and one that has nothing to do.
 
-use crate::batches::{ROOM, have_ended, increments_by, packets};
+use crate::batches::{ROOM, batch_of, have_ended, increments_by, packets};
 use std::alloc::Global;
 use std::sync::Wait;
 use std::test::Fail;
 use std::thread::Threads;
-use tp_accept::accept;
 use tp_board::Packet;
-use tp_farm::{FarmFault, Job, OpenGate, run_batch};
+use tp_farm::{FarmFault, OpenGate};
 use tp_media::{Media, boxed, media_of};
 use tp_samples::*;
 
@@ -18,14 +17,8 @@ fn fault_over<R: Threads + Wait + Sync>(
     media: &mut [Media],
     packets: &[Packet],
 ) -> Result<Option<FarmFault>, Fail> {
-    let image = accept(alloc, Vec::from_slice(alloc, INCREMENT)?)?;
-    let job = Job {
-        batch: 0,
-        image: &image,
-        packets,
-    };
     let links = boxed(alloc, media)?;
-    Ok(run_batch(rt, alloc, &job, links, &OpenGate).err())
+    Ok(batch_of(rt, alloc, INCREMENT, packets, links, &OpenGate)?.err())
 }
 
 /// What it is refused with, with so many members; and that all of their media have ended.

@@ -16,17 +16,27 @@ const MEMBERS: [usize; 3] = [1, 2, 64];
 
 const COUNTS: [u32; 5] = [1, 31, 32, 33, 1024];
 
+/// How many packets are done with their word plus one: 1, or 0 where the packet is told as that; none where it is told as neither.
+fn done_or(one: Told, word: u32, other: Told) -> Option<usize> {
+    if one == Told::Done(word.wrapping_add(1)) {
+        Some(1)
+    } else if one == other {
+        Some(0)
+    } else {
+        None
+    }
+}
+
 /// How many packets are done, each with its word plus one, where all others are told as that; none where they are not.
 fn done_beside(all: &[Told], words: &[u32], other: Told) -> Option<usize> {
+    if all.len() != words.len() {
+        return None;
+    }
     let mut done = 0usize;
     for (one, word) in all.iter().zip(words.iter()) {
-        if *one == Told::Done(word.wrapping_add(1)) {
-            done = done.saturating_add(1);
-        } else if *one != other {
-            return None;
-        }
+        done = done.saturating_add(done_or(*one, *word, other)?);
     }
-    (all.len() == words.len()).then_some(done)
+    Some(done)
 }
 
 /// How many are done under a gate that says no at this ask and from there on.

@@ -2,6 +2,7 @@
 ghost use Rattle.std.specs.Prelude.{◌≡◌, IfSome};
 ghost use Rattle.tp_board.specs.Boards.{IsSeatOf};
 
+use crate::boards::last_two;
 use std::alloc::Global;
 use std::snapshot::Snapshot;
 use std::test::Fail;
@@ -80,8 +81,9 @@ fn board_of_four(alloc: Global, packets: u32) -> Option<(Board, (Seat, Seat, Sea
     ensures last { IfSome result (λ r. IsSeatOf r.0 r.1.2 × IsSeatOf r.0 r.1.3) }
 {
     let (board, mut seats) = Board::new(alloc, packets, 4).ok()?;
-    let four = (seats.pop()?, seats.pop()?, seats.pop()?, seats.pop()?);
-    Some((board, four))
+    let (a, b) = last_two(&board, &mut seats)?;
+    let (c, d) = last_two(&board, &mut seats)?;
+    Some((board, (a, b, c, d)))
 }
 
 fn closed(alloc: Global, board: Board, seats: (Seat, Seat, Seat, Seat)) -> Option<Ledger>

@@ -19,9 +19,7 @@ const LOOPS: [(u16, u16); 4] = [(1, 2044), (2, 2042), (3, 2040), (4, 2038)];
 pub fn image_bytes(alloc: Global, fill: [u8; 8]) -> Result<Vec<u8>> {
     let mut bytes = Vec::from_slice(alloc, b"TPW2")?;
     // Code bytes, workspace, start word, packet, result, loops, initial words.
-    for field in [8192u16, 64, 8, 1, 1, 16, 0] {
-        bytes.extend_from_slice(&field.to_le_bytes())?;
-    }
+    put_fields(&mut bytes, &[8192, 64, 8, 1, 1, 16, 0])?;
     for nest in 0..NESTS {
         put_rows(&mut bytes, nest)?;
     }
@@ -33,20 +31,21 @@ pub fn image_bytes(alloc: Global, fill: [u8; 8]) -> Result<Vec<u8>> {
     Ok(bytes)
 }
 
-/// The rows of a nest's loops, each with ten turns and a block of its own.
+/// Adds these fields, each as two bytes.
+fn put_fields(bytes: &mut Vec<u8>, fields: &[u16]) -> Result<()> {
+    for field in fields {
+        bytes.extend_from_slice(&field.to_le_bytes())?;
+    }
+    Ok(())
+}
+
+/// The rows of a nest's loops, each with ten turns from 0 on and a block of its own.
 fn put_rows(bytes: &mut Vec<u8>, nest: u16) -> Result<()> {
     let first = nest.wrapping_mul(NEST_BYTES);
     let mut control = nest.wrapping_mul(8).wrapping_add(16);
     for (head, lend) in LOOPS {
-        for field in [
-            first.wrapping_add(head),
-            first.wrapping_add(lend),
-            control,
-            10,
-        ] {
-            bytes.extend_from_slice(&field.to_le_bytes())?;
-        }
-        bytes.extend_from_slice(&[0; 4])?;
+        let (head, lend) = (first.wrapping_add(head), first.wrapping_add(lend));
+        put_fields(bytes, &[head, lend, control, 10, 0, 0])?;
         control = control.wrapping_add(2);
     }
     Ok(())

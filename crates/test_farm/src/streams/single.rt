@@ -245,17 +245,18 @@ fn feeder_that_stops(rt: HostRuntime) {
     assert_eq!(rt; ledger_after(&rt, rt.alloc(), 2, &steps), Some(wanted));
 }
 
+/// How many hands come back where a stream of two is closed without one of them.
+fn refused_close<R: Wait>(rt: &R, alloc: Global, packets: &[Packet]) -> Option<usize> {
+    let (stream, feeder, mut hands) = StreamQueue::new(alloc, packets, 2).ok()?;
+    let _kept = hands.pop()?;
+    let fault = stream.close(rt, feeder, hands).err()?;
+    Some(fault.hands.len())
+}
+
 #[test]
 fn close_without_a_hand(rt: HostRuntime) -> Result<(), Fail> {
     let packets = packets_of(rt.alloc(), 1).ok_or("no memory")?;
-    let stream = StreamQueue::new(rt.alloc(), packets.as_slice(), 2).ok();
-    let (stream, feeder, mut hands) = stream.ok_or("no stream")?;
-    let kept = hands.pop().ok_or("no hand")?;
-    match stream.close(&rt, feeder, hands) {
-        Ok(_) => panic!(&rt; "closed without a hand"),
-        Err(fault) => assert_eq!(rt; fault.hands.len(), 1),
-    }
-    drop(kept);
+    assert_eq!(rt; refused_close(&rt, rt.alloc(), &packets), Some(1));
     Ok(())
 }
 
@@ -282,6 +283,23 @@ fn worked<R: Wait + Abort>(
     1100
 }
 
+// A hand takes what is left and its mark, and comes back.
+fn one_worked<R: Wait + Abort>(
+    rt: &R,
+    stream: &StreamQueue,
+    feeder: &mut Feeder,
+    mut hand: StreamHand,
+    left: u32,
+) -> StreamHand
+    requires feeder { IsFeederOf stream.now feeder.old }
+    requires hand { IsHandOf stream.now hand }
+    ensures feeder { IsFeederOf stream.now feeder.new }
+    ensures hand { IsHandOf stream.now result }
+{
+    assert_eq!(rt; worked(rt, stream, feeder, &mut hand), left);
+    hand
+}
+
 // The last hand takes all packets and its mark, each other hand its mark.
 fn all_worked<R: Wait + Abort>(
     rt: &R,
@@ -299,12 +317,11 @@ fn all_worked<R: Wait + Abort>(
     let mut back = Vec::new(alloc);
     let mut left = count;
     for _ in 0..64 {
-        let Some(mut hand) = hands.pop() else {
+        let Some(hand) = hands.pop() else {
             return Some(back);
         };
-        assert_eq!(rt; worked(rt, stream, feeder, &mut hand), left);
+        back.push(one_worked(rt, stream, feeder, hand, left)).ok()?;
         left = 0;
-        back.push(hand).ok()?;
     }
     Some(back)
 }

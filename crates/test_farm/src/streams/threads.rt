@@ -1,5 +1,5 @@
 //! Streams that two threads take from while a third one feeds them.
-ghost use Rattle.std.specs.Prelude.{◌≡◌, None, IfSome};
+ghost use Rattle.std.specs.Prelude.{◌≡◌, None, All, IfSome};
 ghost use Rattle.tp_board.specs.Streams.{IsHandOf, IsFeederOf};
 
 use super::single::packets_of;
@@ -255,6 +255,20 @@ where
     )
 }
 
+// The hands of two members.
+fn both_hands(
+    stream: &StreamQueue<'_>,
+    mut hands: Vec<StreamHand>,
+) -> Option<(StreamHand, StreamHand)>
+    requires { All (IsHandOf stream.now) hands.items }
+    ensures first { IfSome result (λ r. IsHandOf stream.now r.0) }
+    ensures second { IfSome result (λ r. IsHandOf stream.now r.1) }
+{
+    let first = hands.pop()?;
+    let second = hands.pop()?;
+    Some((first, second))
+}
+
 // A stream of two members.
 fn stream_of_two<'p>(
     alloc: Global,
@@ -264,8 +278,8 @@ fn stream_of_two<'p>(
     ensures first { IfSome result (λ r. IsHandOf r.0 r.2.0) }
     ensures second { IfSome result (λ r. IsHandOf r.0 r.2.1) }
 {
-    let (stream, feeder, mut hands) = StreamQueue::new(alloc, packets, 2).ok()?;
-    let pair = (hands.pop()?, hands.pop()?);
+    let (stream, feeder, hands) = StreamQueue::new(alloc, packets, 2).ok()?;
+    let pair = both_hands(&stream, hands)?;
     Some((stream, feeder, pair))
 }
 
