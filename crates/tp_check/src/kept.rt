@@ -55,7 +55,7 @@ impl Kept {
         ensures value { IfOk result (λ kept. table_of kept ≡ first_table image.now) }
     {
         let numbers = first_number(alloc, places)?;
-        let states = alone(alloc, first)?;
+        let states = alone(alloc, first, places)?;
         Ok(Kept { states, numbers })
     }
 
@@ -180,11 +180,11 @@ fn keep_joined_numbers(numbers: &mut Vec<Option<usize>>, ways: &Ways)
     }
 }
 
-/// One state alone.
-fn alone(alloc: Global, first: &State) -> Result<States, AllocError>
+/// One state alone, with room for so many: what has no state by the passes' end is never touched.
+fn alone(alloc: Global, first: &State, places: usize) -> Result<States, AllocError>
     ensures { IfOk result (λ states. states ≡ first.now ∷ []) }
 {
-    let mut states = States::new(alloc);
+    let mut states = States::with_capacity(alloc, places)?;
     states.push(alloc, first)?;
     Ok(states)
 }

@@ -23,7 +23,6 @@ use Rattle.tp_check.specs.Passes.{go_along, along, pass, passes}
 use Rattle.tp_reasons.specs.declared.refusal.EdgeRefusal.{EdgeRefusal}
 use Rattle.tp_check.specs.Tables.{table_of}
 use Rattle.tp_check.specs.Passes.{edges_in, IsVerdict}
-use Rattle.tp_check.specs.NearRefusal.{IsNearRefusal}
 use Rattle.tp_check.proofs.PassLemmas.{ok_first}
 use Rattle.tp_check.specs.UnderWay.{MayBeTaken}
 use Rattle.tp_check.proofs.Nests.{among_placed}
@@ -110,9 +109,6 @@ pub record IsBefore (image : ImageValue) (cuts : List Cut) (n : ℕ) (states : T
   pub comes : passes image cuts n ≡ Ok table
   pub same : pass image cuts states ≡ pass image cuts table
   pub whole : (states ≡ table) ⊎ ((next : Table) × (pass image cuts table ≡ Ok next))
-
-pub near_by : (image : ImageValue) (cuts : List Cut) (n : ℕ) (states : Table) → IsNearRefusal image cuts n states → IsBefore image cuts n states
-near_by image cuts n states near = record { table = near.table; comes = near.comes; same = near.same; whole = near.whole }
 
 -- a pass that refuses nothing comes to the table of one pass more
 pub one_more : (image : ImageValue) (cuts : List Cut) (n : ℕ) (es : List (Placed × Edge)) (states new : Table) → es ≡ edges_in cuts → IsBefore image cuts n states → along image es states ≡ Ok new → IsBefore image cuts (n + 1) new

@@ -74,14 +74,14 @@ impl Model for States {
 }
 
 impl States {
-    /// None.
-    pub fn new(alloc: Global) -> States
-        ensures { result ≡ [] }
+    /// None, with room for so many.
+    pub fn with_capacity(alloc: Global, capacity: usize) -> Result<States, AllocError>
+        ensures { IfOk result (λ states. states ≡ []) }
     {
-        States {
-            stored: Vec::new(alloc),
+        Ok(States {
+            stored: Vec::with_capacity(alloc, capacity)?,
             rows: Vec::new(alloc),
-        }
+        })
     }
 
     /// How many there are.
