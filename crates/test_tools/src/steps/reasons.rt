@@ -1,7 +1,7 @@
 //! A worker for each reason to be stuck. Each has 12 words of workspace, begins at word 8, and has a packet and a result of one
 //! word.
 
-use crate::told::{WHOLE, told};
+use crate::steps::told::{WHOLE, told};
 use std::alloc::Global;
 use std::test::Fail;
 use tp_stepper::{End, Reason};

@@ -1,6 +1,6 @@
 //! Lines and ends of three workers: a checksum, a sort, and Fibonacci numbers with a trace.
 
-use crate::told::{WHOLE, told};
+use crate::steps::told::{WHOLE, told};
 use std::test::Fail;
 use tp_stepper::{End, Place, Span};
 

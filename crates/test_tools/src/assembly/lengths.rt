@@ -1,6 +1,6 @@
 //! How long lines become where a distance needs one byte more.
 
-use crate::programs::{back, cj, plain, program, spelled};
+use crate::assembly::programs::{back, cj, plain, program, spelled};
 use std::alloc::Global;
 use std::process::Abort;
 use std::test::Fail;

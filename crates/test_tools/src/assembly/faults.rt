@@ -1,6 +1,6 @@
 //! Each fault of a program, and which comes first.
 
-use crate::programs::{back, cj, plain, program, row, spelled};
+use crate::assembly::programs::{back, cj, plain, program, row, spelled};
 use std::alloc::Global;
 use std::process::Abort;
 use std::test::Fail;

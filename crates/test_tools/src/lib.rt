@@ -1,0 +1,12 @@
+//! What the authors' tools are made of: programs and their images, their texts, runs told line by line, and a hostile image told at
+//! full size. There is no code here but tests.
+#![tactic(auto)]
+
+#[cfg(test)]
+mod assembly;
+#[cfg(test)]
+mod hostile;
+#[cfg(test)]
+mod steps;
+#[cfg(test)]
+mod texts;

@@ -1,0 +1,5 @@
+//! Runs told line by line: lines worked out by hand, what runs end in, and each reason for which a worker is stuck.
+
+mod lines;
+mod reasons;
+pub(crate) mod told;

@@ -1,0 +1,5 @@
+//! Assembly text: three workers, images that come back from text, faults with their places, and places of lines.
+
+mod faults;
+mod places;
+mod workers;
