@@ -3,7 +3,8 @@
 # its peak of memory. Another program, as one that was built from another commit, is measured beside it, in turn, and each of its
 # times and the ratio are told:
 #     bench/serve.sh [OTHER_FARMD]
-# PROGRAM=FARMD measures that in place of the proved program of this checkout. Ends with status 1 where an answer is not the expected one.
+# PROGRAM=FARMD measures that in place of the proved program of this checkout, and ROUNDS=N is the best of N in place of five, for a
+# machine whose speed changes from one moment to the next. Ends with status 1 where an answer is not the expected one.
 top=$(cd "$(dirname "$0")/.." && pwd) || exit 1
 if [ -z "$PROGRAM" ]; then
     printf '' | "$top/farmd" || exit 1
@@ -13,7 +14,7 @@ exec python3 - "$PROGRAM" "$@" <<'PY'
 import os, sys, tempfile
 
 # The least memory is taken here, since a program's peak is told with that of the process that starts it.
-ROUNDS = 5
+ROUNDS = int(os.environ.get("ROUNDS", 5))
 PACKETS = 1024
 RECEIVE, SEND = "1024F25444F7", "1024F244FB21F5"
 INCREMENT = "5450573110000C000800010001000000" + RECEIVE + "7081D0" + SEND
