@@ -1,4 +1,4 @@
-//! Where the passes stand before one of them refuses.
+//! What the passes come to, and where they stand before one of them refuses.
 
 ghost use Rattle.std.specs.Prelude.{◌<◌, ◌≤◌};
 
@@ -6,29 +6,38 @@ use crate::reading::read;
 use std::alloc::{AllocError, Global};
 use std::process::Abort;
 use std::test::Fail;
-use tp_check::{NearRefusal, near_refusal};
+use tp_check::{NearRefusal, PassesEnd, near_refusal};
 use tp_flow::check_flow;
 use tp_samples::*;
 use tp_state::Cell;
 
-/// The passes near the refusal; none, where nothing is refused.
-fn near(rt: &(impl Abort + AllocGlobal), bytes: &[u8]) -> Option<NearRefusal> {
+/// What the passes come to.
+fn end(rt: &(impl Abort + AllocGlobal), bytes: &[u8]) -> PassesEnd<NearRefusal> {
     let (image, listing) = read(rt, bytes);
     let nest = check_flow(&image, &listing).expect(rt, "a nest");
-    near_refusal(rt.alloc(), &image, &listing, &nest).expect(rt, "memory")
+    let end = near_refusal(rt.alloc(), &image, &listing, &nest).expect(rt, "memory");
+    end.expect(rt, "an end")
+}
+
+/// The passes near the refusal.
+fn near(rt: &(impl Abort + AllocGlobal), bytes: &[u8]) -> NearRefusal {
+    match end(rt, bytes) {
+        PassesEnd::Settled => panic!(rt; "nothing is refused"),
+        PassesEnd::Refused(near) => near,
+    }
 }
 
 #[test]
 fn stands_before_the_first_pass(rt: HostRuntime) {
-    let near = near(&rt, READS_AFTER_JUMP).expect(&rt, "a refusal");
+    let near = near(&rt, READS_AFTER_JUMP);
     assert_eq!(rt; near.passes, 0);
     assert!(rt; near.states.has(0));
     assert!(rt; !near.states.has(8));
 }
 
 #[test]
-fn finds_no_refusal(rt: HostRuntime) {
-    assert!(rt; near(&rt, INCREMENT).is_none());
+fn settles_where_nothing_is_refused(rt: HostRuntime) {
+    assert!(rt; matches!(end(&rt, INCREMENT), PassesEnd::Settled));
 }
 
 /// A header of version 2 but for its code bytes: 32 words, Wptr at word 8, a row.
@@ -102,7 +111,7 @@ fn moving(alloc: Global, words: u8) -> Result<Vec<u8>, AllocError>
 fn stands_before_each_of_many_passes(rt: HostRuntime) -> Result<(), Fail> {
     for words in 1..21 {
         let image = moving(rt.alloc(), words)?;
-        let near = near(&rt, &image).expect(&rt, "a refusal");
+        let near = near(&rt, &image);
         let passes = words.saturating_sub(2);
         assert_eq!(rt; near.passes, u64::from(passes), "{words} words");
         match near.states.state_at(rt.alloc(), usize::from(HEAD))? {

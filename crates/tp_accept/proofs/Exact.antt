@@ -1,5 +1,5 @@
 -- An image may be run exactly where it is acceptable.
-use Rattle.std.proofs.Common.{◌≡◌, ◌≢◌, ℕ, ◌≤◌, nat_lt, if◌then◌else◌, Bool, true, false, List, Option, Some, None, Result, Ok, Err, refl, sym, ap, ◌∙◌, subst, arith}
+use Rattle.std.proofs.Common.{◌≡◌, ◌≢◌, ℕ, ◌<◌, ◌≤◌, nat_lt, if◌then◌else◌, Bool, true, false, List, Option, Some, None, Result, Ok, Err, refl, sym, ap, ◌∙◌, subst, arith}
 use Rattle.std.specs.Prelude.{IfErr}
 use Rattle.std.proofs.lemmas.Bool.Decides.{nat_tests}
 use Rattle.tp_image.specs.Image.{ImageValue, InRange}
@@ -30,7 +30,7 @@ use Rattle.tp_accept.specs.declared.refusal.RefusalCode.TheVariants as code
 use Rattle.tp_accept.specs.Limits.{most_budget}
 use Rattle.tp_accept.specs.Bound.{bound}
 use Rattle.tp_accept.specs.Refusals.{too_long}
-use Rattle.tp_accept.specs.Verdict.{Answer, Allowed, allowed, answer_on, IsFlowAnswer, IsCutAnswer, IsTextAnswer, IsAnswer}
+use Rattle.tp_accept.specs.Verdict.{Answer, Allowed, allowed, answer_on, IsStateAnswer, IsFlowAnswer, IsCutAnswer, IsTextAnswer, IsAnswer}
 use Rattle.tp_accept.specs.Acceptance.{IsAcceptable}
 use Rattle.tp_accept.proofs.AnswerLemmas.{one_answer, state_answer}
 
@@ -58,6 +58,20 @@ acceptable_of image cuts budget range cut kept (table, verdict) bounded within =
   bounded = bounded;
   within = omega (arith, within, bounded);
 }
+
+-- what is answered of it
+pub settled_allowed : (image : ImageValue) (cuts : List Cut) → (table : Table) × IsVerdict image cuts (Ok table) → (budget : ℕ) → budget ≡ bound image.loops cuts → bound image.loops cuts ≤ most_budget → IsStateAnswer image cuts (Ok (allowed image budget))
+settled_allowed image cuts (table, passes) budget bounded within =
+    let low : nat_lt most_budget (bound image.loops cuts) ≡ false = is_within most_budget (bound image.loops cuts) within in
+    record { verdict = Ok table; passes = passes; answers = rw (low, bounded) refl }
+
+pub settled_refused : (image : ImageValue) (cuts : List Cut) → (table : Table) × IsVerdict image cuts (Ok table) → (e : Refusal) → (e ≢ refusal.Memory → (e ≡ too_long) × (most_budget < bound image.loops cuts)) → e ≢ refusal.Memory → IsStateAnswer image cuts (Err e)
+settled_refused image cuts (table, passes) e is some = by_bound (is some)
+  where
+    by_bound : (e ≡ too_long) × (most_budget < bound image.loops cuts) → IsStateAnswer image cuts (Err e)
+    by_bound (long, less) =
+        let above : nat_lt most_budget (bound image.loops cuts) ≡ true = grind (arith, nat_tests, less) in
+        record { verdict = Ok table; passes = passes; answers = rw (above, long) refl }
 
 module _ (text : List ℕ) (image : ImageValue) (spelled : IsTextOf text image) where
   no_fault_there : first_fault text ≡ None

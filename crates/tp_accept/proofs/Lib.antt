@@ -13,4 +13,5 @@ pub mod AnswerLemmas
 pub mod RunEnds
 pub mod NeverWrong
 mod Exact
+pub mod Settled
 pub mod Upgrading

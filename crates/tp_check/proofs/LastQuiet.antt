@@ -1,5 +1,5 @@
 -- Where the passes stand before one of them refuses.
-use Rattle.std.proofs.Common.{◌≡◌, ℕ, zero, suc, ◌+◌, ◌-◌, ◌<◌, ◌≤◌, ◌^◌, ◌⊎◌, inl, inr, ◌==◌, if◌then◌else◌, Bool, true, false, List, Some, None, Result, Ok, Err, refl, sym, ap, ◌∙◌, subst, arith, add-one}
+use Rattle.std.proofs.Common.{◌≡◌, ℕ, zero, suc, ◌+◌, ◌-◌, ◌<◌, ◌≤◌, ◌^◌, ◌⊎◌, inl, inr, ◌==◌, if◌then◌else◌, Bool, true, false, List, Option, Some, None, Result, Ok, Err, refl, sym, ap, ◌∙◌, subst, arith, add-one}
 use mathlib.Core.Path.{fun_ext}
 use Rattle.std.proofs.lemmas.Bool.Decides.{Decides-eqb}
 use Rattle.std.specs.List.{AllByRecursion}
@@ -15,12 +15,14 @@ use Rattle.tp_state.specs.Answer.{◌>>=◌}
 use Rattle.tp_state.specs.Entry.{entry}
 use Rattle.tp_check.specs.declared.passes.Passes.{Passes}
 use Rattle.tp_check.specs.declared.milestones.Milestones.{Milestones}
+use Rattle.tp_check.specs.declared.near.PassesEnd.{PassesEnd}
+use Rattle.tp_check.specs.declared.near.PassesEnd.TheVariants as passes_end
 use Rattle.tp_check.specs.Tables.{Table, table_of}
-use Rattle.tp_check.specs.Passes.{edges_in, first_table, pass, passes}
+use Rattle.tp_check.specs.Passes.{edges_in, first_table, pass, passes, IsVerdict}
 use Rattle.tp_check.specs.Carried.{over, only_joins}
 use Rattle.tp_check.specs.UnderWay.{AreJoins, IsBefore, Carries, IsAfter, Leaves}
-use Rattle.tp_check.specs.NearRefusal.{IsNearRefusal, IsLastQuiet, IsJoined, IsMilestone, AreMilestones, RefusesNothing}
-use Rattle.tp_check.proofs.PassLemmas.{fewer, quiet_verdict}
+use Rattle.tp_check.specs.NearRefusal.{IsNearRefusal, IsLastQuiet, IsJoined, IsMilestone, AreMilestones, RefusesNothing, EndsWith}
+use Rattle.tp_check.proofs.PassLemmas.{fewer}
 use Rattle.tp_check.proofs.CarriedPasses.{Good, good_after, one_pass}
 use Rattle.tp_check.proofs.Verdict.{one_after, one_as_defined, zero_joins}
 
@@ -50,6 +52,13 @@ only_first image joins first = fun_ext λ at. by_test at (at == 0) (joins at) re
 pub refused_so : (fault : StateFault) (code : StateCode) (place : ℕ) (wanted : Result Table StateFault) (P : Table → Type 0) → fault ≡ Refused code place → Carries {X = Bool} (Err fault) wanted P → wanted ≡ Err fault
 refused_so (Refused c p) code place wanted P is gives = gives
 refused_so Memory code place wanted P is gives = absurd cc
+
+-- the refusal that the passes come to
+pub refused_after : (image : ImageValue) (cuts : List Cut) (found : Option (PassesEnd ℕ)) (end : PassesEnd ℕ) (quiet : ℕ) → found ≡ Some end → end ≡ passes_end.Refused quiet
+    → IfSome found (EndsWith image cuts (IsLastQuiet image cuts)) → IsLastQuiet image cuts quiet
+refused_after image cuts (Some (passes_end.Refused n)) end quiet is refused last = let same : n ≡ quiet = cc in subst (IsLastQuiet image cuts) same last
+refused_after image cuts (Some passes_end.Settled) end quiet is refused last = absurd cc
+refused_after image cuts None end quiet is refused last = absurd cc
 
 pub no_milestones : (image : ImageValue) (cuts : List Cut) (joins : ℕ → Bool) (kept : Milestones) → kept.last ≡ None → kept.earlier ≡ None → AreMilestones image cuts joins kept
 no_milestones image cuts joins kept last earlier = record {
@@ -96,10 +105,10 @@ module _ (image : ImageValue) (cuts : List Cut) (range : InRange image) (spelled
   next_after old new n m on rests leaves gives = subst (IsAfter image cuts joins new) (sym (add-one n)) (one_after image cuts range spelled kept joins join old new n m on rests leaves gives).0
 
   pub unchanged : (old new : Passes) (n : ℕ) (m : Bool) → m ≡ false → IsAfter image cuts joins old n → new.is_carried ≡ false → Leaves image m old new
-      → ((whole : Table) → IsBefore image cuts joins old 0 whole → Carries (Ok m) (over image joins (edges_in cuts) whole) (IsBefore image cuts joins new 0)) → RefusesNothing image cuts
-  unchanged old new n m same on rests leaves gives k lt =
+      → ((whole : Table) → IsBefore image cuts joins old 0 whole → Carries (Ok m) (over image joins (edges_in cuts) whole) (IsBefore image cuts joins new 0)) → (table : Table) × IsVerdict image cuts (Ok table)
+  unchanged old new n m same on rests leaves gives =
       let one = one_after image cuts range spelled kept joins join old new n m on rests leaves gives in
-      quiet_verdict image cuts one.0.whole (one.1 same) k
+      (one.0.whole, one.1 same)
 
   refuses_next : (p : Passes) (n : ℕ) (on : IsAfter image cuts joins p n) (fault : StateFault) → over image joins (edges_in cuts) on.whole ≡ Err fault → pass image cuts on.whole ≡ Err fault
   refuses_next p n on fault gives = sym (ap (λ r. r >>= pass image cuts) on.comes) ∙ one_as_defined image cuts range spelled kept joins join n on.whole on.comes ∙ gives

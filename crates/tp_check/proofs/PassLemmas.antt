@@ -1,5 +1,5 @@
 -- The passes have one verdict, and so many of them refuse nothing where more do not.
-use Rattle.std.proofs.Common.{◌≡◌, ℕ, zero, suc, ◌+◌, ◌-◌, ◌≤◌, ◌⊎◌, inl, inr, List, Result, Ok, Err, refl, sym, ap, ◌∙◌, subst, arith}
+use Rattle.std.proofs.Common.{◌≡◌, ℕ, zero, suc, ◌+◌, List, Result, Ok, Err, refl, sym, ap, ◌∙◌, arith}
 use native.Mathlib.Numerals.{unary_clauses}
 use Rattle.tp_decode.specs.Cutting.{Cut}
 use Rattle.tp_image.specs.Image.{ImageValue}
@@ -32,24 +32,3 @@ fewer image cuts n zero table is = (table, simp unary_clauses at is)
 fewer image cuts n (suc more) table is =
     let before = ok_first (passes image cuts (n + more)) (pass image cuts) table (simp unary_clauses at is) in
     fewer image cuts n more before.0 before.1
-
-le_or : (a b : ℕ) → (a ≤ b) ⊎ (b ≤ a)
-le_or zero b = inl (omega arith)
-le_or (suc a) zero = inr (omega arith)
-le_or (suc a) (suc b) = by (le_or a b)
-  where
-    by : (a ≤ b) ⊎ (b ≤ a) → (suc a ≤ suc b) ⊎ (suc b ≤ suc a)
-    by (inl h) = inl (omega (arith, h))
-    by (inr h) = inr (omega (arith, h))
-
--- where a table is the verdict, no number of passes refuses anything
-pub quiet_verdict : (image : ImageValue) (cuts : List Cut) (table : Table) → IsVerdict image cuts (Ok table) → (k : ℕ) → (t : Table) × (passes image cuts k ≡ Ok t)
-quiet_verdict image cuts table is k = by_order (le_or k is.number)
-  where
-    by_order : (k ≤ is.number) ⊎ (is.number ≤ k) → (t : Table) × (passes image cuts k ≡ Ok t)
-    by_order (inl h) =
-        let whole : k + (is.number - k) ≡ is.number = omega (arith, h) in
-        fewer image cuts k (is.number - k) table (subst (λ m. passes image cuts m ≡ Ok table) (sym whole) is.comes)
-    by_order (inr h) =
-        let whole : k ≡ (k - is.number) + is.number = omega (arith, h) in
-        (table, further image cuts (Ok table) is.number (k - is.number) k whole is.comes is.stays)

@@ -1,18 +1,25 @@
--- Where the passes stand before one of them refuses.
+-- What the passes come to, and where they stand before one of them refuses.
 use Rattle.std.specs.Prelude.{◌≡◌, ℕ, ◌+◌, ◌<◌, ◌^◌, Bool, List, ◌⊎◌, Ok, Err, IfSome}
 use Rattle.tp_decode.specs.Cutting.{Cut}
 use Rattle.tp_image.specs.Image.{ImageValue}
 use Rattle.tp_state.specs.declared.fault.StateFault.{StateFault}
+use Rattle.tp_check.specs.declared.near.PassesEnd.{PassesEnd}
+use Rattle.tp_check.specs.declared.near.PassesEnd.TheVariants as passes_end
 use Rattle.tp_check.specs.declared.milestones.Milestone.{Milestone}
 use Rattle.tp_check.specs.declared.milestones.Milestones.{Milestones}
 use Rattle.tp_check.specs.Tables.{Table, HasPlacedStates}
-use Rattle.tp_check.specs.Passes.{pass, passes}
+use Rattle.tp_check.specs.Passes.{pass, passes, IsVerdict}
 use Rattle.tp_check.specs.Carried.{only_joins}
 use Rattle.tp_check.specs.UnderWay.{IsAfter}
 
 -- no number of passes that a word of 64 bits can count refuses anything
 abbrev pub RefusesNothing : ImageValue → List Cut → Type 0
 RefusesNothing image cuts = (n : ℕ) → n < 2 ^ 64 → (table : Table) × (passes image cuts n ≡ Ok table)
+
+-- the passes come to the verdict's table, or to a refusal of which this holds
+abbrev pub EndsWith : {R : Type 0} → ImageValue → List Cut → (R → Type 0) → PassesEnd R → Type 0
+EndsWith image cuts P passes_end.Settled = (table : Table) × IsVerdict image cuts (Ok table)
+EndsWith image cuts P (passes_end.Refused refusal) = P refusal
 
 -- so many passes refuse nothing, and the next one does
 pub record IsLastQuiet (image : ImageValue) (cuts : List Cut) (n : ℕ) : Type 0 where

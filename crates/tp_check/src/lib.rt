@@ -16,6 +16,6 @@ mod way;
 
 pub use effort::Effort;
 pub use kept::Kept;
-pub use near::{NearRefusal, near_refusal};
+pub use near::{NearRefusal, PassesEnd, near_refusal};
 pub use passes::{check_states, check_states_counting, judge_states, places_of};
 pub use table::Table;

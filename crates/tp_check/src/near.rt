@@ -1,4 +1,4 @@
-//! Where the passes stand before one of them refuses.
+//! What the passes come to, and where they stand before one of them refuses.
 
 ghost use Rattle.std.specs.Prelude.{◌≡◌, ◌<◌, ◌≤◌, ◌^◌, ℕ, length, None, Ok, IfOk, IfSome};
 ghost use Rattle.std.specs.List.{AllByRecursion};
@@ -10,7 +10,7 @@ ghost use Rattle.tp_check.specs.Tables.{Table as WholeTable, table_of};
 ghost use Rattle.tp_check.specs.Passes.{passes};
 ghost use Rattle.tp_check.specs.Joining.{joins_at};
 ghost use Rattle.tp_check.specs.UnderWay.{AreJoins, HasPlaces};
-ghost use Rattle.tp_check.specs.NearRefusal.{IsNearRefusal, IsLastQuiet, IsJoined, IsMilestone, AreMilestones, RefusesNothing};
+ghost use Rattle.tp_check.specs.NearRefusal.{IsNearRefusal, IsLastQuiet, IsJoined, IsMilestone, AreMilestones, RefusesNothing, EndsWith};
 
 use crate::kept::Kept;
 use crate::milestones::{Milestone, Milestones};
@@ -22,6 +22,15 @@ use tp_flow::Nest;
 use tp_image::Image;
 use tp_state::StateFault;
 
+/// What the passes over a code come to: a table, or a refusal, and what is told of it.
+#[derive(Drop)]
+pub enum PassesEnd<R> {
+    /// One of them changes nothing: they have come to the table of the verdict, and no other pass refuses anything.
+    Settled,
+    /// One of them refuses.
+    Refused(R),
+}
+
 /// Where the passes stand before one of them refuses.
 #[derive(Drop)]
 pub struct NearRefusal {
@@ -31,37 +40,38 @@ pub struct NearRefusal {
     pub states: Kept,
 }
 
-/// Where the passes over a code stand before the one that refuses, of an image whose flow has passed and of its code's listing;
-/// or none, where 2^64 - 1 passes refuse nothing. The passes carry one state, as those of `check_states` do. What is known
-/// where edges join changes while a pass is made, so some of them are made again: from where they stood when their number had
-/// doubled last, which is at most half of them.
+/// What the passes over a code come to, of an image whose flow has passed and of its code's listing, and where they stand before
+/// the one that refuses; or none, where 2^64 - 1 passes were made and refuse nothing. The passes carry one state, as
+/// those of `check_states` do. What is known where edges join changes while a pass is made, so where one refuses some of them are
+/// made again: from where they stood when their number had doubled last, which is at most half of them.
 pub fn near_refusal(
     alloc: Global,
     image: &Image,
     listing: &Listing,
     nest: &Nest,
-) -> Result<Option<NearRefusal>, AllocError>
+) -> Result<Option<PassesEnd<NearRefusal>>, AllocError>
     requires kept { KeepsNest image.now.loops image.now.workspace listing.now }
     requires nest { nest.now ≡ ranges image.now.loops }
-    ensures near { IfOk result (λ found. IfSome found (λ near. IsNearRefusal image.now listing.now near.passes (table_of near.states))) }
-    ensures places { IfOk result (λ found. IfSome found (λ near. HasPlaces listing.now (length near.states))) }
+    ensures ends { IfOk result (λ found. IfSome found (EndsWith image.now listing.now (λ near. IsNearRefusal image.now listing.now near.passes (table_of near.states)))) }
+    ensures places { IfOk result (λ found. IfSome found (EndsWith image.now listing.now (λ near. HasPlaces listing.now (length near.states)))) }
     ensures none { IfOk result (λ found. found ≡ None → RefusesNothing image.now listing.now) }
 {
     let places = places_of(listing);
     let ways = Ways::of(alloc, image, listing, nest, places)?;
     let mut milestones = Milestones::none();
-    let Some(quiet) = quiet_passes(alloc, image, listing, nest, places, &ways, &mut milestones)?
-    else {
-        return Ok(None);
+    let quiet = match quiet_passes(alloc, image, listing, nest, places, &ways, &mut milestones)? {
+        None => return Ok(None),
+        Some(PassesEnd::Settled) => return Ok(Some(PassesEnd::Settled)),
+        Some(PassesEnd::Refused(quiet)) => quiet,
     };
     let passes = quiet.saturating_sub(1);
     let from = milestones.latest(alloc, image, places, passes)?;
     let states = joined_after(alloc, image, listing, nest, &ways, from, passes)?;
-    Ok(Some(NearRefusal { passes, states }))
+    Ok(Some(PassesEnd::Refused(NearRefusal { passes, states })))
 }
 
-/// How many passes refuse nothing, where the next one refuses; or none, where 2^64 - 1 passes refuse nothing. Where they stand
-/// when their number has doubled is kept.
+/// What the passes come to, and how many of them refuse nothing, where the next one refuses; or none, where 2^64 - 1 passes were
+/// made and refuse nothing. Where they stand when their number has doubled is kept.
 fn quiet_passes(
     alloc: Global,
     image: &Image,
@@ -70,14 +80,14 @@ fn quiet_passes(
     places: usize,
     ways: &Ways,
     milestones: &mut Milestones,
-) -> Result<Option<u64>, AllocError>
+) -> Result<Option<PassesEnd<u64>>, AllocError>
     requires kept { KeepsNest image.now.loops image.now.workspace listing.now }
     requires nest { nest.now ≡ ranges image.now.loops }
     requires join { AreJoins image.now listing.now (joins_at ways.now) }
     requires some { 0 < places }
     requires few { places ≤ 2 ^ 32 }
     requires all { HasPlaces listing.now places }
-    ensures last { IfOk result (λ found. IfSome found (IsLastQuiet image.now listing.now)) }
+    ensures ends { IfOk result (λ found. IfSome found (EndsWith image.now listing.now (IsLastQuiet image.now listing.now))) }
     ensures none { IfOk result (λ found. found ≡ None → RefusesNothing image.now listing.now) }
     ensures milestones { AreMilestones image.now listing.now (joins_at ways.now) milestones.old → AreMilestones image.now listing.now (joins_at ways.now) milestones.new }
     // This is known of every image, and of every listing.
@@ -90,8 +100,8 @@ fn quiet_passes(
         milestones.pass_by(alloc, number, &passes)?;
         match passes.pass(alloc, image, listing, nest, ways) {
             Ok(true) => {}
-            Ok(false) => return Ok(None),
-            Err(StateFault::Refused { .. }) => return Ok(Some(number)),
+            Ok(false) => return Ok(Some(PassesEnd::Settled)),
+            Err(StateFault::Refused { .. }) => return Ok(Some(PassesEnd::Refused(number))),
             Err(StateFault::Memory) => return Err(AllocError),
         }
     }

@@ -1,3 +1,4 @@
 mod Passing
 mod Taking
 mod Costing
+mod Judging

@@ -8,12 +8,12 @@ ghost use Rattle.tp_state.specs.declared.fault.StateFault.TheVariants.{Refused};
 ghost use Rattle.tp_check.specs.Tables.{asked, table_of, HasPlacedStates};
 ghost use Rattle.tp_check.specs.Passes.{edges_in, edges_of, go_along, IsVerdict};
 ghost use Rattle.tp_check.specs.UnderWay.{MayBeTaken, Gives};
-ghost use Rattle.tp_check.specs.NearRefusal.{RefusesNothing};
+ghost use Rattle.tp_check.specs.NearRefusal.{RefusesNothing, EndsWith};
 ghost use Rattle.tp_reasons.specs.FirstRefusals.{IsFirstRefusal, EndsAs};
 
 use crate::refusal::{EdgeRefusal, FirstRefusal};
 use std::alloc::{AllocError, Global};
-use tp_check::{Kept, NearRefusal, near_refusal};
+use tp_check::{Kept, NearRefusal, PassesEnd, near_refusal};
 use tp_decode::{Instr, Listing, Placed};
 use tp_flow::{Edge, Nest, edges};
 use tp_image::Image;
@@ -22,24 +22,26 @@ use tp_state::{StateFault, after};
 /// An instruction, and an edge that its rule is asked on.
 type Asked = (Placed, Edge);
 
-/// The first refusal of the verifier's passes over a code whose flow has passed, with what is known then; or none, where
-/// 2^64 - 1 passes refuse nothing. All passes but the last two carry one state, as the verifier's own do; the last two are made
-/// over a whole table, with a state for each address of the code.
+/// What the verifier's passes over a code whose flow has passed come to: their first refusal with what is known then, or their
+/// table; or none, where 2^64 - 1 passes come to neither. All passes but the last two before a refusal carry one state, as the
+/// verifier's own do; those two are made over a whole table, with a state for each address of the code.
 pub fn first_refusal(
     alloc: Global,
     image: &Image,
     listing: &Listing,
     nest: &Nest,
-) -> Result<Option<FirstRefusal>, AllocError>
+) -> Result<Option<PassesEnd<FirstRefusal>>, AllocError>
     requires kept { KeepsNest image.now.loops image.now.workspace listing.now }
     requires nest { nest.now ≡ ranges image.now.loops }
-    ensures first { IfOk result (λ found. IfSome found (IsFirstRefusal image.now listing.now)) }
-    ensures verdict { IfOk result (λ found. IfSome found (λ r. IsVerdict image.now listing.now (Err (Refused r.refusal.code r.refusal.place)))) }
-    ensures placed { IfOk result (λ found. IfSome found (λ r. HasPlacedStates image.now (table_of r.table))) }
+    ensures first { IfOk result (λ found. IfSome found (EndsWith image.now listing.now (IsFirstRefusal image.now listing.now))) }
+    ensures verdict { IfOk result (λ found. IfSome found (EndsWith image.now listing.now (λ r. IsVerdict image.now listing.now (Err (Refused r.refusal.code r.refusal.place))))) }
+    ensures placed { IfOk result (λ found. IfSome found (EndsWith image.now listing.now (λ r. HasPlacedStates image.now (table_of r.table)))) }
     ensures none { IfOk result (λ found. found ≡ None → RefusesNothing image.now listing.now) }
 {
-    let Some(near) = near_refusal(alloc, image, listing, nest)? else {
-        return Ok(None);
+    let near = match near_refusal(alloc, image, listing, nest)? {
+        None => return Ok(None),
+        Some(PassesEnd::Settled) => return Ok(Some(PassesEnd::Settled)),
+        Some(PassesEnd::Refused(near)) => near,
     };
     let NearRefusal {
         passes: made,
@@ -49,11 +51,11 @@ pub fn first_refusal(
     let mut table = states;
     for passes in made..u64::MAX {
         if let Some(refusal) = pass(alloc, image, nest, &asked, &mut table)? {
-            return Ok(Some(FirstRefusal {
+            return Ok(Some(PassesEnd::Refused(FirstRefusal {
                 passes,
                 refusal,
                 table,
-            }));
+            })));
         }
     }
     Ok(None)

@@ -1,13 +1,13 @@
 //! A verdict, told.
 
-ghost use Rattle.std.specs.Prelude.{◌≡◌, None, Err, IfOk, IfSome};
+ghost use Rattle.std.specs.Prelude.{◌≡◌, ◌≢◌, None, Err, IfOk, IfErr, IfSome};
 ghost use Rattle.tp_decode.specs.Cutting.{IsCutting};
 ghost use Rattle.tp_image.specs.Text.{IsTextOf};
 ghost use Rattle.tp_image.specs.Faults.{first_fault};
+ghost use Rattle.tp_accept.specs.Acceptance.{IsAcceptable};
 ghost use Rattle.tp_accept.specs.Verdict.{IsAnswer};
-ghost use Rattle.tp_accept.specs.declared.refusal.Refusal.TheVariants.{Refused};
-ghost use Rattle.tp_accept.specs.declared.refusal.RefusalCode.TheVariants.{State};
-ghost use Rattle.tp_reasons.specs.Told.{IsToBeTold, IsVerdictOn};
+ghost use Rattle.tp_accept.specs.declared.refusal.Refusal.TheVariants as refusal;
+ghost use Rattle.tp_reasons.specs.Told.{IsToBeTold, IsJudged, IsVerdictOn};
 
 use crate::fields::{tell_bytes, tell_field, tell_turns};
 use crate::flow::tell_flow;
@@ -19,14 +19,15 @@ use crate::states::tell_state;
 use crate::telling::TellFault;
 use std::alloc::Global;
 use std::io::Write;
-use tp_accept::{Refusal, RefusalCode, accept};
+use tp_accept::{Accepted, Refusal, RefusalCode, accept, accept_settled};
+use tp_check::PassesEnd;
 use tp_decode::{DecodeFault, Listing, decode};
 use tp_flow::{Nest, check_flow};
 use tp_image::{Image, ImageFault, read_image};
 
 /// Judges the bytes of an image, and writes the verdict: as farmd answers it, and of a refusal what it means, where it comes, and
-/// what helps; the listing has what a text says of its lines. It answers whether the image is accepted. A refusal of states is
-/// looked for first, so that the passes are not made once more to judge.
+/// what helps; the listing has what a text says of its lines. It answers whether the image is accepted. The passes are made once,
+/// whether they refuse its states or not.
 pub fn tell<W: Write>(
     alloc: Global,
     text: &[u8],
@@ -35,12 +36,37 @@ pub fn tell<W: Write>(
 ) -> Result<bool, TellFault>
     ensures { IfOk result (IsVerdictOn text.now) }
 {
-    if let Some(refused) = refused_state(alloc, text)? {
-        tell_refused_state(alloc, &refused, source, writer)?;
-        return Ok(false);
+    match judge(alloc, text)? {
+        Some(Judged::Refused(refused)) => {
+            tell_refused_state(alloc, &refused, source, writer)?;
+            Ok(false)
+        }
+        Some(Judged::Settled(settled)) => {
+            let Settled { image, listing } = settled;
+            let verdict = accept_settled(alloc, image, &listing);
+            tell_verdict(alloc, text, source, verdict, writer)
+        }
+        None => {
+            let verdict = accept(alloc, Vec::from_slice(alloc, text)?);
+            tell_verdict(alloc, text, source, verdict, writer)
+        }
     }
-    let copy = Vec::from_slice(alloc, text)?;
-    match accept(alloc, copy) {
+}
+
+/// Writes a verdict that is no refusal of states, with what is told of a refusal. It answers whether the image is accepted.
+fn tell_verdict<W: Write>(
+    alloc: Global,
+    text: &[u8],
+    source: SourceText<'_>,
+    verdict: Result<Accepted, Refusal>,
+    writer: &mut W,
+) -> Result<bool, TellFault>
+    requires image { IfOk verdict (λ accepted. IsTextOf text.now accepted.image) }
+    requires acceptable { IfOk verdict (λ accepted. IsAcceptable accepted.image accepted.budget) }
+    requires refused { IfErr verdict (λ e. e ≢ refusal.Memory → IsAnswer text.now (Err e)) }
+    ensures { IfOk result (IsVerdictOn text.now) }
+{
+    match verdict {
         Ok(accepted) => {
             let bytes = accepted.code().len();
             let budget = accepted.budget();
@@ -55,6 +81,22 @@ pub fn tell<W: Write>(
     }
 }
 
+/// An image whose states have been judged.
+#[derive(Drop)]
+enum Judged {
+    /// The passes have come to their table.
+    Settled(Settled),
+    /// They refuse.
+    Refused(RefusedState),
+}
+
+/// An image whose states are not refused.
+#[derive(Drop)]
+struct Settled {
+    image: Image,
+    listing: Listing,
+}
+
 /// An image whose states are refused, and where.
 #[derive(Drop)]
 struct RefusedState {
@@ -64,11 +106,10 @@ struct RefusedState {
     found: FirstRefusal,
 }
 
-/// Where the verifier refuses the states of the image that bytes are; none, where its verdict is another one. The verdict on the
-/// bytes is the refusal that is found.
-fn refused_state(alloc: Global, text: &[u8]) -> Result<Option<RefusedState>, TellFault>
-    ensures verdict { IfOk result (λ o. IfSome o (λ r. IsAnswer text.now (Err (Refused (State r.found.refusal.code) r.found.refusal.place)))) }
-    ensures found { IfOk result (λ o. IfSome o IsToBeTold) }
+/// What the verifier's passes come to over the image that bytes are; none, where it is refused before they begin, or they come to
+/// nothing that can be counted. The verdict on the bytes is the refusal that is found.
+fn judge(alloc: Global, text: &[u8]) -> Result<Option<Judged>, TellFault>
+    ensures { IfOk result (λ o. IfSome o (IsJudged text.now)) }
 {
     let Some(image) = image_of(alloc, text)? else {
         return Ok(None);
@@ -82,13 +123,14 @@ fn refused_state(alloc: Global, text: &[u8]) -> Result<Option<RefusedState>, Tel
         return Ok(None);
     };
     match first_refusal(alloc, &image, &listing, &nest)? {
-        Some(found) => Ok(Some(RefusedState {
+        None => Ok(None),
+        Some(PassesEnd::Settled) => Ok(Some(Judged::Settled(Settled { image, listing }))),
+        Some(PassesEnd::Refused(found)) => Ok(Some(Judged::Refused(RefusedState {
             image,
             listing,
             nest,
             found,
-        })),
-        None => Ok(None),
+        }))),
     }
 }
 
@@ -109,17 +151,13 @@ fn tell_refused_state<W: Write>(
     } = refused;
     let EdgeRefusal { code, place, .. } = found.refusal;
     let code = RefusalCode::State(code);
-    tell_verdict(code, place, writer)?;
+    tell_line(code, place, writer)?;
     tell_state(alloc, image, listing, nest, source, found, writer)?;
     tell_instead(code, writer)
 }
 
 /// Writes the line of a refusal, and what it means.
-fn tell_verdict<W: Write>(
-    code: RefusalCode,
-    place: usize,
-    writer: &mut W,
-) -> Result<(), TellFault> {
+fn tell_line<W: Write>(code: RefusalCode, place: usize, writer: &mut W) -> Result<(), TellFault> {
     let refused = meaning_of(code).refused;
     writeln!(writer, "NO {code} {place}").map_err(|_| TellFault::Write)?;
     writeln!(writer, "refused  {refused}").map_err(|_| TellFault::Write)
@@ -151,7 +189,7 @@ fn tell_refusal<W: Write>(
     place: usize,
     writer: &mut W,
 ) -> Result<(), TellFault> {
-    tell_verdict(code, place, writer)?;
+    tell_line(code, place, writer)?;
     match code {
         RefusalCode::Image(code) => tell_field(text, code, place, writer)?,
         RefusalCode::Cutting(_) => {

@@ -1,8 +1,6 @@
-use Rattle.std.proofs.Common.{◌≡◌, ◌-◌, subst, arith}
-use Rattle.std.specs.Prelude.{IfSome}
+use Rattle.std.proofs.Common.{◌≡◌, ◌-◌, arith}
 use Rattle.tp_check.specs.Joining.{joins_at}
-use Rattle.tp_check.specs.NearRefusal.{IsLastQuiet}
-use Rattle.tp_check.proofs.LastQuiet.{before_last, is_near, no_milestones}
+use Rattle.tp_check.proofs.LastQuiet.{before_last, is_near, refused_after, no_milestones}
 use Rattle.tp_check.proofs.near.near_refusal.Goals as goal
 
 pub joined_after-requires-clause-stands : goal.joined_after-requires-clause-stands
@@ -12,15 +10,17 @@ joined_after-requires-clause-stands c =
 
 pub joined_after-requires-clause-quiet : goal.joined_after-requires-clause-quiet
 joined_after-requires-clause-quiet c =
-    before_last c.args.image.now c.args.listing.now c.in-Some.quiet c.saturating_sub-passes.result less (subst (λ o. IfSome o (IsLastQuiet c.args.image.now c.args.listing.now)) c.in-Some.is c.in_ok-quiet.ensures.last)
+    before_last c.args.image.now c.args.listing.now c.in-Some-Refused.quiet c.saturating_sub-passes.result less
+    (refused_after c.args.image.now c.args.listing.now c.in_ok-quiet_passes.field-0 c.in-Some-Refused.field-0 c.in-Some-Refused.quiet c.in-Some-Refused.is c.in-Some-Refused.field-0-is c.in_ok-quiet_passes.ensures.ends)
   where
-    less : c.saturating_sub-passes.result ≡ c.in-Some.quiet - 1
+    less : c.saturating_sub-passes.result ≡ c.in-Some-Refused.quiet - 1
     less = omega (arith, c.saturating_sub-passes.ensures)
 
-pub returns-clause-near : goal.returns-clause-near
-returns-clause-near c =
-    is_near c.args.image.now c.args.listing.now c.quiet_passes.ensures.in_range c.quiet_passes.ensures.spelled c.requires.kept (joins_at c.in_ok-ways.ways) c.in_ok-ways.ensures.joins c.in-Some.quiet c.saturating_sub-passes.result _ less
-    (subst (λ o. IfSome o (IsLastQuiet c.args.image.now c.args.listing.now)) c.in-Some.is c.in_ok-quiet.ensures.last) c.in_ok-states.ensures.joined
+pub returns-clause-ends : goal.returns-clause-ends
+returns-clause-ends c =
+    is_near c.args.image.now c.args.listing.now c.quiet_passes.ensures.in_range c.quiet_passes.ensures.spelled c.requires.kept (joins_at c.in_ok-ways.ways) c.in_ok-ways.ensures.joins c.in-Some-Refused.quiet c.saturating_sub-passes.result _ less
+    (refused_after c.args.image.now c.args.listing.now c.in_ok-quiet_passes.field-0 c.in-Some-Refused.field-0 c.in-Some-Refused.quiet c.in-Some-Refused.is c.in-Some-Refused.field-0-is c.in_ok-quiet_passes.ensures.ends)
+    c.in_ok-states.ensures.joined
   where
-    less : c.saturating_sub-passes.result ≡ c.in-Some.quiet - 1
+    less : c.saturating_sub-passes.result ≡ c.in-Some-Refused.quiet - 1
     less = omega (arith, c.saturating_sub-passes.ensures)

@@ -9,13 +9,13 @@ loop-number-init c = record {
   milestones = λ known. known;
 }
 
-pub returns-in-Ok-false-clause-none : goal.returns-in-Ok-false-clause-none
-returns-in-Ok-false-clause-none c none =
+pub returns-in-Ok-false-clause-ends : goal.returns-in-Ok-false-clause-ends
+returns-in-Ok-false-clause-ends c =
     unchanged c.args.image.now c.args.listing.now c.begin.ensures.in_range c.is_spelled.ensures c.requires.kept (joins_at c.args.ways.now) c.requires.join c.loop-number.passes c.pass.new.self c.loop-number.number c.in-Ok-false.field-0 c.in-Ok-false.field-0-test c.loop-number.invariant.after c.in-Ok-false.ensures.rests
     c.in-Ok-false.ensures.leaves c.in-Ok-false.ensures.gives
 
-pub returns-in-Err-Refused-clause-last : goal.returns-in-Err-Refused-clause-last
-returns-in-Err-Refused-clause-last c =
+pub returns-in-Err-Refused-clause-ends : goal.returns-in-Err-Refused-clause-ends
+returns-in-Err-Refused-clause-ends c =
     let on = c.loop-number.invariant.after in
     last_quiet c.args.image.now c.args.listing.now c.begin.ensures.in_range c.is_spelled.ensures c.requires.kept (joins_at c.args.ways.now) c.requires.join c.loop-number.passes c.loop-number.number on c.in-Err-Refused.field-0
     (refused_so c.in-Err-Refused.field-0 c.in-Err-Refused.field-0-0 c.in-Err-Refused.field-0-1 _ _ c.in-Err-Refused.field-0-is (c.in-Err-Refused.ensures.gives on.whole on.before))

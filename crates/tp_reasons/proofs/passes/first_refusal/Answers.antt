@@ -9,13 +9,13 @@ pub pass-requires-clause-places : goal.pass-requires-clause-places
 pass-requires-clause-places c =
     taken_there c.args.image.now c.args.listing.now (length c.loop-passes.table) c.requires.kept c.loop-passes.invariant.inside c.deref.result.now (c.deref.ensures.value ∙ c.in_ok-asked.ensures)
 
-pub returns-in-Some-2-clause-first : goal.returns-in-Some-2-clause-first
-returns-in-Some-2-clause-first c =
+pub returns-in-Some-clause-first : goal.returns-in-Some-clause-first
+returns-in-Some-clause-first c =
     is_first c.args.image.now c.args.listing.now c.deref.result.now (table_of c.loop-passes.table) _ (c.deref.ensures.value ∙ c.in_ok-asked.ensures) c.loop-passes.invariant.before
-    (subst (EndsAs c.args.image.now c.deref.result.now (table_of c.loop-passes.table) (table_of c.pass.new.table)) c.in-Some-2.is c.in_ok-refusal.ensures.ends)
+    (subst (EndsAs c.args.image.now c.deref.result.now (table_of c.loop-passes.table) (table_of c.pass.new.table)) c.in-Some.is c.in_ok-refusal.ensures.ends)
 
-pub returns-in-Some-2-clause-verdict : goal.returns-in-Some-2-clause-verdict
-returns-in-Some-2-clause-verdict c = is_verdict c.args.image.now c.args.listing.now _ (returns-in-Some-2-clause-first c)
+pub returns-in-Some-clause-verdict : goal.returns-in-Some-clause-verdict
+returns-in-Some-clause-verdict c = is_verdict c.args.image.now c.args.listing.now _ (returns-in-Some-clause-first c)
 
 pub loop-passes-preserved : goal.loop-passes-preserved
 loop-passes-preserved c = record {
@@ -23,7 +23,7 @@ loop-passes-preserved c = record {
   placed = c.in_ok-refusal.ensures.placed;
   before =
       one_more c.args.image.now c.args.listing.now c.loop-passes.passes c.deref.result.now (table_of c.loop-passes.table) (table_of c.pass.new.table) (c.deref.ensures.value ∙ c.in_ok-asked.ensures) c.loop-passes.invariant.before
-      (subst (EndsAs c.args.image.now c.deref.result.now (table_of c.loop-passes.table) (table_of c.pass.new.table)) c.in_default-2.is c.in_ok-refusal.ensures.ends);
+      (subst (EndsAs c.args.image.now c.deref.result.now (table_of c.loop-passes.table) (table_of c.pass.new.table)) c.in_default.is c.in_ok-refusal.ensures.ends);
 }
 
 pub returns-clause-none : goal.returns-clause-none
