@@ -1,7 +1,7 @@
 //! What is written and flushed at full size.
 
-use crate::listings::{long_line, long_listing};
-use crate::streams::{flushes_of, read_fails_as};
+use crate::service::listings::{long_line, long_listing};
+use crate::service::streams::{flushes_of, read_fails_as};
 use std::alloc::{AllocError, Global};
 use std::test::Fail;
 

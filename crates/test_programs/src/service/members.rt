@@ -1,7 +1,7 @@
 //! Members beside one another: each member of a farm serves, in each batch.
 
-use crate::cases::INCREMENT;
-use crate::farms::push_line;
+use crate::service::cases::INCREMENT;
+use crate::service::farms::push_line;
 use std::alloc::{AllocError, Global};
 use std::sync::Wait;
 use std::sync::atomic::{AtomicU64, Ordering};

@@ -1,6 +1,6 @@
 //! Listings, and lines of any length.
 
-use crate::farms::answers;
+use crate::service::farms::answers;
 use std::alloc::{AllocError, Global};
 use std::test::Fail;
 

@@ -1,6 +1,6 @@
 //! Every instruction by its name, as the Compiler Writer's Guide spells it.
 
-use crate::farms::answers;
+use crate::service::farms::answers;
 use std::alloc::{AllocError, Global};
 use std::test::Fail;
 
