@@ -4,7 +4,7 @@ use crate::texts::*;
 use std::alloc::{AllocError, Global};
 use std::process::Abort;
 use std::test::Fail;
-use tp_accept::{Refusal, accept};
+use tp_accept::{Accepted, Refusal, accept};
 use tp_samples::*;
 
 /// That a text, which a row of a table has, is answered so.
@@ -141,10 +141,15 @@ fn answers_long_codes(rt: HostRuntime) -> Result<(), Fail> {
 #[test]
 fn tells_the_parts(rt: HostRuntime) -> Result<(), Fail> {
     let accepted = accept(rt.alloc(), Vec::from_slice(rt.alloc(), INCREMENT)?)?;
+    assert_increment(&rt, &accepted);
+    Ok(())
+}
+
+/// An accepted image has the parts of the increment.
+fn assert_increment(rt: &impl Abort, accepted: &Accepted) {
     assert_eq!(rt; (accepted.packet_bytes(), accepted.result_bytes()), (4, 4));
     assert_eq!(rt; accepted.code(), &INCREMENT[16..]);
     assert_eq!(rt; accepted.image().workspace, 12);
-    Ok(())
 }
 
 /// A refusal's code as it prints, and its place.

@@ -2,10 +2,24 @@
 
 use crate::machine::media::run_packet;
 use crate::texts::changed;
+use std::process::Abort;
 use std::test::Fail;
-use tp_accept::accept;
+use tp_accept::{Accepted, accept};
 use tp_machine::Machine;
 use tp_samples::INCREMENT;
+
+/// Whether a packet's run on an accepted image ends within its budget; its result has its length.
+fn ends_within(
+    rt: &(impl Abort + AllocGlobal),
+    machine: &mut Machine,
+    accepted: &Accepted,
+) -> Result<bool, Fail> {
+    let packet = vec![in rt.alloc(); 0u8; accepted.packet_bytes()]?;
+    let (answered, media) = run_packet(rt.alloc(), machine, accepted, packet.as_slice())?;
+    let outcome = answered?;
+    assert_eq!(rt; media.sink.bytes().len(), accepted.result_bytes());
+    Ok(outcome.steps <= accepted.budget())
+}
 
 #[test]
 fn runs_what_is_accepted(rt: HostRuntime) -> Result<(), Fail> {
@@ -20,19 +34,8 @@ fn runs_what_is_accepted(rt: HostRuntime) -> Result<(), Fail> {
                 continue;
             };
             accepted_count = accepted_count.saturating_add(1);
-            let packet = vec![in rt.alloc(); 0u8; accepted.packet_bytes()]?;
-            let (answered, media) = run_packet(
-                rt.alloc(),
-                &mut machine,
-                &accepted,
-                packet.as_slice(),
-            )?;
-            let outcome = answered?;
-            assert!(rt;
-                outcome.steps <= accepted.budget(),
-                "byte {at} set to {byte}"
-            );
-            assert_eq!(rt; media.sink.bytes().len(), accepted.result_bytes());
+            let is_within = ends_within(&rt, &mut machine, &accepted)?;
+            assert!(rt; is_within, "byte {at} set to {byte}");
         }
     }
     // counted by a verifier that was written from the rules alone, in another language

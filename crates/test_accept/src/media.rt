@@ -1,20 +1,52 @@
 //! The media of members, and wires to them.
 
+use std::process::Abort;
 use std::test::Fail;
-use tp_link::LinkDevice;
+use tp_link::{DeviceFault, LinkDevice, Links};
 use tp_media::{Media, boxed, media_of};
 
 #[test]
 fn each_wire_has_its_room(rt: HostRuntime) -> Result<(), Fail> {
     let mut media = Media::with_rooms(rt.alloc(), 1, 2, 3)?;
     let links = media.wires();
-    assert_eq!(rt; links.source.room(), 1);
-    assert_eq!(rt; links.sink.room(), 2);
-    assert_eq!(rt; links.trace.room(), 3);
-    assert!(rt; links.source.is_open() && links.sink.is_open() && links.trace.is_open());
+    assert_eq!(rt; rooms(&links), (1, 2, 3));
+    assert!(rt; are_open(&links));
     drop(links);
-    assert!(rt; media.source.ended() && media.sink.ended() && media.trace.ended());
+    assert!(rt; have_ended(&media));
     Ok(())
+}
+
+/// The room of the source, of the sink and of the trace.
+fn rooms(links: &Links<impl LinkDevice>) -> (usize, usize, usize) {
+    let Links {
+        source,
+        sink,
+        trace,
+    } = links;
+    (source.room(), sink.room(), trace.room())
+}
+
+fn are_open(links: &Links<impl LinkDevice>) -> bool {
+    links.source.is_open() && links.sink.is_open() && links.trace.is_open()
+}
+
+fn have_ended(media: &Media) -> bool {
+    media.source.ended() && media.sink.ended() && media.trace.ended()
+}
+
+/// Sends a member's byte once to the source, twice to the sink, and four times to the trace.
+fn send_to_each(links: &mut Links<impl LinkDevice>, byte: u8) -> Result<(), DeviceFault> {
+    links.source.send(&[byte])?;
+    links.sink.send(&[byte, byte])?;
+    links.trace.send(&[byte; 4])
+}
+
+/// The media hold what was sent so, and have ended.
+fn assert_sent(rt: &impl Abort, media: &Media, byte: u8) {
+    assert_eq!(rt; media.source.bytes(), [byte].as_slice());
+    assert_eq!(rt; media.sink.bytes(), [byte, byte].as_slice());
+    assert_eq!(rt; media.trace.bytes(), [byte; 4].as_slice());
+    assert!(rt; have_ended(media));
 }
 
 /// What is sent by a member's wires is held by that member's media, after the wires too.
@@ -24,16 +56,11 @@ fn each_member_has_its_media(rt: HostRuntime) -> Result<(), Fail> {
     let mut links = boxed(rt.alloc(), &mut media)?;
     assert_eq!(rt; links.len(), 3);
     for (byte, one) in (1u8..4).zip(links.iter_mut()) {
-        one.source.send(&[byte])?;
-        one.sink.send(&[byte, byte])?;
-        one.trace.send(&[byte; 4])?;
+        send_to_each(one, byte)?;
     }
     drop(links);
     for (byte, one) in (1u8..4).zip(media.iter()) {
-        assert_eq!(rt; one.source.bytes(), [byte].as_slice());
-        assert_eq!(rt; one.sink.bytes(), [byte, byte].as_slice());
-        assert_eq!(rt; one.trace.bytes(), [byte; 4].as_slice());
-        assert!(rt; one.source.ended() && one.sink.ended() && one.trace.ended());
+        assert_sent(&rt, one, byte);
     }
     Ok(())
 }

@@ -1,6 +1,6 @@
 //! What the passes come to, and where they stand before one of them refuses.
 
-ghost use Rattle.std.specs.Prelude.{◌<◌, ◌≤◌};
+ghost use Rattle.std.specs.Prelude.{◌<◌, ◌≤◌, ◌^◌};
 
 use crate::reading::read;
 use std::alloc::{AllocError, Global};
@@ -9,7 +9,7 @@ use std::test::Fail;
 use tp_check::{NearRefusal, PassesEnd, near_refusal};
 use tp_flow::check_flow;
 use tp_samples::*;
-use tp_state::Cell;
+use tp_state::{Cell, State};
 
 /// What the passes come to.
 fn end(rt: &(impl Abort + AllocGlobal), bytes: &[u8]) -> PassesEnd<NearRefusal> {
@@ -116,12 +116,16 @@ fn stands_before_each_of_many_passes(rt: HostRuntime) -> Result<(), Fail> {
         assert_eq!(rt; near.passes, u64::from(passes), "{words} words");
         match near.states.state_at(rt.alloc(), usize::from(HEAD))? {
             None => assert_eq!(rt; passes, 0),
-            Some(head) => {
-                let last = usize::from(passes) + 8;
-                assert_eq!(rt; head.cells.get(last), Cell::Any, "{words} words");
-                assert_eq!(rt; head.cells.get(last + 1), Cell::Known(0), "{words} words");
-            }
+            Some(head) => assert_last_unknown(&rt, &head, usize::from(passes) + 8, words),
         }
     }
     Ok(())
+}
+
+/// Up to this word of the workspace it is not known any more what stands there.
+fn assert_last_unknown(rt: &impl Abort, head: &State, last: usize, words: u8)
+    requires { last < 2 ^ 16 }
+{
+    assert_eq!(rt; head.cells.get(last), Cell::Any, "{words} words");
+    assert_eq!(rt; head.cells.get(last + 1), Cell::Known(0), "{words} words");
 }

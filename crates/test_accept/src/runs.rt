@@ -3,8 +3,9 @@
 use crate::machine::media::run_packet;
 use crate::machine::runs::{CASES, is_so};
 use crate::texts::{FOUR_THOUSAND, NINE_HUNDRED, many_jumps};
+use std::process::Abort;
 use std::test::Fail;
-use tp_accept::accept;
+use tp_accept::{Accepted, accept};
 use tp_machine::{Machine, Outcome};
 
 /// The cases of a machine that held anything, on a new one.
@@ -27,10 +28,22 @@ fn runs_long_codes(rt: HostRuntime) -> Result<(), Fail> {
     let mut machine = Machine::new();
     for (header, times, steps) in rows {
         let accepted = accept(rt.alloc(), many_jumps(rt.alloc(), header, times)?)?;
-        let (answered, media) = run_packet(rt.alloc(), &mut machine, &accepted, &packet)?;
-        let error = false;
-        assert_eq!(rt; answered, Ok(Outcome { error, steps }));
-        assert_eq!(rt; media.sink.bytes(), packet.as_slice());
+        assert_sent_back(&rt, &mut machine, &accepted, &packet, steps)?;
     }
+    Ok(())
+}
+
+/// The run of a packet takes so many steps, and its result is the packet.
+fn assert_sent_back(
+    rt: &(impl Abort + AllocGlobal),
+    machine: &mut Machine,
+    accepted: &Accepted,
+    packet: &[u8],
+    steps: u32,
+) -> Result<(), Fail> {
+    let (answered, media) = run_packet(rt.alloc(), machine, accepted, packet)?;
+    let error = false;
+    assert_eq!(rt; answered, Ok(Outcome { error, steps }));
+    assert_eq!(rt; media.sink.bytes(), packet);
     Ok(())
 }

@@ -234,11 +234,16 @@ fn knows_the_registers_along_a_loop(rt: HostRuntime) {
         let head = placed_at(&image, &table, 15).expect(&rt, "a state");
         let head = head.copy_of(rt.alloc()).expect(&rt, "a copy");
         let state = carried_to(&rt, &image, &listing, &nest, head, 15, at);
-        assert_eq!(rt; (state.wptr, state.phase, state.a, state.b), registers);
-        for (word, cell) in LEFT_BY_THE_LOOP {
-            if at >= 23 {
-                assert_eq!(rt; state.cells.get(word), cell, "word {word} at {at}");
-            }
+        assert_known(&rt, &state, at, registers);
+    }
+}
+
+/// These registers are known at an address; and behind the loop, what stands in the workspace.
+fn assert_known(rt: &impl Abort, state: &State, at: usize, registers: Registers) {
+    assert_eq!(rt; (state.wptr, state.phase, state.a, state.b), registers);
+    for (word, cell) in LEFT_BY_THE_LOOP {
+        if at >= 23 {
+            assert_eq!(rt; state.cells.get(word), cell, "word {word} at {at}");
         }
     }
 }

@@ -84,6 +84,11 @@ fn one_entry_for_each_packet(rt: HostRuntime) {
     assert!(rt; collector.put(done(&image, 7, 2)).is_ok());
     assert_eq!(rt; collector.lose(0, REFUSED), Ok(()));
     let entries = collector.finish().entries;
+    assert_lost_two(&rt, &entries);
+}
+
+/// The first packet was lost by a device, nobody took the second, and the third has its result.
+fn assert_lost_two(rt: &impl Abort, entries: &[Entry]) {
     assert_eq!(rt; entries.len(), 3);
     assert_eq!(rt; cause_of(&entries[0]), Some(LostCause::Link(REFUSED)));
     assert_eq!(rt; cause_of(&entries[1]), Some(LostCause::Stopped));

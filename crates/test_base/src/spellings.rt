@@ -1,7 +1,8 @@
 //! Operands and their canonical spellings, as the Compiler Writer's Guide's rule gives them.
 
+use std::process::Abort;
 use std::test::Fail;
-use tp_decode::{DecodeCode, DecodeFault, Instr, decode};
+use tp_decode::{DecodeCode, DecodeFault, Instr, Listing, decode};
 use tp_prefix::{PrefixFault, Spelled, encode, read_one};
 
 fn spells(rt: &impl std::process::Abort, operand: i32, bytes: &[u8]) {
@@ -42,17 +43,27 @@ fn a_listing_finds_its_instructions(rt: HostRuntime) -> Result<(), Fail> {
     let listing = decode(rt.alloc(), &[0x20, 0x41, 0x24, 0xF2, 0xD0])
         .ok()
         .ok_or("refused")?;
-    assert!(rt; listing.starts() == [0, 2, 4].as_slice());
-    assert_eq!(rt; listing.at(0), Some(Instr::Ldc(1)));
-    assert_eq!(rt; listing.at(1), None);
-    assert_eq!(rt; listing.at(2), Some(Instr::Mint));
-    assert_eq!(rt; listing.at(4), Some(Instr::Stl(0)));
-    assert_eq!(rt; listing.at(5), None);
-    assert_eq!(rt; listing.next(2), Some(4));
-    assert_eq!(rt; listing.next(3), None);
+    assert_found(&rt, &listing);
     assert_eq!(rt; Instr::of(15, 0x4A), Some(Instr::MoveBytes));
     assert_eq!(rt; Instr::of(9, 0), None);
     Ok(())
+}
+
+/// The instructions ldc 1, mint and stl 0 stand at 0, 2 and 4, and none elsewhere.
+fn assert_found(rt: &impl Abort, listing: &Listing) {
+    assert!(rt; listing.starts() == [0, 2, 4].as_slice());
+    let found = [
+        (0, Some(Instr::Ldc(1))),
+        (1, None),
+        (2, Some(Instr::Mint)),
+        (4, Some(Instr::Stl(0))),
+        (5, None),
+    ];
+    for (at, instr) in found {
+        assert_eq!(rt; listing.at(at), instr, "at {at}");
+    }
+    assert_eq!(rt; listing.next(2), Some(4));
+    assert_eq!(rt; listing.next(3), None);
 }
 
 #[test]

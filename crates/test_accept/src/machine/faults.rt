@@ -2,7 +2,9 @@
 
 use super::media::{accepted, all_bits_set, run_packet};
 use std::alloc::Global;
+use std::process::Abort;
 use std::test::Fail;
+use tp_accept::Accepted;
 use tp_link::{DeviceFault, FaultyWire, Link, LinkDevice, LinkFault, Links};
 use tp_machine::{Machine, Outcome};
 use tp_media::Media;
@@ -13,13 +15,18 @@ fn refused(link: Link, code: DeviceFault) -> Result<Outcome, LinkFault> {
     Err(LinkFault { link, code })
 }
 
+/// What the source and the sink hold after a run.
+fn assert_left(rt: &impl Abort, media: &Media, source: &[u8], sink: &[u8]) {
+    assert_eq!(rt; media.source.bytes(), source);
+    assert_eq!(rt; media.sink.bytes(), sink);
+}
+
 #[test]
 fn a_short_source_keeps_its_bytes(rt: HostRuntime) -> Result<(), Fail> {
     let accepted = accepted(rt.alloc(), INCREMENT)?;
     let (answered, media) = run_packet(rt.alloc(), &mut all_bits_set(), &accepted, &[1, 0, 0])?;
     assert_eq!(rt; answered, refused(Link::Source, DeviceFault::Short));
-    assert_eq!(rt; media.source.bytes(), [1, 0, 0].as_slice());
-    assert_eq!(rt; media.sink.bytes().len(), 0);
+    assert_left(&rt, &media, &[1, 0, 0], &[]);
     Ok(())
 }
 
@@ -57,8 +64,7 @@ fn a_full_and_a_closed_sink_refuse(rt: HostRuntime) -> Result<(), Fail> {
         let mut media = Media::with_rooms(rt.alloc(), 256, room, 256)?;
         let answered = run_over(rt.alloc(), &mut media, close)?;
         assert_eq!(rt; answered, refused(Link::Sink, code));
-        assert_eq!(rt; media.source.bytes().len(), 0);
-        assert_eq!(rt; media.sink.bytes().len(), 0);
+        assert_left(&rt, &media, &[], &[]);
     }
     Ok(())
 }
@@ -72,27 +78,30 @@ fn failing_wires(media: &mut Media) -> Links<FaultyWire<'_>> {
     }
 }
 
-/// The second run is on the same machine, in which a run was cut off, and of the same packet.
+/// A run is cut off by its source, and made again on the same machine and of the same packet.
+fn assert_made_again(
+    rt: &impl Abort,
+    accepted: &Accepted,
+    links: &mut Links<FaultyWire<'_>>,
+) -> Result<(), DeviceFault> {
+    let mut machine = all_bits_set();
+    links.source.send(&[1, 0, 0, 0])?;
+    let cut_off = machine.run(accepted, links);
+    assert_eq!(rt; cut_off, refused(Link::Source, DeviceFault::Failed));
+    assert_eq!(rt; (links.source.held(), links.source.faults()), (4, 1));
+    let again = machine.run(accepted, links);
+    let error = false;
+    assert_eq!(rt; again, Ok(Outcome { error, steps: 16 }));
+    Ok(())
+}
+
 #[test]
 fn a_failing_source_keeps_the_packet(rt: HostRuntime) -> Result<(), Fail> {
     let accepted = accepted(rt.alloc(), INCREMENT)?;
     let mut media = Media::new(rt.alloc(), 256)?;
     let mut links = failing_wires(&mut media);
-    let mut machine = all_bits_set();
-    links.source.send(&[1, 0, 0, 0])?;
-    let cut_off = machine.run(&accepted, &mut links);
-    assert_eq!(rt; cut_off, refused(Link::Source, DeviceFault::Failed));
-    assert_eq!(rt; (links.source.held(), links.source.faults()), (4, 1));
-    let again = machine.run(&accepted, &mut links);
-    assert_eq!(rt;
-        again,
-        Ok(Outcome {
-            error: false,
-            steps: 16
-        })
-    );
+    assert_made_again(&rt, &accepted, &mut links)?;
     drop(links);
-    assert!(rt; media.source.bytes().is_empty());
-    assert_eq!(rt; media.sink.bytes(), [2, 0, 0, 0].as_slice());
+    assert_left(&rt, &media, &[], &[2, 0, 0, 0]);
     Ok(())
 }
