@@ -26,8 +26,8 @@ use tp_flow::{Nest, check_flow};
 use tp_image::{Image, ImageFault, read_image};
 
 /// Judges the bytes of an image, and writes the verdict: as farmd answers it, and of a refusal what it means, where it comes, and
-/// what helps; the listing has what a text says of its lines. It answers whether the image is accepted. The passes are made once,
-/// whether they refuse its states or not.
+/// what helps; the listing has what a text says of its lines. It answers whether the image is accepted. Where the
+/// passes come to a table they are made once, and the bound alone is left to be judged.
 pub fn tell<W: Write>(
     alloc: Global,
     text: &[u8],
