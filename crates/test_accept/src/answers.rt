@@ -1,5 +1,6 @@
 //! Answers to texts.
 
+use crate::same::assert_same;
 use crate::texts::*;
 use std::alloc::{AllocError, Global};
 use std::process::Abort;
@@ -147,9 +148,13 @@ fn tells_the_parts(rt: HostRuntime) -> Result<(), Fail> {
 
 /// An accepted image has the parts of the increment.
 fn assert_increment(rt: &impl Abort, accepted: &Accepted) {
-    assert_eq!(rt; (accepted.packet_bytes(), accepted.result_bytes()), (4, 4));
-    assert_eq!(rt; accepted.code(), &INCREMENT[16..]);
-    assert_eq!(rt; accepted.image().workspace, 12);
+    assert_same(
+        rt,
+        &(accepted.packet_bytes(), accepted.result_bytes()),
+        &(4, 4),
+    );
+    assert_same(rt, &accepted.code(), &&INCREMENT[16..]);
+    assert_same(rt, &accepted.image().workspace, &12);
 }
 
 /// A refusal's code as it prints, and its place.
@@ -163,17 +168,18 @@ fn tells_the_parts_of_a_refusal(rt: HostRuntime) -> Result<(), Fail> {
     let answered = accept(rt.alloc(), Vec::from_slice(rt.alloc(), &INCREMENT[..9])?);
     let refusal = answered.err().ok_or("a refusal")?;
     let (code, place) = parts_of(rt.alloc(), &refusal)?;
-    assert_eq!(rt; (code.as_str(), place), ("F2", 9));
+    assert_same(&rt, &(code.as_str(), place), &("F2", 9));
     Ok(())
 }
 
 #[test]
 fn tells_that_memory_is_out(rt: HostRuntime) -> Result<(), Fail> {
     let refusal = Refusal::Memory;
-    assert_eq!(rt; (refusal.code(), refusal.place()), (None, 0));
-    assert_eq!(rt;
-        format!(in rt.alloc(); "{refusal}")?.as_str(),
-        "out of memory"
+    assert_same(&rt, &(refusal.code(), refusal.place()), &(None, 0));
+    assert_same(
+        &rt,
+        &format!(in rt.alloc(); "{refusal}")?.as_str(),
+        &"out of memory",
     );
     Ok(())
 }

@@ -1,6 +1,7 @@
 //! The increment with each of its bytes set to each value: what is accepted runs within its budget.
 
 use crate::machine::media::run_packet;
+use crate::same::assert_same;
 use crate::texts::changed;
 use std::process::Abort;
 use std::test::Fail;
@@ -17,7 +18,7 @@ fn ends_within(
     let packet = vec![in rt.alloc(); 0u8; accepted.packet_bytes()]?;
     let (answered, media) = run_packet(rt.alloc(), machine, accepted, packet.as_slice())?;
     let outcome = answered?;
-    assert_eq!(rt; media.sink.bytes().len(), accepted.result_bytes());
+    assert_same(rt, &media.sink.bytes().len(), &accepted.result_bytes());
     Ok(outcome.steps <= accepted.budget())
 }
 
@@ -39,7 +40,7 @@ fn runs_what_is_accepted(rt: HostRuntime) -> Result<(), Fail> {
         }
     }
     // counted by a verifier that was written from the rules alone, in another language
-    assert_eq!(rt; accepted_count, 469);
-    assert_eq!(rt; refused_count, 8_192 - 469);
+    assert_same(&rt, &accepted_count, &469);
+    assert_same(&rt, &refused_count, &(8_192 - 469));
     Ok(())
 }

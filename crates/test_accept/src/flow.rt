@@ -2,6 +2,7 @@
 
 use crate::images::*;
 use crate::reading::read;
+use crate::same::assert_same;
 use std::alloc::{AllocError, Global};
 use std::process::Abort;
 use std::test::Fail;
@@ -42,7 +43,7 @@ fn judged(rt: &(impl Abort + AllocGlobal), bytes: &[u8]) -> Result<Nest, FlowFau
 /// That an image's code is refused so, or passes.
 fn assert_judged(rt: &(impl Abort + AllocGlobal), bytes: &[u8], expected: Refusal) {
     let expected = expected.map(|(code, place)| FlowFault { code, place });
-    assert_eq!(rt; judged(rt, bytes).err(), expected);
+    assert_same(rt, &judged(rt, bytes).err(), &expected);
 }
 
 /// That a code with these loop rows is refused so, or passes.
@@ -260,8 +261,12 @@ fn knows_what_lies_in_a_loop(rt: HostRuntime) {
         nest.contains(0, 19),
         nest.contains(1, 12),
     ];
-    assert_eq!(rt; inside, [false, true, true, false, false]);
-    assert_eq!(rt; (nest.lend_row(18), nest.lend_row(12)), (Some(0), None));
+    assert_same(&rt, &inside, &[false, true, true, false, false]);
+    assert_same(
+        &rt,
+        &(nest.lend_row(18), nest.lend_row(12)),
+        &(Some(0), None),
+    );
 }
 
 #[test]
@@ -279,7 +284,7 @@ fn leads_along_edges(rt: HostRuntime) {
         (0, 1, Instr::Stopp, Edge::Next, None),
     ];
     for (at, next, instr, edge, target) in ways {
-        assert_eq!(rt; nest.target(at, next, instr, edge), target);
+        assert_same(&rt, &nest.target(at, next, instr, edge), &target);
     }
 }
 
@@ -308,21 +313,33 @@ fn tells_loops_by_number(rt: HostRuntime) {
         nest.entered(4, 2),
         nest.entered(2, 3),
     ];
-    assert_eq!(rt; entered, [Some(1), Some(0), None, None]);
+    assert_same(&rt, &entered, &[Some(1), Some(0), None, None]);
     let ranges = (nest.range(1), nest.range(2));
-    assert_eq!(rt; ranges, (Some(LoopRange { head: 1, lend: 7 }), None));
+    assert_same(&rt, &ranges, &(Some(LoopRange { head: 1, lend: 7 }), None));
 }
 
 #[test]
 fn tells_edges(rt: HostRuntime) {
-    assert_eq!(rt; edges(Instr::Cj(0)), [Edge::Next, Edge::Taken].as_slice());
-    assert_eq!(rt; edges(Instr::Lend), [Edge::Back, Edge::Out].as_slice());
-    assert_eq!(rt; edges(Instr::Stopp).len(), 0);
+    assert_same(
+        &rt,
+        &edges(Instr::Cj(0)),
+        &[Edge::Next, Edge::Taken].as_slice(),
+    );
+    assert_same(
+        &rt,
+        &edges(Instr::Lend),
+        &[Edge::Back, Edge::Out].as_slice(),
+    );
+    assert_same(&rt, &edges(Instr::Stopp).len(), &0);
 }
 
 #[test]
 fn prints_a_fault(rt: HostRuntime) -> Result<(), Fail> {
     let fault = judged(&rt, JUMPS_OUT_OF_LOOP).err().ok_or("a fault")?;
-    assert_eq!(rt; format!(in rt.alloc(); "{fault}")?.as_str(), "J4 at 14");
+    assert_same(
+        &rt,
+        &format!(in rt.alloc(); "{fault}")?.as_str(),
+        &"J4 at 14",
+    );
     Ok(())
 }

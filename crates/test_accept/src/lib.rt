@@ -22,6 +22,8 @@ mod reading;
 #[cfg(test)]
 mod runs;
 #[cfg(test)]
+mod same;
+#[cfg(test)]
 mod states;
 #[cfg(test)]
 mod tables;

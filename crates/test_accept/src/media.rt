@@ -1,5 +1,6 @@
 //! The media of members, and wires to them.
 
+use crate::same::assert_same;
 use std::process::Abort;
 use std::test::Fail;
 use tp_link::{DeviceFault, LinkDevice, Links};
@@ -9,7 +10,7 @@ use tp_media::{Media, boxed, media_of};
 fn each_wire_has_its_room(rt: HostRuntime) -> Result<(), Fail> {
     let mut media = Media::with_rooms(rt.alloc(), 1, 2, 3)?;
     let links = media.wires();
-    assert_eq!(rt; rooms(&links), (1, 2, 3));
+    assert_same(&rt, &rooms(&links), &(1, 2, 3));
     assert!(rt; are_open(&links));
     drop(links);
     assert!(rt; have_ended(&media));
@@ -43,9 +44,9 @@ fn send_to_each(links: &mut Links<impl LinkDevice>, byte: u8) -> Result<(), Devi
 
 /// The media hold what was sent so, and have ended.
 fn assert_sent(rt: &impl Abort, media: &Media, byte: u8) {
-    assert_eq!(rt; media.source.bytes(), [byte].as_slice());
-    assert_eq!(rt; media.sink.bytes(), [byte, byte].as_slice());
-    assert_eq!(rt; media.trace.bytes(), [byte; 4].as_slice());
+    assert_same(rt, &media.source.bytes(), &[byte].as_slice());
+    assert_same(rt, &media.sink.bytes(), &[byte, byte].as_slice());
+    assert_same(rt, &media.trace.bytes(), &[byte; 4].as_slice());
     assert!(rt; have_ended(media));
 }
 
@@ -54,7 +55,7 @@ fn assert_sent(rt: &impl Abort, media: &Media, byte: u8) {
 fn each_member_has_its_media(rt: HostRuntime) -> Result<(), Fail> {
     let mut media = media_of(rt.alloc(), 3, 4)?;
     let mut links = boxed(rt.alloc(), &mut media)?;
-    assert_eq!(rt; links.len(), 3);
+    assert_same(&rt, &links.len(), &3);
     for (byte, one) in (1u8..4).zip(links.iter_mut()) {
         send_to_each(one, byte)?;
     }

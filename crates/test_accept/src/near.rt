@@ -3,6 +3,7 @@
 ghost use Rattle.std.specs.Prelude.{◌<◌, ◌≤◌, ◌^◌};
 
 use crate::reading::read;
+use crate::same::assert_same;
 use std::alloc::{AllocError, Global};
 use std::process::Abort;
 use std::test::Fail;
@@ -30,7 +31,7 @@ fn near(rt: &(impl Abort + AllocGlobal), bytes: &[u8]) -> NearRefusal {
 #[test]
 fn stands_before_the_first_pass(rt: HostRuntime) {
     let near = near(&rt, READS_AFTER_JUMP);
-    assert_eq!(rt; near.passes, 0);
+    assert_same(&rt, &near.passes, &0);
     assert!(rt; near.states.has(0));
     assert!(rt; !near.states.has(8));
 }
@@ -115,7 +116,7 @@ fn stands_before_each_of_many_passes(rt: HostRuntime) -> Result<(), Fail> {
         let passes = words.saturating_sub(2);
         assert_eq!(rt; near.passes, u64::from(passes), "{words} words");
         match near.states.state_at(rt.alloc(), usize::from(HEAD))? {
-            None => assert_eq!(rt; passes, 0),
+            None => assert_same(&rt, &passes, &0),
             Some(head) => assert_last_unknown(&rt, &head, usize::from(passes) + 8, words),
         }
     }

@@ -2,6 +2,7 @@
 
 use crate::machine::media::run_packet;
 use crate::machine::runs::{CASES, is_so};
+use crate::same::assert_same;
 use crate::texts::{FOUR_THOUSAND, NINE_HUNDRED, many_jumps};
 use std::process::Abort;
 use std::test::Fail;
@@ -43,7 +44,7 @@ fn assert_sent_back(
 ) -> Result<(), Fail> {
     let (answered, media) = run_packet(rt.alloc(), machine, accepted, packet)?;
     let error = false;
-    assert_eq!(rt; answered, Ok(Outcome { error, steps }));
-    assert_eq!(rt; media.sink.bytes(), packet);
+    assert_same(rt, &answered, &Ok(Outcome { error, steps }));
+    assert_same(rt, &media.sink.bytes(), &packet);
     Ok(())
 }

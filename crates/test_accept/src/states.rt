@@ -6,6 +6,7 @@ ghost use Rattle.tp_state.specs.Conditions.{HasGoodLoops};
 
 use crate::images::*;
 use crate::reading::read;
+use crate::same::assert_same;
 use std::process::Abort;
 use tp_decode::Listing;
 use tp_flow::{Edge, Nest, check_flow, edges};
@@ -54,7 +55,7 @@ fn assert_first_refusal(
     bytes: &[u8],
     expected: Option<StateFault>,
 ) {
-    assert_eq!(rt; refusal(rt, bytes), expected);
+    assert_same(rt, &refusal(rt, bytes), &expected);
 }
 
 #[test]
@@ -85,5 +86,5 @@ fn begins_with_the_first_words(rt: HostRuntime) {
     let copy = copy_of_the_start(&rt, MOVES_A_WORD);
     let cells = (copy.cells.get(0), copy.cells.get(15), copy.cells.get(16));
     let expected = (Cell::Known(42), Cell::Known(0), Cell::Undef);
-    assert_eq!(rt; (copy.wptr, cells), (8, expected));
+    assert_same(&rt, &(copy.wptr, cells), &(8, expected));
 }

@@ -8,6 +8,7 @@ ghost use Rattle.tp_check.specs.StatesThere.{AreStatesThere};
 
 use crate::images::*;
 use crate::reading::read;
+use crate::same::assert_same;
 use crate::states::refused;
 use std::alloc::{AllocError, Global};
 use std::process::Abort;
@@ -56,8 +57,8 @@ fn increment_with(at: usize, byte: u8) -> [u8; 32]
 
 /// That the passes refuse a worker so, or find a table, whether it is made or not.
 fn assert_refusal(rt: &(impl Abort + AllocGlobal), bytes: &[u8], refusal: Option<StateFault>) {
-    assert_eq!(rt; verdict(rt, bytes).err(), refusal);
-    assert_eq!(rt; judged(rt, bytes).err(), refusal);
+    assert_same(rt, &verdict(rt, bytes).err(), &refusal);
+    assert_same(rt, &judged(rt, bytes).err(), &refusal);
 }
 
 /// That the passes refuse a worker so.
@@ -122,7 +123,7 @@ fn assert_cells(rt: &impl Abort, table: &Table, at: u32, cells: &[(usize, Cell)]
 /// That a table keeps states at these addresses, and at no other.
 fn assert_kept(rt: &(impl Abort + AllocGlobal), bytes: &[u8], places: &[u32]) {
     let table = found(rt, bytes);
-    assert_eq!(rt; table.kept(), places.len());
+    assert_same(rt, &table.kept(), &places.len());
     for place in places {
         assert!(rt; kept_at(&table, *place).is_some(), "a state at {place}");
     }
@@ -148,7 +149,7 @@ fn keeps_states_where_edges_join(rt: HostRuntime) {
     assert_kept(&rt, STORES_BY_TWO_WAYS, &[0, 13]);
     let jumps = nine_hundred_jumps(rt.alloc()).expect(&rt, "memory");
     let table = found(&rt, &jumps);
-    assert_eq!(rt; table.kept(), 901);
+    assert_same(&rt, &table.kept(), &901);
 }
 
 /// They stand by rising address.
@@ -240,7 +241,7 @@ fn knows_the_registers_along_a_loop(rt: HostRuntime) {
 
 /// These registers are known at an address; and behind the loop, what stands in the workspace.
 fn assert_known(rt: &impl Abort, state: &State, at: usize, registers: Registers) {
-    assert_eq!(rt; (state.wptr, state.phase, state.a, state.b), registers);
+    assert_same(rt, &(state.wptr, state.phase, state.a, state.b), &registers);
     for (word, cell) in LEFT_BY_THE_LOOP {
         if at >= 23 {
             assert_eq!(rt; state.cells.get(word), cell, "word {word} at {at}");
@@ -269,7 +270,7 @@ fn knows_what_stands_at_a_head(rt: HostRuntime) {
 
 /// That the passes take so much.
 fn assert_counted(rt: &(impl Abort + AllocGlobal), bytes: &[u8], expected: Count) {
-    assert_eq!(rt; counted(rt, bytes), expected);
+    assert_same(rt, &counted(rt, bytes), &expected);
 }
 
 /// A pass that makes the states has an outcome for each instruction, and one more for a cj and for a lend; a later one has

@@ -3,6 +3,7 @@
 ghost use Rattle.std.specs.Prelude.{◌≡◌, [], ◌∷◌, map};
 ghost use Rattle.test_base.specs.Workers.{increment, incremented, one};
 
+use crate::same::assert_same;
 use arrayvec::ArrayVec;
 use std::process::Abort;
 use tp_collect::limits::MESSAGE_BYTES;
@@ -82,7 +83,7 @@ fn one_entry_for_each_packet(rt: HostRuntime) {
     let packets = packets();
     let mut collector = Collector::new(rt.alloc(), 7, &image, &packets).expect(&rt, "memory");
     assert!(rt; collector.put(done(&image, 7, 2)).is_ok());
-    assert_eq!(rt; collector.lose(0, REFUSED), Ok(()));
+    assert_same(&rt, &collector.lose(0, REFUSED), &Ok(()));
     let entries = collector.finish().entries;
     assert_lost_two(&rt, &entries);
 }
@@ -90,8 +91,8 @@ fn one_entry_for_each_packet(rt: HostRuntime) {
 /// The first packet was lost by a device, nobody took the second, and the third has its result.
 fn assert_lost_two(rt: &impl Abort, entries: &[Entry]) {
     assert_eq!(rt; entries.len(), 3);
-    assert_eq!(rt; cause_of(&entries[0]), Some(LostCause::Link(REFUSED)));
-    assert_eq!(rt; cause_of(&entries[1]), Some(LostCause::Stopped));
+    assert_same(rt, &cause_of(&entries[0]), &Some(LostCause::Link(REFUSED)));
+    assert_same(rt, &cause_of(&entries[1]), &Some(LostCause::Stopped));
     assert!(rt; result_of(&entries[2]) == Some((2, [2, 0, 0, 0].as_slice())));
 }
 
@@ -105,8 +106,8 @@ fn assert_refused(
     match answer {
         Ok(()) => panic!(rt; "filed"),
         Err((fault, done)) => {
-            assert_eq!(rt; fault, expected);
-            assert_eq!(rt; done.packet, number);
+            assert_same(rt, &fault, &expected);
+            assert_same(rt, &done.packet, &number);
             assert!(rt; done.result.as_slice() == [2, 0, 0, 0].as_slice());
         }
     }
@@ -118,14 +119,14 @@ fn a_filed_number_is_refused(rt: HostRuntime) {
     let packets = packets();
     let mut collector = Collector::new(rt.alloc(), 7, &image, &packets).expect(&rt, "memory");
     assert!(rt; collector.put(done(&image, 7, 1)).is_ok());
-    assert_eq!(rt; collector.lose(2, REFUSED), Ok(()));
+    assert_same(&rt, &collector.lose(2, REFUSED), &Ok(()));
     assert_refused(&rt, collector.put(done(&image, 7, 1)), PutFault::Filed, 1);
     assert_refused(&rt, collector.put(done(&image, 7, 2)), PutFault::Filed, 2);
-    assert_eq!(rt; collector.lose(1, REFUSED), Err(PutFault::Filed));
-    assert_eq!(rt; collector.lose(2, REFUSED), Err(PutFault::Filed));
+    assert_same(&rt, &collector.lose(1, REFUSED), &Err(PutFault::Filed));
+    assert_same(&rt, &collector.lose(2, REFUSED), &Err(PutFault::Filed));
     let entries = collector.finish().entries;
     assert!(rt; result_of(&entries[1]) == Some((1, [2, 0, 0, 0].as_slice())));
-    assert_eq!(rt; cause_of(&entries[2]), Some(LostCause::Link(REFUSED)));
+    assert_same(&rt, &cause_of(&entries[2]), &Some(LostCause::Link(REFUSED)));
 }
 
 /// Another batch is told first, then a number that no packet has.
@@ -153,8 +154,12 @@ fn refusals_in_their_order(rt: HostRuntime) {
         PutFault::NoPacket,
         3,
     );
-    assert_eq!(rt; collector.lose(3, REFUSED), Err(PutFault::NoPacket));
-    assert_eq!(rt; collector.lose(u32::MAX, REFUSED), Err(PutFault::NoPacket));
+    assert_same(&rt, &collector.lose(3, REFUSED), &Err(PutFault::NoPacket));
+    assert_same(
+        &rt,
+        &collector.lose(u32::MAX, REFUSED),
+        &Err(PutFault::NoPacket),
+    );
 }
 
 /// As many packets as a batch may have, and none.
@@ -166,11 +171,11 @@ fn batches_of_any_size(rt: HostRuntime) {
         packets.push(word(1)).expect(&rt, "memory");
     }
     let mut full = Collector::new(rt.alloc(), 7, &image, &packets).expect(&rt, "memory");
-    assert_eq!(rt; full.lose(1023, REFUSED), Ok(()));
-    assert_eq!(rt; full.lose(1024, REFUSED), Err(PutFault::NoPacket));
-    assert_eq!(rt; full.finish().entries.len(), 1024);
+    assert_same(&rt, &full.lose(1023, REFUSED), &Ok(()));
+    assert_same(&rt, &full.lose(1024, REFUSED), &Err(PutFault::NoPacket));
+    assert_same(&rt, &full.finish().entries.len(), &1024);
     let empty = Collector::new(rt.alloc(), 7, &image, &[]).expect(&rt, "memory");
-    assert_eq!(rt; empty.finish().entries.len(), 0);
+    assert_same(&rt, &empty.finish().entries.len(), &0);
 }
 
 #[test]
@@ -182,6 +187,6 @@ fn refusals_printed(rt: HostRuntime) {
     ];
     for (fault, text) in texts {
         let printed = format!(in rt.alloc(); "{fault}").expect(&rt, "memory");
-        assert_eq!(rt; printed.as_str(), text);
+        assert_same(&rt, &printed.as_str(), &text);
     }
 }

@@ -3,6 +3,7 @@ ghost use Rattle.std.specs.Prelude.{◌≡◌};
 ghost use Rattle.tp_link.specs.Device.{held_after_send, plain_send};
 ghost use Rattle.tp_link.specs.Medium.{with_bytes, wired, unwired, faultless_device};
 
+use crate::same::assert_same;
 use std::alloc::{AllocError, Global};
 use std::process::Abort;
 use std::test::Fail;
@@ -20,7 +21,7 @@ fn send_and_end(medium: &mut Medium, bytes: &[u8]) -> Result<(), DeviceFault>
 }
 
 fn assert_ended(rt: &impl Abort, medium: &Medium, bytes: &[u8]) {
-    assert_eq!(rt; (medium.ended(), medium.bytes()), (true, bytes));
+    assert_same(rt, &(medium.ended(), medium.bytes()), &(true, bytes));
 }
 
 fn assert_landed(rt: &impl Abort, place: &EndedMedium, bytes: &[u8]) {
@@ -31,7 +32,7 @@ fn assert_landed(rt: &impl Abort, place: &EndedMedium, bytes: &[u8]) {
 }
 
 fn assert_sends<D: LinkDevice>(rt: &impl Abort, device: &mut D, bytes: &[u8]) {
-    assert_eq!(rt; device.send(bytes), Ok(()));
+    assert_same(rt, &device.send(bytes), &Ok(()));
 }
 
 /// Sends, and drops the device.
@@ -43,7 +44,7 @@ fn send_and_drop<D: LinkDevice>(rt: &impl Abort, mut device: D, bytes: &[u8]) {
 /// Receives a byte and sends it again, and drops the device.
 fn resend_and_drop<D: LinkDevice>(rt: &impl Abort, mut device: D) {
     let mut byte = [1];
-    assert_eq!(rt; device.receive(&mut byte), Ok(()));
+    assert_same(rt, &device.receive(&mut byte), &Ok(()));
     assert_sends(rt, &mut device, &byte);
     drop(device);
 }
@@ -51,7 +52,7 @@ fn resend_and_drop<D: LinkDevice>(rt: &impl Abort, mut device: D) {
 #[test]
 fn a_wire_that_has_ended_leaves_its_bytes(rt: HostRuntime) -> Result<(), Fail> {
     let mut medium = Medium::new(rt.alloc(), 4)?;
-    assert_eq!(rt; send_and_end(&mut medium, &[1, 2, 3]), Ok(()));
+    assert_same(&rt, &send_and_end(&mut medium, &[1, 2, 3]), &Ok(()));
     assert_ended(&rt, &medium, &[1, 2, 3]);
     Ok(())
 }
@@ -149,7 +150,7 @@ fn use_and_drop<D: LinkDevice>(
     assert_sends(rt, &mut links.trace, &[4, 5, 6]);
     if shut {
         links.shut();
-        assert_eq!(rt; open(&links), (false, false, false));
+        assert_same(rt, &open(&links), &(false, false, false));
     }
     drop_in_order(links, order);
 }

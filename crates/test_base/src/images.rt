@@ -1,5 +1,6 @@
 //! Images and refusals worked out by hand, and each call once with ample memory.
 
+use crate::same::assert_same;
 use std::alloc::{AllocError, Global};
 use std::process::Abort;
 use std::test::Fail;
@@ -31,7 +32,7 @@ fn assert_written(
     image: &Image,
     bytes: &[u8],
 ) -> Result<(), ImageFault> {
-    assert_eq!(rt; written(rt.alloc(), image)?.as_slice(), bytes);
+    assert_same(rt, &written(rt.alloc(), image)?.as_slice(), &bytes);
     Ok(())
 }
 
@@ -55,7 +56,7 @@ fn changed(
 fn assert_refused(rt: &(impl Abort + AllocGlobal), bytes: &[u8], code: ImageCode, place: usize) {
     match read(rt.alloc(), bytes) {
         Ok(_) => panic!(rt; "an image was read, and {code} wanted"),
-        Err(fault) => assert_eq!(rt; fault, ImageFault::Refused { code, place }),
+        Err(fault) => assert_same(rt, &fault, &ImageFault::Refused { code, place }),
     }
 }
 
@@ -92,9 +93,13 @@ const SAMPLES: [Sample; 24] = [
 fn assert_sample(rt: &(impl Abort + AllocGlobal), sample: Sample) -> Result<(), ImageFault> {
     let (bytes, version, workspace, loops, initial, code) = sample;
     let image = read(rt.alloc(), bytes)?;
-    assert_eq!(rt; (image.version(), image.workspace), (version, workspace));
-    assert_eq!(rt; (image.start, image.packet, image.result), (8, 1, 1));
-    assert_eq!(rt; sizes_of(&image), (loops, initial, code));
+    assert_same(
+        rt,
+        &(image.version(), image.workspace),
+        &(version, workspace),
+    );
+    assert_same(rt, &(image.start, image.packet, image.result), &(8, 1, 1));
+    assert_same(rt, &sizes_of(&image), &(loops, initial, code));
     assert_written(rt, &image, bytes)
 }
 
@@ -123,10 +128,10 @@ fn reads_rows_and_words(rt: HostRuntime) -> Result<(), Fail> {
         count: 10_000,
         start: 0,
     };
-    assert_eq!(rt; nested.loops.as_slice(), [outer, inner].as_slice());
-    assert_eq!(rt; nested.code.as_slice(), &TEN_TIMES_TEN_THOUSAND[40..]);
+    assert_same(&rt, &nested.loops.as_slice(), &[outer, inner].as_slice());
+    assert_same(&rt, &nested.code.as_slice(), &&TEN_TIMES_TEN_THOUSAND[40..]);
     let copies = read(rt.alloc(), MOVES_A_WORD)?;
-    assert_eq!(rt; copies.initial.as_slice(), [42].as_slice());
+    assert_same(&rt, &copies.initial.as_slice(), &[42].as_slice());
     Ok(())
 }
 
@@ -135,7 +140,7 @@ fn reads_a_negative_start(rt: HostRuntime) -> Result<(), Fail> {
     let bytes = changed(rt.alloc(), SUM_TO_TEN, 24, b"\xFE\xFF\xFF\xFF")?;
     let image = read(rt.alloc(), &bytes)?;
     for row in &image.loops {
-        assert_eq!(rt; row.start, -2);
+        assert_same(&rt, &row.start, &-2);
     }
     assert_written(&rt, &image, &bytes)?;
     Ok(())
@@ -143,7 +148,7 @@ fn reads_a_negative_start(rt: HostRuntime) -> Result<(), Fail> {
 
 #[test]
 fn refuses_beginnings(rt: HostRuntime) -> Result<(), Fail> {
-    assert_eq!(rt; NESTED_TOO_LONG.len(), 75);
+    assert_same(&rt, &NESTED_TOO_LONG.len(), &75);
     for n in 0..75 {
         if n < 4 {
             assert_refused(&rt, &NESTED_TOO_LONG[..n], ImageCode::F1, 0);
@@ -197,9 +202,9 @@ fn refuses_fields_out_of_range(rt: HostRuntime) -> Result<(), Fail> {
 #[test]
 fn reads_the_largest_fields(rt: HostRuntime) -> Result<(), Fail> {
     let widest = changed(rt.alloc(), INCREMENT_2, 6, b"\x00\x02")?;
-    assert_eq!(rt; read(rt.alloc(), &widest)?.workspace, 512);
+    assert_same(&rt, &read(rt.alloc(), &widest)?.workspace, &512);
     let messages = changed(rt.alloc(), INCREMENT, 10, b"\x40\x00\x40\x00")?;
-    assert_eq!(rt; read(rt.alloc(), &messages)?.result, 64);
+    assert_same(&rt, &read(rt.alloc(), &messages)?.result, &64);
     Ok(())
 }
 
@@ -224,7 +229,7 @@ fn with_long_code(
 fn reads_long_codes(rt: HostRuntime) -> Result<(), Fail> {
     let alloc = rt.alloc();
     let first = with_long_code(alloc, &INCREMENT[..22], b"\x15\x07", 900, &INCREMENT[25..])?;
-    assert_eq!(rt; read(alloc, &first)?.code.len(), 1813);
+    assert_same(&rt, &read(alloc, &first)?.code.len(), &1813);
     let second = with_long_code(
         alloc,
         &INCREMENT_2[..24],
@@ -232,7 +237,7 @@ fn reads_long_codes(rt: HostRuntime) -> Result<(), Fail> {
         4000,
         &INCREMENT_2[27..],
     )?;
-    assert_eq!(rt; read(alloc, &second)?.code.len(), 8013);
+    assert_same(&rt, &read(alloc, &second)?.code.len(), &8013);
     Ok(())
 }
 
@@ -263,18 +268,19 @@ fn assert_is_the_largest(rt: &impl Abort, image: &Image) {
         count: 0x0605,
         start: -16_185_337,
     };
-    assert_eq!(rt; sizes_of(image), (16, 512, 8192));
-    assert_eq!(rt; (image.workspace, image.start), (512, 511));
-    assert_eq!(rt;
-        (image.loops.last(), image.initial.last()),
-        (Some(&last), Some(&255))
+    assert_same(rt, &sizes_of(image), &(16, 512, 8192));
+    assert_same(rt, &(image.workspace, image.start), &(512, 511));
+    assert_same(
+        rt,
+        &(image.loops.last(), image.initial.last()),
+        &(Some(&last), Some(&255)),
     );
 }
 
 #[test]
 fn reads_and_writes_the_largest(rt: HostRuntime) -> Result<(), Fail> {
     let bytes = largest(rt.alloc())?;
-    assert_eq!(rt; bytes.len(), 10_450);
+    assert_same(&rt, &bytes.len(), &10_450);
     let image = read(rt.alloc(), &bytes)?;
     assert_is_the_largest(&rt, &image);
     assert_written(&rt, &image, &bytes)?;
@@ -285,7 +291,7 @@ fn reads_and_writes_the_largest(rt: HostRuntime) -> Result<(), Fail> {
 #[test]
 fn upgrades(rt: HostRuntime) -> Result<(), Fail> {
     let image = upgraded(rt.alloc(), &read(rt.alloc(), INCREMENT)?)?;
-    assert_eq!(rt; image.version(), 2);
+    assert_same(&rt, &image.version(), &2);
     assert_written(&rt, &image, INCREMENT_2)?;
     let copies = read(rt.alloc(), MOVES_A_WORD)?;
     assert_written(&rt, &upgraded(rt.alloc(), &copies)?, MOVES_A_WORD)?;
@@ -298,14 +304,16 @@ fn prints_faults(rt: HostRuntime) -> Result<(), Fail> {
         code: ImageCode::F10,
         place: 16,
     };
-    assert_eq!(rt;
-        format!(in rt.alloc(); "{refused}")?.as_str(),
-        "F10 at byte 16"
+    assert_same(
+        &rt,
+        &format!(in rt.alloc(); "{refused}")?.as_str(),
+        &"F10 at byte 16",
     );
     let memory = ImageFault::Memory;
-    assert_eq!(rt;
-        format!(in rt.alloc(); "{memory}")?.as_str(),
-        "out of memory"
+    assert_same(
+        &rt,
+        &format!(in rt.alloc(); "{memory}")?.as_str(),
+        &"out of memory",
     );
     Ok(())
 }
@@ -313,15 +321,15 @@ fn prints_faults(rt: HostRuntime) -> Result<(), Fail> {
 /// That an image has the one initial word 42, or that memory was refused.
 fn assert_has_42(rt: &impl Abort, answer: &Result<Image, ImageFault>) {
     match answer {
-        Err(fault) => assert_eq!(rt; *fault, ImageFault::Memory),
-        Ok(image) => assert_eq!(rt; image.initial.as_slice(), [42].as_slice()),
+        Err(fault) => assert_same(rt, &*fault, &ImageFault::Memory),
+        Ok(image) => assert_same(rt, &image.initial.as_slice(), &[42].as_slice()),
     }
 }
 
 fn assert_written_or_memory(rt: &(impl Abort + AllocGlobal), image: &Image, bytes: &[u8]) {
     match written(rt.alloc(), image) {
-        Err(fault) => assert_eq!(rt; fault, ImageFault::Memory),
-        Ok(found) => assert_eq!(rt; found.as_slice(), bytes),
+        Err(fault) => assert_same(rt, &fault, &ImageFault::Memory),
+        Ok(found) => assert_same(rt, &found.as_slice(), &bytes),
     }
 }
 

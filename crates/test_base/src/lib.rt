@@ -10,6 +10,8 @@ mod images;
 #[cfg(test)]
 mod latch;
 #[cfg(test)]
+mod same;
+#[cfg(test)]
 mod sizes;
 #[cfg(test)]
 mod spellings;

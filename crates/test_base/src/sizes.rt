@@ -1,5 +1,6 @@
 //! Inputs of full size.
 
+use crate::same::assert_same;
 use std::test::Fail;
 use tp_decode::{Instr, decode};
 
@@ -8,8 +9,8 @@ use tp_decode::{Instr, decode};
 fn the_longest_code(rt: HostRuntime) -> Result<(), Fail> {
     let code = vec![in rt.alloc(); 0x41; 65_535]?;
     let listing = decode(rt.alloc(), &code).ok().ok_or("refused")?;
-    assert_eq!(rt; listing.starts().len(), 65_535);
-    assert_eq!(rt; listing.at(65_534), Some(Instr::Ldc(1)));
-    assert_eq!(rt; listing.next(65_534), Some(65_535));
+    assert_same(&rt, &listing.starts().len(), &65_535);
+    assert_same(&rt, &listing.at(65_534), &Some(Instr::Ldc(1)));
+    assert_same(&rt, &listing.next(65_534), &Some(65_535));
     Ok(())
 }

@@ -1,5 +1,6 @@
 //! Operands and their canonical spellings, as the Compiler Writer's Guide's rule gives them.
 
+use crate::same::assert_same;
 use std::process::Abort;
 use std::test::Fail;
 use tp_decode::{DecodeCode, DecodeFault, Instr, Listing, decode};
@@ -33,9 +34,9 @@ fn one_at_a_place(rt: HostRuntime) {
         operand: -257,
         next: 4,
     };
-    assert_eq!(rt; read_one(&code, 1), Ok(third));
-    assert_eq!(rt; read_one(&code, 4), Err(PrefixFault::D1(4)));
-    assert_eq!(rt; read_one(&[0x20; 8], 0), Err(PrefixFault::D2(0)));
+    assert_same(&rt, &read_one(&code, 1), &Ok(third));
+    assert_same(&rt, &read_one(&code, 4), &Err(PrefixFault::D1(4)));
+    assert_same(&rt, &read_one(&[0x20; 8], 0), &Err(PrefixFault::D2(0)));
 }
 
 #[test]
@@ -44,8 +45,8 @@ fn a_listing_finds_its_instructions(rt: HostRuntime) -> Result<(), Fail> {
         .ok()
         .ok_or("refused")?;
     assert_found(&rt, &listing);
-    assert_eq!(rt; Instr::of(15, 0x4A), Some(Instr::MoveBytes));
-    assert_eq!(rt; Instr::of(9, 0), None);
+    assert_same(&rt, &Instr::of(15, 0x4A), &Some(Instr::MoveBytes));
+    assert_same(&rt, &Instr::of(9, 0), &None);
     Ok(())
 }
 
@@ -62,8 +63,8 @@ fn assert_found(rt: &impl Abort, listing: &Listing) {
     for (at, instr) in found {
         assert_eq!(rt; listing.at(at), instr, "at {at}");
     }
-    assert_eq!(rt; listing.next(2), Some(4));
-    assert_eq!(rt; listing.next(3), None);
+    assert_same(rt, &listing.next(2), &Some(4));
+    assert_same(rt, &listing.next(3), &None);
 }
 
 #[test]

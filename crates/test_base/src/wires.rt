@@ -1,6 +1,7 @@
 //! Wires and faulty wires, an author's own device, and the texts of their faults.
 
 use crate::latch::Latch;
+use crate::same::assert_same;
 use std::process::Abort;
 use std::test::Fail;
 use tp_link::{DeviceFault, FaultyWire, Link, LinkDevice, LinkFault, Medium, OwnedWire, Wire};
@@ -51,7 +52,7 @@ fn assert_steps<D: LinkDevice>(rt: &impl Abort, mut device: D, steps: &[Step]) {
 }
 
 fn assert_ended(rt: &impl Abort, medium: &Medium, bytes: &[u8]) {
-    assert_eq!(rt; (medium.ended(), medium.bytes()), (true, bytes));
+    assert_same(rt, &(medium.ended(), medium.bytes()), &(true, bytes));
 }
 
 #[test]
@@ -165,7 +166,7 @@ fn prints_faults(rt: HostRuntime) -> Result<(), Fail> {
     ];
     for (link, code, text) in faults {
         let fault = LinkFault { link, code };
-        assert_eq!(rt; format!(in rt.alloc(); "{fault}")?.as_str(), text);
+        assert_same(&rt, &format!(in rt.alloc(); "{fault}")?.as_str(), &text);
     }
     Ok(())
 }

@@ -2,6 +2,7 @@
 ghost use Rattle.std.specs.Prelude.{◌≡◌, All, IfSome};
 ghost use Rattle.tp_board.specs.Boards.{IsSeatOf};
 
+use crate::same::assert_same;
 use std::alloc::Global;
 use std::process::Abort;
 use tp_board::{Board, BoardFault, Claim, CloseFault, Ledger, Seat, Shown};
@@ -156,7 +157,7 @@ fn board_of_three_packets(rt: HostRuntime) {
         stopped: false,
     };
     let ledger = ledger_after(&rt, rt.alloc(), 3, &THREE_PACKETS);
-    assert_eq!(rt; ledger, Some(wanted));
+    assert_same(&rt, &ledger, &Some(wanted));
 }
 
 const STOPPED: [(u8, Step); 4] = [
@@ -176,5 +177,5 @@ fn stopped_at_once(rt: HostRuntime) {
         stopped: true,
     };
     let ledger = ledger_after(&rt, rt.alloc(), 100, &STOPPED);
-    assert_eq!(rt; ledger, Some(wanted));
+    assert_same(&rt, &ledger, &Some(wanted));
 }

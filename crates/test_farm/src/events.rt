@@ -2,6 +2,7 @@
 
 ghost use Rattle.tp_board.specs.Runs.{AllMembers};
 
+use crate::same::assert_same;
 use std::test::Fail;
 use tp_board::{Core, Event, Reply, Shown};
 
@@ -37,14 +38,14 @@ fn core_of_two_packets(rt: HostRuntime) -> Result<(), Fail> {
         Reply::Value(1),
         Reply::Value(2),
     ];
-    assert_eq!(rt; replies.as_slice(), wanted.as_slice());
+    assert_same(&rt, &replies.as_slice(), &wanted.as_slice());
     Ok(())
 }
 
 #[test]
 fn core_of_no_packets(rt: HostRuntime) -> Result<(), Fail> {
     let mut core = Core::new(rt.alloc(), 0, 1)?;
-    assert_eq!(rt; core.step(0, Event::Claim)?, Reply::NoMore);
+    assert_same(&rt, &core.step(0, Event::Claim)?, &Reply::NoMore);
     Ok(())
 }
 
@@ -61,9 +62,9 @@ fn claims() -> [(u32, Event); 300]
 fn core_plays_long_lists(rt: HostRuntime) -> Result<(), Fail> {
     let mut core = Core::new(rt.alloc(), 2, 1)?;
     let replies = core.play(rt.alloc(), &claims())?;
-    assert_eq!(rt; replies.len(), 300);
+    assert_same(&rt, &replies.len(), &300);
     let (first, rest) = replies.split_first().ok_or("no reply")?;
-    assert_eq!(rt; *first, Reply::Number(0));
+    assert_same(&rt, &*first, &Reply::Number(0));
     assert!(rt; rest.iter().all(|reply| *reply == Reply::Busy(0)));
     Ok(())
 }

@@ -19,6 +19,8 @@ mod recording;
 #[cfg(test)]
 mod refusing;
 #[cfg(test)]
+mod same;
+#[cfg(test)]
 mod sources;
 #[cfg(test)]
 mod stopping;

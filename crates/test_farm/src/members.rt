@@ -1,6 +1,7 @@
 //! Members beside one another: the same batch by any number of them, and a batch that only threads can end.
 
 use crate::batches::{ROOM, Told, all_told, alone, count_up, failing, increments_by, run_on, same};
+use crate::same::assert_same;
 use std::alloc::{AllocError, Global};
 use std::sync::Wait;
 use std::sync::atomic::{AtomicU64, Ordering};
@@ -43,7 +44,7 @@ pub(crate) fn are_one_more(
 fn members_make_no_difference(rt: HostRuntime) -> Result<(), Fail> {
     let words = count_up(rt.alloc(), 1024)?;
     let by_one = increments_by_one(&rt, rt.alloc(), &words)?;
-    assert_eq!(rt; by_one.entries.len(), 1024);
+    assert_same(&rt, &by_one.entries.len(), &1024);
     assert!(rt; are_one_more(rt.alloc(), &words, &by_one)?);
     for members in [3, 64] {
         let by_many = increments_by(&rt, rt.alloc(), &words, members, &OpenGate)?;
@@ -186,12 +187,12 @@ fn members_claim_beside_one_another(rt: HostRuntime) -> Result<(), Fail> {
     let mut ends = Vec::new(rt.alloc());
     let gate = Holding::of(4, 64);
     let collected = increments_by_any(&rt, rt.alloc(), &gate, &mut ends)?;
-    assert_eq!(rt; collected.entries.len(), 64);
+    assert_same(&rt, &collected.entries.len(), &64);
     assert!(rt; are_one_more(rt.alloc(), &[1; 64], &collected)?);
-    assert_eq!(rt; gate.ran_out.load(Ordering::SeqCst), 0);
-    assert_eq!(rt; gate.claims.load(Ordering::SeqCst), 64);
-    assert_eq!(rt; gate.finishes.load(Ordering::SeqCst), 64);
-    assert_eq!(rt; ends.len(), 12);
+    assert_same(&rt, &gate.ran_out.load(Ordering::SeqCst), &0);
+    assert_same(&rt, &gate.claims.load(Ordering::SeqCst), &64);
+    assert_same(&rt, &gate.finishes.load(Ordering::SeqCst), &64);
+    assert_same(&rt, &ends.len(), &12);
     assert!(rt; ends.iter().all(|end| end.get().is_some()));
     Ok(())
 }

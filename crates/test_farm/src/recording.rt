@@ -1,6 +1,7 @@
 //! What a gate is told: a member's own number, and its packet's.
 
 use crate::batches::{ROOM, count_up, failing, increments_by, told_by_one};
+use crate::same::assert_same;
 use std::alloc::{AllocError, Global};
 use std::sync::{Mutex, Wait};
 use std::test::Fail;
@@ -109,7 +110,7 @@ fn a_gate_is_told_of_one_member(rt: HostRuntime) -> Result<(), Fail> {
 fn a_gate_is_told_nothing_of_no_packets(rt: HostRuntime) -> Result<(), Fail> {
     let gate = Recording::new(&rt, rt.alloc());
     let _ = increments_by(&rt, rt.alloc(), &[], 3, &gate)?;
-    assert_eq!(rt; gate.into_heard().len(), 0);
+    assert_same(&rt, &gate.into_heard().len(), &0);
     Ok(())
 }
 
@@ -168,8 +169,12 @@ fn a_gate_is_told_of_each_member(rt: HostRuntime) -> Result<(), Fail> {
             assert!(rt; turns.is_some(), "{member} of {members}");
             packets = packets.saturating_add(turns.unwrap_or(0));
         }
-        assert_eq!(rt; packets, 60);
-        assert_eq!(rt; heard.len(), 180usize.saturating_add(members as usize));
+        assert_same(&rt, &packets, &60);
+        assert_same(
+            &rt,
+            &heard.len(),
+            &180usize.saturating_add(members as usize),
+        );
     }
     Ok(())
 }

@@ -1,6 +1,7 @@
 //! Batches that do not begin, and one that has nothing to do.
 
 use crate::batches::{ROOM, batch_of, have_ended, increments_by, packets};
+use crate::same::assert_same;
 use std::alloc::Global;
 use std::sync::Wait;
 use std::test::Fail;
@@ -77,7 +78,7 @@ fn refuses_short_packets(rt: HostRuntime) -> Result<(), Fail> {
     let mut all = packets(alloc, &[1, 1])?;
     all.push(Packet::new())?;
     let (fault, ended) = refusal(&rt, alloc, 2, &all)?;
-    assert_eq!(rt; fault, Some(FarmFault::Length(2)));
+    assert_same(&rt, &fault, &Some(FarmFault::Length(2)));
     assert!(rt; ended);
     Ok(())
 }
@@ -87,7 +88,7 @@ fn a_batch_may_be_empty(rt: HostRuntime) -> Result<(), Fail> {
     let alloc = rt.alloc();
     for members in [1, 64] {
         let collected = increments_by(&rt, alloc, &[], members, &OpenGate)?;
-        assert_eq!(rt; collected.entries.len(), 0);
+        assert_same(&rt, &collected.entries.len(), &0);
     }
     Ok(())
 }

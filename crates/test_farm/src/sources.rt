@@ -3,6 +3,7 @@ ghost use Rattle.std.specs.Prelude.{◌≡◌, None, IfSome};
 ghost use Rattle.tp_board.specs.Boards.{IsSeatOf};
 ghost use Rattle.tp_board.specs.Views.{first_of};
 
+use crate::same::assert_same;
 use arrayvec::ArrayVec;
 use std::alloc::Global;
 use std::process::Abort;
@@ -60,8 +61,8 @@ fn assert_empty_handed<S: WorkSource>(rt: &impl Abort, source: &S, hand: &mut S:
     ensures own { S.is_own source.now hand.new }
     ensures empty { (S.progress hand.new).in_hand ≡ None }
 {
-    assert_eq!(rt; source.finish(hand), Err(BoardFault::EmptyHand));
-    assert_eq!(rt; source.abandon(hand), Err(BoardFault::EmptyHand));
+    assert_same(rt, &source.finish(hand), &Err(BoardFault::EmptyHand));
+    assert_same(rt, &source.abandon(hand), &Err(BoardFault::EmptyHand));
 }
 
 // Stops, at any source: no packet comes then.
@@ -111,7 +112,7 @@ fn assert_abandons_two<S: WorkSource, R: Wait + Abort>(rt: &R, source: &S, hand:
     ensures { S.is_own source.now hand.new }
 {
     assert_empty_handed(rt, source, hand);
-    assert_eq!(rt; abandoned(rt, source, hand), 2);
+    assert_same(rt, &abandoned(rt, source, hand), &2);
     assert!(rt; matches!(source.next(rt, hand), Work::NoMore));
 }
 
@@ -128,7 +129,7 @@ fn source_stopped_after_two(rt: HostRuntime) -> Result<(), Fail> {
         in_hand: 0,
         stopped: true,
     };
-    assert_eq!(rt; closed(rt.alloc(), source, hand), Some(wanted));
+    assert_same(&rt, &closed(rt.alloc(), source, hand), &Some(wanted));
     Ok(())
 }
 
@@ -145,6 +146,6 @@ fn source_of_two_packets(rt: HostRuntime) -> Result<(), Fail> {
         in_hand: 0,
         stopped: false,
     };
-    assert_eq!(rt; closed(rt.alloc(), source, hand), Some(wanted));
+    assert_same(&rt, &closed(rt.alloc(), source, hand), &Some(wanted));
     Ok(())
 }

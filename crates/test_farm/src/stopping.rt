@@ -1,6 +1,7 @@
 //! Gates that stop a batch.
 
 use crate::batches::{ROOM, Told, all_told, batch_on, have_ended, increments_by, told_by_one};
+use crate::same::assert_same;
 use std::alloc::Global;
 use std::sync::Wait;
 use std::sync::atomic::{AtomicU64, Ordering};
@@ -60,7 +61,7 @@ fn a_gate_stops_one_member(rt: HostRuntime) -> Result<(), Fail> {
     let all = told_of_three(&rt, rt.alloc(), &gate)?;
     let done = Told::Done(2);
     assert!(rt; all.as_slice() == [done, done, Told::Stopped].as_slice());
-    assert_eq!(rt; gate.asks.load(Ordering::SeqCst), 3);
+    assert_same(&rt, &gate.asks.load(Ordering::SeqCst), &3);
     Ok(())
 }
 
@@ -136,7 +137,7 @@ fn a_full_queue_ends_with_its_members(rt: HostRuntime) -> Result<(), Fail> {
         let done = done_before(&rt, rt.alloc(), members, 3)?;
         assert!(rt; done.is_some_and(|done| done <= 2), "{members}");
     }
-    assert_eq!(rt; done_before(&rt, rt.alloc(), 1, 40)?, Some(39));
+    assert_same(&rt, &done_before(&rt, rt.alloc(), 1, 40)?, &Some(39));
     Ok(())
 }
 
@@ -168,7 +169,7 @@ fn a_gate_stops_two_members(rt: HostRuntime) -> Result<(), Fail> {
     for _ in 0..20u8 {
         let (done, stopped) = done_and_stopped(&rt, rt.alloc())?;
         assert!(rt; done == 8 || done == 9, "{done}");
-        assert_eq!(rt; done.saturating_add(stopped), 50);
+        assert_same(&rt, &done.saturating_add(stopped), &50);
     }
     Ok(())
 }
@@ -251,10 +252,10 @@ fn one_no_stops_all_members(rt: HostRuntime) -> Result<(), Fail> {
     for (members, least) in [(1, 9), (2, 8), (4, 6)] {
         let gate = SayingNoOnce::at(10);
         let (done, stopped) = done_and_stopped_by_one_no(&rt, rt.alloc(), members, &gate)?;
-        assert_eq!(rt; done.saturating_add(stopped), 1024);
+        assert_same(&rt, &done.saturating_add(stopped), &1024);
         assert!(rt; done >= least && stopped > 0, "{members}: {done}");
         assert!(rt; members > 1 || done == least, "{done}");
-        assert_eq!(rt; gate.asks_again.load(Ordering::SeqCst), 0);
+        assert_same(&rt, &gate.asks_again.load(Ordering::SeqCst), &0);
     }
     Ok(())
 }

@@ -3,6 +3,7 @@ ghost use Rattle.std.specs.Prelude.{◌≡◌, IfSome};
 ghost use Rattle.tp_board.specs.Boards.{IsSeatOf};
 
 use crate::boards::last_two;
+use crate::same::assert_same;
 use std::alloc::Global;
 use std::snapshot::Snapshot;
 use std::test::Fail;
@@ -110,6 +111,6 @@ fn four_threads(rt: HostRuntime) -> Result<(), Fail> {
         in_hand: 0,
         stopped: false,
     };
-    assert_eq!(rt; closed(rt.alloc(), board, seats), Some(wanted));
+    assert_same(&rt, &closed(rt.alloc(), board, seats), &Some(wanted));
     Ok(())
 }

@@ -1,6 +1,7 @@
 //! Traces.
 
 use crate::batches::{BATCH, ROOM, Told, alone, run_on, told_by_one};
+use crate::same::assert_same;
 use std::alloc::Global;
 use std::sync::Wait;
 use std::test::Fail;
@@ -81,8 +82,8 @@ fn an_error_flag_is_told(rt: HostRuntime) -> Result<(), Fail> {
     match collected.entries.as_slice() {
         [Entry::Done(first), Entry::Done(second)] => {
             assert!(rt; first.error && !second.error);
-            assert_eq!(rt; first.result.as_slice(), [0, 0, 0, 0x80].as_slice());
-            assert_eq!(rt; second.result.as_slice(), [2, 0, 0, 0].as_slice());
+            assert_same(&rt, &first.result.as_slice(), &[0, 0, 0, 0x80].as_slice());
+            assert_same(&rt, &second.result.as_slice(), &[2, 0, 0, 0].as_slice());
         }
         _ => assert!(rt; false, "two results"),
     }

@@ -1,5 +1,6 @@
 //! Each way in which the program ends: its status, and what it writes.
 
+use crate::same::assert_same;
 use crate::streams::{Broken, Ended, Unflushed, Words};
 use std::alloc::{AllocError, Global};
 use std::env::{Env, FillError};
@@ -69,7 +70,7 @@ fn serves_to_the_end(rt: HostRuntime) {
     let mut output = Vec::new(rt.alloc());
     let mut input = b"LIST 604F\nHELLO\n".as_slice();
     let ended = ran(&rt, rt.alloc(), &["farmd"], &mut input, &mut output);
-    assert_eq!(rt; ended.status, ExitCode::SUCCESS);
+    assert_same(&rt, &ended.status, &ExitCode::SUCCESS);
     assert!(rt; output.as_slice() == b"0 604f ldc -1\nDONE 1\nNO E1 2\n".as_slice());
     assert!(rt; ended.errors.is_empty());
 }
@@ -78,7 +79,7 @@ fn serves_to_the_end(rt: HostRuntime) {
 fn tells_a_failed_read(rt: HostRuntime) {
     let mut output = Vec::new(rt.alloc());
     let ended = ran(&rt, rt.alloc(), &["farmd"], &mut Broken, &mut output);
-    assert_eq!(rt; ended.status, ExitCode::from(1));
+    assert_same(&rt, &ended.status, &ExitCode::from(1));
     assert!(rt; output.is_empty());
     assert!(rt; ended.errors.as_slice() == b"farmd: read\n".as_slice());
 }
@@ -99,7 +100,7 @@ where
     ] {
         let mut input = b"LIST 604F\n".as_slice();
         let ended = ran(rt, alloc, words, &mut input, output);
-        assert_eq!(rt; ended.status, ExitCode::from(1));
+        assert_same(rt, &ended.status, &ExitCode::from(1));
         assert!(rt; ended.errors.as_slice() == b"farmd: write\n".as_slice());
     }
 }
@@ -209,8 +210,12 @@ fn tells_each_failed_call(rt: HostRuntime) {
             failing: write,
         };
         let ended = ran(&rt, rt.alloc(), &["farmd"], &mut input, &mut output);
-        assert_eq!(rt; ended.status, ExitCode::from(u8::from(!told.is_empty())));
-        assert_eq!(rt; output.taken.len(), out);
+        assert_same(
+            &rt,
+            &ended.status,
+            &ExitCode::from(u8::from(!told.is_empty())),
+        );
+        assert_same(&rt, &output.taken.len(), &out);
         assert!(rt; ANSWERS.starts_with(output.taken.as_slice()));
         assert!(rt; ended.errors.as_slice() == told.as_bytes());
     }
@@ -237,7 +242,7 @@ fn refuses_words(rt: HostRuntime) {
         let mut output = Vec::new(rt.alloc());
         let mut input = b"LIST 604F\n".as_slice();
         let ended = ran(&rt, rt.alloc(), words, &mut input, &mut output);
-        assert_eq!(rt; ended.status, ExitCode::from(2));
+        assert_same(&rt, &ended.status, &ExitCode::from(2));
         assert!(rt; output.is_empty());
         assert!(rt; ended.errors.starts_with(told.as_bytes()));
         assert!(rt;
@@ -260,7 +265,7 @@ fn refuses_a_word_that_is_no_text(rt: HostRuntime) {
         &mut output,
         &mut errors,
     );
-    assert_eq!(rt; status, ExitCode::from(2));
+    assert_same(&rt, &status, &ExitCode::from(2));
     assert!(rt; output.is_empty());
     assert!(rt;
         errors.as_slice() == b"error: a word of the command line is not UTF-8\n".as_slice()
@@ -294,8 +299,12 @@ fn answers_help_and_version(rt: HostRuntime) -> Result<(), Fail> {
     for (word, answer) in [("--help", HELP), ("--version", "farmd 0.1\n")] {
         let mut output = Vec::new(rt.alloc());
         let ended = ran(&rt, rt.alloc(), &["farmd", word], &mut Broken, &mut output);
-        assert_eq!(rt; ended.status, ExitCode::SUCCESS);
-        assert_eq!(rt; str::from_utf8(&output).map_err(|_| "no text")?, answer);
+        assert_same(&rt, &ended.status, &ExitCode::SUCCESS);
+        assert_same(
+            &rt,
+            &str::from_utf8(&output).map_err(|_| "no text")?,
+            &answer,
+        );
         assert!(rt; ended.errors.is_empty());
     }
     Ok(())
@@ -319,7 +328,7 @@ fn serves_as_asked(rt: HostRuntime) {
         let mut output = Vec::new(rt.alloc());
         let mut input = RUN.as_bytes();
         let ended = ran(&rt, rt.alloc(), words, &mut input, &mut output);
-        assert_eq!(rt; ended.status, ExitCode::SUCCESS);
+        assert_same(&rt, &ended.status, &ExitCode::SUCCESS);
         assert!(rt; output.starts_with(b"YES 19 19\nKEPT 0\n".as_slice()));
         assert!(rt; output.ends_with(told.as_bytes()));
         assert!(rt; ended.errors.is_empty());
@@ -346,8 +355,8 @@ fn endings(rt: HostRuntime) -> Result<(), Fail> {
         (Ending::Fault(ServeFault::Thread), 1, "farmd: thread\n"),
     ];
     for (ending, status, text) in &endings {
-        assert_eq!(rt; ending.status(), *status);
-        assert_eq!(rt; format!(in rt.alloc(); "{ending}")?.as_str(), *text);
+        assert_same(&rt, &ending.status(), &*status);
+        assert_same(&rt, &format!(in rt.alloc(); "{ending}")?.as_str(), &*text);
     }
     Ok(())
 }

@@ -5,6 +5,8 @@
 #[cfg(test)]
 mod daemon;
 #[cfg(test)]
+mod same;
+#[cfg(test)]
 mod service;
 #[cfg(test)]
 mod streams;

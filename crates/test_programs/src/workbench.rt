@@ -1,5 +1,6 @@
 //! What the program writes and ends with: of runs, of inputs and of command lines that it does not take.
 
+use crate::same::assert_same;
 use crate::streams::{Broken, Ended, Unflushed, Words};
 use std::alloc::{AllocError, Global};
 use std::io::{Read, Write};
@@ -102,8 +103,8 @@ instead  send all its bytes; see that the header counts the rows, initial words 
         let mut output = Vec::new(rt.alloc());
         let mut input = image.as_bytes();
         let ended = ran(rt.alloc(), words, &mut input, &mut output);
-        assert_eq!(rt; str::from_utf8(&output).map_err(|_| "no text")?, told);
-        assert_eq!(rt; ended.status, ExitCode::from(status));
+        assert_same(&rt, &str::from_utf8(&output).map_err(|_| "no text")?, &told);
+        assert_same(&rt, &ended.status, &ExitCode::from(status));
         assert!(rt; ended.errors.is_empty());
     }
     Ok(())
@@ -240,8 +241,8 @@ fn texts_and_images(rt: HostRuntime) -> Result<(), Fail> {
         let mut output = Vec::new(rt.alloc());
         let mut input = input.as_bytes();
         let ended = ran(rt.alloc(), words, &mut input, &mut output);
-        assert_eq!(rt; str::from_utf8(&output).map_err(|_| "no text")?, told);
-        assert_eq!(rt; ended.status, ExitCode::SUCCESS);
+        assert_same(&rt, &str::from_utf8(&output).map_err(|_| "no text")?, &told);
+        assert_same(&rt, &ended.status, &ExitCode::SUCCESS);
         assert!(rt; ended.errors.is_empty());
     }
     Ok(())
@@ -448,8 +449,12 @@ fn help_and_version(rt: HostRuntime) -> Result<(), Fail> {
     for (words, answer) in cases {
         let mut output = Vec::new(rt.alloc());
         let ended = ran(rt.alloc(), words, &mut Broken, &mut output);
-        assert_eq!(rt; str::from_utf8(&output).map_err(|_| "no text")?, answer);
-        assert_eq!(rt; ended.status, ExitCode::SUCCESS);
+        assert_same(
+            &rt,
+            &str::from_utf8(&output).map_err(|_| "no text")?,
+            &answer,
+        );
+        assert_same(&rt, &ended.status, &ExitCode::SUCCESS);
         assert!(rt; ended.errors.is_empty());
     }
     Ok(())
@@ -459,7 +464,7 @@ fn help_and_version(rt: HostRuntime) -> Result<(), Fail> {
 fn tells_a_failed_read(rt: HostRuntime) {
     let mut output = Vec::new(rt.alloc());
     let ended = ran(rt.alloc(), &["tpw", "step"], &mut Broken, &mut output);
-    assert_eq!(rt; ended.status, ExitCode::from(1));
+    assert_same(&rt, &ended.status, &ExitCode::from(1));
     assert!(rt; output.is_empty());
     assert!(rt; ended.errors.as_slice() == b"tpw: read\n".as_slice());
 }
@@ -478,7 +483,7 @@ fn tells_a_failed_write(rt: HostRuntime) {
         let mut input = INCREMENT.as_bytes();
         let unflushed = ran(rt.alloc(), words, &mut input, &mut Unflushed);
         for ended in [broken, unflushed] {
-            assert_eq!(rt; ended.status, ExitCode::from(1));
+            assert_same(&rt, &ended.status, &ExitCode::from(1));
             assert!(rt; ended.errors.as_slice() == b"tpw: write\n".as_slice());
         }
     }
@@ -533,7 +538,7 @@ fn texts(rt: HostRuntime) {
 /// The status of each end of a run that is not run here, and what is told where memory is missing or a word is no text.
 #[test]
 fn endings(rt: HostRuntime) -> Result<(), Fail> {
-    assert_eq!(rt; Status::from(End::Unended), Status::Failed);
+    assert_same(&rt, &Status::from(End::Unended), &Status::Failed);
     let endings = [
         (
             Ending::NotText,
@@ -557,8 +562,8 @@ fn endings(rt: HostRuntime) -> Result<(), Fail> {
         ),
     ];
     for (ending, status, text) in &endings {
-        assert_eq!(rt; ending.status(), *status);
-        assert_eq!(rt; format!(in rt.alloc(); "{ending}")?.as_str(), *text);
+        assert_same(&rt, &ending.status(), &*status);
+        assert_same(&rt, &format!(in rt.alloc(); "{ending}")?.as_str(), &*text);
     }
     Ok(())
 }

@@ -1,6 +1,7 @@
 //! Runs that a device ends, and what they leave.
 
 use super::media::{accepted, all_bits_set, run_packet};
+use crate::same::assert_same;
 use std::alloc::Global;
 use std::process::Abort;
 use std::test::Fail;
@@ -17,15 +18,15 @@ fn refused(link: Link, code: DeviceFault) -> Result<Outcome, LinkFault> {
 
 /// What the source and the sink hold after a run.
 fn assert_left(rt: &impl Abort, media: &Media, source: &[u8], sink: &[u8]) {
-    assert_eq!(rt; media.source.bytes(), source);
-    assert_eq!(rt; media.sink.bytes(), sink);
+    assert_same(rt, &media.source.bytes(), &source);
+    assert_same(rt, &media.sink.bytes(), &sink);
 }
 
 #[test]
 fn a_short_source_keeps_its_bytes(rt: HostRuntime) -> Result<(), Fail> {
     let accepted = accepted(rt.alloc(), INCREMENT)?;
     let (answered, media) = run_packet(rt.alloc(), &mut all_bits_set(), &accepted, &[1, 0, 0])?;
-    assert_eq!(rt; answered, refused(Link::Source, DeviceFault::Short));
+    assert_same(&rt, &answered, &refused(Link::Source, DeviceFault::Short));
     assert_left(&rt, &media, &[1, 0, 0], &[]);
     Ok(())
 }
@@ -34,9 +35,9 @@ fn a_short_source_keeps_its_bytes(rt: HostRuntime) -> Result<(), Fail> {
 fn a_full_trace_refuses(rt: HostRuntime) -> Result<(), Fail> {
     let accepted = accepted(rt.alloc(), TRACES_65_TIMES)?;
     let (answered, media) = run_packet(rt.alloc(), &mut Machine::new(), &accepted, &[0; 4])?;
-    assert_eq!(rt; answered, refused(Link::Trace, DeviceFault::Full));
-    assert_eq!(rt; media.source.bytes().len(), 0);
-    assert_eq!(rt; media.trace.bytes().len(), 256);
+    assert_same(&rt, &answered, &refused(Link::Trace, DeviceFault::Full));
+    assert_same(&rt, &media.source.bytes().len(), &0);
+    assert_same(&rt, &media.trace.bytes().len(), &256);
     Ok(())
 }
 
@@ -63,7 +64,7 @@ fn a_full_and_a_closed_sink_refuse(rt: HostRuntime) -> Result<(), Fail> {
     ] {
         let mut media = Media::with_rooms(rt.alloc(), 256, room, 256)?;
         let answered = run_over(rt.alloc(), &mut media, close)?;
-        assert_eq!(rt; answered, refused(Link::Sink, code));
+        assert_same(&rt, &answered, &refused(Link::Sink, code));
         assert_left(&rt, &media, &[], &[]);
     }
     Ok(())
@@ -87,11 +88,11 @@ fn assert_made_again(
     let mut machine = all_bits_set();
     links.source.send(&[1, 0, 0, 0])?;
     let cut_off = machine.run(accepted, links);
-    assert_eq!(rt; cut_off, refused(Link::Source, DeviceFault::Failed));
-    assert_eq!(rt; (links.source.held(), links.source.faults()), (4, 1));
+    assert_same(rt, &cut_off, &refused(Link::Source, DeviceFault::Failed));
+    assert_same(rt, &(links.source.held(), links.source.faults()), &(4, 1));
     let again = machine.run(accepted, links);
     let error = false;
-    assert_eq!(rt; again, Ok(Outcome { error, steps: 16 }));
+    assert_same(rt, &again, &Ok(Outcome { error, steps: 16 }));
     Ok(())
 }
 

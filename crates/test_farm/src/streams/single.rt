@@ -2,6 +2,7 @@
 ghost use Rattle.std.specs.Prelude.{◌≡◌, All, IfSome};
 ghost use Rattle.tp_board.specs.Streams.{IsHandOf, IsFeederOf};
 
+use crate::same::assert_same;
 use arrayvec::ArrayVec;
 use std::alloc::Global;
 use std::process::Abort;
@@ -198,7 +199,11 @@ fn room_for_thirty_two(rt: HostRuntime) {
             stopped: false,
         },
     };
-    assert_eq!(rt; ledger_after(&rt, rt.alloc(), 40, &steps), Some(wanted));
+    assert_same(
+        &rt,
+        &ledger_after(&rt, rt.alloc(), 40, &steps),
+        &Some(wanted),
+    );
 }
 
 #[test]
@@ -221,7 +226,11 @@ fn full_queue_that_is_stopped(rt: HostRuntime) {
             stopped: true,
         },
     };
-    assert_eq!(rt; ledger_after(&rt, rt.alloc(), 40, &steps), Some(wanted));
+    assert_same(
+        &rt,
+        &ledger_after(&rt, rt.alloc(), 40, &steps),
+        &Some(wanted),
+    );
 }
 
 #[test]
@@ -242,7 +251,11 @@ fn feeder_that_stops(rt: HostRuntime) {
             stopped: true,
         },
     };
-    assert_eq!(rt; ledger_after(&rt, rt.alloc(), 2, &steps), Some(wanted));
+    assert_same(
+        &rt,
+        &ledger_after(&rt, rt.alloc(), 2, &steps),
+        &Some(wanted),
+    );
 }
 
 /// How many hands come back where a stream of two is closed without one of them.
@@ -256,7 +269,7 @@ fn refused_close<R: Wait>(rt: &R, alloc: Global, packets: &[Packet]) -> Option<u
 #[test]
 fn close_without_a_hand(rt: HostRuntime) -> Result<(), Fail> {
     let packets = packets_of(rt.alloc(), 1).ok_or("no memory")?;
-    assert_eq!(rt; refused_close(&rt, rt.alloc(), &packets), Some(1));
+    assert_same(&rt, &refused_close(&rt, rt.alloc(), &packets), &Some(1));
     Ok(())
 }
 
@@ -272,13 +285,13 @@ fn worked<R: Wait + Abort>(
     ensures feeder { IsFeederOf stream.now feeder.new }
     ensures hand { IsHandOf stream.now hand.new }
 {
-    assert_eq!(rt; stream.finish(hand), Err(BoardFault::EmptyHand));
+    assert_same(rt, &stream.finish(hand), &Err(BoardFault::EmptyHand));
     for count in 0..1100 {
         let _ = fed(rt, stream, feeder);
         let Work::Packet { number, .. } = stream.next(rt, hand) else {
             return count;
         };
-        assert_eq!(rt; (number, stream.finish(hand)), (count, Ok(count)));
+        assert_same(rt, &(number, stream.finish(hand)), &(count, Ok(count)));
     }
     1100
 }
@@ -296,7 +309,7 @@ fn one_worked<R: Wait + Abort>(
     ensures feeder { IsFeederOf stream.now feeder.new }
     ensures hand { IsHandOf stream.now result }
 {
-    assert_eq!(rt; worked(rt, stream, feeder, &mut hand), left);
+    assert_same(rt, &worked(rt, stream, feeder, &mut hand), &left);
     hand
 }
 
@@ -330,7 +343,7 @@ fn assert_streams<R: Wait + Abort>(rt: &R, alloc: Global, count: u16, members: u
     let packets = packets_of(alloc, count)?;
     let (stream, mut feeder, hands) = StreamQueue::new(alloc, packets.as_slice(), members).ok()?;
     let back = all_worked(rt, alloc, &stream, &mut feeder, hands, u32::from(count))?;
-    assert_eq!(rt; stream.feed(rt, &mut feeder), Fed::Over);
+    assert_same(rt, &stream.feed(rt, &mut feeder), &Fed::Over);
     let wanted = StreamLedger {
         pushed: u32::from(count),
         ledger: Ledger {
@@ -341,7 +354,7 @@ fn assert_streams<R: Wait + Abort>(rt: &R, alloc: Global, count: u16, members: u
             stopped: false,
         },
     };
-    assert_eq!(rt; closed(rt, stream, feeder, back), Some(wanted));
+    assert_same(rt, &closed(rt, stream, feeder, back), &Some(wanted));
     Some(())
 }
 

@@ -3,6 +3,7 @@ ghost use Rattle.std.specs.Prelude.{◌≡◌, None, All, IfSome};
 ghost use Rattle.tp_board.specs.Streams.{IsHandOf, IsFeederOf};
 
 use super::single::packets_of;
+use crate::same::assert_same;
 use std::alloc::Global;
 use std::sync::Wait;
 use std::test::Fail;
@@ -359,9 +360,9 @@ fn two_take_each_packet_once(rt: HostRuntime) -> Result<(), Fail> {
     all.extend_from_slice(&second)?;
     all.sort()?;
     assert!(rt; all.iter().copied().eq(0..1024));
-    assert_eq!(rt; told.ends, (End::NoMore, End::NoMore));
-    assert_eq!(rt; told.answer, Fed::Over);
-    assert_eq!(rt; told.ledger, ledger_of(1024, 1024, false));
+    assert_same(&rt, &told.ends, &(End::NoMore, End::NoMore));
+    assert_same(&rt, &told.answer, &Fed::Over);
+    assert_same(&rt, &told.ledger, &ledger_of(1024, 1024, false));
     Ok(())
 }
 
@@ -371,9 +372,9 @@ fn hands_stop_a_full_queue(rt: HostRuntime) -> Result<(), Fail> {
     let ways = (Way::Stops, Way::Stops);
     let told = run(&rt, rt.alloc(), 40, ways, Feeding::Feeds).ok_or("not run")?;
     assert!(rt; told.numbers.0.is_empty() && told.numbers.1.is_empty());
-    assert_eq!(rt; told.ends, (End::Stopped, End::Stopped));
-    assert_eq!(rt; told.answer, Fed::Stopped);
-    assert_eq!(rt; told.ledger, ledger_of(32, 0, true));
+    assert_same(&rt, &told.ends, &(End::Stopped, End::Stopped));
+    assert_same(&rt, &told.answer, &Fed::Stopped);
+    assert_same(&rt, &told.ledger, &ledger_of(32, 0, true));
     Ok(())
 }
 
@@ -384,14 +385,18 @@ fn one_hand_stops_and_one_takes(rt: HostRuntime) -> Result<(), Fail> {
     let told = run(&rt, rt.alloc(), 1024, ways, Feeding::Feeds).ok_or("not run")?;
     let StreamLedger { pushed, ledger } = told.ledger;
     let done = ledger.done;
-    assert_eq!(rt; (told.ends.0, told.numbers.0.len()), (End::Stopped, 0));
+    assert_same(
+        &rt,
+        &(told.ends.0, told.numbers.0.len()),
+        &(End::Stopped, 0),
+    );
     assert!(rt; told.ends.1 != End::Wrong);
     assert!(rt; told.numbers.1.iter().copied().eq(0..done));
     assert!(rt;
         done <= pushed && pushed <= done.saturating_add(32),
         "{done} {pushed}"
     );
-    assert_eq!(rt; told.ledger, ledger_of(pushed, done, true));
+    assert_same(&rt, &told.ledger, &ledger_of(pushed, done, true));
     Ok(())
 }
 
@@ -401,8 +406,8 @@ fn a_feeder_stops_an_empty_queue(rt: HostRuntime) -> Result<(), Fail> {
     let ways = (Way::Takes, Way::Takes);
     let told = run(&rt, rt.alloc(), 1024, ways, Feeding::Stops).ok_or("not run")?;
     assert!(rt; told.numbers.0.is_empty() && told.numbers.1.is_empty());
-    assert_eq!(rt; told.ends, (End::Stopped, End::Stopped));
-    assert_eq!(rt; told.answer, Fed::Stopped);
-    assert_eq!(rt; told.ledger, ledger_of(0, 0, true));
+    assert_same(&rt, &told.ends, &(End::Stopped, End::Stopped));
+    assert_same(&rt, &told.answer, &Fed::Stopped);
+    assert_same(&rt, &told.ledger, &ledger_of(0, 0, true));
     Ok(())
 }

@@ -1,5 +1,6 @@
 //! Command lines, with the members and the trace flag that they ask for, and the kinds of error that others come to.
 
+use crate::same::assert_same;
 use clap::error::ErrorKind as Kind;
 use std::alloc::Global;
 use std::test::Fail;
@@ -27,7 +28,7 @@ fn reads_options(rt: HostRuntime) -> Result<(), Fail> {
         (["farmd", "--trace", "--members=3"].as_slice(), 3, true),
     ];
     for (words, members, trace) in cases {
-        assert_eq!(rt; asked(rt.alloc(), words), Ok((members, trace)));
+        assert_same(&rt, &asked(rt.alloc(), words), &Ok((members, trace)));
     }
     Ok(())
 }
@@ -56,6 +57,6 @@ fn tells_kinds(rt: HostRuntime) {
         (["farmd", "--version"].as_slice(), Kind::DisplayVersion),
     ];
     for (words, kind) in cases {
-        assert_eq!(rt; asked(rt.alloc(), words), Err(kind));
+        assert_same(&rt, &asked(rt.alloc(), words), &Err(kind));
     }
 }

@@ -1,5 +1,6 @@
 //! What is written and flushed at full size.
 
+use crate::same::assert_same;
 use crate::service::listings::{long_line, long_listing};
 use crate::service::streams::{flushes_of, read_fails_as};
 use std::alloc::{AllocError, Global};
@@ -12,7 +13,7 @@ fn the_longest_listing_is_flushed_once(rt: HostRuntime) -> Result<(), Fail> {
     let wanted = long_listing(rt.alloc(), 16_381)?;
     let writer = flushes_of(&rt, rt.alloc(), 1, &input)?;
     assert!(rt; writer.taken.as_slice() == wanted.as_bytes());
-    assert_eq!(rt; writer.flushes.as_slice(), [wanted.len()].as_slice());
+    assert_same(&rt, &writer.flushes.as_slice(), &[wanted.len()].as_slice());
     Ok(())
 }
 
@@ -63,9 +64,9 @@ fn a_full_batch_is_flushed_once(rt: HostRuntime) -> Result<(), Fail> {
     let [first @ .., before, last] = writer.flushes.as_slice() else {
         return Err(Fail::from("too few flushes"));
     };
-    assert_eq!(rt; first.len(), 1024);
-    assert_eq!(rt; *before, kept.len());
-    assert_eq!(rt; *last, kept.len().saturating_add(results.len()));
+    assert_same(&rt, &first.len(), &1024);
+    assert_same(&rt, &*before, &kept.len());
+    assert_same(&rt, &*last, &kept.len().saturating_add(results.len()));
     assert!(rt; writer.taken.starts_with(kept.as_bytes()));
     assert!(rt; writer.taken.ends_with(results.as_bytes()));
     Ok(())

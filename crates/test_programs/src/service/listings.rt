@@ -1,5 +1,6 @@
 //! Listings, and lines of any length.
 
+use crate::same::assert_same;
 use crate::service::farms::answers;
 use std::alloc::{AllocError, Global};
 use std::test::Fail;
@@ -81,7 +82,7 @@ pub(crate) fn long_listing(alloc: Global, instructions: u32) -> Result<String, A
 #[test]
 fn the_longest_line(rt: HostRuntime) -> Result<(), Fail> {
     let input = two_listings(rt.alloc(), 16_381, b"\r\n")?;
-    assert_eq!(rt; input.len(), 32_779);
+    assert_same(&rt, &input.len(), &32_779);
     let mut wanted = long_listing(rt.alloc(), 16_381)?;
     wanted.push_str("0 604f ldc -1\nDONE 1\n")?;
     assert!(rt; answers(&rt, rt.alloc(), 1, &input, wanted.as_bytes())?);
@@ -91,7 +92,7 @@ fn the_longest_line(rt: HostRuntime) -> Result<(), Fail> {
 #[test]
 fn a_line_too_long(rt: HostRuntime) -> Result<(), Fail> {
     let input = two_listings(rt.alloc(), 16_382, b"\n")?;
-    assert_eq!(rt; input.len(), 32_780);
+    assert_same(&rt, &input.len(), &32_780);
     let wanted = b"NO E1 1\n0 604f ldc -1\nDONE 1\n";
     assert!(rt; answers(&rt, rt.alloc(), 1, &input, wanted)?);
     Ok(())

@@ -1,5 +1,6 @@
 //! Members beside one another: each member of a farm serves, in each batch.
 
+use crate::same::assert_same;
 use crate::service::cases::INCREMENT;
 use crate::service::farms::push_line;
 use std::alloc::{AllocError, Global};
@@ -169,9 +170,10 @@ fn each_member_serves(rt: HostRuntime) -> Result<(), Fail> {
         let done = format!(in rt.alloc(); " 0 16 02000000\nDONE {members}\n")?;
         assert!(rt; written.ends_with(done.as_bytes()));
         assert_eq!(rt; meeting.ran_out.load(Ordering::SeqCst), 0, "{members}");
-        assert_eq!(rt;
-            meeting.come.load(Ordering::SeqCst),
-            members.saturating_mul(2)
+        assert_same(
+            &rt,
+            &meeting.come.load(Ordering::SeqCst),
+            &members.saturating_mul(2),
         );
     }
     Ok(())

@@ -1,5 +1,6 @@
 //! Readers and writers that give and take little at a time, or fail.
 
+use crate::same::assert_same;
 use crate::service::farms::{answers, serve_on};
 use std::alloc::Global;
 use std::io;
@@ -121,7 +122,7 @@ fn served_by_bytes<T: Threads + Wait + Sync>(
 fn a_byte_at_a_time(rt: HostRuntime) -> Result<(), Fail> {
     let writer = served_by_bytes(&rt, rt.alloc(), 1, INPUT)?;
     assert!(rt; writer.taken.as_slice() == OUTPUT);
-    assert_eq!(rt; writer.calls, 60);
+    assert_same(&rt, &writer.calls, &60);
     assert!(rt; answers(&rt, rt.alloc(), 1, INPUT, OUTPUT)?);
     Ok(())
 }
@@ -146,7 +147,11 @@ pub(crate) fn flushes_of<T: Threads + Wait + Sync>(
 fn each_answer_is_flushed(rt: HostRuntime) -> Result<(), Fail> {
     let writer = flushes_of(&rt, rt.alloc(), 1, INPUT)?;
     assert!(rt; writer.taken.as_slice() == OUTPUT);
-    assert_eq!(rt; writer.flushes.as_slice(), [21, 29, 48, 56].as_slice());
+    assert_same(
+        &rt,
+        &writer.flushes.as_slice(),
+        &[21, 29, 48, 56].as_slice(),
+    );
     Ok(())
 }
 
@@ -249,7 +254,7 @@ fn told_after(read: usize) -> usize {
 fn a_session_a_byte_at_a_time(rt: HostRuntime) -> Result<(), Fail> {
     let writer = served_by_bytes(&rt, rt.alloc(), 4, SESSION)?;
     assert!(rt; writer.taken.as_slice() == TOLD);
-    assert_eq!(rt; writer.calls, 105);
+    assert_same(&rt, &writer.calls, &105);
     Ok(())
 }
 
