@@ -3,8 +3,10 @@
 use crate::answer::{Answer, Tally, same_if};
 use crate::batch::batch;
 use crate::page::Page;
+use crate::words::Words;
 use arrayvec::ArrayVec;
-use std::alloc::{AllocError, Global};
+use std::alloc::Global;
+use std::process::ExitCode;
 use std::sync::Wait;
 use std::thread::Threads;
 use tp_accept::{Refusal, accept};
@@ -14,10 +16,10 @@ use tp_collect::Collector;
 use tp_decode::{DecodeFault, Instr, Listing, decode};
 use tp_flow::check_flow;
 use tp_image::{Image, ImageFault, read_image, upgrade, write_image};
-use tp_link::{LinkDevice, Links, Medium, OwnedWire, Wire};
+use tp_link::{LinkDevice, Medium, OwnedWire, Wire};
+use tp_program::run;
 pub(crate) use tp_samples::INCREMENT;
 use tp_samples::STORES_BY_TWO_WAYS;
-use tp_session::{Farm, ServeFault, serve};
 use tp_state::{Cell, StateFault};
 
 /// Makes every call, and counts the answers.
@@ -52,64 +54,31 @@ const BEFORE: [usize; 11] = [0, 21, 29, 78, 86, 94, 104, 111, 118, 125, 186];
 /// And before each line that asks for a run.
 const BEFORE_RUNS: [usize; 2] = [125, 186];
 
-/// A farm of one member.
-fn farm<'a>(
-    alloc: Global,
-    source: &'a mut Medium,
-    sink: &'a mut Medium,
-    trace: &'a mut Medium,
-) -> Result<Farm<Wire<'a>>, AllocError> {
-    let mut links = Vec::new(alloc);
-    links.push(Links {
-        source: Wire::new(source),
-        sink: Wire::new(sink),
-        trace: Wire::new(trace),
-    })?;
-    Ok(Farm::new(links, false))
-}
-
-/// Serving, over a farm of one member, and how much is written.
+/// The program `farmd` from its words to its status, and how much is written. After Memory, and where a thread was refused for
+/// it, the answers to some of the first lines are written, each of them whole, and the fault is told.
 fn served<T: Threads + Wait + Sync>(rt: &T, alloc: Global) -> (Answer, usize) {
-    let Ok(mut source) = Medium::new(alloc, 256) else {
-        return (Answer::Memory, 0);
-    };
-    let Ok(mut sink) = Medium::new(alloc, 256) else {
-        return (Answer::Memory, 0);
-    };
-    let Ok(mut trace) = Medium::new(alloc, 256) else {
-        return (Answer::Memory, 0);
-    };
-    match farm(alloc, &mut source, &mut sink, &mut trace) {
-        Ok(farm) => served_on(rt, alloc, farm),
-        Err(_) => (Answer::Memory, 0),
-    }
-}
-
-/// Serving, and how much is written. After Memory, and where a thread was refused for it, the answers to some of the first
-/// lines are written, each of them whole.
-fn served_on<T: Threads + Wait + Sync>(
-    rt: &T,
-    alloc: Global,
-    farm: Farm<Wire<'_>>,
-) -> (Answer, usize) {
     let mut reader = INPUT;
     let mut page = Page::new();
-    let result = serve(rt, alloc, &mut reader, &mut page, farm);
-    let written = page.written();
-    let answer = match result {
-        Ok(()) => same_if(written == OUTPUT),
-        Err(fault) if OUTPUT.starts_with(written) => want_at(fault, written.len()),
-        Err(_) => Answer::Other,
+    let mut errors = Page::new();
+    let words = Words(&["farmd"]);
+    let status = run(rt, &words, alloc, &mut reader, &mut page, &mut errors);
+    let (written, fault) = (page.written(), errors.written());
+    let answer = if fault.is_empty() {
+        same_if(status == ExitCode::SUCCESS && written == OUTPUT)
+    } else if status == ExitCode::from(1) && OUTPUT.starts_with(written) {
+        want_at(fault, written.len())
+    } else {
+        Answer::Other
     };
     (answer, written.len())
 }
 
-/// A fault after so much was written. A line for which a thread was refused asks for a run.
-fn want_at(fault: ServeFault, written: usize) -> Answer {
-    let is_want = match fault {
-        ServeFault::Memory => BEFORE.contains(&written),
-        ServeFault::Thread => BEFORE_RUNS.contains(&written),
-        _ => false,
+/// A fault that is told after so much was written. A line for which a thread was refused asks for a run.
+fn want_at(fault: &[u8], written: usize) -> Answer {
+    let is_want = if fault == b"farmd: thread\n".as_slice() {
+        BEFORE_RUNS.contains(&written)
+    } else {
+        fault == b"farmd: memory\n".as_slice() && BEFORE.contains(&written)
     };
     if is_want {
         Answer::Memory

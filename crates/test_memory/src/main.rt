@@ -14,6 +14,7 @@ mod calls;
 mod page;
 mod told;
 mod tools;
+mod words;
 
 use std::alloc::Global;
 use std::io;

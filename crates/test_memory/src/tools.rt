@@ -3,35 +3,10 @@
 use crate::answer::{Answer, Tally, same_if};
 use crate::page::Page;
 use crate::told::{CASES, Case};
+use crate::words::Words;
 use std::alloc::Global;
-use std::env::{Env, FillError};
 use std::process::ExitCode;
 use tp_workbench::run;
-
-/// The words of a command line.
-#[derive(Drop)]
-struct Words<'a>(&'a [&'a str]);
-
-impl Env for Words<'_> {
-    fn arg(&self, i: usize, buf: &mut [u8]) -> Result<usize, FillError> {
-        let Some(word) = self.0.get(i) else {
-            return Err(FillError::NotPresent);
-        };
-        if buf.len() < word.len() {
-            return Err(FillError::TooLong);
-        }
-        buf[..word.len()].copy_from_slice(word.as_bytes());
-        Ok(word.len())
-    }
-
-    fn var(&self, _name: &str, _buf: &mut [u8]) -> Result<usize, FillError> {
-        Err(FillError::NotPresent)
-    }
-
-    fn var_at(&self, _i: usize, _buf: &mut [u8]) -> Result<usize, FillError> {
-        Err(FillError::NotPresent)
-    }
-}
 
 /// What a command answers, and how much it has written. After Memory that is how its text begins, and its fault is told.
 fn answer(alloc: Global, case: &Case<'_>) -> (Answer, usize) {
