@@ -48,12 +48,25 @@ pub(crate) fn judge<R: Runtime<A = Global>>(
     let Ok(listing) = decode(rt.alloc(), &image.code) else {
         bail!("no listing");
     };
-    check_flow(&image, &listing).map_err(|fault| anyhow!("{fault}"))?;
+    judge_often(rt, name, &image, &listing, rounds)
+}
+
+/// Prints what is found of an image that is judged so often.
+fn judge_often<R: Runtime<A = Global>>(
+    rt: &R,
+    name: &str,
+    image: &Image,
+    listing: &Listing,
+    rounds: u32,
+) -> Result<()>
+    requires { IsCutting image.now.code listing.now }
+{
+    check_flow(image, listing).map_err(|fault| anyhow!("{fault}"))?;
     for _ in 1..rounds {
-        judged(rt.alloc(), &image, &listing);
+        judged(rt.alloc(), image, listing);
     }
     if rounds > 0
-        && let Some(Found { states, effort }) = judged(rt.alloc(), &image, &listing)
+        && let Some(Found { states, effort }) = judged(rt.alloc(), image, listing)
     {
         let Effort { passes, outcomes } = effort;
         let ending = Ending { states };

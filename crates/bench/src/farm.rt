@@ -133,7 +133,7 @@ fn run_from<R: Runtime<A = Global> + Threads + Wait + Sync>(
     }
 }
 
-/// Runs one batch, timed from its call to its answer.
+/// Runs one batch of so many packets.
 fn run_batch_of<R: Runtime<A = Global> + Threads + Wait + Sync>(
     rt: &R,
     image: &Accepted,
@@ -148,11 +148,24 @@ fn run_batch_of<R: Runtime<A = Global> + Threads + Wait + Sync>(
         image,
         packets: &packets,
     };
+    run_job(rt, &job, members, source, is_timed)
+}
+
+/// Runs a job's batch, timed from its call to its answer.
+fn run_job<R: Runtime<A = Global> + Threads + Wait + Sync>(
+    rt: &R,
+    job: &Job<'_>,
+    members: u32,
+    source: Source,
+    is_timed: bool,
+) -> Result<Run> {
     let links = links(rt.alloc(), members)?;
     let start = Instant::now(rt)?;
-    let batch = run_from(rt, &job, links, source).map_err(|fault| anyhow!("{fault}"))?;
-    let took = Took::since(rt, start, is_timed, "all")?;
+    let batch = run_from(rt, job, links, source).map_err(|fault| anyhow!("{fault}"))?;
+    let took = Took::since(rt, start, is_timed, "all");
     let (done, sum) = count(&batch.collected);
+    drop(batch);
+    let took = took?;
     Ok(Run { done, sum, took })
 }
 
@@ -189,7 +202,9 @@ pub(crate) fn run_once<R: Runtime<A = Global> + Threads + Wait + Sync>(
     source: Source,
 ) -> Result<()> {
     let image = accepted(rt.alloc(), &workers::HEAVY)?;
-    let Run { done, sum, .. } = run_batch_of(rt, &image, TIMED_PACKETS, 4, source, false)?;
+    let run = run_batch_of(rt, &image, TIMED_PACKETS, 4, source, false);
+    drop(image);
+    let Run { done, sum, .. } = run?;
     println!(rt; "{source}: {done} packets done, sum of results {sum}")?;
     Ok(())
 }

@@ -26,20 +26,39 @@ pub(crate) fn measure<R: Runtime<A = Global>>(rt: &R, is_timed: bool) -> Result<
 
 /// Prints of one code what is counted, and what all rounds took.
 fn told<R: Runtime<A = Global>>(rt: &R, name: &str, fill: [u8; 8], is_timed: bool) -> Result<()> {
-    let bytes = sample::image_bytes(rt.alloc(), fill)?;
-    let image = read_image(rt.alloc(), bytes.as_slice())?;
+    let image = image_of(rt.alloc(), fill)?;
     let Ok(listing) = decode(rt.alloc(), &image.code) else {
         bail!("no listing");
     };
+    told_of(rt, name, &image, &listing, is_timed)
+}
+
+fn image_of(alloc: Global, fill: [u8; 8]) -> Result<Image> {
+    let bytes = sample::image_bytes(alloc, fill)?;
+    let image = read_image(alloc, bytes.as_slice());
+    drop(bytes);
+    Ok(image?)
+}
+
+/// Prints of a listing what is counted, and what all rounds took.
+fn told_of<R: Runtime<A = Global>>(
+    rt: &R,
+    name: &str,
+    image: &Image,
+    listing: &Listing,
+    is_timed: bool,
+) -> Result<()>
+    requires { IsCutting image.now.code listing.now }
+{
     let rounds = if is_timed { TIMED_ROUNDS } else { 1 };
     let start = Instant::now(rt)?;
-    let by_number = mixed_by_number(&listing, rounds);
+    let by_number = mixed_by_number(listing, rounds);
     let number = Took::since(rt, start, is_timed, "by number")?;
     let start = Instant::now(rt)?;
-    let by_address = mixed_by_address(&listing, rounds);
+    let by_address = mixed_by_address(listing, rounds);
     let address = Took::since(rt, start, is_timed, "by address")?;
     let start = Instant::now(rt)?;
-    let passed = passed(&image, &listing, rounds)?;
+    let passed = passed(image, listing, rounds)?;
     let check = Took::since(rt, start, is_timed, "check_flow")?;
     let alike = by_number == by_address;
     println!(rt; "{name}: both loops alike {alike}, {passed} passed{check}{number}{address}")?;

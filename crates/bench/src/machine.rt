@@ -43,13 +43,13 @@ fn accepted(alloc: Global, worker: &Worker) -> Result<Accepted> {
 pub(crate) fn turns<R: Runtime<A = Global>>(rt: &R) -> Result<()> {
     let [worker, ..] = &WORKERS;
     let accepted = accepted(rt.alloc(), worker)?;
+    turns_of(rt, worker, &accepted)
+}
+
+fn turns_of<R: Runtime<A = Global>>(rt: &R, worker: &Worker, accepted: &Accepted) -> Result<()> {
     let packet = accepted.packet_bytes();
-    let run = rounds(
-        rt.alloc(),
-        &mut machine_with(&accepted),
-        packet,
-        ROUNDS_ALONE,
-    )?;
+    let machine = &mut machine_with(accepted);
+    let run = rounds(rt.alloc(), machine, packet, ROUNDS_ALONE)?;
     println!(rt; "{}: {} instruction bytes", worker.name, run.counted)?;
     Ok(())
 }

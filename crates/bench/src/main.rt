@@ -17,17 +17,14 @@ use anyhow::{Result, anyhow, bail};
 use std::alloc::Global;
 use std::env;
 use std::rt::Runtime;
+use std::sync::Wait;
+use std::thread::Threads;
 
 fn main(rt: HostRuntime) -> Result<()> {
     let mut words = env::args(&rt)?;
     let Some(word) = words.nth(1) else {
-        flow::measure(&rt, false)?;
-        states::measure(&rt, false)?;
-        check::measure(&rt)?;
-        accept::measure(&rt)?;
-        machine::measure(&rt, false)?;
-        board::measure(&rt, false)?;
-        return farm::measure(&rt, false);
+        drop(words);
+        return all_in_small(&rt);
     };
     match word.as_str() {
         "flow" => flow::measure(&rt, true),
@@ -51,6 +48,17 @@ fn main(rt: HostRuntime) -> Result<()> {
             "the words are flow, states, check, judge, accept, machine, turns, board, farm, farm-queue, farm-board"
         ),
     }
+}
+
+/// Each measurement once, in small.
+fn all_in_small<R: Runtime<A = Global> + Threads + Wait + Sync>(rt: &R) -> Result<()> {
+    flow::measure(rt, false)?;
+    states::measure(rt, false)?;
+    check::measure(rt)?;
+    accept::measure(rt)?;
+    machine::measure(rt, false)?;
+    board::measure(rt, false)?;
+    farm::measure(rt, false)
 }
 
 /// Measures what a word names of an image whose bytes are told in hexadecimal.

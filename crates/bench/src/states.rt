@@ -4,6 +4,7 @@
 //! A thousand rounds are made, or millions, with the time that they took.
 
 ghost use Rattle.std.specs.Prelude.{◌≡◌, length};
+ghost use Rattle.tp_decode.specs.Cutting.{IsCutting};
 ghost use Rattle.tp_flow.specs.NestRanges.{ranges};
 ghost use Rattle.tp_state.specs.Conditions.{IsPlaced, HasGoodLoops};
 
@@ -12,7 +13,7 @@ use anyhow::{Result, anyhow, bail};
 use std::alloc::Global;
 use std::rt::Runtime;
 use std::time::Instant;
-use tp_decode::{Instr, decode};
+use tp_decode::{Instr, Listing, decode};
 use tp_flow::{Edge, Nest, check_flow};
 use tp_image::{Image, read_image};
 use tp_samples::INCREMENT;
@@ -38,28 +39,83 @@ fn measure_rules<R: Runtime<A = Global>>(rt: &R, is_timed: bool) -> Result<()> {
     let Ok(listing) = decode(rt.alloc(), &image.code) else {
         bail!("no listing");
     };
-    let nest = check_flow(&image, &listing).map_err(|fault| anyhow!("{fault}"))?;
-    let mut state = State::entry(rt.alloc(), &image)?;
+    told_of(rt, &image, &listing, is_timed)
+}
+
+/// Prints how many instructions pass.
+fn told_of<R: Runtime<A = Global>>(
+    rt: &R,
+    image: &Image,
+    listing: &Listing,
+    is_timed: bool,
+) -> Result<()>
+    requires { IsCutting image.now.code listing.now }
+{
+    let nest = check_flow(image, listing).map_err(|fault| anyhow!("{fault}"))?;
+    told_along(rt, image, &nest, is_timed)
+}
+
+/// Prints how many instructions pass along a nest.
+fn told_along<R: Runtime<A = Global>>(
+    rt: &R,
+    image: &Image,
+    nest: &Nest,
+    is_timed: bool,
+) -> Result<()>
+    requires good { HasGoodLoops image.now }
+    requires nest { nest.now ≡ ranges image.now.loops }
+{
+    let mut state = State::entry(rt.alloc(), image)?;
+    let (passed, took) = passed_in(rt, &mut state, image, nest, is_timed)?;
+    let word = state.cells.get(8);
+    Ok(println!(rt; "ldl, adc, stl: {passed} instructions passed, word 8 is {word:?}{took}")?)
+}
+
+/// How many instructions pass, and what all rounds took.
+fn passed_in<R: Runtime<A = Global>>(
+    rt: &R,
+    state: &mut State,
+    image: &Image,
+    nest: &Nest,
+    is_timed: bool,
+) -> Result<(u64, Took)>
+    requires placed { IsPlaced image.now state.old }
+    requires good { HasGoodLoops image.now }
+    requires nest { nest.now ≡ ranges image.now.loops }
+{
     let rounds = if is_timed { TIMED_ROUNDS } else { FEW_ROUNDS };
     let start = Instant::now(rt)?;
-    let passed = count_passed(&mut state, &image, &nest, rounds);
+    let passed = count_passed(state, image, nest, rounds);
     let took = Took::since(rt, start, is_timed, "all")?;
-    let word = state.cells.get(8);
-    println!(rt; "ldl, adc, stl: {passed} instructions passed, word 8 is {word:?}{took}")?;
-    Ok(())
+    Ok((passed, took))
 }
 
 fn measure_meetings<R: Runtime<A = Global>>(rt: &R, is_timed: bool) -> Result<()> {
     let image = read_image(rt.alloc(), WIDE)?;
     let mut state = State::entry(rt.alloc(), &image)?;
+    drop(image);
     let first = state.copy_of(rt.alloc())?;
     let second = state.copy_of(rt.alloc())?;
+    meetings_told(rt, &mut state, &first, &second, is_timed)
+}
+
+/// Prints how many joins change nothing, and how many comparisons hold.
+fn meetings_told<R: Runtime<A = Global>>(
+    rt: &R,
+    state: &mut State,
+    first: &State,
+    second: &State,
+    is_timed: bool,
+) -> Result<()>
+    requires first { length first.now.cells ≡ length state.old.cells }
+    requires second { length second.now.cells ≡ length first.now.cells }
+{
     let rounds = if is_timed { TIMED_MEETINGS } else { FEW_ROUNDS };
     let start = Instant::now(rt)?;
-    let unchanged = count_unchanged(&mut state, &first, rounds);
+    let unchanged = count_unchanged(state, first, rounds);
     let joined = Took::since(rt, start, is_timed, "joined")?;
     let start = Instant::now(rt)?;
-    let below = count_below(&first, &second, &first, rounds);
+    let below = count_below(first, second, first, rounds);
     let compared = Took::since(rt, start, is_timed, "compared")?;
     println!(rt;
         "512 words: {unchanged} joins changed nothing, {below} comparisons held{joined}{compared}"

@@ -81,13 +81,22 @@ pub(crate) fn rounds<M: Runs>(
     count: u32,
 ) -> Result<Run> {
     let mut media = Media::new(alloc, MESSAGE_BYTES)?;
-    let mut links = media.wires();
+    rounds_over(machine, &mut media.wires(), packet, count)
+}
+
+/// So many rounds over these wires.
+fn rounds_over<M: Runs>(
+    machine: &mut M,
+    links: &mut Links<Wire<'_>>,
+    packet: usize,
+    count: u32,
+) -> Result<Run> {
     let mut run = Run {
         counted: 0,
         result_word: 0,
     };
     for _ in 0..count {
-        let (word, steps) = round(machine, &mut links, packet)?;
+        let (word, steps) = round(machine, links, packet)?;
         run.counted = run.counted.saturating_add(u64::from(steps));
         run.result_word = word;
     }
