@@ -3,8 +3,6 @@
 //! One image is accepted once, and its code bytes, its budget and the passes over its states are printed; or it is accepted many
 //! times, and what that took is printed. `bench/images.py` makes the images.
 
-ghost use Rattle.tp_decode.specs.Cutting.{IsCutting};
-
 use crate::took::Took;
 use anyhow::{Result, anyhow};
 use std::alloc::Global;
@@ -12,7 +10,7 @@ use std::rt::Runtime;
 use std::time::Instant;
 use tp_accept::accept;
 use tp_check::{Effort, check_states_counting};
-use tp_decode::{Listing, decode};
+use tp_decode::decode;
 use tp_flow::check_flow;
 use tp_image::{Image, read_image};
 use tp_samples::INCREMENT;
@@ -65,15 +63,9 @@ fn decoding_of<R: Runtime<A = Global>>(rt: &R, image: &Image, rounds: u32) -> Re
 /// How many passes are made over the states of an image. `accept` does not tell, so they are made once more.
 fn passes_over(alloc: Global, image: &Image) -> Result<u64> {
     let listing = decode(alloc, &image.code).map_err(|fault| anyhow!("{fault}"))?;
-    passes_along(alloc, image, &listing)
-}
-
-fn passes_along(alloc: Global, image: &Image, listing: &Listing) -> Result<u64>
-    requires { IsCutting image.now.code listing.now }
-{
-    let nest = check_flow(image, listing).map_err(|fault| anyhow!("{fault}"))?;
+    let nest = check_flow(image, &listing).map_err(|fault| anyhow!("{fault}"))?;
     let mut effort = Effort::default();
-    check_states_counting(alloc, image, listing, &nest, &mut effort).map_err(|fault| anyhow!(
+    check_states_counting(alloc, image, &listing, &nest, &mut effort).map_err(|fault| anyhow!(
         "{fault}"
     ))?;
     Ok(effort.passes)
