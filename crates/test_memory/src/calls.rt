@@ -60,7 +60,7 @@ fn served<T: Threads + Wait + Sync>(rt: &T, alloc: Global) -> (Answer, usize) {
     let mut reader = INPUT;
     let mut page = Page::new();
     let mut errors = Page::new();
-    let words = Words(&["farmd"]);
+    let words = Words(&["farmd", "--members", "1"]);
     let status = run(rt, &words, alloc, &mut reader, &mut page, &mut errors);
     let (written, fault) = (page.written(), errors.written());
     let answer = if fault.is_empty() {
