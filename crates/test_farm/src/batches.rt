@@ -4,7 +4,7 @@ use std::alloc::{AllocError, Global};
 use std::sync::Wait;
 use std::test::Fail;
 use std::thread::Threads;
-use tp_accept::{Accepted, accept};
+use tp_accept::accept;
 use tp_board::Packet;
 use tp_collect::{Collected, Done, Entry, LostCause};
 use tp_farm::{Batch, FarmFault, Gate, Job, run_batch};
@@ -66,11 +66,6 @@ pub(crate) fn count_up(alloc: Global, count: u32) -> Result<Vec<u32>, AllocError
     Ok(words)
 }
 
-/// An image that is accepted.
-pub(crate) fn accepted(alloc: Global, image: &[u8]) -> Result<Accepted, Fail> {
-    Ok(accept(alloc, Vec::from_slice(alloc, image)?)?)
-}
-
 /// The batch of these packets, when an image's worker runs on them, or what it is refused with.
 pub(crate) fn batch_of<R: Threads + Wait + Sync, D: LinkDevice + Send, G: Gate>(
     rt: &R,
@@ -80,21 +75,13 @@ pub(crate) fn batch_of<R: Threads + Wait + Sync, D: LinkDevice + Send, G: Gate>(
     links: Vec<Links<D>>,
     gate: &G,
 ) -> Result<Result<Batch<D>, FarmFault>, Fail> {
-    let image = match accepted(alloc, image) {
-        Ok(image) => image,
-        Err(fail) => {
-            drop(links);
-            return Err(fail);
-        }
-    };
+    let image = accept(alloc, Vec::from_slice(alloc, image)?)?;
     let job = Job {
         batch: BATCH,
         image: &image,
         packets,
     };
-    let batch = run_batch(rt, alloc, &job, links, gate);
-    drop(image);
-    Ok(batch)
+    Ok(run_batch(rt, alloc, &job, links, gate))
 }
 
 /// The batch of packets of one word each, when an image's worker runs on them.
@@ -106,16 +93,8 @@ pub(crate) fn batch_on<R: Threads + Wait + Sync, D: LinkDevice + Send, G: Gate>(
     links: Vec<Links<D>>,
     gate: &G,
 ) -> Result<Batch<D>, Fail> {
-    let packets = match packets(alloc, words) {
-        Ok(packets) => packets,
-        Err(fail) => {
-            drop(links);
-            return Err(fail);
-        }
-    };
-    let batch = batch_of(rt, alloc, image, &packets, links, gate);
-    drop(packets);
-    Ok(batch??)
+    let packets = packets(alloc, words)?;
+    Ok(batch_of(rt, alloc, image, &packets, links, gate)??)
 }
 
 /// What becomes of these packets.
@@ -127,9 +106,7 @@ pub(crate) fn run_on<R: Threads + Wait + Sync, D: LinkDevice + Send, G: Gate>(
     links: Vec<Links<D>>,
     gate: &G,
 ) -> Result<Collected, Fail> {
-    let batch = batch_on(rt, alloc, image, words, links, gate)?;
-    drop(batch.links);
-    Ok(batch.collected)
+    Ok(batch_on(rt, alloc, image, words, links, gate)?.collected)
 }
 
 /// What is told of these packets where one member runs them.
@@ -143,9 +120,7 @@ pub(crate) fn told_by_one<R: Threads + Wait + Sync, D: LinkDevice + Send, G: Gat
 ) -> Result<Vec<Told>, Fail> {
     let links = alone(alloc, links)?;
     let collected = run_on(rt, alloc, image, words, links, gate)?;
-    let all = all_told(alloc, &collected);
-    drop(collected);
-    Ok(all?)
+    Ok(all_told(alloc, &collected)?)
 }
 
 /// What becomes of the increments of these words, by so many members.
@@ -157,19 +132,7 @@ pub(crate) fn increments_by<R: Threads + Wait + Sync, G: Gate>(
     gate: &G,
 ) -> Result<Collected, Fail> {
     let mut media = media_of(alloc, members, ROOM)?;
-    let collected = increments_over(rt, alloc, words, &mut media, gate);
-    drop(media);
-    collected
-}
-
-fn increments_over<R: Threads + Wait + Sync, G: Gate>(
-    rt: &R,
-    alloc: Global,
-    words: &[u32],
-    media: &mut [Media],
-    gate: &G,
-) -> Result<Collected, Fail> {
-    let links = boxed(alloc, media)?;
+    let links = boxed(alloc, &mut media)?;
     run_on(rt, alloc, INCREMENT, words, links, gate)
 }
 
@@ -183,11 +146,6 @@ pub(crate) fn failing(media: &mut Media, calls: [u64; 3]) -> Links<FaultyWire<'_
         sink: FaultyWire::new(&mut media.sink, calls[1]),
         trace: FaultyWire::new(&mut media.trace, calls[2]),
     }
-}
-
-/// Whether that is told.
-pub(crate) fn is_told(all: Vec<Told>, wanted: &[Told]) -> bool {
-    all.as_slice() == wanted
 }
 
 /// All three devices have ended.

@@ -1,6 +1,6 @@
 //! Devices that fail in one call, are closed, or lack room.
 
-use crate::batches::{ROOM, Told, failing, have_ended, is_told, told_by_one};
+use crate::batches::{ROOM, Told, failing, have_ended, told_by_one};
 use std::alloc::Global;
 use std::sync::Wait;
 use std::test::Fail;
@@ -21,10 +21,8 @@ fn fails_as<R: Threads + Wait + Sync>(
 ) -> Result<bool, Fail> {
     let mut media = Media::new(alloc, ROOM)?;
     let links = failing(&mut media, calls);
-    let all = told_by_one(rt, alloc, INCREMENT, &[1, 1], links, &OpenGate);
-    let ended = have_ended(&media);
-    drop(media);
-    Ok(is_told(all?, wanted.as_slice()) && ended)
+    let all = told_by_one(rt, alloc, INCREMENT, &[1, 1], links, &OpenGate)?;
+    Ok(all.as_slice() == wanted.as_slice() && have_ended(&media))
 }
 
 #[test]
@@ -76,7 +74,7 @@ fn a_trace_fails(rt: HostRuntime) -> Result<(), Fail> {
         ([0, 2, 2], sink),
     ] {
         let all = traced(&rt, rt.alloc(), calls)?;
-        assert!(rt; is_told(all, [wanted].as_slice()), "{calls:?}");
+        assert!(rt; all.as_slice() == [wanted].as_slice(), "{calls:?}");
     }
     Ok(())
 }
@@ -116,12 +114,11 @@ fn empties_as<R: Threads + Wait + Sync>(
 ) -> Result<bool, Fail> {
     let mut media = with_600_bytes(alloc, link)?;
     let links = failing(&mut media, call_of(link, call));
-    let all = told_by_one(rt, alloc, INCREMENT, &[1, 1], links, &OpenGate);
+    let all = told_by_one(rt, alloc, INCREMENT, &[1, 1], links, &OpenGate)?;
     let empty = media.source.bytes().is_empty()
         && media.sink.bytes().is_empty()
         && media.trace.bytes().is_empty();
-    drop(media);
-    Ok(is_told(all?, wanted.as_slice()) && empty)
+    Ok(all.as_slice() == wanted.as_slice() && empty)
 }
 
 /// A device that holds 600 bytes is emptied by three calls, before the packet is sent.
@@ -173,12 +170,6 @@ fn bring<D: LinkDevice>(device: &mut D, start: Start) -> Result<(), DeviceFault>
     Ok(())
 }
 
-fn bring_all<D: LinkDevice>(links: &mut Links<D>, starts: [Start; 3]) -> Result<(), DeviceFault> {
-    bring(&mut links.source, starts[0])?;
-    bring(&mut links.sink, starts[1])?;
-    bring(&mut links.trace, starts[2])
-}
-
 /// What is told of a packet of 1, where the devices stand so before.
 fn told_from<R: Threads + Wait + Sync>(
     rt: &R,
@@ -186,19 +177,10 @@ fn told_from<R: Threads + Wait + Sync>(
     starts: [Start; 3],
 ) -> Result<Vec<Told>, Fail> {
     let mut media = Media::new(alloc, ROOM)?;
-    let all = told_over(rt, alloc, &mut media, starts);
-    drop(media);
-    all
-}
-
-fn told_over<R: Threads + Wait + Sync>(
-    rt: &R,
-    alloc: Global,
-    media: &mut Media,
-    starts: [Start; 3],
-) -> Result<Vec<Told>, Fail> {
     let mut links = media.wires();
-    bring_all(&mut links, starts)?;
+    bring(&mut links.source, starts[0])?;
+    bring(&mut links.sink, starts[1])?;
+    bring(&mut links.trace, starts[2])?;
     told_by_one(rt, alloc, INCREMENT, &[1], links, &OpenGate)
 }
 
@@ -229,7 +211,7 @@ fn the_first_refusal_is_told(rt: HostRuntime) -> Result<(), Fail> {
     {
         let all = told_from(&rt, rt.alloc(), starts)?;
         let wanted = Told::Lost(link, DeviceFault::Closed);
-        assert!(rt; is_told(all, [wanted].as_slice()), "{row}");
+        assert!(rt; all.as_slice() == [wanted].as_slice(), "{row}");
     }
     Ok(())
 }
@@ -260,7 +242,7 @@ fn a_closed_source_loses_all(rt: HostRuntime) -> Result<(), Fail> {
     let mut media = Media::new(rt.alloc(), ROOM)?;
     let all = told_where_closed(&rt, rt.alloc(), &mut media, Link::Source, &[1, 1])?;
     let lost = Told::Lost(Link::Source, DeviceFault::Closed);
-    assert!(rt; is_told(all, [lost, lost].as_slice()));
+    assert!(rt; all.as_slice() == [lost, lost].as_slice());
     Ok(())
 }
 
@@ -271,7 +253,7 @@ fn a_closed_trace_is_not_called(rt: HostRuntime) -> Result<(), Fail> {
     let lost = Told::Lost(Link::Sink, DeviceFault::Closed);
     for (link, wanted) in [(Link::Trace, DONE), (Link::Sink, lost)] {
         let all = told_where_closed(&rt, rt.alloc(), &mut media, link, &[1])?;
-        assert!(rt; is_told(all, [wanted].as_slice()));
+        assert!(rt; all.as_slice() == [wanted].as_slice());
     }
     Ok(())
 }
@@ -297,7 +279,7 @@ fn room_is_lacking(rt: HostRuntime) -> Result<(), Fail> {
         ([4, 4, 0], DONE),
     ] {
         let all = told_in_rooms(&rt, rt.alloc(), rooms)?;
-        assert!(rt; is_told(all, [wanted].as_slice()), "{rooms:?}");
+        assert!(rt; all.as_slice() == [wanted].as_slice(), "{rooms:?}");
     }
     Ok(())
 }

@@ -1,16 +1,14 @@
 //! A batch over a board in place of the stream: what becomes of the packets is the same.
 
 use crate::batches::{
-    BATCH, ROOM, Told, accepted, all_told, alone, count_up, failing, increments_by, packets,
-    run_on, same,
+    BATCH, ROOM, Told, all_told, alone, count_up, failing, increments_by, packets, run_on, same,
 };
 use crate::members::are_one_more;
 use std::alloc::Global;
 use std::sync::Wait;
 use std::test::Fail;
 use std::thread::Threads;
-use tp_accept::Accepted;
-use tp_board::Packet;
+use tp_accept::accept;
 use tp_collect::Collected;
 use tp_farm::{Gate, Job, OpenGate, run_batch_over_board};
 use tp_link::{DeviceFault, Link, LinkDevice, Links};
@@ -25,58 +23,23 @@ fn over_board<R: Threads + Wait + Sync, D: LinkDevice + Send, G: Gate>(
     links: Vec<Links<D>>,
     gate: &G,
 ) -> Result<Collected, Fail> {
-    let (image, packets) = match image_and_packets(alloc, words) {
-        Ok(both) => both,
-        Err(fail) => {
-            drop(links);
-            return Err(fail);
-        }
-    };
+    let image = accept(alloc, Vec::from_slice(alloc, INCREMENT)?)?;
+    let packets = packets(alloc, words)?;
     let job = Job {
         batch: BATCH,
         image: &image,
         packets: &packets,
     };
-    let batch = run_batch_over_board(rt, alloc, &job, links, gate);
-    drop((image, packets));
-    let batch = batch?;
-    drop(batch.links);
-    Ok(batch.collected)
-}
-
-fn image_and_packets(alloc: Global, words: &[u32]) -> Result<(Accepted, Vec<Packet>), Fail> {
-    let packets = packets(alloc, words)?;
-    Ok((accepted(alloc, INCREMENT)?, packets))
-}
-
-/// What becomes of the increments of these words, by so many members over a board.
-fn increments_over_board<R: Threads + Wait + Sync>(
-    rt: &R,
-    alloc: Global,
-    words: &[u32],
-    members: usize,
-) -> Result<Collected, Fail> {
-    let mut media = media_of(alloc, members, ROOM)?;
-    let collected = over_these(rt, alloc, words, &mut media);
-    drop(media);
-    collected
-}
-
-fn over_these<R: Threads + Wait + Sync>(
-    rt: &R,
-    alloc: Global,
-    words: &[u32],
-    media: &mut [Media],
-) -> Result<Collected, Fail> {
-    let links = boxed(alloc, media)?;
-    over_board(rt, alloc, words, links, &OpenGate)
+    Ok(run_batch_over_board(rt, alloc, &job, links, gate)?.collected)
 }
 
 #[test]
 fn a_board_makes_no_difference(rt: HostRuntime) -> Result<(), Fail> {
     for (count, members) in [(0, 1), (1, 64), (33, 2), (1024, 3)] {
         let words = count_up(rt.alloc(), count)?;
-        let by_board = increments_over_board(&rt, rt.alloc(), &words, members)?;
+        let mut media = media_of(rt.alloc(), members, ROOM)?;
+        let links = boxed(rt.alloc(), &mut media)?;
+        let by_board = over_board(&rt, rt.alloc(), &words, links, &OpenGate)?;
         let by_queue = increments_by(&rt, rt.alloc(), &words, members, &OpenGate)?;
         assert!(rt; are_one_more(rt.alloc(), &words, &by_board)?);
         assert!(rt; same(&by_board, &by_queue), "{count} by {members}");

@@ -9,7 +9,7 @@ use std::test::Fail;
 use std::thread::Threads;
 use tp_farm::OpenGate;
 use tp_link::{DeviceFault, Link, LinkDevice};
-use tp_media::{Media, boxed, media_of};
+use tp_media::{boxed, media_of};
 use tp_samples::*;
 
 const MEMBERS: [usize; 3] = [1, 2, 64];
@@ -74,30 +74,13 @@ fn done_beside_closed<R: Threads + Wait + Sync>(
     members: usize,
 ) -> Result<Option<usize>, Fail> {
     let mut media = media_of(alloc, members, ROOM)?;
-    let all = told_beside_closed(rt, alloc, words, &mut media);
-    drop(media);
-    let all = all?;
-    let lost = Told::Lost(Link::Source, DeviceFault::Closed);
-    let done = done_beside(&all, words, lost);
-    drop(all);
-    Ok(done)
-}
-
-/// What is told of the increments of these words, where the first member's source is closed.
-fn told_beside_closed<R: Threads + Wait + Sync>(
-    rt: &R,
-    alloc: Global,
-    words: &[u32],
-    media: &mut [Media],
-) -> Result<Vec<Told>, Fail> {
-    let mut links = boxed(alloc, media)?;
+    let mut links = boxed(alloc, &mut media)?;
     for first in links.iter_mut().take(1) {
         first.source.close();
     }
     let collected = run_on(rt, alloc, INCREMENT, words, links, &OpenGate)?;
-    let all = all_told(alloc, &collected);
-    drop(collected);
-    Ok(all?)
+    let lost = Told::Lost(Link::Source, DeviceFault::Closed);
+    Ok(done_beside(&all_told(alloc, &collected)?, words, lost))
 }
 
 /// A member with a closed device takes its packets and loses them. Alone it loses all.
