@@ -1,24 +1,16 @@
 //! Answers to texts.
 
-use crate::same::assert_same;
+use crate::asserts::{assert_same, unwrap};
 use crate::texts::*;
-use std::alloc::{AllocError, Global};
+use std::alloc::Global;
 use std::process::Abort;
-use std::test::Fail;
 use tp_accept::{Accepted, Refusal, accept};
 use tp_samples::*;
 
 /// That a text, which a row of a table has, is answered so.
-fn assert_answered(
-    rt: &impl Abort,
-    alloc: Global,
-    text: &[u8],
-    expected: &str,
-    row: usize,
-) -> Result<(), Fail> {
-    let answered = answer(alloc, text)?;
+fn assert_answered(rt: &impl Abort, alloc: Global, text: &[u8], expected: &str, row: usize) {
+    let answered = answer(rt, alloc, text);
     assert_eq!(rt; answered.as_str(), expected, "row {row}");
-    Ok(())
 }
 
 /// Images, and the answers.
@@ -46,11 +38,10 @@ const IMAGES: [(&[u8], &str); 20] = [
 ];
 
 #[test]
-fn answers_images(rt: HostRuntime) -> Result<(), Fail> {
+fn answers_images(rt: HostRuntime) {
     for (i, (text, expected)) in IMAGES.iter().enumerate() {
-        assert_answered(&rt, rt.alloc(), text, expected, i)?;
+        assert_answered(&rt, rt.alloc(), text, expected, i);
     }
-    Ok(())
 }
 
 /// An image with bytes changed: the image, the place of the first, the bytes, and the answer.
@@ -78,12 +69,11 @@ const CHANGED_IMAGES: [Change; 16] = [
 ];
 
 #[test]
-fn answers_changed_images(rt: HostRuntime) -> Result<(), Fail> {
+fn answers_changed_images(rt: HostRuntime) {
     for (i, (text, at, bytes, expected)) in CHANGED_IMAGES.iter().enumerate() {
-        let text = changed(rt.alloc(), text, *at, bytes)?;
-        assert_answered(&rt, rt.alloc(), &text, expected, i)?;
+        let text = changed(&rt, rt.alloc(), text, *at, bytes);
+        assert_answered(&rt, rt.alloc(), &text, expected, i);
     }
-    Ok(())
 }
 
 /// Codes behind a header, and the answers.
@@ -98,52 +88,51 @@ const SHORT_CODES: [(&[u8], &str); 7] = [
 ];
 
 #[test]
-fn answers_short_codes(rt: HostRuntime) -> Result<(), Fail> {
+fn answers_short_codes(rt: HostRuntime) {
     for (i, (code, expected)) in SHORT_CODES.iter().enumerate() {
-        let text = with_code(rt.alloc(), code)?;
-        assert_answered(&rt, rt.alloc(), &text, expected, i)?;
+        let text = with_code(&rt, rt.alloc(), code);
+        assert_answered(&rt, rt.alloc(), &text, expected, i);
     }
-    Ok(())
 }
 
 /// The answer to the first so many bytes of an image that is longer.
-fn answer_to_a_beginning(alloc: Global, bytes: usize) -> Result<String, AllocError> {
+fn answer_to_a_beginning(rt: &impl Abort, alloc: Global, bytes: usize) -> String {
     if bytes < 4 {
-        format!(in alloc; "NO F1 0")
+        unwrap(rt, format!(in alloc; "NO F1 0"))
     } else {
-        format!(in alloc; "NO F2 {bytes}")
+        unwrap(rt, format!(in alloc; "NO F2 {bytes}"))
     }
 }
 
 #[test]
-fn answers_beginnings(rt: HostRuntime) -> Result<(), Fail> {
+fn answers_beginnings(rt: HostRuntime) {
     for n in 0..NESTED_TOO_LONG.len() {
-        let expected = answer_to_a_beginning(rt.alloc(), n)?;
-        assert_answered(&rt, rt.alloc(), &NESTED_TOO_LONG[..n], &expected, n)?;
+        let expected = answer_to_a_beginning(&rt, rt.alloc(), n);
+        assert_answered(&rt, rt.alloc(), &NESTED_TOO_LONG[..n], &expected, n);
     }
-    assert_answered(&rt, rt.alloc(), &INCREMENT[..16], "NO F2 16", 16)
+    assert_answered(&rt, rt.alloc(), &INCREMENT[..16], "NO F2 16", 16);
 }
 
 #[test]
-fn answers_a_byte_too_many(rt: HostRuntime) -> Result<(), Fail> {
-    let mut text = Vec::from_slice(rt.alloc(), INCREMENT)?;
-    text.push(0)?;
-    assert_answered(&rt, rt.alloc(), &text, "NO F9 32", 0)
+fn answers_a_byte_too_many(rt: HostRuntime) {
+    let mut text = unwrap(&rt, Vec::from_slice(rt.alloc(), INCREMENT));
+    unwrap(&rt, text.push(0));
+    assert_answered(&rt, rt.alloc(), &text, "NO F9 32", 0);
 }
 
 #[test]
-fn answers_long_codes(rt: HostRuntime) -> Result<(), Fail> {
-    let first = many_jumps(rt.alloc(), NINE_HUNDRED, 900)?;
-    assert_answered(&rt, rt.alloc(), &first, "YES 1813 1813", 0)?;
-    let second = many_jumps(rt.alloc(), FOUR_THOUSAND, 4_000)?;
-    assert_answered(&rt, rt.alloc(), &second, "YES 8013 8013", 1)
+fn answers_long_codes(rt: HostRuntime) {
+    let first = many_jumps(&rt, rt.alloc(), NINE_HUNDRED, 900);
+    assert_answered(&rt, rt.alloc(), &first, "YES 1813 1813", 0);
+    let second = many_jumps(&rt, rt.alloc(), FOUR_THOUSAND, 4_000);
+    assert_answered(&rt, rt.alloc(), &second, "YES 8013 8013", 1);
 }
 
 #[test]
-fn tells_the_parts(rt: HostRuntime) -> Result<(), Fail> {
-    let accepted = accept(rt.alloc(), Vec::from_slice(rt.alloc(), INCREMENT)?)?;
+fn tells_the_parts(rt: HostRuntime) {
+    let text = unwrap(&rt, Vec::from_slice(rt.alloc(), INCREMENT));
+    let accepted = unwrap(&rt, accept(rt.alloc(), text));
     assert_increment(&rt, &accepted);
-    Ok(())
 }
 
 /// An accepted image has the parts of the increment.
@@ -158,28 +147,27 @@ fn assert_increment(rt: &impl Abort, accepted: &Accepted) {
 }
 
 /// A refusal's code as it prints, and its place.
-fn parts_of(alloc: Global, refusal: &Refusal) -> Result<(String, usize), Fail> {
-    let code = refusal.code().ok_or("a code")?;
-    Ok((format!(in alloc; "{code}")?, refusal.place()))
+fn parts_of(rt: &impl Abort, alloc: Global, refusal: &Refusal) -> (String, usize) {
+    let code = unwrap(rt, refusal.code().ok_or("a code"));
+    (unwrap(rt, format!(in alloc; "{code}")), refusal.place())
 }
 
 #[test]
-fn tells_the_parts_of_a_refusal(rt: HostRuntime) -> Result<(), Fail> {
-    let answered = accept(rt.alloc(), Vec::from_slice(rt.alloc(), &INCREMENT[..9])?);
-    let refusal = answered.err().ok_or("a refusal")?;
-    let (code, place) = parts_of(rt.alloc(), &refusal)?;
+fn tells_the_parts_of_a_refusal(rt: HostRuntime) {
+    let text = unwrap(&rt, Vec::from_slice(rt.alloc(), &INCREMENT[..9]));
+    let answered = accept(rt.alloc(), text);
+    let refusal = unwrap(&rt, answered.err().ok_or("a refusal"));
+    let (code, place) = parts_of(&rt, rt.alloc(), &refusal);
     assert_same(&rt, &(code.as_str(), place), &("F2", 9));
-    Ok(())
 }
 
 #[test]
-fn tells_that_memory_is_out(rt: HostRuntime) -> Result<(), Fail> {
+fn tells_that_memory_is_out(rt: HostRuntime) {
     let refusal = Refusal::Memory;
     assert_same(&rt, &(refusal.code(), refusal.place()), &(None, 0));
     assert_same(
         &rt,
-        &format!(in rt.alloc(); "{refusal}")?.as_str(),
+        &unwrap(&rt, format!(in rt.alloc(); "{refusal}")).as_str(),
         &"out of memory",
     );
-    Ok(())
 }

@@ -1,11 +1,10 @@
 //! Codes judged by hand, and each call of a nest once.
 
+use crate::asserts::{assert_same, unwrap};
 use crate::images::*;
 use crate::reading::read;
-use crate::same::assert_same;
-use std::alloc::{AllocError, Global};
+use std::alloc::Global;
 use std::process::Abort;
-use std::test::Fail;
 use tp_decode::Instr;
 use tp_flow::{Edge, FlowCode, FlowFault, LoopRange, Nest, check_flow, edges};
 use tp_samples::*;
@@ -17,21 +16,21 @@ type Fields = (u16, u16, u16, u16, i32);
 type Refusal = Option<(FlowCode, usize)>;
 
 /// An image of 16 workspace words.
-fn image_bytes(alloc: Global, rows: &[Fields], code: &[u8]) -> Result<Vec<u8>, AllocError> {
-    let mut bytes = Vec::from_slice(alloc, b"TPW1")?;
+fn image_bytes(rt: &impl Abort, alloc: Global, rows: &[Fields], code: &[u8]) -> Vec<u8> {
+    let mut bytes = unwrap(rt, Vec::from_slice(alloc, b"TPW1"));
     let lengths = [code.len(), 16, 8, 1, 1, rows.len()];
     for length in lengths {
         let field = u16::try_from(length).unwrap_or(u16::MAX);
-        bytes.extend_from_slice(&field.to_le_bytes())?;
+        unwrap(rt, bytes.extend_from_slice(&field.to_le_bytes()));
     }
     for (head, lend, control, count, start) in rows {
         for field in [*head, *lend, *control, *count] {
-            bytes.extend_from_slice(&field.to_le_bytes())?;
+            unwrap(rt, bytes.extend_from_slice(&field.to_le_bytes()));
         }
-        bytes.extend_from_slice(&start.to_le_bytes())?;
+        unwrap(rt, bytes.extend_from_slice(&start.to_le_bytes()));
     }
-    bytes.extend_from_slice(code)?;
-    Ok(bytes)
+    unwrap(rt, bytes.extend_from_slice(code));
+    bytes
 }
 
 /// The judgement of an image's code.
@@ -53,7 +52,7 @@ fn assert_code_judged(
     code: &[u8],
     expected: Refusal,
 ) {
-    let bytes = image_bytes(rt.alloc(), rows, code).expect(rt, "an image");
+    let bytes = image_bytes(rt, rt.alloc(), rows, code);
     assert_judged(rt, bytes.as_slice(), expected);
 }
 
@@ -154,12 +153,12 @@ const ROWS_AMONG_OTHERS: [(&[(u16, u16)], &[u8], Refusal); 15] = [
 ];
 
 /// Rows of ten turns, from these heads to these lends.
-fn rows_over(alloc: Global, ranges: &[(u16, u16)]) -> Result<Vec<Fields>, AllocError> {
+fn rows_over(rt: &impl Abort, alloc: Global, ranges: &[(u16, u16)]) -> Vec<Fields> {
     let mut rows = Vec::new(alloc);
     for (head, lend) in ranges {
-        rows.push((*head, *lend, 10, 10, 0))?;
+        unwrap(rt, rows.push((*head, *lend, 10, 10, 0)));
     }
-    Ok(rows)
+    rows
 }
 
 /// That a code with such rows is refused so, or passes.
@@ -169,7 +168,7 @@ fn assert_ranges_judged(
     code: &[u8],
     expected: Refusal,
 ) {
-    let rows = rows_over(rt.alloc(), ranges).expect(rt, "rows");
+    let rows = rows_over(rt, rt.alloc(), ranges);
     assert_code_judged(rt, rows.as_slice(), code, expected);
 }
 
@@ -291,7 +290,7 @@ fn leads_along_edges(rt: HostRuntime) {
 /// The nest of a loop from 2 to 4 that lies in one from 1 to 7.
 fn nest_of_two(rt: &(impl Abort + AllocGlobal)) -> Nest {
     let rows = [(2, 4, 10, 10, 0), (1, 7, 12, 10, 0)];
-    let bytes = image_bytes(rt.alloc(), &rows, TWO_LENDS).expect(rt, "an image");
+    let bytes = image_bytes(rt, rt.alloc(), &rows, TWO_LENDS);
     nest_of(rt, bytes.as_slice())
 }
 
@@ -334,12 +333,11 @@ fn tells_edges(rt: HostRuntime) {
 }
 
 #[test]
-fn prints_a_fault(rt: HostRuntime) -> Result<(), Fail> {
-    let fault = judged(&rt, JUMPS_OUT_OF_LOOP).err().ok_or("a fault")?;
+fn prints_a_fault(rt: HostRuntime) {
+    let fault = unwrap(&rt, judged(&rt, JUMPS_OUT_OF_LOOP).err().ok_or("a fault"));
     assert_same(
         &rt,
-        &format!(in rt.alloc(); "{fault}")?.as_str(),
+        &unwrap(&rt, format!(in rt.alloc(); "{fault}")).as_str(),
         &"J4 at 14",
     );
-    Ok(())
 }

@@ -6,6 +6,8 @@
 #[cfg(test)]
 mod answers;
 #[cfg(test)]
+mod asserts;
+#[cfg(test)]
 mod changed;
 #[cfg(test)]
 mod flow;
@@ -21,8 +23,6 @@ mod near;
 mod reading;
 #[cfg(test)]
 mod runs;
-#[cfg(test)]
-mod same;
 #[cfg(test)]
 mod states;
 #[cfg(test)]

@@ -1,20 +1,18 @@
 //! The media of members, and wires to them.
 
-use crate::same::assert_same;
+use crate::asserts::{assert_same, unwrap};
 use std::process::Abort;
-use std::test::Fail;
-use tp_link::{DeviceFault, LinkDevice, Links};
+use tp_link::{LinkDevice, Links};
 use tp_media::{Media, boxed, media_of};
 
 #[test]
-fn each_wire_has_its_room(rt: HostRuntime) -> Result<(), Fail> {
-    let mut media = Media::with_rooms(rt.alloc(), 1, 2, 3)?;
+fn each_wire_has_its_room(rt: HostRuntime) {
+    let mut media = unwrap(&rt, Media::with_rooms(rt.alloc(), 1, 2, 3));
     let links = media.wires();
     assert_same(&rt, &rooms(&links), &(1, 2, 3));
     assert!(rt; are_open(&links));
     drop(links);
     assert!(rt; have_ended(&media));
-    Ok(())
 }
 
 /// The room of the source, of the sink and of the trace.
@@ -36,10 +34,10 @@ fn have_ended(media: &Media) -> bool {
 }
 
 /// Sends a member's byte once to the source, twice to the sink, and four times to the trace.
-fn send_to_each(links: &mut Links<impl LinkDevice>, byte: u8) -> Result<(), DeviceFault> {
-    links.source.send(&[byte])?;
-    links.sink.send(&[byte, byte])?;
-    links.trace.send(&[byte; 4])
+fn send_to_each(rt: &impl Abort, links: &mut Links<impl LinkDevice>, byte: u8) {
+    unwrap(rt, links.source.send(&[byte]));
+    unwrap(rt, links.sink.send(&[byte, byte]));
+    unwrap(rt, links.trace.send(&[byte; 4]));
 }
 
 /// The media hold what was sent so, and have ended.
@@ -52,16 +50,15 @@ fn assert_sent(rt: &impl Abort, media: &Media, byte: u8) {
 
 /// What is sent by a member's wires is held by that member's media, after the wires too.
 #[test]
-fn each_member_has_its_media(rt: HostRuntime) -> Result<(), Fail> {
-    let mut media = media_of(rt.alloc(), 3, 4)?;
-    let mut links = boxed(rt.alloc(), &mut media)?;
+fn each_member_has_its_media(rt: HostRuntime) {
+    let mut media = unwrap(&rt, media_of(rt.alloc(), 3, 4));
+    let mut links = unwrap(&rt, boxed(rt.alloc(), &mut media));
     assert_same(&rt, &links.len(), &3);
     for (byte, one) in (1u8..4).zip(links.iter_mut()) {
-        send_to_each(one, byte)?;
+        send_to_each(&rt, one, byte);
     }
     drop(links);
     for (byte, one) in (1u8..4).zip(media.iter()) {
         assert_sent(&rt, one, byte);
     }
-    Ok(())
 }

@@ -2,11 +2,10 @@
 
 ghost use Rattle.std.specs.Prelude.{◌<◌, ◌≤◌, ◌^◌};
 
+use crate::asserts::{assert_same, unwrap};
 use crate::reading::read;
-use crate::same::assert_same;
-use std::alloc::{AllocError, Global};
+use std::alloc::Global;
 use std::process::Abort;
-use std::test::Fail;
 use tp_check::{NearRefusal, PassesEnd, near_refusal};
 use tp_flow::check_flow;
 use tp_samples::*;
@@ -79,48 +78,48 @@ fn spelled(function: u8, operand: u8) -> [u8; 2] {
 
 /// A loop that moves so many words of its workspace, from the first on, to the next place, and then takes the last one that was
 /// written as the number of a word. What the packet has brought goes one word further with each pass.
-fn moving(alloc: Global, words: u8) -> Result<Vec<u8>, AllocError>
+fn moving(rt: &impl Abort, alloc: Global, words: u8) -> Vec<u8>
     requires some { 0 < words }
     requires few { words ≤ 20 }
 {
     let body = 4 * words;
     let lend = HEAD + body + 4;
-    let mut image = Vec::from_slice(alloc, b"TPW2")?;
-    image.extend_from_slice(&[lend + 2 + 11, 0])?;
-    image.extend_from_slice(&HEADER)?;
+    let mut image = unwrap(rt, Vec::from_slice(alloc, b"TPW2"));
+    unwrap(rt, image.extend_from_slice(&[lend + 2 + 11, 0]));
+    unwrap(rt, image.extend_from_slice(&HEADER));
     for field in [HEAD, lend, 8 + BLOCK, 1, 0, 0] {
-        image.extend_from_slice(&[field, 0])?;
+        unwrap(rt, image.extend_from_slice(&[field, 0]));
     }
-    image.extend_from_slice(&BEGINNING)?;
+    unwrap(rt, image.extend_from_slice(&BEGINNING));
     for back in 0..words {
         let to = words - back;
-        image.extend_from_slice(&spelled(LDL, to - 1))?;
-        image.extend_from_slice(&spelled(STL, to))?;
+        unwrap(rt, image.extend_from_slice(&spelled(LDL, to - 1)));
+        unwrap(rt, image.extend_from_slice(&spelled(STL, to)));
     }
-    image.extend_from_slice(&spelled(LDLP, BLOCK))?;
-    image.extend_from_slice(&spelled(LDC, body + 6))?;
-    image.extend_from_slice(&[0x22, 0xF1])?;
-    image.extend_from_slice(&SENDING)?;
-    image.extend_from_slice(&spelled(LDL, words))?;
-    image.extend_from_slice(&ENDING)?;
-    Ok(image)
+    unwrap(rt, image.extend_from_slice(&spelled(LDLP, BLOCK)));
+    unwrap(rt, image.extend_from_slice(&spelled(LDC, body + 6)));
+    unwrap(rt, image.extend_from_slice(&[0x22, 0xF1]));
+    unwrap(rt, image.extend_from_slice(&SENDING));
+    unwrap(rt, image.extend_from_slice(&spelled(LDL, words)));
+    unwrap(rt, image.extend_from_slice(&ENDING));
+    image
 }
 
 /// The pass that refuses has the number of the last word that is written: it knows no longer what stands there. So the passes
 /// that refuse nothing are 0 to 19, and their number has just doubled, is one less, and one more.
 #[test]
-fn stands_before_each_of_many_passes(rt: HostRuntime) -> Result<(), Fail> {
+fn stands_before_each_of_many_passes(rt: HostRuntime) {
     for words in 1..21 {
-        let image = moving(rt.alloc(), words)?;
+        let image = moving(&rt, rt.alloc(), words);
         let near = near(&rt, &image);
         let passes = words.saturating_sub(2);
         assert_eq!(rt; near.passes, u64::from(passes), "{words} words");
-        match near.states.state_at(rt.alloc(), usize::from(HEAD))? {
+        let head = unwrap(&rt, near.states.state_at(rt.alloc(), usize::from(HEAD)));
+        match head {
             None => assert_same(&rt, &passes, &0),
             Some(head) => assert_last_unknown(&rt, &head, usize::from(passes) + 8, words),
         }
     }
-    Ok(())
 }
 
 /// Up to this word of the workspace it is not known any more what stands there.

@@ -4,9 +4,9 @@ ghost use Rattle.std.specs.Prelude.{◌≡◌};
 ghost use Rattle.tp_flow.specs.NestRanges.{ranges};
 ghost use Rattle.tp_state.specs.Conditions.{HasGoodLoops};
 
+use crate::asserts::assert_same;
 use crate::images::*;
 use crate::reading::read;
-use crate::same::assert_same;
 use std::process::Abort;
 use tp_decode::Listing;
 use tp_flow::{Edge, Nest, check_flow, edges};

@@ -3,7 +3,7 @@
 ghost use Rattle.std.specs.Prelude.{◌≡◌, [], ◌∷◌, map};
 ghost use Rattle.test_base.specs.Workers.{increment, incremented, one};
 
-use crate::same::assert_same;
+use crate::asserts::assert_same;
 use arrayvec::ArrayVec;
 use std::process::Abort;
 use tp_collect::limits::MESSAGE_BYTES;

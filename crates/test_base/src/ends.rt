@@ -3,10 +3,9 @@ ghost use Rattle.std.specs.Prelude.{◌≡◌};
 ghost use Rattle.tp_link.specs.Device.{held_after_send, plain_send};
 ghost use Rattle.tp_link.specs.Medium.{with_bytes, wired, unwired, faultless_device};
 
-use crate::same::assert_same;
-use std::alloc::{AllocError, Global};
+use crate::asserts::{assert_same, unwrap};
+use std::alloc::Global;
 use std::process::Abort;
-use std::test::Fail;
 use tp_link::{DeviceFault, EndedMedium, FaultyWire, LinkDevice, Links, Medium, OwnedWire, Wire};
 
 /// Sends over a wire that has ended at the return. That the medium then has its end mark and its
@@ -50,57 +49,57 @@ fn resend_and_drop<D: LinkDevice>(rt: &impl Abort, mut device: D) {
 }
 
 #[test]
-fn a_wire_that_has_ended_leaves_its_bytes(rt: HostRuntime) -> Result<(), Fail> {
-    let mut medium = Medium::new(rt.alloc(), 4)?;
+fn a_wire_that_has_ended_leaves_its_bytes(rt: HostRuntime) {
+    let mut medium = unwrap(&rt, Medium::new(rt.alloc(), 4));
     assert_same(&rt, &send_and_end(&mut medium, &[1, 2, 3]), &Ok(()));
     assert_ended(&rt, &medium, &[1, 2, 3]);
-    Ok(())
 }
 
 #[test]
-fn a_dropped_box_ends_its_wire(rt: HostRuntime) -> Result<(), Fail> {
-    let mut medium = Medium::new(rt.alloc(), 4)?;
-    let wire = Box::new(rt.alloc(), Wire::new(&mut medium))?;
+fn a_dropped_box_ends_its_wire(rt: HostRuntime) {
+    let mut medium = unwrap(&rt, Medium::new(rt.alloc(), 4));
+    let wire = unwrap(&rt, Box::new(rt.alloc(), Wire::new(&mut medium)));
     send_and_drop(&rt, wire, &[1, 2, 3]);
     assert_ended(&rt, &medium, &[1, 2, 3]);
-    Ok(())
 }
 
 /// As many bytes as a medium of a member can hold, counting up from one of them.
-fn full(alloc: Global, first: u8) -> Result<Vec<u8>, AllocError> {
-    let mut bytes = Vec::with_capacity(alloc, 256)?;
+fn full(rt: &impl Abort, alloc: Global, first: u8) -> Vec<u8> {
+    let mut bytes = unwrap(rt, Vec::with_capacity(alloc, 256));
     for i in 0..=255u8 {
-        bytes.push(first.wrapping_add(i))?;
+        unwrap(rt, bytes.push(first.wrapping_add(i)));
     }
-    Ok(bytes)
+    bytes
 }
 
 #[test]
-fn a_full_medium_ends(rt: HostRuntime) -> Result<(), Fail> {
-    let bytes = full(rt.alloc(), 0)?;
-    let mut medium = Medium::new(rt.alloc(), 256)?;
-    let wire = Box::new(rt.alloc(), Wire::new(&mut medium))?;
+fn a_full_medium_ends(rt: HostRuntime) {
+    let bytes = full(&rt, rt.alloc(), 0);
+    let mut medium = unwrap(&rt, Medium::new(rt.alloc(), 256));
+    let wire = unwrap(&rt, Box::new(rt.alloc(), Wire::new(&mut medium)));
     send_and_drop(&rt, wire, &bytes);
     assert_ended(&rt, &medium, &bytes);
-    let faulty = Box::new(rt.alloc(), FaultyWire::new(&mut medium, 0))?;
+    let faulty = unwrap(&rt, Box::new(rt.alloc(), FaultyWire::new(&mut medium, 0)));
     resend_and_drop(&rt, faulty);
-    let bytes = full(rt.alloc(), 1)?;
+    let bytes = full(&rt, rt.alloc(), 1);
     assert_ended(&rt, &medium, &bytes);
-    let (owned, ended) = OwnedWire::new(rt.alloc(), medium)?;
+    let (owned, ended) = unwrap(&rt, OwnedWire::new(rt.alloc(), medium));
     drop(owned);
     assert_landed(&rt, &ended, &bytes);
-    Ok(())
 }
 
 #[test]
-fn an_empty_medium_ends(rt: HostRuntime) -> Result<(), Fail> {
+fn an_empty_medium_ends(rt: HostRuntime) {
     for room in [0, 256] {
-        let (owned, ended) = OwnedWire::new(rt.alloc(), Medium::new(rt.alloc(), room)?)?;
-        let device: Box<dyn LinkDevice + Send> = Box::new(rt.alloc(), owned)?;
+        let (owned, ended) = unwrap(
+            &rt,
+            OwnedWire::new(rt.alloc(), unwrap(&rt, Medium::new(rt.alloc(), room))),
+        );
+        let owned = unwrap(&rt, Box::new(rt.alloc(), owned));
+        let device: Box<dyn LinkDevice + Send> = owned;
         drop(device);
         assert_landed(&rt, &ended, &[]);
     }
-    Ok(())
 }
 
 /// The six orders in which three boxes can be dropped.
@@ -156,89 +155,78 @@ fn use_and_drop<D: LinkDevice>(
 }
 
 fn wires<'a>(
+    rt: &impl Abort,
     alloc: Global,
     source: &'a mut Medium,
     sink: &'a mut Medium,
     trace: &'a mut Medium,
-) -> Result<Links<Box<Wire<'a>>>, AllocError> {
-    Ok(Links {
-        source: Box::new(alloc, Wire::new(source))?,
-        sink: Box::new(alloc, Wire::new(sink))?,
-        trace: Box::new(alloc, Wire::new(trace))?,
-    })
+) -> Links<Box<Wire<'a>>> {
+    Links {
+        source: unwrap(rt, Box::new(alloc, Wire::new(source))),
+        sink: unwrap(rt, Box::new(alloc, Wire::new(sink))),
+        trace: unwrap(rt, Box::new(alloc, Wire::new(trace))),
+    }
 }
 
 fn faulty_wires<'a>(
+    rt: &impl Abort,
     alloc: Global,
     source: &'a mut Medium,
     sink: &'a mut Medium,
     trace: &'a mut Medium,
-) -> Result<Links<Box<FaultyWire<'a>>>, AllocError> {
-    Ok(Links {
-        source: Box::new(alloc, FaultyWire::new(source, 2))?,
-        sink: Box::new(alloc, FaultyWire::new(sink, 0))?,
-        trace: Box::new(alloc, FaultyWire::new(trace, 3))?,
-    })
+) -> Links<Box<FaultyWire<'a>>> {
+    Links {
+        source: unwrap(rt, Box::new(alloc, FaultyWire::new(source, 2))),
+        sink: unwrap(rt, Box::new(alloc, FaultyWire::new(sink, 0))),
+        trace: unwrap(rt, Box::new(alloc, FaultyWire::new(trace, 3))),
+    }
 }
 
-fn borrowed_media_end(
-    rt: &impl Abort,
-    alloc: Global,
-    faulty: bool,
-    shut: bool,
-    order: [usize; 3],
-) -> Result<(), AllocError> {
-    let mut source = Medium::new(alloc, 4)?;
-    let mut sink = Medium::new(alloc, 4)?;
-    let mut trace = Medium::new(alloc, 4)?;
+fn borrowed_media_end(rt: &impl Abort, alloc: Global, faulty: bool, shut: bool, order: [usize; 3]) {
+    let mut source = unwrap(rt, Medium::new(alloc, 4));
+    let mut sink = unwrap(rt, Medium::new(alloc, 4));
+    let mut trace = unwrap(rt, Medium::new(alloc, 4));
     if faulty {
-        let links = faulty_wires(alloc, &mut source, &mut sink, &mut trace)?;
+        let links = faulty_wires(rt, alloc, &mut source, &mut sink, &mut trace);
         use_and_drop(rt, links, shut, order);
     } else {
-        let links = wires(alloc, &mut source, &mut sink, &mut trace)?;
+        let links = wires(rt, alloc, &mut source, &mut sink, &mut trace);
         use_and_drop(rt, links, shut, order);
     }
     assert_ended(rt, &source, &[1]);
     assert_ended(rt, &sink, &[2, 3]);
     assert_ended(rt, &trace, &[4, 5, 6]);
-    Ok(())
 }
 
 #[test]
-fn wires_end_in_each_order(rt: HostRuntime) -> Result<(), Fail> {
+fn wires_end_in_each_order(rt: HostRuntime) {
     for order in ORDERS {
-        borrowed_media_end(&rt, rt.alloc(), false, false, order)?;
-        borrowed_media_end(&rt, rt.alloc(), false, true, order)?;
+        borrowed_media_end(&rt, rt.alloc(), false, false, order);
+        borrowed_media_end(&rt, rt.alloc(), false, true, order);
     }
-    Ok(())
 }
 
 #[test]
-fn faulty_wires_end_in_each_order(rt: HostRuntime) -> Result<(), Fail> {
+fn faulty_wires_end_in_each_order(rt: HostRuntime) {
     for order in ORDERS {
-        borrowed_media_end(&rt, rt.alloc(), true, false, order)?;
-        borrowed_media_end(&rt, rt.alloc(), true, true, order)?;
+        borrowed_media_end(&rt, rt.alloc(), true, false, order);
+        borrowed_media_end(&rt, rt.alloc(), true, true, order);
     }
-    Ok(())
 }
 
 /// A device in a box, with the place where its medium lands.
 type Boxed = (Box<dyn LinkDevice + Send>, EndedMedium);
 
-fn boxed(alloc: Global) -> Result<Boxed, AllocError> {
-    let (wire, end) = OwnedWire::new(alloc, Medium::new(alloc, 4)?)?;
-    Ok((Box::new(alloc, wire)?, end))
+fn boxed(rt: &impl Abort, alloc: Global) -> Boxed {
+    let (wire, end) = unwrap(rt, OwnedWire::new(alloc, unwrap(rt, Medium::new(alloc, 4))));
+    let wire = unwrap(rt, Box::new(alloc, wire));
+    (wire, end)
 }
 
-fn owned_media_end(
-    rt: &impl Abort,
-    alloc: Global,
-    shut: bool,
-    order: [usize; 3],
-) -> Result<(), AllocError> {
-    let (source, source_end) = boxed(alloc)?;
-    let (sink, sink_end) = boxed(alloc)?;
-    let (trace, trace_end) = boxed(alloc)?;
+fn owned_media_end(rt: &impl Abort, alloc: Global, shut: bool, order: [usize; 3]) {
+    let (source, source_end) = boxed(rt, alloc);
+    let (sink, sink_end) = boxed(rt, alloc);
+    let (trace, trace_end) = boxed(rt, alloc);
     let links = Links {
         source,
         sink,
@@ -249,14 +237,12 @@ fn owned_media_end(
     assert_landed(rt, &source_end, &[1]);
     assert_landed(rt, &sink_end, &[2, 3]);
     assert_landed(rt, &trace_end, &[4, 5, 6]);
-    Ok(())
 }
 
 #[test]
-fn trait_objects_end_in_each_order(rt: HostRuntime) -> Result<(), Fail> {
+fn trait_objects_end_in_each_order(rt: HostRuntime) {
     for order in ORDERS {
-        owned_media_end(&rt, rt.alloc(), false, order)?;
-        owned_media_end(&rt, rt.alloc(), true, order)?;
+        owned_media_end(&rt, rt.alloc(), false, order);
+        owned_media_end(&rt, rt.alloc(), true, order);
     }
-    Ok(())
 }

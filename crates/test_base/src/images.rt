@@ -1,9 +1,8 @@
 //! Images and refusals worked out by hand, and each call once with ample memory.
 
-use crate::same::assert_same;
-use std::alloc::{AllocError, Global};
+use crate::asserts::{assert_same, unwrap};
+use std::alloc::Global;
 use std::process::Abort;
-use std::test::Fail;
 use tp_image::{Image, ImageCode, ImageFault, LoopRow, read_image, upgrade, write_image};
 use tp_samples::*;
 
@@ -27,29 +26,20 @@ fn sizes_of(image: &Image) -> (usize, usize, usize) {
 }
 
 /// That an image is written as these bytes.
-fn assert_written(
-    rt: &(impl Abort + AllocGlobal),
-    image: &Image,
-    bytes: &[u8],
-) -> Result<(), ImageFault> {
-    assert_same(rt, &written(rt.alloc(), image)?.as_slice(), &bytes);
-    Ok(())
+fn assert_written(rt: &(impl Abort + AllocGlobal), image: &Image, bytes: &[u8]) {
+    let written = unwrap(rt, written(rt.alloc(), image));
+    assert_same(rt, &written.as_slice(), &bytes);
 }
 
 /// The bytes with others from a place on.
-fn changed(
-    alloc: Global,
-    bytes: &[u8],
-    place: usize,
-    others: &[u8],
-) -> Result<Vec<u8>, AllocError> {
-    let mut changed = Vec::from_slice(alloc, bytes)?;
+fn changed(rt: &impl Abort, alloc: Global, bytes: &[u8], place: usize, others: &[u8]) -> Vec<u8> {
+    let mut changed = unwrap(rt, Vec::from_slice(alloc, bytes));
     for (i, other) in others.iter().enumerate() {
         if let Some(byte) = changed.get_mut(place.saturating_add(i)) {
             *byte = *other;
         }
     }
-    Ok(changed)
+    changed
 }
 
 /// That bytes are refused so.
@@ -90,9 +80,9 @@ const SAMPLES: [Sample; 24] = [
     (MOVES_ONTO_ITSELF, 2, 16, 0, 0, 18),
 ];
 
-fn assert_sample(rt: &(impl Abort + AllocGlobal), sample: Sample) -> Result<(), ImageFault> {
+fn assert_sample(rt: &(impl Abort + AllocGlobal), sample: Sample) {
     let (bytes, version, workspace, loops, initial, code) = sample;
-    let image = read(rt.alloc(), bytes)?;
+    let image = unwrap(rt, read(rt.alloc(), bytes));
     assert_same(
         rt,
         &(image.version(), image.workspace),
@@ -100,20 +90,19 @@ fn assert_sample(rt: &(impl Abort + AllocGlobal), sample: Sample) -> Result<(), 
     );
     assert_same(rt, &(image.start, image.packet, image.result), &(8, 1, 1));
     assert_same(rt, &sizes_of(&image), &(loops, initial, code));
-    assert_written(rt, &image, bytes)
+    assert_written(rt, &image, bytes);
 }
 
 #[test]
-fn reads_and_writes_samples(rt: HostRuntime) -> Result<(), Fail> {
+fn reads_and_writes_samples(rt: HostRuntime) {
     for sample in SAMPLES {
-        assert_sample(&rt, sample)?;
+        assert_sample(&rt, sample);
     }
-    Ok(())
 }
 
 #[test]
-fn reads_rows_and_words(rt: HostRuntime) -> Result<(), Fail> {
-    let nested = read(rt.alloc(), TEN_TIMES_TEN_THOUSAND)?;
+fn reads_rows_and_words(rt: HostRuntime) {
+    let nested = unwrap(&rt, read(rt.alloc(), TEN_TIMES_TEN_THOUSAND));
     let outer = LoopRow {
         head: 13,
         lend: 26,
@@ -130,24 +119,22 @@ fn reads_rows_and_words(rt: HostRuntime) -> Result<(), Fail> {
     };
     assert_same(&rt, &nested.loops.as_slice(), &[outer, inner].as_slice());
     assert_same(&rt, &nested.code.as_slice(), &&TEN_TIMES_TEN_THOUSAND[40..]);
-    let copies = read(rt.alloc(), MOVES_A_WORD)?;
+    let copies = unwrap(&rt, read(rt.alloc(), MOVES_A_WORD));
     assert_same(&rt, &copies.initial.as_slice(), &[42].as_slice());
-    Ok(())
 }
 
 #[test]
-fn reads_a_negative_start(rt: HostRuntime) -> Result<(), Fail> {
-    let bytes = changed(rt.alloc(), SUM_TO_TEN, 24, b"\xFE\xFF\xFF\xFF")?;
-    let image = read(rt.alloc(), &bytes)?;
+fn reads_a_negative_start(rt: HostRuntime) {
+    let bytes = changed(&rt, rt.alloc(), SUM_TO_TEN, 24, b"\xFE\xFF\xFF\xFF");
+    let image = unwrap(&rt, read(rt.alloc(), &bytes));
     for row in &image.loops {
         assert_same(&rt, &row.start, &-2);
     }
-    assert_written(&rt, &image, &bytes)?;
-    Ok(())
+    assert_written(&rt, &image, &bytes);
 }
 
 #[test]
-fn refuses_beginnings(rt: HostRuntime) -> Result<(), Fail> {
+fn refuses_beginnings(rt: HostRuntime) {
     assert_same(&rt, &NESTED_TOO_LONG.len(), &75);
     for n in 0..75 {
         if n < 4 {
@@ -156,21 +143,19 @@ fn refuses_beginnings(rt: HostRuntime) -> Result<(), Fail> {
             assert_refused(&rt, &NESTED_TOO_LONG[..n], ImageCode::F2, n);
         }
     }
-    read(rt.alloc(), NESTED_TOO_LONG)?;
+    unwrap(&rt, read(rt.alloc(), NESTED_TOO_LONG));
     assert_refused(&rt, &INCREMENT[..16], ImageCode::F2, 16);
-    Ok(())
 }
 
 #[test]
-fn refuses_bytes_left_over(rt: HostRuntime) -> Result<(), Fail> {
-    let mut bytes = Vec::from_slice(rt.alloc(), INCREMENT)?;
-    bytes.push(0)?;
+fn refuses_bytes_left_over(rt: HostRuntime) {
+    let mut bytes = unwrap(&rt, Vec::from_slice(rt.alloc(), INCREMENT));
+    unwrap(&rt, bytes.push(0));
     assert_refused(&rt, &bytes, ImageCode::F9, 32);
-    Ok(())
 }
 
 #[test]
-fn refuses_fields_out_of_range(rt: HostRuntime) -> Result<(), Fail> {
+fn refuses_fields_out_of_range(rt: HostRuntime) {
     let refusals: [(&[u8], usize, &[u8], ImageCode, usize); 19] = [
         (INCREMENT, 3, b"3", ImageCode::F1, 0),
         (INCREMENT, 4, b"\x00\x00", ImageCode::F3, 4),
@@ -193,71 +178,83 @@ fn refuses_fields_out_of_range(rt: HostRuntime) -> Result<(), Fail> {
         (INCREMENT, 6, b"\x00\x00\x00\x00", ImageCode::F4, 6),
     ];
     for (bytes, place, others, code, at) in refusals {
-        let bytes = changed(rt.alloc(), bytes, place, others)?;
+        let bytes = changed(&rt, rt.alloc(), bytes, place, others);
         assert_refused(&rt, &bytes, code, at);
     }
-    Ok(())
 }
 
 #[test]
-fn reads_the_largest_fields(rt: HostRuntime) -> Result<(), Fail> {
-    let widest = changed(rt.alloc(), INCREMENT_2, 6, b"\x00\x02")?;
-    assert_same(&rt, &read(rt.alloc(), &widest)?.workspace, &512);
-    let messages = changed(rt.alloc(), INCREMENT, 10, b"\x40\x00\x40\x00")?;
-    assert_same(&rt, &read(rt.alloc(), &messages)?.result, &64);
-    Ok(())
+fn reads_the_largest_fields(rt: HostRuntime) {
+    let widest = changed(&rt, rt.alloc(), INCREMENT_2, 6, b"\x00\x02");
+    assert_same(&rt, &unwrap(&rt, read(rt.alloc(), &widest)).workspace, &512);
+    let messages = changed(&rt, rt.alloc(), INCREMENT, 10, b"\x40\x00\x40\x00");
+    assert_same(&rt, &unwrap(&rt, read(rt.alloc(), &messages)).result, &64);
 }
 
 /// The bytes before, as a header of so many code bytes and the code's first, then `ldc 0; cj 0` so
 /// many times, then the bytes after.
 fn with_long_code(
+    rt: &impl Abort,
     alloc: Global,
     before: &[u8],
     code_bytes: &[u8],
     times: u32,
     after: &[u8],
-) -> Result<Vec<u8>, AllocError> {
-    let mut bytes = changed(alloc, before, 4, code_bytes)?;
+) -> Vec<u8> {
+    let mut bytes = changed(rt, alloc, before, 4, code_bytes);
     for _ in 0..times {
-        bytes.extend_from_slice(b"\x40\xA0")?;
+        unwrap(rt, bytes.extend_from_slice(b"\x40\xA0"));
     }
-    bytes.extend_from_slice(after)?;
-    Ok(bytes)
+    unwrap(rt, bytes.extend_from_slice(after));
+    bytes
 }
 
 #[test]
-fn reads_long_codes(rt: HostRuntime) -> Result<(), Fail> {
+fn reads_long_codes(rt: HostRuntime) {
     let alloc = rt.alloc();
-    let first = with_long_code(alloc, &INCREMENT[..22], b"\x15\x07", 900, &INCREMENT[25..])?;
-    assert_same(&rt, &read(alloc, &first)?.code.len(), &1813);
+    let first = with_long_code(
+        &rt,
+        alloc,
+        &INCREMENT[..22],
+        b"\x15\x07",
+        900,
+        &INCREMENT[25..],
+    );
+    assert_same(&rt, &unwrap(&rt, read(alloc, &first)).code.len(), &1813);
     let second = with_long_code(
+        &rt,
         alloc,
         &INCREMENT_2[..24],
         b"\x4D\x1F",
         4000,
         &INCREMENT_2[27..],
-    )?;
-    assert_same(&rt, &read(alloc, &second)?.code.len(), &8013);
-    Ok(())
+    );
+    assert_same(&rt, &unwrap(&rt, read(alloc, &second)).code.len(), &8013);
 }
 
 /// The largest image of version 2: 16 rows, 512 initial words and 8,192 code bytes. Row i has head i, and word i and
 /// code byte i are i's low byte.
-fn largest(alloc: Global) -> Result<Vec<u8>, AllocError> {
-    let mut bytes = Vec::from_slice(
-        alloc,
-        b"TPW2\x00\x20\x00\x02\xFF\x01\x40\x00\x40\x00\x10\x00\x00\x02",
-    )?;
+fn largest(rt: &impl Abort, alloc: Global) -> Vec<u8> {
+    let mut bytes = unwrap(
+        rt,
+        Vec::from_slice(
+            alloc,
+            b"TPW2\x00\x20\x00\x02\xFF\x01\x40\x00\x40\x00\x10\x00\x00\x02",
+        ),
+    );
     for row in 0..16u8 {
-        bytes.extend_from_slice(&[row, 0, 1, 2, 3, 4, 5, 6, 7, 8, 9, 0xFF])?;
+        unwrap(
+            rt,
+            bytes.extend_from_slice(&[row, 0, 1, 2, 3, 4, 5, 6, 7, 8, 9, 0xFF]),
+        );
     }
     for word in 0..512u32 {
-        bytes.extend_from_slice(&[(word % 256) as u8, 0, 0, 0])?;
+        unwrap(rt, bytes.extend_from_slice(&[(word % 256) as u8, 0, 0, 0]));
     }
     for byte in 0..8192u32 {
-        bytes.push((byte % 256) as u8)?;
+        unwrap(rt, bytes.push((byte % 256) as u8));
     }
-    Ok(bytes)
+    bytes
 }
 
 fn assert_is_the_largest(rt: &impl Abort, image: &Image) {
@@ -278,44 +275,44 @@ fn assert_is_the_largest(rt: &impl Abort, image: &Image) {
 }
 
 #[test]
-fn reads_and_writes_the_largest(rt: HostRuntime) -> Result<(), Fail> {
-    let bytes = largest(rt.alloc())?;
+fn reads_and_writes_the_largest(rt: HostRuntime) {
+    let bytes = largest(&rt, rt.alloc());
     assert_same(&rt, &bytes.len(), &10_450);
-    let image = read(rt.alloc(), &bytes)?;
+    let image = unwrap(&rt, read(rt.alloc(), &bytes));
     assert_is_the_largest(&rt, &image);
-    assert_written(&rt, &image, &bytes)?;
-    assert_written(&rt, &upgraded(rt.alloc(), &image)?, &bytes)?;
-    Ok(())
+    assert_written(&rt, &image, &bytes);
+    let upgraded = unwrap(&rt, upgraded(rt.alloc(), &image));
+    assert_written(&rt, &upgraded, &bytes);
 }
 
 #[test]
-fn upgrades(rt: HostRuntime) -> Result<(), Fail> {
-    let image = upgraded(rt.alloc(), &read(rt.alloc(), INCREMENT)?)?;
+fn upgrades(rt: HostRuntime) {
+    let image = unwrap(&rt, read(rt.alloc(), INCREMENT));
+    let image = unwrap(&rt, upgraded(rt.alloc(), &image));
     assert_same(&rt, &image.version(), &2);
-    assert_written(&rt, &image, INCREMENT_2)?;
-    let copies = read(rt.alloc(), MOVES_A_WORD)?;
-    assert_written(&rt, &upgraded(rt.alloc(), &copies)?, MOVES_A_WORD)?;
-    Ok(())
+    assert_written(&rt, &image, INCREMENT_2);
+    let copies = unwrap(&rt, read(rt.alloc(), MOVES_A_WORD));
+    let copies = unwrap(&rt, upgraded(rt.alloc(), &copies));
+    assert_written(&rt, &copies, MOVES_A_WORD);
 }
 
 #[test]
-fn prints_faults(rt: HostRuntime) -> Result<(), Fail> {
+fn prints_faults(rt: HostRuntime) {
     let refused = ImageFault::Refused {
         code: ImageCode::F10,
         place: 16,
     };
     assert_same(
         &rt,
-        &format!(in rt.alloc(); "{refused}")?.as_str(),
+        &unwrap(&rt, format!(in rt.alloc(); "{refused}")).as_str(),
         &"F10 at byte 16",
     );
     let memory = ImageFault::Memory;
     assert_same(
         &rt,
-        &format!(in rt.alloc(); "{memory}")?.as_str(),
+        &unwrap(&rt, format!(in rt.alloc(); "{memory}")).as_str(),
         &"out of memory",
     );
-    Ok(())
 }
 
 /// That an image has the one initial word 42, or that memory was refused.

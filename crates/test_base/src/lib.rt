@@ -2,6 +2,8 @@
 #![tactic(auto)]
 
 #[cfg(test)]
+mod asserts;
+#[cfg(test)]
 mod collecting;
 #[cfg(test)]
 mod ends;
@@ -9,8 +11,6 @@ mod ends;
 mod images;
 #[cfg(test)]
 mod latch;
-#[cfg(test)]
-mod same;
 #[cfg(test)]
 mod sizes;
 #[cfg(test)]

@@ -1,8 +1,7 @@
 //! Operands and their canonical spellings, as the Compiler Writer's Guide's rule gives them.
 
-use crate::same::assert_same;
+use crate::asserts::{assert_same, unwrap};
 use std::process::Abort;
-use std::test::Fail;
 use tp_decode::{DecodeCode, DecodeFault, Instr, Listing, decode};
 use tp_prefix::{PrefixFault, Spelled, encode, read_one};
 
@@ -40,14 +39,16 @@ fn one_at_a_place(rt: HostRuntime) {
 }
 
 #[test]
-fn a_listing_finds_its_instructions(rt: HostRuntime) -> Result<(), Fail> {
-    let listing = decode(rt.alloc(), &[0x20, 0x41, 0x24, 0xF2, 0xD0])
-        .ok()
-        .ok_or("refused")?;
+fn a_listing_finds_its_instructions(rt: HostRuntime) {
+    let listing = unwrap(
+        &rt,
+        decode(rt.alloc(), &[0x20, 0x41, 0x24, 0xF2, 0xD0])
+            .ok()
+            .ok_or("refused"),
+    );
     assert_found(&rt, &listing);
     assert_same(&rt, &Instr::of(15, 0x4A), &Some(Instr::MoveBytes));
     assert_same(&rt, &Instr::of(9, 0), &None);
-    Ok(())
 }
 
 /// The instructions ldc 1, mint and stl 0 stand at 0, 2 and 4, and none elsewhere.

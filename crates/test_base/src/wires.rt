@@ -1,9 +1,8 @@
 //! Wires and faulty wires, an author's own device, and the texts of their faults.
 
+use crate::asserts::{assert_same, unwrap};
 use crate::latch::Latch;
-use crate::same::assert_same;
 use std::process::Abort;
-use std::test::Fail;
 use tp_link::{DeviceFault, FaultyWire, Link, LinkDevice, LinkFault, Medium, OwnedWire, Wire};
 
 /// A call of a device, with the answer that is wanted. A receive begins with bytes 9, and what they
@@ -56,8 +55,8 @@ fn assert_ended(rt: &impl Abort, medium: &Medium, bytes: &[u8]) {
 }
 
 #[test]
-fn a_wire_answers_in_order(rt: HostRuntime) -> Result<(), Fail> {
-    let mut medium = Medium::new(rt.alloc(), 4)?;
+fn a_wire_answers_in_order(rt: HostRuntime) {
+    let mut medium = unwrap(&rt, Medium::new(rt.alloc(), 4));
     assert!(rt; !medium.ended());
     let steps = [
         Step::Open(true),
@@ -76,26 +75,24 @@ fn a_wire_answers_in_order(rt: HostRuntime) -> Result<(), Fail> {
     ];
     assert_steps(&rt, Wire::new(&mut medium), &steps);
     assert_ended(&rt, &medium, &[3]);
-    Ok(())
 }
 
 #[test]
-fn a_new_wire_clears_the_end_mark(rt: HostRuntime) -> Result<(), Fail> {
-    let mut medium = Medium::new(rt.alloc(), 4)?;
+fn a_new_wire_clears_the_end_mark(rt: HostRuntime) {
+    let mut medium = unwrap(&rt, Medium::new(rt.alloc(), 4));
     let send = [Step::Send(&[1, 2], Ok(()))];
     let receive = [Step::Receive(&[1], Ok(()))];
     let look = [Step::Held(1), Step::Open(true)];
     assert_steps(&rt, Wire::new(&mut medium), &send);
     assert_steps(&rt, FaultyWire::new(&mut medium, 0), &receive);
-    let (owned, ended) = OwnedWire::new(rt.alloc(), medium)?;
+    let (owned, ended) = unwrap(&rt, OwnedWire::new(rt.alloc(), medium));
     assert!(rt; ended.get().is_none());
     assert_steps(&rt, owned, &look);
-    Ok(())
 }
 
 #[test]
-fn a_faulty_wire_fails_in_one_call(rt: HostRuntime) -> Result<(), Fail> {
-    let mut medium = Medium::new(rt.alloc(), 256)?;
+fn a_faulty_wire_fails_in_one_call(rt: HostRuntime) {
+    let mut medium = unwrap(&rt, Medium::new(rt.alloc(), 256));
     let steps = [
         Step::Send(&[1, 0, 0, 0], Ok(())),
         Step::Faults(0),
@@ -107,12 +104,11 @@ fn a_faulty_wire_fails_in_one_call(rt: HostRuntime) -> Result<(), Fail> {
         Step::Faults(1),
     ];
     assert_steps(&rt, FaultyWire::new(&mut medium, 2), &steps);
-    Ok(())
 }
 
 #[test]
-fn a_faulty_wire_that_never_fails(rt: HostRuntime) -> Result<(), Fail> {
-    let mut medium = Medium::new(rt.alloc(), 4)?;
+fn a_faulty_wire_that_never_fails(rt: HostRuntime) {
+    let mut medium = unwrap(&rt, Medium::new(rt.alloc(), 4));
     let steps = [
         Step::Send(&[0], Ok(())),
         Step::Send(&[1], Ok(())),
@@ -121,30 +117,29 @@ fn a_faulty_wire_that_never_fails(rt: HostRuntime) -> Result<(), Fail> {
         Step::Faults(0),
     ];
     assert_steps(&rt, FaultyWire::new(&mut medium, 0), &steps);
-    Ok(())
 }
 
 #[test]
-fn a_failure_comes_before_a_closed_device(rt: HostRuntime) -> Result<(), Fail> {
-    let mut medium = Medium::new(rt.alloc(), 4)?;
+fn a_failure_comes_before_a_closed_device(rt: HostRuntime) {
+    let mut medium = unwrap(&rt, Medium::new(rt.alloc(), 4));
     let steps = [
         Step::Close,
         Step::Send(&[1, 2, 3, 4, 5], Err(DeviceFault::Failed)),
         Step::Send(&[1, 2, 3, 4, 5], Err(DeviceFault::Closed)),
     ];
     assert_steps(&rt, FaultyWire::new(&mut medium, 1), &steps);
-    Ok(())
 }
 
 #[test]
-fn the_last_count_of_faults_is_the_end_of_them(rt: HostRuntime) -> Result<(), Fail> {
+fn the_last_count_of_faults_is_the_end_of_them(rt: HostRuntime) {
     let latch = Latch {
         byte: Some(7),
         opened: true,
         jammed: true,
         faults: u64::MAX - 1,
     };
-    let device: Box<dyn LinkDevice + Send> = Box::new(rt.alloc(), latch)?;
+    let latch = unwrap(&rt, Box::new(rt.alloc(), latch));
+    let device: Box<dyn LinkDevice + Send> = latch;
     let steps = [
         Step::Receive(&[9], Err(DeviceFault::Failed)),
         Step::Faults(u64::MAX),
@@ -153,11 +148,10 @@ fn the_last_count_of_faults_is_the_end_of_them(rt: HostRuntime) -> Result<(), Fa
         Step::Faults(u64::MAX),
     ];
     assert_steps(&rt, device, &steps);
-    Ok(())
 }
 
 #[test]
-fn prints_faults(rt: HostRuntime) -> Result<(), Fail> {
+fn prints_faults(rt: HostRuntime) {
     let faults = [
         (Link::Source, DeviceFault::Closed, "K1 at source"),
         (Link::Sink, DeviceFault::Full, "K2 at sink"),
@@ -166,7 +160,10 @@ fn prints_faults(rt: HostRuntime) -> Result<(), Fail> {
     ];
     for (link, code, text) in faults {
         let fault = LinkFault { link, code };
-        assert_same(&rt, &format!(in rt.alloc(); "{fault}")?.as_str(), &text);
+        assert_same(
+            &rt,
+            &unwrap(&rt, format!(in rt.alloc(); "{fault}")).as_str(),
+            &text,
+        );
     }
-    Ok(())
 }

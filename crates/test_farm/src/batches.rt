@@ -1,8 +1,9 @@
 //! Batches to run, and what they come to.
 
-use std::alloc::{AllocError, Global};
+use crate::asserts::unwrap;
+use std::alloc::Global;
+use std::process::Abort;
 use std::sync::Wait;
-use std::test::Fail;
 use std::thread::Threads;
 use tp_accept::accept;
 use tp_board::Packet;
@@ -38,101 +39,102 @@ pub(crate) fn of_entry(entry: &Entry) -> Told {
     }
 }
 
-pub(crate) fn all_told(alloc: Global, collected: &Collected) -> Result<Vec<Told>, AllocError> {
+pub(crate) fn all_told(rt: &impl Abort, alloc: Global, collected: &Collected) -> Vec<Told> {
     let mut all = Vec::new(alloc);
     for entry in collected.entries.iter() {
-        all.push(of_entry(entry))?;
+        unwrap(rt, all.push(of_entry(entry)));
     }
-    Ok(all)
+    all
 }
 
 /// A packet of each of these words.
-pub(crate) fn packets(alloc: Global, words: &[u32]) -> Result<Vec<Packet>, Fail> {
+pub(crate) fn packets(rt: &impl Abort, alloc: Global, words: &[u32]) -> Vec<Packet> {
     let mut all = Vec::new(alloc);
     for word in words {
         let mut packet = Packet::new();
-        packet.try_extend_from_slice(&word.to_le_bytes())?;
-        all.push(packet)?;
+        unwrap(rt, packet.try_extend_from_slice(&word.to_le_bytes()));
+        unwrap(rt, all.push(packet));
     }
-    Ok(all)
+    all
 }
 
 /// So many words in a row, from 0.
-pub(crate) fn count_up(alloc: Global, count: u32) -> Result<Vec<u32>, AllocError> {
+pub(crate) fn count_up(rt: &impl Abort, alloc: Global, count: u32) -> Vec<u32> {
     let mut words = Vec::new(alloc);
     for word in 0..count {
-        words.push(word)?;
+        unwrap(rt, words.push(word));
     }
-    Ok(words)
+    words
 }
 
 /// The batch of these packets, when an image's worker runs on them, or what it is refused with.
-pub(crate) fn batch_of<R: Threads + Wait + Sync, D: LinkDevice + Send, G: Gate>(
+pub(crate) fn batch_of<R: Abort + Threads + Wait + Sync, D: LinkDevice + Send, G: Gate>(
     rt: &R,
     alloc: Global,
     image: &[u8],
     packets: &[Packet],
     links: Vec<Links<D>>,
     gate: &G,
-) -> Result<Result<Batch<D>, FarmFault>, Fail> {
-    let image = accept(alloc, Vec::from_slice(alloc, image)?)?;
+) -> Result<Batch<D>, FarmFault> {
+    let bytes = unwrap(rt, Vec::from_slice(alloc, image));
+    let image = unwrap(rt, accept(alloc, bytes));
     let job = Job {
         batch: BATCH,
         image: &image,
         packets,
     };
-    Ok(run_batch(rt, alloc, &job, links, gate))
+    run_batch(rt, alloc, &job, links, gate)
 }
 
 /// The batch of packets of one word each, when an image's worker runs on them.
-pub(crate) fn batch_on<R: Threads + Wait + Sync, D: LinkDevice + Send, G: Gate>(
+pub(crate) fn batch_on<R: Abort + Threads + Wait + Sync, D: LinkDevice + Send, G: Gate>(
     rt: &R,
     alloc: Global,
     image: &[u8],
     words: &[u32],
     links: Vec<Links<D>>,
     gate: &G,
-) -> Result<Batch<D>, Fail> {
-    let packets = packets(alloc, words)?;
-    Ok(batch_of(rt, alloc, image, &packets, links, gate)??)
+) -> Batch<D> {
+    let packets = packets(rt, alloc, words);
+    unwrap(rt, batch_of(rt, alloc, image, &packets, links, gate))
 }
 
 /// What becomes of these packets.
-pub(crate) fn run_on<R: Threads + Wait + Sync, D: LinkDevice + Send, G: Gate>(
+pub(crate) fn run_on<R: Abort + Threads + Wait + Sync, D: LinkDevice + Send, G: Gate>(
     rt: &R,
     alloc: Global,
     image: &[u8],
     words: &[u32],
     links: Vec<Links<D>>,
     gate: &G,
-) -> Result<Collected, Fail> {
-    Ok(batch_on(rt, alloc, image, words, links, gate)?.collected)
+) -> Collected {
+    batch_on(rt, alloc, image, words, links, gate).collected
 }
 
 /// What is told of these packets where one member runs them.
-pub(crate) fn told_by_one<R: Threads + Wait + Sync, D: LinkDevice + Send, G: Gate>(
+pub(crate) fn told_by_one<R: Abort + Threads + Wait + Sync, D: LinkDevice + Send, G: Gate>(
     rt: &R,
     alloc: Global,
     image: &[u8],
     words: &[u32],
     links: Links<D>,
     gate: &G,
-) -> Result<Vec<Told>, Fail> {
-    let links = alone(alloc, links)?;
-    let collected = run_on(rt, alloc, image, words, links, gate)?;
-    Ok(all_told(alloc, &collected)?)
+) -> Vec<Told> {
+    let links = alone(rt, alloc, links);
+    let collected = run_on(rt, alloc, image, words, links, gate);
+    all_told(rt, alloc, &collected)
 }
 
 /// What becomes of the increments of these words, by so many members.
-pub(crate) fn increments_by<R: Threads + Wait + Sync, G: Gate>(
+pub(crate) fn increments_by<R: Abort + Threads + Wait + Sync, G: Gate>(
     rt: &R,
     alloc: Global,
     words: &[u32],
     members: usize,
     gate: &G,
-) -> Result<Collected, Fail> {
-    let mut media = media_of(alloc, members, ROOM)?;
-    let links = boxed(alloc, &mut media)?;
+) -> Collected {
+    let mut media = unwrap(rt, media_of(alloc, members, ROOM));
+    let links = unwrap(rt, boxed(alloc, &mut media));
     run_on(rt, alloc, INCREMENT, words, links, gate)
 }
 
@@ -154,10 +156,10 @@ pub(crate) fn have_ended(media: &Media) -> bool {
 }
 
 /// A list of one.
-pub(crate) fn alone<T: Drop>(alloc: Global, one: T) -> Result<Vec<T>, AllocError> {
+pub(crate) fn alone<T: Drop>(rt: &impl Abort, alloc: Global, one: T) -> Vec<T> {
     let mut all = Vec::new(alloc);
-    all.push(one)?;
-    Ok(all)
+    unwrap(rt, all.push(one));
+    all
 }
 
 fn same_result(left: &Done, right: &Done) -> bool {

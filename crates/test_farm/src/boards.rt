@@ -2,7 +2,7 @@
 ghost use Rattle.std.specs.Prelude.{◌≡◌, All, IfSome};
 ghost use Rattle.tp_board.specs.Boards.{IsSeatOf};
 
-use crate::same::assert_same;
+use crate::asserts::{assert_same, unwrap};
 use std::alloc::Global;
 use std::process::Abort;
 use tp_board::{Board, BoardFault, Claim, CloseFault, Ledger, Seat, Shown};
@@ -110,11 +110,11 @@ fn refused_close(alloc: Global, board: Board, zero: Seat) -> Option<(Board, Vec<
     }
 }
 
-fn closed(board: Board, mut seats: Vec<Seat>, last: Seat) -> Option<Ledger>
+fn closed(rt: &impl Abort, board: Board, mut seats: Vec<Seat>, last: Seat) -> Option<Ledger>
     requires seats { All (IsSeatOf board) seats.items }
     requires last { IsSeatOf board last }
 {
-    seats.push(last).ok()?;
+    unwrap(rt, seats.push(last));
     board.close(seats).ok()
 }
 
@@ -125,10 +125,10 @@ fn ledger_after(
     packets: u32,
     steps: &[(u8, Step)],
 ) -> Option<Ledger> {
-    let (board, mut zero, mut one) = board_of_two(alloc, packets)?;
+    let (board, mut zero, mut one) = unwrap(rt, board_of_two(alloc, packets).ok_or("no board"));
     assert_steps(rt, &board, &mut zero, &mut one, steps);
-    let (board, seats) = refused_close(alloc, board, zero)?;
-    closed(board, seats, one)
+    let (board, seats) = unwrap(rt, refused_close(alloc, board, zero).ok_or("not refused"));
+    closed(rt, board, seats, one)
 }
 
 const THREE_PACKETS: [(u8, Step); 13] = [

@@ -2,13 +2,12 @@
 
 ghost use Rattle.tp_board.specs.Runs.{AllMembers};
 
-use crate::same::assert_same;
-use std::test::Fail;
+use crate::asserts::{assert_same, unwrap};
 use tp_board::{Core, Event, Reply, Shown};
 
 #[test]
-fn core_of_two_packets(rt: HostRuntime) -> Result<(), Fail> {
-    let mut core = Core::new(rt.alloc(), 2, 2)?;
+fn core_of_two_packets(rt: HostRuntime) {
+    let mut core = unwrap(&rt, Core::new(rt.alloc(), 2, 2));
     let events = [
         (0, Event::Claim),
         (1, Event::Claim),
@@ -23,7 +22,7 @@ fn core_of_two_packets(rt: HostRuntime) -> Result<(), Fail> {
         (1, Event::Look(Shown::Stop)),
         (0, Event::Look(Shown::Claimed)),
     ];
-    let replies = core.play(rt.alloc(), &events)?;
+    let replies = unwrap(&rt, core.play(rt.alloc(), &events));
     let wanted = [
         Reply::Number(0),
         Reply::Number(1),
@@ -39,14 +38,13 @@ fn core_of_two_packets(rt: HostRuntime) -> Result<(), Fail> {
         Reply::Value(2),
     ];
     assert_same(&rt, &replies.as_slice(), &wanted.as_slice());
-    Ok(())
 }
 
 #[test]
-fn core_of_no_packets(rt: HostRuntime) -> Result<(), Fail> {
-    let mut core = Core::new(rt.alloc(), 0, 1)?;
-    assert_same(&rt, &core.step(0, Event::Claim)?, &Reply::NoMore);
-    Ok(())
+fn core_of_no_packets(rt: HostRuntime) {
+    let mut core = unwrap(&rt, Core::new(rt.alloc(), 0, 1));
+    let reply = unwrap(&rt, core.step(0, Event::Claim));
+    assert_same(&rt, &reply, &Reply::NoMore);
 }
 
 /// 300 claims by member 0.
@@ -59,12 +57,11 @@ fn claims() -> [(u32, Event); 300]
 
 /// A list of 300 events has as many replies, the last of which is made as the second.
 #[test]
-fn core_plays_long_lists(rt: HostRuntime) -> Result<(), Fail> {
-    let mut core = Core::new(rt.alloc(), 2, 1)?;
-    let replies = core.play(rt.alloc(), &claims())?;
+fn core_plays_long_lists(rt: HostRuntime) {
+    let mut core = unwrap(&rt, Core::new(rt.alloc(), 2, 1));
+    let replies = unwrap(&rt, core.play(rt.alloc(), &claims()));
     assert_same(&rt, &replies.len(), &300);
-    let (first, rest) = replies.split_first().ok_or("no reply")?;
+    let (first, rest) = unwrap(&rt, replies.split_first().ok_or("no reply"));
     assert_same(&rt, &*first, &Reply::Number(0));
     assert!(rt; rest.iter().all(|reply| *reply == Reply::Busy(0)));
-    Ok(())
 }

@@ -1,9 +1,10 @@
 //! Devices that fail in one call, are closed, or lack room.
 
+use crate::asserts::unwrap;
 use crate::batches::{ROOM, Told, failing, have_ended, told_by_one};
 use std::alloc::Global;
+use std::process::Abort;
 use std::sync::Wait;
-use std::test::Fail;
 use std::thread::Threads;
 use tp_farm::OpenGate;
 use tp_link::{DeviceFault, Link, LinkDevice, Links};
@@ -13,20 +14,20 @@ use tp_samples::*;
 const DONE: Told = Told::Done(2);
 
 /// Whether that is told of two packets of 1, where a device fails in one of its calls, and all media have ended.
-fn fails_as<R: Threads + Wait + Sync>(
+fn fails_as<R: Abort + Threads + Wait + Sync>(
     rt: &R,
     alloc: Global,
     calls: [u64; 3],
     wanted: [Told; 2],
-) -> Result<bool, Fail> {
-    let mut media = Media::new(alloc, ROOM)?;
+) -> bool {
+    let mut media = unwrap(rt, Media::new(alloc, ROOM));
     let links = failing(&mut media, calls);
-    let all = told_by_one(rt, alloc, INCREMENT, &[1, 1], links, &OpenGate)?;
-    Ok(all.as_slice() == wanted.as_slice() && have_ended(&media))
+    let all = told_by_one(rt, alloc, INCREMENT, &[1, 1], links, &OpenGate);
+    all.as_slice() == wanted.as_slice() && have_ended(&media)
 }
 
 #[test]
-fn each_call_of_a_device_fails_in_turn(rt: HostRuntime) -> Result<(), Fail> {
+fn each_call_of_a_device_fails_in_turn(rt: HostRuntime) {
     let source = Told::Lost(Link::Source, DeviceFault::Failed);
     let sink = Told::Lost(Link::Sink, DeviceFault::Failed);
     let rows: [([u64; 3], [Told; 2]); 11] = [
@@ -43,18 +44,13 @@ fn each_call_of_a_device_fails_in_turn(rt: HostRuntime) -> Result<(), Fail> {
         ([0, 0, 1], [DONE, DONE]),
     ];
     for (calls, wanted) in rows {
-        assert!(rt; fails_as(&rt, rt.alloc(), calls, wanted)?, "{calls:?}");
+        assert!(rt; fails_as(&rt, rt.alloc(), calls, wanted), "{calls:?}");
     }
-    Ok(())
 }
 
 /// What is told of a packet of 10 that is traced, where devices fail in these calls.
-fn traced<R: Threads + Wait + Sync>(
-    rt: &R,
-    alloc: Global,
-    calls: [u64; 3],
-) -> Result<Vec<Told>, Fail> {
-    let mut media = Media::new(alloc, ROOM)?;
+fn traced<R: Abort + Threads + Wait + Sync>(rt: &R, alloc: Global, calls: [u64; 3]) -> Vec<Told> {
+    let mut media = unwrap(rt, Media::new(alloc, ROOM));
     let links = failing(&mut media, calls);
     told_by_one(rt, alloc, TRACES_ITS_PACKET, &[10], links, &OpenGate)
 }
@@ -62,7 +58,7 @@ fn traced<R: Threads + Wait + Sync>(
 /// The first call of the trace sends its message, and then the first of the sink its result. After the run the second
 /// call of the sink receives the result, and then the second of the trace the message.
 #[test]
-fn a_trace_fails(rt: HostRuntime) -> Result<(), Fail> {
+fn a_trace_fails(rt: HostRuntime) {
     let sink = Told::Lost(Link::Sink, DeviceFault::Failed);
     let trace = Told::Lost(Link::Trace, DeviceFault::Failed);
     for (calls, wanted) in [
@@ -73,10 +69,9 @@ fn a_trace_fails(rt: HostRuntime) -> Result<(), Fail> {
         ([0, 1, 2], sink),
         ([0, 2, 2], sink),
     ] {
-        let all = traced(&rt, rt.alloc(), calls)?;
+        let all = traced(&rt, rt.alloc(), calls);
         assert!(rt; all.as_slice() == [wanted].as_slice(), "{calls:?}");
     }
-    Ok(())
 }
 
 fn of_link<T: Drop>(links: Links<T>, link: Link) -> T {
@@ -88,10 +83,10 @@ fn of_link<T: Drop>(links: Links<T>, link: Link) -> T {
 }
 
 /// Media of 600 bytes each, of which the link's is full.
-fn with_600_bytes(alloc: Global, link: Link) -> Result<Media, Fail> {
-    let mut media = Media::new(alloc, 600)?;
-    of_link(media.wires(), link).send(&[9; 600])?;
-    Ok(media)
+fn with_600_bytes(rt: &impl Abort, alloc: Global, link: Link) -> Media {
+    let mut media = unwrap(rt, Media::new(alloc, 600));
+    unwrap(rt, of_link(media.wires(), link).send(&[9; 600]));
+    media
 }
 
 /// The calls that fail, where the link's device fails in this one alone.
@@ -105,25 +100,25 @@ fn call_of(link: Link, call: u64) -> [u64; 3] {
 
 /// Whether that is told of two packets of 1, where the link's device holds 600 bytes and fails in this call, and all
 /// are empty after it.
-fn empties_as<R: Threads + Wait + Sync>(
+fn empties_as<R: Abort + Threads + Wait + Sync>(
     rt: &R,
     alloc: Global,
     link: Link,
     call: u64,
     wanted: [Told; 2],
-) -> Result<bool, Fail> {
-    let mut media = with_600_bytes(alloc, link)?;
+) -> bool {
+    let mut media = with_600_bytes(rt, alloc, link);
     let links = failing(&mut media, call_of(link, call));
-    let all = told_by_one(rt, alloc, INCREMENT, &[1, 1], links, &OpenGate)?;
+    let all = told_by_one(rt, alloc, INCREMENT, &[1, 1], links, &OpenGate);
     let empty = media.source.bytes().is_empty()
         && media.sink.bytes().is_empty()
         && media.trace.bytes().is_empty();
-    Ok(all.as_slice() == wanted.as_slice() && empty)
+    all.as_slice() == wanted.as_slice() && empty
 }
 
 /// A device that holds 600 bytes is emptied by three calls, before the packet is sent.
 #[test]
-fn a_device_fails_while_it_is_emptied(rt: HostRuntime) -> Result<(), Fail> {
+fn a_device_fails_while_it_is_emptied(rt: HostRuntime) {
     let source = Told::Lost(Link::Source, DeviceFault::Failed);
     let sink = Told::Lost(Link::Sink, DeviceFault::Failed);
     let trace = Told::Lost(Link::Trace, DeviceFault::Failed);
@@ -141,11 +136,10 @@ fn a_device_fails_while_it_is_emptied(rt: HostRuntime) -> Result<(), Fail> {
         (Link::Trace, 4, [DONE, DONE]),
     ] {
         assert!(rt;
-            empties_as(&rt, rt.alloc(), link, call, wanted)?,
+            empties_as(&rt, rt.alloc(), link, call, wanted),
             "{link} {call}"
         );
     }
-    Ok(())
 }
 
 /// How a device stands before a batch.
@@ -158,36 +152,35 @@ enum Start {
     ClosedFull,
 }
 
-fn bring<D: LinkDevice>(device: &mut D, start: Start) -> Result<(), DeviceFault> {
+fn bring<D: LinkDevice>(rt: &impl Abort, device: &mut D, start: Start) {
     match start {
         Start::Open => {}
         Start::Closed => device.close(),
         Start::ClosedFull => {
-            device.send(&[9; 4])?;
+            unwrap(rt, device.send(&[9; 4]));
             device.close();
         }
     }
-    Ok(())
 }
 
 /// What is told of a packet of 1, where the devices stand so before.
-fn told_from<R: Threads + Wait + Sync>(
+fn told_from<R: Abort + Threads + Wait + Sync>(
     rt: &R,
     alloc: Global,
     starts: [Start; 3],
-) -> Result<Vec<Told>, Fail> {
-    let mut media = Media::new(alloc, ROOM)?;
+) -> Vec<Told> {
+    let mut media = unwrap(rt, Media::new(alloc, ROOM));
     let mut links = media.wires();
-    bring(&mut links.source, starts[0])?;
-    bring(&mut links.sink, starts[1])?;
-    bring(&mut links.trace, starts[2])?;
+    bring(rt, &mut links.source, starts[0]);
+    bring(rt, &mut links.sink, starts[1]);
+    bring(rt, &mut links.trace, starts[2]);
     told_by_one(rt, alloc, INCREMENT, &[1], links, &OpenGate)
 }
 
 /// Source, sink and trace are emptied in this order, then the packet is sent, and then the worker runs. The first
 /// refusal is told.
 #[test]
-fn the_first_refusal_is_told(rt: HostRuntime) -> Result<(), Fail> {
+fn the_first_refusal_is_told(rt: HostRuntime) {
     for (row, (starts, link)) in [
         (
             [Start::ClosedFull, Start::ClosedFull, Start::Open],
@@ -209,11 +202,10 @@ fn the_first_refusal_is_told(rt: HostRuntime) -> Result<(), Fail> {
     .into_iter()
     .enumerate()
     {
-        let all = told_from(&rt, rt.alloc(), starts)?;
+        let all = told_from(&rt, rt.alloc(), starts);
         let wanted = Told::Lost(link, DeviceFault::Closed);
         assert!(rt; all.as_slice() == [wanted].as_slice(), "{row}");
     }
-    Ok(())
 }
 
 fn close<D: LinkDevice>(links: &mut Links<D>, link: Link) {
@@ -225,51 +217,49 @@ fn close<D: LinkDevice>(links: &mut Links<D>, link: Link) {
 }
 
 /// What is told of packets of these words where the link is closed at the start.
-fn told_where_closed<R: Threads + Wait + Sync>(
+fn told_where_closed<R: Abort + Threads + Wait + Sync>(
     rt: &R,
     alloc: Global,
     media: &mut Media,
     link: Link,
     words: &[u32],
-) -> Result<Vec<Told>, Fail> {
+) -> Vec<Told> {
     let mut links = media.wires();
     close(&mut links, link);
     told_by_one(rt, alloc, INCREMENT, words, links, &OpenGate)
 }
 
 #[test]
-fn a_closed_source_loses_all(rt: HostRuntime) -> Result<(), Fail> {
-    let mut media = Media::new(rt.alloc(), ROOM)?;
-    let all = told_where_closed(&rt, rt.alloc(), &mut media, Link::Source, &[1, 1])?;
+fn a_closed_source_loses_all(rt: HostRuntime) {
+    let mut media = unwrap(&rt, Media::new(rt.alloc(), ROOM));
+    let all = told_where_closed(&rt, rt.alloc(), &mut media, Link::Source, &[1, 1]);
     let lost = Told::Lost(Link::Source, DeviceFault::Closed);
     assert!(rt; all.as_slice() == [lost, lost].as_slice());
-    Ok(())
 }
 
 /// A trace that is closed and holds nothing is not called where nothing is traced. A closed sink is.
 #[test]
-fn a_closed_trace_is_not_called(rt: HostRuntime) -> Result<(), Fail> {
-    let mut media = Media::new(rt.alloc(), ROOM)?;
+fn a_closed_trace_is_not_called(rt: HostRuntime) {
+    let mut media = unwrap(&rt, Media::new(rt.alloc(), ROOM));
     let lost = Told::Lost(Link::Sink, DeviceFault::Closed);
     for (link, wanted) in [(Link::Trace, DONE), (Link::Sink, lost)] {
-        let all = told_where_closed(&rt, rt.alloc(), &mut media, link, &[1])?;
+        let all = told_where_closed(&rt, rt.alloc(), &mut media, link, &[1]);
         assert!(rt; all.as_slice() == [wanted].as_slice());
     }
-    Ok(())
 }
 
 /// What is told of a packet of 1 where the media have these rooms.
-fn told_in_rooms<R: Threads + Wait + Sync>(
+fn told_in_rooms<R: Abort + Threads + Wait + Sync>(
     rt: &R,
     alloc: Global,
     rooms: [usize; 3],
-) -> Result<Vec<Told>, Fail> {
-    let mut media = Media::with_rooms(alloc, rooms[0], rooms[1], rooms[2])?;
+) -> Vec<Told> {
+    let mut media = unwrap(rt, Media::with_rooms(alloc, rooms[0], rooms[1], rooms[2]));
     told_by_one(rt, alloc, INCREMENT, &[1], media.wires(), &OpenGate)
 }
 
 #[test]
-fn room_is_lacking(rt: HostRuntime) -> Result<(), Fail> {
+fn room_is_lacking(rt: HostRuntime) {
     let source = Told::Lost(Link::Source, DeviceFault::Full);
     let sink = Told::Lost(Link::Sink, DeviceFault::Full);
     for (rooms, wanted) in [
@@ -278,8 +268,7 @@ fn room_is_lacking(rt: HostRuntime) -> Result<(), Fail> {
         ([3, 3, 0], source),
         ([4, 4, 0], DONE),
     ] {
-        let all = told_in_rooms(&rt, rt.alloc(), rooms)?;
+        let all = told_in_rooms(&rt, rt.alloc(), rooms);
         assert!(rt; all.as_slice() == [wanted].as_slice(), "{rooms:?}");
     }
-    Ok(())
 }

@@ -3,6 +3,8 @@
 #![tactic(auto)]
 
 #[cfg(test)]
+mod asserts;
+#[cfg(test)]
 mod batches;
 #[cfg(test)]
 mod boards;
@@ -18,8 +20,6 @@ mod over_board;
 mod recording;
 #[cfg(test)]
 mod refusing;
-#[cfg(test)]
-mod same;
 #[cfg(test)]
 mod sources;
 #[cfg(test)]

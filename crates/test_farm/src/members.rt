@@ -1,11 +1,11 @@
 //! Members beside one another: the same batch by any number of them, and a batch that only threads can end.
 
+use crate::asserts::{assert_same, unwrap};
 use crate::batches::{ROOM, Told, all_told, alone, count_up, failing, increments_by, run_on, same};
-use crate::same::assert_same;
-use std::alloc::{AllocError, Global};
+use std::alloc::Global;
+use std::process::Abort;
 use std::sync::Wait;
 use std::sync::atomic::{AtomicU64, Ordering};
-use std::test::Fail;
 use std::thread::{self, Threads};
 use tp_collect::Collected;
 use tp_farm::{Gate, OpenGate};
@@ -14,61 +14,60 @@ use tp_media::Media;
 use tp_samples::*;
 
 /// The increments of these words by one member, over faulty wires that never fail.
-fn increments_by_one<R: Threads + Wait + Sync>(
+fn increments_by_one<R: Abort + Threads + Wait + Sync>(
     rt: &R,
     alloc: Global,
     words: &[u32],
-) -> Result<Collected, Fail> {
-    let mut media = Media::new(alloc, ROOM)?;
-    let links = alone(alloc, failing(&mut media, [0; 3]))?;
+) -> Collected {
+    let mut media = unwrap(rt, Media::new(alloc, ROOM));
+    let links = alone(rt, alloc, failing(&mut media, [0; 3]));
     run_on(rt, alloc, INCREMENT, words, links, &OpenGate)
 }
 
 /// Each entry tells its word plus one.
 pub(crate) fn are_one_more(
+    rt: &impl Abort,
     alloc: Global,
     words: &[u32],
     collected: &Collected,
-) -> Result<bool, Fail> {
-    let all = all_told(alloc, collected)?;
+) -> bool {
+    let all = all_told(rt, alloc, collected);
     for (one, word) in all.iter().zip(words.iter()) {
         if *one != Told::Done(word.wrapping_add(1)) {
-            return Ok(false);
+            return false;
         }
     }
-    Ok(all.len() == words.len())
+    all.len() == words.len()
 }
 
 /// 1,024 packets by 1, 3 and 64 members come to the same.
 #[test]
-fn members_make_no_difference(rt: HostRuntime) -> Result<(), Fail> {
-    let words = count_up(rt.alloc(), 1024)?;
-    let by_one = increments_by_one(&rt, rt.alloc(), &words)?;
+fn members_make_no_difference(rt: HostRuntime) {
+    let words = count_up(&rt, rt.alloc(), 1024);
+    let by_one = increments_by_one(&rt, rt.alloc(), &words);
     assert_same(&rt, &by_one.entries.len(), &1024);
-    assert!(rt; are_one_more(rt.alloc(), &words, &by_one)?);
+    assert!(rt; are_one_more(&rt, rt.alloc(), &words, &by_one));
     for members in [3, 64] {
-        let by_many = increments_by(&rt, rt.alloc(), &words, members, &OpenGate)?;
+        let by_many = increments_by(&rt, rt.alloc(), &words, members, &OpenGate);
         assert!(rt; same(&by_one, &by_many), "{members}");
     }
-    Ok(())
 }
 
 /// How many packets: none, one, about as many as the 32 places of the queue that hands them to members, and most.
 const COUNTS: [u32; 7] = [0, 1, 31, 32, 33, 65, 1024];
 
 #[test]
-fn any_count_of_packets_is_run(rt: HostRuntime) -> Result<(), Fail> {
+fn any_count_of_packets_is_run(rt: HostRuntime) {
     for count in COUNTS {
-        let words = count_up(rt.alloc(), count)?;
+        let words = count_up(&rt, rt.alloc(), count);
         for members in [1, 2, 64] {
-            let collected = increments_by(&rt, rt.alloc(), &words, members, &OpenGate)?;
+            let collected = increments_by(&rt, rt.alloc(), &words, members, &OpenGate);
             assert!(rt;
-                are_one_more(rt.alloc(), &words, &collected)?,
+                are_one_more(&rt, rt.alloc(), &words, &collected),
                 "{count} by {members}"
             );
         }
     }
-    Ok(())
 }
 
 /// How many turns a thread is held for, at most.
@@ -139,43 +138,46 @@ impl Holding {
     }
 }
 
-/// Wires of one member that own their media, whose places are added.
-fn owned_links(alloc: Global, ends: &mut Vec<EndedMedium>) -> Result<Links<OwnedWire>, AllocError> {
-    let (source, source_end) = OwnedWire::new(alloc, Medium::new(alloc, ROOM)?)?;
-    let (sink, sink_end) = OwnedWire::new(alloc, Medium::new(alloc, ROOM)?)?;
-    let (trace, trace_end) = OwnedWire::new(alloc, Medium::new(alloc, ROOM)?)?;
-    ends.push(source_end)?;
-    ends.push(sink_end)?;
-    ends.push(trace_end)?;
-    Ok(Links {
-        source,
-        sink,
-        trace,
-    })
+/// A wire that owns its medium, whose place is added.
+fn owned(rt: &impl Abort, alloc: Global, ends: &mut Vec<EndedMedium>) -> OwnedWire {
+    let medium = unwrap(rt, Medium::new(alloc, ROOM));
+    let (wire, end) = unwrap(rt, OwnedWire::new(alloc, medium));
+    unwrap(rt, ends.push(end));
+    wire
+}
+
+/// Wires of one member in boxes. They own their media, whose places are added.
+fn owned_links(
+    rt: &impl Abort,
+    alloc: Global,
+    ends: &mut Vec<EndedMedium>,
+) -> Links<Box<OwnedWire>> {
+    Links {
+        source: unwrap(rt, Box::new(alloc, owned(rt, alloc, ends))),
+        sink: unwrap(rt, Box::new(alloc, owned(rt, alloc, ends))),
+        trace: unwrap(rt, Box::new(alloc, owned(rt, alloc, ends))),
+    }
 }
 
 /// The increments of 64 packets of 1 by four members, over boxes of any device.
-fn increments_by_any<R: Threads + Wait + Sync>(
+fn increments_by_any<R: Abort + Threads + Wait + Sync>(
     rt: &R,
     alloc: Global,
     gate: &Holding,
     ends: &mut Vec<EndedMedium>,
-) -> Result<Collected, Fail> {
+) -> Collected {
     let mut members = Vec::new(alloc);
     for _ in 0..4u8 {
-        let Links {
+        let boxes = owned_links(rt, alloc, ends);
+        let source: Box<dyn LinkDevice + Send> = boxes.source;
+        let sink: Box<dyn LinkDevice + Send> = boxes.sink;
+        let trace: Box<dyn LinkDevice + Send> = boxes.trace;
+        let links = Links {
             source,
             sink,
             trace,
-        } = owned_links(alloc, ends)?;
-        let source: Box<dyn LinkDevice + Send> = Box::new(alloc, source)?;
-        let sink: Box<dyn LinkDevice + Send> = Box::new(alloc, sink)?;
-        let trace: Box<dyn LinkDevice + Send> = Box::new(alloc, trace)?;
-        members.push(Links {
-            source,
-            sink,
-            trace,
-        })?;
+        };
+        unwrap(rt, members.push(links));
     }
     run_on(rt, alloc, INCREMENT, &[1; 64], members, gate)
 }
@@ -183,16 +185,15 @@ fn increments_by_any<R: Threads + Wait + Sync>(
 /// Four members: packets 0 to 3 are held until these four are claimed, and packet 0 until the other 63 are finished. So
 /// no turns run out only where four members have packets in hand beside one another, and none has a share of its own.
 #[test]
-fn members_claim_beside_one_another(rt: HostRuntime) -> Result<(), Fail> {
+fn members_claim_beside_one_another(rt: HostRuntime) {
     let mut ends = Vec::new(rt.alloc());
     let gate = Holding::of(4, 64);
-    let collected = increments_by_any(&rt, rt.alloc(), &gate, &mut ends)?;
+    let collected = increments_by_any(&rt, rt.alloc(), &gate, &mut ends);
     assert_same(&rt, &collected.entries.len(), &64);
-    assert!(rt; are_one_more(rt.alloc(), &[1; 64], &collected)?);
+    assert!(rt; are_one_more(&rt, rt.alloc(), &[1; 64], &collected));
     assert_same(&rt, &gate.ran_out.load(Ordering::SeqCst), &0);
     assert_same(&rt, &gate.claims.load(Ordering::SeqCst), &64);
     assert_same(&rt, &gate.finishes.load(Ordering::SeqCst), &64);
     assert_same(&rt, &ends.len(), &12);
     assert!(rt; ends.iter().all(|end| end.get().is_some()));
-    Ok(())
 }

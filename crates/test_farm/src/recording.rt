@@ -1,10 +1,10 @@
 //! What a gate is told: a member's own number, and its packet's.
 
+use crate::asserts::{assert_same, unwrap};
 use crate::batches::{ROOM, count_up, failing, increments_by, told_by_one};
-use crate::same::assert_same;
-use std::alloc::{AllocError, Global};
+use std::alloc::Global;
+use std::process::Abort;
 use std::sync::{Mutex, Wait};
-use std::test::Fail;
 use std::thread::Threads;
 use tp_farm::Gate;
 use tp_media::Media;
@@ -74,21 +74,21 @@ impl<R: Wait + Sync> Gate for Recording<'_, R> {
 }
 
 /// What is heard of one member that runs two packets of 1, over wires that fail in these calls.
-fn heard_of_one<R: Threads + Wait + Sync>(
+fn heard_of_one<R: Abort + Threads + Wait + Sync>(
     rt: &R,
     alloc: Global,
     calls: [u64; 3],
-) -> Result<Vec<Heard>, Fail> {
-    let mut media = Media::new(alloc, ROOM)?;
+) -> Vec<Heard> {
+    let mut media = unwrap(rt, Media::new(alloc, ROOM));
     let links = failing(&mut media, calls);
     let gate = Recording::new(rt, alloc);
-    let _ = told_by_one(rt, alloc, INCREMENT, &[1, 1], links, &gate)?;
-    Ok(gate.into_heard())
+    let _ = told_by_one(rt, alloc, INCREMENT, &[1, 1], links, &gate);
+    gate.into_heard()
 }
 
 /// A packet that is lost is told as one that is done.
 #[test]
-fn a_gate_is_told_of_one_member(rt: HostRuntime) -> Result<(), Fail> {
+fn a_gate_is_told_of_one_member(rt: HostRuntime) {
     let wanted = [
         Heard::Asked(0),
         Heard::Claimed(0, 0),
@@ -99,42 +99,36 @@ fn a_gate_is_told_of_one_member(rt: HostRuntime) -> Result<(), Fail> {
         Heard::Asked(0),
     ];
     for calls in [[0, 0, 0], [0, 1, 0], [3, 0, 0]] {
-        let heard = heard_of_one(&rt, rt.alloc(), calls)?;
+        let heard = heard_of_one(&rt, rt.alloc(), calls);
         assert!(rt; heard.as_slice() == wanted.as_slice(), "{calls:?}");
     }
-    Ok(())
 }
 
 /// A batch of no packets starts no member, so nobody asks.
 #[test]
-fn a_gate_is_told_nothing_of_no_packets(rt: HostRuntime) -> Result<(), Fail> {
+fn a_gate_is_told_nothing_of_no_packets(rt: HostRuntime) {
     let gate = Recording::new(&rt, rt.alloc());
-    let _ = increments_by(&rt, rt.alloc(), &[], 3, &gate)?;
+    let _ = increments_by(&rt, rt.alloc(), &[], 3, &gate);
     assert_same(&rt, &gate.into_heard().len(), &0);
-    Ok(())
 }
 
 /// What is heard of so many members that run 60 packets.
-fn heard_of<R: Threads + Wait + Sync>(
-    rt: &R,
-    alloc: Global,
-    members: usize,
-) -> Result<Vec<Heard>, Fail> {
-    let words = count_up(alloc, 60)?;
+fn heard_of<R: Abort + Threads + Wait + Sync>(rt: &R, alloc: Global, members: usize) -> Vec<Heard> {
+    let words = count_up(rt, alloc, 60);
     let gate = Recording::new(rt, alloc);
-    let _ = increments_by(rt, alloc, &words, members, &gate)?;
-    Ok(gate.into_heard())
+    let _ = increments_by(rt, alloc, &words, members, &gate);
+    gate.into_heard()
 }
 
 /// What was heard of one member, in its order.
-fn of_member(alloc: Global, heard: &[Heard], member: u32) -> Result<Vec<Heard>, AllocError> {
+fn of_member(rt: &impl Abort, alloc: Global, heard: &[Heard], member: u32) -> Vec<Heard> {
     let mut all = Vec::new(alloc);
     for one in heard {
         if one.is_of(member) {
-            all.push(*one)?;
+            unwrap(rt, all.push(*one));
         }
     }
-    Ok(all)
+    all
 }
 
 /// A member asks, has taken a packet and is done with that packet, in turn, and asks at last: how many packets that are.
@@ -159,12 +153,12 @@ fn turns_of(heard: &[Heard]) -> Option<usize> {
 
 /// Members of the numbers 0, 1, 2 .. ask and no others, and each of them tells of its own packets.
 #[test]
-fn a_gate_is_told_of_each_member(rt: HostRuntime) -> Result<(), Fail> {
+fn a_gate_is_told_of_each_member(rt: HostRuntime) {
     for members in [1u32, 3, 64] {
-        let heard = heard_of(&rt, rt.alloc(), members as usize)?;
+        let heard = heard_of(&rt, rt.alloc(), members as usize);
         let mut packets = 0usize;
         for member in 0..members {
-            let own = of_member(rt.alloc(), &heard, member)?;
+            let own = of_member(&rt, rt.alloc(), &heard, member);
             let turns = turns_of(&own);
             assert!(rt; turns.is_some(), "{member} of {members}");
             packets = packets.saturating_add(turns.unwrap_or(0));
@@ -176,5 +170,4 @@ fn a_gate_is_told_of_each_member(rt: HostRuntime) -> Result<(), Fail> {
             &180usize.saturating_add(members as usize),
         );
     }
-    Ok(())
 }

@@ -1,10 +1,10 @@
 //! Batches that do not begin, and one that has nothing to do.
 
+use crate::asserts::{assert_same, unwrap};
 use crate::batches::{ROOM, batch_of, have_ended, increments_by, packets};
-use crate::same::assert_same;
 use std::alloc::Global;
+use std::process::Abort;
 use std::sync::Wait;
-use std::test::Fail;
 use std::thread::Threads;
 use tp_board::Packet;
 use tp_farm::{FarmFault, OpenGate};
@@ -12,38 +12,38 @@ use tp_media::{Media, boxed, media_of};
 use tp_samples::*;
 
 /// What a batch of the increment over these media is refused with, if it is.
-fn fault_over<R: Threads + Wait + Sync>(
+fn fault_over<R: Abort + Threads + Wait + Sync>(
     rt: &R,
     alloc: Global,
     media: &mut [Media],
     packets: &[Packet],
-) -> Result<Option<FarmFault>, Fail> {
-    let links = boxed(alloc, media)?;
-    Ok(batch_of(rt, alloc, INCREMENT, packets, links, &OpenGate)?.err())
+) -> Option<FarmFault> {
+    let links = unwrap(rt, boxed(alloc, media));
+    batch_of(rt, alloc, INCREMENT, packets, links, &OpenGate).err()
 }
 
 /// What it is refused with, with so many members; and that all of their media have ended.
-fn refusal<R: Threads + Wait + Sync>(
+fn refusal<R: Abort + Threads + Wait + Sync>(
     rt: &R,
     alloc: Global,
     members: usize,
     packets: &[Packet],
-) -> Result<(Option<FarmFault>, bool), Fail> {
-    let mut media = media_of(alloc, members, ROOM)?;
-    let fault = fault_over(rt, alloc, &mut media, packets)?;
-    Ok((fault, media.iter().all(have_ended)))
+) -> (Option<FarmFault>, bool) {
+    let mut media = unwrap(rt, media_of(alloc, members, ROOM));
+    let fault = fault_over(rt, alloc, &mut media, packets);
+    (fault, media.iter().all(have_ended))
 }
 
 /// A list of packets of 1, of which these have another length.
-fn with_others(alloc: Global, count: usize, others: &[usize]) -> Result<Vec<Packet>, Fail> {
+fn with_others(rt: &impl Abort, alloc: Global, count: usize, others: &[usize]) -> Vec<Packet> {
     let ones = [1; 1025];
-    let mut all = packets(alloc, ones.get(..count).unwrap_or(&[]))?;
+    let mut all = packets(rt, alloc, ones.get(..count).unwrap_or(&[]));
     for other in others {
         if let Some(packet) = all.get_mut(*other) {
-            packet.try_push(0)?;
+            unwrap(rt, packet.try_push(0));
         }
     }
-    Ok(all)
+    all
 }
 
 /// Members, packets, which of these have another length, and what the batch is refused with.
@@ -61,36 +61,33 @@ const REFUSED: [(usize, usize, &[usize], Option<FarmFault>); 10] = [
 ];
 
 #[test]
-fn refuses_in_order(rt: HostRuntime) -> Result<(), Fail> {
+fn refuses_in_order(rt: HostRuntime) {
     let alloc = rt.alloc();
     for (members, count, others, wanted) in REFUSED.iter() {
-        let packets = with_others(alloc, *count, others)?;
-        let (fault, ended) = refusal(&rt, alloc, *members, &packets)?;
+        let packets = with_others(&rt, alloc, *count, others);
+        let (fault, ended) = refusal(&rt, alloc, *members, &packets);
         assert!(rt; fault == *wanted && ended, "{members} {count}");
     }
-    Ok(())
 }
 
 /// A packet that is too short has another length, too.
 #[test]
-fn refuses_short_packets(rt: HostRuntime) -> Result<(), Fail> {
+fn refuses_short_packets(rt: HostRuntime) {
     let alloc = rt.alloc();
-    let mut all = packets(alloc, &[1, 1])?;
-    all.push(Packet::new())?;
-    let (fault, ended) = refusal(&rt, alloc, 2, &all)?;
+    let mut all = packets(&rt, alloc, &[1, 1]);
+    unwrap(&rt, all.push(Packet::new()));
+    let (fault, ended) = refusal(&rt, alloc, 2, &all);
     assert_same(&rt, &fault, &Some(FarmFault::Length(2)));
     assert!(rt; ended);
-    Ok(())
 }
 
 #[test]
-fn a_batch_may_be_empty(rt: HostRuntime) -> Result<(), Fail> {
+fn a_batch_may_be_empty(rt: HostRuntime) {
     let alloc = rt.alloc();
     for members in [1, 64] {
-        let collected = increments_by(&rt, alloc, &[], members, &OpenGate)?;
+        let collected = increments_by(&rt, alloc, &[], members, &OpenGate);
         assert_same(&rt, &collected.entries.len(), &0);
     }
-    Ok(())
 }
 
 /// Each fault, and what is printed of it.
@@ -103,10 +100,9 @@ const PRINTED: [(FarmFault, &str); 5] = [
 ];
 
 #[test]
-fn prints_faults(rt: HostRuntime) -> Result<(), Fail> {
+fn prints_faults(rt: HostRuntime) {
     for (fault, text) in PRINTED.iter() {
-        let told = format!(in rt.alloc(); "{fault}")?;
+        let told = unwrap(&rt, format!(in rt.alloc(); "{fault}"));
         assert!(rt; told.as_str() == *text, "{text}");
     }
-    Ok(())
 }

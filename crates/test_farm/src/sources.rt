@@ -3,12 +3,11 @@ ghost use Rattle.std.specs.Prelude.{◌≡◌, None, IfSome};
 ghost use Rattle.tp_board.specs.Boards.{IsSeatOf};
 ghost use Rattle.tp_board.specs.Views.{first_of};
 
-use crate::same::assert_same;
+use crate::asserts::{assert_same, unwrap};
 use arrayvec::ArrayVec;
 use std::alloc::Global;
 use std::process::Abort;
 use std::sync::Wait;
-use std::test::Fail;
 use tp_board::{Board, BoardFault, BoardSource, Ledger, Packet, Seat, Work, WorkSource};
 
 fn packet_of(first: u8) -> Packet {
@@ -28,10 +27,10 @@ fn board_of_one(alloc: Global, packets: u32) -> Option<(Board, Seat)>
     Some((board, seat))
 }
 
-fn closed(alloc: Global, source: BoardSource, seat: Seat) -> Option<Ledger>
+fn closed(rt: &impl Abort, alloc: Global, source: BoardSource, seat: Seat) -> Option<Ledger>
     requires { IsSeatOf source.board seat }
 {
-    let seats = vec![in alloc; seat].ok()?;
+    let seats = unwrap(rt, vec![in alloc; seat]);
     source.into_board().close(seats).ok()
 }
 
@@ -117,9 +116,9 @@ fn assert_abandons_two<S: WorkSource, R: Wait + Abort>(rt: &R, source: &S, hand:
 }
 
 #[test]
-fn source_stopped_after_two(rt: HostRuntime) -> Result<(), Fail> {
+fn source_stopped_after_two(rt: HostRuntime) {
     let packets = [packet_of(1), packet_of(2), packet_of(3)];
-    let (board, mut hand) = board_of_one(rt.alloc(), 3).ok_or("no board")?;
+    let (board, mut hand) = unwrap(&rt, board_of_one(rt.alloc(), 3).ok_or("no board"));
     let source = BoardSource::new(board, &packets);
     assert_stops_after_two(&rt, &source, &mut hand);
     let wanted = Ledger {
@@ -129,14 +128,13 @@ fn source_stopped_after_two(rt: HostRuntime) -> Result<(), Fail> {
         in_hand: 0,
         stopped: true,
     };
-    assert_same(&rt, &closed(rt.alloc(), source, hand), &Some(wanted));
-    Ok(())
+    assert_same(&rt, &closed(&rt, rt.alloc(), source, hand), &Some(wanted));
 }
 
 #[test]
-fn source_of_two_packets(rt: HostRuntime) -> Result<(), Fail> {
+fn source_of_two_packets(rt: HostRuntime) {
     let packets = [packet_of(1), packet_of(2)];
-    let (board, mut hand) = board_of_one(rt.alloc(), 2).ok_or("no board")?;
+    let (board, mut hand) = unwrap(&rt, board_of_one(rt.alloc(), 2).ok_or("no board"));
     let source = BoardSource::new(board, &packets);
     assert_abandons_two(&rt, &source, &mut hand);
     let wanted = Ledger {
@@ -146,6 +144,5 @@ fn source_of_two_packets(rt: HostRuntime) -> Result<(), Fail> {
         in_hand: 0,
         stopped: false,
     };
-    assert_same(&rt, &closed(rt.alloc(), source, hand), &Some(wanted));
-    Ok(())
+    assert_same(&rt, &closed(&rt, rt.alloc(), source, hand), &Some(wanted));
 }

@@ -1,11 +1,11 @@
 //! Gates that stop a batch.
 
+use crate::asserts::{assert_same, unwrap};
 use crate::batches::{ROOM, Told, all_told, batch_on, have_ended, increments_by, told_by_one};
-use crate::same::assert_same;
 use std::alloc::Global;
+use std::process::Abort;
 use std::sync::Wait;
 use std::sync::atomic::{AtomicU64, Ordering};
-use std::test::Fail;
 use std::thread::{self, Threads};
 use tp_farm::Gate;
 use tp_link::{LinkDevice, Links};
@@ -46,23 +46,22 @@ impl Gate for Closing {
 }
 
 /// What is told of three packets of 1 by one member.
-fn told_of_three<R: Threads + Wait + Sync>(
+fn told_of_three<R: Abort + Threads + Wait + Sync>(
     rt: &R,
     alloc: Global,
     gate: &Closing,
-) -> Result<Vec<Told>, Fail> {
-    let mut media = Media::new(alloc, ROOM)?;
+) -> Vec<Told> {
+    let mut media = unwrap(rt, Media::new(alloc, ROOM));
     told_by_one(rt, alloc, INCREMENT, &[1; 3], media.wires(), gate)
 }
 
 #[test]
-fn a_gate_stops_one_member(rt: HostRuntime) -> Result<(), Fail> {
+fn a_gate_stops_one_member(rt: HostRuntime) {
     let gate = Closing::at(3);
-    let all = told_of_three(&rt, rt.alloc(), &gate)?;
+    let all = told_of_three(&rt, rt.alloc(), &gate);
     let done = Told::Done(2);
     assert!(rt; all.as_slice() == [done, done, Told::Stopped].as_slice());
     assert_same(&rt, &gate.asks.load(Ordering::SeqCst), &3);
-    Ok(())
 }
 
 /// How many bytes are put into a member's trace: one into the first member's, two into the second's.
@@ -70,11 +69,10 @@ fn bytes_put(member: usize) -> usize {
     member.saturating_add(1).min(8)
 }
 
-fn fill_traces<D: LinkDevice>(links: &mut [Links<D>]) -> Result<(), Fail> {
+fn fill_traces<D: LinkDevice>(rt: &impl Abort, links: &mut [Links<D>]) {
     for (member, one) in links.iter_mut().enumerate() {
-        one.trace.send(&[5; 8][..bytes_put(member).min(8)])?;
+        unwrap(rt, one.trace.send(&[5; 8][..bytes_put(member).min(8)]));
     }
-    Ok(())
 }
 
 /// All devices are open, and each trace holds what was put into it.
@@ -89,56 +87,50 @@ fn are_kept<D: LinkDevice>(links: &[Links<D>]) -> bool {
 }
 
 /// Whether all of 100 packets are stopped by a closed gate, and the links are given back as they were.
-fn stops_all<R: Threads + Wait + Sync>(
-    rt: &R,
-    alloc: Global,
-    media: &mut [Media],
-) -> Result<bool, Fail> {
-    let mut links = boxed(alloc, media)?;
-    fill_traces(&mut links)?;
-    let batch = batch_on(rt, alloc, INCREMENT, &[1; 100], links, &Closing::at(1))?;
-    let all = all_told(alloc, &batch.collected)?;
+fn stops_all<R: Abort + Threads + Wait + Sync>(rt: &R, alloc: Global, media: &mut [Media]) -> bool {
+    let mut links = unwrap(rt, boxed(alloc, media));
+    fill_traces(rt, &mut links);
+    let batch = batch_on(rt, alloc, INCREMENT, &[1; 100], links, &Closing::at(1));
+    let all = all_told(rt, alloc, &batch.collected);
     let stopped = all.len() == 100 && count_of(&all, Told::Stopped) == 100;
-    Ok(stopped && batch.links.len() == 2 && are_kept(&batch.links))
+    stopped && batch.links.len() == 2 && are_kept(&batch.links)
 }
 
 #[test]
-fn a_closed_gate_lets_nothing_through(rt: HostRuntime) -> Result<(), Fail> {
-    let mut media = media_of(rt.alloc(), 2, ROOM)?;
-    assert!(rt; stops_all(&rt, rt.alloc(), &mut media)?);
+fn a_closed_gate_lets_nothing_through(rt: HostRuntime) {
+    let mut media = unwrap(&rt, media_of(rt.alloc(), 2, ROOM));
+    assert!(rt; stops_all(&rt, rt.alloc(), &mut media));
     assert!(rt; media.iter().all(have_ended));
-    Ok(())
 }
 
 /// How many of 1,024 packets are done, by so many members under a gate that says no at this ask and from there on; none where
 /// an entry is neither done nor stopped.
-fn done_before<R: Threads + Wait + Sync>(
+fn done_before<R: Abort + Threads + Wait + Sync>(
     rt: &R,
     alloc: Global,
     members: usize,
     at: u64,
-) -> Result<Option<usize>, Fail> {
-    let collected = increments_by(rt, alloc, &[1; 1024], members, &Closing::at(at))?;
-    let all = all_told(alloc, &collected)?;
+) -> Option<usize> {
+    let collected = increments_by(rt, alloc, &[1; 1024], members, &Closing::at(at));
+    let all = all_told(rt, alloc, &collected);
     let done = count_of(&all, Told::Done(2));
     let stopped = count_of(&all, Told::Stopped);
-    Ok((done.saturating_add(stopped) == 1024).then_some(done))
+    (done.saturating_add(stopped) == 1024).then_some(done)
 }
 
 /// The queue that hands packets to members is full when they end, and nobody waits for room in it.
 #[test]
-fn a_full_queue_ends_with_its_members(rt: HostRuntime) -> Result<(), Fail> {
+fn a_full_queue_ends_with_its_members(rt: HostRuntime) {
     for members in [1, 2, 64] {
         assert_eq!(rt;
-            done_before(&rt, rt.alloc(), members, 1)?,
+            done_before(&rt, rt.alloc(), members, 1),
             Some(0),
             "{members}"
         );
-        let done = done_before(&rt, rt.alloc(), members, 3)?;
+        let done = done_before(&rt, rt.alloc(), members, 3);
         assert!(rt; done.is_some_and(|done| done <= 2), "{members}");
     }
-    assert_same(&rt, &done_before(&rt, rt.alloc(), 1, 40)?, &Some(39));
-    Ok(())
+    assert_same(&rt, &done_before(&rt, rt.alloc(), 1, 40), &Some(39));
 }
 
 /// How many packets this is told of.
@@ -153,25 +145,21 @@ fn count_of(all: &[Told], wanted: Told) -> usize {
 }
 
 /// How many of 50 packets by two members are done, and how many are stopped.
-fn done_and_stopped<R: Threads + Wait + Sync>(
-    rt: &R,
-    alloc: Global,
-) -> Result<(usize, usize), Fail> {
-    let collected = increments_by(rt, alloc, &[1; 50], 2, &Closing::at(10))?;
-    let all = all_told(alloc, &collected)?;
-    Ok((count_of(&all, Told::Done(2)), count_of(&all, Told::Stopped)))
+fn done_and_stopped<R: Abort + Threads + Wait + Sync>(rt: &R, alloc: Global) -> (usize, usize) {
+    let collected = increments_by(rt, alloc, &[1; 50], 2, &Closing::at(10));
+    let all = all_told(rt, alloc, &collected);
+    (count_of(&all, Told::Done(2)), count_of(&all, Told::Stopped))
 }
 
 /// Where the tenth question is the first that is answered false, nine members went on. The last of these may still find the
 /// batch stopped.
 #[test]
-fn a_gate_stops_two_members(rt: HostRuntime) -> Result<(), Fail> {
+fn a_gate_stops_two_members(rt: HostRuntime) {
     for _ in 0..20u8 {
-        let (done, stopped) = done_and_stopped(&rt, rt.alloc())?;
+        let (done, stopped) = done_and_stopped(&rt, rt.alloc());
         assert!(rt; done == 8 || done == 9, "{done}");
         assert_same(&rt, &done.saturating_add(stopped), &50);
     }
-    Ok(())
 }
 
 /// No member's number.
@@ -234,28 +222,27 @@ impl Gate for SayingNoOnce {
 }
 
 /// How many of 1,024 packets are done, and how many are stopped.
-fn done_and_stopped_by_one_no<R: Threads + Wait + Sync>(
+fn done_and_stopped_by_one_no<R: Abort + Threads + Wait + Sync>(
     rt: &R,
     alloc: Global,
     members: usize,
     gate: &SayingNoOnce,
-) -> Result<(usize, usize), Fail> {
-    let collected = increments_by(rt, alloc, &[1; 1024], members, gate)?;
-    let all = all_told(alloc, &collected)?;
-    Ok((count_of(&all, Told::Done(2)), count_of(&all, Told::Stopped)))
+) -> (usize, usize) {
+    let collected = increments_by(rt, alloc, &[1; 1024], members, gate);
+    let all = all_told(rt, alloc, &collected);
+    (count_of(&all, Told::Done(2)), count_of(&all, Told::Stopped))
 }
 
 /// One no stops all members, though they would be let go on: each of them ends, and packets are left. Nine asks were
 /// answered before; all members but one may find the batch stopped after that.
 #[test]
-fn one_no_stops_all_members(rt: HostRuntime) -> Result<(), Fail> {
+fn one_no_stops_all_members(rt: HostRuntime) {
     for (members, least) in [(1, 9), (2, 8), (4, 6)] {
         let gate = SayingNoOnce::at(10);
-        let (done, stopped) = done_and_stopped_by_one_no(&rt, rt.alloc(), members, &gate)?;
+        let (done, stopped) = done_and_stopped_by_one_no(&rt, rt.alloc(), members, &gate);
         assert_same(&rt, &done.saturating_add(stopped), &1024);
         assert!(rt; done >= least && stopped > 0, "{members}: {done}");
         assert!(rt; members > 1 || done == least, "{done}");
         assert_same(&rt, &gate.asks_again.load(Ordering::SeqCst), &0);
     }
-    Ok(())
 }

@@ -1,11 +1,12 @@
 //! Members that end early or lose their packets, at counts of packets about the 32 places of the queue that hands them out:
 //! each batch comes to its end, with an entry for each packet.
 
+use crate::asserts::unwrap;
 use crate::batches::{ROOM, Told, all_told, count_up, increments_by, run_on};
 use crate::stopping::Closing;
 use std::alloc::Global;
+use std::process::Abort;
 use std::sync::Wait;
-use std::test::Fail;
 use std::thread::Threads;
 use tp_farm::OpenGate;
 use tp_link::{DeviceFault, Link, LinkDevice};
@@ -40,60 +41,58 @@ fn done_beside(all: &[Told], words: &[u32], other: Told) -> Option<usize> {
 }
 
 /// How many are done under a gate that says no at this ask and from there on.
-fn done_before<R: Threads + Wait + Sync>(
+fn done_before<R: Abort + Threads + Wait + Sync>(
     rt: &R,
     alloc: Global,
     words: &[u32],
     members: usize,
     at: u64,
-) -> Result<Option<usize>, Fail> {
-    let collected = increments_by(rt, alloc, words, members, &Closing::at(at))?;
-    Ok(done_beside(&all_told(alloc, &collected)?, words, Told::Stopped))
+) -> Option<usize> {
+    let collected = increments_by(rt, alloc, words, members, &Closing::at(at));
+    done_beside(&all_told(rt, alloc, &collected), words, Told::Stopped)
 }
 
 /// Where the twentieth ask is the first that is answered no, at most 19 packets were taken; one member takes so many.
 #[test]
-fn members_end_by_a_gates_no(rt: HostRuntime) -> Result<(), Fail> {
+fn members_end_by_a_gates_no(rt: HostRuntime) {
     for count in COUNTS {
-        let words = count_up(rt.alloc(), count)?;
+        let words = count_up(&rt, rt.alloc(), count);
         for members in MEMBERS {
-            let done = done_before(&rt, rt.alloc(), &words, members, 20)?;
+            let done = done_before(&rt, rt.alloc(), &words, members, 20);
             assert!(rt; done.is_some_and(|done| done <= 19), "{count} by {members}");
         }
-        let done = done_before(&rt, rt.alloc(), &words, 1, 20)?;
+        let done = done_before(&rt, rt.alloc(), &words, 1, 20);
         assert_eq!(rt; done, Some(words.len().min(19)), "{count}");
     }
-    Ok(())
 }
 
 /// How many are done by members of whom the first has a closed source.
-fn done_beside_closed<R: Threads + Wait + Sync>(
+fn done_beside_closed<R: Abort + Threads + Wait + Sync>(
     rt: &R,
     alloc: Global,
     words: &[u32],
     members: usize,
-) -> Result<Option<usize>, Fail> {
-    let mut media = media_of(alloc, members, ROOM)?;
-    let mut links = boxed(alloc, &mut media)?;
+) -> Option<usize> {
+    let mut media = unwrap(rt, media_of(alloc, members, ROOM));
+    let mut links = unwrap(rt, boxed(alloc, &mut media));
     for first in links.iter_mut().take(1) {
         first.source.close();
     }
-    let collected = run_on(rt, alloc, INCREMENT, words, links, &OpenGate)?;
+    let collected = run_on(rt, alloc, INCREMENT, words, links, &OpenGate);
     let lost = Told::Lost(Link::Source, DeviceFault::Closed);
-    Ok(done_beside(&all_told(alloc, &collected)?, words, lost))
+    done_beside(&all_told(rt, alloc, &collected), words, lost)
 }
 
 /// A member with a closed device takes its packets and loses them. Alone it loses all.
 #[test]
-fn a_members_device_is_closed(rt: HostRuntime) -> Result<(), Fail> {
+fn a_members_device_is_closed(rt: HostRuntime) {
     for count in COUNTS {
-        let words = count_up(rt.alloc(), count)?;
+        let words = count_up(&rt, rt.alloc(), count);
         for members in MEMBERS {
-            let done = done_beside_closed(&rt, rt.alloc(), &words, members)?;
+            let done = done_beside_closed(&rt, rt.alloc(), &words, members);
             assert!(rt; done.is_some(), "{count} by {members}");
         }
-        let done = done_beside_closed(&rt, rt.alloc(), &words, 1)?;
+        let done = done_beside_closed(&rt, rt.alloc(), &words, 1);
         assert_eq!(rt; done, Some(0), "{count}");
     }
-    Ok(())
 }

@@ -2,11 +2,11 @@
 ghost use Rattle.std.specs.Prelude.{◌≡◌, IfSome};
 ghost use Rattle.tp_board.specs.Boards.{IsSeatOf};
 
+use crate::asserts::{assert_same, unwrap};
 use crate::boards::last_two;
-use crate::same::assert_same;
 use std::alloc::Global;
+use std::process::Abort;
 use std::snapshot::Snapshot;
-use std::test::Fail;
 use std::thread;
 use std::thread::{Promise, PromisedHandle, Scope, Threads};
 use tp_board::{Board, Claim, Ledger, Seat, Shown};
@@ -87,23 +87,28 @@ fn board_of_four(alloc: Global, packets: u32) -> Option<(Board, (Seat, Seat, Sea
     Some((board, (a, b, c, d)))
 }
 
-fn closed(alloc: Global, board: Board, seats: (Seat, Seat, Seat, Seat)) -> Option<Ledger>
+fn closed(
+    rt: &impl Abort,
+    alloc: Global,
+    board: Board,
+    seats: (Seat, Seat, Seat, Seat),
+) -> Option<Ledger>
     requires first { IsSeatOf board seats.0 × IsSeatOf board seats.1 }
     requires last { IsSeatOf board seats.2 × IsSeatOf board seats.3 }
 {
     let (a, b, c, d) = seats;
-    let seats = vec![in alloc; a, b, c, d].ok()?;
+    let seats = unwrap(rt, vec![in alloc; a, b, c, d]);
     board.close(seats).ok()
 }
 
 #[test]
-fn four_threads(rt: HostRuntime) -> Result<(), Fail> {
-    let (board, seats) = board_of_four(rt.alloc(), 1000).ok_or("no board")?;
+fn four_threads(rt: HostRuntime) {
+    let (board, seats) = unwrap(&rt, board_of_four(rt.alloc(), 1000).ok_or("no board"));
     let shared = &board;
     let back = thread::scope(thread::scope_env(), &rt, |scope| {
         four_worked(&rt, scope, shared, seats)
     });
-    let seats = back.ok_or("a thread was not started")?;
+    let seats = unwrap(&rt, back.ok_or("a thread was not started"));
     let wanted = Ledger {
         drawn: 1000,
         done: 1000,
@@ -111,6 +116,5 @@ fn four_threads(rt: HostRuntime) -> Result<(), Fail> {
         in_hand: 0,
         stopped: false,
     };
-    assert_same(&rt, &closed(rt.alloc(), board, seats), &Some(wanted));
-    Ok(())
+    assert_same(&rt, &closed(&rt, rt.alloc(), board, seats), &Some(wanted));
 }

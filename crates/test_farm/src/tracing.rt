@@ -1,10 +1,10 @@
 //! Traces.
 
+use crate::asserts::{assert_same, unwrap};
 use crate::batches::{BATCH, ROOM, Told, alone, run_on, told_by_one};
-use crate::same::assert_same;
 use std::alloc::Global;
+use std::process::Abort;
 use std::sync::Wait;
-use std::test::Fail;
 use std::thread::Threads;
 use tp_collect::{Collected, Done, Entry};
 use tp_farm::OpenGate;
@@ -13,14 +13,14 @@ use tp_media::Media;
 use tp_samples::*;
 
 /// What becomes of packets of two words by one member.
-fn both<R: Threads + Wait + Sync>(
+fn both<R: Abort + Threads + Wait + Sync>(
     rt: &R,
     alloc: Global,
     image: &[u8],
     words: [u32; 2],
-) -> Result<Collected, Fail> {
-    let mut media = Media::new(alloc, ROOM)?;
-    let links = alone(alloc, media.wires())?;
+) -> Collected {
+    let mut media = unwrap(rt, Media::new(alloc, ROOM));
+    let links = alone(rt, alloc, media.wires());
     run_on(rt, alloc, image, &words, links, &OpenGate)
 }
 
@@ -35,8 +35,8 @@ fn is_traced(done: &Done, packet: u32, bytes: [u8; 4]) -> bool {
 }
 
 #[test]
-fn a_trace_is_kept(rt: HostRuntime) -> Result<(), Fail> {
-    let collected = both(&rt, rt.alloc(), TRACES_ITS_PACKET, [10, 11])?;
+fn a_trace_is_kept(rt: HostRuntime) {
+    let collected = both(&rt, rt.alloc(), TRACES_ITS_PACKET, [10, 11]);
     match collected.entries.as_slice() {
         [Entry::Done(first), Entry::Done(second)] => {
             assert!(rt; is_traced(first, 0, [10, 0, 0, 0]));
@@ -44,16 +44,15 @@ fn a_trace_is_kept(rt: HostRuntime) -> Result<(), Fail> {
         }
         _ => assert!(rt; false, "two results"),
     }
-    Ok(())
 }
 
 /// What is told of two packets that are traced 65 times, in a trace with this room.
-fn told_of_long_traces<R: Threads + Wait + Sync>(
+fn told_of_long_traces<R: Abort + Threads + Wait + Sync>(
     rt: &R,
     alloc: Global,
     room: usize,
-) -> Result<Vec<Told>, Fail> {
-    let mut media = Media::with_rooms(alloc, ROOM, ROOM, room)?;
+) -> Vec<Told> {
+    let mut media = unwrap(rt, Media::with_rooms(alloc, ROOM, ROOM, room));
     told_by_one(
         rt,
         alloc,
@@ -66,19 +65,18 @@ fn told_of_long_traces<R: Threads + Wait + Sync>(
 
 /// With room for 256 bytes the 65th message is refused. With room for it, the trace is too long in the end.
 #[test]
-fn a_long_trace_is_lost(rt: HostRuntime) -> Result<(), Fail> {
+fn a_long_trace_is_lost(rt: HostRuntime) {
     let lost = Told::Lost(Link::Trace, DeviceFault::Full);
     for room in [0, 256, 259, 260, 1000] {
-        let all = told_of_long_traces(&rt, rt.alloc(), room)?;
+        let all = told_of_long_traces(&rt, rt.alloc(), room);
         assert!(rt; all.as_slice() == [lost, lost].as_slice(), "{room}");
     }
-    Ok(())
 }
 
 /// The error flag of each packet is its own.
 #[test]
-fn an_error_flag_is_told(rt: HostRuntime) -> Result<(), Fail> {
-    let collected = both(&rt, rt.alloc(), INCREMENT, [0x7FFF_FFFF, 1])?;
+fn an_error_flag_is_told(rt: HostRuntime) {
+    let collected = both(&rt, rt.alloc(), INCREMENT, [0x7FFF_FFFF, 1]);
     match collected.entries.as_slice() {
         [Entry::Done(first), Entry::Done(second)] => {
             assert!(rt; first.error && !second.error);
@@ -87,5 +85,4 @@ fn an_error_flag_is_told(rt: HostRuntime) -> Result<(), Fail> {
         }
         _ => assert!(rt; false, "two results"),
     }
-    Ok(())
 }

@@ -1,6 +1,6 @@
 //! Each way in which the program ends: its status, and what it writes.
 
-use crate::same::assert_same;
+use crate::asserts::{assert_same, unwrap};
 use crate::streams::{Broken, Ended, Unflushed, Words};
 use std::alloc::{AllocError, Global};
 use std::env::{Env, FillError};
@@ -8,7 +8,6 @@ use std::io;
 use std::io::{ErrorKind, Read, Write};
 use std::process::{Abort, ExitCode};
 use std::sync::Wait;
-use std::test::Fail;
 use std::thread::Threads;
 use tp_program::{Ending, run};
 use tp_session::ServeFault;
@@ -295,19 +294,15 @@ A refused line is answered by NO <code> <place>. docs/PROTOCOL.md says the rest.
 ";
 
 #[test]
-fn answers_help_and_version(rt: HostRuntime) -> Result<(), Fail> {
+fn answers_help_and_version(rt: HostRuntime) {
     for (word, answer) in [("--help", HELP), ("--version", "farmd 0.1\n")] {
         let mut output = Vec::new(rt.alloc());
         let ended = ran(&rt, rt.alloc(), &["farmd", word], &mut Broken, &mut output);
         assert_same(&rt, &ended.status, &ExitCode::SUCCESS);
-        assert_same(
-            &rt,
-            &str::from_utf8(&output).map_err(|_| "no text")?,
-            &answer,
-        );
+        let told = unwrap(&rt, str::from_utf8(&output));
+        assert_same(&rt, &told, &answer);
         assert!(rt; ended.errors.is_empty());
     }
-    Ok(())
 }
 
 /// The number of members changes no answer, and the trace is told where it is asked for.
@@ -337,7 +332,7 @@ fn serves_as_asked(rt: HostRuntime) {
 
 /// The text and the status of each ending.
 #[test]
-fn endings(rt: HostRuntime) -> Result<(), Fail> {
+fn endings(rt: HostRuntime) {
     let endings = [
         (
             Ending::NotText,
@@ -356,7 +351,7 @@ fn endings(rt: HostRuntime) -> Result<(), Fail> {
     ];
     for (ending, status, text) in &endings {
         assert_same(&rt, &ending.status(), &*status);
-        assert_same(&rt, &format!(in rt.alloc(); "{ending}")?.as_str(), &*text);
+        let told = unwrap(&rt, format!(in rt.alloc(); "{ending}"));
+        assert_same(&rt, &told.as_str(), &*text);
     }
-    Ok(())
 }

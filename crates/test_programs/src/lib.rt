@@ -3,9 +3,9 @@
 #![tactic(auto)]
 
 #[cfg(test)]
-mod daemon;
+mod asserts;
 #[cfg(test)]
-mod same;
+mod daemon;
 #[cfg(test)]
 mod service;
 #[cfg(test)]

@@ -1,11 +1,10 @@
 //! What the program writes and ends with: of runs, of inputs and of command lines that it does not take.
 
-use crate::same::assert_same;
+use crate::asserts::{assert_same, unwrap};
 use crate::streams::{Broken, Ended, Unflushed, Words};
 use std::alloc::{AllocError, Global};
 use std::io::{Read, Write};
 use std::process::ExitCode;
-use std::test::Fail;
 use tp_stepper::{End, Place};
 use tp_workbench::{Ending, Status, TextFault, bytes_of, place_of, run};
 
@@ -24,7 +23,7 @@ const STUCK: &str = "5450573102000C00080001000100000041F5";
 
 /// How runs are told, and the statuses that they end with.
 #[test]
-fn runs(rt: HostRuntime) -> Result<(), Fail> {
+fn runs(rt: HostRuntime) {
     let cases = [
         (
             INCREMENT,
@@ -103,11 +102,11 @@ instead  send all its bytes; see that the header counts the rows, initial words 
         let mut output = Vec::new(rt.alloc());
         let mut input = image.as_bytes();
         let ended = ran(rt.alloc(), words, &mut input, &mut output);
-        assert_same(&rt, &str::from_utf8(&output).map_err(|_| "no text")?, &told);
+        let written = unwrap(&rt, str::from_utf8(&output));
+        assert_same(&rt, &written, &told);
         assert_same(&rt, &ended.status, &ExitCode::from(status));
         assert!(rt; ended.errors.is_empty());
     }
-    Ok(())
 }
 
 /// Increment as text, with its locals by number.
@@ -221,7 +220,7 @@ result 1
 
 /// A text to its image, alone and behind a name, and back.
 #[test]
-fn texts_and_images(rt: HostRuntime) -> Result<(), Fail> {
+fn texts_and_images(rt: HostRuntime) {
     let image = "5450573110000c0008000100010000001024f25444f77081d01024f244fb21f5\n";
     let line = "inc IMAGE 5450573110000c0008000100010000001024f25444f77081d01024f244fb21f5\n";
     let cases = [
@@ -241,11 +240,11 @@ fn texts_and_images(rt: HostRuntime) -> Result<(), Fail> {
         let mut output = Vec::new(rt.alloc());
         let mut input = input.as_bytes();
         let ended = ran(rt.alloc(), words, &mut input, &mut output);
-        assert_same(&rt, &str::from_utf8(&output).map_err(|_| "no text")?, &told);
+        let written = unwrap(&rt, str::from_utf8(&output));
+        assert_same(&rt, &written, &told);
         assert_same(&rt, &ended.status, &ExitCode::SUCCESS);
         assert!(rt; ended.errors.is_empty());
     }
-    Ok(())
 }
 
 /// One loop more than a worker has.
@@ -271,7 +270,7 @@ for q = 0 for 2
 
 /// What ends early: nothing is written but why.
 #[test]
-fn refusals(rt: HostRuntime) -> Result<(), Fail> {
+fn refusals(rt: HostRuntime) {
     let cases = [
         (
             "zz",
@@ -380,12 +379,11 @@ fn refusals(rt: HostRuntime) -> Result<(), Fail> {
         let mut output = Vec::new(rt.alloc());
         let mut input = input.as_bytes();
         let ended = ran(rt.alloc(), words, &mut input, &mut output);
-        let errors = str::from_utf8(&ended.errors).map_err(|_| "no text")?;
+        let errors = unwrap(&rt, str::from_utf8(&ended.errors));
         assert!(rt; errors.starts_with(told), "{errors}");
         assert_eq!(rt; ended.status, ExitCode::from(status), "{told}");
         assert!(rt; output.is_empty());
     }
-    Ok(())
 }
 
 /// All that `--help` says.
@@ -439,7 +437,7 @@ docs/VERIFIER.md lists every refusal.
 ";
 
 #[test]
-fn help_and_version(rt: HostRuntime) -> Result<(), Fail> {
+fn help_and_version(rt: HostRuntime) {
     let cases = [
         (["tpw", "--version"].as_slice(), "tpw 0.1\n"),
         (["tpw", "--help"].as_slice(), HELP),
@@ -449,15 +447,11 @@ fn help_and_version(rt: HostRuntime) -> Result<(), Fail> {
     for (words, answer) in cases {
         let mut output = Vec::new(rt.alloc());
         let ended = ran(rt.alloc(), words, &mut Broken, &mut output);
-        assert_same(
-            &rt,
-            &str::from_utf8(&output).map_err(|_| "no text")?,
-            &answer,
-        );
+        let written = unwrap(&rt, str::from_utf8(&output));
+        assert_same(&rt, &written, &answer);
         assert_same(&rt, &ended.status, &ExitCode::SUCCESS);
         assert!(rt; ended.errors.is_empty());
     }
-    Ok(())
 }
 
 #[test]
@@ -537,7 +531,7 @@ fn texts(rt: HostRuntime) {
 
 /// The status of each end of a run that is not run here, and what is told where memory is missing or a word is no text.
 #[test]
-fn endings(rt: HostRuntime) -> Result<(), Fail> {
+fn endings(rt: HostRuntime) {
     assert_same(&rt, &Status::from(End::Unended), &Status::Failed);
     let endings = [
         (
@@ -563,7 +557,7 @@ fn endings(rt: HostRuntime) -> Result<(), Fail> {
     ];
     for (ending, status, text) in &endings {
         assert_same(&rt, &ending.status(), &*status);
-        assert_same(&rt, &format!(in rt.alloc(); "{ending}")?.as_str(), &*text);
+        let told = unwrap(&rt, format!(in rt.alloc(); "{ending}"));
+        assert_same(&rt, &told.as_str(), &*text);
     }
-    Ok(())
 }

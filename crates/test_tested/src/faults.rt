@@ -1,9 +1,10 @@
 //! Runs that end in a fault, and what they leave.
 
+use crate::asserts::{assert_same, unwrap};
 use crate::media::{Media, make_media, media_with_sink_room, wires};
 use crate::runs::{Answer, Left, Task, assert_left, assert_run, ended, run_over};
 use std::alloc::Global;
-use std::test::Fail;
+use std::process::Abort;
 use tp_image::{Image, read_image};
 use tp_link::{DeviceFault, FaultyWire, Link, LinkDevice, LinkFault, Links};
 use tp_tested::{Machine, RunFault};
@@ -19,7 +20,7 @@ fn increment(packet: &[u8], limit: u32) -> Task<'_> {
 }
 
 #[test]
-fn stops_at_the_limit(rt: HostRuntime) -> Result<(), Fail> {
+fn stops_at_the_limit(rt: HostRuntime) {
     let left = Left {
         source: &[],
         sink: &[2, 0, 0, 0],
@@ -27,9 +28,8 @@ fn stops_at_the_limit(rt: HostRuntime) -> Result<(), Fail> {
     };
     for (limit, wanted) in [(16, ended(false, 16)), (15, Err(RunFault::Limit))] {
         let task = increment(&[1, 0, 0, 0], limit);
-        assert_run(&rt, &mut Machine::new(), task, wanted, left)?;
+        assert_run(&rt, &mut Machine::new(), task, wanted, left);
     }
-    Ok(())
 }
 
 /// A refusal by a device.
@@ -38,7 +38,7 @@ fn refused(link: Link, code: DeviceFault) -> Answer {
 }
 
 #[test]
-fn a_short_source_keeps_its_bytes(rt: HostRuntime) -> Result<(), Fail> {
+fn a_short_source_keeps_its_bytes(rt: HostRuntime) {
     let left = Left {
         source: &[1, 0, 0],
         sink: &[],
@@ -50,31 +50,29 @@ fn a_short_source_keeps_its_bytes(rt: HostRuntime) -> Result<(), Fail> {
 }
 
 #[test]
-fn a_full_sink_refuses(rt: HostRuntime) -> Result<(), Fail> {
-    let mut media = media_with_sink_room(rt.alloc(), 3)?;
+fn a_full_sink_refuses(rt: HostRuntime) {
+    let mut media = media_with_sink_room(&rt, rt.alloc(), 3);
     let task = increment(&[1, 0, 0, 0], 100);
-    let answer = run_over(rt.alloc(), &mut media, &mut Machine::new(), task)?;
-    assert_eq!(rt; answer, refused(Link::Sink, DeviceFault::Full));
+    let answer = run_over(&rt, rt.alloc(), &mut media, &mut Machine::new(), task);
+    assert_same(&rt, &answer, &refused(Link::Sink, DeviceFault::Full));
     assert_left(&rt, &media, Left::default());
-    Ok(())
 }
 
 /// What a run answers over a closed sink, and how many bytes its source still holds.
-fn run_over_closed_sink(alloc: Global, media: &mut Media) -> Result<(Answer, usize), Fail> {
-    let image = read_image(alloc, INCREMENT)?;
+fn run_over_closed_sink(rt: &impl Abort, alloc: Global, media: &mut Media) -> (Answer, usize) {
+    let image = unwrap(rt, read_image(alloc, INCREMENT));
     let mut links = wires(media);
-    links.source.send(&[1, 0, 0, 0])?;
+    unwrap(rt, links.source.send(&[1, 0, 0, 0]));
     links.sink.close();
     let answer = Machine::new().run_image(&image, &mut links, 100);
-    Ok((answer, links.source.held()))
+    (answer, links.source.held())
 }
 
 #[test]
-fn a_closed_sink_refuses(rt: HostRuntime) -> Result<(), Fail> {
-    let mut media = make_media(rt.alloc())?;
-    let seen = run_over_closed_sink(rt.alloc(), &mut media)?;
-    assert_eq!(rt; seen, (refused(Link::Sink, DeviceFault::Closed), 0));
-    Ok(())
+fn a_closed_sink_refuses(rt: HostRuntime) {
+    let mut media = make_media(&rt, rt.alloc());
+    let seen = run_over_closed_sink(&rt, rt.alloc(), &mut media);
+    assert_same(&rt, &seen, &(refused(Link::Sink, DeviceFault::Closed), 0));
 }
 
 /// Wires over these media, whose source fails at its second call.
@@ -100,40 +98,40 @@ type AtSource = (usize, u64);
 
 /// What two runs on one machine answer, of which the source fails in the first, and what that one leaves there.
 fn run_twice_over_failing(
+    rt: &impl Abort,
     alloc: Global,
     media: &mut Media,
-) -> Result<([Answer; 2], AtSource), Fail> {
-    let image = read_image(alloc, INCREMENT)?;
+) -> ([Answer; 2], AtSource) {
+    let image = unwrap(rt, read_image(alloc, INCREMENT));
     let mut links = failing_wires(media);
     let mut machine = Machine::new();
-    links.source.send(&[1, 0, 0, 0])?;
+    unwrap(rt, links.source.send(&[1, 0, 0, 0]));
     let cut_off = run_over_failing(&mut machine, &image, &mut links);
     let at_source = (links.source.held(), links.source.faults());
     let again = run_over_failing(&mut machine, &image, &mut links);
-    Ok(([cut_off, again], at_source))
+    ([cut_off, again], at_source)
 }
 
 /// The second run is on the same machine, in which a run was cut off, and of the same packet.
 #[test]
-fn a_failing_source_keeps_the_packet(rt: HostRuntime) -> Result<(), Fail> {
-    let mut media = make_media(rt.alloc())?;
-    let (answers, at_source) = run_twice_over_failing(rt.alloc(), &mut media)?;
+fn a_failing_source_keeps_the_packet(rt: HostRuntime) {
+    let mut media = make_media(&rt, rt.alloc());
+    let (answers, at_source) = run_twice_over_failing(&rt, rt.alloc(), &mut media);
     let failed = refused(Link::Source, DeviceFault::Failed);
-    assert_eq!(rt; answers, [failed, ended(false, 16)]);
-    assert_eq!(rt; at_source, (4, 1));
-    Ok(())
+    assert_same(&rt, &answers, &[failed, ended(false, 16)]);
+    assert_same(&rt, &at_source, &(4, 1));
 }
 
 #[test]
-fn prints_faults(rt: HostRuntime) -> Result<(), Fail> {
+fn prints_faults(rt: HostRuntime) {
     let faults = [
         (refused(Link::Sink, DeviceFault::Full), "K2 at sink"),
         (Err(RunFault::Stuck(8)), "stuck at 8"),
         (Err(RunFault::Limit), "not ended within the limit"),
     ];
     for (answer, text) in faults {
-        let fault = answer.err().ok_or("no fault")?;
-        assert_eq!(rt; format!(in rt.alloc(); "{fault}")?.as_str(), text);
+        let fault = unwrap(&rt, answer.err().ok_or("no fault"));
+        let told = unwrap(&rt, format!(in rt.alloc(); "{fault}"));
+        assert_same(&rt, &told.as_str(), &text);
     }
-    Ok(())
 }

@@ -1,6 +1,8 @@
 //! The devices of a run.
 
-use std::alloc::{AllocError, Global};
+use crate::asserts::unwrap;
+use std::alloc::Global;
+use std::process::Abort;
 use tp_link::{Links, Medium, Wire};
 
 /// The media of three wires.
@@ -12,17 +14,17 @@ pub(crate) struct Media {
 }
 
 /// With room enough.
-pub(crate) fn make_media(alloc: Global) -> Result<Media, AllocError> {
-    media_with_sink_room(alloc, 256)
+pub(crate) fn make_media(rt: &impl Abort, alloc: Global) -> Media {
+    media_with_sink_room(rt, alloc, 256)
 }
 
 /// The same, but for the room of the sink.
-pub(crate) fn media_with_sink_room(alloc: Global, sink_room: usize) -> Result<Media, AllocError> {
-    Ok(Media {
-        source: Medium::new(alloc, 256)?,
-        sink: Medium::new(alloc, sink_room)?,
-        trace: Medium::new(alloc, 512)?,
-    })
+pub(crate) fn media_with_sink_room(rt: &impl Abort, alloc: Global, sink_room: usize) -> Media {
+    Media {
+        source: unwrap(rt, Medium::new(alloc, 256)),
+        sink: unwrap(rt, Medium::new(alloc, sink_room)),
+        trace: unwrap(rt, Medium::new(alloc, 512)),
+    }
 }
 
 pub(crate) fn wires(media: &mut Media) -> Links<Wire<'_>> {

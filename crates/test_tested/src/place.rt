@@ -1,6 +1,6 @@
 //! A machine that is set as a row says.
 
-use std::test::Fail;
+use std::process::Abort;
 use tp_machine::MEM_START;
 use tp_tested::{Machine, Phase, Registers};
 use worked_steps::rows::Setting;
@@ -78,45 +78,37 @@ fn set_stack(place: &mut Place, areg: Option<u32>, breg: Option<u32>, creg: Opti
 }
 
 /// A machine with these registers, whose workspace is that of the bare state with these settings.
-pub(crate) fn machine_of(registers: Registers, settings: &[Setting]) -> Result<Machine, Fail> {
+pub(crate) fn machine_of(rt: &impl Abort, registers: Registers, settings: &[Setting]) -> Machine {
     let mut machine = Machine::new();
-    if registers.oreg % 16 != 0 {
-        return Err(Fail::new("Oreg is no multiple of 16"));
-    }
+    assert!(rt; registers.oreg % 16 == 0, "Oreg is no multiple of 16");
     machine.set_registers(registers);
-    hold(&mut machine, 0, &[0; BARE_WORDS as usize])?;
+    hold(rt, &mut machine, 0, &[0; BARE_WORDS as usize]);
     for setting in settings {
-        set_memory(&mut machine, *setting)?;
+        set_memory(rt, &mut machine, *setting);
     }
-    Ok(machine)
+    machine
 }
 
 /// What a setting says of the memory.
-fn set_memory(machine: &mut Machine, setting: Setting) -> Result<(), Fail> {
+fn set_memory(rt: &impl Abort, machine: &mut Machine, setting: Setting) {
     match setting {
-        Setting::Holding(word, words) => hold(machine, word, words),
-        Setting::Lacking(word, count) => lack(machine, word, count),
-        Setting::LackingByte(address) => lack_byte(machine, address),
-        Setting::GivenWay => lack(machine, 3, 5),
-        Setting::Filled => {
-            fill(machine);
-            Ok(())
-        }
-        _ => Ok(()),
+        Setting::Holding(word, words) => hold(rt, machine, word, words),
+        Setting::Lacking(word, count) => lack(rt, machine, word, count),
+        Setting::LackingByte(address) => lack_byte(rt, machine, address),
+        Setting::GivenWay => lack(rt, machine, 3, 5),
+        Setting::Filled => fill(machine),
+        _ => {}
     }
 }
 
 /// The words from this one on hold these.
-fn hold(machine: &mut Machine, word: u32, words: &[u32]) -> Result<(), Fail> {
+fn hold(rt: &impl Abort, machine: &mut Machine, word: u32, words: &[u32]) {
     let mut number = word;
     for value in words {
-        if number >= WORDS {
-            return Err(Fail::new("no such word"));
-        }
+        assert!(rt; number < WORDS, "no such word");
         machine.put(MEM_START + 4 * number, &value.to_le_bytes());
         number += 1;
     }
-    Ok(())
 }
 
 /// Every byte is 7.
@@ -127,21 +119,18 @@ fn fill(machine: &mut Machine) {
 }
 
 /// From the first word on, so many words are undefined.
-fn lack(machine: &mut Machine, word: u32, count: u32) -> Result<(), Fail> {
-    if word > WORDS || count > WORDS - word {
-        return Err(Fail::new("no such words"));
-    }
+fn lack(rt: &impl Abort, machine: &mut Machine, word: u32, count: u32) {
+    assert!(rt; word <= WORDS && count <= WORDS - word, "no such words");
     machine.undefine(MEM_START + 4 * word, 4 * count as usize);
-    Ok(())
 }
 
 /// The byte at this address is undefined.
-fn lack_byte(machine: &mut Machine, address: u32) -> Result<(), Fail> {
-    if address < MEM_START || address - MEM_START >= 4 * WORDS {
-        return Err(Fail::new("no such byte"));
-    }
+fn lack_byte(rt: &impl Abort, machine: &mut Machine, address: u32) {
+    assert!(rt;
+        address >= MEM_START && address - MEM_START < 4 * WORDS,
+        "no such byte"
+    );
     machine.undefine(address, 1);
-    Ok(())
 }
 
 /// The first address of a workspace at which two machines differ.

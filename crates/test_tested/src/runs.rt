@@ -1,9 +1,9 @@
 //! Runs of whole workers over wires that borrow.
 
+use crate::asserts::{assert_same, unwrap};
 use crate::media::{Media, make_media, wires};
 use std::alloc::Global;
 use std::process::Abort;
-use std::test::Fail;
 use tp_image::read_image;
 use tp_link::LinkDevice;
 use tp_machine::Outcome;
@@ -34,22 +34,23 @@ pub(crate) struct Left<'a> {
 }
 
 /// What a run answers over media with room enough.
-pub(crate) fn run(alloc: Global, machine: &mut Machine, task: Task<'_>) -> Result<Answer, Fail> {
-    let mut media = make_media(alloc)?;
-    run_over(alloc, &mut media, machine, task)
+pub(crate) fn run(rt: &impl Abort, alloc: Global, machine: &mut Machine, task: Task<'_>) -> Answer {
+    let mut media = make_media(rt, alloc);
+    run_over(rt, alloc, &mut media, machine, task)
 }
 
 /// What a run answers over these media, to whose source the packet is sent.
 pub(crate) fn run_over(
+    rt: &impl Abort,
     alloc: Global,
     media: &mut Media,
     machine: &mut Machine,
     task: Task<'_>,
-) -> Result<Answer, Fail> {
-    let image = read_image(alloc, task.image)?;
+) -> Answer {
+    let image = unwrap(rt, read_image(alloc, task.image));
     let mut links = wires(media);
-    links.source.send(task.packet)?;
-    Ok(machine.run_image(&image, &mut links, task.limit))
+    unwrap(rt, links.source.send(task.packet));
+    machine.run_image(&image, &mut links, task.limit)
 }
 
 /// The media hold this.
@@ -59,7 +60,7 @@ pub(crate) fn assert_left(rt: &impl Abort, media: &Media, left: Left<'_>) {
         media.sink.bytes(),
         media.trace.bytes(),
     ];
-    assert_eq!(rt; held, [left.source, left.sink, left.trace]);
+    assert_same(rt, &held, &[left.source, left.sink, left.trace]);
 }
 
 /// A run over media with room enough gives this answer, and leaves this.
@@ -69,10 +70,9 @@ pub(crate) fn assert_run(
     task: Task<'_>,
     wanted: Answer,
     left: Left<'_>,
-) -> Result<(), Fail> {
-    let mut media = make_media(rt.alloc())?;
-    let answer = run_over(rt.alloc(), &mut media, machine, task)?;
-    assert_eq!(rt; answer, wanted);
+) {
+    let mut media = make_media(rt, rt.alloc());
+    let answer = run_over(rt, rt.alloc(), &mut media, machine, task);
+    assert_same(rt, &answer, &wanted);
     assert_left(rt, &media, left);
-    Ok(())
 }

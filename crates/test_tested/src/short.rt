@@ -1,10 +1,10 @@
 //! Short runs, from a machine that is set as their row says.
 
+use crate::asserts::unwrap;
 use crate::media::{Media, make_media, wires};
 use crate::place::{Place, first_difference, machine_of, place_of, word};
 use std::alloc::Global;
 use std::process::Abort;
-use std::test::Fail;
 use tp_image::{Image, read_image};
 use tp_link::{DeviceFault, Link, LinkDevice, LinkFault, Links, Wire};
 use tp_machine::Outcome;
@@ -24,19 +24,19 @@ fn head(worker: Worker) -> (&'static [u8], u16, u16, u16) {
 }
 
 /// The image of a row's worker, as bytes: Wptr begins at word 8, and there are no loops and no initial words.
-fn text(alloc: Global, row: &Row) -> Result<Vec<u8>, Fail> {
+fn text(rt: &impl Abort, alloc: Global, row: &Row) -> Vec<u8> {
     let (magic, workspace, packet, result) = head(row.worker);
-    let bytes = u16::try_from(row.code.len())?;
+    let bytes = unwrap(rt, u16::try_from(row.code.len()));
     let mut text = Vec::new(alloc);
-    text.extend_from_slice(magic)?;
+    unwrap(rt, text.extend_from_slice(magic));
     for field in [bytes, workspace, 8, packet, result, 0] {
-        text.extend_from_slice(&field.to_le_bytes())?;
+        unwrap(rt, text.extend_from_slice(&field.to_le_bytes()));
     }
     if let Worker::Second = row.worker {
-        text.extend_from_slice(&[0, 0])?;
+        unwrap(rt, text.extend_from_slice(&[0, 0]));
     }
-    text.extend_from_slice(row.code)?;
-    Ok(text)
+    unwrap(rt, text.extend_from_slice(row.code));
+    text
 }
 
 /// What a run answers, the machine and its phase after it, and what the three media hold.
@@ -49,42 +49,41 @@ struct Seen {
 }
 
 /// The image of a row's worker.
-fn image_of(alloc: Global, row: &Row) -> Result<Image, Fail> {
-    let text = text(alloc, row)?;
-    Ok(read_image(alloc, &text)?)
+fn image_of(rt: &impl Abort, alloc: Global, row: &Row) -> Image {
+    let text = text(rt, alloc, row);
+    unwrap(rt, read_image(alloc, &text))
 }
 
 /// The messages of a place go over the wires.
-fn send_messages(links: &mut Links<Wire<'_>>, place: &Place) -> Result<(), Fail> {
-    links.source.send(place.coming)?;
-    links.sink.send(place.sent)?;
-    links.trace.send(place.traced)?;
-    Ok(())
+fn send_messages(rt: &impl Abort, links: &mut Links<Wire<'_>>, place: &Place) {
+    unwrap(rt, links.source.send(place.coming));
+    unwrap(rt, links.sink.send(place.sent));
+    unwrap(rt, links.trace.send(place.traced));
 }
 
 /// The run of a row, which executes no more than so many bytes.
-fn run(alloc: Global, row: &Row, limit: u32) -> Result<Seen, Fail> {
-    let image = image_of(alloc, row)?;
+fn run(rt: &impl Abort, alloc: Global, row: &Row, limit: u32) -> Seen {
+    let image = image_of(rt, alloc, row);
     let from = place_of(0, row.from);
-    let mut machine = machine_of(from.registers, row.from)?;
+    let mut machine = machine_of(rt, from.registers, row.from);
     let mut phase = from.phase;
-    let mut media = make_media(alloc)?;
+    let mut media = make_media(rt, alloc);
     let mut links = wires(&mut media);
-    send_messages(&mut links, &from)?;
+    send_messages(rt, &mut links, &from);
     let answer = machine.resume(&image, &mut links, &mut phase, limit);
     drop(links);
-    Ok(Seen {
+    Seen {
         answer,
         machine,
         phase,
         media,
-    })
+    }
 }
 
 /// How many bytes a row's run may execute, and what it is to answer then.
-fn wanted(row: &Row) -> Result<(u32, Result<Outcome, RunFault>), Fail> {
-    let bytes = u32::try_from(row.code.len())?;
-    Ok(match row.expected {
+fn wanted(rt: &impl Abort, row: &Row) -> (u32, Result<Outcome, RunFault>) {
+    let bytes = unwrap(rt, u32::try_from(row.code.len()));
+    match row.expected {
         Expected::Leads(settings) => {
             let end = place_of(0, settings);
             let outcome = Outcome {
@@ -113,7 +112,7 @@ fn wanted(row: &Row) -> Result<(u32, Result<Outcome, RunFault>), Fail> {
             };
             (steps.saturating_add(1), Ok(outcome))
         }
-    })
+    }
 }
 
 /// The media hold the messages of a place.
@@ -129,26 +128,19 @@ fn compare_messages(rt: &impl Abort, name: &str, seen: &Seen, place: &Place) {
 }
 
 /// The first address at which the workspace is not as these settings say.
-fn difference(machine: &Machine, settings: &[Setting]) -> Result<Option<u32>, Fail> {
-    let wanted = machine_of(place_of(0, settings).registers, settings)?;
-    Ok(first_difference(machine, &wanted))
+fn difference(rt: &impl Abort, machine: &Machine, settings: &[Setting]) -> Option<u32> {
+    let wanted = machine_of(rt, place_of(0, settings).registers, settings);
+    first_difference(machine, &wanted)
 }
 
 /// The machine, its phase and the media are as these settings say, with Iptr here where they say nothing of it.
-fn compare_states(
-    rt: &impl Abort,
-    name: &str,
-    seen: &Seen,
-    iptr: i64,
-    settings: &[Setting],
-) -> Result<(), Fail> {
+fn compare_states(rt: &impl Abort, name: &str, seen: &Seen, iptr: i64, settings: &[Setting]) {
     let end = place_of(iptr, settings);
-    let difference = difference(&seen.machine, settings)?;
+    let difference = difference(rt, &seen.machine, settings);
     let left = (seen.machine.registers(), seen.phase, difference);
     let wanted = (end.registers, end.phase, None);
     assert_eq!(rt; left, wanted, "registers, phase, workspace: {name}");
     compare_messages(rt, name, seen, &end);
-    Ok(())
 }
 
 /// Iptr is here, and these words are so.
@@ -167,7 +159,7 @@ fn compare_words(
 }
 
 /// A run leaves what its row says. A run that is stuck moves no message.
-fn compare_left(rt: &impl Abort, name: &str, row: &Row, seen: &Seen) -> Result<(), Fail> {
+fn compare_left(rt: &impl Abort, name: &str, row: &Row, seen: &Seen) {
     match row.expected {
         Expected::Leads(settings) => compare_states(
             rt,
@@ -178,43 +170,32 @@ fn compare_left(rt: &impl Abort, name: &str, row: &Row, seen: &Seen) -> Result<(
         ),
         Expected::Sticks | Expected::SticksAtOnce(_) | Expected::LacksPacket => {
             compare_messages(rt, name, seen, &place_of(0, row.from));
-            Ok(())
         }
-        Expected::Shows(_, iptr, words) => {
-            compare_words(rt, name, seen, iptr, words);
-            Ok(())
-        }
-        Expected::Ends(_) => Ok(()),
+        Expected::Shows(_, iptr, words) => compare_words(rt, name, seen, iptr, words),
+        Expected::Ends(_) => {}
     }
 }
 
 /// The run of a row answers and leaves what the row says.
-fn compare(rt: &impl Abort, alloc: Global, instruction: &str, row: &Row) -> Result<(), Fail> {
-    let name = &format!(in alloc; "{instruction}, {}", row.name)?;
-    let (limit, answer) = wanted(row)?;
-    let seen = run(alloc, row, limit)?;
+fn compare(rt: &impl Abort, alloc: Global, instruction: &str, row: &Row) {
+    let name = &unwrap(rt, format!(in alloc; "{instruction}, {}", row.name));
+    let (limit, answer) = wanted(rt, row);
+    let seen = run(rt, alloc, row, limit);
     assert_eq!(rt; seen.answer, answer, "{name}");
-    compare_left(rt, name, row, &seen)
+    compare_left(rt, name, row, &seen);
 }
 
 /// The same of all rows of an instruction.
-fn compare_all(
-    rt: &impl Abort,
-    alloc: Global,
-    instruction: &str,
-    rows: &[Row],
-) -> Result<(), Fail> {
+fn compare_all(rt: &impl Abort, alloc: Global, instruction: &str, rows: &[Row]) {
     assert!(rt; !rows.is_empty(), "{instruction}");
     for row in rows {
-        compare(rt, alloc, instruction, row)?;
+        compare(rt, alloc, instruction, row);
     }
-    Ok(())
 }
 
 #[test]
-fn short_runs_on_the_machine(rt: HostRuntime) -> Result<(), Fail> {
+fn short_runs_on_the_machine(rt: HostRuntime) {
     for group in short_runs() {
-        compare_all(&rt, rt.alloc(), group.0, group.1)?;
+        compare_all(&rt, rt.alloc(), group.0, group.1);
     }
-    Ok(())
 }

@@ -1,7 +1,8 @@
 //! A refusal that comes in the last of many passes.
 
-use std::alloc::{AllocError, Global};
-use std::test::Fail;
+use crate::asserts::unwrap;
+use std::alloc::Global;
+use std::process::Abort;
 use tp_reasons::{SourceText, tell};
 
 /// How many words the worker's loop moves on by one place.
@@ -33,18 +34,18 @@ const STL: u8 = 0xd0;
 
 /// A worker of 8,191 code bytes whose loop moves the words of its workspace on: each pass knows less of one word more. In the
 /// last one the last word is no known number any more, and so no number of a word.
-fn moving(alloc: Global) -> Result<Vec<u8>, AllocError> {
-    let mut image = Vec::from_slice(alloc, &BEGINNING)?;
+fn moving(rt: &impl Abort, alloc: Global) -> Vec<u8> {
+    let mut image = unwrap(rt, Vec::from_slice(alloc, &BEGINNING));
     for back in 0..MOVED {
         let to = MOVED - back;
-        image.extend_from_slice(&local(LDL, to - 1))?;
-        image.extend_from_slice(&local(STL, to))?;
+        unwrap(rt, image.extend_from_slice(&local(LDL, to - 1)));
+        unwrap(rt, image.extend_from_slice(&local(STL, to)));
     }
     for _ in 0..JUMPS {
-        image.extend_from_slice(&JUMP)?;
+        unwrap(rt, image.extend_from_slice(&JUMP));
     }
-    image.extend_from_slice(&ENDING)?;
-    Ok(image)
+    unwrap(rt, image.extend_from_slice(&ENDING));
+    image
 }
 
 /// An instruction of a local word, spelled by three bytes.
@@ -55,17 +56,15 @@ fn local(function: u8, word: u16) -> [u8; 3] {
 
 /// The refusal comes in the last of 464 passes. The passes before it carry one state, as the verifier's do.
 #[test]
-fn tells_a_late_refusal(rt: HostRuntime) -> Result<(), Fail> {
-    let image = moving(rt.alloc())?;
+fn tells_a_late_refusal(rt: HostRuntime) {
+    let image = moving(&rt, rt.alloc());
     let mut output = Vec::new(rt.alloc());
-    let is_accepted = tell(rt.alloc(), &image, SourceText::NONE, &mut output).map_err(
-        |_| "no answer",
-    )?;
-    let told = str::from_utf8(&output).map_err(|_| "no text")?;
+    let answer = tell(rt.alloc(), &image, SourceText::NONE, &mut output);
+    let is_accepted = unwrap(&rt, answer.map_err(|_| "no answer"));
+    let told = unwrap(&rt, str::from_utf8(&output).map_err(|_| "no text"));
     assert!(rt; !is_accepted);
     assert!(rt; told.starts_with("NO S3 8188\n"));
     assert!(rt;
         told.contains("\nfound    in pass 464, on the edge Next of the instruction at 8188\n")
     );
-    Ok(())
 }

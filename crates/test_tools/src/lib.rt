@@ -5,6 +5,8 @@
 #[cfg(test)]
 mod assembly;
 #[cfg(test)]
+mod asserts;
+#[cfg(test)]
 mod hostile;
 #[cfg(test)]
 mod steps;

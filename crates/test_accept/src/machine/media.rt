@@ -1,7 +1,8 @@
 //! Runs over media.
 
+use crate::asserts::unwrap;
 use std::alloc::Global;
-use std::test::Fail;
+use std::process::Abort;
 use tp_accept::{Accepted, accept};
 use tp_link::{LinkDevice, LinkFault};
 use tp_machine::{Machine, Outcome};
@@ -24,21 +25,23 @@ pub(crate) fn all_bits_set() -> Machine {
     }
 }
 
-pub(crate) fn accepted(alloc: Global, image: &[u8]) -> Result<Accepted, Fail> {
-    Ok(accept(alloc, Vec::from_slice(alloc, image)?)?)
+pub(crate) fn accepted(rt: &impl Abort, alloc: Global, image: &[u8]) -> Accepted {
+    let text = unwrap(rt, Vec::from_slice(alloc, image));
+    unwrap(rt, accept(alloc, text))
 }
 
 /// What a run of a packet answers, and what the media hold after it.
 pub(crate) fn run_packet(
+    rt: &impl Abort,
     alloc: Global,
     machine: &mut Machine,
     accepted: &Accepted,
     packet: &[u8],
-) -> Result<(Result<Outcome, LinkFault>, Media), Fail> {
-    let mut media = Media::new(alloc, ROOM)?;
+) -> (Result<Outcome, LinkFault>, Media) {
+    let mut media = unwrap(rt, Media::new(alloc, ROOM));
     let mut links = media.wires();
-    links.source.send(packet)?;
+    unwrap(rt, links.source.send(packet));
     let answered = machine.run(accepted, &mut links);
     drop(links);
-    Ok((answered, media))
+    (answered, media)
 }

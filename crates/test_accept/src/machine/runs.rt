@@ -2,7 +2,7 @@
 
 use super::media::{accepted, all_bits_set, run_packet};
 use std::alloc::Global;
-use std::test::Fail;
+use std::process::Abort;
 use tp_machine::{Machine, Outcome};
 use tp_samples::*;
 
@@ -61,20 +61,19 @@ pub(crate) const CASES: [Case; 14] = [
 ];
 
 /// Whether the run of a case answers and leaves what the case says.
-pub(crate) fn is_so(alloc: Global, machine: &mut Machine, case: &Case) -> Result<bool, Fail> {
+pub(crate) fn is_so(rt: &impl Abort, alloc: Global, machine: &mut Machine, case: &Case) -> bool {
     let (image, packet, (error, steps), result, trace) = *case;
-    let accepted = accepted(alloc, image)?;
-    let (answered, media) = run_packet(alloc, machine, &accepted, &packet)?;
+    let accepted = accepted(rt, alloc, image);
+    let (answered, media) = run_packet(rt, alloc, machine, &accepted, &packet);
     let told = answered == Ok(Outcome { error, steps }) && media.source.bytes().is_empty();
-    Ok(told && media.sink.bytes() == result.as_slice() && media.trace.bytes() == trace)
+    told && media.sink.bytes() == result.as_slice() && media.trace.bytes() == trace
 }
 
 /// The packets of one image follow one another on one machine, so nothing may be left over between them.
 #[test]
-fn runs_whatever_the_machine_held(rt: HostRuntime) -> Result<(), Fail> {
+fn runs_whatever_the_machine_held(rt: HostRuntime) {
     let mut machine = all_bits_set();
     for (i, case) in CASES.iter().enumerate() {
-        assert!(rt; is_so(rt.alloc(), &mut machine, case)?, "case {i}");
+        assert!(rt; is_so(&rt, rt.alloc(), &mut machine, case), "case {i}");
     }
-    Ok(())
 }

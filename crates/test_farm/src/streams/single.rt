@@ -2,32 +2,31 @@
 ghost use Rattle.std.specs.Prelude.{◌≡◌, All, IfSome};
 ghost use Rattle.tp_board.specs.Streams.{IsHandOf, IsFeederOf};
 
-use crate::same::assert_same;
+use crate::asserts::{assert_same, unwrap};
 use arrayvec::ArrayVec;
 use std::alloc::Global;
 use std::process::Abort;
 use std::sync::Wait;
-use std::test::Fail;
 use tp_board::{
     BoardFault, Fed, Feeder, Ledger, Packet, StreamCloseFault, StreamHand, StreamLedger,
     StreamQueue, Work, WorkSource,
 };
 
 /// So many packets. The first two bytes of each are its number.
-pub fn packets_of(alloc: Global, count: u16) -> Option<Vec<Packet>> {
+pub fn packets_of(rt: &impl Abort, alloc: Global, count: u16) -> Vec<Packet> {
     let mut packets = Vec::new(alloc);
     for number in 0..count {
         let mut packet = ArrayVec::new();
         let _ = packet.try_extend_from_slice(&number.to_le_bytes());
-        packets.push(packet).ok()?;
+        unwrap(rt, packets.push(packet));
     }
-    Some(packets)
+    packets
 }
 
 #[test]
-fn sizes_refused(rt: HostRuntime) -> Result<(), Fail> {
-    let many = packets_of(rt.alloc(), 1025).ok_or("no memory")?;
-    let most = packets_of(rt.alloc(), 1024).ok_or("no memory")?;
+fn sizes_refused(rt: HostRuntime) {
+    let many = packets_of(&rt, rt.alloc(), 1025);
+    let most = packets_of(&rt, rt.alloc(), 1024);
     for (members, fault) in [
         (0, BoardFault::Members),
         (65, BoardFault::Members),
@@ -37,7 +36,6 @@ fn sizes_refused(rt: HostRuntime) -> Result<(), Fail> {
         assert_eq!(rt; refused, Some(fault), "{members} members");
     }
     assert!(rt; StreamQueue::new(rt.alloc(), most.as_slice(), 64).is_ok());
-    Ok(())
 }
 
 // Feeds until a try answers something else than Pushed: how many pushes, and that answer.
@@ -173,10 +171,11 @@ fn ledger_after<R: Wait + Abort>(
     count: u16,
     steps: &[Step],
 ) -> Option<StreamLedger> {
-    let packets = packets_of(alloc, count)?;
-    let (stream, mut feeder, mut hand) = stream_of_one(alloc, packets.as_slice())?;
+    let packets = packets_of(rt, alloc, count);
+    let stream = stream_of_one(alloc, packets.as_slice());
+    let (stream, mut feeder, mut hand) = unwrap(rt, stream.ok_or("no stream"));
     assert_steps(rt, &stream, &mut feeder, &mut hand, steps);
-    let hands = vec![in alloc; hand].ok()?;
+    let hands = unwrap(rt, vec![in alloc; hand]);
     closed(rt, stream, feeder, hands)
 }
 
@@ -259,18 +258,17 @@ fn feeder_that_stops(rt: HostRuntime) {
 }
 
 /// How many hands come back where a stream of two is closed without one of them.
-fn refused_close<R: Wait>(rt: &R, alloc: Global, packets: &[Packet]) -> Option<usize> {
-    let (stream, feeder, mut hands) = StreamQueue::new(alloc, packets, 2).ok()?;
-    let _kept = hands.pop()?;
+fn refused_close<R: Wait + Abort>(rt: &R, alloc: Global, packets: &[Packet]) -> Option<usize> {
+    let (stream, feeder, mut hands) = unwrap(rt, StreamQueue::new(alloc, packets, 2));
+    let _kept = unwrap(rt, hands.pop().ok_or("no hand"));
     let fault = stream.close(rt, feeder, hands).err()?;
     Some(fault.hands.len())
 }
 
 #[test]
-fn close_without_a_hand(rt: HostRuntime) -> Result<(), Fail> {
-    let packets = packets_of(rt.alloc(), 1).ok_or("no memory")?;
+fn close_without_a_hand(rt: HostRuntime) {
+    let packets = packets_of(&rt, rt.alloc(), 1);
     assert_same(&rt, &refused_close(&rt, rt.alloc(), &packets), &Some(1));
-    Ok(())
 }
 
 // With one hand: feeds, takes and finishes until the end, and counts.
@@ -339,10 +337,12 @@ fn all_worked<R: Wait + Abort>(
     Some(back)
 }
 
-fn assert_streams<R: Wait + Abort>(rt: &R, alloc: Global, count: u16, members: u32) -> Option<()> {
-    let packets = packets_of(alloc, count)?;
-    let (stream, mut feeder, hands) = StreamQueue::new(alloc, packets.as_slice(), members).ok()?;
-    let back = all_worked(rt, alloc, &stream, &mut feeder, hands, u32::from(count))?;
+fn assert_streams<R: Wait + Abort>(rt: &R, alloc: Global, count: u16, members: u32) {
+    let packets = packets_of(rt, alloc, count);
+    let stream = StreamQueue::new(alloc, packets.as_slice(), members);
+    let (stream, mut feeder, hands) = unwrap(rt, stream);
+    let back = all_worked(rt, alloc, &stream, &mut feeder, hands, u32::from(count));
+    let back = unwrap(rt, back.ok_or("no memory"));
     assert_same(rt, &stream.feed(rt, &mut feeder), &Fed::Over);
     let wanted = StreamLedger {
         pushed: u32::from(count),
@@ -355,15 +355,13 @@ fn assert_streams<R: Wait + Abort>(rt: &R, alloc: Global, count: u16, members: u
         },
     };
     assert_same(rt, &closed(rt, stream, feeder, back), &Some(wanted));
-    Some(())
 }
 
 #[test]
-fn every_size(rt: HostRuntime) -> Result<(), Fail> {
+fn every_size(rt: HostRuntime) {
     for members in [1, 2, 64] {
         for count in [0, 1, 31, 32, 33, 1024] {
-            assert_streams(&rt, rt.alloc(), count, members).ok_or("no memory")?;
+            assert_streams(&rt, rt.alloc(), count, members);
         }
     }
-    Ok(())
 }

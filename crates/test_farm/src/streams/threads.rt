@@ -3,10 +3,10 @@ ghost use Rattle.std.specs.Prelude.{◌≡◌, None, All, IfSome};
 ghost use Rattle.tp_board.specs.Streams.{IsHandOf, IsFeederOf};
 
 use super::single::packets_of;
-use crate::same::assert_same;
+use crate::asserts::{assert_same, unwrap};
 use std::alloc::Global;
+use std::process::Abort;
 use std::sync::Wait;
-use std::test::Fail;
 use std::thread;
 use std::thread::{Promise, PromisedHandle, Scope, Threads};
 use tp_board::{
@@ -285,7 +285,7 @@ fn stream_of_two<'p>(
 }
 
 // The accounts of a stream whose members have ended.
-fn closed<R: Wait>(
+fn closed<R: Wait + Abort>(
     rt: &R,
     alloc: Global,
     stream: StreamQueue<'_>,
@@ -296,7 +296,7 @@ fn closed<R: Wait>(
     requires hands { IsHandOf stream hands.0 × IsHandOf stream hands.1 }
 {
     let (first, second) = hands;
-    let hands = vec![in alloc; first, second].ok()?;
+    let hands = unwrap(rt, vec![in alloc; first, second]);
     stream.close(rt, feeder, hands).ok()
 }
 
@@ -311,31 +311,33 @@ struct Told {
 }
 
 // Runs a stream of so many packets and two members.
-fn run<R: Threads + Wait + Sync>(
+fn run<R: Abort + Threads + Wait + Sync>(
     rt: &R,
     alloc: Global,
     count: u16,
     ways: (Way, Way),
     feeding: Feeding,
-) -> Option<Told> {
-    let packets = packets_of(alloc, count)?;
-    let (stream, mut feeder, hands) = stream_of_two(alloc, packets.as_slice())?;
+) -> Told {
+    let packets = packets_of(rt, alloc, count);
+    let stream = stream_of_two(alloc, packets.as_slice());
+    let (stream, mut feeder, hands) = unwrap(rt, stream.ok_or("no stream"));
     if matches!(feeding, Feeding::Feeds) {
         fill(rt, &stream, &mut feeder);
     }
+    let ends = run_in_threads(rt, alloc, &stream, hands, ways, &stream, feeder, feeding);
     let Ends {
         first,
         second,
         feeder,
         answer,
-    } = run_in_threads(rt, alloc, &stream, hands, ways, &stream, feeder, feeding)?;
-    let ledger = closed(rt, alloc, stream, feeder, (first.hand, second.hand))?;
-    Some(Told {
+    } = unwrap(rt, ends.ok_or("not run"));
+    let ledger = closed(rt, alloc, stream, feeder, (first.hand, second.hand));
+    Told {
         numbers: (first.numbers, second.numbers),
         ends: (first.end, second.end),
         answer,
-        ledger,
-    })
+        ledger: unwrap(rt, ledger.ok_or("not closed")),
+    }
 }
 
 // The ledger where nothing is lost or in hand.
@@ -353,36 +355,39 @@ fn ledger_of(pushed: u32, done: u32, stopped: bool) -> StreamLedger {
 }
 
 #[test]
-fn two_take_each_packet_once(rt: HostRuntime) -> Result<(), Fail> {
+fn two_take_each_packet_once(rt: HostRuntime) {
     let ways = (Way::Takes, Way::Takes);
-    let told = run(&rt, rt.alloc(), 1024, ways, Feeding::Feeds).ok_or("not run")?;
-    let (mut all, second) = told.numbers;
-    all.extend_from_slice(&second)?;
-    all.sort()?;
+    let Told {
+        numbers,
+        ends,
+        answer,
+        ledger,
+    } = run(&rt, rt.alloc(), 1024, ways, Feeding::Feeds);
+    let (mut all, second) = numbers;
+    unwrap(&rt, all.extend_from_slice(&second));
+    unwrap(&rt, all.sort());
     assert!(rt; all.iter().copied().eq(0..1024));
-    assert_same(&rt, &told.ends, &(End::NoMore, End::NoMore));
-    assert_same(&rt, &told.answer, &Fed::Over);
-    assert_same(&rt, &told.ledger, &ledger_of(1024, 1024, false));
-    Ok(())
+    assert_same(&rt, &ends, &(End::NoMore, End::NoMore));
+    assert_same(&rt, &answer, &Fed::Over);
+    assert_same(&rt, &ledger, &ledger_of(1024, 1024, false));
 }
 
 // The queue is full before the first hand stops, and nobody takes from it.
 #[test]
-fn hands_stop_a_full_queue(rt: HostRuntime) -> Result<(), Fail> {
+fn hands_stop_a_full_queue(rt: HostRuntime) {
     let ways = (Way::Stops, Way::Stops);
-    let told = run(&rt, rt.alloc(), 40, ways, Feeding::Feeds).ok_or("not run")?;
+    let told = run(&rt, rt.alloc(), 40, ways, Feeding::Feeds);
     assert!(rt; told.numbers.0.is_empty() && told.numbers.1.is_empty());
     assert_same(&rt, &told.ends, &(End::Stopped, End::Stopped));
     assert_same(&rt, &told.answer, &Fed::Stopped);
     assert_same(&rt, &told.ledger, &ledger_of(32, 0, true));
-    Ok(())
 }
 
 // One hand stops, and the other takes packets until it finds the stop mark, or the end.
 #[test]
-fn one_hand_stops_and_one_takes(rt: HostRuntime) -> Result<(), Fail> {
+fn one_hand_stops_and_one_takes(rt: HostRuntime) {
     let ways = (Way::Stops, Way::Takes);
-    let told = run(&rt, rt.alloc(), 1024, ways, Feeding::Feeds).ok_or("not run")?;
+    let told = run(&rt, rt.alloc(), 1024, ways, Feeding::Feeds);
     let StreamLedger { pushed, ledger } = told.ledger;
     let done = ledger.done;
     assert_same(
@@ -397,17 +402,15 @@ fn one_hand_stops_and_one_takes(rt: HostRuntime) -> Result<(), Fail> {
         "{done} {pushed}"
     );
     assert_same(&rt, &told.ledger, &ledger_of(pushed, done, true));
-    Ok(())
 }
 
 // Both hands find the queue empty, and wait until the feeder stops.
 #[test]
-fn a_feeder_stops_an_empty_queue(rt: HostRuntime) -> Result<(), Fail> {
+fn a_feeder_stops_an_empty_queue(rt: HostRuntime) {
     let ways = (Way::Takes, Way::Takes);
-    let told = run(&rt, rt.alloc(), 1024, ways, Feeding::Stops).ok_or("not run")?;
+    let told = run(&rt, rt.alloc(), 1024, ways, Feeding::Stops);
     assert!(rt; told.numbers.0.is_empty() && told.numbers.1.is_empty());
     assert_same(&rt, &told.ends, &(End::Stopped, End::Stopped));
     assert_same(&rt, &told.answer, &Fed::Stopped);
     assert_same(&rt, &told.ledger, &ledger_of(0, 0, true));
-    Ok(())
 }

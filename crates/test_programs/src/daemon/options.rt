@@ -1,9 +1,8 @@
 //! Command lines, with the members and the trace flag that they ask for, and the kinds of error that others come to.
 
-use crate::same::assert_same;
+use crate::asserts::assert_same;
 use clap::error::ErrorKind as Kind;
 use std::alloc::Global;
-use std::test::Fail;
 use tp_options::options;
 
 /// The members and the trace flag that words ask for, or the kind of error that they come to. Nothing is said of it here: the
@@ -16,7 +15,7 @@ fn asked(alloc: Global, words: &[&str]) -> Result<(usize, bool), Kind> {
 }
 
 #[test]
-fn reads_options(rt: HostRuntime) -> Result<(), Fail> {
+fn reads_options(rt: HostRuntime) {
     let cases = [
         (["farmd"].as_slice(), 4, false),
         (["./farmd"].as_slice(), 4, false),
@@ -30,7 +29,6 @@ fn reads_options(rt: HostRuntime) -> Result<(), Fail> {
     for (words, members, trace) in cases {
         assert_same(&rt, &asked(rt.alloc(), words), &Ok((members, trace)));
     }
-    Ok(())
 }
 
 #[test]

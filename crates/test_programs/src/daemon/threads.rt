@@ -1,12 +1,12 @@
 //! How many threads run a batch, as the system counts them.
 
 use super::ran;
+use crate::asserts::unwrap;
 use std::alloc::Global;
-use std::process::ExitCode;
+use std::process::{Abort, ExitCode};
 use std::rt::Files;
 use std::sync::Wait;
 use std::sync::atomic::{AtomicBool, Ordering};
-use std::test::Fail;
 use std::thread::{Threads, join};
 use std::{fs, io};
 
@@ -37,17 +37,16 @@ fn most_threads<R: Files + AllocGlobal>(rt: &R, done: &AtomicBool) -> usize {
 }
 
 /// A worker of 400,130 steps, twelve packets for it, and their run: some milliseconds for each of three members.
-fn long_batch(alloc: Global) -> Result<Vec<u8>, Fail> {
-    let mut input = Vec::from_slice(
-        alloc,
+fn long_batch(rt: &impl Abort, alloc: Global) -> Vec<u8> {
+    let image =
         b"a IMAGE 545057312300100008000100010002000D001A000A000A0000000000140016000C00102700000000\
-        1024F25444F740D22020204AD340D422272140D5144422F1124F22F11024F244FB21F5\n",
-    )?;
+        1024F25444F740D22020204AD340D422272140D5144422F1124F22F11024F244FB21F5\n";
+    let mut input = unwrap(rt, Vec::from_slice(alloc, image));
     for _ in 0..12u8 {
-        input.extend_from_slice(b"a PACKET 05000000\n")?;
+        unwrap(rt, input.extend_from_slice(b"a PACKET 05000000\n"));
     }
-    input.extend_from_slice(b"a RUN\n")?;
-    Ok(input)
+    unwrap(rt, input.extend_from_slice(b"a RUN\n"));
+    input
 }
 
 /// Serves the batch by so many members, and the most threads that are seen meanwhile.
@@ -99,9 +98,9 @@ fn most_threads_of<R: Threads + Wait + Files + AllocGlobal + Sync>(
 
 /// While a batch is served there are a thread that serves, and one for each member, beside those that were there.
 #[test]
-fn members_are_threads(rt: HostRuntime) -> Result<(), Fail> {
-    let input = long_batch(rt.alloc())?;
-    let serving = threads_now(&rt)?.saturating_add(1);
+fn members_are_threads(rt: HostRuntime) {
+    let input = long_batch(&rt, rt.alloc());
+    let serving = unwrap(&rt, threads_now(&rt)).saturating_add(1);
     for (members, count) in [("1", 1), ("3", 3)] {
         let wanted = serving.saturating_add(count);
         assert_eq!(rt;
@@ -110,5 +109,4 @@ fn members_are_threads(rt: HostRuntime) -> Result<(), Fail> {
             "{members}"
         );
     }
-    Ok(())
 }

@@ -1,9 +1,10 @@
 //! A farm of wires, and what is served on it.
 
+use crate::asserts::unwrap;
 use std::alloc::Global;
 use std::io::{Read, Write};
+use std::process::Abort;
 use std::sync::Wait;
-use std::test::Fail;
 use std::thread::Threads;
 use tp_media::{boxed, media_of};
 use tp_session::{Farm, ServeFault, serve};
@@ -12,7 +13,7 @@ use tp_session::{Farm, ServeFault, serve};
 const ROOM: usize = 256;
 
 /// Serves on so many members, of which there are 1 to 64.
-pub fn serve_on<T: Threads + Wait + Sync, R: Read, W: Write>(
+pub fn serve_on<T: Abort + Threads + Wait + Sync, R: Read, W: Write>(
     rt: &T,
     alloc: Global,
     members: usize,
@@ -20,8 +21,8 @@ pub fn serve_on<T: Threads + Wait + Sync, R: Read, W: Write>(
     reader: &mut R,
     writer: &mut W,
 ) -> Result<(), ServeFault> {
-    let mut media = media_of(alloc, members, ROOM)?;
-    let links = boxed(alloc, &mut media)?;
+    let mut media = unwrap(rt, media_of(alloc, members, ROOM));
+    let links = unwrap(rt, boxed(alloc, &mut media));
     if links.is_empty() || links.len() > 64 {
         return Err(ServeFault::Thread);
     }
@@ -29,45 +30,45 @@ pub fn serve_on<T: Threads + Wait + Sync, R: Read, W: Write>(
 }
 
 /// What is written for an input.
-pub fn served<T: Threads + Wait + Sync>(
+pub fn served<T: Abort + Threads + Wait + Sync>(
     rt: &T,
     alloc: Global,
     members: usize,
     trace: bool,
     input: &[u8],
-) -> Result<Vec<u8>, ServeFault> {
+) -> Vec<u8> {
     let mut reader = input;
     let mut writer = Vec::new(alloc);
-    serve_on(rt, alloc, members, trace, &mut reader, &mut writer)?;
-    Ok(writer)
+    let result = serve_on(rt, alloc, members, trace, &mut reader, &mut writer);
+    unwrap(rt, result);
+    writer
 }
 
 /// A line of some texts.
-pub fn push_line(input: &mut Vec<u8>, parts: &[&str]) -> Result<(), Fail> {
+pub fn push_line(rt: &impl Abort, input: &mut Vec<u8>, parts: &[&str]) {
     for part in parts {
-        input.extend_from_slice(part.as_bytes())?;
+        unwrap(rt, input.extend_from_slice(part.as_bytes()));
     }
-    input.push(b'\n')?;
-    Ok(())
+    unwrap(rt, input.push(b'\n'));
 }
 
 /// An input of these lines, of two parts each.
-pub fn input_of(alloc: Global, lines: &[(&str, &str)]) -> Result<Vec<u8>, Fail> {
+pub fn input_of(rt: &impl Abort, alloc: Global, lines: &[(&str, &str)]) -> Vec<u8> {
     let mut input = Vec::new(alloc);
     for (head, rest) in lines {
-        push_line(&mut input, &[*head, *rest])?;
+        push_line(rt, &mut input, &[*head, *rest]);
     }
-    Ok(input)
+    input
 }
 
 /// Whether this is written for an input, where no traces are told.
-pub fn answers<T: Threads + Wait + Sync>(
+pub fn answers<T: Abort + Threads + Wait + Sync>(
     rt: &T,
     alloc: Global,
     members: usize,
     input: &[u8],
     wanted: &[u8],
-) -> Result<bool, ServeFault> {
-    let written = served(rt, alloc, members, false, input)?;
-    Ok(written.as_slice() == wanted)
+) -> bool {
+    let written = served(rt, alloc, members, false, input);
+    written.as_slice() == wanted
 }

@@ -1,9 +1,9 @@
 //! Listings, and lines of any length.
 
-use crate::same::assert_same;
+use crate::asserts::{assert_same, unwrap};
 use crate::service::farms::answers;
-use std::alloc::{AllocError, Global};
-use std::test::Fail;
+use std::alloc::Global;
+use std::process::Abort;
 
 /// Pairs of an input and what is written for it.
 const LISTINGS: [(&str, &str); 18] = [
@@ -37,91 +37,89 @@ const LISTINGS: [(&str, &str); 18] = [
 ];
 
 #[test]
-fn listings(rt: HostRuntime) -> Result<(), Fail> {
+fn listings(rt: HostRuntime) {
     for (input, output) in LISTINGS.iter() {
-        let same = answers(&rt, rt.alloc(), 1, input.as_bytes(), output.as_bytes())?;
+        let same = answers(&rt, rt.alloc(), 1, input.as_bytes(), output.as_bytes());
         assert!(rt; same, "{input}");
     }
-    Ok(())
 }
 
 /// A line of so many instructions `ldc 1`, and what ends it.
 pub(crate) fn long_line(
+    rt: &impl Abort,
     alloc: Global,
     instructions: usize,
     end: &[u8],
-) -> Result<Vec<u8>, AllocError> {
-    let mut line = Vec::from_slice(alloc, b"LIST ")?;
+) -> Vec<u8> {
+    let mut line = unwrap(rt, Vec::from_slice(alloc, b"LIST "));
     for _ in 0..instructions {
-        line.extend_from_slice(b"41")?;
+        unwrap(rt, line.extend_from_slice(b"41"));
     }
-    line.extend_from_slice(end)?;
-    Ok(line)
+    unwrap(rt, line.extend_from_slice(end));
+    line
 }
 
 /// Two lines: so many instructions, and one more.
-fn two_listings(alloc: Global, instructions: usize, end: &[u8]) -> Result<Vec<u8>, AllocError> {
-    let mut input = long_line(alloc, instructions, end)?;
-    input.extend_from_slice(b"LIST 604F\n")?;
-    Ok(input)
+fn two_listings(rt: &impl Abort, alloc: Global, instructions: usize, end: &[u8]) -> Vec<u8> {
+    let mut input = long_line(rt, alloc, instructions, end);
+    unwrap(rt, input.extend_from_slice(b"LIST 604F\n"));
+    input
 }
 
 /// What is answered for a listing of so many instructions `ldc 1`.
-pub(crate) fn long_listing(alloc: Global, instructions: u32) -> Result<String, AllocError> {
+pub(crate) fn long_listing(rt: &impl Abort, alloc: Global, instructions: u32) -> String {
     let mut output = String::new(alloc);
     for at in 0..instructions {
-        let told = format!(in alloc; "{at} 41 ldc 1\n")?;
-        output.push_str(told.as_str())?;
+        let told = unwrap(rt, format!(in alloc; "{at} 41 ldc 1\n"));
+        unwrap(rt, output.push_str(told.as_str()));
     }
-    let told = format!(in alloc; "DONE {instructions}\n")?;
-    output.push_str(told.as_str())?;
-    Ok(output)
+    let told = unwrap(rt, format!(in alloc; "DONE {instructions}\n"));
+    unwrap(rt, output.push_str(told.as_str()));
+    output
 }
 
 /// Each line of the answer to the longest line, and a line behind it.
 #[test]
-fn the_longest_line(rt: HostRuntime) -> Result<(), Fail> {
-    let input = two_listings(rt.alloc(), 16_381, b"\r\n")?;
+fn the_longest_line(rt: HostRuntime) {
+    let input = two_listings(&rt, rt.alloc(), 16_381, b"\r\n");
     assert_same(&rt, &input.len(), &32_779);
-    let mut wanted = long_listing(rt.alloc(), 16_381)?;
-    wanted.push_str("0 604f ldc -1\nDONE 1\n")?;
-    assert!(rt; answers(&rt, rt.alloc(), 1, &input, wanted.as_bytes())?);
-    Ok(())
+    let mut wanted = long_listing(&rt, rt.alloc(), 16_381);
+    unwrap(&rt, wanted.push_str("0 604f ldc -1\nDONE 1\n"));
+    assert!(rt; answers(&rt, rt.alloc(), 1, &input, wanted.as_bytes()));
 }
 
 #[test]
-fn a_line_too_long(rt: HostRuntime) -> Result<(), Fail> {
-    let input = two_listings(rt.alloc(), 16_382, b"\n")?;
+fn a_line_too_long(rt: HostRuntime) {
+    let input = two_listings(&rt, rt.alloc(), 16_382, b"\n");
     assert_same(&rt, &input.len(), &32_780);
     let wanted = b"NO E1 1\n0 604f ldc -1\nDONE 1\n";
-    assert!(rt; answers(&rt, rt.alloc(), 1, &input, wanted)?);
-    Ok(())
+    assert!(rt; answers(&rt, rt.alloc(), 1, &input, wanted));
 }
 
 /// 1,500 listings, each followed by a line that is refused.
-fn many_listings(alloc: Global) -> Result<Vec<u8>, AllocError> {
+fn many_listings(rt: &impl Abort, alloc: Global) -> Vec<u8> {
     let mut input = Vec::new(alloc);
     for _ in 1..1_501u32 {
-        input.extend_from_slice(b"LIST 604F\nHELLO\n")?;
+        unwrap(rt, input.extend_from_slice(b"LIST 604F\nHELLO\n"));
     }
-    Ok(input)
+    input
 }
 
-fn many_answers(alloc: Global) -> Result<String, AllocError> {
+fn many_answers(rt: &impl Abort, alloc: Global) -> String {
     let mut output = String::new(alloc);
     for pair in 1..1_501u32 {
         let refused = pair.saturating_mul(2);
-        let told = format!(in alloc; "0 604f ldc -1\nDONE 1\nNO E1 {refused}\n")?;
-        output.push_str(told.as_str())?;
+        let told = format!(in alloc; "0 604f ldc -1\nDONE 1\nNO E1 {refused}\n");
+        let told = unwrap(rt, told);
+        unwrap(rt, output.push_str(told.as_str()));
     }
-    Ok(output)
+    output
 }
 
 /// An input of 3,000 lines, each second of which is refused.
 #[test]
-fn many_lines(rt: HostRuntime) -> Result<(), Fail> {
-    let input = many_listings(rt.alloc())?;
-    let output = many_answers(rt.alloc())?;
-    assert!(rt; answers(&rt, rt.alloc(), 1, &input, output.as_bytes())?);
-    Ok(())
+fn many_lines(rt: HostRuntime) {
+    let input = many_listings(&rt, rt.alloc());
+    let output = many_answers(&rt, rt.alloc());
+    assert!(rt; answers(&rt, rt.alloc(), 1, &input, output.as_bytes()));
 }

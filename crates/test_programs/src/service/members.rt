@@ -1,15 +1,15 @@
 //! Members beside one another: each member of a farm serves, in each batch.
 
-use crate::same::assert_same;
+use crate::asserts::{assert_same, unwrap};
 use crate::service::cases::INCREMENT;
 use crate::service::farms::push_line;
-use std::alloc::{AllocError, Global};
+use std::alloc::Global;
+use std::process::Abort;
 use std::sync::Wait;
 use std::sync::atomic::{AtomicU64, Ordering};
-use std::test::Fail;
 use std::thread::{self, Threads};
 use tp_link::{DeviceFault, LinkDevice, Links, Medium, OwnedWire};
-use tp_session::{Farm, ServeFault, serve};
+use tp_session::{Farm, serve};
 
 /// How many turns a member is held for, at most.
 const MOST_TURNS: u64 = 1_000_000;
@@ -103,71 +103,77 @@ impl LinkDevice for Meeter<'_> {
     }
 }
 
-fn meeter_at(alloc: Global, meeting: Option<&Meeting>) -> Result<Meeter<'_>, AllocError> {
-    let (wire, _) = OwnedWire::new(alloc, Medium::new(alloc, 256)?)?;
-    Ok(Meeter {
+fn meeter_at<'m>(rt: &impl Abort, alloc: Global, meeting: Option<&'m Meeting>) -> Meeter<'m> {
+    let medium = unwrap(rt, Medium::new(alloc, 256));
+    let (wire, _) = unwrap(rt, OwnedWire::new(alloc, medium));
+    Meeter {
         wire,
         meeting,
         times: 0,
-    })
+    }
 }
 
 /// The links of so many members, whose sources come to the meeting.
-fn links_of(
+fn links_of<'m>(
+    rt: &impl Abort,
     alloc: Global,
     members: u64,
-    meeting: &Meeting,
-) -> Result<Vec<Links<Meeter<'_>>>, AllocError> {
+    meeting: &'m Meeting,
+) -> Vec<Links<Meeter<'m>>> {
     let mut links = Vec::new(alloc);
     for _ in 0..members {
-        links.push(Links {
-            source: meeter_at(alloc, Some(meeting))?,
-            sink: meeter_at(alloc, None)?,
-            trace: meeter_at(alloc, None)?,
-        })?;
+        let member = Links {
+            source: meeter_at(rt, alloc, Some(meeting)),
+            sink: meeter_at(rt, alloc, None),
+            trace: meeter_at(rt, alloc, None),
+        };
+        unwrap(rt, links.push(member));
     }
-    Ok(links)
+    links
 }
 
 /// An image, and two batches of so many packets.
-fn two_batches(alloc: Global, packets: u64) -> Result<Vec<u8>, Fail> {
+fn two_batches(rt: &impl Abort, alloc: Global, packets: u64) -> Vec<u8> {
     let mut input = Vec::new(alloc);
-    push_line(&mut input, &["a IMAGE ", INCREMENT])?;
+    push_line(rt, &mut input, &["a IMAGE ", INCREMENT]);
     for _ in 0..2u8 {
         for _ in 0..packets {
-            push_line(&mut input, &["a PACKET 01000000"])?;
+            push_line(rt, &mut input, &["a PACKET 01000000"]);
         }
-        push_line(&mut input, &["a RUN"])?;
+        push_line(rt, &mut input, &["a RUN"]);
     }
-    Ok(input)
+    input
 }
 
 /// Serves two batches of as many packets as there are members, of which there are 1 to 64.
-fn serve_meeting<T: Threads + Wait + Sync>(
+fn serve_meeting<T: Abort + Threads + Wait + Sync>(
     rt: &T,
     alloc: Global,
     members: u64,
     meeting: &Meeting,
-) -> Result<Vec<u8>, Fail> {
-    let input = two_batches(alloc, members)?;
-    let links = links_of(alloc, members, meeting)?;
+) -> Vec<u8> {
+    let input = two_batches(rt, alloc, members);
+    let links = links_of(rt, alloc, members, meeting);
     if links.is_empty() || links.len() > 64 {
-        return Err(ServeFault::Thread.into());
+        panic!(rt; "no farm has so many members");
     }
     let mut reader = input.as_slice();
     let mut writer = Vec::new(alloc);
-    serve(rt, alloc, &mut reader, &mut writer, Farm::new(links, false))?;
-    Ok(writer)
+    let farm = Farm::new(links, false);
+    let result = serve(rt, alloc, &mut reader, &mut writer, farm);
+    unwrap(rt, result);
+    writer
 }
 
 /// A member that has taken a packet is held until as many packets are taken as there are members. So no turns run out
 /// only where each member has a packet in hand beside the others, in the second batch too.
 #[test]
-fn each_member_serves(rt: HostRuntime) -> Result<(), Fail> {
+fn each_member_serves(rt: HostRuntime) {
     for members in [1, 3, 8] {
         let meeting = Meeting::of(members);
-        let written = serve_meeting(&rt, rt.alloc(), members, &meeting)?;
-        let done = format!(in rt.alloc(); " 0 16 02000000\nDONE {members}\n")?;
+        let written = serve_meeting(&rt, rt.alloc(), members, &meeting);
+        let done = format!(in rt.alloc(); " 0 16 02000000\nDONE {members}\n");
+        let done = unwrap(&rt, done);
         assert!(rt; written.ends_with(done.as_bytes()));
         assert_eq!(rt; meeting.ran_out.load(Ordering::SeqCst), 0, "{members}");
         assert_same(
@@ -176,5 +182,4 @@ fn each_member_serves(rt: HostRuntime) -> Result<(), Fail> {
             &members.saturating_mul(2),
         );
     }
-    Ok(())
 }

@@ -1,8 +1,9 @@
 //! Every instruction by its name, as the Compiler Writer's Guide spells it.
 
+use crate::asserts::unwrap;
 use crate::service::farms::answers;
-use std::alloc::{AllocError, Global};
-use std::test::Fail;
+use std::alloc::Global;
+use std::process::Abort;
 
 /// Each instruction of the table: its code, and what is listed for it.
 const NAMES: [(&str, &str); 40] = [
@@ -49,26 +50,27 @@ const NAMES: [(&str, &str); 40] = [
 ];
 
 /// A line that lists each code.
-fn all_codes(alloc: Global) -> Result<Vec<u8>, AllocError> {
+fn all_codes(rt: &impl Abort, alloc: Global) -> Vec<u8> {
     let mut input = Vec::new(alloc);
     for (code, _) in NAMES.iter() {
-        input.extend_from_slice(format!(in alloc; "LIST {code}\n")?.as_bytes())?;
+        let line = unwrap(rt, format!(in alloc; "LIST {code}\n"));
+        unwrap(rt, input.extend_from_slice(line.as_bytes()));
     }
-    Ok(input)
+    input
 }
 
-fn all_names(alloc: Global) -> Result<Vec<u8>, AllocError> {
+fn all_names(rt: &impl Abort, alloc: Global) -> Vec<u8> {
     let mut output = Vec::new(alloc);
     for (code, text) in NAMES.iter() {
-        output.extend_from_slice(format!(in alloc; "0 {code} {text}\nDONE 1\n")?.as_bytes())?;
+        let told = unwrap(rt, format!(in alloc; "0 {code} {text}\nDONE 1\n"));
+        unwrap(rt, output.extend_from_slice(told.as_bytes()));
     }
-    Ok(output)
+    output
 }
 
 #[test]
-fn every_name(rt: HostRuntime) -> Result<(), Fail> {
-    let input = all_codes(rt.alloc())?;
-    let output = all_names(rt.alloc())?;
-    assert!(rt; answers(&rt, rt.alloc(), 1, &input, &output)?);
-    Ok(())
+fn every_name(rt: HostRuntime) {
+    let input = all_codes(&rt, rt.alloc());
+    let output = all_names(&rt, rt.alloc());
+    assert!(rt; answers(&rt, rt.alloc(), 1, &input, &output));
 }

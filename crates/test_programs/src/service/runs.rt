@@ -1,56 +1,56 @@
 //! Images, and the runs of packets.
 
+use crate::asserts::unwrap;
 use crate::service::cases::{Case, INCREMENT, RUNS, VERDICTS};
 use crate::service::farms::{answers, input_of, push_line, served};
 use std::alloc::Global;
-use std::test::Fail;
+use std::process::Abort;
 
 /// The lines that open a session, give it packets and run them.
-fn lines_of(alloc: Global, case: &Case) -> Result<Vec<u8>, Fail> {
+fn lines_of(rt: &impl Abort, alloc: Global, case: &Case) -> Vec<u8> {
     let mut input = Vec::new(alloc);
-    push_line(&mut input, &["a IMAGE ", case.image])?;
+    push_line(rt, &mut input, &["a IMAGE ", case.image]);
     for packet in case.packets {
-        push_line(&mut input, &["a PACKET ", packet])?;
+        push_line(rt, &mut input, &["a PACKET ", packet]);
     }
-    push_line(&mut input, &["a RUN"])?;
-    Ok(input)
+    push_line(rt, &mut input, &["a RUN"]);
+    input
 }
 
 #[test]
-fn packets_are_run(rt: HostRuntime) -> Result<(), Fail> {
+fn packets_are_run(rt: HostRuntime) {
     for case in RUNS.iter() {
-        let input = lines_of(rt.alloc(), case)?;
+        let input = lines_of(&rt, rt.alloc(), case);
         let name = case.name;
         for members in [1, 4] {
-            let written = served(&rt, rt.alloc(), members, case.trace, &input)?;
+            let written = served(&rt, rt.alloc(), members, case.trace, &input);
             assert!(rt; written.as_slice() == case.answers.as_bytes(), "{name}");
         }
     }
-    Ok(())
 }
 
 #[test]
-fn images_are_judged(rt: HostRuntime) -> Result<(), Fail> {
+fn images_are_judged(rt: HostRuntime) {
     for (name, image, answer) in VERDICTS.iter() {
-        let input = input_of(rt.alloc(), &[("a IMAGE ", *image)])?;
+        let input = input_of(&rt, rt.alloc(), &[("a IMAGE ", *image)]);
         assert!(rt;
-            answers(&rt, rt.alloc(), 1, &input, answer.as_bytes())?,
+            answers(&rt, rt.alloc(), 1, &input, answer.as_bytes()),
             "{name}"
         );
     }
-    Ok(())
 }
 
 /// A long image: a head, a pair of instructions so many times, and the end that sends the result.
-fn long_image(alloc: Global, head: &str, times: usize) -> Result<Vec<u8>, Fail> {
+fn long_image(rt: &impl Abort, alloc: Global, head: &str, times: usize) -> Vec<u8> {
     let mut input = Vec::new(alloc);
-    input.extend_from_slice(b"a IMAGE ")?;
-    input.extend_from_slice(head.as_bytes())?;
+    unwrap(rt, input.extend_from_slice(b"a IMAGE "));
+    unwrap(rt, input.extend_from_slice(head.as_bytes()));
     for _ in 0..times {
-        input.extend_from_slice(b"40A0")?;
+        unwrap(rt, input.extend_from_slice(b"40A0"));
     }
-    input.extend_from_slice(b"1024F244FB21F5\na PACKET 07000000\na RUN\n")?;
-    Ok(input)
+    let end = b"1024F244FB21F5\na PACKET 07000000\na RUN\n";
+    unwrap(rt, input.extend_from_slice(end));
+    input
 }
 
 /// What a long image begins with, how many pairs of instructions it has, and what is answered.
@@ -68,54 +68,51 @@ const LONG: [(&str, usize, &str); 2] = [
 ];
 
 #[test]
-fn long_codes(rt: HostRuntime) -> Result<(), Fail> {
+fn long_codes(rt: HostRuntime) {
     for (head, times, wanted) in LONG.iter() {
-        let input = long_image(rt.alloc(), head, *times)?;
+        let input = long_image(&rt, rt.alloc(), head, *times);
         assert!(rt;
-            answers(&rt, rt.alloc(), 1, &input, wanted.as_bytes())?,
+            answers(&rt, rt.alloc(), 1, &input, wanted.as_bytes()),
             "{times}"
         );
     }
-    Ok(())
 }
 
 /// A session of 1,024 packets, and its run.
-fn full_batch(alloc: Global) -> Result<Vec<u8>, Fail> {
-    let mut input = input_of(alloc, &[("a IMAGE ", INCREMENT)])?;
+fn full_batch(rt: &impl Abort, alloc: Global) -> Vec<u8> {
+    let mut input = input_of(rt, alloc, &[("a IMAGE ", INCREMENT)]);
     for _ in 0..1024 {
-        push_line(&mut input, &["a PACKET 01000000"])?;
+        push_line(rt, &mut input, &["a PACKET 01000000"]);
     }
-    push_line(&mut input, &["a RUN"])?;
-    Ok(input)
+    push_line(rt, &mut input, &["a RUN"]);
+    input
 }
 
 /// 1,024 lines of a number each, between two texts.
-fn push_numbers(alloc: Global, lines: &mut Vec<u8>, before: &str, after: &str) -> Result<(), Fail> {
+fn push_numbers(rt: &impl Abort, alloc: Global, lines: &mut Vec<u8>, before: &str, after: &str) {
     for number in 0u32..1024 {
-        let text = format!(in alloc; "{number}")?;
-        push_line(lines, &[before, text.as_str(), after])?;
+        let text = unwrap(rt, format!(in alloc; "{number}"));
+        push_line(rt, lines, &[before, text.as_str(), after]);
     }
-    Ok(())
 }
 
-fn full_answers(alloc: Global) -> Result<Vec<u8>, Fail> {
-    let mut wanted = Vec::from_slice(alloc, b"YES 16 16\n")?;
-    push_numbers(alloc, &mut wanted, "KEPT ", "")?;
-    push_numbers(alloc, &mut wanted, "R ", " 0 16 02000000")?;
-    push_line(&mut wanted, &["DONE 1024"])?;
-    Ok(wanted)
+fn full_answers(rt: &impl Abort, alloc: Global) -> Vec<u8> {
+    let mut wanted = unwrap(rt, Vec::from_slice(alloc, b"YES 16 16\n"));
+    push_numbers(rt, alloc, &mut wanted, "KEPT ", "");
+    push_numbers(rt, alloc, &mut wanted, "R ", " 0 16 02000000");
+    push_line(rt, &mut wanted, &["DONE 1024"]);
+    wanted
 }
 
 /// The number of members does not show.
 #[test]
-fn a_full_batch(rt: HostRuntime) -> Result<(), Fail> {
-    let input = full_batch(rt.alloc())?;
-    let wanted = full_answers(rt.alloc())?;
+fn a_full_batch(rt: HostRuntime) {
+    let input = full_batch(&rt, rt.alloc());
+    let wanted = full_answers(&rt, rt.alloc());
     for members in [1, 3, 64] {
         assert!(rt;
-            answers(&rt, rt.alloc(), members, &input, &wanted)?,
+            answers(&rt, rt.alloc(), members, &input, &wanted),
             "{members}"
         );
     }
-    Ok(())
 }

@@ -1,9 +1,10 @@
 //! Several sessions, their order and their limits.
 
+use crate::asserts::unwrap;
 use crate::service::cases::INCREMENT;
 use crate::service::farms::{answers, input_of, push_line, served};
 use std::alloc::Global;
-use std::test::Fail;
+use std::process::Abort;
 
 const TWO_SESSIONS: [(&str, &str); 9] = [
     ("a IMAGE ", INCREMENT),
@@ -18,12 +19,11 @@ const TWO_SESSIONS: [(&str, &str); 9] = [
 ];
 
 #[test]
-fn two_sessions(rt: HostRuntime) -> Result<(), Fail> {
-    let input = input_of(rt.alloc(), &TWO_SESSIONS)?;
+fn two_sessions(rt: HostRuntime) {
+    let input = input_of(&rt, rt.alloc(), &TWO_SESSIONS);
     let wanted = b"YES 16 16\nYES 16 16\nKEPT 0\nKEPT 0\nGONE\nYES 16 16\n\
         OF b\nR 0 0 16 03000000\nDONE 1\nOF a\nDONE 0\nALL 2\nNO P1 8\nNO P2 9\n";
-    assert!(rt; answers(&rt, rt.alloc(), 4, &input, wanted)?);
-    Ok(())
+    assert!(rt; answers(&rt, rt.alloc(), 4, &input, wanted));
 }
 
 const REPLACED: [(&str, &str); 8] = [
@@ -39,56 +39,53 @@ const REPLACED: [(&str, &str); 8] = [
 
 /// An image that is replaced keeps the session's place, and forgets its packets. An image that is refused changes nothing.
 #[test]
-fn a_replaced_image(rt: HostRuntime) -> Result<(), Fail> {
-    let input = input_of(rt.alloc(), &REPLACED)?;
+fn a_replaced_image(rt: HostRuntime) {
+    let input = input_of(&rt, rt.alloc(), &REPLACED);
     let wanted = b"YES 16 16\nYES 16 16\nKEPT 0\nKEPT 0\nYES 16 16\nNO F1 0\n\
         OF b\nDONE 0\nOF a\nR 0 0 16 06000000\nDONE 1\nALL 2\nDONE 0\n";
-    assert!(rt; answers(&rt, rt.alloc(), 2, &input, wanted)?);
-    Ok(())
+    assert!(rt; answers(&rt, rt.alloc(), 2, &input, wanted));
 }
 
 /// Opens sessions z1 to z64, and then others, of which one is one too many.
-fn most_sessions(alloc: Global) -> Result<Vec<u8>, Fail> {
+fn most_sessions(rt: &impl Abort, alloc: Global) -> Vec<u8> {
     let mut input = Vec::new(alloc);
     for number in 1u32..65 {
-        let name = format!(in alloc; "z{number}")?;
-        push_line(&mut input, &[name.as_str(), " IMAGE ", INCREMENT])?;
+        let name = unwrap(rt, format!(in alloc; "z{number}"));
+        push_line(rt, &mut input, &[name.as_str(), " IMAGE ", INCREMENT]);
     }
-    push_line(&mut input, &["z65 IMAGE 00"])?;
-    push_line(&mut input, &["z64 IMAGE ", INCREMENT])?;
-    push_line(&mut input, &["z1 DROP\nz65 IMAGE 00"])?;
-    Ok(input)
+    push_line(rt, &mut input, &["z65 IMAGE 00"]);
+    push_line(rt, &mut input, &["z64 IMAGE ", INCREMENT]);
+    push_line(rt, &mut input, &["z1 DROP\nz65 IMAGE 00"]);
+    input
 }
 
 #[test]
-fn the_most_sessions(rt: HostRuntime) -> Result<(), Fail> {
-    let input = most_sessions(rt.alloc())?;
+fn the_most_sessions(rt: HostRuntime) {
+    let input = most_sessions(&rt, rt.alloc());
     let mut wanted = Vec::new(rt.alloc());
     for _ in 1..65 {
-        push_line(&mut wanted, &["YES 16 16"])?;
+        push_line(&rt, &mut wanted, &["YES 16 16"]);
     }
-    push_line(&mut wanted, &["NO E2 65\nYES 16 16\nGONE\nNO F1 0"])?;
-    assert!(rt; answers(&rt, rt.alloc(), 1, &input, &wanted)?);
-    Ok(())
+    push_line(&rt, &mut wanted, &["NO E2 65\nYES 16 16\nGONE\nNO F1 0"]);
+    assert!(rt; answers(&rt, rt.alloc(), 1, &input, &wanted));
 }
 
 /// One packet more than a session keeps, one of another length, and the image again.
-fn most_packets(alloc: Global) -> Result<Vec<u8>, Fail> {
-    let mut input = input_of(alloc, &[("a IMAGE ", INCREMENT)])?;
+fn most_packets(rt: &impl Abort, alloc: Global) -> Vec<u8> {
+    let mut input = input_of(rt, alloc, &[("a IMAGE ", INCREMENT)]);
     for _ in 0..1025 {
-        push_line(&mut input, &["a PACKET 01000000"])?;
+        push_line(rt, &mut input, &["a PACKET 01000000"]);
     }
-    push_line(&mut input, &["a PACKET 0100000000"])?;
-    push_line(&mut input, &["a IMAGE ", INCREMENT, "\na RUN"])?;
-    Ok(input)
+    push_line(rt, &mut input, &["a PACKET 0100000000"]);
+    push_line(rt, &mut input, &["a IMAGE ", INCREMENT, "\na RUN"]);
+    input
 }
 
 #[test]
-fn the_most_packets(rt: HostRuntime) -> Result<(), Fail> {
-    let input = most_packets(rt.alloc())?;
-    let written = served(&rt, rt.alloc(), 1, false, &input)?;
+fn the_most_packets(rt: HostRuntime) {
+    let input = most_packets(&rt, rt.alloc());
+    let written = served(&rt, rt.alloc(), 1, false, &input);
     assert!(rt; written.ends_with(b"KEPT 1023\nNO P3 1026\nNO P1 1027\nYES 16 16\nDONE 0\n"));
-    Ok(())
 }
 
 /// Inputs with lines that are refused, and what is answered.
@@ -112,10 +109,9 @@ const REFUSED: [(&str, &str); 9] = [
 
 /// Lines that are refused, and what comes first where several things are wrong.
 #[test]
-fn refusals(rt: HostRuntime) -> Result<(), Fail> {
+fn refusals(rt: HostRuntime) {
     for (input, output) in REFUSED.iter() {
-        let same = answers(&rt, rt.alloc(), 1, input.as_bytes(), output.as_bytes())?;
+        let same = answers(&rt, rt.alloc(), 1, input.as_bytes(), output.as_bytes());
         assert!(rt; same, "{input}");
     }
-    Ok(())
 }

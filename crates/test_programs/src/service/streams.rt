@@ -1,12 +1,12 @@
 //! Readers and writers that give and take little at a time, or fail.
 
-use crate::same::assert_same;
+use crate::asserts::{assert_same, unwrap};
 use crate::service::farms::{answers, serve_on};
 use std::alloc::Global;
 use std::io;
 use std::io::{ErrorKind, Read, Write};
+use std::process::Abort;
 use std::sync::Wait;
-use std::test::Fail;
 use std::thread::Threads;
 use tp_session::ServeFault;
 
@@ -97,12 +97,12 @@ const INPUT: &[u8] = b"LIST 604F\nHELLO\nLIST 24F2\r\nLIST 41F3";
 const OUTPUT: &[u8] = b"0 604f ldc -1\nDONE 1\nNO E1 2\n0 24f2 mint\nDONE 1\nNO D3 1\n";
 
 /// What a writer that takes a byte a call takes for an input that is read a byte at a time.
-fn served_by_bytes<T: Threads + Wait + Sync>(
+fn served_by_bytes<T: Abort + Threads + Wait + Sync>(
     rt: &T,
     alloc: Global,
     members: usize,
     input: &[u8],
-) -> Result<Narrow, ServeFault> {
+) -> Narrow {
     let mut reader = Trickle {
         rest: input,
         calls: 0,
@@ -113,46 +113,46 @@ fn served_by_bytes<T: Threads + Wait + Sync>(
         calls: 0,
         failing: 0,
     };
-    serve_on(rt, alloc, members, false, &mut reader, &mut writer)?;
-    Ok(writer)
+    let result = serve_on(rt, alloc, members, false, &mut reader, &mut writer);
+    unwrap(rt, result);
+    writer
 }
 
 /// 56 bytes and 4 flushes.
 #[test]
-fn a_byte_at_a_time(rt: HostRuntime) -> Result<(), Fail> {
-    let writer = served_by_bytes(&rt, rt.alloc(), 1, INPUT)?;
+fn a_byte_at_a_time(rt: HostRuntime) {
+    let writer = served_by_bytes(&rt, rt.alloc(), 1, INPUT);
     assert!(rt; writer.taken.as_slice() == OUTPUT);
     assert_same(&rt, &writer.calls, &60);
-    assert!(rt; answers(&rt, rt.alloc(), 1, INPUT, OUTPUT)?);
-    Ok(())
+    assert!(rt; answers(&rt, rt.alloc(), 1, INPUT, OUTPUT));
 }
 
 /// What is written for an input, and how much that was at each flush.
-pub(crate) fn flushes_of<T: Threads + Wait + Sync>(
+pub(crate) fn flushes_of<T: Abort + Threads + Wait + Sync>(
     rt: &T,
     alloc: Global,
     members: usize,
     input: &[u8],
-) -> Result<Flushed, ServeFault> {
+) -> Flushed {
     let mut reader = input;
     let mut writer = Flushed {
         taken: Vec::new(alloc),
         flushes: Vec::new(alloc),
     };
-    serve_on(rt, alloc, members, false, &mut reader, &mut writer)?;
-    Ok(writer)
+    let result = serve_on(rt, alloc, members, false, &mut reader, &mut writer);
+    unwrap(rt, result);
+    writer
 }
 
 #[test]
-fn each_answer_is_flushed(rt: HostRuntime) -> Result<(), Fail> {
-    let writer = flushes_of(&rt, rt.alloc(), 1, INPUT)?;
+fn each_answer_is_flushed(rt: HostRuntime) {
+    let writer = flushes_of(&rt, rt.alloc(), 1, INPUT);
     assert!(rt; writer.taken.as_slice() == OUTPUT);
     assert_same(
         &rt,
         &writer.flushes.as_slice(),
         &[21, 29, 48, 56].as_slice(),
     );
-    Ok(())
 }
 
 /// How much of the output is written once so much of the input was read.
@@ -169,7 +169,7 @@ fn written_after(read: usize) -> usize {
 }
 
 /// Whether serving an input ends with a read fault and this is written, where this read fails.
-pub(crate) fn read_fails_as<T: Threads + Wait + Sync>(
+pub(crate) fn read_fails_as<T: Abort + Threads + Wait + Sync>(
     rt: &T,
     alloc: Global,
     input: &[u8],
@@ -197,7 +197,7 @@ fn each_read_fails(rt: HostRuntime) {
 
 /// Whether serving an input ends with a write fault and a beginning of the output is taken, where this write or flush
 /// fails.
-fn write_fails_within<T: Threads + Wait + Sync>(
+fn write_fails_within<T: Abort + Threads + Wait + Sync>(
     rt: &T,
     alloc: Global,
     input: &[u8],
@@ -251,11 +251,10 @@ fn told_after(read: usize) -> usize {
 
 /// 99 bytes and 6 flushes.
 #[test]
-fn a_session_a_byte_at_a_time(rt: HostRuntime) -> Result<(), Fail> {
-    let writer = served_by_bytes(&rt, rt.alloc(), 4, SESSION)?;
+fn a_session_a_byte_at_a_time(rt: HostRuntime) {
+    let writer = served_by_bytes(&rt, rt.alloc(), 4, SESSION);
     assert!(rt; writer.taken.as_slice() == TOLD);
     assert_same(&rt, &writer.calls, &105);
-    Ok(())
 }
 
 #[test]

@@ -1,31 +1,24 @@
 //! Each fault of a program, and which comes first.
 
 use crate::assembly::programs::{back, cj, plain, program, row, spelled};
+use crate::asserts::{assert_same, unwrap};
 use std::alloc::Global;
 use std::process::Abort;
-use std::test::Fail;
 use tp_assembly::{AssemblyFault, Line, LineFault, Loop, Operation, Spot, assemble};
 use tp_decode::Instr;
 use tp_image::{ImageCode, Version};
 
 /// A program of these loops and lines has this fault.
-fn refused(
-    rt: &impl Abort,
-    alloc: Global,
-    loops: &[Loop],
-    lines: &[Line],
-    fault: AssemblyFault,
-) -> Result<(), Fail> {
-    let program = program(alloc, 8, 1, 1, loops, lines)?;
+fn refused(rt: &impl Abort, alloc: Global, loops: &[Loop], lines: &[Line], fault: AssemblyFault) {
+    let program = program(rt, alloc, 8, 1, 1, loops, lines);
     match assemble(alloc, &program) {
         Ok(_) => assert!(rt; false, "{fault}"),
-        Err(found) => assert_eq!(rt; found, fault),
+        Err(found) => assert_same(rt, &found, &fault),
     }
-    Ok(())
 }
 
 #[test]
-fn lines(rt: HostRuntime) -> Result<(), Fail> {
+fn lines(rt: HostRuntime) {
     let stop = plain(Instr::Stopp);
     let wide = spelled(Operation::Plain(Instr::Ldc(1)), Some(9));
     let none = spelled(Operation::Plain(Instr::Ldc(1)), Some(0));
@@ -55,14 +48,13 @@ fn lines(rt: HostRuntime) -> Result<(), Fail> {
         ([stop, narrow, none], AssemblyFault::Narrow(1)),
     ];
     for (lines, fault) in cases {
-        refused(&rt, rt.alloc(), &[], &lines, fault)?;
+        refused(&rt, rt.alloc(), &[], &lines, fault);
     }
-    Ok(())
 }
 
 /// A label that is a place of the program's end is none of a fault; one behind it is.
 #[test]
-fn loops(rt: HostRuntime) -> Result<(), Fail> {
+fn loops(rt: HostRuntime) {
     let lines = [plain(Instr::Stopp)];
     let behind = Loop {
         head: Spot::Address(0xFFFF),
@@ -77,14 +69,14 @@ fn loops(rt: HostRuntime) -> Result<(), Fail> {
         &[row(0, 1, 5, 1), behind],
         &lines,
         AssemblyFault::Row(1),
-    )?;
+    );
     refused(
         &rt,
         rt.alloc(),
         &[row(2, 0, 5, 1)],
         &lines,
         AssemblyFault::Row(0),
-    )?;
+    );
     refused(
         &rt,
         rt.alloc(),
@@ -96,32 +88,32 @@ fn loops(rt: HostRuntime) -> Result<(), Fail> {
 
 /// Codes of no bytes, of the most bytes and of one more.
 #[test]
-fn sizes(rt: HostRuntime) -> Result<(), Fail> {
+fn sizes(rt: HostRuntime) {
     refused(
         &rt,
         rt.alloc(),
         &[],
         &[],
         AssemblyFault::Field(ImageCode::F3),
-    )?;
-    let mut program = program(rt.alloc(), 8, 1, 1, &[], &[])?;
-    program.lines.resize(2048, plain(Instr::Ldc(0)))?;
-    assert!(rt; assemble(rt.alloc(), &program)?.code.len() == 2048);
-    program.lines.push(plain(Instr::Ldc(0)))?;
+    );
+    let mut program = program(&rt, rt.alloc(), 8, 1, 1, &[], &[]);
+    unwrap(&rt, program.lines.resize(2048, plain(Instr::Ldc(0))));
+    let longest = unwrap(&rt, assemble(rt.alloc(), &program));
+    assert_same(&rt, &longest.code.len(), &2048);
+    unwrap(&rt, program.lines.push(plain(Instr::Ldc(0))));
     match assemble(rt.alloc(), &program) {
         Ok(_) => assert!(rt; false),
-        Err(found) => assert_eq!(rt; found, AssemblyFault::TooLong),
+        Err(found) => assert_same(&rt, &found, &AssemblyFault::TooLong),
     }
     program.version = Version::Two;
-    program.lines.resize(4096, plain(Instr::Mint))?;
-    program.lines.resize(5120, plain(Instr::Mint))?;
-    assert!(rt; assemble(rt.alloc(), &program)?.code.len() == 2049 + 2 * 3071);
-    program
-        .lines
-        .push(spelled(Operation::Plain(Instr::Mint), Some(3)))?;
+    unwrap(&rt, program.lines.resize(4096, plain(Instr::Mint)));
+    unwrap(&rt, program.lines.resize(5120, plain(Instr::Mint)));
+    let longest = unwrap(&rt, assemble(rt.alloc(), &program));
+    assert_same(&rt, &longest.code.len(), &(2049 + 2 * 3071));
+    let last = spelled(Operation::Plain(Instr::Mint), Some(3));
+    unwrap(&rt, program.lines.push(last));
     match assemble(rt.alloc(), &program) {
         Ok(_) => assert!(rt; false),
-        Err(found) => assert_eq!(rt; found, AssemblyFault::TooLong),
+        Err(found) => assert_same(&rt, &found, &AssemblyFault::TooLong),
     }
-    Ok(())
 }

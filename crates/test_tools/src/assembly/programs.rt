@@ -1,6 +1,8 @@
 //! Programs in short.
 
-use std::alloc::{AllocError, Global};
+use crate::asserts::unwrap;
+use std::alloc::Global;
+use std::process::Abort;
 use tp_assembly::{Line, Loop, Operation, Program, Spot};
 use tp_decode::Instr;
 use tp_image::Version;
@@ -37,21 +39,22 @@ pub fn row(head: usize, lend: usize, control: u16, count: u16) -> Loop {
 
 /// A version 1 program that begins at word 5.
 pub fn program(
+    rt: &impl Abort,
     alloc: Global,
     workspace: u32,
     packet: u32,
     results: u32,
     loops: &[Loop],
     lines: &[Line],
-) -> Result<Program, AllocError> {
-    Ok(Program {
+) -> Program {
+    Program {
         version: Version::One,
         workspace,
         start: 5,
         packet,
         result: results,
-        loops: Vec::from_slice(alloc, loops)?,
+        loops: unwrap(rt, Vec::from_slice(alloc, loops)),
         initial: Vec::new(alloc),
-        lines: Vec::from_slice(alloc, lines)?,
-    })
+        lines: unwrap(rt, Vec::from_slice(alloc, lines)),
+    }
 }

@@ -1,7 +1,7 @@
 //! Lines and ends of three workers: a checksum, a sort, and Fibonacci numbers with a trace.
 
+use crate::asserts::{assert_same, unwrap};
 use crate::steps::told::{WHOLE, told};
-use std::test::Fail;
 use tp_stepper::{End, Place, Span};
 
 /// CRC-32 of sixteen words: a loop of 32 turns in one of 16.
@@ -19,8 +19,8 @@ const SORT: &[u8] =
 /// The first five instructions of the checksum: local 0 is word 5, at 0x8000005C, and link 0 receives at 0x80000010. The packet
 /// is received into the words 5 to 20, and the five words below Wptr are undefined then.
 #[test]
-fn the_first_lines(rt: HostRuntime) -> Result<(), Fail> {
-    let image = hex::decode(rt.alloc(), CRC)?;
+fn the_first_lines(rt: HostRuntime) {
+    let image = unwrap(&rt, hex::decode(rt.alloc(), CRC));
     let mut packet = [0; 64];
     packet[0] = 7;
     packet[63] = 0x80;
@@ -28,8 +28,8 @@ fn the_first_lines(rt: HostRuntime) -> Result<(), Fail> {
         from: None,
         until: Some(Place::Address(7)),
     };
-    let (end, text) = told(rt.alloc(), image.as_slice(), &packet, span)?;
-    assert_eq!(rt; end, End::Left);
+    let (end, text) = told(&rt, rt.alloc(), image.as_slice(), &packet, span);
+    assert_same(&rt, &end, &End::Left);
     let wanted = "\
 1 0 ldlp 0: A -2147483556 B - C - Wptr 5 flag 0
 3 1 mint: A -2147483648 B -2147483556 C - Wptr 5 flag 0
@@ -42,15 +42,14 @@ trace
 flag 0
 count 7
 ";
-    assert_eq!(rt; text.as_slice(), wanted.as_bytes());
-    Ok(())
+    assert_same(&rt, &text.as_slice(), &wanted.as_bytes());
 }
 
 /// The checksum of the bytes 0 to 63 is 0x100ECE8C, as zlib has it. 18 bytes come before the loops and 14 behind them; a turn of
 /// the outer loop has 24 of its own, and one of the inner 23, or 37 where a 1 is shifted out: 15,860 in all.
 #[test]
-fn the_checksum(rt: HostRuntime) -> Result<(), Fail> {
-    let image = hex::decode(rt.alloc(), CRC)?;
+fn the_checksum(rt: HostRuntime) {
+    let image = unwrap(&rt, hex::decode(rt.alloc(), CRC));
     let mut packet = [0; 64];
     for (byte, value) in packet.iter_mut().zip(0u8..64) {
         *byte = value;
@@ -59,8 +58,8 @@ fn the_checksum(rt: HostRuntime) -> Result<(), Fail> {
         from: Some(Place::Address(90)),
         until: None,
     };
-    let (end, text) = told(rt.alloc(), image.as_slice(), &packet, span)?;
-    assert_eq!(rt; end, End::Stopped);
+    let (end, text) = told(&rt, rt.alloc(), image.as_slice(), &packet, span);
+    assert_same(&rt, &end, &End::Stopped);
     let wanted = "\
 15858 90 out: A - B - C - Wptr 5 flag 0 result 8cce0e10
 15860 91 stopp: A - B - C - Wptr 5 flag 0
@@ -70,21 +69,20 @@ trace
 flag 0
 count 15860
 ";
-    assert_eq!(rt; text.as_slice(), wanted.as_bytes());
-    Ok(())
+    assert_same(&rt, &text.as_slice(), &wanted.as_bytes());
 }
 
 /// Three numbers are traced, 0, 1 and 1, and 2 is the result. Before the loop stand 15 bytes and behind it 7; three turns have
 /// 22 bytes and 44 have 9.
 #[test]
-fn the_trace(rt: HostRuntime) -> Result<(), Fail> {
-    let image = hex::decode(rt.alloc(), FIBONACCI)?;
+fn the_trace(rt: HostRuntime) {
+    let image = unwrap(&rt, hex::decode(rt.alloc(), FIBONACCI));
     let span = Span {
         from: Some(Place::Count(482)),
         until: None,
     };
-    let (end, text) = told(rt.alloc(), image.as_slice(), &[3, 0, 0, 0], span)?;
-    assert_eq!(rt; end, End::Stopped);
+    let (end, text) = told(&rt, rt.alloc(), image.as_slice(), &[3, 0, 0, 0], span);
+    assert_same(&rt, &end, &End::Stopped);
     let wanted = "\
 484 42 stopp: A - B - C - Wptr 5 flag 0
 stopped
@@ -93,25 +91,21 @@ trace 000000000100000001000000
 flag 0
 count 484
 ";
-    assert_eq!(rt; text.as_slice(), wanted.as_bytes());
-    Ok(())
+    assert_same(&rt, &text.as_slice(), &wanted.as_bytes());
 }
 
 /// The numbers -1, 3, 2, 0, 7, -5, 1 and 1 in order.
 #[test]
-fn the_sort(rt: HostRuntime) -> Result<(), Fail> {
-    let image = hex::decode(rt.alloc(), SORT)?;
-    let packet = hex::decode(
-        rt.alloc(),
-        b"FFFFFFFF03000000020000000000000007000000FBFFFFFF0100000001000000",
-    )?;
-    let (end, text) = told(rt.alloc(), image.as_slice(), packet.as_slice(), WHOLE)?;
-    assert_eq!(rt; end, End::Stopped);
+fn the_sort(rt: HostRuntime) {
+    let image = unwrap(&rt, hex::decode(rt.alloc(), SORT));
+    let packet = b"FFFFFFFF03000000020000000000000007000000FBFFFFFF0100000001000000";
+    let packet = unwrap(&rt, hex::decode(rt.alloc(), packet));
+    let (end, text) = told(&rt, rt.alloc(), image.as_slice(), packet.as_slice(), WHOLE);
+    assert_same(&rt, &end, &End::Stopped);
     let wanted = b"\nresult fbffffffffffffff0000000001000000010000000200000003000000\
 07000000\ntrace \n";
     assert!(rt;
         text.windows(wanted.len())
             .any(|part| part == wanted.as_slice())
     );
-    Ok(())
 }

@@ -1,24 +1,25 @@
 //! A worker for each reason to be stuck. Each has 12 words of workspace, begins at word 8, and has a packet and a result of one
 //! word.
 
+use crate::asserts::unwrap;
 use crate::steps::told::{WHOLE, told};
 use std::alloc::Global;
-use std::test::Fail;
+use std::process::Abort;
 use tp_stepper::{End, Reason};
 
 /// The bytes of an image with this code.
-fn image(alloc: Global, magic: &[u8], code: &[u8]) -> Result<Vec<u8>, Fail> {
-    let bytes = u16::try_from(code.len())?;
+fn image(rt: &impl Abort, alloc: Global, magic: &[u8], code: &[u8]) -> Vec<u8> {
+    let bytes = unwrap(rt, u16::try_from(code.len()));
     let mut text = Vec::new(alloc);
-    text.extend_from_slice(magic)?;
+    unwrap(rt, text.extend_from_slice(magic));
     for field in [bytes, 12, 8, 1, 1, 0] {
-        text.extend_from_slice(&field.to_le_bytes())?;
+        unwrap(rt, text.extend_from_slice(&field.to_le_bytes()));
     }
     if magic == b"TPW2".as_slice() {
-        text.extend_from_slice(&[0, 0])?;
+        unwrap(rt, text.extend_from_slice(&[0, 0]));
     }
-    text.extend_from_slice(code)?;
-    Ok(text)
+    unwrap(rt, text.extend_from_slice(code));
+    text
 }
 
 /// A version, a code, the address of the instruction that has no step, and why.
@@ -77,11 +78,10 @@ const ROWS: [Row; 15] = [
 ];
 
 #[test]
-fn each_reason_is_told(rt: HostRuntime) -> Result<(), Fail> {
+fn each_reason_is_told(rt: HostRuntime) {
     for (magic, code, at, reason) in ROWS {
-        let text = image(rt.alloc(), magic, code)?;
-        let (end, _) = told(rt.alloc(), text.as_slice(), &[1, 0, 0, 0], WHOLE)?;
+        let text = image(&rt, rt.alloc(), magic, code);
+        let (end, _) = told(&rt, rt.alloc(), text.as_slice(), &[1, 0, 0, 0], WHOLE);
         assert_eq!(rt; end, End::Stuck(at, reason), "{reason}");
     }
-    Ok(())
 }

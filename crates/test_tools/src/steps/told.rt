@@ -1,7 +1,8 @@
 //! What is told of a run.
 
+use crate::asserts::unwrap;
 use std::alloc::Global;
-use std::test::Fail;
+use std::process::Abort;
 use tp_image::read_image;
 use tp_stepper::{End, Span, tell};
 
@@ -13,13 +14,14 @@ pub(crate) const WHOLE: Span = Span {
 
 /// How a run of an image's bytes is left, and the text that tells it.
 pub(crate) fn told(
+    rt: &impl Abort,
     alloc: Global,
     image: &[u8],
     packet: &[u8],
     span: Span,
-) -> Result<(End, Vec<u8>), Fail> {
-    let image = read_image(alloc, image)?;
+) -> (End, Vec<u8>) {
+    let image = unwrap(rt, read_image(alloc, image));
     let mut text = Vec::new(alloc);
-    let end = tell(alloc, image, packet, span, &mut text)?;
-    Ok((end, text))
+    let end = unwrap(rt, tell(alloc, image, packet, span, &mut text));
+    (end, text)
 }

@@ -1,7 +1,8 @@
 //! Texts that say no program: where their first fault is.
 
-use std::alloc::{AllocError, Global};
-use std::test::Fail;
+use crate::asserts::{assert_same, unwrap};
+use std::alloc::Global;
+use std::process::Abort;
 use tp_assembly_text::{SourceFault, TextFault, read_source};
 
 /// Texts, and the line, the column and the kind of their faults.
@@ -90,44 +91,48 @@ fn faults(rt: HostRuntime) {
 
 /// A line of a million bytes, and a hundred thousand lines: a fault with its place.
 #[test]
-fn large_texts(rt: HostRuntime) -> Result<(), Fail> {
+fn large_texts(rt: HostRuntime) {
     let mut text = String::new(rt.alloc());
     for _ in 0..100_000 {
-        text.push_str("frobnicate")?;
+        unwrap(&rt, text.push_str("frobnicate"));
     }
     match read_source(rt.alloc(), text.as_str()) {
         Ok(_) => assert!(rt; false),
-        Err(found) => assert_eq!(rt;
-            (found.line, found.column, found.fault),
-            (1, 1, TextFault::Unknown)
+        Err(found) => assert_same(
+            &rt,
+            &(found.line, found.column, found.fault),
+            &(1, 1, TextFault::Unknown),
         ),
     }
     let mut text = String::new(rt.alloc());
     for _ in 0..100_000 {
-        text.push_str("rev\n")?;
+        unwrap(&rt, text.push_str("rev\n"));
     }
     match read_source(rt.alloc(), text.as_str()) {
         Ok(_) => assert!(rt; false),
-        Err(found) => assert_eq!(rt;
-            (found.line, found.column, found.fault),
-            (16_385, 1, TextFault::TooMany)
+        Err(found) => assert_same(
+            &rt,
+            &(found.line, found.column, found.fault),
+            &(16_385, 1, TextFault::TooMany),
         ),
     }
-    Ok(())
 }
 
 /// A text of 16 loops of one kind, and one more statement.
-fn sixteen(alloc: Global, kind: Kind, more: &str) -> Result<String, AllocError> {
+fn sixteen(rt: &impl Abort, alloc: Global, kind: Kind, more: &str) -> String {
     let mut text = String::new(alloc);
     for i in 0..16 {
         match kind {
-            Kind::Open => writeln!(text, "for i{i} = 0 for 2")?,
-            Kind::Ended => writeln!(text, "for i{i} = 0 for 2\nend i{i}")?,
-            Kind::Row => text.push_str("loop head 0 lend 0 control 0 turns 1 start 0\n")?,
+            Kind::Open => unwrap(rt, writeln!(text, "for i{i} = 0 for 2")),
+            Kind::Ended => unwrap(rt, writeln!(text, "for i{i} = 0 for 2\nend i{i}")),
+            Kind::Row => unwrap(
+                rt,
+                text.push_str("loop head 0 lend 0 control 0 turns 1 start 0\n"),
+            ),
         }
     }
-    text.push_str(more)?;
-    Ok(text)
+    unwrap(rt, text.push_str(more));
+    text
 }
 
 /// Loops that have no end yet, that have one, and rows by hand.
@@ -140,7 +145,7 @@ enum Kind {
 
 /// A 17th loop is refused where it begins, whatever the others are; the ends of 16 are not.
 #[test]
-fn seventeen_loops(rt: HostRuntime) -> Result<(), Fail> {
+fn seventeen_loops(rt: HostRuntime) {
     let row = "loop head 0 lend 0 control 0 turns 1 start 0";
     let begins = "  for o = 0 for 3\nend o";
     let cases = [
@@ -152,19 +157,19 @@ fn seventeen_loops(rt: HostRuntime) -> Result<(), Fail> {
         (Kind::Row, begins, 17, 3),
     ];
     for (kind, more, line, column) in cases {
-        let text = sixteen(rt.alloc(), kind, more)?;
+        let text = sixteen(&rt, rt.alloc(), kind, more);
         match read_source(rt.alloc(), text.as_str()) {
             Ok(_) => assert!(rt; false, "{kind:?} {more}"),
-            Err(found) => assert_eq!(rt;
-                (found.line, found.column, found.fault),
-                (line, column, TextFault::TooManyLoops)
+            Err(found) => assert_same(
+                &rt,
+                &(found.line, found.column, found.fault),
+                &(line, column, TextFault::TooManyLoops),
             ),
         }
     }
     for kind in [Kind::Ended, Kind::Row] {
-        let text = sixteen(rt.alloc(), kind, "mint")?;
-        let source = read_source(rt.alloc(), text.as_str())?;
-        assert_eq!(rt; source.program.loops.len(), 16);
+        let text = sixteen(&rt, rt.alloc(), kind, "mint");
+        let source = unwrap(&rt, read_source(rt.alloc(), text.as_str()));
+        assert_same(&rt, &source.program.loops.len(), &16);
     }
-    Ok(())
 }

@@ -1,6 +1,6 @@
 //! Where the words stand that ask for a text's lines, and the statements of its lines.
 
-use std::test::Fail;
+use crate::asserts::{assert_same, unwrap};
 use tp_assembly_text::{Local, Position, read_source, statement_of};
 
 const TEXT: &str = "\
@@ -14,7 +14,7 @@ end i
 
 /// Each line stands where the word stands that asks for it: the lines of a `for` and of an `end` at that word, a byte at its number.
 #[test]
-fn positions(rt: HostRuntime) -> Result<(), Fail> {
+fn positions(rt: HostRuntime) {
     let wanted = [
         (2, 7),
         (3, 9),
@@ -28,17 +28,16 @@ fn positions(rt: HostRuntime) -> Result<(), Fail> {
         (5, 1),
         (6, 2),
     ];
-    let source = read_source(rt.alloc(), TEXT)?;
-    assert_eq!(rt; source.positions.len(), wanted.len());
+    let source = unwrap(&rt, read_source(rt.alloc(), TEXT));
+    assert_same(&rt, &source.positions.len(), &wanted.len());
     for (position, (line, column)) in source.positions.iter().zip(wanted) {
-        assert_eq!(rt; *position, Position { line, column });
+        assert_same(&rt, &*position, &Position { line, column });
     }
-    Ok(())
 }
 
 /// The names of local words, with how many each has.
 #[test]
-fn locals(rt: HostRuntime) -> Result<(), Fail> {
+fn locals(rt: HostRuntime) {
     let wanted = [
         Local {
             name: "n",
@@ -56,14 +55,13 @@ fn locals(rt: HostRuntime) -> Result<(), Fail> {
             words: 2,
         },
     ];
-    let source = read_source(rt.alloc(), TEXT)?;
+    let source = unwrap(&rt, read_source(rt.alloc(), TEXT));
     assert!(rt; source.locals.as_slice() == wanted.as_slice());
-    Ok(())
 }
 
 /// The statements of lines.
 #[test]
-fn statements(rt: HostRuntime) -> Result<(), Fail> {
+fn statements(rt: HostRuntime) {
     let cases = [
         ("", ""),
         (" \t", ""),
@@ -79,7 +77,7 @@ fn statements(rt: HostRuntime) -> Result<(), Fail> {
         ("[: mint", "mint"),
     ];
     for (line, statement) in cases {
-        assert_eq!(rt; statement_of(rt.alloc(), line)?, statement, "{line}");
+        let told = unwrap(&rt, statement_of(rt.alloc(), line));
+        assert_eq!(rt; told, statement, "{line}");
     }
-    Ok(())
 }
