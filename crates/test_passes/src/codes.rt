@@ -4,8 +4,7 @@ ghost use Rattle.std.specs.Prelude.{◌<◌, ◌≢◌};
 
 use crate::draft::*;
 use crate::random::Random;
-use std::alloc::Global;
-use std::process::Abort;
+use std::alloc::{AllocError, Global};
 
 /// No step is begun behind so many instructions: a step has at most 5, the ends of three loops 9, and the end 6.
 const LAST_STEP: usize = 20;
@@ -54,7 +53,7 @@ struct Writer {
 }
 
 /// The image of a seed.
-pub(crate) fn image_of(rt: &impl Abort, alloc: Global, seed: u64) -> Vec<u8> {
+pub(crate) fn image_of(alloc: Global, seed: u64) -> Result<Vec<u8>, AllocError> {
     let mut random = Random::of(seed);
     let is_large = random.is_once_in(4);
     let draft = Draft::new(alloc);
@@ -63,51 +62,51 @@ pub(crate) fn image_of(rt: &impl Abort, alloc: Global, seed: u64) -> Vec<u8> {
         draft,
         is_large,
     };
-    writer.write(rt);
+    writer.write()?;
     let first = [u32::from(writer.random.below(4)), 7];
     let words = if is_large { LARGE } else { SMALL };
-    writer.draft.image(rt, alloc, words, &first)
+    writer.draft.image(alloc, words, &first)
 }
 
 impl Writer {
     /// The whole code.
-    fn write(&mut self, rt: &impl Abort) {
+    fn write(&mut self) -> Result<(), AllocError> {
         if !self.random.is_once_in(32) {
-            self.take_packet(rt);
+            self.take_packet()?;
         }
         if self.random.is_once_in(2) {
-            self.chain(rt);
+            self.chain()?;
         }
         for _ in 0..self.random.below(14) {
             if self.draft.len() <= LAST_STEP {
-                self.step(rt);
+                self.step()?;
             }
         }
-        self.draft.close_all(rt);
+        self.draft.close_all()?;
         if !self.random.is_once_in(32) {
-            self.send(rt, 0);
+            self.send(0)?;
         }
-        self.draft.operate(rt, STOPP);
+        self.draft.operate(STOPP)
     }
 
     /// ldlp 0, mint, ldnlp 4, ldc 4, in.
-    fn take_packet(&mut self, rt: &impl Abort) {
-        self.draft.put(rt, LDLP, 0);
-        self.draft.operate(rt, MINT);
-        self.draft.put(rt, 5, 4);
-        self.draft.put(rt, LDC, 4);
-        self.draft.operate(rt, INPUT);
+    fn take_packet(&mut self) -> Result<(), AllocError> {
+        self.draft.put(LDLP, 0)?;
+        self.draft.operate(MINT)?;
+        self.draft.put(5, 4)?;
+        self.draft.put(LDC, 4)?;
+        self.draft.operate(INPUT)
     }
 
     /// A word goes to link 0, or 1.
-    fn send(&mut self, rt: &impl Abort, link: i32) {
-        self.draft.put(rt, LDLP, 0);
-        self.draft.operate(rt, MINT);
+    fn send(&mut self, link: i32) -> Result<(), AllocError> {
+        self.draft.put(LDLP, 0)?;
+        self.draft.operate(MINT)?;
         if link != 0 {
-            self.draft.put(rt, ADC, 4);
+            self.draft.put(ADC, 4)?;
         }
-        self.draft.put(rt, LDC, 4);
-        self.draft.operate(rt, OUTPUT);
+        self.draft.put(LDC, 4)?;
+        self.draft.operate(OUTPUT)
     }
 
     /// A variable, as a local word.
@@ -126,14 +125,14 @@ impl Writer {
     }
 
     /// One of a variable's words is pushed.
-    fn load(&mut self, rt: &impl Abort) {
+    fn load(&mut self) -> Result<(), AllocError> {
         let n = self.variable();
-        self.draft.put(rt, LDL, n);
+        self.draft.put(LDL, n)
     }
 
-    fn store(&mut self, rt: &impl Abort) {
+    fn store(&mut self) -> Result<(), AllocError> {
         let n = self.variable();
-        self.draft.put(rt, STL, n);
+        self.draft.put(STL, n)
     }
 
     fn small(&mut self) -> i32 {
@@ -141,190 +140,188 @@ impl Writer {
     }
 
     /// One step: some instructions, the beginning of a loop or a jump, or the end of one.
-    fn step(&mut self, rt: &impl Abort) {
+    fn step(&mut self) -> Result<(), AllocError> {
         match self.random.below(32) {
-            0..=2 => self.put_number(rt),
-            3..=6 => self.move_on(rt),
-            7..=9 => self.count_up(rt),
-            10..=11 => self.work_out(rt),
-            12..=14 => self.look_up(rt),
-            15 => self.write_by_index(rt),
-            16..=17 => self.shift(rt),
-            18 => self.write_pointer(rt),
-            19 => self.any_instruction(rt),
-            20 => self.message_or_move(rt),
-            21..=22 => self.begin_jump(rt),
-            23 => self.jump_to_the_next(rt),
-            24..=27 => self.begin_loop(rt),
-            _ => self.end_one(rt),
+            0..=2 => self.put_number(),
+            3..=6 => self.move_on(),
+            7..=9 => self.count_up(),
+            10..=11 => self.work_out(),
+            12..=14 => self.look_up(),
+            15 => self.write_by_index(),
+            16..=17 => self.shift(),
+            18 => self.write_pointer(),
+            19 => self.any_instruction(),
+            20 => self.message_or_move(),
+            21..=22 => self.begin_jump(),
+            23 => self.jump_to_the_next(),
+            24..=27 => self.begin_loop(),
+            _ => self.end_one(),
         }
     }
 
     /// A loop in which a variable is used, then takes the next one's word, which takes the one behind it, and so on; the last
     /// counts up. So each pass knows less of one more.
-    fn chain(&mut self, rt: &impl Abort) {
-        self.begin_loop(rt);
+    fn chain(&mut self) -> Result<(), AllocError> {
+        self.begin_loop()?;
         if self.random.is_once_in(2) {
-            self.use_word(rt, 1);
+            self.use_word(1)?;
         }
         let last = self.random.below(VARIABLES - 1).wrapping_add(1);
         for number in 1..last {
-            self.put_variable(rt, LDL, number.wrapping_add(1));
-            self.put_variable(rt, STL, number);
+            self.put_variable(LDL, number.wrapping_add(1))?;
+            self.put_variable(STL, number)?;
         }
-        self.put_variable(rt, LDL, last);
-        self.draft.put(rt, ADC, 1);
-        self.put_variable(rt, STL, last);
+        self.put_variable(LDL, last)?;
+        self.draft.put(ADC, 1)?;
+        self.put_variable(STL, last)?;
         if self.random.is_once_in(4) {
-            self.use_word(rt, 1);
+            self.use_word(1)?;
         }
+        Ok(())
     }
 
     /// Something is shifted by a variable, or the word so many words behind another is taken.
-    fn use_word(&mut self, rt: &impl Abort, number: u8) {
+    fn use_word(&mut self, number: u8) -> Result<(), AllocError> {
         if self.random.is_once_in(2) {
-            self.draft.put(rt, LDC, 1);
-            self.put_variable(rt, LDL, number);
-            self.draft.operate(rt, SHL);
-        } else {
-            self.put_variable(rt, LDL, number);
-            self.draft.put(rt, LDLP, 0);
-            self.draft.operate(rt, WSUB);
-            self.draft.put(rt, LDNL, 0);
+            self.draft.put(LDC, 1)?;
+            self.put_variable(LDL, number)?;
+            return self.draft.operate(SHL);
         }
+        self.put_variable(LDL, number)?;
+        self.draft.put(LDLP, 0)?;
+        self.draft.operate(WSUB)?;
+        self.draft.put(LDNL, 0)
     }
 
     /// A variable, by its number, is read or written.
-    fn put_variable(&mut self, rt: &impl Abort, function: u8, number: u8)
+    fn put_variable(&mut self, function: u8, number: u8) -> Result<(), AllocError>
         requires function { function < 16 }
         requires no_pfix { function ≢ 2 }
         requires no_nfix { function ≢ 6 }
     {
         let n = self.word_of(number);
-        self.draft.put(rt, function, n);
+        self.draft.put(function, n)
     }
 
     /// A variable takes a number.
-    fn put_number(&mut self, rt: &impl Abort) {
+    fn put_number(&mut self) -> Result<(), AllocError> {
         let n = self.small().wrapping_sub(1);
-        self.draft.put(rt, LDC, n);
-        self.store(rt);
+        self.draft.put(LDC, n)?;
+        self.store()
     }
 
     /// A variable takes another.
-    fn move_on(&mut self, rt: &impl Abort) {
-        self.load(rt);
-        self.store(rt);
+    fn move_on(&mut self) -> Result<(), AllocError> {
+        self.load()?;
+        self.store()
     }
 
     /// A variable is counted up.
-    fn count_up(&mut self, rt: &impl Abort) {
+    fn count_up(&mut self) -> Result<(), AllocError> {
         let n = self.variable();
-        self.draft.put(rt, LDL, n);
-        self.draft.put(rt, ADC, 1);
-        self.draft.put(rt, STL, n);
+        self.draft.put(LDL, n)?;
+        self.draft.put(ADC, 1)?;
+        self.draft.put(STL, n)
     }
 
     /// A variable takes what is worked out of two.
-    fn work_out(&mut self, rt: &impl Abort) {
-        self.load(rt);
-        self.load(rt);
+    fn work_out(&mut self) -> Result<(), AllocError> {
+        self.load()?;
+        self.load()?;
         let operation = OPERATIONS[usize::from(self.random.below(10))];
-        self.draft.operate(rt, operation);
-        self.store(rt);
+        self.draft.operate(operation)?;
+        self.store()
     }
 
     /// A variable takes the word that stands as many words behind another as a third has.
-    fn look_up(&mut self, rt: &impl Abort) {
-        self.load(rt);
+    fn look_up(&mut self) -> Result<(), AllocError> {
+        self.load()?;
         let n = self.variable();
-        self.draft.put(rt, LDLP, n);
-        self.draft.operate(rt, WSUB);
-        self.draft.put(rt, LDNL, 0);
-        self.store(rt);
+        self.draft.put(LDLP, n)?;
+        self.draft.operate(WSUB)?;
+        self.draft.put(LDNL, 0)?;
+        self.store()
     }
 
     /// The same word takes a variable.
-    fn write_by_index(&mut self, rt: &impl Abort) {
-        self.load(rt);
-        self.load(rt);
+    fn write_by_index(&mut self) -> Result<(), AllocError> {
+        self.load()?;
+        self.load()?;
         let n = self.variable();
-        self.draft.put(rt, LDLP, n);
-        self.draft.operate(rt, WSUB);
-        self.draft.put(rt, STNL, 0);
+        self.draft.put(LDLP, n)?;
+        self.draft.operate(WSUB)?;
+        self.draft.put(STNL, 0)
     }
 
     /// A variable is shifted by another.
-    fn shift(&mut self, rt: &impl Abort) {
-        self.draft.put(rt, LDC, 1);
-        self.load(rt);
-        self.draft.operate(rt, SHL);
-        self.store(rt);
+    fn shift(&mut self) -> Result<(), AllocError> {
+        self.draft.put(LDC, 1)?;
+        self.load()?;
+        self.draft.operate(SHL)?;
+        self.store()
     }
 
     /// A variable takes a pointer, or a byte of it is written.
-    fn write_pointer(&mut self, rt: &impl Abort) {
+    fn write_pointer(&mut self) -> Result<(), AllocError> {
         let n = self.variable();
         if self.random.is_once_in(2) {
-            self.draft.put(rt, LDLP, n);
-            self.store(rt);
-        } else {
-            self.load(rt);
-            self.draft.put(rt, LDLP, n);
-            self.draft.operate(rt, SB);
+            self.draft.put(LDLP, n)?;
+            return self.store();
         }
+        self.load()?;
+        self.draft.put(LDLP, n)?;
+        self.draft.operate(SB)
     }
 
     /// One instruction, whatever is known before it.
-    fn any_instruction(&mut self, rt: &impl Abort) {
+    fn any_instruction(&mut self) -> Result<(), AllocError> {
         let n = self.variable();
         match self.random.below(8) {
-            0 => self.draft.put(rt, AJW, n.wrapping_sub(2)),
-            1 => self.draft.put(rt, EQC, n),
-            2 => self.draft.put(rt, LDL, n),
-            3 => self.draft.put(rt, STL, n),
-            4 => self.draft.put(rt, LDNL, n),
+            0 => self.draft.put(AJW, n.wrapping_sub(2)),
+            1 => self.draft.put(EQC, n),
+            2 => self.draft.put(LDL, n),
+            3 => self.draft.put(STL, n),
+            4 => self.draft.put(LDNL, n),
             _ => {
                 let operation = ANY_OPERATIONS[usize::from(self.random.below(14))];
-                self.draft.operate(rt, operation);
+                self.draft.operate(operation)
             }
         }
     }
 
     /// A word goes to a link, the packet is taken, or words are copied.
-    fn message_or_move(&mut self, rt: &impl Abort) {
+    fn message_or_move(&mut self) -> Result<(), AllocError> {
         match self.random.below(8) {
-            0 => self.send(rt, 0),
-            1 => self.take_packet(rt),
-            2..=4 => self.send(rt, 1),
+            0 => self.send(0),
+            1 => self.take_packet(),
+            2..=4 => self.send(1),
             _ => {
                 let (from, to) = (self.variable(), self.variable());
-                self.draft.put(rt, LDLP, from);
-                self.draft.put(rt, LDLP, to);
-                self.draft.put(rt, LDC, 4);
-                self.draft.operate(rt, MOVE);
+                self.draft.put(LDLP, from)?;
+                self.draft.put(LDLP, to)?;
+                self.draft.put(LDC, 4)?;
+                self.draft.operate(MOVE)
             }
         }
     }
 
     /// A jump to what comes later.
-    fn begin_jump(&mut self, rt: &impl Abort) {
+    fn begin_jump(&mut self) -> Result<(), AllocError> {
         if self.random.is_once_in(6) {
-            self.draft.put_jump(rt, false);
-        } else {
-            self.load(rt);
-            self.draft.put_jump(rt, true);
+            return self.draft.put_jump(false);
         }
+        self.load()?;
+        self.draft.put_jump(true)
     }
 
     /// A conditional jump to what comes next.
-    fn jump_to_the_next(&mut self, rt: &impl Abort) {
-        self.load(rt);
-        self.draft.put(rt, 10, 0);
+    fn jump_to_the_next(&mut self) -> Result<(), AllocError> {
+        self.load()?;
+        self.draft.put(10, 0)
     }
 
     /// A loop begins; now and then its block has another count than its row.
-    fn begin_loop(&mut self, rt: &impl Abort) {
+    fn begin_loop(&mut self) -> Result<(), AllocError> {
         let start = u16::from(self.random.below(3));
         let count = u16::from(self.random.below(4)).wrapping_add(1);
         let stored = if self.random.is_once_in(32) {
@@ -332,12 +329,12 @@ impl Writer {
         } else {
             i32::from(count)
         };
-        self.draft.put_head(rt, start, count, stored);
+        self.draft.put_head(start, count, stored)
     }
 
     /// A jump's target, or the end of a loop.
-    fn end_one(&mut self, rt: &impl Abort) {
+    fn end_one(&mut self) -> Result<(), AllocError> {
         let back = if self.random.is_once_in(8) { 1 } else { 0 };
-        self.draft.close(rt, back);
+        self.draft.close(back)
     }
 }

@@ -166,7 +166,7 @@ fn keeps(table: &Table, whole: &Whole, image: &Image, listing: &Listing, nest: &
 
 /// One code is compared and counted, if its flow passes.
 fn compare(rt: &(impl Abort + AllocGlobal), seed: u64, counts: &mut Counts) {
-    let bytes = image_of(rt, rt.alloc(), seed);
+    let bytes = image_of(rt.alloc(), seed).expect(rt, "memory");
     let image = read_image(rt.alloc(), &bytes).expect(rt, "an image");
     let listing = decode(rt.alloc(), &image.code).expect(rt, "a listing");
     let Ok(nest) = check_flow(&image, &listing) else {

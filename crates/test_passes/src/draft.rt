@@ -2,9 +2,7 @@
 
 ghost use Rattle.std.specs.Prelude.{◌<◌, ◌≢◌};
 
-use crate::asserts::unwrap;
-use std::alloc::Global;
-use std::process::Abort;
+use std::alloc::{AllocError, Global};
 use tp_prefix::encode;
 
 pub(crate) const LDLP: u8 = 1;
@@ -78,52 +76,57 @@ impl Draft {
     }
 
     /// An instruction follows.
-    pub(crate) fn put(&mut self, rt: &impl Abort, function: u8, operand: i32)
+    pub(crate) fn put(&mut self, function: u8, operand: i32) -> Result<(), AllocError>
         requires function { function < 16 }
         requires no_pfix { function ≢ 2 }
         requires no_nfix { function ≢ 6 }
     {
         self.instructions = self.instructions.wrapping_add(1);
-        unwrap(rt, self.code.extend_from_slice(&encode(function, operand)));
+        self.code.extend_from_slice(&encode(function, operand))
     }
 
     /// An operation follows.
-    pub(crate) fn operate(&mut self, rt: &impl Abort, operation: i32) {
-        self.put(rt, OPR, operation);
+    pub(crate) fn operate(&mut self, operation: i32) -> Result<(), AllocError> {
+        self.put(OPR, operation)
     }
 
     /// A j or a cj follows, with a target that comes later.
-    pub(crate) fn put_jump(&mut self, rt: &impl Abort, is_conditional: bool) {
+    pub(crate) fn put_jump(&mut self, is_conditional: bool) -> Result<(), AllocError> {
         self.instructions = self.instructions.wrapping_add(1);
-        unwrap(rt, self.open.push(Open::Jump(self.code.len())));
+        self.open.push(Open::Jump(self.code.len()))?;
         let function = if is_conditional { 0xA0 } else { 0x00 };
-        unwrap(rt, self.code.extend_from_slice(&[0x20, function]));
+        self.code.extend_from_slice(&[0x20, function])
     }
 
     /// A loop begins, if there are not too many; its block takes these numbers.
-    pub(crate) fn put_head(&mut self, rt: &impl Abort, start: u16, count: u16, stored: i32) {
+    pub(crate) fn put_head(
+        &mut self,
+        start: u16,
+        count: u16,
+        stored: i32,
+    ) -> Result<(), AllocError> {
         let number = self.rows.len();
         if number >= MOST_LOOPS {
-            return;
+            return Ok(());
         }
         let block = BLOCKS.wrapping_add(low_byte(number).wrapping_mul(2));
-        self.put(rt, LDC, i32::from(start));
-        self.put(rt, STL, i32::from(block));
-        self.put(rt, LDC, stored);
-        self.put(rt, STL, i32::from(block).wrapping_add(1));
-        unwrap(rt, self.open.push(Open::Loop(number)));
-        let row = Row {
+        self.put(LDC, i32::from(start))?;
+        self.put(STL, i32::from(block))?;
+        self.put(LDC, stored)?;
+        self.put(STL, i32::from(block).wrapping_add(1))?;
+        self.open.push(Open::Loop(number))?;
+        self.rows.push(Row {
             head: address(self.code.len()),
             lend: 0,
             block,
             count,
             start,
-        };
-        unwrap(rt, self.rows.push(row));
+        })?;
+        Ok(())
     }
 
     /// What stands open so many places from the last is closed, or the last.
-    pub(crate) fn close(&mut self, rt: &impl Abort, back: usize) {
+    pub(crate) fn close(&mut self, back: usize) -> Result<(), AllocError> {
         let many = self.open.len();
         let at = if back < many {
             many - 1 - back
@@ -131,19 +134,23 @@ impl Draft {
             many.saturating_sub(1)
         };
         if at >= many {
-            return;
+            return Ok(());
         }
         match self.open.remove(at) {
-            Open::Jump(from) => self.lead_here(from),
-            Open::Loop(number) => self.put_end(rt, number),
+            Open::Jump(from) => {
+                self.lead_here(from);
+                Ok(())
+            }
+            Open::Loop(number) => self.put_end(number),
         }
     }
 
     /// All that stands open is closed, the last first.
-    pub(crate) fn close_all(&mut self, rt: &impl Abort) {
+    pub(crate) fn close_all(&mut self) -> Result<(), AllocError> {
         for _ in 0..self.open.len() {
-            self.close(rt, 0);
+            self.close(0)?;
         }
+        Ok(())
     }
 
     /// The jump that stands at an address leads to what comes next.
@@ -158,47 +165,47 @@ impl Draft {
     }
 
     /// A loop ends.
-    fn put_end(&mut self, rt: &impl Abort, number: usize) {
+    fn put_end(&mut self, number: usize) -> Result<(), AllocError> {
         let Some(row) = self.rows.get(number) else {
-            return;
+            return Ok(());
         };
         let Row { head, block, .. } = *row;
-        self.put(rt, LDLP, i32::from(block));
+        self.put(LDLP, i32::from(block))?;
         let lend = address(self.code.len()).wrapping_add(2);
         let distance = low_byte(usize::from(lend.wrapping_add(2).wrapping_sub(head)));
-        let back = [0x20 | distance >> 4, 0x40 | distance & 15];
-        unwrap(rt, self.code.extend_from_slice(&back));
-        unwrap(rt, self.code.extend_from_slice(&[0x22, 0xF1]));
+        self.code
+            .extend_from_slice(&[0x20 | distance >> 4, 0x40 | distance & 15])?;
+        self.code.extend_from_slice(&[0x22, 0xF1])?;
         self.instructions = self.instructions.wrapping_add(2);
         if let Some(row) = self.rows.get_mut(number) {
             row.lend = lend;
         }
+        Ok(())
     }
 
     /// The image of the code, of version 2, with so many workspace words and these first ones.
     pub(crate) fn image(
         &self,
-        rt: &impl Abort,
         alloc: Global,
         words: u16,
         first: &[u32],
-    ) -> Vec<u8> {
-        let mut bytes = unwrap(rt, Vec::from_slice(alloc, b"TPW2"));
+    ) -> Result<Vec<u8>, AllocError> {
+        let mut bytes = Vec::from_slice(alloc, b"TPW2")?;
         let (code, loops) = (address(self.code.len()), address(self.rows.len()));
         for field in [code, words, START, 1, 1, loops, address(first.len())] {
-            unwrap(rt, bytes.extend_from_slice(&field.to_le_bytes()));
+            bytes.extend_from_slice(&field.to_le_bytes())?;
         }
         for row in &self.rows {
             let control = u16::from(row.block).wrapping_add(START);
             for field in [row.head, row.lend, control, row.count, row.start, 0] {
-                unwrap(rt, bytes.extend_from_slice(&field.to_le_bytes()));
+                bytes.extend_from_slice(&field.to_le_bytes())?;
             }
         }
         for word in first {
-            unwrap(rt, bytes.extend_from_slice(&word.to_le_bytes()));
+            bytes.extend_from_slice(&word.to_le_bytes())?;
         }
-        unwrap(rt, bytes.extend_from_slice(&self.code));
-        bytes
+        bytes.extend_from_slice(&self.code)?;
+        Ok(bytes)
     }
 }
 
