@@ -25,7 +25,8 @@ impl Accepted {
     /// The bound on the instruction bytes of a run: each packet's run ends within it, and never goes wrong.
     pub fn budget(&self) -> u32
         ensures value { result ≡ self.now.budget }
-        ensures bound { (cuts : List Cut) → IsCutting self.now.image.code cuts → result ≡ bound self.now.image.loops cuts }
+        ensures bound { (cuts : List Cut) → IsCutting self.now.image.code cuts →
+            result ≡ bound self.now.image.loops cuts }
         ensures within { result ≤ most_budget }
         ensures ends { NeverGoesWrong self.now.image result }
     {

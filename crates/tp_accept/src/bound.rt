@@ -34,7 +34,8 @@ pub(crate) fn budget(alloc: Global, image: &Image, listing: &Listing) -> Result<
     requires { IsCutting image.now.code listing.now }
     ensures value { IfOk result (λ budget. budget ≡ bound image.now.loops listing.now) }
     ensures within { OnOk result (bound image.now.loops listing.now ≤ most_budget) }
-    ensures refused { IfErr result (λ e. e ≢ refusal.Memory → (e ≡ too_long) × (most_budget < bound image.now.loops listing.now)) }
+    ensures refused { IfErr result
+        (λ e. e ≢ refusal.Memory → (e ≡ too_long) × (most_budget < bound image.now.loops listing.now)) }
 {
     let costs = costs(alloc, image, listing)?;
     let bytes = whole_at(&costs, Some(0));

@@ -104,7 +104,8 @@ pub(crate) fn cost_of(
 ) -> Counted
     requires capped { AreCapped costs.now }
     requires order { placed.at ≤ placed.next }
-    ensures { result ≡ counted (cost_of image.now.loops listing.now (table costs.now) placed.at (placed.next - placed.at) placed.instr) }
+    ensures { result ≡ counted
+        (cost_of image.now.loops listing.now (table costs.now) placed.at (placed.next - placed.at) placed.instr) }
 {
     let Placed { at, instr, next } = placed;
     let left = left_of(costs, (next - at) as u64, next, instr);

@@ -63,7 +63,8 @@ impl Sessions {
 
     /// Opens a session, behind all others; one of this name is replaced, and keeps its place.
     pub fn put(&mut self, name: Name, kept: Kept) -> Result<(), AllocError>
-        ensures { OnOk result (sessions_of self.new ≡ with_session (session_of name.items kept) (sessions_of self.old)) }
+        ensures { OnOk result
+            (sessions_of self.new ≡ with_session (session_of name.items kept) (sessions_of self.old)) }
     {
         self.by_name.insert(name, kept)?;
         Ok(())
@@ -77,7 +78,8 @@ impl Sessions {
         kept: Kept,
     ) -> Result<(), AllocError>
         requires { place ≡ position (is_of name.items) (sessions_of self.old) }
-        ensures { OnOk result (sessions_of self.new ≡ with_session (session_of name.items kept) (sessions_of self.old)) }
+        ensures { OnOk result
+            (sessions_of self.new ≡ with_session (session_of name.items kept) (sessions_of self.old)) }
     {
         match place {
             Some(index) => {
@@ -92,7 +94,8 @@ impl Sessions {
     pub fn keep(&mut self, index: usize, packet: Packet) -> Result<(), AllocError>
         requires there { index < length (sessions_of self.old) }
         requires few { IfSome (slice_get (sessions_of self.old) index) (λ s. length s.packets < 1024) }
-        requires whole { IfSome (slice_get (sessions_of self.old) index) (λ s. length packet.items ≡ 4 * s.image.packet) }
+        requires whole { IfSome (slice_get (sessions_of self.old) index)
+            (λ s. length packet.items ≡ 4 * s.image.packet) }
         requires bytes { IsTrue (list_all (λ b. nat_lt b 256) packet.items) }
         ensures { (s : Session) → slice_get (sessions_of self.old) index ≡ Some s →
             OnOk result (sessions_of self.new ≡ slice_set (sessions_of self.old) index (with_packet s packet.items)) }

@@ -111,7 +111,8 @@ fn push_word<'a>(
 ) -> Result<(), AllocError>
     requires order { start ≤ end }
     requires within { end ≤ length text.now }
-    ensures { OnOk result (map token words.new.items ≡ map token words.old.items ++ word_if_any line (start + 1) (slice_range text.now start end)) }
+    ensures { OnOk result (map token words.new.items ≡ map token words.old.items
+        ++ word_if_any line (start + 1) (slice_range text.now start end)) }
 {
     if start < end {
         words.push(Word {
@@ -135,7 +136,8 @@ fn end_word<'a>(
     requires within { end < length text.now }
     requires plain { list_all is_plain (slice_range text.now start end) ≡ true }
     requires ends { is_plain (slice_index text.now end) ≡ false }
-    ensures { OnOk result (map token words.old.items ++ tokens line (start + 1) (drop start text.now) ≡ map token words.new.items ++ tokens line (end + 1 + 1) (drop (end + 1) text.now)) }
+    ensures { OnOk result (map token words.old.items ++ tokens line (start + 1) (drop start text.now) ≡
+        map token words.new.items ++ tokens line (end + 1 + 1) (drop (end + 1) text.now)) }
 {
     push_word(words, text, line, start, end)?;
     if !is_mark(text[end]) {

@@ -1,5 +1,5 @@
 -- The rule of a stream's three words: what is done, what is lost, and the stop mark.
-use Rattle.std.specs.Prelude.{◌≡◌, ℕ, ◌+◌, ◌*◌, ◌≤◌, min, List, [], ◌∷◌, length}
+use Rattle.std.specs.Prelude.{◌≡◌, ℕ, ◌+◌, ◌*◌, ◌<◌, ◌≤◌, min, List, [], ◌∷◌, length}
 use mathlib.Core.Option.{some}
 use lib.ListN.{get_elem?}
 use Rattle.atomic_table.specs.Table.{State, Me, Step}
@@ -38,6 +38,10 @@ KeepsDesk k words views = (w : Counters) × (words ≡ desk_words_of w) × DeskR
 -- the view, with these numbers in its hand
 abbrev pub holding : View → List ℕ → View
 holding v numbers = record v { hand = numbers }
+
+-- one seat alone, which may report one more number
+abbrev pub MayReport : View → Type 0
+MayReport v = (v.parts ≡ 1) × (length v.finished + length v.abandoned < 1024)
 
 -- a step of a seat with this view, which might make it, where its word was n, which is fresh
 abbrev pub Takes : Event → View → ℕ → View → Type 0

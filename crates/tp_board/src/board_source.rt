@@ -114,7 +114,8 @@ impl<'p> LendingSource for BoardSource<'p> {
         requires own { IsSeatOf self.now.board hand.old }
         requires empty { first_of hand.old.view.hand ≡ None }
         ensures own { IsSeatOf self.now.board hand.new }
-        ensures work { NextSays self.now.packets (progress_of hand.old.view) (work_of result) (progress_of hand.new.view) }
+        ensures work { NextSays self.now.packets (progress_of hand.old.view) (work_of result)
+            (progress_of hand.new.view) }
         ensures steps { ClaimSays hand.old.view (claim_of (work_of result)) hand.new.view }
     {
         match self.board.claim(hand) {

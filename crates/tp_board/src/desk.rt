@@ -3,7 +3,7 @@
 ghost use Rattle.std.specs.Prelude.{◌≡◌, ◌+◌, ◌-◌, ◌<◌, ◌≤◌, ◌∷◌, [], ℕ, length, IfOk};
 ghost use Rattle.tp_board.specs.declared.event.Event.TheVariants as event;
 ghost use Rattle.tp_board.specs.declared.event.Shown.TheVariants as shown;
-ghost use Rattle.tp_board.specs.Desks.{holding, Takes};
+ghost use Rattle.tp_board.specs.Desks.{holding, MayReport, Takes};
 ghost use Rattle.tp_board.specs.Views.{newcomer, join_of};
 ghost use Rattle.tp_board.specs.Words.{size};
 
@@ -109,7 +109,7 @@ pub fn join_seats(desk: &Desk, token: &mut Token, other: Token)
 /// One more is done, and the seat's view has its number.
 pub fn report_done(desk: &Desk, token: &mut Token, number: u32)
     requires desk { (token.old.table_id ≡ desk.now.shared.table_id) × (desk.now.shared.table_id.words ≡ 3) }
-    requires room { (token.old.me.0.parts ≡ 1) × (length token.old.me.0.finished + length token.old.me.0.abandoned < 1024) }
+    requires room { MayReport token.old.me.0 }
     ensures own { (token.new.table_id ≡ token.old.table_id) × (token.new.me.1 ≡ token.old.me.1) }
     ensures step { (found : ℕ) × Takes event.Finish (holding token.old.me.0 (number ∷ [])) found token.new.me.0 }
 {
@@ -119,7 +119,7 @@ pub fn report_done(desk: &Desk, token: &mut Token, number: u32)
 fn add_done<B: Numbered>(desk: &Desk, token: &mut Token, number: u32)
     requires number { B.number ≡ number }
     requires desk { (token.old.table_id ≡ desk.now.shared.table_id) × (desk.now.shared.table_id.words ≡ 3) }
-    requires room { (token.old.me.0.parts ≡ 1) × (length token.old.me.0.finished + length token.old.me.0.abandoned < 1024) }
+    requires room { MayReport token.old.me.0 }
     ensures own { (token.new.table_id ≡ token.old.table_id) × (token.new.me.1 ≡ token.old.me.1) }
     ensures step { (found : ℕ) × Takes event.Finish (holding token.old.me.0 (number ∷ [])) found token.new.me.0 }
 {
@@ -129,7 +129,7 @@ fn add_done<B: Numbered>(desk: &Desk, token: &mut Token, number: u32)
 /// One more is lost, and the seat's view has its number.
 pub fn report_lost(desk: &Desk, token: &mut Token, number: u32)
     requires desk { (token.old.table_id ≡ desk.now.shared.table_id) × (desk.now.shared.table_id.words ≡ 3) }
-    requires room { (token.old.me.0.parts ≡ 1) × (length token.old.me.0.finished + length token.old.me.0.abandoned < 1024) }
+    requires room { MayReport token.old.me.0 }
     ensures own { (token.new.table_id ≡ token.old.table_id) × (token.new.me.1 ≡ token.old.me.1) }
     ensures step { (found : ℕ) × Takes event.Abandon (holding token.old.me.0 (number ∷ [])) found token.new.me.0 }
 {
@@ -139,7 +139,7 @@ pub fn report_lost(desk: &Desk, token: &mut Token, number: u32)
 fn add_lost<B: Numbered>(desk: &Desk, token: &mut Token, number: u32)
     requires number { B.number ≡ number }
     requires desk { (token.old.table_id ≡ desk.now.shared.table_id) × (desk.now.shared.table_id.words ≡ 3) }
-    requires room { (token.old.me.0.parts ≡ 1) × (length token.old.me.0.finished + length token.old.me.0.abandoned < 1024) }
+    requires room { MayReport token.old.me.0 }
     ensures own { (token.new.table_id ≡ token.old.table_id) × (token.new.me.1 ≡ token.old.me.1) }
     ensures step { (found : ℕ) × Takes event.Abandon (holding token.old.me.0 (number ∷ [])) found token.new.me.0 }
 {

@@ -171,7 +171,8 @@ pub fn new_hand(line: &Line, pass: &mut Place) -> Place
     requires queue { IsPassOf line.now pass.old }
     requires parts { (1 < (view pass.old).parts) × ((view pass.old).feeds ≡ 1) }
     ensures { IsSamePass pass.old pass.new × IsPassOf line.now result
-        × (view pass.new ≡ without_one (view pass.old)) × (view result ≡ hand (view pass.old).packets (view pass.old).members) }
+        × (view pass.new ≡ without_one (view pass.old))
+        × (view result ≡ hand (view pass.old).packets (view pass.old).members) }
 {
     line.another::<OneHand>(pass)
 }

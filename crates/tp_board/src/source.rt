@@ -114,5 +114,6 @@ pub trait LendingSource: WorkSource {
         requires own { Self.is_own self.now hand.old }
         requires empty { (Self.progress hand.old).in_hand ≡ None }
         ensures own { Self.is_own self.now hand.new }
-        ensures work { NextSays (Self.packets self.now) (Self.progress hand.old) (work_of result) (Self.progress hand.new) };
+        ensures work { NextSays (Self.packets self.now) (Self.progress hand.old) (work_of result)
+            (Self.progress hand.new) };
 }

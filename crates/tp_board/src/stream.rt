@@ -69,7 +69,8 @@ impl<'p> StreamQueue<'p> {
         members: u32,
     ) -> Result<(StreamQueue<'p>, Feeder, Vec<StreamHand>), BoardFault>
         ensures in_range { OnOk result (InRange (length packets.now) members) }
-        ensures stream { IfOk result (λ r. r.0 ≡ stream_of r.0.line r.0.desk (map (λ p. p.items) packets.entry.now) members) }
+        ensures stream { IfOk result
+            (λ r. r.0 ≡ stream_of r.0.line r.0.desk (map (λ p. p.items) packets.entry.now) members) }
         ensures feeder { IfOk result (λ r. r.1 ≡ new_feeder_of r.0) }
         ensures hands { IfOk result (λ r. r.2.items ≡ replicate members (new_hand_of r.0)) }
         ensures own { IfOk result (λ r. IsFeederOf r.0 r.1 × All (IsHandOf r.0) r.2.items) }
@@ -243,11 +244,13 @@ impl<'p> StreamQueue<'p> {
         requires feeder { IsFeederOf self feeder }
         requires hands { All (IsHandOf self) hands.items }
         ensures all { IfOk result (λ l. length hands.items ≡ self.entry.members) }
-        ensures ledger { IfOk result (λ l. Balances (length self.entry.packets) (all_seen hands.items feeder) l.ledger) }
+        ensures ledger { IfOk result
+            (λ l. Balances (length self.entry.packets) (all_seen hands.items feeder) l.ledger) }
         ensures pushed { IfOk result (λ l. l.pushed ≡ feeder.turn.pushed) }
         ensures left { IfOk result (λ l. IsLeft (all_seen hands.items feeder) l.pushed l.ledger.drawn) }
         ensures missing { IfErr result (λ f. length hands.items < self.entry.members) }
-        ensures err { IfErr result (λ f. (f.stream ≡ self.entry) × (f.feeder ≡ feeder) × (f.hands.items ≡ hands.items)) }
+        ensures err { IfErr result
+            (λ f. (f.stream ≡ self.entry) × (f.feeder ≡ feeder) × (f.hands.items ≡ hands.items)) }
     {
         if hands.len() < self.members as usize {
             return Err(StreamCloseFault {
@@ -283,11 +286,14 @@ impl<'p> StreamQueue<'p> {
         ensures own { (result.0.table_id ≡ self.now.line) × (result.0.me.1 ≡ [])
             × (result.1.table_id ≡ self.now.desk) × (result.1.me.1 ≡ []) }
         ensures view { (numbers : List ℕ) ×
-            (seen_of (view result.0) result.1.me.0 numbers ≡ join_of_all (feeder_seen feeder) (map hand_seen rest.items)) }
+            (seen_of (view result.0) result.1.me.0 numbers ≡
+            join_of_all (feeder_seen feeder) (map hand_seen rest.items)) }
         ensures agrees { Agrees (join_of_all (feeder_seen feeder) (map hand_seen rest.items)) }
-        ensures sizes { ((view result.0).packets ≡ length self.now.packets) × ((view result.0).members ≡ self.now.members)
+        ensures sizes { ((view result.0).packets ≡ length self.now.packets)
+            × ((view result.0).members ≡ self.now.members)
             × ((view result.0).pushed ≡ feeder.turn.pushed) }
-        ensures parts { ((view result.0).parts ≡ length rest.items + 1) × (result.1.me.0.parts ≡ length rest.items + 1) }
+        ensures parts { ((view result.0).parts ≡ length rest.items + 1)
+            × (result.1.me.0.parts ≡ length rest.items + 1) }
     {
         let mut pass = feeder.pass;
         let mut token = feeder.token;
@@ -331,7 +337,8 @@ fn deal_hands(
     requires desk { (token.old.table_id ≡ desk.now.shared.table_id) × (desk.now.shared.table_id.words ≡ 3) }
     requires seats { token.old.me ≡ (newcomer packets members, []) }
     requires sizes { (0 < members) × (members ≤ 64) × (packets ≤ 1024) }
-    requires first { hands.old.items ≡ fresh_hand line.now.table.shared.table_id desk.now.shared.table_id packets members ∷ [] }
+    requires first { hands.old.items ≡
+        fresh_hand line.now.table.shared.table_id desk.now.shared.table_id packets members ∷ [] }
     requires room { members ≤ vec_capacity hands.old }
     ensures pass { IsPassOf line.now pass.new × (view pass.new ≡ feeder packets members 1) }
     ensures token { (token.new.table_id ≡ token.old.table_id) × (token.new.me ≡ (newcomer packets 1, [])) }

@@ -73,5 +73,6 @@ impl Model for Feeder {
 
     ghost view = { λ f. feeder_of_parts f.pass.table_id f.token.table_id (turn_of f.pass) f.token.me.0 };
 
-    ghost invariant = { λ f. IsFeeder (turn_of f.pass) f.token.me.0 f.pushed f.marks × (f.pass.me.1 ≡ []) × (f.token.me.1 ≡ []) };
+    ghost invariant = { λ f. IsFeeder (turn_of f.pass) f.token.me.0 f.pushed f.marks × (f.pass.me.1 ≡ [])
+        × (f.token.me.1 ≡ []) };
 }

@@ -1,5 +1,5 @@
 -- What the passes come to, and where they stand before one of them refuses.
-use Rattle.std.specs.Prelude.{◌≡◌, ℕ, ◌+◌, ◌<◌, ◌^◌, Bool, List, ◌⊎◌, Ok, Err, IfSome}
+use Rattle.std.specs.Prelude.{◌≡◌, ℕ, ◌+◌, ◌<◌, ◌^◌, Bool, List, ◌⊎◌, Option, Result, Ok, Err, IfOk, IfSome}
 use Rattle.tp_decode.specs.Cutting.{Cut}
 use Rattle.tp_image.specs.Image.{ImageValue}
 use Rattle.tp_state.specs.declared.fault.StateFault.{StateFault}
@@ -15,6 +15,10 @@ use Rattle.tp_check.specs.UnderWay.{IsAfter}
 -- no number of passes that a word of 64 bits can count refuses anything
 abbrev pub RefusesNothing : ImageValue → List Cut → Type 0
 RefusesNothing image cuts = (n : ℕ) → n < 2 ^ 64 → (table : Table) × (passes image cuts n ≡ Ok table)
+
+-- of what was found, where anything was, this holds
+abbrev pub IfFound : {X : Type 0} → {E : Type 0} → Result (Option X) E → (X → Type 0) → Type 0
+IfFound result P = IfOk result (λ found. IfSome found P)
 
 -- the passes come to the verdict's table, or to a refusal of which this holds
 abbrev pub EndsWith : {R : Type 0} → ImageValue → List Cut → (R → Type 0) → PassesEnd R → Type 0

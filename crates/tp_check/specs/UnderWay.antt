@@ -32,7 +32,7 @@ use Rattle.tp_check.specs.declared.passes.Passes.{Passes}
 use Rattle.tp_check.specs.Tables.{Table, table_of, asked}
 use Rattle.tp_check.specs.EdgesRespect.{HasAbove}
 use Rattle.tp_check.specs.Passes.{edges_in, passes, IsVerdict}
-use Rattle.tp_check.specs.Carried.{AreWide, IsAmong, IsLone, target_of}
+use Rattle.tp_check.specs.Carried.{AreWide, IsAmong, IsLone, over, target_of}
 
 -- ---- what a table keeps
 
@@ -165,6 +165,10 @@ abbrev pub Carries : {X : Type 0} → Result X StateFault → Result Table State
 Carries (Ok x) wanted P = (new : Table) × (wanted ≡ Ok new) × P new
 Carries (Err (Refused code place)) wanted P = wanted ≡ Err (Refused code place)
 Carries (Err Memory) wanted P = Unit {0}
+
+-- these edges are taken from a whole table on, and then the passes are before the instruction at an address
+abbrev pub TakesEdges : {X : Type 0} → ImageValue → List Cut → (ℕ → Bool) → List (Placed × Edge) → Table → Result X StateFault → Passes → ℕ → Type 0
+TakesEdges image cuts joins edges whole result p at = Carries result (over image joins edges whole) (IsBefore image cuts joins p at)
 
 -- an instruction of a code, in its place
 pub record StandsIn (cuts : List Cut) (place : Placed) : Type 0 where

@@ -54,7 +54,8 @@ pub(crate) fn leaves_words(nest: &Nest, place: Placed) -> bool
 
 /// Whether an edge enters a loop.
 fn enters(nest: &Nest, place: Placed, edge: Edge) -> bool
-    ensures { result ≡ false → option_and_then (entered_by nest.now place.at) (target nest.now place.at place.next place.instr edge) ≡ None }
+    ensures { result ≡ false →
+        option_and_then (entered_by nest.now place.at) (target nest.now place.at place.next place.instr edge) ≡ None }
 {
     // Most codes have no loops, and then no edge has to be followed.
     let Some(_) = nest.range(0) else {

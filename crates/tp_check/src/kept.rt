@@ -171,7 +171,8 @@ fn first_number(alloc: Global, places: usize) -> Result<Vec<Option<usize>>, Allo
 /// Where no edges join an address has no number any more.
 fn keep_joined_numbers(numbers: &mut Vec<Option<usize>>, ways: &Ways)
     ensures sized { length numbers.new.items ≡ length numbers.old.items }
-    ensures joined { (at : ℕ) → number_at numbers.new.items at ≡ joined_number (joins_at ways.now) numbers.old.items at }
+    ensures joined { (at : ℕ) →
+        number_at numbers.new.items at ≡ joined_number (joins_at ways.now) numbers.old.items at }
 {
     for at in 0..numbers.len() {
         if !ways.joins(at) {
@@ -201,8 +202,10 @@ fn meet(
     requires inside { number < length states.old }
     requires placed { (s : AState) → slice_get states.old number ≡ Some s → IsPlaced image.now s }
     requires state { IsPlaced image.now state.now }
-    requires again { is_again ≡ true → (s : AState) → slice_get states.old number ≡ Some s → CameBefore (Some s) state.now }
-    ensures meets { (s : AState) → slice_get states.old number ≡ Some s → Meets image.now result to number s state.now states.old states.new }
+    requires again { is_again ≡ true → (s : AState) → slice_get states.old number ≡ Some s →
+        CameBefore (Some s) state.now }
+    ensures meets { (s : AState) → slice_get states.old number ≡ Some s →
+        Meets image.now result to number s state.now states.old states.new }
     ensures kept { OnErr result (states.new ≡ states.old) }
 {
     state.has_word_ends();

@@ -23,5 +23,6 @@ pub fn passes_have_one_verdict()
 /// its table as it is.
 pub fn passes_have_a_verdict()
     ensures { (image : ImageValue) (cuts : List Cut) → InRange image → AllByRecursion IsSpelled cuts →
-        KeepsNest image.loops image.workspace cuts → (verdict : Result Table StateFault) × IsVerdict image cuts verdict }
+        KeepsNest image.loops image.workspace cuts → (verdict : Result Table StateFault)
+        × IsVerdict image cuts verdict }
 {}

@@ -44,7 +44,8 @@ impl Milestones {
         number: u64,
         passes: &Passes,
     ) -> Result<(), AllocError>
-        ensures { (image : ImageValue) (cuts : List Cut) (joins : ℕ → Bool) → IsAfter image cuts joins passes.now number →
+        ensures { (image : ImageValue) (cuts : List Cut) (joins : ℕ → Bool) →
+            IsAfter image cuts joins passes.now number →
             AreMilestones image cuts joins self.old → AreMilestones image cuts joins self.new }
     {
         if !number.is_power_of_two() {
@@ -66,8 +67,10 @@ impl Milestones {
     ) -> Result<Milestone, AllocError>
         requires some { 0 < places }
         requires few { places ≤ 2 ^ 32 }
-        ensures stands { IfOk result (λ m. (cuts : List Cut) (joins : ℕ → Bool) → HasPlaces cuts places → KeepsNest image.now.loops image.now.workspace cuts →
-            AreJoins image.now cuts joins → AreMilestones image.now cuts joins self → IsMilestone image.now cuts joins m) }
+        ensures stands { IfOk result (λ m. (cuts : List Cut) (joins : ℕ → Bool) → HasPlaces cuts places →
+            KeepsNest image.now.loops image.now.workspace cuts →
+            AreJoins image.now cuts joins → AreMilestones image.now cuts joins self →
+            IsMilestone image.now cuts joins m) }
         ensures not_past { IfOk result (λ m. m.number ≤ number) }
     {
         let Milestones { last, earlier } = self;

@@ -1,6 +1,6 @@
 //! What the passes come to, and where they stand before one of them refuses.
 
-ghost use Rattle.std.specs.Prelude.{◌≡◌, ◌<◌, ◌≤◌, ◌^◌, ℕ, length, None, Ok, IfOk, IfSome};
+ghost use Rattle.std.specs.Prelude.{◌≡◌, ◌<◌, ◌≤◌, ◌^◌, ℕ, length, None, Ok, IfOk};
 ghost use Rattle.std.specs.List.{AllByRecursion};
 ghost use Rattle.tp_decode.specs.Cutting.{IsSpelled};
 ghost use Rattle.tp_flow.specs.NestRanges.{ranges};
@@ -10,7 +10,7 @@ ghost use Rattle.tp_check.specs.Tables.{Table as WholeTable, table_of};
 ghost use Rattle.tp_check.specs.Passes.{passes};
 ghost use Rattle.tp_check.specs.Joining.{joins_at};
 ghost use Rattle.tp_check.specs.UnderWay.{AreJoins, HasPlaces};
-ghost use Rattle.tp_check.specs.NearRefusal.{IsNearRefusal, IsLastQuiet, IsJoined, IsMilestone, AreMilestones, RefusesNothing, EndsWith};
+ghost use Rattle.tp_check.specs.NearRefusal.{IsNearRefusal, IsLastQuiet, IsJoined, IsMilestone, AreMilestones, RefusesNothing, IfFound, EndsWith};
 
 use crate::kept::Kept;
 use crate::milestones::{Milestone, Milestones};
@@ -52,8 +52,10 @@ pub fn near_refusal(
 ) -> Result<Option<PassesEnd<NearRefusal>>, AllocError>
     requires kept { KeepsNest image.now.loops image.now.workspace listing.now }
     requires nest { nest.now ≡ ranges image.now.loops }
-    ensures ends { IfOk result (λ found. IfSome found (EndsWith image.now listing.now (λ near. IsNearRefusal image.now listing.now near.passes (table_of near.states)))) }
-    ensures places { IfOk result (λ found. IfSome found (EndsWith image.now listing.now (λ near. HasPlaces listing.now (length near.states)))) }
+    ensures ends { IfFound result (EndsWith image.now listing.now
+        (λ near. IsNearRefusal image.now listing.now near.passes (table_of near.states))) }
+    ensures places { IfFound result
+        (EndsWith image.now listing.now (λ near. HasPlaces listing.now (length near.states))) }
     ensures none { IfOk result (λ found. found ≡ None → RefusesNothing image.now listing.now) }
 {
     let places = places_of(listing);
@@ -87,9 +89,10 @@ fn quiet_passes(
     requires some { 0 < places }
     requires few { places ≤ 2 ^ 32 }
     requires all { HasPlaces listing.now places }
-    ensures ends { IfOk result (λ found. IfSome found (EndsWith image.now listing.now (IsLastQuiet image.now listing.now))) }
+    ensures ends { IfFound result (EndsWith image.now listing.now (IsLastQuiet image.now listing.now)) }
     ensures none { IfOk result (λ found. found ≡ None → RefusesNothing image.now listing.now) }
-    ensures milestones { AreMilestones image.now listing.now (joins_at ways.now) milestones.old → AreMilestones image.now listing.now (joins_at ways.now) milestones.new }
+    ensures milestones { AreMilestones image.now listing.now (joins_at ways.now) milestones.old →
+        AreMilestones image.now listing.now (joins_at ways.now) milestones.new }
     // This is known of every image, and of every listing.
     ensures in_range { InRange image.now }
     ensures spelled { AllByRecursion IsSpelled listing.now }
@@ -125,7 +128,8 @@ fn joined_after(
     requires stands { IsMilestone image.now listing.now (joins_at ways.now) from }
     requires early { from.number ≤ number }
     requires quiet { (table : WholeTable) × (passes image.now listing.now number ≡ Ok table) }
-    ensures joined { IfOk result (λ states. IsJoined image.now listing.now (joins_at ways.now) number (table_of states)) }
+    ensures joined { IfOk result
+        (λ states. IsJoined image.now listing.now (joins_at ways.now) number (table_of states)) }
     ensures places { IfOk result (λ states. HasPlaces listing.now (length states)) }
 {
     listing.is_spelled();

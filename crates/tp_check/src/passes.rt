@@ -18,7 +18,7 @@ ghost use Rattle.tp_check.specs.Passes.{enter, edges_of, edges_in, IsVerdict, Is
 ghost use Rattle.tp_check.specs.Carried.{over, IsTableOf};
 ghost use Rattle.tp_check.specs.StatesThere.{AreStatesThere};
 ghost use Rattle.tp_check.specs.Joining.{joins_at, keeps_at};
-ghost use Rattle.tp_check.specs.UnderWay.{is_in, IsBeginning, IsCopyOf, Leaves, AreJoins, HasPlaces, MayBeTaken, StandsIn, IsBefore, Carries, Gives, Moves, marked, SameButSlots, IsStarted, KeepsSound, CameBefore, IsBegun, IsOnEdge, IsAfterEdge, IsLedOn, IsSettled};
+ghost use Rattle.tp_check.specs.UnderWay.{is_in, IsBeginning, IsCopyOf, Leaves, AreJoins, HasPlaces, MayBeTaken, StandsIn, IsBefore, Carries, TakesEdges, Gives, Moves, marked, SameButSlots, IsStarted, KeepsSound, CameBefore, IsBegun, IsOnEdge, IsAfterEdge, IsLedOn, IsSettled};
 
 use crate::aside::{Registers, leaves_words};
 use crate::effort::Effort;
@@ -230,7 +230,7 @@ impl Passes {
         requires rests { self.old.is_carried ≡ false }
         requires way { (whole : WholeTable) × IsBefore image.now listing.now (joins_at ways.now) self.old 0 whole }
         ensures gives { (whole : WholeTable) → IsBefore image.now listing.now (joins_at ways.now) self.old 0 whole →
-            Carries result (over image.now (joins_at ways.now) (edges_in listing.now) whole) (IsBefore image.now listing.now (joins_at ways.now) self.new 0) }
+            TakesEdges image.now listing.now (joins_at ways.now) (edges_in listing.now) whole result self.new 0 }
         ensures rests { OnOk result (self.new.is_carried ≡ false) }
         ensures leaves { IfOk result (λ is_left. Leaves image.now is_left self.old self.new) }
     {
@@ -259,7 +259,7 @@ impl Passes {
         requires rests { self.old.is_carried ≡ false }
         requires way { (whole : WholeTable) × IsBefore image.now listing.now (joins_at ways.now) self.old 0 whole }
         ensures gives { (whole : WholeTable) → IsBefore image.now listing.now (joins_at ways.now) self.old 0 whole →
-            Carries result (over image.now (joins_at ways.now) (edges_in listing.now) whole) (IsBefore image.now listing.now (joins_at ways.now) self.new 0) }
+            TakesEdges image.now listing.now (joins_at ways.now) (edges_in listing.now) whole result self.new 0 }
         ensures rests { OnOk result (self.new.is_carried ≡ false) }
         ensures moves { IfOk result (λ moved. Moves image.now moved self.old.slots self.new.slots) }
     {
@@ -290,9 +290,10 @@ impl Passes {
         requires sound { KeepsSound image.now place }
         requires way { (cuts : List Cut) × StandsIn cuts place × AreJoins image.now cuts (joins_at ways.now) ×
             (whole : WholeTable) × IsBefore image.now cuts (joins_at ways.now) self.old place.at whole }
-        ensures gives { (cuts : List Cut) (whole : WholeTable) → StandsIn cuts place → AreJoins image.now cuts (joins_at ways.now) →
+        ensures gives { (cuts : List Cut) (whole : WholeTable) → StandsIn cuts place →
+            AreJoins image.now cuts (joins_at ways.now) →
             IsBefore image.now cuts (joins_at ways.now) self.old place.at whole →
-            Carries result (over image.now (joins_at ways.now) (edges_of place) whole) (IsBefore image.now cuts (joins_at ways.now) self.new place.next) }
+            TakesEdges image.now cuts (joins_at ways.now) (edges_of place) whole result self.new place.next }
         ensures moves { IfOk result (λ moved. Moves image.now moved self.old.slots self.new.slots) }
     {
         self.start(ways, place.at);
@@ -309,8 +310,10 @@ impl Passes {
         requires stands { at < length self.old.slots }
         requires inside { at < length self.old.changed.items }
         requires takes { at < length self.old.taken.items }
-        requires sized { joins_at ways.now at ≡ true → IfSome (table_of self.old.slots at) (λ s. length s.cells ≡ length self.old.carried.cells) }
-        requires below { joins_at ways.now at ≡ true → self.old.is_carried ≡ true → IfSome (table_of self.old.slots at) (IsBelow self.old.carried) }
+        requires sized { joins_at ways.now at ≡ true →
+            IfSome (table_of self.old.slots at) (λ s. length s.cells ≡ length self.old.carried.cells) }
+        requires below { joins_at ways.now at ≡ true → self.old.is_carried ≡ true →
+            IfSome (table_of self.old.slots at) (IsBelow self.old.carried) }
         ensures started { joins_at ways.now at ≡ true → IsStarted at self.old self.new }
         ensures other { joins_at ways.now at ≡ false → self.new ≡ self.old }
         ensures slots { self.new.slots ≡ self.old.slots }
@@ -346,7 +349,8 @@ impl Passes {
         requires sound { KeepsSound image.now place }
         requires way { IsBegun image.now (joins_at ways.now) self.old place }
         ensures gives { (way : IsBegun image.now (joins_at ways.now) self.old place) → StandsIn way.amid.cuts place →
-            Carries result (over image.now (joins_at ways.now) (edges_of place) way.amid.whole) (IsBefore image.now way.amid.cuts (joins_at ways.now) self.new place.next) }
+            TakesEdges image.now way.amid.cuts (joins_at ways.now)
+            (edges_of place) way.amid.whole result self.new place.next }
         ensures moves { IfOk result (λ moved. Moves image.now moved self.old.slots self.new.slots) }
     {
         match asked(place.instr) {
@@ -374,7 +378,8 @@ impl Passes {
         requires edges { asked place.instr ≡ first ∷ last ∷ [] }
         requires way { IsBegun image.now (joins_at ways.now) self.old place }
         ensures gives { (way : IsBegun image.now (joins_at ways.now) self.old place) → StandsIn way.amid.cuts place →
-            Carries result (over image.now (joins_at ways.now) (edges_of place) way.amid.whole) (IsBefore image.now way.amid.cuts (joins_at ways.now) self.new place.next) }
+            TakesEdges image.now way.amid.cuts (joins_at ways.now)
+            (edges_of place) way.amid.whole result self.new place.next }
         ensures moves { IfOk result (λ moved. Moves image.now moved self.old.slots self.new.slots) }
     {
         let leaves_words = leaves_words(nest, place);
@@ -396,7 +401,8 @@ impl Passes {
     fn put_aside(&mut self, alloc: Global, leaves_words: bool) -> Result<(), AllocError>
         requires { IfSome self.old.spare (λ s. length self.old.carried.cells ≡ length s.cells) }
         ensures light { leaves_words ≡ true → self.new ≡ self.old }
-        ensures copied { IfOk result (λ _. leaves_words ≡ false → self.new ≡ record self.old { spare = Some self.old.carried }) }
+        ensures copied { IfOk result
+            (λ _. leaves_words ≡ false → self.new ≡ record self.old { spare = Some self.old.carried }) }
         ensures slots { self.new.slots ≡ self.old.slots }
     {
         if leaves_words {
@@ -415,8 +421,16 @@ impl Passes {
     /// The state that was carried before is carried again: where words have stayed as they were, it is told by its registers;
     /// else it was put aside, and changes places with what is carried now.
     fn put_back(&mut self, registers: Registers, leaves_words: bool)
-        ensures light { leaves_words ≡ true → self.new ≡ record self.old { carried = record self.old.carried { a = registers.a; b = registers.b; c = registers.c } } }
-        ensures copied { leaves_words ≡ false → IfSome self.old.spare (λ s. self.new ≡ record self.old { carried = s; spare = Some self.old.carried }) }
+        ensures light { leaves_words ≡ true →
+            self.new ≡ record self.old {
+              carried = record self.old.carried {
+                a = registers.a;
+                b = registers.b;
+                c = registers.c;
+              };
+            } }
+        ensures copied { leaves_words ≡ false →
+            IfSome self.old.spare (λ s. self.new ≡ record self.old { carried = s; spare = Some self.old.carried }) }
         ensures slots { self.new.slots ≡ self.old.slots }
     {
         if leaves_words {
@@ -481,9 +495,12 @@ impl Passes {
         requires flags { length self.old.changed.items ≡ length self.old.slots }
         requires placed { joins_at ways.now to ≡ true → IfSome (table_of self.old.slots to) (IsPlaced image.now) }
         requires carried { IsPlaced image.now self.old.carried }
-        requires again { joins_at ways.now to ≡ true → self.old.is_again ≡ true → CameBefore (table_of self.old.slots to) self.old.carried }
-        ensures joins { joins_at ways.now to ≡ true → Gives result (table_of self.new.slots) (enter (Some to) self.old.carried (table_of self.old.slots)) }
-        ensures marks { joins_at ways.now to ≡ true → IfOk result (λ moved. self.new.changed.items ≡ marked moved to self.old.changed.items) }
+        requires again { joins_at ways.now to ≡ true → self.old.is_again ≡ true →
+            CameBefore (table_of self.old.slots to) self.old.carried }
+        ensures joins { joins_at ways.now to ≡ true →
+            Gives result (table_of self.new.slots) (enter (Some to) self.old.carried (table_of self.old.slots)) }
+        ensures marks { joins_at ways.now to ≡ true →
+            IfOk result (λ moved. self.new.changed.items ≡ marked moved to self.old.changed.items) }
         ensures rest { SameButSlots self.old self.new }
         ensures alone { joins_at ways.now to ≡ false → (result ≡ Ok false) × (self.new ≡ self.old) }
         ensures moves { IfOk result (λ moved. Moves image.now moved self.old.slots self.new.slots) }

@@ -110,7 +110,8 @@ impl Ways {
         requires nest { nest.now ≡ ranges image.now.loops }
         requires place { MayBeTaken image.now (length self.old) place }
         ensures sized { length self.new ≡ length self.old }
-        ensures tells { (cuts : List Cut) (rest : List (APlace × AnEdge)) → ((e : APlace × AnEdge) → IsAmong (edges_of place) e → IsAmong (edges_in cuts) e) →
+        ensures tells { (cuts : List Cut) (rest : List (APlace × AnEdge)) →
+            ((e : APlace × AnEdge) → IsAmong (edges_of place) e → IsAmong (edges_in cuts) e) →
             TellWays image.now cuts (edges_of place ++ rest) self.old → TellWays image.now cuts rest self.new }
     {
         let edges = asked(place.instr);

@@ -34,7 +34,8 @@ impl<'j> Model for Collector<'j> {
     ghost use Rattle.std.specs.Prelude.{map};
     ghost use Rattle.tp_collect.specs.Collected.{IsCollected, batch_of_parts};
 
-    ghost view = { λ c. collection (batch_of_parts c.batch c.image.now (map (λ p. p.items) c.packets.now)) c.entries.items };
+    ghost view = { λ c. collection
+        (batch_of_parts c.batch c.image.now (map (λ p. p.items) c.packets.now)) c.entries.items };
 
     ghost invariant = { λ c.
         IsCollected (batch_of_parts c.batch c.image.now (map (λ p. p.items) c.packets.now)) c.entries.items };
@@ -63,7 +64,8 @@ impl<'j> Collector<'j> {
 
     /// Files a result under its packet's number. A refused one is handed back, and nothing changes. It takes no memory.
     pub fn put(&mut self, done: Done) -> Result<(), (PutFault, Done)>
-        requires { done.batch ≡ self.old.batch.number → done.packet < length self.old.batch.packets → Names self.old.batch done }
+        requires { done.batch ≡ self.old.batch.number → done.packet < length self.old.batch.packets →
+            Names self.old.batch done }
         ensures answer { result ≡ put_answer done (put_fault self.old done) }
         ensures entry { self.new ≡ filed done.packet (entry.Done done) (put_fault self.old done) self.old }
     {

@@ -100,7 +100,8 @@ impl Done {
         requires result { length result_bytes.now ≤ 256 }
         requires trace { length trace.now ≤ 256 }
         requires alone { RunsAlone image.now bytes.now.items (run_giving result_bytes.now error steps trace.now) }
-        ensures { result ≡ done_by (run_giving result_bytes.now error steps trace.now) batch packet image.now bytes.now.items }
+        ensures { result ≡
+            done_by (run_giving result_bytes.now error steps trace.now) batch packet image.now bytes.now.items }
     {
         Done::new(
             batch,

@@ -24,7 +24,8 @@ pub fn decode(alloc: Global, code: &[u8]) -> Result<Listing, DecodeFault>
     ensures only { (cuts : List Cut) → IsCutting code.now cuts →
         MatchResult result (λ listing. listing ≡ cuts) (λ e. e ≡ DecodeFault.Memory) }
     ensures refused { IfErr result (λ e. e ≢ DecodeFault.Memory → IsRefused code.now e) }
-    ensures first { (e : DecodeFault) → IsRefused code.now e → MatchResult result (λ listing. ⊥) (λ f. f ≢ DecodeFault.Memory → f ≡ e) }
+    ensures first { (e : DecodeFault) → IsRefused code.now e →
+        MatchResult result (λ listing. ⊥) (λ f. f ≢ DecodeFault.Memory → f ≡ e) }
     ensures exact { Gives result (cutting code.now) }
 {
     cut(alloc, code)
@@ -53,7 +54,8 @@ fn cut(alloc: Global, code: &[u8]) -> Result<Listing, DecodeFault>
 /// Numbers an instruction that ends before an address: its first byte has the number, the others have none.
 fn number(numbers: &mut Vec<Option<u16>>, i: u16, next: usize) -> Result<(), AllocError>
     requires { vec_len numbers.old < next }
-    ensures { OnOk result (numbers.new.items ≡ numbers.old.items ++ Some i ∷ replicate (next - vec_len numbers.old - 1) None) }
+    ensures { OnOk result
+        (numbers.new.items ≡ numbers.old.items ++ Some i ∷ replicate (next - vec_len numbers.old - 1) None) }
 {
     numbers.push(Some(i))?;
     numbers.resize(next, None)
@@ -62,7 +64,8 @@ fn number(numbers: &mut Vec<Option<u16>>, i: u16, next: usize) -> Result<(), All
 /// The instruction that is spelled in a code at an address.
 fn piece_at(code: &[u8], at: usize) -> Result<Piece, DecodeFault>
     requires { at < length code.now }
-    ensures { MatchResult result (λ piece. BeginsWith (drop at code.now) (cut_of piece)) (λ e. Stops (drop at code.now) at e) }
+    ensures { MatchResult result (λ piece. BeginsWith (drop at code.now) (cut_of piece))
+        (λ e. Stops (drop at code.now) at e) }
 {
     let spelled = match read_one(code, at) {
         Ok(spelled) => spelled,

@@ -98,7 +98,8 @@ impl Listing {
     /// What stands at an address, with its place.
     #[tactic(auto, using(crate::proofs::NumberLemmas::place_by_number))]
     fn placed(&self, addr: usize) -> Option<Placed>
-        ensures { result ≡ option_map (λ cut. record { at = addr; instr = cut.instr; next = addr + length cut.bytes }) (cut_at self.now addr) }
+        ensures { result ≡ option_map (λ cut. record { at = addr; instr = cut.instr; next = addr + length cut.bytes })
+            (cut_at self.now addr) }
     {
         self.index_of(addr).and_then(|i| self.get(i))
     }

@@ -5,7 +5,7 @@ use Rattle.tp_link.specs.declared.links.Link.{Link}
 use Rattle.tp_link.specs.declared.links.LinkFault.{LinkFault}
 use Rattle.tp_image.specs.Image.{ImageValue}
 use Rattle.tp_machine.specs.Devices.{Devices}
-use Rattle.tp_farm.specs.Settings.{failed_by}
+use Rattle.tp_farm.specs.Settings.{Rises, failed_by}
 use Rattle.tp_farm.specs.Losses.{MayLose}
 
 -- a device's answer, with its link
@@ -21,3 +21,7 @@ HasReason image packet devices fault = MayLose image packet devices fault.link f
 abbrev pub failed_in : {A : Type 0} → Link → Result A LinkFault → ℕ
 failed_in which (Ok x) = 0
 failed_in which (Err fault) = failed_by which fault
+
+-- each device's count of faults rose by that
+abbrev pub RisesIn : {A : Type 0} → Result A LinkFault → (before after : Devices) → Type 0
+RisesIn result before after = Rises before after (λ which. failed_in which result)

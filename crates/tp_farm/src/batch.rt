@@ -139,7 +139,8 @@ fn settle<R: Wait, D: LinkDevice, G: Gate>(
     requires members { vec_len returned ≡ stream.members }
     requires some { 0 < vec_len returned }
     requires packets { stream.packets ≡ (batch_of _job.now).packets }
-    requires collector { collector ≡ record { batch = batch_of _job.now; entries = replicate (length stream.packets) vacant } }
+    requires collector { collector ≡
+        record { batch = batch_of _job.now; entries = replicate (length stream.packets) vacant } }
     requires room { HasRoom (vec_len returned) room }
     ensures batch { IfOk result (IsBatchOver D.state (work_on G.open_for_good _job.now _gate.now) _before.value.items) }
     ensures err { IfErr result IsFromOutside }

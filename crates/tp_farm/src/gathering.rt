@@ -61,7 +61,8 @@ pub(crate) fn take_hands<H: Drop, D: LinkDevice>(
 fn file_one(collector: &mut Collector<'_>, one: Filed)
     requires of { IsOfBatch collector.old.batch one }
     requires vacant { slice_get collector.old.entries (number_of one) ≡ Some vacant }
-    ensures { collector.new ≡ record collector.old { entries = slice_set collector.old.entries (number_of one) (entry_of one) } }
+    ensures { collector.new ≡
+        record collector.old { entries = slice_set collector.old.entries (number_of one) (entry_of one) } }
 {
     match one {
         Filed::Done(done) => {
@@ -93,7 +94,8 @@ pub(crate) fn gather_all<D: LinkDevice>(
     requires of { All (λ k. All (IsOfBatch collector.old.batch) k.filed.items) kept.items }
     requires vacant { FindVacant collector.old.entries (filed_by kept.items) }
     requires room { vec_len links.old + vec_len kept ≤ vec_capacity links.old }
-    ensures entries { collector.new ≡ record collector.old { entries = filed_in collector.old.entries (filed_by kept.items) } }
+    ensures entries { collector.new ≡
+        record collector.old { entries = filed_in collector.old.entries (filed_by kept.items) } }
     ensures links { links.new.items ≡ links.old.items ++ map (λ k. k.links) kept.items }
 {
     for one in kept {

@@ -4,11 +4,11 @@ ghost use Rattle.std.specs.Prelude.{◌≡◌, ℕ, ◌*◌, ◌+◌, ◌≤◌,
 ghost use Rattle.tp_link.specs.Device.{failures};
 ghost use Rattle.tp_machine.specs.Devices.{devices_of};
 ghost use Rattle.tp_collect.specs.Collected.{IsResult};
-ghost use Rattle.tp_farm.specs.Settings.{SameDevice, SameSettings, Rises};
+ghost use Rattle.tp_farm.specs.Settings.{SameDevice, SameSettings};
 ghost use Rattle.tp_farm.specs.Losses.{HasCause};
 ghost use Rattle.tp_farm.specs.Stages.{IsReady, HasGiven, HasTraced};
 ghost use Rattle.tp_farm.specs.Jobs.{batch_of};
-ghost use Rattle.tp_farm.specs.Handled.{on_link, HasReason, failed_in};
+ghost use Rattle.tp_farm.specs.Handled.{on_link, HasReason, RisesIn};
 
 use crate::job::Job;
 use tp_accept::Accepted;
@@ -65,7 +65,7 @@ fn prepare<D: LinkDevice>(
 ) -> Result<(), LinkFault>
     requires { length packet.now.items ≡ 4 * _accepted.now.image.packet }
     ensures settings { SameSettings (devices_of D.state links.old) (devices_of D.state links.new) }
-    ensures rises { Rises (devices_of D.state links.old) (devices_of D.state links.new) (λ which. failed_in which result) }
+    ensures rises { RisesIn result (devices_of D.state links.old) (devices_of D.state links.new) }
     ensures ready { OnOk result (IsReady packet.now.items (devices_of D.state links.new)) }
     ensures reason { IfErr result (HasReason _accepted.now.image packet.now.items (devices_of D.state links.old)) }
 {
@@ -85,7 +85,7 @@ fn run_on<D: LinkDevice>(
     requires ready { IsReady _packet.now.items (devices_of D.state links.old) }
     requires length { length _packet.now.items ≡ 4 * accepted.now.image.packet }
     ensures settings { SameSettings (devices_of D.state links.old) (devices_of D.state links.new) }
-    ensures rises { Rises (devices_of D.state links.old) (devices_of D.state links.new) (λ which. failed_in which result) }
+    ensures rises { RisesIn result (devices_of D.state links.old) (devices_of D.state links.new) }
     ensures given { IfOk result (λ o. HasGiven accepted.now.image _packet.now.items o (devices_of D.state links.new)) }
     ensures reason { IfErr result (HasReason accepted.now.image _packet.now.items (devices_of D.state links.old)) }
 {
@@ -136,7 +136,7 @@ fn receive_trace<D: LinkDevice>(
 ) -> Result<usize, LinkFault>
     requires traced { HasTraced _accepted.now.image _packet.now.items (D.state links.old.trace).held }
     ensures settings { SameSettings (devices_of D.state links.old) (devices_of D.state links.new) }
-    ensures rises { Rises (devices_of D.state links.old) (devices_of D.state links.new) (λ which. failed_in which result) }
+    ensures rises { RisesIn result (devices_of D.state links.old) (devices_of D.state links.new) }
     ensures bytes { IfOk result (λ n. take n into.new ≡ (D.state links.old.trace).held) }
     ensures most { IfOk result (λ n. n ≤ 256) }
     ensures reason { IfErr result (HasReason _accepted.now.image _packet.now.items (devices_of D.state links.old)) }
@@ -169,7 +169,7 @@ pub(crate) fn handle<D: LinkDevice>(
     requires packet { slice_get (batch_of job.now).packets number ≡ Some packet.now.items }
     requires length { length packet.now.items ≡ 4 * job.now.image.now.image.packet }
     ensures settings { SameSettings (devices_of D.state links.old) (devices_of D.state links.new) }
-    ensures rises { Rises (devices_of D.state links.old) (devices_of D.state links.new) (λ which. failed_in which result) }
+    ensures rises { RisesIn result (devices_of D.state links.old) (devices_of D.state links.new) }
     ensures done { IfOk result (IsResult (batch_of job.now) number) }
     ensures reason { IfErr result (HasReason job.now.image.now.image packet.now.items (devices_of D.state links.old)) }
 {

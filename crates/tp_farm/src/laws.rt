@@ -19,7 +19,8 @@ use crate::job::Job;
 /// threads were found and the members were joined is in that answer. A packet that a device refused, or that a stop kept
 /// from being run, has no result, and `IsBatch` says of each why.
 pub fn accepted_code_never_goes_wrong(job: &Job<'_>)
-    ensures { (open_for_good : Bool) (before after : List Devices) (entries : List Entry) → ArePackets (batch_of job.now) →
+    ensures { (open_for_good : Bool) (before after : List Devices) (entries : List Entry) →
+        ArePackets (batch_of job.now) →
         IsBatch (batch_of job.now) open_for_good before after entries →
         GoesWell (batch_of job.now) job.now.image.now.budget entries }
 {}

@@ -112,7 +112,8 @@ fn take_turn<W: LendingSource, D: LinkDevice, G: Gate>(
     ensures accounts { HasAccounts D.state W.progress (batch_of job.now) member.new }
     ensures going { result ≡ None → HasTaken (W.progress member.old.hand) (W.progress member.new.hand) }
     ensures allowed { result ≡ None → G.has_answered gate.now member.old.number true }
-    ensures refused { IfSome result (IsRefused (G.has_answered gate.now member.old.number) (W.progress member.new.hand)) }
+    ensures refused { IfSome result
+        (IsRefused (G.has_answered gate.now member.old.number) (W.progress member.new.hand)) }
     ensures end { IfSome result (EndsBy (batch_of job.now) (G.open_for_good gate.now) (W.progress member.new.hand)) }
 {
     if member.filed.reserve(1).is_err() {

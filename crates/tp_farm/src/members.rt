@@ -107,7 +107,8 @@ where
     requires fresh { All (IsFresh (S.is_own shared.now.source.now) S.progress) hands.items }
     requires hands { vec_len hands ≡ vec_len all }
     requires members { vec_len all ≤ 64 }
-    ensures before { IfOk result (λ s. s.all_started ≡ true → map (λ h. h.promise.before.value) s.handles.items ≡ all.items) }
+    ensures before { IfOk result
+        (λ s. s.all_started ≡ true → map (λ h. h.promise.before.value) s.handles.items ≡ all.items) }
     ensures shared { IfOk result (λ s. All (λ h. h.promise.shared.now ≡ shared.now) s.handles.items) }
 {
     let mut handles = Vec::with_capacity(alloc, all.len())?;

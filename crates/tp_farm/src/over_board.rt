@@ -54,7 +54,8 @@ where
     requires fresh { All (IsFresh (S.is_own shared.now.source.now) S.progress) hands.items }
     requires hands { vec_len hands ≡ vec_len all }
     requires members { vec_len all ≤ 64 }
-    ensures worked { IfOk result (λ rs. HaveWorkedOn D.state S.is_own S.progress G.open_for_good shared.now all.items rs.items) }
+    ensures worked { IfOk result
+        (λ rs. HaveWorkedOn D.state S.is_own S.progress G.open_for_good shared.now all.items rs.items) }
     ensures err { IfErr result IsFromOutside }
 {
     let started = start_all(rt, scope, alloc, shared, hands, all)?;
@@ -75,7 +76,8 @@ where
     requires fresh { All (IsFresh (S.is_own shared.now.source.now) S.progress) hands.items }
     requires hands { vec_len hands ≡ vec_len all }
     requires members { vec_len all ≤ 64 }
-    ensures worked { IfOk result (λ rs. HaveWorkedOn D.state S.is_own S.progress G.open_for_good shared.now all.items rs.items) }
+    ensures worked { IfOk result
+        (λ rs. HaveWorkedOn D.state S.is_own S.progress G.open_for_good shared.now all.items rs.items) }
     ensures err { IfErr result IsFromOutside }
 {
     thread::scope(

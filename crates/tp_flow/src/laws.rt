@@ -32,7 +32,8 @@ pub fn edges_keep_the_nest()
 #[tactic(auto, using(crate::proofs::LoopMoves::keeps_around))]
 pub fn edges_move_between_loops()
     ensures { (rows : List LoopRow) (workspace : ℕ) (cuts : List Cut) → KeepsNest rows workspace cuts →
-        (at : ℕ) (cut : Cut) → cut_at cuts at ≡ Some cut → KeepsAround rows workspace at (at + length cut.bytes) cut.instr }
+        (at : ℕ) (cut : Cut) → cut_at cuts at ≡ Some cut →
+        KeepsAround rows workspace at (at + length cut.bytes) cut.instr }
 {}
 
 /// The instructions of a nest's code by their places in its list: as many start as there are, and the one at the i-th
@@ -58,7 +59,8 @@ pub fn loops_around_an_address()
     ensures few { (rows : List LoopRow) (workspace : ℕ) (cuts : List Cut) → KeepsNest rows workspace cuts →
         (at : ℕ) → length (rows_around (ranges rows) at) ≤ most_depth }
     ensures each { (image : ImageValue) (cuts : List Cut) (at : ℕ) → first_flow_fault image cuts ≡ None →
-        AllByRecursion (λ range. Contains (ranges image.loops) range × IsTrue (contains range at)) (loops_around (ranges image.loops) at) }
+        AllByRecursion (λ range. Contains (ranges image.loops) range × IsTrue (contains range at))
+        (loops_around (ranges image.loops) at) }
     ensures outermost { (image : ImageValue) (cuts : List Cut) (at : ℕ) → first_flow_fault image cuts ≡ None →
         IsOutermostFirst (loops_around (ranges image.loops) at) }
 {}

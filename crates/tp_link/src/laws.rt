@@ -11,7 +11,8 @@ use crate::device::DeviceFault;
 /// other, and then its count of faults is 1.
 pub fn fails_in_one_call()
     ensures failing { (k : ℕ) (before : List Answer) (answer : Answer) (later : List Answer) (q : FaultPlan) →
-        AreAnswers (new_plan k) (before ++ answer ∷ later) q → (IsErrOf answer DeviceFault.Failed ↔ (length before + 1 ≡ k)) }
+        AreAnswers (new_plan k) (before ++ answer ∷ later) q →
+        (IsErrOf answer DeviceFault.Failed ↔ (length before + 1 ≡ k)) }
     ensures count { (k : ℕ) (answers : List Answer) (q : FaultPlan) →
         AreAnswers (new_plan k) answers q → faults_of q ≡ (if nat_le 1 k && nat_le k (length answers) then 1 else 0) }
 {}

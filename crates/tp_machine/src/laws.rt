@@ -14,7 +14,8 @@ use tp_accept::Accepted;
 /// A run that has ended is the run alone of the packet that the source held: its result is what the sink took, and its
 /// trace what the trace took.
 pub fn an_ended_run_is_the_run_alone()
-    ensures { (image : ImageValue) (limit : ℕ) (before after : Devices) (outcome : Outcome) (run : Ended image (start_of image before) limit before after outcome) →
+    ensures { (image : ImageValue) (limit : ℕ) (before after : Devices) (outcome : Outcome)
+        (run : Ended image (start_of image before) limit before after outcome) →
         RunsAlone image (packet_of image before.source) record
         { result = run.state.sent; error = outcome.error; steps = outcome.steps; trace = run.state.traced } }
 {}
@@ -25,7 +26,8 @@ pub fn an_ended_run_is_the_run_alone()
 /// is the outcome of that run, or a device's refusal. Where the devices are open, the source holds a whole packet, sink and
 /// trace have the room, and none can fail, it is the outcome.
 pub fn accepted_code_never_goes_wrong(accepted: &Accepted)
-    ensures { (before after : Devices) (answer : Result Outcome LinkFault) → All (λ byte. byte < 256) before.source.held →
+    ensures { (before after : Devices) (answer : Result Outcome LinkFault) →
+        All (λ byte. byte < 256) before.source.held →
         Answered accepted.now.image accepted.now.budget before after answer →
         KeepsPromise accepted.now.image accepted.now.budget before answer }
 {}

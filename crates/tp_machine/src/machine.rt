@@ -24,7 +24,8 @@ impl Machine {
 
     /// A machine whose fields are all 0. A run sets what it needs.
     pub fn new() -> Machine
-        ensures { result ≡ record { workspace = replicate 2048 0; a = 0; b = 0; c = 0; wptr = 0; oreg = 0; iptr = 0; error = false } }
+        ensures { result ≡
+            record { workspace = replicate 2048 0; a = 0; b = 0; c = 0; wptr = 0; oreg = 0; iptr = 0; error = false } }
     {
         Machine {
             workspace: [0; 2048],

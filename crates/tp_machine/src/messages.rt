@@ -55,7 +55,8 @@ fn copy(workspace: &mut [u8; 2048], target: u32, source: u32, n: u32)
     requires source_low { mem_start ≤ source }
     requires source_high { source + n ≤ mem_start + 2048 }
     requires apart { (target + n ≤ source) ⊎ (source + n ≤ target) }
-    ensures { workspace.new ≡ put workspace.old (target - mem_start) (take n (drop (source - mem_start) workspace.old)) }
+    ensures { workspace.new ≡
+        put workspace.old (target - mem_start) (take n (drop (source - mem_start) workspace.old)) }
 {
     let from = (source - MEM_START) as usize;
     let to = (target - MEM_START) as usize;

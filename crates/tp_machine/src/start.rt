@@ -23,7 +23,8 @@ fn first_word(image: &Image, i: u32) -> u32
 /// The workspace begins with the image's initial words, and then zeros, as far as the image has words. What lies beyond
 /// them is not the worker's.
 pub(crate) fn fill(workspace: &mut [u8; 2048], image: &Image)
-    ensures { Holds (with_bytes nothing_defined mem_start (flat_map (to_le_bytes w32) (first_words image.now))) workspace.new }
+    ensures { Holds
+        (with_bytes nothing_defined mem_start (flat_map (to_le_bytes w32) (first_words image.now))) workspace.new }
 {
     for i in 0..image.workspace {
         store(workspace, MEM_START + 4 * i, first_word(image, i));

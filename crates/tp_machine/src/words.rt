@@ -40,7 +40,8 @@ pub(crate) fn checked_product(b: u32, a: u32) -> (u32, bool)
 /// The quotient, read signed and toward zero, where there is one.
 #[inline(always)]
 pub(crate) fn quotient(b: u32, a: u32) -> Option<u32>
-    ensures { result ≡ (if int_eq (signed a) (pos 0) || (int_eq (signed b) least_integer && int_eq (signed a) minus_one) then None
+    ensures { result ≡
+        (if int_eq (signed a) (pos 0) || (int_eq (signed b) least_integer && int_eq (signed a) minus_one) then None
         else Some (low_word (int_div (signed b) (signed a)))) }
 {
     match b.cast_signed().checked_div(a.cast_signed()) {
@@ -52,7 +53,8 @@ pub(crate) fn quotient(b: u32, a: u32) -> Option<u32>
 /// The remainder, read signed and with the sign of the dividend, where there is one.
 #[inline(always)]
 pub(crate) fn remainder(b: u32, a: u32) -> Option<u32>
-    ensures { result ≡ (if int_eq (signed a) (pos 0) || (int_eq (signed b) least_integer && int_eq (signed a) minus_one) then None
+    ensures { result ≡
+        (if int_eq (signed a) (pos 0) || (int_eq (signed b) least_integer && int_eq (signed a) minus_one) then None
         else Some (low_word (int_rem (signed b) (signed a)))) }
 {
     match b.cast_signed().checked_rem(a.cast_signed()) {

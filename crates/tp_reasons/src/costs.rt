@@ -64,7 +64,8 @@ fn by_address(
 
 /// The cost of a loop.
 fn of_loop(row: LoopRow, counted: &[Counted]) -> LoopCost
-    ensures { result ≡ record { head = row.head; lend = row.lend; turns = row.count; turn = (counted_at counted.now row.head).left } }
+    ensures { result ≡
+        record { head = row.head; lend = row.lend; turns = row.count; turn = (counted_at counted.now row.head).left } }
 {
     LoopCost {
         head: row.head,

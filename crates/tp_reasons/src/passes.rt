@@ -1,6 +1,6 @@
 //! The passes up to the first refusal, the last of them over whole tables.
 
-ghost use Rattle.std.specs.Prelude.{◌≡◌, ◌++◌, length, None, Err, IfOk, IfSome, OnOk, OnErr, All};
+ghost use Rattle.std.specs.Prelude.{◌≡◌, ◌++◌, length, None, Err, IfOk, OnOk, OnErr, All};
 ghost use Rattle.tp_flow.specs.NestKept.{KeepsNest};
 ghost use Rattle.tp_flow.specs.NestRanges.{ranges};
 ghost use Rattle.tp_state.specs.Conditions.{HasGoodLoops};
@@ -8,7 +8,7 @@ ghost use Rattle.tp_state.specs.declared.fault.StateFault.TheVariants.{Refused};
 ghost use Rattle.tp_check.specs.Tables.{asked, table_of, HasPlacedStates};
 ghost use Rattle.tp_check.specs.Passes.{edges_in, edges_of, go_along, IsVerdict};
 ghost use Rattle.tp_check.specs.UnderWay.{MayBeTaken, Gives};
-ghost use Rattle.tp_check.specs.NearRefusal.{RefusesNothing, EndsWith};
+ghost use Rattle.tp_check.specs.NearRefusal.{RefusesNothing, IfFound, EndsWith};
 ghost use Rattle.tp_reasons.specs.FirstRefusals.{IsFirstRefusal, EndsAs};
 
 use crate::refusal::{EdgeRefusal, FirstRefusal};
@@ -33,9 +33,11 @@ pub fn first_refusal(
 ) -> Result<Option<PassesEnd<FirstRefusal>>, AllocError>
     requires kept { KeepsNest image.now.loops image.now.workspace listing.now }
     requires nest { nest.now ≡ ranges image.now.loops }
-    ensures first { IfOk result (λ found. IfSome found (EndsWith image.now listing.now (IsFirstRefusal image.now listing.now))) }
-    ensures verdict { IfOk result (λ found. IfSome found (EndsWith image.now listing.now (λ r. IsVerdict image.now listing.now (Err (Refused r.refusal.code r.refusal.place))))) }
-    ensures placed { IfOk result (λ found. IfSome found (EndsWith image.now listing.now (λ r. HasPlacedStates image.now (table_of r.table)))) }
+    ensures first { IfFound result (EndsWith image.now listing.now (IsFirstRefusal image.now listing.now)) }
+    ensures verdict { IfFound result (EndsWith image.now listing.now
+        (λ r. IsVerdict image.now listing.now (Err (Refused r.refusal.code r.refusal.place)))) }
+    ensures placed { IfFound result
+        (EndsWith image.now listing.now (λ r. HasPlacedStates image.now (table_of r.table))) }
     ensures none { IfOk result (λ found. found ≡ None → RefusesNothing image.now listing.now) }
 {
     let near = match near_refusal(alloc, image, listing, nest)? {
@@ -143,7 +145,8 @@ fn take(
     requires placed { HasPlacedStates image.now (table_of table.old) }
     ensures sized { length table.new ≡ length table.old }
     ensures placed { HasPlacedStates image.now (table_of table.new) }
-    ensures gives { Gives result (table_of table.new) (go_along image.now instruction edge (table_of table.old instruction.at) (table_of table.old)) }
+    ensures gives { Gives result (table_of table.new)
+        (go_along image.now instruction edge (table_of table.old instruction.at) (table_of table.old)) }
     ensures stays { OnErr result (table.new ≡ table.old) }
 {
     let Placed { at, instr, next } = instruction;

@@ -19,7 +19,8 @@ fn first_space(line: &[u8]) -> Option<usize>
 
 /// The first field and what stands behind its space; none where there is no space.
 pub(crate) fn split_field(line: &[u8]) -> Option<(&[u8], &[u8])>
-    ensures { MatchOption result (fields_of line.now ≡ line.now ∷ []) (λ p. fields_of line.now ≡ p.0.now ∷ fields_of p.1.now) }
+    ensures { MatchOption result (fields_of line.now ≡ line.now ∷ [])
+        (λ p. fields_of line.now ≡ p.0.now ∷ fields_of p.1.now) }
 {
     match first_space(line) {
         Some(at) => Some((&line[..at], &line[at + 1..])),

@@ -18,7 +18,8 @@ pub fn one_line_has_one_answer()
 
 /// What is served for an input is a function of the input, and of whether traces are told.
 pub fn one_input_has_one_answer()
-    ensures { (trace : Bool) (input told told' : List ℕ) → IsServed trace input told → IsServed trace input told' → told ≡ told' }
+    ensures { (trace : Bool) (input told told' : List ℕ) → IsServed trace input told → IsServed trace input told' →
+        told ≡ told' }
 {
     one_text_has_one_answer();
 }

@@ -51,7 +51,8 @@ fn answer<R: Threads + Wait + Sync, D: LinkDevice + Send>(
     told: &mut Vec<u8>,
 ) -> Result<(), ServeFault>
     requires { HasMembers service.old.links.items }
-    ensures told { AreFit D.state service.old.links.items → (number : ℕ) (line : List ℕ) → Keeps progress.now number line →
+    ensures told { AreFit D.state service.old.links.items → (number : ℕ) (line : List ℕ) →
+        Keeps progress.now number line →
         OnOk result (TellsAnswer number (asked_in record { bytes = line; ended = ended }) service.old service.new
         told.old.items told.new.items) }
     ensures stays { OnOk result (StaysOn D.state service.old service.new) }
@@ -111,7 +112,8 @@ fn end_line<R: Threads + Wait + Sync, D: LinkDevice + Send, W: Write>(
 ) -> Result<(), ServeFault>
     requires { HasMembers service.old.links.items }
     ensures ok { AtEachStand D.state progress.old service.old (W.contents writer.old) (λ trace begun s.
-        OnOk result (GoesOn D.state trace begun progress.new service.new (W.contents writer.new) (s.taken ++ 10 ∷ []))) }
+        OnOk result
+        (GoesOn D.state trace begun progress.new service.new (W.contents writer.new) (s.taken ++ 10 ∷ []))) }
     ensures err { AtEachStand D.state progress.old service.old (W.contents writer.old) (λ trace begun s.
         IfErr result (Fails trace s.taken (10 ∷ []) begun (W.contents writer.new))) }
     ensures members { OnOk result (AreAsMany service.old.links.items service.new.links.items) }
@@ -170,7 +172,8 @@ pub(crate) fn feed<R: Threads + Wait + Sync, D: LinkDevice + Send, W: Write>(
 ) -> Result<(), ServeFault>
     requires { HasMembers service.old.links.items }
     ensures ok { AtEachStand D.state progress.old service.old (W.contents writer.old) (λ trace begun s.
-        OnOk result (GoesOn D.state trace begun progress.new service.new (W.contents writer.new) (s.taken ++ bytes.now))) }
+        OnOk result
+        (GoesOn D.state trace begun progress.new service.new (W.contents writer.new) (s.taken ++ bytes.now))) }
     ensures err { AtEachStand D.state progress.old service.old (W.contents writer.old) (λ trace begun s.
         IfErr result (Fails trace s.taken bytes.now begun (W.contents writer.new))) }
     ensures members { OnOk result (AreAsMany service.old.links.items service.new.links.items) }

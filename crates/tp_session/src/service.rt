@@ -62,7 +62,8 @@ impl<D: LinkDevice + Send> Service<D> {
             slice_get (sessions_of self.old.sessions) index ≡ Some s →
             OnOk result (GoesOnWith (IsRun self.old.trace s) text.old.items text.new.items) }
         ensures forgotten { (s : Session) → slice_get (sessions_of self.old.sessions) index ≡ Some s →
-            OnOk result (sessions_of self.new.sessions ≡ slice_set (sessions_of self.old.sessions) index (without_packets s)) }
+            OnOk result
+            (sessions_of self.new.sessions ≡ slice_set (sessions_of self.old.sessions) index (without_packets s)) }
         ensures counted { OnOk result (self.new.batches ≡ batches_more 1 self.old.batches) }
         ensures stays { OnOk result (StaysOn D.state self.old self.new) }
         ensures want { IfErr result IsWant }
@@ -93,7 +94,8 @@ impl<D: LinkDevice + Send> Service<D> {
     ) -> Result<(), ServeFault>
         requires { HasMembers self.old.links.items }
         ensures told { AreFit D.state self.old.links.items →
-            OnOk result (TellsAnswer number (Some (ToRun name.now.items)) self.old self.new told.old.items told.new.items) }
+            OnOk result
+            (TellsAnswer number (Some (ToRun name.now.items)) self.old self.new told.old.items told.new.items) }
         ensures stays { OnOk result (StaysOn D.state self.old self.new) }
         ensures want { IfErr result IsWant }
     {
@@ -139,7 +141,8 @@ impl<D: LinkDevice + Send> Service<D> {
         requires members { HasMembers self.old.links.items }
         requires listed { IsListable (asked request) }
         ensures told { AreFit D.state self.old.links.items →
-            OnOk result (TellsAnswer number (Some (asked request.entry)) self.old self.new told.old.items told.new.items) }
+            OnOk result
+            (TellsAnswer number (Some (asked request.entry)) self.old self.new told.old.items told.new.items) }
         ensures stays { OnOk result (StaysOn D.state self.old self.new) }
         ensures want { IfErr result IsWant }
     {

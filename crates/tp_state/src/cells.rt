@@ -292,7 +292,8 @@ pub(crate) fn join_words(
     requires others { IsWhole other_values.now others.now }
     requires long { length (seen other_values.now others.now) ≡ length (seen values.now planes.old) }
     ensures whole { IsWhole values.now planes.new }
-    ensures value { seen values.now planes.new ≡ joined_cells (seen values.now planes.old) (seen other_values.now others.now) }
+    ensures value { seen values.now planes.new ≡
+        joined_cells (seen values.now planes.old) (seen other_values.now others.now) }
     ensures changed { TellsChange result (seen values.now planes.old) (seen values.now planes.new) }
 {
     if are_kept_alike(values, planes, other_values, others) {
@@ -315,7 +316,8 @@ pub(crate) fn join_agreeing_words(
     requires long { length (seen other_values.now others.now) ≡ length (seen values.now planes.old) }
     requires agree { AgreeOnValues (seen values.now planes.old) (seen other_values.now others.now) }
     ensures whole { IsWhole values.now planes.new }
-    ensures value { seen values.now planes.new ≡ joined_cells (seen values.now planes.old) (seen other_values.now others.now) }
+    ensures value { seen values.now planes.new ≡
+        joined_cells (seen values.now planes.old) (seen other_values.now others.now) }
     ensures changed { TellsChange result (seen values.now planes.old) (seen values.now planes.new) }
 {
     join_agreeing_planes(planes, others)
@@ -373,7 +375,8 @@ fn fill_words(values: &mut [u32], planes: &mut [Bits], x: usize, n: usize, cell:
 /// The values of n words, from a word on, are one value.
 fn fill_values(values: &mut [u32], x: usize, n: usize, value: u32)
     requires { x + n ≤ length values.old }
-    ensures { values.new ≡ take x values.old ++ (replicate n value ++ drop (x + length (replicate n value)) values.old) }
+    ensures { values.new ≡ take x values.old
+        ++ (replicate n value ++ drop (x + length (replicate n value)) values.old) }
 {
     values[x..x + n].fill(value);
 }
@@ -384,7 +387,8 @@ fn blur_words(values: &[u32], planes: &mut [Bits], x: usize, n: usize)
     requires { IsWhole values.now planes.old }
     ensures sized { length (seen values.now planes.new) ≡ length (seen values.now planes.old) }
     ensures whole { IsWhole values.now planes.new }
-    ensures value { seen values.now planes.new ≡ with_cells (seen values.now planes.old) x (map blurred (cells_from (seen values.now planes.old) x n)) }
+    ensures value { seen values.now planes.new ≡
+        with_cells (seen values.now planes.old) x (map blurred (cells_from (seen values.now planes.old) x n)) }
 {
     let (first, end) = part(values.len(), x, n);
     blur_all(planes, first, end);
@@ -399,7 +403,8 @@ fn copy_words(values: &mut [u32], planes: &mut [Bits], x: usize, y: usize, n: us
     requires apart { IsTrue (are_apart n x y) }
     ensures sized { length (seen values.new planes.new) ≡ length (seen values.old planes.old) }
     ensures whole { IsWhole values.new planes.new }
-    ensures value { seen values.new planes.new ≡ with_cells (seen values.old planes.old) x (map copied (cells_from (seen values.old planes.old) y n)) }
+    ensures value { seen values.new planes.new ≡
+        with_cells (seen values.old planes.old) x (map copied (cells_from (seen values.old planes.old) y n)) }
 {
     for i in 0..n {
         let cell = word_at(values, planes, y + i).copied();

@@ -3,8 +3,8 @@
 ghost use Rattle.std.specs.Prelude.{◌≡◌, ℕ, ◌+◌, ◌-◌, ◌*◌, ◌^◌, ◌<◌, ◌≤◌, ◌==◌, ◌&&◌, nat_le, nat_lt, length, List, true, false, slice_index_or, bit_or, bit_xor};
 ghost use Rattle.tp_state.specs.declared.cell.Cell.TheVariants.{Undef};
 ghost use Rattle.tp_state.specs.CellRules.{blurred, is_free, is_defined};
-ghost use Rattle.tp_state.specs.Planes.{is_set, live_of, cell_of, bits_cell, HasByteRow, with_mask, blurred_bits, live_bits, undefined_bits, joined_bits, failing_bits, no_bits, cell_in, IsWhole, ChangesPlanes, AreKnown, ArePadded, EachIs, OneIsNot, OneChanges, with_bits, Agree, Moves};
-ghost use Rattle.tp_state.specs.Order.{join_cells, cell_below};
+ghost use Rattle.tp_state.specs.Planes.{is_set, live_of, cell_of, bits_cell, HasByteRow, with_mask, blurred_bits, live_bits, undefined_bits, joined_bits, failing_bits, no_bits, cell_in, IsWhole, ChangesPlanes, TakesJoins, AreKnown, ArePadded, EachIs, OneIsNot, OneChanges, with_bits, Agree, Moves};
+ghost use Rattle.tp_state.specs.Order.{cell_below};
 
 use crate::cell::Cell;
 use crate::values::differing;
@@ -274,7 +274,8 @@ pub(crate) fn put_all(planes: &mut [Bits], x: usize, end: usize, kept: Kept)
     requires order { x ≤ end }
     requires room { end ≤ 64 * length planes.old }
     requires few { length planes.old < 2 ^ 32 }
-    ensures { (values : List ℕ) → ChangesPlanes values planes.old planes.new (with_bits kept.first kept.second values) x end }
+    ensures { (values : List ℕ) →
+        ChangesPlanes values planes.old planes.new (with_bits kept.first kept.second values) x end }
 {
     for w in x / WORDS..(end + WORDS - 1) / WORDS {
         planes[w] = planes[w].put(within(w, x, end), kept);
@@ -284,7 +285,8 @@ pub(crate) fn put_all(planes: &mut [Bits], x: usize, end: usize, kept: Kept)
 /// One word takes a cell's bits.
 pub(crate) fn put_one(planes: &mut [Bits], x: usize, kept: Kept)
     requires room { x < 64 * length planes.old }
-    ensures { (values : List ℕ) → ChangesPlanes values planes.old planes.new (with_bits kept.first kept.second values) x (x + 1) }
+    ensures { (values : List ℕ) →
+        ChangesPlanes values planes.old planes.new (with_bits kept.first kept.second values) x (x + 1) }
 {
     planes[x / WORDS] = planes[x / WORDS].put(one(x % WORDS), kept);
 }
@@ -351,7 +353,7 @@ pub(crate) fn join_planes(
     requires planes { length others.now ≡ length planes.old }
     requires values { length other_values.now ≡ length values.now }
     requires whole { IsWhole values.now planes.old }
-    ensures joined { ChangesPlanes values.now planes.old planes.new (λ i c. join_cells c (cell_in other_values.now others.now i)) 0 (64 * length planes.old) }
+    ensures joined { TakesJoins values.now other_values.now planes.old others.now planes.new }
     ensures stays { result ≡ false → planes.new ≡ planes.old }
     ensures moves { result ≡ true → OneChanges values.now planes.old planes.new }
 {
@@ -367,9 +369,11 @@ pub(crate) fn join_planes(
 /// answers whether anything changed.
 pub(crate) fn join_agreeing_planes(planes: &mut [Bits], others: &[Bits]) -> bool
     requires { length others.now ≡ length planes.old }
-    ensures joined { (values other_values : List ℕ) → Agree values other_values planes.old others.now → ChangesPlanes values planes.old planes.new (λ i c. join_cells c (cell_in other_values others.now i)) 0 (64 * length planes.old) }
+    ensures joined { (values other_values : List ℕ) → Agree values other_values planes.old others.now →
+        TakesJoins values other_values planes.old others.now planes.new }
     ensures stays { result ≡ false → planes.new ≡ planes.old }
-    ensures moves { result ≡ true → (values other_values : List ℕ) → Agree values other_values planes.old others.now → OneChanges values planes.old planes.new }
+    ensures moves { result ≡ true → (values other_values : List ℕ) → Agree values other_values planes.old others.now →
+        OneChanges values planes.old planes.new }
 {
     let mut moved = 0;
     for w in 0..planes.len() {
@@ -388,8 +392,10 @@ pub(crate) fn planes_below(
     requires planes { length others.now ≡ length planes.now }
     requires values { length other_values.now ≡ length values.now }
     requires whole { IsWhole other_values.now others.now }
-    ensures yes { result ≡ true → (i : ℕ) → i < 64 * length planes.now → cell_below (cell_in values.now planes.now i) (cell_in other_values.now others.now i) ≡ true }
-    ensures no { result ≡ false → (i : ℕ) × (i < 64 * length planes.now) × (cell_below (cell_in values.now planes.now i) (cell_in other_values.now others.now i) ≡ false) }
+    ensures yes { result ≡ true → (i : ℕ) → i < 64 * length planes.now →
+        cell_below (cell_in values.now planes.now i) (cell_in other_values.now others.now i) ≡ true }
+    ensures no { result ≡ false → (i : ℕ) × (i < 64 * length planes.now)
+        × (cell_below (cell_in values.now planes.now i) (cell_in other_values.now others.now i) ≡ false) }
 {
     for w in 0..planes.len() {
         let differ = differing(values, other_values, w, planes[w].closed(others[w]));

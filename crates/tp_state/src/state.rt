@@ -159,7 +159,11 @@ impl State {
 
     /// What holds of both, of registers alone. It answers whether any changed.
     fn join_registers(&mut self, other: &State) -> bool
-        ensures value { self.new ≡ record self.old { a = join_kinds self.old.a other.now.a; b = join_kinds self.old.b other.now.b; c = join_kinds self.old.c other.now.c } }
+        ensures value { self.new ≡ record self.old {
+          a = join_kinds self.old.a other.now.a;
+          b = join_kinds self.old.b other.now.b;
+          c = join_kinds self.old.c other.now.c;
+        } }
         ensures changed { TellsChange result self.old self.new }
     {
         let a = join_kind(&mut self.a, other.a);

@@ -114,7 +114,8 @@ impl States {
     pub fn join(&mut self, number: usize, other: &State) -> Result<bool, StateCode>
         requires inside { number < length self.old }
         requires sized { (s : AState) → slice_get self.old number ≡ Some s → length other.now.cells ≡ length s.cells }
-        ensures value { (s : AState) → slice_get self.old number ≡ Some s → IsMetAt result s other.now number self.old self.new }
+        ensures value { (s : AState) → slice_get self.old number ≡ Some s →
+            IsMetAt result s other.now number self.old self.new }
         ensures kept { OnErr result (self.new ≡ self.old) }
     {
         let stored = &mut self.stored[number];
@@ -125,8 +126,10 @@ impl States {
     /// What holds of both, as [`State::join_agreeing`] has it: the state of a number takes it.
     pub fn join_agreeing(&mut self, number: usize, other: &State) -> bool
         requires inside { number < length self.old }
-        requires below { (s : AState) → slice_get self.old number ≡ Some s → (t : AState) × IsBelow t s × IsBelow t other.now }
-        ensures value { (s : AState) → slice_get self.old number ≡ Some s → self.new ≡ slice_set self.old number (join s other.now) }
+        requires below { (s : AState) → slice_get self.old number ≡ Some s → (t : AState) × IsBelow t s
+            × IsBelow t other.now }
+        ensures value { (s : AState) → slice_get self.old number ≡ Some s →
+            self.new ≡ slice_set self.old number (join s other.now) }
         ensures changed { (s : AState) → slice_get self.old number ≡ Some s → TellsChange result s (join s other.now) }
     {
         let stored = &mut self.stored[number];

@@ -30,8 +30,10 @@ impl Stored {
     pub(crate) fn join(&mut self, values: &[u32], other: &State) -> Result<bool, StateCode>
         requires whole { IsWhole values.now self.old.planes.items }
         requires sized { length other.now.cells ≡ length values.now }
-        ensures value { answered result (state_with values.now self.new) ≡ meeting (state_with values.now self.old) other.now }
-        ensures changed { IfOk result (λ changed. TellsChange changed (state_with values.now self.old) (state_with values.now self.new)) }
+        ensures value { answered result (state_with values.now self.new) ≡
+            meeting (state_with values.now self.old) other.now }
+        ensures changed { IfOk result
+            (λ changed. TellsChange changed (state_with values.now self.old) (state_with values.now self.new)) }
         ensures whole { IsWhole values.now self.new.planes.items }
         ensures row { self.new.row ≡ self.old.row }
         ensures kept { OnErr result (self.new ≡ self.old) }
@@ -75,7 +77,11 @@ impl Stored {
 
     /// What holds of both, of registers alone. It answers whether any changed.
     fn join_registers(&mut self, other: &State) -> bool
-        ensures value { self.new ≡ record self.old { a = join_kinds self.old.a other.now.a; b = join_kinds self.old.b other.now.b; c = join_kinds self.old.c other.now.c } }
+        ensures value { self.new ≡ record self.old {
+          a = join_kinds self.old.a other.now.a;
+          b = join_kinds self.old.b other.now.b;
+          c = join_kinds self.old.c other.now.c;
+        } }
         ensures changed { TellsChange result self.old self.new }
     {
         let a = join_kind(&mut self.a, other.a);

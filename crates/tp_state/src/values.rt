@@ -26,7 +26,8 @@ pub(crate) fn are_same(values: &[u32], others: &[u32]) -> bool
 fn word_differs(values: &[u32], others: &[u32]) -> bool
     requires values { 64 ≤ length values.now }
     requires others { 64 ≤ length others.now }
-    ensures yes { result ≡ true → (j : ℕ) × (j < 64) × ¬ (slice_index_or values.now j 0 ≡ slice_index_or others.now j 0) }
+    ensures yes { result ≡ true → (j : ℕ) × (j < 64)
+        × ¬ (slice_index_or values.now j 0 ≡ slice_index_or others.now j 0) }
     ensures no { result ≡ false → (j : ℕ) → j < 64 → slice_index_or values.now j 0 ≡ slice_index_or others.now j 0 }
 {
     differing_word(values, others) != 0
@@ -36,7 +37,8 @@ fn word_differs(values: &[u32], others: &[u32]) -> bool
 pub(crate) fn differing(values: &[u32], others: &[u32], w: usize, closed: u64) -> u64
     requires same { length others.now ≡ length values.now }
     requires some { 64 * w < length values.now }
-    ensures { (j : ℕ) → j < 64 → 64 * w + j < length values.now → is_set closed j ≡ false → is_set result j ≡ differ_at values.now others.now (64 * w + j) }
+    ensures { (j : ℕ) → j < 64 → 64 * w + j < length values.now → is_set closed j ≡ false →
+        is_set result j ≡ differ_at values.now others.now (64 * w + j) }
 {
     if closed == u64::MAX {
         return 0;

@@ -26,7 +26,12 @@ pub struct Stepper {
 impl Stepper {
     /// The start of a packet's run.
     pub fn new(image: Image) -> Stepper
-        ensures starts { (packet : List ℕ) → state_of result.machine record { phase = result.phase; to_come = packet; sent = []; traced = [] } ≡ start image packet }
+        ensures starts { (packet : List ℕ) → state_of result.machine record {
+          phase = result.phase;
+          to_come = packet;
+          sent = [];
+          traced = [];
+        } ≡ start image packet }
         ensures phase { result.phase ≡ BeforePacket }
         ensures image { result.image ≡ image }
     {
@@ -43,7 +48,8 @@ impl Stepper {
     ///
     /// Where there is no step, or a device refuses its call, the run has ended, and the machine is left between two states.
     pub fn next<D: LinkDevice>(&mut self, links: &mut Links<D>) -> Option<Turn>
-        ensures comes { Came self.old.image (state_of self.old.machine) (state_of self.new.machine) self.old.phase self.new.phase
+        ensures comes { Came self.old.image (state_of self.old.machine)
+            (state_of self.new.machine) self.old.phase self.new.phase
             (devices_of D.state links.old)
             (devices_of D.state links.new) result }
         ensures image { self.new.image ≡ self.old.image }
@@ -78,8 +84,15 @@ impl Stepper {
 
     /// The registers.
     pub fn registers(&self) -> Registers
-        ensures { result ≡ record
-            { iptr = self.now.machine.iptr; oreg = self.now.machine.oreg; wptr = self.now.machine.wptr; areg = self.now.machine.areg; breg = self.now.machine.breg; creg = self.now.machine.creg; error = self.now.machine.error } }
+        ensures { result ≡ record {
+          iptr = self.now.machine.iptr;
+          oreg = self.now.machine.oreg;
+          wptr = self.now.machine.wptr;
+          areg = self.now.machine.areg;
+          breg = self.now.machine.breg;
+          creg = self.now.machine.creg;
+          error = self.now.machine.error;
+        } }
     {
         self.machine.registers()
     }

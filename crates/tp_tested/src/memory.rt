@@ -105,7 +105,8 @@ impl Machine {
     pub(crate) fn lose_below(&mut self)
         requires low { mem_start + 20 ≤ self.old.wptr }
         requires high { self.old.wptr ≤ mem_start + 2048 }
-        ensures rest { self.new ≡ record self.old { areg = None; breg = None; creg = None; defined = self.new.defined } }
+        ensures rest { self.new ≡
+            record self.old { areg = None; breg = None; creg = None; defined = self.new.defined } }
         ensures memory { memory_in self.new ≡ undefined (memory_in self.old) (self.old.wptr - 20) 20 }
     {
         self.undefine(self.wptr - 20, 20);
@@ -116,7 +117,12 @@ impl Machine {
     #[tactic(auto, unfolding(tp_step::specs::State::descheduled))]
     pub(crate) fn deschedule(&mut self, image: &Image) -> bool
         ensures made { Made (descheduled image.now) (state_of self.old) (state_of self.new) result }
-        ensures rest { self.new ≡ record self.old { areg = self.new.areg; breg = self.new.breg; creg = self.new.creg; defined = self.new.defined } }
+        ensures rest { self.new ≡ record self.old {
+          areg = self.new.areg;
+          breg = self.new.breg;
+          creg = self.new.creg;
+          defined = self.new.defined;
+        } }
     {
         if self.may_deschedule(image) {
             self.lose_below();

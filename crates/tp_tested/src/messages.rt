@@ -89,7 +89,8 @@ impl Machine {
     pub(crate) fn is_defined(&self, a: u32, n: u32) -> bool
         requires low { mem_start ≤ a }
         requires high { a + n ≤ mem_start + 2048 }
-        ensures { bytes_at (memory_in self.now) a n ≡ (if result then Some (take n (drop (a - mem_start) self.now.bytes)) else None) }
+        ensures { bytes_at (memory_in self.now) a n ≡
+            (if result then Some (take n (drop (a - mem_start) self.now.bytes)) else None) }
     {
         let i = (a - MEM_START) as usize;
         let tags = &self.defined[i..i + n as usize];
@@ -146,7 +147,8 @@ impl Machine {
         requires source_low { mem_start ≤ source }
         requires source_high { source + n ≤ mem_start + 2048 }
         ensures rest { self.new ≡ record self.old { bytes = self.new.bytes; defined = self.new.defined } }
-        ensures memory { memory_in self.new ≡ with_bytes (memory_in self.old) target (take n (drop (source - mem_start) self.old.bytes)) }
+        ensures memory { memory_in self.new ≡
+            with_bytes (memory_in self.old) target (take n (drop (source - mem_start) self.old.bytes)) }
     {
         let from = (source - MEM_START) as usize;
         let to = (target - MEM_START) as usize;

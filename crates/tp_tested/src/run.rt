@@ -52,7 +52,8 @@ impl Machine {
         phase: &mut Phase,
         limit: u32,
     ) -> Result<Outcome, RunFault>
-        ensures { Resumed image.now (state_of self.old (nothing_sent image.now phase.old (D.state links.old.source))) limit
+        ensures { Resumed image.now
+            (state_of self.old (nothing_sent image.now phase.old (D.state links.old.source))) limit
             (devices_of D.state links.old)
             (devices_of D.state links.new)
             self.new phase.new result }

@@ -56,7 +56,8 @@ impl Machine {
     /// The workspace begins with the image's initial words, and then zeros. Whatever it held is gone.
     fn fill_workspace(&mut self, image: &Image)
         ensures rest { self.new ≡ record self.old { bytes = self.new.bytes; defined = self.new.defined } }
-        ensures memory { memory_in self.new ≡ with_bytes nothing_defined mem_start (flat_map (to_le_bytes w32) (first_words image.now)) }
+        ensures memory { memory_in self.new ≡
+            with_bytes nothing_defined mem_start (flat_map (to_le_bytes w32) (first_words image.now)) }
     {
         self.clear();
         for i in 0..image.workspace {
@@ -67,7 +68,12 @@ impl Machine {
     /// The start of a packet's run, whatever ran before: with it goes [`Phase::BeforePacket`](crate::Phase::BeforePacket).
     #[tactic(auto, unfolding(tp_step::specs::Runs::start))]
     pub fn start(&mut self, image: &Image)
-        ensures { (packet : List ℕ) → state_of self.new record { phase = BeforePacket; to_come = packet; sent = []; traced = [] } ≡ start image.now packet }
+        ensures { (packet : List ℕ) → state_of self.new record {
+          phase = BeforePacket;
+          to_come = packet;
+          sent = [];
+          traced = [];
+        } ≡ start image.now packet }
     {
         self.fill_workspace(image);
         self.iptr = 0;

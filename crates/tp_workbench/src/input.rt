@@ -52,7 +52,8 @@ fn is_line_end(byte: u8) -> bool
 /// The digits of a text that begins behind `leading` bytes and has line ends beside its digits; or its first other byte.
 fn digits_of(alloc: Global, inner: &[u8], leading: usize) -> Result<Vec<u8>, TextFault>
     requires { leading + length inner.now < 2 ^ 63 }
-    ensures digits { IfOk result (λ digits. (prefix_len may_stand inner.now ≡ length inner.now) × (digits.items ≡ filter is_ascii_hexdigit inner.now)) }
+    ensures digits { IfOk result (λ digits. (prefix_len may_stand inner.now ≡ length inner.now)
+        × (digits.items ≡ filter is_ascii_hexdigit inner.now)) }
     ensures fault { IfErr result (λ e. (e ≡ Memory) ⊎ ((prefix_len may_stand inner.now < length inner.now)
         × (e ≡ NotADigit (leading + prefix_len may_stand inner.now + 1)))) }
 {

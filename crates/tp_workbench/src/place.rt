@@ -11,7 +11,8 @@ use tp_stepper::Place;
 fn number_of(digits: &str, radix: u32) -> Option<u64>
     requires least { 2 ≤ radix }
     requires most { radix ≤ 16 }
-    ensures { MatchOption result ((number : ℕ) → number < 2 ^ 64 → Writes radix digits.now number → ⊥) (λ number. Writes radix digits.now number) }
+    ensures { MatchOption result ((number : ℕ) → number < 2 ^ 64 → Writes radix digits.now number → ⊥)
+        (λ number. Writes radix digits.now number) }
 {
     if digits.starts_with('+') {
         return None;

@@ -6,7 +6,7 @@ use Rattle.tp_image.specs.declared.image.Version.TheVariants.{One}
 use Rattle.tp_image.specs.Image.{ImageValue}
 use Rattle.tp_flow.specs.declared.edge.Edge.TheVariants.{Next}
 use Rattle.tp_state.specs.declared.kind.Kind.{Kind}
-use Rattle.tp_state.specs.declared.kind.Kind.TheVariants.{Int}
+use Rattle.tp_state.specs.declared.kind.Kind.TheVariants.{Undef, Int}
 use Rattle.tp_state.specs.declared.cell.Cell.{Cell}
 use Rattle.tp_state.specs.declared.cell.Cell.TheVariants as cell
 use Rattle.tp_state.specs.declared.state.State.{State}
@@ -27,6 +27,16 @@ one n = ints n n
 -- any number
 abbrev pub any : Kind
 any = Int (negsuc (2 ^ 31 - 1)) (pos (2 ^ 31 - 1))
+
+-- the channels of link 0's input, on which the packet comes, of link 0's output, for the result, and of link 1's, for traces
+abbrev pub packet_channel : Kind
+packet_channel = Int (minus 2147483632) (minus 2147483632)
+
+abbrev pub result_channel : Kind
+result_channel = Int (minus 2147483648) (minus 2147483648)
+
+abbrev pub trace_channel : Kind
+trace_channel = Int (minus 2147483644) (minus 2147483644)
 
 -- An image of 12 words. Loop 0 goes from 10 to 40, with its block in words 8 and 9: 3 turns from 5 on. Loop 1 lies within
 -- it, from 20 to 30, with its block in words 10 and 11: 2 turns from 1 on.
@@ -71,6 +81,10 @@ regs a b c = record { wptr = 7; a = a; b = b; c = c; phase = 0; cells = words }
 -- and with these words
 abbrev pub regs_words : Kind → Kind → Kind → List Cell → State
 regs_words a b c cells = record { wptr = 7; a = a; b = b; c = c; phase = 0; cells = cells }
+
+-- and after a place to deschedule: no registers, this phase, and such words, but for these
+abbrev pub descheduled : (phase : ℕ) → List Cell → State
+descheduled phase those = record (regs_words Undef Undef Undef (words_after_with those)) { phase = phase }
 
 -- what is known after an instruction at address 12 on its way to the next one
 abbrev pub next_of : Instr → State → Result State StateCode

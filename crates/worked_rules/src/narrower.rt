@@ -13,17 +13,23 @@ ghost use Rattle.worked_rules.specs.Samples.{minus, ints, one, any, image, image
 /// j with just five words below Wptr; and the jump of cj, where Areg may not be 0 by what is known.
 #[tactic(auto, unfolding(crate::proofs::Computing::by_computing))]
 pub fn jumps_in_narrow_places_computed()
-    ensures least_frame { is_ok (after image 12 14 (Jump (pos 1)) Taken (record (regs (one 1) (one 2) (one 3)) { wptr = 5 })) ≡ true }
-    ensures not_zero { after image 12 14 (Cj (pos 1)) Taken (regs (ints 3 5) (one 2) (one 3)) ≡ Ok (regs (one 0) (one 2) (one 3)) }
+    ensures least_frame { is_ok
+        (after image 12 14 (Jump (pos 1)) Taken (record (regs (one 1) (one 2) (one 3)) { wptr = 5 })) ≡ true }
+    ensures not_zero { after image 12 14 (Cj (pos 1)) Taken (regs (ints 3 5) (one 2) (one 3)) ≡
+        Ok (regs (one 0) (one 2) (one 3)) }
 {}
 
 /// Numbers below 0, and ranges across it.
 #[tactic(auto, unfolding(crate::proofs::Computing::by_computing))]
 pub fn negatives_computed()
-    ensures products { (next_of Mul (regs (Int (minus 3) (minus 2)) (Int (minus 5) (minus 4)) (one 9)) ≡ Ok (regs (ints 8 15) (one 9) Undef))
-        × (next_of Prod (regs (Int (minus 3) (minus 2)) (Int (minus 5) (minus 4)) (one 9)) ≡ Ok (regs (ints 8 15) (one 9) Undef)) }
-    ensures complement { next_of BitNot (regs (Int (minus 6) (minus 1)) (one 7) Undef) ≡ Ok (regs (ints 0 5) (one 7) Undef) }
-    ensures subscript { next_of Csub0 (regs (Int (minus 1) (pos 1)) (Int (minus 3) (pos 4)) (one 9)) ≡ Ok (regs (Int (minus 3) (pos 4)) (one 9) Undef) }
+    ensures products { (next_of Mul (regs (Int (minus 3) (minus 2)) (Int (minus 5) (minus 4)) (one 9)) ≡
+        Ok (regs (ints 8 15) (one 9) Undef))
+        × (next_of Prod (regs (Int (minus 3) (minus 2)) (Int (minus 5) (minus 4)) (one 9)) ≡
+        Ok (regs (ints 8 15) (one 9) Undef)) }
+    ensures complement { next_of BitNot (regs (Int (minus 6) (minus 1)) (one 7) Undef) ≡
+        Ok (regs (ints 0 5) (one 7) Undef) }
+    ensures subscript { next_of Csub0 (regs (Int (minus 1) (pos 1)) (Int (minus 3) (pos 4)) (one 9)) ≡
+        Ok (regs (Int (minus 3) (pos 4)) (one 9) Undef) }
 {}
 
 /// or and xor of single numbers give any; seterr changes nothing, after the result too.
@@ -31,13 +37,16 @@ pub fn negatives_computed()
 pub fn known_operands_computed()
     ensures bit_or { next_of BitOr (regs (one 0) (one 0) (one 9)) ≡ Ok (regs any (one 9) Undef) }
     ensures bit_xor { next_of BitXor (regs (one 0) (one 0) (one 9)) ≡ Ok (regs any (one 9) Undef) }
-    ensures seterr { next_of Seterr (record (regs (one 1) (one 2) (one 3)) { phase = 2 }) ≡ Ok (record (regs (one 1) (one 2) (one 3)) { phase = 2 }) }
+    ensures seterr { next_of Seterr (record (regs (one 1) (one 2) (one 3)) { phase = 2 }) ≡
+        Ok (record (regs (one 1) (one 2) (one 3)) { phase = 2 }) }
 {}
 
 /// A byte pointer may be stored, as any word; and a move whose ranges overlap is refused for that, whatever its source holds.
 #[tactic(auto, unfolding(crate::proofs::Computing::by_computing))]
 pub fn stored_pointers_and_overlaps_computed()
-    ensures stl { next_of (Stl (pos 3)) (regs (BytePtr 1 1) Undef Undef) ≡ Ok (regs_words Undef Undef Undef (words_with (cell.Known (pos 9) ∷ cell.Index 0 ∷ cell.Count 0 ∷ cell.Any ∷ cell.Any ∷ []))) }
-    ensures stnl { next_of (Stnl (pos 3)) (regs (Ptr 7 7) (BytePtr 1 1) (one 1)) ≡ Ok (regs_words (one 1) Undef Undef (words_with (cell.Known (pos 9) ∷ cell.Index 0 ∷ cell.Count 0 ∷ cell.Any ∷ cell.Any ∷ []))) }
+    ensures stl { next_of (Stl (pos 3)) (regs (BytePtr 1 1) Undef Undef) ≡ Ok (regs_words Undef Undef Undef
+        (words_with (cell.Known (pos 9) ∷ cell.Index 0 ∷ cell.Count 0 ∷ cell.Any ∷ cell.Any ∷ []))) }
+    ensures stnl { next_of (Stnl (pos 3)) (regs (Ptr 7 7) (BytePtr 1 1) (one 1)) ≡ Ok (regs_words (one 1) Undef Undef
+        (words_with (cell.Known (pos 9) ∷ cell.Index 0 ∷ cell.Count 0 ∷ cell.Any ∷ cell.Any ∷ []))) }
     ensures overlap { after (image_of Two 1 1) 12 14 MoveBytes Next (regs (one 8) (Ptr 10 10) (Ptr 10 10)) ≡ Err S3 }
 {}

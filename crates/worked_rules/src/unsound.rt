@@ -17,10 +17,12 @@ pub fn states_have_to_be_sound()
     ensures ends { BreaksTheOrder BitAnd (regs (ints 0 (2 ^ 40)) (ints 0 (2 ^ 40)) Undef)
         (regs (Int (minus 1) (pos (2 ^ 40))) (Int (minus 1) (pos (2 ^ 40))) Undef) }
     // a known number of 2^40 is read as such, where any number is read as any word
-    ensures known { BreaksTheOrder (Ldl (minus 7)) (regs_words Undef Undef Undef (cell.Known (pos (2 ^ 40)) ∷ replicate 11 cell.Any))
+    ensures known { BreaksTheOrder (Ldl (minus 7))
+        (regs_words Undef Undef Undef (cell.Known (pos (2 ^ 40)) ∷ replicate 11 cell.Any))
         (regs_words Undef Undef Undef (replicate 12 cell.Any)) }
     // an index of no loop cannot be read, where one of two words is any word
-    ensures rows { BreaksTheOrder (Ldnl (pos 0)) (regs_words (Ptr 0 0) Undef Undef (cell.Index 7 ∷ replicate 11 cell.Any))
+    ensures rows { BreaksTheOrder (Ldnl (pos 0))
+        (regs_words (Ptr 0 0) Undef Undef (cell.Index 7 ∷ replicate 11 cell.Any))
         (regs_words (Ptr 0 1) Undef Undef (cell.Index 7 ∷ replicate 11 cell.Any)) }
     // a word that is missing cannot be read, where one of words of which some are missing is any word
     ensures placed { BreaksTheOrder (Ldnl (pos 0)) (regs_words (Ptr 4 4) Undef Undef (replicate 2 cell.Any))

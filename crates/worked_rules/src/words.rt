@@ -38,17 +38,24 @@ pub fn loads_computed()
 /// stl and stnl.
 #[tactic(auto, unfolding(crate::proofs::Computing::by_computing))]
 pub fn stores_computed()
-    ensures stl { (next_of (Stl (pos 0)) (regs (one 3) (one 2) (one 1)) ≡ Ok (regs_words (one 2) (one 1) Undef (words_with (cell.Known (pos 3) ∷ cell.Index 0 ∷ cell.Count 0 ∷ cell.Undef ∷ cell.Any ∷ []))))
-        × (next_of (Stl (pos 3)) (regs (ints 1 2) Undef Undef) ≡ Ok (regs_words Undef Undef Undef (words_with (cell.Known (pos 9) ∷ cell.Index 0 ∷ cell.Count 0 ∷ cell.Any ∷ cell.Any ∷ []))))
-        × (next_of (Stl (pos 3)) (regs (Ptr 1 1) Undef Undef) ≡ Ok (regs_words Undef Undef Undef (words_with (cell.Known (pos 9) ∷ cell.Index 0 ∷ cell.Count 0 ∷ cell.Any ∷ cell.Any ∷ [])))) }
+    ensures stl { (next_of (Stl (pos 0)) (regs (one 3) (one 2) (one 1)) ≡ Ok (regs_words (one 2) (one 1) Undef
+        (words_with (cell.Known (pos 3) ∷ cell.Index 0 ∷ cell.Count 0 ∷ cell.Undef ∷ cell.Any ∷ []))))
+        × (next_of (Stl (pos 3)) (regs (ints 1 2) Undef Undef) ≡ Ok (regs_words Undef Undef Undef
+        (words_with (cell.Known (pos 9) ∷ cell.Index 0 ∷ cell.Count 0 ∷ cell.Any ∷ cell.Any ∷ []))))
+        × (next_of (Stl (pos 3)) (regs (Ptr 1 1) Undef Undef) ≡ Ok (regs_words Undef Undef Undef
+        (words_with (cell.Known (pos 9) ∷ cell.Index 0 ∷ cell.Count 0 ∷ cell.Any ∷ cell.Any ∷ [])))) }
     ensures stl_refused { (next_of (Stl (pos 9)) (regs Undef Undef Undef) ≡ Err S1)
         × (next_of (Stl (pos 5)) (regs (one 1) Undef Undef) ≡ Err S3)
         × (next_of (Stl (minus 2147483648)) (regs (one 1) Undef Undef) ≡ Err S3)
         × (next_of (Stl (pos 1)) (regs (one 5) Undef Undef) ≡ Err S5)
         × (next_of (Stl (pos 2)) (regs (one 3) Undef Undef) ≡ Err S5) }
-    ensures stnl { (next_of (Stnl (pos 0)) (regs (Ptr 7 7) (one 4) (one 1)) ≡ Ok (regs_words (one 1) Undef Undef (words_with (cell.Known (pos 4) ∷ cell.Index 0 ∷ cell.Count 0 ∷ cell.Undef ∷ cell.Any ∷ []))))
-        × (next_of (Stnl (pos 3)) (regs (Ptr 7 8) (one 4) Undef) ≡ Ok (regs_words Undef Undef Undef (words_with (cell.Known (pos 9) ∷ cell.Index 0 ∷ cell.Count 0 ∷ cell.Undef ∷ cell.Any ∷ []))))
-        × (next_of (Stnl (pos 0)) (regs (Ptr 0 2) (one 4) (one 1)) ≡ Ok (regs_words (one 1) Undef Undef (cell.Any ∷ cell.Any ∷ cell.Any ∷ replicate 4 (cell.Known (pos 0)) ++ (cell.Known (pos 9) ∷ cell.Index 0 ∷ cell.Count 0 ∷ cell.Undef ∷ cell.Any ∷ [])))) }
+    ensures stnl { (next_of (Stnl (pos 0)) (regs (Ptr 7 7) (one 4) (one 1)) ≡ Ok (regs_words (one 1) Undef Undef
+        (words_with (cell.Known (pos 4) ∷ cell.Index 0 ∷ cell.Count 0 ∷ cell.Undef ∷ cell.Any ∷ []))))
+        × (next_of (Stnl (pos 3)) (regs (Ptr 7 8) (one 4) Undef) ≡ Ok (regs_words Undef Undef Undef
+        (words_with (cell.Known (pos 9) ∷ cell.Index 0 ∷ cell.Count 0 ∷ cell.Undef ∷ cell.Any ∷ []))))
+        × (next_of (Stnl (pos 0)) (regs (Ptr 0 2) (one 4) (one 1)) ≡
+        Ok (regs_words (one 1) Undef Undef (cell.Any ∷ cell.Any ∷ cell.Any ∷ replicate 4 (cell.Known (pos 0))
+        ++ (cell.Known (pos 9) ∷ cell.Index 0 ∷ cell.Count 0 ∷ cell.Undef ∷ cell.Any ∷ [])))) }
     ensures stnl_refused { (next_of (Stnl (pos 0)) (regs (one 1) Undef Undef) ≡ Err S1)
         × (next_of (Stnl (pos 0)) (regs Undef (one 1) Undef) ≡ Err S1)
         × (next_of (Stnl (pos 0)) (regs (one 1) (one 1) Undef) ≡ Err S2)
@@ -66,9 +73,12 @@ pub fn bytes_computed()
         × (next_of Lb (regs (one 1) Undef Undef) ≡ Err S2)
         × (next_of Lb (regs (BytePtr 39 40) Undef Undef) ≡ Err S4)
         × (next_of Lb (regs (Ptr 10 10) Undef Undef) ≡ Err S4) }
-    ensures sb { (next_of Sb (regs (BytePtr 28 31) (one 1) (one 2)) ≡ Ok (regs_words (one 2) Undef Undef (words_with (cell.Any ∷ cell.Index 0 ∷ cell.Count 0 ∷ cell.Undef ∷ cell.Any ∷ []))))
-        × (next_of Sb (regs (BytePtr 43 44) (one 1) Undef) ≡ Ok (regs_words Undef Undef Undef (words_with (cell.Known (pos 9) ∷ cell.Index 0 ∷ cell.Count 0 ∷ cell.Undef ∷ cell.Any ∷ []))))
-        × (next_of Sb (regs (Ptr 7 7) any (Ptr 3 3)) ≡ Ok (regs_words (Ptr 3 3) Undef Undef (words_with (cell.Any ∷ cell.Index 0 ∷ cell.Count 0 ∷ cell.Undef ∷ cell.Any ∷ [])))) }
+    ensures sb { (next_of Sb (regs (BytePtr 28 31) (one 1) (one 2)) ≡ Ok (regs_words (one 2) Undef Undef
+        (words_with (cell.Any ∷ cell.Index 0 ∷ cell.Count 0 ∷ cell.Undef ∷ cell.Any ∷ []))))
+        × (next_of Sb (regs (BytePtr 43 44) (one 1) Undef) ≡ Ok (regs_words Undef Undef Undef
+        (words_with (cell.Known (pos 9) ∷ cell.Index 0 ∷ cell.Count 0 ∷ cell.Undef ∷ cell.Any ∷ []))))
+        × (next_of Sb (regs (Ptr 7 7) any (Ptr 3 3)) ≡ Ok (regs_words (Ptr 3 3) Undef Undef
+        (words_with (cell.Any ∷ cell.Index 0 ∷ cell.Count 0 ∷ cell.Undef ∷ cell.Any ∷ [])))) }
     ensures sb_refused { (next_of Sb (regs Undef (one 1) Undef) ≡ Err S1)
         × (next_of Sb (regs (one 1) Undef Undef) ≡ Err S1)
         × (next_of Sb (regs (Ptr 1 1) (Ptr 1 1) Undef) ≡ Err S2)
@@ -80,8 +90,13 @@ pub fn bytes_computed()
 /// move.
 #[tactic(auto, unfolding(crate::proofs::Computing::by_computing))]
 pub fn copies_computed()
-    ensures copied { (after (image_of Two 1 1) 12 14 MoveBytes Next (regs (one 8) (Ptr 3 3) (Ptr 7 7)) ≡ Ok (regs_words Undef Undef Undef (cell.Known (pos 0) ∷ cell.Known (minus 1) ∷ cell.Any ∷ cell.Known (pos 9) ∷ cell.Any ∷ cell.Known (pos 0) ∷ cell.Known (pos 0) ∷ cell.Known (pos 9) ∷ cell.Index 0 ∷ cell.Count 0 ∷ cell.Undef ∷ cell.Any ∷ [])))
-        × (after (image_of Two 1 1) 12 14 MoveBytes Next (regs (one 4) (Ptr 11 11) (Ptr 1 1)) ≡ Ok (regs_words Undef Undef Undef (words_with (cell.Known (pos 9) ∷ cell.Index 0 ∷ cell.Count 0 ∷ cell.Undef ∷ cell.Known (minus 1) ∷ [])))) }
+    ensures copied { (after (image_of Two 1 1) 12 14 MoveBytes Next (regs (one 8) (Ptr 3 3) (Ptr 7 7)) ≡
+        Ok (regs_words Undef Undef Undef
+        (cell.Known (pos 0) ∷ cell.Known (minus 1) ∷ cell.Any ∷ cell.Known (pos 9) ∷ cell.Any ∷ cell.Known
+        (pos 0) ∷ cell.Known (pos 0) ∷ cell.Known (pos 9) ∷ cell.Index 0 ∷ cell.Count 0 ∷ cell.Undef ∷ cell.Any ∷ [])))
+        × (after (image_of Two 1 1) 12 14 MoveBytes Next (regs (one 4) (Ptr 11 11) (Ptr 1 1)) ≡
+        Ok (regs_words Undef Undef Undef
+        (words_with (cell.Known (pos 9) ∷ cell.Index 0 ∷ cell.Count 0 ∷ cell.Undef ∷ cell.Known (minus 1) ∷ [])))) }
     ensures version { (next_of MoveBytes (regs (one 4) (Ptr 11 11) (Ptr 1 1)) ≡ Err S11)
         × (next_of MoveBytes (regs Undef Undef Undef) ≡ Err S11) }
     ensures registers { (after (image_of Two 1 1) 12 14 MoveBytes Next (regs Undef (one 1) (one 1)) ≡ Err S1)
@@ -103,6 +118,10 @@ pub fn copies_computed()
     ensures undefined { (after (image_of Two 1 1) 12 14 MoveBytes Next (regs (one 8) (Ptr 0 0) (Ptr 9 9)) ≡ Err S4)
         × (after (image_of Two 1 1) 12 14 MoveBytes Next (regs (one 4) (Ptr 8 8) (Ptr 10 10)) ≡ Err S4) }
     ensures live { (after (image_of Two 1 1) 12 14 MoveBytes Next (regs (one 4) (Ptr 8 8) (Ptr 0 0)) ≡ Err S5)
-        × (after (image_of Two 1 1) 12 14 MoveBytes Next (regs (one 8) (Ptr 6 6) (Ptr 0 0)) ≡ Ok (regs_words Undef Undef Undef (cell.Known (pos 0) ∷ cell.Known (minus 1) ∷ cell.Any ∷ cell.Known (pos 0) ∷ cell.Known (pos 0) ∷ cell.Known (pos 0) ∷ cell.Known (pos 0) ∷ cell.Known (minus 1) ∷ cell.Index 0 ∷ cell.Count 0 ∷ cell.Undef ∷ cell.Any ∷ [])))
+        × (after (image_of Two 1 1) 12 14 MoveBytes Next (regs (one 8) (Ptr 6 6) (Ptr 0 0)) ≡
+        Ok (regs_words Undef Undef Undef
+        (cell.Known (pos 0) ∷ cell.Known (minus 1) ∷ cell.Any ∷ cell.Known (pos 0) ∷ cell.Known (pos 0) ∷ cell.Known
+        (pos 0) ∷ cell.Known (pos 0) ∷ cell.Known
+        (minus 1) ∷ cell.Index 0 ∷ cell.Count 0 ∷ cell.Undef ∷ cell.Any ∷ [])))
         × (after (image_of Two 1 1) 12 14 MoveBytes Next (regs (one 8) (Ptr 7 7) (Ptr 0 0)) ≡ Err S5) }
 {}

@@ -14,7 +14,8 @@ ghost use Rattle.tp_check.specs.EdgesRespect.{HasAbove, EveryEdgeRespects, HasNo
 
 /// The passes refuse only where no table exists that every edge respects. Nothing is asked of the states of that table.
 pub fn a_refusal_means_no_table()
-    ensures { (image : ImageValue) (cuts : List Cut) (fault : StateFault) → InRange image → AllByRecursion IsSpelled cuts →
+    ensures { (image : ImageValue) (cuts : List Cut) (fault : StateFault) → InRange image →
+        AllByRecursion IsSpelled cuts →
         KeepsNest image.loops image.workspace cuts → IsVerdict image cuts (Err fault) → HasNoTable image cuts }
 {}
 

@@ -13,12 +13,14 @@ ghost use Rattle.tp_state.specs.Fits.{Fits};
 
 /// What fits a state fits every state above it.
 pub fn what_fits_fits_above()
-    ensures { (image : ImageValue) (at : ℕ) (t u : State) (s : Machine) → IsBelow t u → Fits image at t s → Fits image at u s }
+    ensures { (image : ImageValue) (at : ℕ) (t u : State) (s : Machine) → IsBelow t u → Fits image at t s →
+        Fits image at u s }
 {}
 
 /// The start of a packet's run fits the first state at address 0, where the packet has its length and no loop is around
 /// the first instruction.
 pub fn start_fits_the_first_state()
     ensures { (image : ImageValue) (packet : List ℕ) → InRange image → 4 * image.packet ≤ length packet →
-        All (λ byte. byte < 256) packet → IsOutside (ranges image.loops) 0 → Fits image 0 (entry image) (start image packet) }
+        All (λ byte. byte < 256) packet → IsOutside (ranges image.loops) 0 →
+        Fits image 0 (entry image) (start image packet) }
 {}

@@ -36,8 +36,10 @@ pub fn live_words_follow_the_loops()
 
 /// Where the same loops' words are live, each word's cells agree, and in a join the same words are live.
 pub fn words_of_the_same_loops_agree()
-    ensures agree { (rows : List LoopRow) (around : ℕ → Bool) (cells others : List Cell) → LiveWordsAre rows around cells → LiveWordsAre rows around others →
+    ensures agree { (rows : List LoopRow) (around : ℕ → Bool) (cells others : List Cell) →
+        LiveWordsAre rows around cells → LiveWordsAre rows around others →
         (x : ℕ) → IsTrue (cells_agree (cell_at cells x) (cell_at others x)) }
     ensures join { (rows : List LoopRow) (around : ℕ → Bool) (cells others : List Cell) → length others ≡ length cells →
-        LiveWordsAre rows around cells → LiveWordsAre rows around others → LiveWordsAre rows around (joined_cells cells others) }
+        LiveWordsAre rows around cells → LiveWordsAre rows around others →
+        LiveWordsAre rows around (joined_cells cells others) }
 {}

@@ -56,7 +56,8 @@ impl State {
 
     #[tactic(auto, unfolding(crate::specs::Rules::rule))]
     pub(super) fn cj(&mut self, n: i32, edge: Edge) -> Result<(), StateCode>
-        ensures value { (image : ImageValue) (at next : ℕ) → answered result self.new ≡ rule image at next (Cj n) edge self.old }
+        ensures value { (image : ImageValue) (at next : ℕ) →
+            answered result self.new ≡ rule image at next (Cj n) edge self.old }
         ensures kept { KeepsPlace self.old self.new }
     {
         self.one_number()?;
