@@ -3,6 +3,7 @@ pub mod Answer
 pub mod Kinds
 pub mod CellRules
 pub mod Planes
+pub mod PlaneJoins
 pub mod Conditions
 pub mod Sound
 pub mod Rules

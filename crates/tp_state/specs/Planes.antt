@@ -7,7 +7,6 @@ use Rattle.tp_state.specs.declared.cell.Cell.{Cell}
 use Rattle.tp_state.specs.declared.cell.Cell.TheVariants.{Undef, Any, Known, Index, Count}
 use Rattle.tp_state.specs.declared.planes.Bits.{Bits}
 use Rattle.tp_state.specs.CellRules.{has_value}
-use Rattle.tp_state.specs.Order.{join_cells}
 
 -- ---- one word
 
@@ -123,11 +122,6 @@ pub record ChangesPlanes (values : List ℕ) (old new : List Bits) (f : ℕ → 
   pub long : length new ≡ length old
   pub inside : (i : ℕ) → x ≤ i → i < end → cell_in values new i ≡ f i (cell_in values old i)
   pub outside : (i : ℕ) → (i < x) ⊎ (end ≤ i) → cell_in values new i ≡ cell_in values old i
-
--- each word takes what holds of it and of the other's of its number
-abbrev pub TakesJoins : (values other_values : List ℕ) → (old others new : List Bits) → Type 0
-TakesJoins values other_values old others new =
-    ChangesPlanes values old new (λ i c. join_cells c (cell_in other_values others i)) 0 (64 * length old)
 
 -- words that have a value in both have the same, and all values are words
 pub record Agree (values other_values : List ℕ) (planes others : List Bits) : Type 0 where

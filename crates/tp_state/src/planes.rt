@@ -3,8 +3,9 @@
 ghost use Rattle.std.specs.Prelude.{◌≡◌, ℕ, ◌+◌, ◌-◌, ◌*◌, ◌^◌, ◌<◌, ◌≤◌, ◌==◌, ◌&&◌, nat_le, nat_lt, length, List, true, false, slice_index_or, bit_or, bit_xor};
 ghost use Rattle.tp_state.specs.declared.cell.Cell.TheVariants.{Undef};
 ghost use Rattle.tp_state.specs.CellRules.{blurred, is_free, is_defined};
-ghost use Rattle.tp_state.specs.Planes.{is_set, live_of, cell_of, bits_cell, HasByteRow, with_mask, blurred_bits, live_bits, undefined_bits, joined_bits, failing_bits, no_bits, cell_in, IsWhole, ChangesPlanes, TakesJoins, AreKnown, ArePadded, EachIs, OneIsNot, OneChanges, with_bits, Agree, Moves};
+ghost use Rattle.tp_state.specs.Planes.{is_set, live_of, cell_of, bits_cell, HasByteRow, with_mask, blurred_bits, live_bits, undefined_bits, joined_bits, failing_bits, no_bits, cell_in, IsWhole, ChangesPlanes, AreKnown, ArePadded, EachIs, OneIsNot, OneChanges, with_bits, Agree, Moves};
 ghost use Rattle.tp_state.specs.Order.{cell_below};
+ghost use Rattle.tp_state.specs.PlaneJoins.{TakesJoins};
 
 use crate::cell::Cell;
 use crate::values::differing;
