@@ -1,7 +1,8 @@
 //! The handling of one packet.
 
-ghost use Rattle.std.specs.Prelude.{◌≡◌, ℕ, ◌*◌, ◌+◌, ◌≤◌, ◌<◌, length, [], take, slice_get, OnOk, IfOk, IfErr, Ok, Err, Some};
+ghost use Rattle.std.specs.Prelude.{◌≡◌, ℕ, ◌*◌, ◌+◌, ◌≤◌, ◌<◌, List, length, [], take, slice_get, OnOk, IfOk, IfErr, Ok, Err, Some};
 ghost use Rattle.tp_link.specs.Device.{failures};
+ghost use Rattle.tp_image.specs.Image.{ImageValue};
 ghost use Rattle.tp_machine.specs.Devices.{devices_of};
 ghost use Rattle.tp_collect.specs.Collected.{IsResult};
 ghost use Rattle.tp_farm.specs.Settings.{SameDevice, SameSettings};
@@ -58,16 +59,12 @@ fn empty<D: LinkDevice>(device: &mut D) -> Result<(), DeviceFault>
 }
 
 /// Empties the three devices, and sends a packet to the source.
-fn prepare<D: LinkDevice>(
-    _accepted: &Accepted,
-    packet: &Packet,
-    links: &mut Links<D>,
-) -> Result<(), LinkFault>
-    requires { length packet.now.items ≡ 4 * _accepted.now.image.packet }
+fn prepare<D: LinkDevice>(packet: &Packet, links: &mut Links<D>) -> Result<(), LinkFault>
     ensures settings { SameSettings (devices_of D.state links.old) (devices_of D.state links.new) }
     ensures rises { RisesIn result (devices_of D.state links.old) (devices_of D.state links.new) }
     ensures ready { OnOk result (IsReady packet.now.items (devices_of D.state links.new)) }
-    ensures reason { IfErr result (HasReason _accepted.now.image packet.now.items (devices_of D.state links.old)) }
+    ensures reason { (image : ImageValue) → length packet.now.items ≡ 4 * image.packet →
+        IfErr result (HasReason image packet.now.items (devices_of D.state links.old)) }
 {
     of_link(Link::Source, empty(&mut links.source))?;
     of_link(Link::Sink, empty(&mut links.sink))?;
@@ -79,15 +76,18 @@ fn prepare<D: LinkDevice>(
 fn run_on<D: LinkDevice>(
     machine: &mut Machine,
     accepted: &Accepted,
-    _packet: &Packet,
     links: &mut Links<D>,
 ) -> Result<Outcome, LinkFault>
-    requires ready { IsReady _packet.now.items (devices_of D.state links.old) }
-    requires length { length _packet.now.items ≡ 4 * accepted.now.image.packet }
+    requires ready { (packet : List ℕ) × IsReady packet (devices_of D.state links.old)
+        × (length packet ≡ 4 * accepted.now.image.packet) }
     ensures settings { SameSettings (devices_of D.state links.old) (devices_of D.state links.new) }
     ensures rises { RisesIn result (devices_of D.state links.old) (devices_of D.state links.new) }
-    ensures given { IfOk result (λ o. HasGiven accepted.now.image _packet.now.items o (devices_of D.state links.new)) }
-    ensures reason { IfErr result (HasReason accepted.now.image _packet.now.items (devices_of D.state links.old)) }
+    ensures given { (packet : List ℕ) → IsReady packet (devices_of D.state links.old) →
+        length packet ≡ 4 * accepted.now.image.packet →
+        IfOk result (λ o. HasGiven accepted.now.image packet o (devices_of D.state links.new)) }
+    ensures reason { (packet : List ℕ) → IsReady packet (devices_of D.state links.old) →
+        length packet ≡ 4 * accepted.now.image.packet →
+        IfErr result (HasReason accepted.now.image packet (devices_of D.state links.old)) }
 {
     machine.run(accepted, links)
 }
@@ -129,17 +129,15 @@ fn receive_held<D: LinkDevice>(
 
 /// Receives the trace of a packet that was run, where that is no more than a trace may have: of so many bytes.
 fn receive_trace<D: LinkDevice>(
-    _accepted: &Accepted,
-    _packet: &Packet,
     links: &mut Links<D>,
     into: &mut [u8; MESSAGE_BYTES],
 ) -> Result<usize, LinkFault>
-    requires traced { HasTraced _accepted.now.image _packet.now.items (D.state links.old.trace).held }
     ensures settings { SameSettings (devices_of D.state links.old) (devices_of D.state links.new) }
     ensures rises { RisesIn result (devices_of D.state links.old) (devices_of D.state links.new) }
     ensures bytes { IfOk result (λ n. take n into.new ≡ (D.state links.old.trace).held) }
     ensures most { IfOk result (λ n. n ≤ 256) }
-    ensures reason { IfErr result (HasReason _accepted.now.image _packet.now.items (devices_of D.state links.old)) }
+    ensures reason { (image : ImageValue) (packet : List ℕ) → HasTraced image packet (D.state links.old.trace).held →
+        IfErr result (HasReason image packet (devices_of D.state links.old)) }
 {
     let n = links.trace.held();
     if n > MESSAGE_BYTES {
@@ -173,12 +171,12 @@ pub(crate) fn handle<D: LinkDevice>(
     ensures done { IfOk result (IsResult (batch_of job.now) number) }
     ensures reason { IfErr result (HasReason job.now.image.now.image packet.now.items (devices_of D.state links.old)) }
 {
-    prepare(job.image, packet, links)?;
-    let outcome = run_on(machine, job.image, packet, links)?;
+    prepare(packet, links)?;
+    let outcome = run_on(machine, job.image, links)?;
     let n = job.image.result_bytes();
     let answer = receive_held(&mut links.sink, n, &mut received.result);
     of_link(Link::Sink, answer)?;
-    let traced = receive_trace(job.image, packet, links, &mut received.trace)?;
+    let traced = receive_trace(links, &mut received.trace)?;
     Ok(Done::copied(
         job.batch,
         job.image.image(),

@@ -4,5 +4,5 @@ use Rattle.tp_farm.proofs.handling.receive_trace.Goals as goal
 
 pub returns-then-n-gt-MESSAGE_BYTES-clause-reason :
     goal.returns-then-n-gt-MESSAGE_BYTES-clause-reason
-returns-then-n-gt-MESSAGE_BYTES-clause-reason g c =
-    long_trace _ _ _ _ c.requires.traced (omega (arith, c.if-n-gt-MESSAGE_BYTES.true, c.held-n.ensures.count))
+returns-then-n-gt-MESSAGE_BYTES-clause-reason g c image packet traced =
+    long_trace _ _ _ _ traced (omega (arith, c.if-n-gt-MESSAGE_BYTES.true, c.held-n.ensures.count))

@@ -2,6 +2,5 @@ use Rattle.tp_farm.proofs.Refusals.{run_reason}
 use Rattle.tp_farm.proofs.handling.run_on.Goals as goal
 
 pub returns-clause-reason : goal.returns-clause-reason
-returns-clause-reason g c =
-    run_reason c.args.accepted.now.image c.args.accepted.now.budget c.args._packet.now.items _ c.requires.ready c.requires.length
-    _ c.run.result c.run.ensures.answered
+returns-clause-reason g c packet ready long =
+    run_reason c.args.accepted.now.image c.args.accepted.now.budget packet _ ready long _ c.run.result c.run.ensures.answered
