@@ -12,3 +12,5 @@ mod hostile;
 mod steps;
 #[cfg(test)]
 mod texts;
+#[cfg(test)]
+mod workers;

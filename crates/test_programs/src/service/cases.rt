@@ -12,12 +12,20 @@ pub struct Case {
 /// Adds one to its packet, in 16 steps.
 pub const INCREMENT: &str = "5450573110000C0008000100010000001024F25444F77081D01024F244FB21F5";
 
+/// Sends its packet as a trace, and then as its result.
+const TRACES_ITS_PACKET: &str =
+    "5450573113000C0008000100010000001024F25444F71024F25144FB1024F244FB21F5";
+
+/// Sends 65 traces of a word, more than a trace may have.
+const TRACES_65_TIMES: &str =
+    "545057311C00100008000100010001000B0013000A004100000000001024F25444F740D22441D31024F25144FB124A22F11024F244FB21F5";
+
 /// Images that are run.
 pub const RUNS: [Case; 14] = [
     Case {
         name: "increment",
         trace: false,
-        image: "5450573110000C0008000100010000001024F25444F77081D01024F244FB21F5",
+        image: INCREMENT,
         packets: &["01000000", "FFFFFF7F", "01000000"],
         answers: "YES 16 16\nKEPT 0\nKEPT 1\nKEPT 2\nR 0 0 16 02000000\nR 1 1 16 00000080\nR 2 0 16 02000000\nDONE 3\n",
     },
@@ -66,35 +74,35 @@ pub const RUNS: [Case; 14] = [
     Case {
         name: "a trace that is told",
         trace: true,
-        image: "5450573113000C0008000100010000001024F25444F71024F25144FB1024F244FB21F5",
+        image: TRACES_ITS_PACKET,
         packets: &["0A000000"],
         answers: "YES 19 19\nKEPT 0\nR 0 0 19 0a000000\nT 0 0a000000\nDONE 1\n",
     },
     Case {
         name: "a trace that is not told",
         trace: false,
-        image: "5450573113000C0008000100010000001024F25444F71024F25144FB1024F244FB21F5",
+        image: TRACES_ITS_PACKET,
         packets: &["0A000000"],
         answers: "YES 19 19\nKEPT 0\nR 0 0 19 0a000000\nDONE 1\n",
     },
     Case {
         name: "no trace",
         trace: true,
-        image: "5450573110000C0008000100010000001024F25444F77081D01024F244FB21F5",
+        image: INCREMENT,
         packets: &["01000000"],
         answers: "YES 16 16\nKEPT 0\nR 0 0 16 02000000\nT 0 -\nDONE 1\n",
     },
     Case {
         name: "a trace that is too long",
         trace: false,
-        image: "545057311C00100008000100010001000B0013000A004100000000001024F25444F740D22441D31024F25144FB124A22F11024F244FB21F5",
+        image: TRACES_65_TIMES,
         packets: &["00000000"],
         answers: "YES 28 668\nKEPT 0\nLOST 0\nDONE 1\n",
     },
     Case {
         name: "a trace that is too long, where traces are told",
         trace: true,
-        image: "545057311C00100008000100010001000B0013000A004100000000001024F25444F740D22441D31024F25144FB124A22F11024F244FB21F5",
+        image: TRACES_65_TIMES,
         packets: &["00000000"],
         answers: "YES 28 668\nKEPT 0\nLOST 0\nDONE 1\n",
     },

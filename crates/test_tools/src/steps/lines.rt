@@ -2,25 +2,13 @@
 
 use crate::asserts::{assert_same, unwrap};
 use crate::steps::told::{WHOLE, told};
+use crate::workers::{CHECKSUM, FIBONACCI, SORT};
 use tp_stepper::{End, Place, Span};
-
-/// CRC-32 of sixteen words: a loop of 32 turns in one of 16.
-const CRC: &[u8] =
-    b"545057315d001b00050010000100020024004700180020000000000012004d0016001000000000001024f2542440f7604f21d04021d1214021d2217110fa30217023f321d04021d3224021d421704124f621d521704124f021d02175ae217021222427272c6d4023f321d02113224522f12111234d22f1217023f221d0211024f244fb21f5";
-
-/// Fibonacci numbers: as many are traced as the packet says, of 47 at most, and the next is the result.
-const FIBONACCI: &[u8] =
-    b"545057312c000a0005000100010001000f00230008002f00000000001024f25444f740d141d240d3224fd47073f9ad1124f25144fb717225f272d1d213214622f11124f244fb21f5";
-
-/// Eight words are sorted, as signed numbers.
-const SORT: &[u8] =
-    b"545057313900130005000800080002000f002a000f000700000000000b002f000d000700000000001024f2542240f740d847d940da47db7a10fa30dc7a10fa31dd7c7df9aa7d7a10fae07c7a10fae11a214d22f118224622f11024f22240fb21f5";
 
 /// The first five instructions of the checksum: local 0 is word 5, at 0x8000005C, and link 0 receives at 0x80000010. The packet
 /// is received into the words 5 to 20, and the five words below Wptr are undefined then.
 #[test]
 fn the_first_lines(rt: HostRuntime) {
-    let image = unwrap(&rt, hex::decode(rt.alloc(), CRC));
     let mut packet = [0; 64];
     packet[0] = 7;
     packet[63] = 0x80;
@@ -28,7 +16,7 @@ fn the_first_lines(rt: HostRuntime) {
         from: None,
         until: Some(Place::Address(7)),
     };
-    let (end, text) = told(&rt, rt.alloc(), image.as_slice(), &packet, span);
+    let (end, text) = told(&rt, rt.alloc(), CHECKSUM, &packet, span);
     assert_same(&rt, &end, &End::Left);
     let wanted = "\
 1 0 ldlp 0: A -2147483556 B - C - Wptr 5 flag 0
@@ -49,7 +37,6 @@ count 7
 /// the outer loop has 24 of its own, and one of the inner 23, or 37 where a 1 is shifted out: 15,860 in all.
 #[test]
 fn the_checksum(rt: HostRuntime) {
-    let image = unwrap(&rt, hex::decode(rt.alloc(), CRC));
     let mut packet = [0; 64];
     for (byte, value) in packet.iter_mut().zip(0u8..64) {
         *byte = value;
@@ -58,7 +45,7 @@ fn the_checksum(rt: HostRuntime) {
         from: Some(Place::Address(90)),
         until: None,
     };
-    let (end, text) = told(&rt, rt.alloc(), image.as_slice(), &packet, span);
+    let (end, text) = told(&rt, rt.alloc(), CHECKSUM, &packet, span);
     assert_same(&rt, &end, &End::Stopped);
     let wanted = "\
 15858 90 out: A - B - C - Wptr 5 flag 0 result 8cce0e10
@@ -76,12 +63,11 @@ count 15860
 /// 22 bytes and 44 have 9.
 #[test]
 fn the_trace(rt: HostRuntime) {
-    let image = unwrap(&rt, hex::decode(rt.alloc(), FIBONACCI));
     let span = Span {
         from: Some(Place::Count(482)),
         until: None,
     };
-    let (end, text) = told(&rt, rt.alloc(), image.as_slice(), &[3, 0, 0, 0], span);
+    let (end, text) = told(&rt, rt.alloc(), FIBONACCI, &[3, 0, 0, 0], span);
     assert_same(&rt, &end, &End::Stopped);
     let wanted = "\
 484 42 stopp: A - B - C - Wptr 5 flag 0
@@ -97,10 +83,9 @@ count 484
 /// The numbers -1, 3, 2, 0, 7, -5, 1 and 1 in order.
 #[test]
 fn the_sort(rt: HostRuntime) {
-    let image = unwrap(&rt, hex::decode(rt.alloc(), SORT));
     let packet = b"FFFFFFFF03000000020000000000000007000000FBFFFFFF0100000001000000";
     let packet = unwrap(&rt, hex::decode(rt.alloc(), packet));
-    let (end, text) = told(&rt, rt.alloc(), image.as_slice(), packet.as_slice(), WHOLE);
+    let (end, text) = told(&rt, rt.alloc(), SORT, packet.as_slice(), WHOLE);
     assert_same(&rt, &end, &End::Stopped);
     let wanted = b"\nresult fbffffffffffffff0000000001000000010000000200000003000000\
 07000000\ntrace \n";
