@@ -7,13 +7,13 @@ use Rattle.tp_board.specs.declared.answer.Ledger.{Ledger}
 use Rattle.tp_board.specs.Sources.{Progress}
 use Rattle.tp_collect.specs.declared.collected.Entry.{Entry}
 use Rattle.tp_collect.specs.Collected.{IsCollected}
-use Rattle.tp_collect.specs.Collecting.{Collection, vacant}
+use Rattle.tp_collect.specs.Collecting.{Collection, collection, vacant}
 use Rattle.tp_machine.specs.Devices.{devices_of}
 use Rattle.tp_farm.specs.declared.member.Filed.{Filed}
 use Rattle.tp_farm.specs.declared.worker.Returned.{Returned}
 use Rattle.tp_farm.specs.declared.gathering.MemberResults.{MemberResults}
-use Rattle.tp_farm.specs.Working.{Work, HasWorked}
-use Rattle.tp_farm.specs.Gathering.{fault_of_end, all_filed, filed_in, FindVacant, IsOfBatch}
+use Rattle.tp_farm.specs.Working.{Work, HasWorked, HaveToSettle}
+use Rattle.tp_farm.specs.Gathering.{nothing_filed, fault_of_end, all_filed, filed_in, FindVacant, IsOfBatch}
 use Rattle.tp_farm.specs.Closing.{AddsUp}
 use Rattle.tp_farm.specs.MemberResults.{member_results}
 use Rattle.tp_farm.specs.Batches.{IsBatch}
@@ -104,3 +104,13 @@ module _ {H D : Type 0} (state : D → DeviceState) (own : H → Type 0) (progre
             (after_is state own progress work bs rs worked)
             (subst (λ xs. IsBatch work.batch work.open_for_good xs (map (λ m. m.after) ms) entries)
             (before_is state own progress work bs rs worked) it))
+
+-- members that have worked on a job's batch, and its collector as it is at first
+pub to_settle : {H D : Type 0} (state : D → DeviceState) (own : H → Type 0) (progress : H → Progress) (n : ℕ) (work : Work)
+    (bs : List (Links D)) (rs : List (Returned H Filed D)) (c : Collection) → AllZip (HasWorked state own progress work) bs rs
+    → n ≡ length work.batch.packets → c ≡ nothing_filed work.batch → HaveToSettle state own progress n work bs rs c
+to_settle state own progress n work bs rs c worked sized empty = record {
+  worked = worked;
+  sized = sized;
+  empty = empty ∙ ap (λ k. collection work.batch (replicate k vacant)) (sym sized);
+}

@@ -1,10 +1,11 @@
 -- What a member's thread gives back, whatever source its packets come from.
-use Rattle.std.specs.Prelude.{◌≡◌, ℕ, Bool, List}
+use Rattle.std.specs.Prelude.{◌≡◌, ℕ, Bool, List, length, replicate}
 use Rattle.std.specs.List.{AllZip}
 use Rattle.tp_link.specs.Device.{DeviceState}
 use Rattle.tp_link.specs.declared.links.Links.{Links}
 use Rattle.tp_board.specs.Sources.{Progress}
 use Rattle.tp_collect.specs.Collected.{Batch}
+use Rattle.tp_collect.specs.Collecting.{Collection, vacant}
 use Rattle.tp_machine.specs.Devices.{devices_of}
 use Rattle.tp_farm.specs.declared.job.Job.{Job}
 use Rattle.tp_farm.specs.declared.member.Filed.{Filed}
@@ -61,3 +62,10 @@ abbrev pub HaveWorkedOn : {G S H D : Type 0} → (D → DeviceState) → (S → 
     → List (Links D) → List (Returned H Filed D) → Type 0
 HaveWorkedOn state own progress open_for_good shared before rs =
     AllZip (HasWorkedOn state own progress open_for_good shared) before rs
+
+-- members have done their work on a batch of so many packets, of which nothing is filed in the collector yet
+pub record HaveToSettle {H D : Type 0} (state : D → DeviceState) (own : H → Type 0) (progress : H → Progress) (packets : ℕ)
+    (work : Work) (before : List (Links D)) (rs : List (Returned H Filed D)) (c : Collection) : Type 0 where
+  pub worked : HaveWorked state own progress work before rs
+  pub sized : packets ≡ length work.batch.packets
+  pub empty : c ≡ record { batch = work.batch; entries = replicate packets vacant }

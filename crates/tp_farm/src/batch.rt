@@ -1,13 +1,13 @@
 //! Batches.
 
-ghost use Rattle.std.specs.Prelude.{◌≡◌, ◌==◌, ◌<◌, not, All, None, Err, position, replicate, IfSome, IfOk, IfErr, OnOk};
-ghost use Rattle.std.specs.Prelude.{length, vec_len};
+ghost use Rattle.std.specs.Prelude.{◌≡◌, ◌==◌, ◌<◌, not, All, None, Err, position, IfSome, IfOk, IfErr, OnOk};
+ghost use Rattle.std.specs.Prelude.{List, length, vec_len};
+ghost use Rattle.tp_link.specs.declared.links.Links.{Links};
 ghost use Rattle.tp_board.specs.Ledgers.{Balances};
 ghost use Rattle.tp_board.specs.Streams.{IsHandOf, IsFeederOf, hand_progress, all_seen};
 ghost use Rattle.tp_farm.specs.Feeding.{HasOnlyFed};
-ghost use Rattle.tp_collect.specs.Collecting.{vacant};
 ghost use Rattle.tp_farm.specs.Jobs.{batch_of};
-ghost use Rattle.tp_farm.specs.Working.{HaveWorked, work_on};
+ghost use Rattle.tp_farm.specs.Working.{Work, HaveToSettle, work_on};
 ghost use Rattle.tp_farm.specs.Refused.{job_fault, Begins, IsFromOutside};
 ghost use Rattle.tp_farm.specs.Gathering.{nothing_filed};
 ghost use Rattle.tp_farm.specs.Answered.{IsBatchOver, AnswersBatch};
@@ -21,7 +21,6 @@ use crate::member::Filed;
 use crate::members::run_members;
 use crate::worker::{Returned, Shared};
 use std::alloc::{AllocError, Global};
-use std::snapshot::Snapshot;
 use std::sync::Wait;
 use std::thread::Threads;
 use tp_board::{Feeder, Ledger, MAX_MEMBERS, MAX_PACKETS, Packet, StreamHand, StreamQueue};
@@ -121,28 +120,24 @@ fn close_stream<R: Wait>(
 
 /// Makes one batch of what the members give back: the stream is closed, which accounts for each number once, and all that
 /// was filed is gathered. The first fault of a member is the answer.
-fn settle<R: Wait, D: LinkDevice, G: Gate>(
+fn settle<R: Wait, D: LinkDevice>(
     rt: &R,
-    _job: &Job<'_>,
-    _gate: &G,
     stream: StreamQueue<'_>,
     feeder: Feeder,
     mut collector: Collector<'_>,
     returned: Vec<Returned<StreamHand, Filed, D>>,
     mut room: Reserved<StreamHand, D>,
-    _before: Snapshot<Vec<Links<D>>>,
 ) -> Result<Batch<D>, FarmFault>
-    requires worked { HaveWorked D.state (IsHandOf stream) hand_progress (work_on G.open_for_good _job.now _gate.now)
-        _before.value.items returned.items }
+    requires worked { (work : Work) × (before : List (Links D)) ×
+        HaveToSettle D.state (IsHandOf stream) hand_progress (length stream.packets) work before returned.items collector }
     requires feeder { IsFeederOf stream feeder }
     requires fed { HasOnlyFed feeder }
     requires members { vec_len returned ≡ stream.members }
     requires some { 0 < vec_len returned }
-    requires packets { stream.packets ≡ (batch_of _job.now).packets }
-    requires collector { collector ≡
-        record { batch = batch_of _job.now; entries = replicate (length stream.packets) vacant } }
     requires room { HasRoom (vec_len returned) room }
-    ensures batch { IfOk result (IsBatchOver D.state (work_on G.open_for_good _job.now _gate.now) _before.value.items) }
+    ensures batch { (work : Work) (before : List (Links D)) →
+        HaveToSettle D.state (IsHandOf stream.entry) hand_progress (length stream.entry.packets) work before
+        returned.items collector.entry → IfOk result (IsBatchOver D.state work before) }
     ensures err { IfErr result IsFromOutside }
 {
     take_hands(returned, &mut room.hands, &mut room.kept)?;
@@ -205,7 +200,6 @@ fn run_begun<'j, R: Threads + Wait + Sync, D: LinkDevice + Send, G: Gate>(
     let Ok((stream, feeder, hands)) = made else {
         return Err(FarmFault::Memory);
     };
-    let before = Snapshot::of(&links);
     let shared = Shared {
         job: &*job,
         gate: &*gate,
@@ -213,7 +207,5 @@ fn run_begun<'j, R: Threads + Wait + Sync, D: LinkDevice + Send, G: Gate>(
         share: job.packets.len().div_ceil(members),
     };
     let (returned, feeder) = run_members(rt, alloc, &shared, feeder, hands, links)?;
-    settle(
-        rt, job, gate, stream, feeder, collector, returned, room, before,
-    )
+    settle(rt, stream, feeder, collector, returned, room)
 }

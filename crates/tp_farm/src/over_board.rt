@@ -3,13 +3,13 @@
 //!
 //! [`run_batch`]: crate::run_batch
 
-ghost use Rattle.std.specs.Prelude.{◌≡◌, ◌≤◌, ◌<◌, All, replicate, IfOk, IfErr, length, vec_len};
+ghost use Rattle.std.specs.Prelude.{◌≡◌, ◌≤◌, ◌<◌, List, All, IfOk, IfErr, length, vec_len};
+ghost use Rattle.tp_link.specs.declared.links.Links.{Links};
 ghost use Rattle.tp_board.specs.Boards.{IsSeatOf, views_of};
 ghost use Rattle.tp_board.specs.Sources.{seat_progress};
 ghost use Rattle.tp_board.specs.Ledgers.{Balances};
-ghost use Rattle.tp_collect.specs.Collecting.{vacant};
 ghost use Rattle.tp_farm.specs.Jobs.{batch_of};
-ghost use Rattle.tp_farm.specs.Working.{IsSet, IsFresh, HaveWorked, HaveWorkedOn, work_on};
+ghost use Rattle.tp_farm.specs.Working.{Work, IsSet, IsFresh, HaveToSettle, HaveWorkedOn, work_on};
 ghost use Rattle.tp_farm.specs.Refused.{Begins, IsFromOutside};
 ghost use Rattle.tp_farm.specs.Gathering.{nothing_filed};
 ghost use Rattle.tp_farm.specs.Answered.{IsBatchOver, AnswersBatch};
@@ -24,7 +24,6 @@ use crate::member::Filed;
 use crate::members::{join_all, start_all};
 use crate::worker::{Returned, Shared};
 use std::alloc::Global;
-use std::snapshot::Snapshot;
 use std::sync::Wait;
 use std::thread;
 use std::thread::{Scope, Threads};
@@ -109,23 +108,20 @@ fn close_board(board: Board, seats: Vec<Seat>) -> Ledger
 
 /// Makes one batch of what the members give back: the board is closed, which accounts for each number once, and all that
 /// was filed is gathered. The first fault of a member is the answer.
-fn settle<D: LinkDevice, G: Gate>(
-    _job: &Job<'_>,
-    _gate: &G,
+fn settle<D: LinkDevice>(
     board: Board,
     mut collector: Collector<'_>,
     returned: Vec<Returned<Seat, Filed, D>>,
     mut room: Reserved<Seat, D>,
-    _before: Snapshot<Vec<Links<D>>>,
 ) -> Result<Batch<D>, FarmFault>
-    requires worked { HaveWorked D.state (IsSeatOf board) seat_progress (work_on G.open_for_good _job.now _gate.now)
-        _before.value.items returned.items }
+    requires worked { (work : Work) × (before : List (Links D)) ×
+        HaveToSettle D.state (IsSeatOf board) seat_progress board.packets work before returned.items collector }
     requires members { vec_len returned ≡ board.members }
     requires some { 0 < vec_len returned }
-    requires packets { board.packets ≡ length (batch_of _job.now).packets }
-    requires collector { collector ≡ record { batch = batch_of _job.now; entries = replicate board.packets vacant } }
     requires room { HasRoom (vec_len returned) room }
-    ensures batch { IfOk result (IsBatchOver D.state (work_on G.open_for_good _job.now _gate.now) _before.value.items) }
+    ensures batch { (work : Work) (before : List (Links D)) →
+        HaveToSettle D.state (IsSeatOf board) seat_progress board.packets work before returned.items collector.entry →
+        IfOk result (IsBatchOver D.state work before) }
     ensures err { IfErr result IsFromOutside }
 {
     take_hands(returned, &mut room.hands, &mut room.kept)?;
@@ -182,7 +178,6 @@ fn run_begun<'j, R: Threads + Wait + Sync, D: LinkDevice + Send, G: Gate>(
         return Err(FarmFault::Memory);
     };
     let source = BoardSource::new(board, job.packets);
-    let before = Snapshot::of(&links);
     let shared = Shared {
         job: &*job,
         gate: &*gate,
@@ -191,5 +186,5 @@ fn run_begun<'j, R: Threads + Wait + Sync, D: LinkDevice + Send, G: Gate>(
     };
     let returned = run_all(rt, alloc, &shared, seats, links)?;
     let board = source.into_board();
-    settle(job, gate, board, collector, returned, room, before)
+    settle(board, collector, returned, room)
 }

@@ -1,11 +1,10 @@
-use Rattle.std.proofs.Common.{IfOk, sym, ap, subst, arith}
+use Rattle.std.proofs.Common.{length, ap, subst, arith}
 use Rattle.std.proofs.lemmas.Slice.Zip.{AllZip-long}
-use Rattle.std.specs.List.{AllZip}
-use Rattle.tp_farm.specs.Answered.{IsBatchOver}
 use Rattle.tp_farm.specs.Reserved.{HasRoom}
 use Rattle.tp_board.specs.Streams.{IsHandOf, hand_progress}
-use Rattle.tp_farm.specs.Working.{HasWorked, work_on}
+use Rattle.tp_farm.specs.Working.{work_on}
 use Rattle.tp_farm.proofs.Feeding.{fresh_hands, fresh_feeder}
+use Rattle.tp_farm.proofs.Settled.{to_settle}
 use Rattle.tp_farm.proofs.batch.run_begun.Goals as goal
 
 pub run_members-requires-clause-set : goal.run_members-requires-clause-set
@@ -21,7 +20,7 @@ pub run_members-requires-clause-fed : goal.run_members-requires-clause-fed
 run_members-requires-clause-fed g c κs within = fresh_feeder _ _ c.in-Ok.ensures.feeder
 
 pub settle-requires-clause-members : goal.settle-requires-clause-members
-settle-requires-clause-members g c κs within =
+settle-requires-clause-members g c =
     let long = AllZip-long _ _ _ c.in_ok-returned.ensures.worked in
     omega (
       arith,
@@ -33,24 +32,33 @@ settle-requires-clause-members g c κs within =
     )
 
 pub settle-requires-clause-some : goal.settle-requires-clause-some
-settle-requires-clause-some g c κs within =
+settle-requires-clause-some g c =
     let long = AllZip-long _ _ _ c.in_ok-returned.ensures.worked in
     omega (arith, c.requires.begins.some, long, c.in_ok-returned.returned.ok.0, c.args.links.ok.0)
 
 pub settle-requires-clause-room : goal.settle-requires-clause-room
-settle-requires-clause-room g c κs within =
+settle-requires-clause-room g c =
     let long = AllZip-long _ _ _ c.in_ok-returned.ensures.worked in
     subst (λ n. HasRoom n c.in_ok-room.room)
     (omega (arith, long, c.in_ok-returned.returned.ok.0, c.args.links.ok.0, c.len-members.ensures)) c.in_ok-room.ensures
 
+pub settle-requires-clause-worked : goal.settle-requires-clause-worked
+settle-requires-clause-worked g c =
+    let work = work_on g.G.Gate.open_for_good c.args.job.now c.args.gate.now in
+    let stream = c.in-Ok.stream in
+    (
+      work,
+      c.args.links.items,
+      to_settle g.D.LinkDevice.state (IsHandOf stream) hand_progress (length stream.packets) work c.args.links.items
+      c.in_ok-returned.returned.items c.args.collector c.in_ok-returned.ensures.worked
+      (ap (λ s. length s.packets) c.in-Ok.ensures.stream) c.requires.collector,
+    )
+
 pub returns-clause-batch : goal.returns-clause-batch
 returns-clause-batch g c =
     let work = work_on g.G.Gate.open_for_good c.args.job.now c.args.gate.now in
-    subst (λ v. IfOk c.settle.result (IsBatchOver g.D.LinkDevice.state work v.items)) c.of-before.ensures c.settle.ensures.batch
-
-pub settle-requires-clause-worked : goal.settle-requires-clause-worked
-settle-requires-clause-worked g c κs within =
-    let work = work_on g.G.Gate.open_for_good c.args.job.now c.args.gate.now in
     let stream = c.in-Ok.stream in
-    subst (λ v. AllZip (HasWorked g.D.LinkDevice.state (IsHandOf stream) hand_progress work) v.items
-    c.in_ok-returned.returned.items) (sym c.of-before.ensures) c.in_ok-returned.ensures.worked
+    c.settle.ensures.batch work c.args.links.items
+    (to_settle g.D.LinkDevice.state (IsHandOf stream) hand_progress (length stream.packets) work c.args.links.items
+    c.in_ok-returned.returned.items c.args.collector c.in_ok-returned.ensures.worked
+    (ap (λ s. length s.packets) c.in-Ok.ensures.stream) c.requires.collector)
