@@ -45,13 +45,12 @@ settle-requires-clause-room g c =
 pub settle-requires-clause-worked : goal.settle-requires-clause-worked
 settle-requires-clause-worked g c =
     let work = work_on g.G.Gate.open_for_good c.args.job.now c.args.gate.now in
-    let stream = c.in-Ok.stream in
-    (
+    let stream = c.in-Ok.stream in (
       work,
       c.args.links.items,
       to_settle g.D.LinkDevice.state (IsHandOf stream) hand_progress (length stream.packets) work c.args.links.items
-      c.in_ok-returned.returned.items c.args.collector c.in_ok-returned.ensures.worked
-      (ap (λ s. length s.packets) c.in-Ok.ensures.stream) c.requires.collector,
+          c.in_ok-returned.returned.items c.args.collector c.in_ok-returned.ensures.worked
+          (ap (λ s. length s.packets) c.in-Ok.ensures.stream) c.requires.collector,
     )
 
 pub returns-clause-batch : goal.returns-clause-batch

@@ -44,15 +44,14 @@ pub settle-requires-clause-worked : goal.settle-requires-clause-worked
 settle-requires-clause-worked g c =
     let work = work_on g.G.Gate.open_for_good c.args.job.now c.args.gate.now in
     let board = c.into_board-board.result in
-    let same = c.into_board-board.ensures ∙ ap (λ s. s.board) c.new-source.ensures in
-    (
+    let same = c.into_board-board.ensures ∙ ap (λ s. s.board) c.new-source.ensures in (
       work,
       c.args.links.items,
       to_settle g.D.LinkDevice.state (IsSeatOf board) seat_progress board.packets work c.args.links.items
-      c.in_ok-returned.returned.items c.args.collector
-      (subst (λ b. AllZip (HasWorked g.D.LinkDevice.state (IsSeatOf b) seat_progress work) c.args.links.items
-      c.in_ok-returned.returned.items) (sym c.into_board-board.ensures) c.in_ok-returned.ensures.worked)
-      (ap (λ b. b.packets) (same ∙ c.in-Ok.ensures.board) ∙ sym (length-map c.args.job.now.packets.now _)) c.requires.collector,
+          c.in_ok-returned.returned.items c.args.collector
+          (subst (λ b. AllZip (HasWorked g.D.LinkDevice.state (IsSeatOf b) seat_progress work) c.args.links.items
+          c.in_ok-returned.returned.items) (sym c.into_board-board.ensures) c.in_ok-returned.ensures.worked)
+          (ap (λ b. b.packets) (same ∙ c.in-Ok.ensures.board) ∙ sym (length-map c.args.job.now.packets.now _)) c.requires.collector,
     )
 
 pub returns-clause-batch : goal.returns-clause-batch
