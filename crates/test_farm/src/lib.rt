@@ -1,15 +1,11 @@
-//! Lists of events, boards, sources of packets and streams, with the answers that were worked out by hand; batches: packets, devices
-//! that fail or are closed, gates, and what becomes of each packet. There is no code here but tests.
+//! Batches that were worked out by hand: packets, devices that fail or are closed, gates, and what becomes of each packet. There is no
+//! code here but tests.
 #![tactic(auto)]
 
 #[cfg(test)]
 mod asserts;
 #[cfg(test)]
 mod batches;
-#[cfg(test)]
-mod boards;
-#[cfg(test)]
-mod events;
 #[cfg(test)]
 mod failing;
 #[cfg(test)]
@@ -21,14 +17,8 @@ mod recording;
 #[cfg(test)]
 mod refusing;
 #[cfg(test)]
-mod sources;
-#[cfg(test)]
 mod stopping;
 #[cfg(test)]
 mod streaming;
-#[cfg(test)]
-mod streams;
-#[cfg(test)]
-mod threads;
 #[cfg(test)]
 mod tracing;

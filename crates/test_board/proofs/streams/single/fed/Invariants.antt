@@ -1,5 +1,5 @@
 use Rattle.tp_board.specs.Streams.{IsFeederOf}
-use Rattle.test_farm.proofs.streams.single.fed.Given as goal
+use Rattle.test_board.proofs.streams.single.fed.Given as goal
 
 abbrev pub invariant-loop-count : goal.invariant-loop-count
 invariant-loop-count g l = IsFeederOf l.stream l.feeder

@@ -1,5 +1,5 @@
 use Rattle.tp_board.specs.Streams.{IsFeederOf, IsHandOf}
-use Rattle.test_farm.proofs.streams.single.assert_steps.Given as goal
+use Rattle.test_board.proofs.streams.single.assert_steps.Given as goal
 
 abbrev pub invariant-loop-place : goal.invariant-loop-place
 invariant-loop-place g l = IsFeederOf l.stream l.feeder × IsHandOf l.stream l.hand

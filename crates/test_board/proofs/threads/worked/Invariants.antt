@@ -1,5 +1,5 @@
 use Rattle.tp_board.specs.Boards.{IsSeatOf}
-use Rattle.test_farm.proofs.threads.worked.Given as goal
+use Rattle.test_board.proofs.threads.worked.Given as goal
 
 abbrev pub invariant-loop : goal.invariant-loop
 invariant-loop l = IsSeatOf l.board l.seat

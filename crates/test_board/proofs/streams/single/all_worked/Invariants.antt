@@ -1,6 +1,6 @@
 use Rattle.std.proofs.Common.{All}
 use Rattle.tp_board.specs.Streams.{IsFeederOf, IsHandOf}
-use Rattle.test_farm.proofs.streams.single.all_worked.Given as goal
+use Rattle.test_board.proofs.streams.single.all_worked.Given as goal
 
 abbrev pub invariant-loop : goal.invariant-loop
 invariant-loop g l = record {

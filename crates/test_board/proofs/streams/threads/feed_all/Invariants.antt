@@ -1,5 +1,5 @@
 use Rattle.tp_board.specs.Streams.{IsFeederOf}
-use Rattle.test_farm.proofs.streams.threads.fill.Given as goal
+use Rattle.test_board.proofs.streams.threads.feed_all.Given as goal
 
 abbrev pub invariant-loop : goal.invariant-loop
 invariant-loop g l = IsFeederOf l.stream l.feeder
