@@ -1,13 +1,11 @@
-//! What the programs write and end with: `farmd` (`daemon`) and `tpw` (`workbench`), from their words and streams to their statuses;
-//! and sessions through the whole service (`service`). There is no code here but tests.
+//! What the programs write and end with: `farmd` (`daemon`) and `tpw` (`workbench`), from their words and streams to their statuses.
+//! There is no code here but tests.
 #![tactic(auto)]
 
 #[cfg(test)]
 mod asserts;
 #[cfg(test)]
 mod daemon;
-#[cfg(test)]
-mod service;
 #[cfg(test)]
 mod streams;
 #[cfg(test)]

@@ -1,7 +1,7 @@
 //! Listings, and lines of any length.
 
 use crate::asserts::{assert_same, unwrap};
-use crate::service::farms::answers;
+use crate::farms::answers;
 use std::alloc::Global;
 use std::process::Abort;
 

@@ -1,8 +1,8 @@
 //! Images, and the runs of packets.
 
 use crate::asserts::unwrap;
-use crate::service::cases::{Case, INCREMENT, RUNS, VERDICTS};
-use crate::service::farms::{answers, input_of, push_line, served};
+use crate::cases::{Case, INCREMENT, RUNS, VERDICTS};
+use crate::farms::{answers, input_of, push_line, served};
 use std::alloc::Global;
 use std::process::Abort;
 

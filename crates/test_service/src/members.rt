@@ -1,8 +1,8 @@
 //! Members beside one another: each member of a farm serves, in each batch.
 
 use crate::asserts::{assert_same, unwrap};
-use crate::service::cases::INCREMENT;
-use crate::service::farms::push_line;
+use crate::cases::INCREMENT;
+use crate::farms::push_line;
 use std::alloc::Global;
 use std::process::Abort;
 use std::sync::Wait;

@@ -1,8 +1,8 @@
 //! What is written and flushed at full size.
 
 use crate::asserts::{assert_same, unwrap};
-use crate::service::listings::{long_line, long_listing};
-use crate::service::streams::{flushes_of, read_fails_as};
+use crate::listings::{long_line, long_listing};
+use crate::streams::{flushes_of, read_fails_as};
 use std::alloc::Global;
 use std::process::Abort;
 

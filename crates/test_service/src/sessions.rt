@@ -1,8 +1,8 @@
 //! Several sessions, their order and their limits.
 
 use crate::asserts::unwrap;
-use crate::service::cases::INCREMENT;
-use crate::service::farms::{answers, input_of, push_line, served};
+use crate::cases::INCREMENT;
+use crate::farms::{answers, input_of, push_line, served};
 use std::alloc::Global;
 use std::process::Abort;
 

@@ -1,7 +1,7 @@
 //! Every instruction by its name, as the Compiler Writer's Guide spells it.
 
 use crate::asserts::unwrap;
-use crate::service::farms::answers;
+use crate::farms::answers;
 use std::alloc::Global;
 use std::process::Abort;
 

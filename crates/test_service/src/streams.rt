@@ -1,7 +1,7 @@
 //! Readers and writers that give and take little at a time, or fail.
 
 use crate::asserts::{assert_same, unwrap};
-use crate::service::farms::{answers, serve_on};
+use crate::farms::{answers, serve_on};
 use std::alloc::Global;
 use std::io;
 use std::io::{ErrorKind, Read, Write};
