@@ -12,5 +12,3 @@ mod hostile;
 mod steps;
 #[cfg(test)]
 mod texts;
-#[cfg(test)]
-mod workers;

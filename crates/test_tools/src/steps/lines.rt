@@ -2,7 +2,7 @@
 
 use crate::asserts::{assert_same, unwrap};
 use crate::steps::told::{WHOLE, told};
-use crate::workers::{CHECKSUM, FIBONACCI, SORT};
+use tp_samples::{CHECKSUM, FIBONACCI, SORT};
 use tp_stepper::{End, Place, Span};
 
 /// The first five instructions of the checksum: local 0 is word 5, at 0x8000005C, and link 0 receives at 0x80000010. The packet
