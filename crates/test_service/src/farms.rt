@@ -52,12 +52,22 @@ pub fn push_line(rt: &impl Abort, input: &mut Vec<u8>, parts: &[&str]) {
     unwrap(rt, input.push(b'\n'));
 }
 
-/// An input of these lines, of two parts each.
-pub fn input_of(rt: &impl Abort, alloc: Global, lines: &[(&str, &str)]) -> Vec<u8> {
+/// The line that gives a session an image, with its digits in capitals.
+pub fn push_image(
+    rt: &impl Abort,
+    alloc: Global,
+    input: &mut Vec<u8>,
+    session: &str,
+    image: &[u8],
+) {
+    let digits = unwrap(rt, hex::encode_upper(alloc, image));
+    push_line(rt, input, &[session, " IMAGE ", digits.as_str()]);
+}
+
+/// An input that gives session `a` an image.
+pub fn opened(rt: &impl Abort, alloc: Global, image: &[u8]) -> Vec<u8> {
     let mut input = Vec::new(alloc);
-    for (head, rest) in lines {
-        push_line(rt, &mut input, &[*head, *rest]);
-    }
+    push_image(rt, alloc, &mut input, "a", image);
     input
 }
 

@@ -1,10 +1,12 @@
 //! What is written and flushed at full size.
 
 use crate::asserts::{assert_same, unwrap};
+use crate::farms::opened;
 use crate::listings::{long_line, long_listing};
 use crate::streams::{flushes_of, read_fails_as};
 use std::alloc::Global;
 use std::process::Abort;
+use tp_samples::INCREMENT;
 
 /// The longest answer to a listing is flushed once.
 #[test]
@@ -16,14 +18,12 @@ fn the_longest_listing_is_flushed_once(rt: HostRuntime) {
     assert_same(&rt, &writer.flushes.as_slice(), &[wanted.len()].as_slice());
 }
 
-const IMAGE: &[u8] = b"a IMAGE 5450573110000C0008000100010000001024F25444F77081D01024F244FB21F5\n";
-
 /// How many packets a session keeps.
 const PACKETS: u32 = 1024;
 
 /// A session with as many packets as it keeps, each of which is 1, and their run.
 fn full_session(rt: &impl Abort, alloc: Global) -> Vec<u8> {
-    let mut input = unwrap(rt, Vec::from_slice(alloc, IMAGE));
+    let mut input = opened(rt, alloc, INCREMENT);
     for _ in 0..PACKETS {
         unwrap(rt, input.extend_from_slice(b"a PACKET 01000000\n"));
     }

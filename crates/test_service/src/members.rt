@@ -1,14 +1,14 @@
 //! Members beside one another: each member of a farm serves, in each batch.
 
 use crate::asserts::{assert_same, unwrap};
-use crate::cases::INCREMENT;
-use crate::farms::push_line;
+use crate::farms::{opened, push_line};
 use std::alloc::Global;
 use std::process::Abort;
 use std::sync::Wait;
 use std::sync::atomic::{AtomicU64, Ordering};
 use std::thread::{self, Threads};
 use tp_link::{DeviceFault, LinkDevice, Links, Medium, OwnedWire};
+use tp_samples::INCREMENT;
 use tp_session::{Farm, serve};
 
 /// How many turns a member is held for, at most.
@@ -134,8 +134,7 @@ fn links_of<'m>(
 
 /// An image, and two batches of so many packets.
 fn two_batches(rt: &impl Abort, alloc: Global, packets: u64) -> Vec<u8> {
-    let mut input = Vec::new(alloc);
-    push_line(rt, &mut input, &["a IMAGE ", INCREMENT]);
+    let mut input = opened(rt, alloc, INCREMENT);
     for _ in 0..2u8 {
         for _ in 0..packets {
             push_line(rt, &mut input, &["a PACKET 01000000"]);

@@ -1,15 +1,15 @@
 //! Images, and the runs of packets.
 
 use crate::asserts::unwrap;
-use crate::cases::{Case, INCREMENT, RUNS, VERDICTS};
-use crate::farms::{answers, input_of, push_line, served};
+use crate::cases::{Case, RUNS, VERDICTS};
+use crate::farms::{answers, opened, push_line, served};
 use std::alloc::Global;
 use std::process::Abort;
+use tp_samples::INCREMENT;
 
 /// The lines that open a session, give it packets and run them.
 fn lines_of(rt: &impl Abort, alloc: Global, case: &Case) -> Vec<u8> {
-    let mut input = Vec::new(alloc);
-    push_line(rt, &mut input, &["a IMAGE ", case.image]);
+    let mut input = opened(rt, alloc, case.image);
     for packet in case.packets {
         push_line(rt, &mut input, &["a PACKET ", packet]);
     }
@@ -32,7 +32,7 @@ fn packets_are_run(rt: HostRuntime) {
 #[test]
 fn images_are_judged(rt: HostRuntime) {
     for (name, image, answer) in VERDICTS.iter() {
-        let input = input_of(&rt, rt.alloc(), &[("a IMAGE ", *image)]);
+        let input = opened(&rt, rt.alloc(), *image);
         assert!(rt;
             answers(&rt, rt.alloc(), 1, &input, answer.as_bytes()),
             "{name}"
@@ -80,7 +80,7 @@ fn long_codes(rt: HostRuntime) {
 
 /// A session of 1,024 packets, and its run.
 fn full_batch(rt: &impl Abort, alloc: Global) -> Vec<u8> {
-    let mut input = input_of(rt, alloc, &[("a IMAGE ", INCREMENT)]);
+    let mut input = opened(rt, alloc, INCREMENT);
     for _ in 0..1024 {
         push_line(rt, &mut input, &["a PACKET 01000000"]);
     }

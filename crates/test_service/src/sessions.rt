@@ -1,21 +1,40 @@
 //! Several sessions, their order and their limits.
 
 use crate::asserts::unwrap;
-use crate::cases::INCREMENT;
-use crate::farms::{answers, input_of, push_line, served};
+use crate::farms::{answers, opened, push_image, push_line, served};
 use std::alloc::Global;
 use std::process::Abort;
+use tp_samples::INCREMENT;
 
-const TWO_SESSIONS: [(&str, &str); 9] = [
-    ("a IMAGE ", INCREMENT),
-    ("b IMAGE ", INCREMENT),
-    ("a PACKET ", "01000000"),
-    ("b PACKET ", "02000000"),
-    ("a DROP", ""),
-    ("a IMAGE ", INCREMENT),
-    ("RUN *", ""),
-    ("a PACKET ", "0100"),
-    ("c PACKET ", "01000000"),
+/// A line of an input.
+enum Line {
+    /// It gives a session an image.
+    Image(&'static str, &'static [u8]),
+    Text(&'static str),
+}
+
+/// An input of these lines.
+fn input_of(rt: &impl Abort, alloc: Global, lines: &[Line]) -> Vec<u8> {
+    let mut input = Vec::new(alloc);
+    for line in lines {
+        match line {
+            Line::Image(session, image) => push_image(rt, alloc, &mut input, *session, *image),
+            Line::Text(text) => push_line(rt, &mut input, &[*text]),
+        }
+    }
+    input
+}
+
+const TWO_SESSIONS: [Line; 9] = [
+    Line::Image("a", INCREMENT),
+    Line::Image("b", INCREMENT),
+    Line::Text("a PACKET 01000000"),
+    Line::Text("b PACKET 02000000"),
+    Line::Text("a DROP"),
+    Line::Image("a", INCREMENT),
+    Line::Text("RUN *"),
+    Line::Text("a PACKET 0100"),
+    Line::Text("c PACKET 01000000"),
 ];
 
 #[test]
@@ -26,15 +45,15 @@ fn two_sessions(rt: HostRuntime) {
     assert!(rt; answers(&rt, rt.alloc(), 4, &input, wanted));
 }
 
-const REPLACED: [(&str, &str); 8] = [
-    ("b IMAGE ", INCREMENT),
-    ("a IMAGE ", INCREMENT),
-    ("b PACKET ", "01000000"),
-    ("a PACKET ", "05000000"),
-    ("b IMAGE ", INCREMENT),
-    ("a IMAGE ", "00"),
-    ("RUN *", ""),
-    ("a RUN", ""),
+const REPLACED: [Line; 8] = [
+    Line::Image("b", INCREMENT),
+    Line::Image("a", INCREMENT),
+    Line::Text("b PACKET 01000000"),
+    Line::Text("a PACKET 05000000"),
+    Line::Image("b", INCREMENT),
+    Line::Text("a IMAGE 00"),
+    Line::Text("RUN *"),
+    Line::Text("a RUN"),
 ];
 
 /// An image that is replaced keeps the session's place, and forgets its packets. An image that is refused changes nothing.
@@ -51,10 +70,10 @@ fn most_sessions(rt: &impl Abort, alloc: Global) -> Vec<u8> {
     let mut input = Vec::new(alloc);
     for number in 1u32..65 {
         let name = unwrap(rt, format!(in alloc; "z{number}"));
-        push_line(rt, &mut input, &[name.as_str(), " IMAGE ", INCREMENT]);
+        push_image(rt, alloc, &mut input, name.as_str(), INCREMENT);
     }
     push_line(rt, &mut input, &["z65 IMAGE 00"]);
-    push_line(rt, &mut input, &["z64 IMAGE ", INCREMENT]);
+    push_image(rt, alloc, &mut input, "z64", INCREMENT);
     push_line(rt, &mut input, &["z1 DROP\nz65 IMAGE 00"]);
     input
 }
@@ -72,12 +91,13 @@ fn the_most_sessions(rt: HostRuntime) {
 
 /// One packet more than a session keeps, one of another length, and the image again.
 fn most_packets(rt: &impl Abort, alloc: Global) -> Vec<u8> {
-    let mut input = input_of(rt, alloc, &[("a IMAGE ", INCREMENT)]);
+    let mut input = opened(rt, alloc, INCREMENT);
     for _ in 0..1025 {
         push_line(rt, &mut input, &["a PACKET 01000000"]);
     }
     push_line(rt, &mut input, &["a PACKET 0100000000"]);
-    push_line(rt, &mut input, &["a IMAGE ", INCREMENT, "\na RUN"]);
+    push_image(rt, alloc, &mut input, "a", INCREMENT);
+    push_line(rt, &mut input, &["a RUN"]);
     input
 }
 

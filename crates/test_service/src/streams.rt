@@ -1,13 +1,14 @@
 //! Readers and writers that give and take little at a time, or fail.
 
 use crate::asserts::{assert_same, unwrap};
-use crate::farms::{answers, serve_on};
+use crate::farms::{answers, opened, serve_on};
 use std::alloc::Global;
 use std::io;
 use std::io::{ErrorKind, Read, Write};
 use std::process::Abort;
 use std::sync::Wait;
 use std::thread::Threads;
+use tp_samples::INCREMENT;
 use tp_session::ServeFault;
 
 /// Gives one byte a call, and fails in call number `failing`, counted from 1; never where that is 0.
@@ -222,8 +223,13 @@ fn each_write_fails(rt: HostRuntime) {
     }
 }
 
-const SESSION: &[u8] = b"a IMAGE 5450573110000C0008000100010000001024F25444F77081D01024F244FB21F5\n\
-    a PACKET 01000000\na PACKET FFFFFF7F\na PACKET 01000000\na RUN\na RUN\n";
+/// A session of three packets, their run, and a run of none.
+fn session(rt: &impl Abort, alloc: Global) -> Vec<u8> {
+    let mut input = opened(rt, alloc, INCREMENT);
+    let rest = b"a PACKET 01000000\na PACKET FFFFFF7F\na PACKET 01000000\na RUN\na RUN\n";
+    unwrap(rt, input.extend_from_slice(rest));
+    input
+}
 
 const TOLD: &[u8] = b"YES 16 16\nKEPT 0\nKEPT 1\nKEPT 2\n\
     R 0 0 16 02000000\nR 1 1 16 00000080\nR 2 0 16 02000000\nDONE 3\nDONE 0\n";
@@ -252,16 +258,18 @@ fn told_after(read: usize) -> usize {
 /// 99 bytes and 6 flushes.
 #[test]
 fn a_session_a_byte_at_a_time(rt: HostRuntime) {
-    let writer = served_by_bytes(&rt, rt.alloc(), 4, SESSION);
+    let input = session(&rt, rt.alloc());
+    let writer = served_by_bytes(&rt, rt.alloc(), 4, &input);
     assert!(rt; writer.taken.as_slice() == TOLD);
     assert_same(&rt, &writer.calls, &105);
 }
 
 #[test]
 fn each_read_of_a_session_fails(rt: HostRuntime) {
+    let input = session(&rt, rt.alloc());
     for failing in 1..141 {
         let wanted = TOLD.get(..told_after(failing - 1)).unwrap_or(TOLD);
-        let same = read_fails_as(&rt, rt.alloc(), SESSION, failing, wanted);
+        let same = read_fails_as(&rt, rt.alloc(), &input, failing, wanted);
         assert!(rt; same, "{failing}");
     }
 }
@@ -269,8 +277,9 @@ fn each_read_of_a_session_fails(rt: HostRuntime) {
 /// 99 bytes and 6 flushes.
 #[test]
 fn each_write_of_a_session_fails(rt: HostRuntime) {
+    let input = session(&rt, rt.alloc());
     for failing in 1..106 {
-        let same = write_fails_within(&rt, rt.alloc(), SESSION, failing, TOLD);
+        let same = write_fails_within(&rt, rt.alloc(), &input, failing, TOLD);
         assert!(rt; same, "{failing}");
     }
 }
