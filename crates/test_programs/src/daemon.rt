@@ -10,6 +10,7 @@ use std::process::{Abort, ExitCode};
 use std::sync::Wait;
 use std::thread::Threads;
 use tp_program::{Ending, run};
+use tp_samples::{INCREMENT, TRACES_ITS_PACKET};
 use tp_session::ServeFault;
 
 mod options;
@@ -57,12 +58,14 @@ fn ran<T: Threads + Wait + Sync, R: Read, W: Write>(
     Ended { status, errors }
 }
 
-/// A worker that sends its packet as a trace message and then as its result, and a run of one packet.
-const RUN: &str = "\
-a IMAGE 5450573113000C0008000100010000001024F25444F71024F25144FB1024F244FB21F5
-a PACKET 0A000000
-a RUN
-";
+/// The line that gives session `a` an image, with its digits in capitals.
+fn image_line(rt: &impl Abort, alloc: Global, image: &[u8]) -> Vec<u8> {
+    let digits = unwrap(rt, hex::encode_upper(alloc, image));
+    let mut line = unwrap(rt, Vec::from_slice(alloc, b"a IMAGE "));
+    unwrap(rt, line.extend_from_slice(digits.as_bytes()));
+    unwrap(rt, line.push(b'\n'));
+    line
+}
 
 #[test]
 fn serves_to_the_end(rt: HostRuntime) {
@@ -172,13 +175,7 @@ impl Write for Taking {
     }
 }
 
-/// A run of one packet, whose worker adds one to it, and its answers: of 10, 7 and 25 bytes.
-const LINES: [&[u8]; 3] = [
-    b"a IMAGE 5450573110000C0008000100010000001024F25444F77081D01024F244FB21F5\n",
-    b"a PACKET 01000000\n",
-    b"a RUN\n",
-];
-
+/// The answers to an image that adds one to its packet, to a packet and to their run: of 10, 7 and 25 bytes.
 const ANSWERS: &[u8] = b"YES 16 16\nKEPT 0\nR 0 0 16 02000000\nDONE 1\n";
 
 /// Each read and each write fails in turn: the call that fails, the first bytes of the answers that are out, and what is told.
@@ -197,9 +194,15 @@ fn tells_each_failed_call(rt: HostRuntime) {
         (0, 6, 42, "farmd: write\n"),
         (5, 7, 42, ""),
     ];
+    let image = image_line(&rt, rt.alloc(), INCREMENT);
+    let lines = [
+        image.as_slice(),
+        b"a PACKET 01000000\n".as_slice(),
+        b"a RUN\n".as_slice(),
+    ];
     for (read, write, out, told) in cases {
         let mut input = ByLine {
-            lines: &LINES,
+            lines: &lines,
             calls: 0,
             failing: read,
         };
@@ -319,9 +322,11 @@ fn serves_as_asked(rt: HostRuntime) {
             "R 0 0 19 0a000000\nT 0 0a000000\nDONE 1\n",
         ),
     ];
+    let mut lines = image_line(&rt, rt.alloc(), TRACES_ITS_PACKET);
+    unwrap(&rt, lines.extend_from_slice(b"a PACKET 0A000000\na RUN\n"));
     for (words, told) in cases {
         let mut output = Vec::new(rt.alloc());
-        let mut input = RUN.as_bytes();
+        let mut input = lines.as_slice();
         let ended = ran(&rt, rt.alloc(), words, &mut input, &mut output);
         assert_same(&rt, &ended.status, &ExitCode::SUCCESS);
         assert!(rt; output.starts_with(b"YES 19 19\nKEPT 0\n".as_slice()));

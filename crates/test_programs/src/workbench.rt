@@ -4,7 +4,8 @@ use crate::asserts::{assert_same, unwrap};
 use crate::streams::{Broken, Ended, Unflushed, Words};
 use std::alloc::{AllocError, Global};
 use std::io::{Read, Write};
-use std::process::ExitCode;
+use std::process::{Abort, ExitCode};
+use tp_samples::{FIBONACCI, INCREMENT};
 use tp_stepper::{End, Place};
 use tp_workbench::{Ending, Status, TextFault, bytes_of, place_of, run};
 
@@ -15,8 +16,18 @@ fn ran<R: Read, W: Write>(alloc: Global, words: &[&str], input: &mut R, output: 
     Ended { status, errors }
 }
 
-/// A worker that adds one to its packet: ldlp 0, mint, ldnlp 4, ldc 4, in, ldl 0, adc 1, stl 0, ldlp 0, mint, ldc 4, out, stopp.
-const INCREMENT: &str = "5450573110000C0008000100010000001024F25444F77081D01024F244FB21F5\n";
+/// An image's digits on a line, in capitals.
+fn capitals(rt: &impl Abort, alloc: Global, image: &[u8]) -> String {
+    let mut line = unwrap(rt, hex::encode_upper(alloc, image));
+    unwrap(rt, line.push_str("\n"));
+    line
+}
+
+/// A text and an image's digits on a line, in small letters.
+fn small_letters(rt: &impl Abort, alloc: Global, before: &str, image: &[u8]) -> String {
+    let digits = unwrap(rt, hex::encode(alloc, image));
+    unwrap(rt, format!(in alloc; "{before}{digits}\n"))
+}
 
 /// ldc 1, add.
 const STUCK: &str = "5450573102000C00080001000100000041F5";
@@ -24,9 +35,10 @@ const STUCK: &str = "5450573102000C00080001000100000041F5";
 /// How runs are told, and the statuses that they end with.
 #[test]
 fn runs(rt: HostRuntime) {
+    let increment = capitals(&rt, rt.alloc(), INCREMENT);
     let cases = [
         (
-            INCREMENT,
+            increment.as_str(),
             ["tpw", "step", "--packet", "29000000", "--from", "12"].as_slice(),
             0,
             "\
@@ -40,7 +52,7 @@ count 16
 ",
         ),
         (
-            INCREMENT,
+            increment.as_str(),
             ["tpw", "step", "--from=+2", "--until", "0x4"].as_slice(),
             0,
             "\
@@ -61,7 +73,12 @@ result \ntrace \nflag 0
 count 1
 ",
         ),
-        (INCREMENT, ["tpw", "why"].as_slice(), 0, "YES 16 16\n"),
+        (
+            increment.as_str(),
+            ["tpw", "why"].as_slice(),
+            0,
+            "YES 16 16\n",
+        ),
         (
             STUCK,
             ["tpw", "why"].as_slice(),
@@ -153,11 +170,7 @@ result 1
         stopp  ; 14: 2
 ";
 
-/// The worker of docs/WORKERS.md.
-const FIBONACCI: &str =
-    "545057312c000a0005000100010001000f00230008002f00000000001024f25444f740d141d240d3224fd47073f9ad1124f25144fb717225f272d1d213214622f11124f244fb21f5\n";
-
-/// What it is told as: a turn of its loop has at most 22 bytes, 18 of them where it sends a trace.
+/// What FIBONACCI is told as: a turn of its loop has at most 22 bytes, 18 of them where it sends a trace.
 const FIBONACCI_TOLD: &str = "\
 ; at most 1056 instruction bytes
 ; loop 15 to 35: 47 turns of 22, 1034 in all
@@ -221,19 +234,33 @@ result 1
 /// A text to its image, alone and behind a name, and back.
 #[test]
 fn texts_and_images(rt: HostRuntime) {
-    let image = "5450573110000c0008000100010000001024f25444f77081d01024f244fb21f5\n";
-    let line = "inc IMAGE 5450573110000c0008000100010000001024f25444f77081d01024f244fb21f5\n";
+    let increment = capitals(&rt, rt.alloc(), INCREMENT);
+    let image = small_letters(&rt, rt.alloc(), "", INCREMENT);
+    let line = small_letters(&rt, rt.alloc(), "inc IMAGE ", INCREMENT);
+    let fibonacci = small_letters(&rt, rt.alloc(), "", FIBONACCI);
     let cases = [
-        (INCREMENT_TEXT, ["tpw", "asm"].as_slice(), image),
+        (INCREMENT_TEXT, ["tpw", "asm"].as_slice(), image.as_str()),
         (
             INCREMENT_TEXT,
             ["tpw", "asm", "--line", "inc"].as_slice(),
-            line,
+            line.as_str(),
         ),
-        (INCREMENT, ["tpw", "dis"].as_slice(), INCREMENT_TOLD),
-        (INCREMENT_TOLD, ["tpw", "asm"].as_slice(), image),
-        (FIBONACCI, ["tpw", "dis"].as_slice(), FIBONACCI_TOLD),
-        (FIBONACCI_TOLD, ["tpw", "asm"].as_slice(), FIBONACCI),
+        (
+            increment.as_str(),
+            ["tpw", "dis"].as_slice(),
+            INCREMENT_TOLD,
+        ),
+        (INCREMENT_TOLD, ["tpw", "asm"].as_slice(), image.as_str()),
+        (
+            fibonacci.as_str(),
+            ["tpw", "dis"].as_slice(),
+            FIBONACCI_TOLD,
+        ),
+        (
+            FIBONACCI_TOLD,
+            ["tpw", "asm"].as_slice(),
+            fibonacci.as_str(),
+        ),
         (STUCK, ["tpw", "dis"].as_slice(), STUCK_TOLD),
     ];
     for (input, words, told) in cases {
@@ -271,6 +298,7 @@ for q = 0 for 2
 /// What ends early: nothing is written but why.
 #[test]
 fn refusals(rt: HostRuntime) {
+    let increment = capitals(&rt, rt.alloc(), INCREMENT);
     let cases = [
         (
             "zz",
@@ -345,31 +373,31 @@ fn refusals(rt: HostRuntime) {
             "tpw: standard input: no image: F2 at byte 4\n",
         ),
         (
-            INCREMENT,
+            increment.as_str(),
             ["tpw", "step", "--packet", "290"].as_slice(),
             2,
             "error: invalid value for '--packet <HEX>': it takes hexadecimal digits, an even number\n",
         ),
         (
-            INCREMENT,
+            increment.as_str(),
             ["tpw", "step", "--until", "-1"].as_slice(),
             2,
             "error: unexpected argument '-1' found\n",
         ),
         (
-            INCREMENT,
+            increment.as_str(),
             ["tpw", "step", "--until", "start"].as_slice(),
             2,
             "error: invalid value for '--until <PLACE>': it takes an address, as 36 or 0x24, or a count of steps, as +100\n",
         ),
         (
-            INCREMENT,
+            increment.as_str(),
             ["tpw"].as_slice(),
             2,
             "error: 'tpw' requires a subcommand but one was not provided\n",
         ),
         (
-            INCREMENT,
+            increment.as_str(),
             ["tpw", "walk"].as_slice(),
             2,
             "error: unrecognized subcommand 'walk'\n",
@@ -466,15 +494,16 @@ fn tells_a_failed_read(rt: HostRuntime) {
 /// A run, help and the version where the output cannot be written, or not be flushed.
 #[test]
 fn tells_a_failed_write(rt: HostRuntime) {
+    let increment = capitals(&rt, rt.alloc(), INCREMENT);
     for words in [
         ["tpw", "step"].as_slice(),
         ["tpw", "why"].as_slice(),
         ["tpw", "--help"].as_slice(),
         ["tpw", "--version"].as_slice(),
     ] {
-        let mut input = INCREMENT.as_bytes();
+        let mut input = increment.as_bytes();
         let broken = ran(rt.alloc(), words, &mut input, &mut Broken);
-        let mut input = INCREMENT.as_bytes();
+        let mut input = increment.as_bytes();
         let unflushed = ran(rt.alloc(), words, &mut input, &mut Unflushed);
         for ended in [broken, unflushed] {
             assert_same(&rt, &ended.status, &ExitCode::from(1));

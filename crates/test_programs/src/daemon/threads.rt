@@ -1,6 +1,6 @@
 //! How many threads run a batch, as the system counts them.
 
-use super::ran;
+use super::{image_line, ran};
 use crate::asserts::unwrap;
 use std::alloc::Global;
 use std::process::{Abort, ExitCode};
@@ -9,6 +9,7 @@ use std::sync::Wait;
 use std::sync::atomic::{AtomicBool, Ordering};
 use std::thread::{Threads, join};
 use std::{fs, io};
+use tp_samples::TEN_TIMES_TEN_THOUSAND;
 
 /// How many threads this process has.
 fn threads_now<R: Files + AllocGlobal>(rt: &R) -> io::Result<usize> {
@@ -38,10 +39,7 @@ fn most_threads<R: Files + AllocGlobal>(rt: &R, done: &AtomicBool) -> usize {
 
 /// A worker of 400,130 steps, twelve packets for it, and their run: some milliseconds for each of three members.
 fn long_batch(rt: &impl Abort, alloc: Global) -> Vec<u8> {
-    let image =
-        b"a IMAGE 545057312300100008000100010002000D001A000A000A0000000000140016000C00102700000000\
-        1024F25444F740D22020204AD340D422272140D5144422F1124F22F11024F244FB21F5\n";
-    let mut input = unwrap(rt, Vec::from_slice(alloc, image));
+    let mut input = image_line(rt, alloc, TEN_TIMES_TEN_THOUSAND);
     for _ in 0..12u8 {
         unwrap(rt, input.extend_from_slice(b"a PACKET 05000000\n"));
     }
