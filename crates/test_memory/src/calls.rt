@@ -39,9 +39,14 @@ pub fn all<R: Threads + Wait + Sync>(rt: &R, alloc: Global) -> Tally {
     tally
 }
 
-const INPUT: &[u8] = b"LIST 604F\nHELLO\nLIST 24F2616F40\nLIST 41F3\nLIST 2222\n\
-    a IMAGE 5450573110000C0008000100010000001024F25444F77081D01024F244FB21F5\n\
-    a PACKET 01000000\na PACKET FFFFFF7F\na PACKET 01000000\na RUN\na RUN";
+/// Listings, and a session of three packets, their run and a run of none.
+fn input() -> Page {
+    let mut page = Page::new();
+    page.push(b"LIST 604F\nHELLO\nLIST 24F2616F40\nLIST 41F3\nLIST 2222\na IMAGE ");
+    page.push_digits(INCREMENT);
+    page.push(b"\na PACKET 01000000\na PACKET FFFFFF7F\na PACKET 01000000\na RUN\na RUN");
+    page
+}
 
 const OUTPUT: &[u8] =
     b"0 604f ldc -1\nDONE 1\nNO E1 2\n0 24f2 mint\n2 616f40 ldc 256 least 212040\nDONE 2\nNO D3 1\nNO D1 0\n\
@@ -57,7 +62,8 @@ const BEFORE_RUNS: [usize; 2] = [125, 186];
 /// The program `farmd` from its words to its status, and how much is written. After Memory, and where a thread was refused for
 /// it, the answers to some of the first lines are written, each of them whole, and the fault is told.
 fn served<T: Threads + Wait + Sync>(rt: &T, alloc: Global) -> (Answer, usize) {
-    let mut reader = INPUT;
+    let input = input();
+    let mut reader = input.written();
     let mut page = Page::new();
     let mut errors = Page::new();
     let words = Words(&["farmd", "--members", "1"]);

@@ -17,6 +17,21 @@ impl Page {
         }
     }
 
+    /// Takes as much of some bytes as it has room for.
+    pub fn push(&mut self, bytes: &[u8]) {
+        let _ = self.write(bytes);
+    }
+
+    /// Takes the digits of some bytes, in small letters; nothing where it has no room for them.
+    pub fn push_digits(&mut self, bytes: &[u8]) {
+        let end = self.taken.saturating_add(bytes.len().saturating_mul(2));
+        if let Some(room) = self.bytes.get_mut(self.taken..end)
+            && hex::encode_to_slice(bytes, room).is_ok()
+        {
+            self.taken = end;
+        }
+    }
+
     /// What was written.
     pub fn written(&self) -> &[u8] {
         self.bytes.get(..self.taken).unwrap_or(&[])

@@ -1,11 +1,39 @@
 //! What the program of those who write workers is given, and what it tells with ample memory.
 
+use crate::page::Page;
+use tp_samples::{FIBONACCI, INCREMENT, SUM_TO_TEN};
+
+/// A text that is given or told.
+#[derive(Clone, Copy, Drop)]
+pub enum Text<'a> {
+    /// Lines.
+    Lines(&'a str),
+    /// One line: a text, and the digits of an image.
+    Digits(&'a str, &'a [u8]),
+}
+
+impl Text<'_> {
+    /// A page with this text.
+    pub fn page(&self) -> Page {
+        let mut page = Page::new();
+        match self {
+            Text::Lines(lines) => page.push(lines.as_bytes()),
+            Text::Digits(before, image) => {
+                page.push(before.as_bytes());
+                page.push_digits(image);
+                page.push(b"\n");
+            }
+        }
+        page
+    }
+}
+
 /// A command line with its input, and what it is answered.
 #[derive(Clone, Copy, Drop)]
 pub struct Case<'a> {
     pub words: &'a [&'a str],
-    pub input: &'a str,
-    pub told: &'a str,
+    pub input: Text<'a>,
+    pub told: Text<'a>,
     pub status: u8,
 }
 
@@ -13,44 +41,36 @@ pub struct Case<'a> {
 pub const CASES: [Case<'_>; 4] = [
     Case {
         words: &["tpw", "asm", "--line", "fib"],
-        input: FIBONACCI,
-        told: FIBONACCI_LINE,
+        input: Text::Lines(FIBONACCI_TEXT),
+        told: Text::Digits("fib IMAGE ", FIBONACCI),
         status: 0,
     },
     Case {
         words: &["tpw", "dis"],
-        input: SUM_TO_TEN,
-        told: SUM_TO_TEN_TOLD,
+        input: Text::Digits("", SUM_TO_TEN),
+        told: Text::Lines(SUM_TO_TEN_TOLD),
         status: 0,
     },
     Case {
         words: &["tpw", "step", "--packet", "29000000", "--from", "12"],
-        input: INCREMENT,
-        told: INCREMENT_STEPS,
+        input: Text::Digits("", INCREMENT),
+        told: Text::Lines(INCREMENT_STEPS),
         status: 0,
     },
     Case {
         words: &["tpw", "why"],
-        input: KEPT_ADDRESS,
-        told: KEPT_ADDRESS_TOLD,
+        input: Text::Lines(KEPT_ADDRESS),
+        told: Text::Lines(KEPT_ADDRESS_TOLD),
         status: 1,
     },
 ];
 
-/// The worker of docs/WORKERS.md.
-const FIBONACCI: &str =
+/// The worker of docs/WORKERS.md, whose image that page works out.
+const FIBONACCI_TEXT: &str =
     "packet 1\nresult 1\nlocal n, a, b\nreceive n\nldc 0\nstl a\nldc 1\nstl b\nfor i = 0 for 47\n\
     ldl n\nldl i\ngt\ncj skip\ntrace a\nldl a\nldl b\nsum\nldl b\nstl a\nstl b\nskip: end i\nsend a\nstopp\n";
 
-/// Its image, as that page works it out.
-const FIBONACCI_LINE: &str = "fib IMAGE 545057312c000a0005000100010001000f00230008002f0000000000\
-    1024f25444f740d141d240d3224fd47073f9ad1124f25144fb717225f272d1d213214622f11124f244fb21f5\n";
-
-/// Ten turns of 8 bytes.
-const SUM_TO_TEN: &str = "545057311b00100008000100010001000c0012000a000a0000000000\
-    1024f25444f740d140d24ad37172f5d1124822f11124f244fb21f5\n";
-
-/// 12 bytes, the loop, and 7 bytes.
+/// 12 bytes, a loop of ten turns of 8 bytes, and 7 bytes.
 const SUM_TO_TEN_TOLD: &str = "\
 ; at most 99 instruction bytes
 ; loop 12 to 18: 10 turns of 8, 80 in all
@@ -86,9 +106,6 @@ L17:
         out  ; 24: 3
         stopp  ; 25: 2
 ";
-
-/// Adds one to its packet.
-const INCREMENT: &str = "5450573110000c0008000100010000001024f25444f77081d01024f244fb21f5\n";
 
 const INCREMENT_STEPS: &str = "\
 13 12 ldc 4: A 4 B -2147483648 C -2147483544 Wptr 8 flag 0

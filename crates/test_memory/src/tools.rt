@@ -10,7 +10,8 @@ use tp_workbench::run;
 
 /// What a command answers, and how much it has written. After Memory that is how its text begins, and its fault is told.
 fn answer(alloc: Global, case: &Case<'_>) -> (Answer, usize) {
-    let mut input = case.input.as_bytes();
+    let input = case.input.page();
+    let mut input = input.written();
     let mut page = Page::new();
     let mut errors = Page::new();
     let status = run(
@@ -21,7 +22,8 @@ fn answer(alloc: Global, case: &Case<'_>) -> (Answer, usize) {
         &mut errors,
     );
     let (written, fault) = (page.written(), errors.written());
-    let told = case.told.as_bytes();
+    let told = case.told.page();
+    let told = told.written();
     let answer = if fault.is_empty() {
         same_if(status == ExitCode::from(case.status) && written == told)
     } else if fault == b"tpw: memory\n".as_slice()
