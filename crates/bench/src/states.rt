@@ -16,7 +16,7 @@ use std::time::Instant;
 use tp_decode::{Instr, Listing, decode};
 use tp_flow::{Edge, Nest, check_flow};
 use tp_image::{Image, read_image};
-use tp_samples::INCREMENT;
+use tp_samples::{INCREMENT, LARGEST_WORKSPACE};
 use tp_state::State;
 
 const FEW_ROUNDS: u32 = 1_000;
@@ -24,10 +24,6 @@ const FEW_ROUNDS: u32 = 1_000;
 const TIMED_ROUNDS: u32 = 10_000_000;
 
 const TIMED_MEETINGS: u32 = 1_000_000;
-
-/// `INCREMENT` in version 2, with a workspace of 512 words.
-const WIDE: &[u8] = b"TPW2\x10\0\0\x02\x08\0\x01\0\x01\0\0\0\0\0\
-    \x10\x24\xF2\x54\x44\xF7\x70\x81\xD0\x10\x24\xF2\x44\xFB\x21\xF5";
 
 pub(crate) fn measure<R: Runtime<A = Global>>(rt: &R, is_timed: bool) -> Result<()> {
     measure_rules(rt, is_timed)?;
@@ -91,7 +87,7 @@ fn passed_in<R: Runtime<A = Global>>(
 }
 
 fn measure_meetings<R: Runtime<A = Global>>(rt: &R, is_timed: bool) -> Result<()> {
-    let image = read_image(rt.alloc(), WIDE)?;
+    let image = read_image(rt.alloc(), LARGEST_WORKSPACE)?;
     let mut state = State::entry(rt.alloc(), &image)?;
     drop(image);
     let first = state.copy_of(rt.alloc())?;

@@ -6,10 +6,11 @@ ghost use Rattle.tp_flow.specs.NestRanges.{ranges};
 ghost use Rattle.tp_state.specs.Conditions.{HasGoodLoops, IsPlaced};
 ghost use Rattle.tp_check.specs.StatesThere.{AreStatesThere};
 
-use crate::asserts::{assert_same, unwrap};
+use crate::asserts::assert_same;
 use crate::images::*;
 use crate::reading::read;
 use crate::states::refused;
+use crate::texts::{NINE_HUNDRED, many_jumps};
 use std::alloc::Global;
 use std::process::Abort;
 use tp_check::{Effort, Table, check_states, check_states_counting, judge_states};
@@ -129,20 +130,6 @@ fn assert_kept(rt: &(impl Abort + AllocGlobal), bytes: &[u8], places: &[u32]) {
     }
 }
 
-/// A worker with 900 conditional jumps to the instruction behind each, so that both edges of each have one target.
-fn nine_hundred_jumps(rt: &impl Abort, alloc: Global) -> Vec<u8> {
-    let mut bytes = unwrap(
-        rt,
-        Vec::from_slice(alloc, b"TPW1\x15\x07\x0C\0\x08\0\x01\0\x01\0\0\0"),
-    );
-    unwrap(rt, bytes.extend_from_slice(b"\x10\x24\xF2\x54\x44\xF7"));
-    for _ in 0..900 {
-        unwrap(rt, bytes.extend_from_slice(b"\x40\xA0"));
-    }
-    unwrap(rt, bytes.extend_from_slice(b"\x10\x24\xF2\x44\xFB\x21\xF5"));
-    bytes
-}
-
 /// States are kept at the first instruction, where two ways meet, and at heads.
 #[test]
 fn keeps_states_where_edges_join(rt: HostRuntime) {
@@ -150,7 +137,7 @@ fn keeps_states_where_edges_join(rt: HostRuntime) {
     assert_kept(&rt, SUM_TO_TEN, &[0, 12]);
     assert_kept(&rt, SUM_TO_TEN_THOUSAND, &[0, 15]);
     assert_kept(&rt, STORES_BY_TWO_WAYS, &[0, 13]);
-    let jumps = nine_hundred_jumps(&rt, rt.alloc());
+    let jumps = many_jumps(&rt, rt.alloc(), NINE_HUNDRED, 900);
     let table = found(&rt, &jumps);
     assert_same(&rt, &table.kept(), &901);
 }
@@ -158,7 +145,7 @@ fn keeps_states_where_edges_join(rt: HostRuntime) {
 /// They stand by rising address.
 #[test]
 fn tables_rise(rt: HostRuntime) {
-    let jumps = nine_hundred_jumps(&rt, rt.alloc());
+    let jumps = many_jumps(&rt, rt.alloc(), NINE_HUNDRED, 900);
     let mut last = None;
     for (at, _) in &found(&rt, &jumps).states {
         assert!(rt; last < Some(*at), "a higher address than the one before");
