@@ -3,7 +3,6 @@
 use crate::answer::{Answer, Tally, same_if};
 use crate::batch::batch;
 use crate::page::Page;
-use crate::words::Words;
 use arrayvec::ArrayVec;
 use std::alloc::Global;
 use std::process::ExitCode;
@@ -20,6 +19,7 @@ use tp_link::{LinkDevice, Medium, OwnedWire, Wire};
 use tp_program::run;
 pub(crate) use tp_samples::INCREMENT;
 use tp_samples::STORES_BY_TWO_WAYS;
+use tp_samples::streams::Words;
 use tp_state::{Cell, StateFault};
 
 /// Makes every call, and counts the answers.

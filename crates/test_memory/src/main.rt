@@ -14,7 +14,6 @@ mod calls;
 mod page;
 mod told;
 mod tools;
-mod words;
 
 use std::alloc::Global;
 use std::io;

@@ -3,9 +3,9 @@
 use crate::answer::{Answer, Tally, same_if};
 use crate::page::Page;
 use crate::told::{CASES, Case};
-use crate::words::Words;
 use std::alloc::Global;
 use std::process::ExitCode;
+use tp_samples::streams::Words;
 use tp_workbench::run;
 
 /// What a command answers, and how much it has written. After Memory that is how its text begins, and its fault is told.

@@ -1,7 +1,6 @@
 //! Each way in which the program ends: its status, and what it writes.
 
 use crate::asserts::{assert_same, unwrap};
-use crate::streams::{Broken, Ended, Unflushed, Words};
 use std::alloc::{AllocError, Global};
 use std::env::{Env, FillError};
 use std::io;
@@ -10,6 +9,7 @@ use std::process::{Abort, ExitCode};
 use std::sync::Wait;
 use std::thread::Threads;
 use tp_program::{Ending, run};
+use tp_samples::streams::{Broken, Ended, Unflushed, Words};
 use tp_samples::{INCREMENT, TRACES_ITS_PACKET};
 use tp_session::ServeFault;
 

@@ -1,4 +1,4 @@
-//! What the programs are run on in tests, and what they end with.
+//! What tests run the programs on, and what they end with: command lines, and streams that fail.
 
 use std::env::{Env, FillError};
 use std::io;

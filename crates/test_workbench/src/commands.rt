@@ -1,10 +1,10 @@
 //! What the program writes and ends with: of runs, of inputs and of command lines that it does not take.
 
 use crate::asserts::{assert_same, unwrap};
-use crate::streams::{Broken, Ended, Unflushed, Words};
 use std::alloc::{AllocError, Global};
 use std::io::{Read, Write};
 use std::process::{Abort, ExitCode};
+use tp_samples::streams::{Broken, Ended, Unflushed, Words};
 use tp_samples::{FIBONACCI, INCREMENT};
 use tp_stepper::{End, Place};
 use tp_workbench::{Ending, Status, TextFault, bytes_of, place_of, run};
