@@ -26,11 +26,11 @@ before_other b line e =
     let one : 1 + before line ≡ suc (before line) = omega arith in
     rw e one
 
-fields_space : (b : ℕ) (line : List ℕ) → is_space b ≡ true → fields_of (b ∷ line) ≡ [] ∷ fields_of line
+pub fields_space : (b : ℕ) (line : List ℕ) → is_space b ≡ true → fields_of (b ∷ line) ≡ [] ∷ fields_of line
 unfolding fields_of
 fields_space b line e = rw e refl
 
-fields_other : (b : ℕ) (line : List ℕ) → is_space b ≡ false → fields_of (b ∷ line) ≡ onto_first b (fields_of line)
+pub fields_other : (b : ℕ) (line : List ℕ) → is_space b ≡ false → fields_of (b ∷ line) ≡ onto_first b (fields_of line)
 unfolding fields_of
 fields_other b line e = rw e refl
 
@@ -77,7 +77,7 @@ more_fields line i found = by_test (nat_lt (before line) (length line)) refl fou
         rw (next, ← at) (parted line (grind (arith, nat_tests)))
 
 -- a line has a first field
-first_field : (line : List ℕ) → (field : List ℕ) × (fields : List (List ℕ)) × (fields_of line ≡ field ∷ fields)
+pub first_field : (line : List ℕ) → (field : List ℕ) × (fields : List (List ℕ)) × (fields_of line ≡ field ∷ fields)
 unfolding fields_of
 first_field [] = ([], [], refl)
 first_field (b ∷ line) = by_test (first_field line) (is_space b) refl
@@ -107,7 +107,7 @@ asks_more line first rest second behind third last one two three =
 
 -- ---- a third field that has a space
 
-space_is_no_digit : (b : ℕ) → is_space b ≡ true → is_hex_digit b ≡ false
+pub space_is_no_digit : (b : ℕ) → is_space b ≡ true → is_hex_digit b ≡ false
 space_is_no_digit b e =
     let is : b ≡ 32 = grind (arith, nat_tests, e) in
     rw is refl

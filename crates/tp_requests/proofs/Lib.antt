@@ -1,2 +1,4 @@
 pub mod FieldLemmas
 pub mod SpellingLemmas
+pub mod ProtocolLemmas
+pub mod LineLemmas
