@@ -8,9 +8,10 @@ use Rattle.tp_accept.specs.declared.refusal.RefusalCode.{RefusalCode}
 use Rattle.tp_accept.specs.declared.refusal.Refusal.TheVariants.{Refused}
 use Rattle.tp_accept.specs.Refusals.{refusal_code_text}
 use Rattle.tp_accept.specs.Verdict.{IsAnswer, allowed}
-use Rattle.tp_answers.specs.Sessions.{Session, most_packets, with_session, without_session, with_packet}
+use Rattle.tp_collect.specs.Collecting.{most_packets}
+use Rattle.tp_answers.specs.Sessions.{Session, with_session, without_session, with_packet}
 use Rattle.tp_answers.specs.Told.{refusal, yes_line, kept_line, gone_line, GoesOnWith}
-use Rattle.tp_answers.specs.Answers.{Standing, IsJudged, AnswersImage, packet_refusal, AnswersPacket, AnswersDrop}
+use Rattle.tp_answers.specs.Answers.{ServiceState, IsJudged, AnswersImage, packet_refusal, AnswersPacket, AnswersDrop}
 
 -- ---- what is told goes on with an answer
 
@@ -43,36 +44,36 @@ may_be_kept s packet long few =
 
 -- ---- answers by what is found
 
-pub packet_of_none : (o : Option Session) (number : ℕ) (packet : List ℕ) (before : Standing) → o ≡ None
+pub packet_of_none : (o : Option Session) (number : ℕ) (packet : List ℕ) (before : ServiceState) → o ≡ None
     → AnswersPacket o number packet before (refusal (codes "P2") number) before
 packet_of_none o number packet before none = rw none (refl, refl)
 
-pub packet_refused : (o : Option Session) (s : Session) (code : List ℕ) (number : ℕ) (packet : List ℕ) (before : Standing)
+pub packet_refused : (o : Option Session) (s : Session) (code : List ℕ) (number : ℕ) (packet : List ℕ) (before : ServiceState)
     → o ≡ Some s → packet_refusal s packet ≡ Some code → AnswersPacket o number packet before (refusal code number) before
 packet_refused o s code number packet before is why = rw is (rw why (refl, refl))
 
-pub packet_kept : (o : Option Session) (s : Session) (number : ℕ) (packet : List ℕ) (before after : Standing) → o ≡ Some s
+pub packet_kept : (o : Option Session) (s : Session) (number : ℕ) (packet : List ℕ) (before after : ServiceState) → o ≡ Some s
     → packet_refusal s packet ≡ None → after ≡ record before { sessions = with_session (with_packet s packet) before.sessions }
     → AnswersPacket o number packet before (kept_line (length s.packets)) after
 packet_kept o s number packet before after is why changed = rw is (rw why (refl, changed))
 
-pub drop_of_none : (o : Option Session) (number : ℕ) (name : List ℕ) (before : Standing) → o ≡ None
+pub drop_of_none : (o : Option Session) (number : ℕ) (name : List ℕ) (before : ServiceState) → o ≡ None
     → AnswersDrop o number name before (refusal (codes "P2") number) before
 drop_of_none o number name before none = rw none (refl, refl)
 
-pub dropped : (o : Option Session) (s : Session) (number : ℕ) (name : List ℕ) (before after : Standing) → o ≡ Some s
+pub dropped : (o : Option Session) (s : Session) (number : ℕ) (name : List ℕ) (before after : ServiceState) → o ≡ Some s
     → after ≡ record before { sessions = without_session name before.sessions } → AnswersDrop o number name before gone_line after
 dropped o s number name before after is changed = rw is (refl, changed)
 
-pub image_full : (full : Bool) (number : ℕ) (name text : List ℕ) (before : Standing) → full ≡ true
+pub image_full : (full : Bool) (number : ℕ) (name text : List ℕ) (before : ServiceState) → full ≡ true
     → AnswersImage full number name text before (refusal (codes "E2") number) before
 image_full full number name text before is = rw is (refl, refl)
 
-image_judged_as : (full : Bool) (number : ℕ) (name text : List ℕ) (before : Standing) (told : List ℕ) (after : Standing)
+image_judged_as : (full : Bool) (number : ℕ) (name text : List ℕ) (before : ServiceState) (told : List ℕ) (after : ServiceState)
     → full ≡ false → IsJudged name text before told after → AnswersImage full number name text before told after
 image_judged_as full number name text before told after is judged = rw is judged
 
-pub image_judged : {S E : Type 0} (r : Result S E) (full : Bool) (number : ℕ) (name text : List ℕ) (before after : Standing)
+pub image_judged : {S E : Type 0} (r : Result S E) (full : Bool) (number : ℕ) (name text : List ℕ) (before after : ServiceState)
     (was now : List ℕ) → full ≡ false
     → OnOk r (GoesOnWith (λ line. IsJudged name text before line after) was now)
     → OnOk r (GoesOnWith (λ line. AnswersImage full number name text before line after) was now)
@@ -80,12 +81,12 @@ image_judged (Ok x) full number name text before after was now is (told, goes, j
     (told, goes, image_judged_as full number name text before told after is judged)
 image_judged (Err e) full number name text before after was now is h = tt
 
-pub image_refused : (name text : List ℕ) (before : Standing) (code : RefusalCode) (place : ℕ)
+pub image_refused : (name text : List ℕ) (before : ServiceState) (code : RefusalCode) (place : ℕ)
     → IsAnswer text (Err (Refused code place)) → IsJudged name text before (refusal (refusal_code_text code) place) before
 image_refused name text before code place answer =
     record { verdict = Err (Refused code place); is = answer; answers = (refl, refl) }
 
-pub image_opened : (name text : List ℕ) (before after : Standing) (image : ImageValue) (budget : ℕ) (told : List ℕ)
+pub image_opened : (name text : List ℕ) (before after : ServiceState) (image : ImageValue) (budget : ℕ) (told : List ℕ)
     → IsAnswer text (Ok (allowed image budget)) → IsTextOf text image → told ≡ yes_line (allowed image budget)
     → after ≡ record before { sessions = with_session record { name = name; image = image; packets = [] } before.sessions }
     → IsJudged name text before told after

@@ -13,11 +13,11 @@ use Rattle.indexmap.specs.IndexMap.{insert_entry}
 use Rattle.arrayvec.specs.declared.array_vec.ArrayVec.{ArrayVec}
 use Rattle.tp_image.specs.Image.{ImageValue}
 use Rattle.tp_accept.specs.declared.accepted.Accepted.{Accepted}
-use Rattle.tp_answers.specs.declared.session.Kept.{Kept}
+use Rattle.tp_answers.specs.declared.session.OpenSession.{OpenSession}
 use Rattle.tp_answers.specs.Answers.{is_full}
 use Rattle.tp_answers.specs.Sessions.{most_sessions, Session, is_of, named, with_session, without_session, with_packet}
 use Rattle.tp_answers.specs.Sessions.{without_packets}
-use Rattle.tp_answers.specs.Open.{session_of}
+use Rattle.tp_answers.specs.OpenSessions.{session_of}
 use Rattle.tp_answers.proofs.Places.{IsFirst, NonePasses, first_found, none_found}
 
 -- ---- the first session of a name
@@ -178,17 +178,17 @@ with_parts name image packets = record { name = name; image = image; packets = p
 abbrev bytes_of : List (ArrayVec ℕ 256 (Unit {0})) → List (List ℕ)
 bytes_of packets = map (λ p. p.items) packets
 
-pub few_kept : (name : List ℕ) (kept : Kept) → length (session_of name kept).packets < 1024 → vec_len kept.packets < 1024
+pub few_kept : (name : List ℕ) (kept : OpenSession) → length (session_of name kept).packets < 1024 → vec_len kept.packets < 1024
 few_kept name kept few = omega (arith, few, kept.packets.ok.0, length-map kept.packets.items (λ p. p.items))
 
-pub forgot : (s : Session) (kept new : Kept) → s ≡ session_of s.name kept → new.image ≡ kept.image → new.packets.items ≡ []
+pub forgot : (s : Session) (kept new : OpenSession) → s ≡ session_of s.name kept → new.image ≡ kept.image → new.packets.items ≡ []
     → session_of s.name new ≡ without_packets s
 forgot s kept new is image none =
     ap (λ i. with_parts s.name i.image (bytes_of new.packets.items)) image
     ∙ ap (λ ps. with_parts s.name kept.image.image (bytes_of ps)) none
     ∙ sym (ap (λ t. with_parts s.name t.image []) is)
 
-pub kept_more : (s : Session) (kept new : Kept) (packet : ArrayVec ℕ 256 (Unit {0})) → s ≡ session_of s.name kept
+pub kept_more : (s : Session) (kept new : OpenSession) (packet : ArrayVec ℕ 256 (Unit {0})) → s ≡ session_of s.name kept
     → new.image ≡ kept.image → new.packets.items ≡ kept.packets.items ++ packet ∷ []
     → session_of s.name new ≡ with_packet s packet.items
 kept_more s kept new packet is image more =
@@ -197,10 +197,10 @@ kept_more s kept new packet is image more =
     ∙ ap (with_parts s.name kept.image.image) (map-append (λ p. p.items) kept.packets.items (packet ∷ []))
     ∙ sym (ap (λ t. with_parts s.name t.image (t.packets ++ packet.items ∷ [])) is)
 
-pub packets_kept : (s : Session) (kept : Kept) → s ≡ session_of s.name kept → length s.packets ≡ vec_len kept.packets
+pub packets_kept : (s : Session) (kept : OpenSession) → s ≡ session_of s.name kept → length s.packets ≡ vec_len kept.packets
 packets_kept s kept is = ap (λ t. length t.packets) is ∙ length-map kept.packets.items (λ p. p.items) ∙ sym kept.packets.ok.0
 
-pub opened_none : (name : List ℕ) (image : Accepted) (kept : Kept) → kept.image ≡ image → kept.packets.items ≡ []
+pub opened_none : (name : List ℕ) (image : Accepted) (kept : OpenSession) → kept.image ≡ image → kept.packets.items ≡ []
     → session_of name kept ≡ record { name = name; image = image.image; packets = [] }
 opened_none name image kept same none =
     ap (λ i. with_parts name i.image (bytes_of kept.packets.items)) same

@@ -1,12 +1,11 @@
 -- What is told of the entries of a batch.
 use Rattle.std.specs.Prelude.{ℕ, ◌+◌, ◌≤◌, Bool, List, [], ◌∷◌, ◌++◌, length}
 use Rattle.tp_image.specs.Image.{ImageValue}
-use Rattle.tp_step.specs.Runs.{RunsAlone}
+use Rattle.tp_step.specs.Runs.{RunsAlone, TracesMoreThan}
 use Rattle.tp_collect.specs.DoneValue.{run_of_done, most_trace}
 use Rattle.tp_collect.specs.declared.collected.Entry.{Entry}
 use Rattle.tp_collect.specs.declared.collected.Entry.TheVariants as entry
 use Rattle.tp_answers.specs.Told.{run_lines, lost_line}
-use Rattle.tp_answers.specs.Answers.{TracesTooMuch}
 
 abbrev pub entry_told : Bool → ℕ → Entry → List ℕ
 entry_told trace n (entry.Done done) = run_lines trace n (run_of_done done)
@@ -21,7 +20,7 @@ entries_told trace n (e ∷ entries) = entry_told trace n e ++ entries_told trac
 -- alone
 abbrev pub IsOutcome : ImageValue → List ℕ → Entry → Type 0
 IsOutcome image packet (entry.Done done) = RunsAlone image packet (run_of_done done) × (length done.trace ≤ most_trace)
-IsOutcome image packet (entry.Lost cause) = TracesTooMuch image packet
+IsOutcome image packet (entry.Lost cause) = TracesMoreThan most_trace image packet
 
 -- each entry is that of its packet
 abbrev pub AreOutcomes : ImageValue → List (List ℕ) → List Entry → Type 0

@@ -1,7 +1,8 @@
+-- What a reader must believe: clauses of public calls cite it.
 pub mod Sessions
 pub mod Told
 pub mod Answers
-pub mod Open
+pub mod OpenSessions
 pub mod Entries
 pub use Rattle.tp_requests.specs.Lines
 pub use Rattle.tp_requests.specs.Fields

@@ -3,12 +3,9 @@ use Rattle.std.specs.Prelude.{ℕ, Bool, if◌then◌else◌, List, [], ◌∷�
 use Rattle.tp_image.specs.Image.{ImageValue}
 use Rattle.tp_requests.specs.Fields.{is_text}
 
--- the most sessions that are open at a time, and the most packets that one keeps
+-- the most sessions that are open at a time; one keeps no more packets than a batch may have
 abbrev pub most_sessions : ℕ
 most_sessions = 64
-
-abbrev pub most_packets : ℕ
-most_packets = 1024
 
 -- a session: its name, the image that its packets are for, and the packets that it keeps, in order of number
 pub record Session : Type 0 where

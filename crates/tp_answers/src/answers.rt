@@ -10,26 +10,24 @@ ghost use Rattle.tp_accept.specs.Verdict.{allowed};
 ghost use Rattle.tp_answers.specs.Sessions.{is_of, named};
 ghost use Rattle.tp_answers.specs.Told.{written, refusal, listing_answer, yes_line};
 ghost use Rattle.tp_answers.specs.Answers.{is_full, IsJudged, AnswersImage, AnswersPacket, AnswersDrop};
-ghost use Rattle.tp_answers.specs.Open.{sessions_of, TellsOfSessions};
+ghost use Rattle.tp_answers.specs.OpenSessions.{sessions_of, TellsOfSessions};
 
-use crate::session::Kept;
+use crate::session::OpenSession;
 use crate::sessions::Sessions;
 use crate::telling::{tell_done, tell_gone, tell_kept};
 use std::alloc::{AllocError, Global};
 use std::io::Write;
 use tp_accept::{Accepted, Refusal, RefusalCode, accept};
-use tp_board::Packet;
+use tp_board::{MAX_PACKETS, Packet};
+use tp_collect::limits::MESSAGE_BYTES;
 use tp_decode::{DecodeFault, Listing, decode};
 use tp_requests::{Name, Spelled};
 
 /// The most sessions that are open at a time.
 const MOST_SESSIONS: usize = 64;
 
-/// The most packets that a session keeps.
-const MOST_PACKETS: usize = 1024;
-
-/// The most bytes of a packet.
-const MOST_PACKET_BYTES: usize = 256;
+/// The most packets that a session keeps: those of a batch.
+const MOST_PACKETS: usize = MAX_PACKETS as usize;
 
 /// A line that is refused: its code and the place, behind what is told already.
 pub fn refusal(told: &mut Vec<u8>, code: &str, place: u64) -> Result<(), AllocError>
@@ -100,7 +98,7 @@ fn judge(
     match accept(alloc, text) {
         Ok(image) => {
             tell_yes(told, &image)?;
-            sessions.set(place, name, Kept::new(alloc, image))?;
+            sessions.set(place, name, OpenSession::new(alloc, image))?;
             Ok(())
         }
         Err(Refusal::Refused { code, place }) => refused(told, code, place),
@@ -135,7 +133,7 @@ fn packet_of(bytes: &Spelled<'_>) -> Packet
     ensures items { result.items ≡ bytes_spelled bytes.now }
     ensures bytes { IsTrue (list_all (λ b. nat_lt b 256) result.items) }
 {
-    let mut packet = Packet::from_array_in((), [0; MOST_PACKET_BYTES]);
+    let mut packet = Packet::from_array_in((), [0; MESSAGE_BYTES]);
     packet.truncate(bytes.count());
     bytes.decode_into(packet.as_mut_slice());
     packet
@@ -169,7 +167,7 @@ pub fn keep(
 }
 
 /// A session ends. The answer comes behind what is told already.
-pub fn close(
+pub fn drop_session(
     sessions: &mut Sessions,
     told: &mut Vec<u8>,
     number: u64,

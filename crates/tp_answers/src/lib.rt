@@ -9,7 +9,7 @@ mod session;
 mod sessions;
 mod telling;
 
-pub use answers::{close, keep, list, open, refusal};
-pub use session::Kept;
+pub use answers::{drop_session, keep, list, open, refusal};
+pub use session::OpenSession;
 pub use sessions::Sessions;
 pub use telling::{tell_done, tell_entries};

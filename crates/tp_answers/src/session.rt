@@ -9,7 +9,7 @@ use tp_board::Packet;
 
 /// What a session keeps: the image, and the packets that are to be run on it.
 #[derive(Drop)]
-pub struct Kept {
+pub struct OpenSession {
     pub image: Accepted,
     /// In order of number, from 0.
     pub packets: Vec<Packet>,
@@ -31,13 +31,13 @@ fn give_back(packets: &mut Vec<Packet>)
     }
 }
 
-impl Kept {
+impl OpenSession {
     /// A session that keeps no packet yet.
-    pub fn new(alloc: Global, image: Accepted) -> Kept
+    pub fn new(alloc: Global, image: Accepted) -> OpenSession
         ensures image { result.image ≡ image }
         ensures packets { result.packets.items ≡ [] }
     {
-        Kept {
+        OpenSession {
             image,
             packets: Vec::new(alloc),
         }

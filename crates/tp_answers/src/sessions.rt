@@ -4,9 +4,9 @@ ghost use Rattle.std.specs.Prelude.{◌≡◌, ◌*◌, ◌<◌, [], ◌∷◌, 
 ghost use Rattle.std.specs.Prelude.{IsTrue, OnOk, IfSome};
 ghost use Rattle.std.specs.List.{list_all};
 ghost use Rattle.tp_answers.specs.Sessions.{Session, is_of, with_session, with_packet, without_packets};
-ghost use Rattle.tp_answers.specs.Open.{session_of, sessions_of};
+ghost use Rattle.tp_answers.specs.OpenSessions.{session_of, sessions_of};
 
-use crate::session::Kept;
+use crate::session::OpenSession;
 use indexmap::IndexMap;
 use std::alloc::{AllocError, Global};
 use tp_board::Packet;
@@ -15,7 +15,7 @@ use tp_requests::Name;
 /// The open sessions by name, in the order in which they were opened.
 #[derive(Drop)]
 pub struct Sessions {
-    by_name: IndexMap<Name, Kept>,
+    by_name: IndexMap<Name, OpenSession>,
 }
 
 impl Sessions {
@@ -43,7 +43,7 @@ impl Sessions {
     }
 
     /// What the session at a place keeps.
-    pub fn at(&self, index: usize) -> &Kept
+    pub fn at(&self, index: usize) -> &OpenSession
         requires { index < length (sessions_of self.now) }
         ensures { (s : Session) → slice_get (sessions_of self.now) index ≡ Some s → s ≡ session_of s.name result.now }
     {
@@ -62,7 +62,7 @@ impl Sessions {
     }
 
     /// Opens a session, behind all others; one of this name is replaced, and keeps its place.
-    pub fn put(&mut self, name: Name, kept: Kept) -> Result<(), AllocError>
+    pub fn put(&mut self, name: Name, kept: OpenSession) -> Result<(), AllocError>
         ensures { OnOk result
             (sessions_of self.new ≡ with_session (session_of name.items kept) (sessions_of self.old)) }
     {
@@ -75,7 +75,7 @@ impl Sessions {
         &mut self,
         place: Option<usize>,
         name: Name,
-        kept: Kept,
+        kept: OpenSession,
     ) -> Result<(), AllocError>
         requires { place ≡ position (is_of name.items) (sessions_of self.old) }
         ensures { OnOk result

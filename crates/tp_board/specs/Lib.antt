@@ -1,4 +1,4 @@
-pub use Rattle.atomic_table.specs.Seated
+-- What a reader must believe: clauses of public calls cite it.
 pub mod Counting
 pub mod Farm
 pub mod Runs
@@ -11,7 +11,6 @@ pub mod FarmOf
 pub mod Openings
 pub mod Laws
 pub mod Schedules
-pub mod Plays
 pub mod Faults
 pub mod Boards
 pub mod Calls
@@ -22,3 +21,6 @@ pub mod Desks
 pub mod Streams
 pub mod Stages
 pub mod StreamRuns
+pub use Rattle.atomic_table.specs.Seated
+-- What only private steps cite.
+pub mod Plays

@@ -12,7 +12,7 @@ use Rattle.tp_state.specs.Answer.{◌>>=◌}
 use Rattle.tp_state.specs.Entry.{entry}
 use Rattle.tp_state.proofs.LiveWords.{none_live}
 use Rattle.tp_check.specs.Tables.{Table}
-use Rattle.tp_check.specs.Passes.{along, edges_in, pass, passes, first_table, IsVerdict}
+use Rattle.tp_check.specs.Passes.{along_edges, edges_in, pass, passes, first_table, IsVerdict}
 use Rattle.tp_check.specs.Carried.{over, only_joins, is_head, reached, AreWide, carried, carried_pass}
 use Rattle.tp_check.proofs.Lone.{IsStateAt}
 use Rattle.tp_rules.proofs.SoundJoins.{entry_sound}
@@ -47,7 +47,7 @@ module _ (image : ImageValue) (cuts : List Cut) (range : InRange image) (spelled
     subst (λ r. IfOk r Good) (sym edges.0) edges.1,
   )
     where
-      edges : (along image (edges_in cuts) table ≡ over image joins (edges_in cuts) table) × IfOk (over image joins (edges_in cuts) table) Good
+      edges : (along_edges image (edges_in cuts) table ≡ over image joins (edges_in cuts) table) × IfOk (over image joins (edges_in cuts) table) Good
       edges = edge_by_edge image range.rows kept.good joins (IsOne image cuts kept joins wide) (IsStateAt image) (lone image cuts kept joins wide) (are_states image cuts kept joins wide range spelled) (edges_in cuts) (λ i e is. (i, is)) table good
 
   pub all_passes : (n : ℕ) → (passes image cuts n ≡ carried image cuts joins n) × IfOk (passes image cuts n) Good

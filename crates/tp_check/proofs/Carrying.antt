@@ -12,7 +12,7 @@ use Rattle.tp_state.specs.declared.state.State.{State}
 use Rattle.tp_state.specs.declared.fault.StateFault.{StateFault}
 use Rattle.tp_state.specs.Answer.{◌>>=◌}
 use Rattle.tp_check.specs.Tables.{Table, with_state}
-use Rattle.tp_check.specs.Passes.{placed, met, enter, along}
+use Rattle.tp_check.specs.Passes.{with_place, meeting_if_any, enter, along_edges}
 use Rattle.tp_check.specs.Carried.{target_of, outcome_of, arrive, go_over, over, only_joins}
 use Rattle.tp_check.proofs.Lone.{IsLone, AreStates, IsAmong, LeadsOn}
 use Rattle.tp_check.proofs.Trails.{Trails, one_edge, edge_by_edge}
@@ -20,14 +20,14 @@ use Rattle.tp_check.proofs.Trails.{Trails, one_edge, edge_by_edge}
 same_number : (n m : ℕ) → n ≡ m → (n == m) ≡ true
 same_number n m e = grind (arith, nat_tests)
 
-enter_at : (to : ℕ) (t : State) (table : Table) → enter (Some to) t table ≡ (placed to (met (table to) t) >>= λ v. Ok (with_state to v table))
+enter_at : (to : ℕ) (t : State) (table : Table) → enter (Some to) t table ≡ (with_place to (meeting_if_any (table to) t) >>= λ v. Ok (with_state to v table))
 unfolding enter
 enter_at to t table = refl
 
 module _ (image : ImageValue) (are : All IsRow image.loops) (good : All (IsGood image.workspace) image.loops) (joins : ℕ → Bool)
-    (IsEdge : Placed × Edge → Type 0) (Stands : ℕ → State → Type 0) (lone : IsLone image joins IsEdge) (states : AreStates image IsEdge Stands) where
-  abbrev Kept : Table → Type 0
-  Kept table = Trails image are good joins IsEdge Stands lone states table
+    (IsEdge : Placed × Edge → Type 0) (MayOccur : ℕ → State → Type 0) (lone : IsLone image joins IsEdge) (states : AreStates image IsEdge MayOccur) where
+  abbrev HasTrails : Table → Type 0
+  HasTrails table = Trails image are good joins IsEdge MayOccur lone states table
 
   -- two tables differ at most where an edge that is still to be taken leads, and only where edges do not join
   abbrev Awaits : List (Placed × Edge) → Table → ℕ → Type 0
@@ -72,7 +72,7 @@ module _ (image : ImageValue) (are : All IsRow image.loops) (good : All (IsGood 
           not_there e = let no : (at == to) ≡ true = same_number at to (sym e) in let never : true ≡ false = sym no ∙ differ in cc
 
   -- one edge
-  step : (f : Placed × Edge) (more : List (Placed × Edge)) → IsEdge f → (table other : Table) → Kept table → Agree (f ∷ more) table other → table f.0.at ≡ other f.0.at
+  step : (f : Placed × Edge) (more : List (Placed × Edge)) → IsEdge f → (table other : Table) → HasTrails table → Agree (f ∷ more) table other → table f.0.at ≡ other f.0.at
       → AgreeOk more (go_over image joins f (table f.0.at) table) (go_over image joins f (other f.0.at) other)
   step f more is_f table other kept h alike = rw (← alike) (by_state (table f.0.at) refl)
     where
@@ -104,7 +104,7 @@ module _ (image : ImageValue) (are : All IsRow image.loops) (good : All (IsGood 
       by_target t (Some to) goes = by_test (joins to) refl
         where
           by_test : (b : Bool) → joins to ≡ b → AgreeOk more (if b then enter (Some to) t table else Ok (with_state to t table)) (if b then enter (Some to) t other else Ok (with_state to t other))
-          by_test true joined = rw (enter_at to t table, enter_at to t other, ← joined_alike (f ∷ more) table other h to joined) (entered to goes (placed to (met (table to) t)))
+          by_test true joined = rw (enter_at to t table, enter_at to t other, ← joined_alike (f ∷ more) table other h to joined) (entered to goes (with_place to (meeting_if_any (table to) t)))
           by_test false lone_to = set_alike f more table other h to goes t
 
       by_outcome : (r : Result State StateFault) → AgreeOk more (r >>= λ t. arrive joins (target_of image f) t table) (r >>= λ t. arrive joins (target_of image f) t other)
@@ -123,16 +123,16 @@ module _ (image : ImageValue) (are : All IsRow image.loops) (good : All (IsGood 
       by_way (inl same) = same
       by_way (inr (lone_at, none, (e, among, is_e, goes))) = absurd (on e among lone_at goes)
 
-  pub over_alike : (es : List (Placed × Edge)) → ((i : ℕ) (e : Placed × Edge) → slice_get es i ≡ Some e → IsEdge e) → LeadsOn image joins es → (table other : Table) → Kept table → Agree es table other
+  pub over_alike : (es : List (Placed × Edge)) → ((i : ℕ) (e : Placed × Edge) → slice_get es i ≡ Some e → IsEdge e) → LeadsOn image joins es → (table other : Table) → HasTrails table → Agree es table other
       → AgreeOk [] (over image joins es table) (over image joins es other)
   over_alike [] edges on table other kept h = h
   over_alike (f ∷ more) edges on table other kept h =
       in_turn (go_over image joins f (table f.0.at) table) (go_over image joins f (other f.0.at) other)
-      (one_edge image are good joins IsEdge Stands lone states f (edges 0 f refl) table kept).1
+      (one_edge image are good joins IsEdge MayOccur lone states f (edges 0 f refl) table kept).1
       (step f more (edges 0 f refl) table other kept h (source_alike f more table other h on.0))
       (λ t o kept h. over_alike more (λ i e is. edges (suc i) e is) on.1 t o kept h)
     where
-      in_turn : (r q : Result Table StateFault) → IfOk r Kept → AgreeOk more r q → ((t o : Table) → Kept t → Agree more t o → AgreeOk [] (over image joins more t) (over image joins more o))
+      in_turn : (r q : Result Table StateFault) → IfOk r HasTrails → AgreeOk more r q → ((t o : Table) → HasTrails t → Agree more t o → AgreeOk [] (over image joins more t) (over image joins more o))
           → AgreeOk [] (r >>= over image joins more) (q >>= over image joins more)
       in_turn (Ok t) (Ok o) kept h go = go t o kept h
       in_turn (Err e) (Err f) kept h go = h
@@ -141,10 +141,10 @@ module _ (image : ImageValue) (are : All IsRow image.loops) (good : All (IsGood 
 
   -- A pass over a table comes to what the pass with carried outcomes comes to, from what stands where edges join: the
   -- same refusal, or the same whole table.
-  pub carried_pass : (es : List (Placed × Edge)) → ((i : ℕ) (e : Placed × Edge) → slice_get es i ≡ Some e → IsEdge e) → ((e : Placed × Edge) → IsEdge e → IsAmong es e) → LeadsOn image joins es → (table : Table) → Kept table
-      → along image es table ≡ over image joins es (only_joins joins table)
+  pub carried_pass : (es : List (Placed × Edge)) → ((i : ℕ) (e : Placed × Edge) → slice_get es i ≡ Some e → IsEdge e) → ((e : Placed × Edge) → IsEdge e → IsAmong es e) → LeadsOn image joins es → (table : Table) → HasTrails table
+      → along_edges image es table ≡ over image joins es (only_joins joins table)
   carried_pass es edges all on table kept =
-      (edge_by_edge image are good joins IsEdge Stands lone states es edges table kept).0 ∙ alike (over image joins es table) (over image joins es (only_joins joins table)) (over_alike es edges on table (only_joins joins table) kept first)
+      (edge_by_edge image are good joins IsEdge MayOccur lone states es edges table kept).0 ∙ alike (over image joins es table) (over image joins es (only_joins joins table)) (over_alike es edges on table (only_joins joins table) kept first)
     where
       alike : (r q : Result Table StateFault) → AgreeOk [] r q → r ≡ q
       alike (Ok t) (Ok o) h = ap Ok (fun_ext λ at. at_end t o at (h at))

@@ -19,10 +19,11 @@ use Rattle.tp_image.specs.Image.{ImageValue}
 use Rattle.tp_image.specs.declared.image.LoopRow.{LoopRow}
 use Rattle.tp_check.specs.declared.way.Way.{Way}
 use Rattle.tp_check.specs.declared.way.Way.TheVariants as way
-use Rattle.tp_check.specs.Passes.{from, edges_of, edges_in}
+use Rattle.tp_check.specs.Passes.{edges_from, edges_of, edges_in}
 use Rattle.tp_check.specs.Carried.{IsAmong, target_of, leads_to, reached, is_head, is_kept}
 use Rattle.tp_check.specs.Joining.{way_at, joins, keeps, joins_at, keeps_at, with_edge, IsInner, leading, Tells, TellWays}
-use Rattle.tp_check.specs.UnderWay.{AreJoins, HasPlaces}
+use Rattle.tp_check.specs.UnderWay.{AreJoins}
+use Rattle.tp_check.specs.Rising.{HasPlaces}
 use Rattle.tp_check.proofs.Moving.{next_way}
 use Rattle.tp_check.proofs.Nests.{lone, count_one}
 
@@ -92,7 +93,7 @@ module _ (image : ImageValue) (cuts : List Cut) (e : Placed × Edge) (rest : Lis
             no : (at ≡ to → ⊥) → (to == at) ≡ false
             no other = grind (arith, nat_tests)
 
-next_counted : (image : ImageValue) (cuts : List Cut) (p : Placed) (edges : List Edge) (i : ℕ) (d : Edge) → i < length edges → (rest : List (Placed × Edge)) (ways : List Way) → TellWays image cuts (from p (drop i edges) ++ rest) ways → TellWays image cuts ((p, get_or edges i d) ∷ (from p (drop (i + 1) edges) ++ rest)) ways
+next_counted : (image : ImageValue) (cuts : List Cut) (p : Placed) (edges : List Edge) (i : ℕ) (d : Edge) → i < length edges → (rest : List (Placed × Edge)) (ways : List Way) → TellWays image cuts (edges_from p (drop i edges) ++ rest) ways → TellWays image cuts ((p, get_or edges i d) ∷ (edges_from p (drop (i + 1) edges) ++ rest)) ways
 next_counted image cuts p edges i d inside rest ways tells = subst (λ es. TellWays image cuts (es ++ rest) ways) (next_way p edges i d inside) tells
 
 any_way : (ways : List Way) (to : ℕ) (d : Way) → to < length ways → slice_index_or ways to d ≡ way_at ways to
@@ -102,7 +103,7 @@ any_way (w ∷ ways) (suc to) d lt = any_way ways to d (omega (arith, lt))
 
 -- an edge of an instruction, among those that are asked
 module _ (image : ImageValue) (cuts : List Cut) (p : Placed) (edges asks : List Edge) (same : edges ≡ asks) (i : ℕ) (d : Edge) (inside : i < length edges) (rest : List (Placed × Edge)) (ways : List Way)
-    (among : (e : Placed × Edge) → IsAmong (from p asks) e → IsAmong (edges_in cuts) e) (tells : TellWays image cuts (from p (drop i asks) ++ rest) ways) where
+    (among : (e : Placed × Edge) → IsAmong (edges_from p asks) e → IsAmong (edges_in cuts) e) (tells : TellWays image cuts (edges_from p (drop i asks) ++ rest) ways) where
   same_edge : slice_index_or edges i d ≡ get_or asks i d
   same_edge = ap (λ xs. slice_index_or xs i d) same
 
@@ -112,16 +113,16 @@ module _ (image : ImageValue) (cuts : List Cut) (p : Placed) (edges asks : List 
   one : IsAmong (edges_in cuts) (p, slice_index_or edges i d)
   one = subst (λ e. IsAmong (edges_in cuts) (p, e)) (sym same_edge) (among (p, get_or asks i d) (i, way_there p asks i d less))
 
-  here : TellWays image cuts ((p, slice_index_or edges i d) ∷ (from p (drop (i + 1) asks) ++ rest)) ways
-  here = subst (λ e. TellWays image cuts ((p, e) ∷ (from p (drop (i + 1) asks) ++ rest)) ways) (sym same_edge) (next_counted image cuts p asks i d less rest ways tells)
+  here : TellWays image cuts ((p, slice_index_or edges i d) ∷ (edges_from p (drop (i + 1) asks) ++ rest)) ways
+  here = subst (λ e. TellWays image cuts ((p, e) ∷ (edges_from p (drop (i + 1) asks) ++ rest)) ways) (sym same_edge) (next_counted image cuts p asks i d less rest ways tells)
 
-  pub next_nowhere : target_of image (p, slice_index_or edges i d) ≡ None → TellWays image cuts (from p (drop (i + 1) asks) ++ rest) ways
-  next_nowhere leads = counted_nowhere image cuts (p, slice_index_or edges i d) (from p (drop (i + 1) asks) ++ rest) ways here leads
+  pub next_nowhere : target_of image (p, slice_index_or edges i d) ≡ None → TellWays image cuts (edges_from p (drop (i + 1) asks) ++ rest) ways
+  next_nowhere leads = counted_nowhere image cuts (p, slice_index_or edges i d) (edges_from p (drop (i + 1) asks) ++ rest) ways here leads
 
-  pub next_there : (to : ℕ) → target_of image (p, slice_index_or edges i d) ≡ Some to → ((edge : Edge) (to : ℕ) → target_of image (p, edge) ≡ Some to → to < length ways) → (w new default : Way) → w ≡ slice_index_or ways to default → new ≡ with_edge (to == p.next) w → TellWays image cuts (from p (drop (i + 1) asks) ++ rest) (slice_set ways to new)
+  pub next_there : (to : ℕ) → target_of image (p, slice_index_or edges i d) ≡ Some to → ((edge : Edge) (to : ℕ) → target_of image (p, edge) ≡ Some to → to < length ways) → (w new default : Way) → w ≡ slice_index_or ways to default → new ≡ with_edge (to == p.next) w → TellWays image cuts (edges_from p (drop (i + 1) asks) ++ rest) (slice_set ways to new)
   next_there to leads within w new default was is =
-      subst (λ x. TellWays image cuts (from p (drop (i + 1) asks) ++ rest) (slice_set ways to x)) (sym (is ∙ ap (with_edge (to == p.next)) (was ∙ any_way ways to default (within (slice_index_or edges i d) to leads))))
-      (counted_there image cuts (p, slice_index_or edges i d) (from p (drop (i + 1) asks) ++ rest) ways here one to leads (within (slice_index_or edges i d) to leads))
+      subst (λ x. TellWays image cuts (edges_from p (drop (i + 1) asks) ++ rest) (slice_set ways to x)) (sym (is ∙ ap (with_edge (to == p.next)) (was ∙ any_way ways to default (within (slice_index_or edges i d) to leads))))
+      (counted_there image cuts (p, slice_index_or edges i d) (edges_from p (drop (i + 1) asks) ++ rest) ways here one to leads (within (slice_index_or edges i d) to leads))
 
 -- the edges of an instruction are those of a code
 pub among_of : (ps : List Placed) (i : ℕ) (p : Placed) → slice_get ps i ≡ Some p → (e : Placed × Edge) → IsAmong (edges_of p) e → IsAmong (flat_map edges_of ps) e

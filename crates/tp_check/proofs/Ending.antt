@@ -24,8 +24,9 @@ use Rattle.tp_state.specs.Order.{join}
 use Rattle.tp_state.specs.Entry.{entry}
 use Rattle.tp_state.specs.After.{after}
 use Rattle.tp_check.specs.Tables.{Table, table_of, asked}
-use Rattle.tp_check.specs.Passes.{enter, go_along, placed, along, from, edges_of, pass, passes, first_table, IsVerdict}
-use Rattle.tp_check.specs.UnderWay.{IsPlacedAt, HasGrown, MayBeTaken, state_height, table_height}
+use Rattle.tp_check.specs.Passes.{enter, go_along, with_place, along_edges, edges_from, edges_of, pass, passes, first_table, IsVerdict}
+use Rattle.tp_check.specs.UnderWay.{IsPlacedAt, HasGrown, MayBeTaken}
+use Rattle.tp_check.specs.Rising.{state_height, table_height}
 use Rattle.tp_check.proofs.Heights.{Sinks, sound_words, state_sinks, state_light, table_sinks}
 use Rattle.tp_check.proofs.TableSteps.{table_at, table_set}
 use Rattle.tp_check.proofs.Places.{last_above, no_last, stands_at}
@@ -153,7 +154,7 @@ module _ (image : ImageValue) (cuts : List Cut) (range : InRange image) (spelled
             comes image places states kept to inside v (arrives_at image p edge places to (table_of states) s v ready.may kept.grown here is sound.placed leads) sound
 
         by_outcome : (s : State) → table_of states p.at ≡ Some s → (r : Result State StateCode) → after image p.at p.next p.instr edge s ≡ r → IfOk r (IsSound image)
-            → IfOk (placed p.at r >>= (λ t. enter (target (ranges image.loops) p.at p.next p.instr edge) t (table_of states))) (Leads image places states)
+            → IfOk (with_place p.at r >>= (λ t. enter (target (ranges image.loops) p.at p.next p.instr edge) t (table_of states))) (Leads image places states)
         by_outcome s here (Err code) is sound = tt
         by_outcome s here (Ok v) is sound = by_target s v here is sound (target (ranges image.loops) p.at p.next p.instr edge) refl
 
@@ -164,17 +165,17 @@ module _ (image : ImageValue) (cuts : List Cut) (range : InRange image) (spelled
             subst (λ r. IfOk r (Leads image places states)) (sym (along_some image p edge (table_of states) (table_of states p.at) s (after image p.at p.next p.instr edge s) here refl))
             (by_outcome s here (after image p.at p.next p.instr edge s) refl sound)
 
-    ways_lead : (ways : List Edge) (states : List (Option State)) → IsKept image places states → IfOk (along image (from p ways) (table_of states)) (Leads image places states)
+    ways_lead : (ways : List Edge) (states : List (Option State)) → IsKept image places states → IfOk (along_edges image (edges_from p ways) (table_of states)) (Leads image places states)
     ways_lead [] states kept = stays image places states kept
     ways_lead (edge ∷ ways) states kept =
-        in_turn image places states (go_along image p edge (table_of states p.at) (table_of states)) (along image (from p ways)) (edge_leads edge states kept) (ways_lead ways)
+        in_turn image places states (go_along image p edge (table_of states p.at) (table_of states)) (along_edges image (edges_from p ways)) (edge_leads edge states kept) (ways_lead ways)
 
   all_lead : (ps : List Placed) → ((i : ℕ) (p : Placed) → slice_get ps i ≡ Some p → IsReady image places p) → (states : List (Option State)) → IsKept image places states
-      → IfOk (along image (flat_map edges_of ps) (table_of states)) (Leads image places states)
+      → IfOk (along_edges image (flat_map edges_of ps) (table_of states)) (Leads image places states)
   all_lead [] ready states kept = stays image places states kept
   all_lead (p ∷ ps) ready states kept =
-      subst (λ r. IfOk r (Leads image places states)) (sym (ap (λ es. along image es (table_of states)) (flat_map-cons edges_of p ps) ∙ along_append image (edges_of p) (flat_map edges_of ps) (table_of states)))
-      (in_turn image places states (along image (edges_of p) (table_of states)) (along image (flat_map edges_of ps)) (ways_lead p (ready 0 p refl) (asked p.instr) states kept) (all_lead ps (λ i q is. ready (suc i) q is)))
+      subst (λ r. IfOk r (Leads image places states)) (sym (ap (λ es. along_edges image es (table_of states)) (flat_map-cons edges_of p ps) ∙ along_append image (edges_of p) (flat_map edges_of ps) (table_of states)))
+      (in_turn image places states (along_edges image (edges_of p) (table_of states)) (along_edges image (flat_map edges_of ps)) (ways_lead p (ready 0 p refl) (asked p.instr) states kept) (all_lead ps (λ i q is. ready (suc i) q is)))
 
   module _ (inside : (at : ℕ) → IsTrue (is_start cuts at) → at < places) where
     ready_at : (i : ℕ) (p : Placed) → slice_get (placed_from 0 cuts) i ≡ Some p → IsReady image places p

@@ -22,7 +22,7 @@ use Rattle.tp_state.proofs.LiveLoops.{same_agree, live_joined}
 use Rattle.tp_state.proofs.LiveWords.{none_live}
 use Rattle.tp_check.specs.Tables.{Table, with_state}
 use Rattle.tp_check.specs.EdgesRespect.{HasAbove, Respects}
-use Rattle.tp_check.specs.Passes.{enter, placed, met, first_table}
+use Rattle.tp_check.specs.Passes.{enter, with_place, meeting_if_any, first_table}
 use Rattle.tp_check.specs.UnderWay.{IsPlacedAt, HasGrown}
 
 -- a state that comes where another is known, or none
@@ -39,7 +39,7 @@ pub record Entered (table : Table) (to : ℕ) (s : State) (new : Table) : Type 0
 same_number : (n m : ℕ) → (n == m) ≡ true → n ≡ m
 same_number n m e = grind (arith, nat_tests)
 
-met_is : (o : Option State) (s t : State) → met o s ≡ Ok t → Becomes o s t
+met_is : (o : Option State) (s t : State) → meeting_if_any o s ≡ Ok t → Becomes o s t
 met_is None s t e = let same : s ≡ t = cc in sym same
 met_is (Some u) s t e = by_test (u.wptr == s.wptr) refl (u.phase == s.phase) refl e
   where
@@ -50,9 +50,9 @@ met_is (Some u) s t e = by_test (u.wptr == s.wptr) refl (u.phase == s.phase) ref
 
 pub entered : (table : Table) (to : ℕ) (s : State) (new : Table) → enter (Some to) s table ≡ Ok new → Entered table to s new
 unfolding enter
-entered table to s new is = by_meeting (met (table to) s) refl is
+entered table to s new is = by_meeting (meeting_if_any (table to) s) refl is
   where
-    by_meeting : (r : Result State StateCode) → met (table to) s ≡ r → (placed to r >>= (λ t. Ok (with_state to t table))) ≡ Ok new → Entered table to s new
+    by_meeting : (r : Result State StateCode) → meeting_if_any (table to) s ≡ r → (with_place to r >>= (λ t. Ok (with_state to t table))) ≡ Ok new → Entered table to s new
     by_meeting (Ok t) e is = let same : with_state to t table ≡ new = cc in record { state = t; is = sym same; becomes = met_is (table to) s t e }
     by_meeting (Err code) e is = absurd cc
 
@@ -144,8 +144,8 @@ met_below u s below = rw (same_test u.wptr s.wptr (sym below.wptr), same_test u.
 pub enters_below : (table : Table) (to : ℕ) (s : State) → HasAbove table to s → enter (Some to) s table ≡ Ok table
 unfolding enter
 enters_below table to s above =
-    ap (λ o. placed to (met o s) >>= (λ t. Ok (with_state to t table))) above.there
-    ∙ ap (λ r. placed to r >>= (λ t. Ok (with_state to t table))) (met_below above.state s above.below)
+    ap (λ o. with_place to (meeting_if_any o s) >>= (λ t. Ok (with_state to t table))) above.there
+    ∙ ap (λ r. with_place to r >>= (λ t. Ok (with_state to t table))) (met_below above.state s above.below)
     ∙ ap Ok (same_there table to above.state above.there)
 
 -- ---- the first table

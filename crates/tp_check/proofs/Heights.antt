@@ -18,7 +18,8 @@ use Rattle.tp_state.specs.Order.{join_kinds, join_cells, joined_cells, join, mee
 use Rattle.tp_state.specs.declared.fault.StateCode.{StateCode}
 use Rattle.tp_state.specs.declared.fault.StateCode.TheVariants.{S6, S9}
 use Rattle.tp_state.specs.Answer.{◌>>◌, unless, answered}
-use Rattle.tp_check.specs.UnderWay.{size, kind_height, cell_height, state_height, height, table_height, MovesState}
+use Rattle.tp_check.specs.UnderWay.{MovesState}
+use Rattle.tp_check.specs.Rising.{size, kind_height, cell_height, state_height, height, table_height}
 
 -- it stays, or fewer changes are left
 abbrev pub Sinks : {X : Type 0} → (X → ℕ) → X → X → Type 0

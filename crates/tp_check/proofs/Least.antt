@@ -21,7 +21,7 @@ use Rattle.tp_state.specs.Order.{join}
 use Rattle.tp_state.specs.Entry.{entry}
 use Rattle.tp_state.specs.After.{after}
 use Rattle.tp_check.specs.Tables.{Table, with_state, no_states, asked}
-use Rattle.tp_check.specs.Passes.{enter, go_along, placed, met, along, from, edges_of, pass, passes, first_table, IsVerdict, IsRefusalOf}
+use Rattle.tp_check.specs.Passes.{enter, go_along, with_place, meeting_if_any, along_edges, edges_from, edges_of, pass, passes, first_table, IsVerdict, IsRefusalOf}
 use Rattle.tp_check.specs.EdgesRespect.{HasAbove, Respects, EveryEdgeRespects, HasNoTable}
 use Rattle.tp_state.specs.Order.{IsBelow, meeting}
 use Rattle.tp_state.proofs.StateOrder.{is_below-trans, is_below-least}
@@ -77,7 +77,7 @@ module _ (image : ImageValue) (range : InRange image) (good : HasGoodLoops image
   enters_lower None w table sound above h = (table, refl, h)
   enters_lower (Some to) w table sound above h = by_state (table to) refl
     where
-      by_state : (o : Option State) → table to ≡ o → IsLowerOk (placed to (met o w) >>= λ t. Ok (with_state to t table))
+      by_state : (o : Option State) → table to ≡ o → IsLowerOk (with_place to (meeting_if_any o w) >>= λ t. Ok (with_state to t table))
       by_state None e = (with_state to w table, refl, lower_with to w table h sound (above to refl))
       by_state (Some x) e =
           let both = above_join to x w (h.below to x e) (above to refl) in
@@ -88,7 +88,7 @@ module _ (image : ImageValue) (range : InRange image) (good : HasGoodLoops image
   goes_lower p edge loads respects table h = by_state (table p.at) refl
     where
       by_outcome : (s u v : State) → IsSound image s → IsBelow s u → (r q : Result State StateCode) → Follows IsBelow r q → IfOk r (IsSound image) → q ≡ Ok v → ((to : ℕ) → target (ranges image.loops) p.at p.next p.instr edge ≡ Some to → HasAbove respected to v)
-          → IsLowerOk (placed p.at r >>= λ t. enter (target (ranges image.loops) p.at p.next p.instr edge) t table)
+          → IsLowerOk (with_place p.at r >>= λ t. enter (target (ranges image.loops) p.at p.next p.instr edge) t table)
       by_outcome s u v sound below (Ok w) (Ok y) follows w_sound is enters =
           let same : y ≡ v = cc in
           enters_lower (target (ranges image.loops) p.at p.next p.instr edge) w table w_sound
@@ -111,31 +111,31 @@ module _ (image : ImageValue) (range : InRange image) (good : HasGoodLoops image
   then_lower : (r : Result Table StateFault) (f : Table → Result Table StateFault) → IsLowerOk r → ((table : Table) → IsLower table → IsLowerOk (f table)) → IsLowerOk (r >>= f)
   then_lower r f (table, is, h) go = rw is (go table h)
 
-  ways_lower : (p : Placed) → LoadsWord p.instr → (ways : List Edge) → ((u : State) → respected p.at ≡ Some u → All (Respects image respected p.at p.next p.instr u) ways) → (table : Table) → IsLower table → IsLowerOk (along image (from p ways) table)
+  ways_lower : (p : Placed) → LoadsWord p.instr → (ways : List Edge) → ((u : State) → respected p.at ≡ Some u → All (Respects image respected p.at p.next p.instr u) ways) → (table : Table) → IsLower table → IsLowerOk (along_edges image (edges_from p ways) table)
   ways_lower p loads [] respects table h = (table, refl, h)
   ways_lower p loads (e ∷ more) respects table h =
-      then_lower (go_along image p e (table p.at) table) (along image (from p more)) (goes_lower p e loads (λ u there. respects u there 0 e (omega arith)) table h)
+      then_lower (go_along image p e (table p.at) table) (along_edges image (edges_from p more)) (goes_lower p e loads (λ u there. respects u there 0 e (omega arith)) table h)
       λ table h. ways_lower p loads more (λ u there i d lt. respects u there (suc i) d (omega (arith, lt))) table h
 
   in_turn : (r : Result Table StateFault) (all first then_ : Table → Result Table StateFault) → ((t : Table) → all t ≡ (first t >>= then_)) → (r >>= all) ≡ ((r >>= first) >>= then_)
   in_turn (Ok table) all first then_ go = go table
   in_turn (Err e) all first then_ go = refl
 
-  along_append : (xs ys : List (Placed × Edge)) (table : Table) → along image (xs ++ ys) table ≡ (along image xs table >>= along image ys)
+  along_append : (xs ys : List (Placed × Edge)) (table : Table) → along_edges image (xs ++ ys) table ≡ (along_edges image xs table >>= along_edges image ys)
   along_append [] ys table = refl
-  along_append (x ∷ xs) ys table = in_turn (go_along image x.0 x.1 (table x.0.at) table) (along image (xs ++ ys)) (along image xs) (along image ys) (along_append xs ys)
+  along_append (x ∷ xs) ys table = in_turn (go_along image x.0 x.1 (table x.0.at) table) (along_edges image (xs ++ ys)) (along_edges image xs) (along_edges image ys) (along_append xs ys)
 
   -- what is known of an instruction in its place
   pub record IsReady (p : Placed) : Type 0 where
     pub loads : LoadsWord p.instr
     pub respects : (u : State) → respected p.at ≡ Some u → All (Respects image respected p.at p.next p.instr u) (asked p.instr)
 
-  pub all_lower : (ps : List Placed) → ((i : ℕ) (p : Placed) → slice_get ps i ≡ Some p → IsReady p) → (table : Table) → IsLower table → IsLowerOk (along image (flat_map edges_of ps) table)
+  pub all_lower : (ps : List Placed) → ((i : ℕ) (p : Placed) → slice_get ps i ≡ Some p → IsReady p) → (table : Table) → IsLower table → IsLowerOk (along_edges image (flat_map edges_of ps) table)
   all_lower [] ready table h = (table, refl, h)
   all_lower (p ∷ ps) ready table h =
       let first = ready 0 p refl in
       rw (flat_map-cons edges_of p ps, along_append (edges_of p) (flat_map edges_of ps) table)
-      (then_lower (along image (edges_of p) table) (along image (flat_map edges_of ps)) (ways_lower p first.loads (asked p.instr) first.respects table h)
+      (then_lower (along_edges image (edges_of p) table) (along_edges image (flat_map edges_of ps)) (ways_lower p first.loads (asked p.instr) first.respects table h)
       λ table h. all_lower ps (λ i q is. ready (suc i) q is) table h)
 
 -- ---- the passes

@@ -12,11 +12,11 @@ pub use Rattle.tp_check.specs.StatesThere.{IsStateAt}
 
 -- What is asked of the states that may stand at an address: those of one address may meet where Wptr and the phase are
 -- the same, and they are kept along edges and by joins.
-pub record AreStates (image : ImageValue) (IsEdge : Placed × Edge → Type 0) (Stands : ℕ → State → Type 0) : Type 0 where
-  pub sound : (at : ℕ) (s : State) → Stands at s → IsSound image s
-  pub meet : (at : ℕ) (s t : State) → Stands at s → Stands at t → s.wptr ≡ t.wptr → s.phase ≡ t.phase → MayMeet s t
-  pub join : (at : ℕ) (s t : State) → Stands at s → Stands at t → s.wptr ≡ t.wptr → s.phase ≡ t.phase → Stands at (join s t)
-  pub after : (e : Placed × Edge) (s t : State) (to : ℕ) → IsEdge e → Stands e.0.at s → target_of image e ≡ Some to → outcome_of image e s ≡ Ok t → Stands to t
+pub record AreStates (image : ImageValue) (IsEdge : Placed × Edge → Type 0) (MayOccur : ℕ → State → Type 0) : Type 0 where
+  pub sound : (at : ℕ) (s : State) → MayOccur at s → IsSound image s
+  pub meet : (at : ℕ) (s t : State) → MayOccur at s → MayOccur at t → s.wptr ≡ t.wptr → s.phase ≡ t.phase → MayMeet s t
+  pub join : (at : ℕ) (s t : State) → MayOccur at s → MayOccur at t → s.wptr ≡ t.wptr → s.phase ≡ t.phase → MayOccur at (join s t)
+  pub after : (e : Placed × Edge) (s t : State) (to : ℕ) → IsEdge e → MayOccur e.0.at s → target_of image e ≡ Some to → outcome_of image e s ≡ Ok t → MayOccur to t
 
 -- no edge leads back, or to its own instruction, but to where edges join
 abbrev pub LeadsOn : ImageValue → (ℕ → Bool) → List (Placed × Edge) → Type 0

@@ -9,8 +9,8 @@ use Rattle.tp_state.specs.declared.fault.StateFault.{StateFault}
 use Rattle.tp_state.specs.Answer.{◌>>=◌}
 use Rattle.tp_state.specs.declared.state.State.{State}
 use Rattle.tp_check.specs.Tables.{Table}
-use Rattle.tp_check.specs.Passes.{go_along, along, from}
-use Rattle.tp_check.specs.UnderWay.{Moves, table_height}
+use Rattle.tp_check.specs.Passes.{go_along, along_edges, edges_from}
+use Rattle.tp_check.specs.Rising.{Moves, table_height}
 
 -- no step leaves more changes
 pub table_le : (image : ImageValue) (moved : Bool) (old new : List (Option State)) → Moves image moved old new → table_height image new ≤ table_height image old
@@ -32,9 +32,9 @@ moves_none image states = record { sized = refl; stays = λ e. refl; falls = λ 
 -- ---- the definition's answers, one edge after another
 
 -- edges after edges
-pub along_append : (image : ImageValue) (xs ys : List (Placed × Edge)) (table : Table) → along image (xs ++ ys) table ≡ (along image xs table >>= along image ys)
+pub along_append : (image : ImageValue) (xs ys : List (Placed × Edge)) (table : Table) → along_edges image (xs ++ ys) table ≡ (along_edges image xs table >>= along_edges image ys)
 along_append image [] ys table = refl
-along_append image (x ∷ xs) ys table = ap (λ f. go_along image x.0 x.1 (table x.0.at) table >>= f) (fun_ext λ t. along_append image xs ys t) ∙ sym (in_turn (go_along image x.0 x.1 (table x.0.at) table) (along image xs) (along image ys))
+along_append image (x ∷ xs) ys table = ap (λ f. go_along image x.0 x.1 (table x.0.at) table >>= f) (fun_ext λ t. along_append image xs ys t) ∙ sym (in_turn (go_along image x.0 x.1 (table x.0.at) table) (along_edges image xs) (along_edges image ys))
   where
     in_turn : (r : Result Table StateFault) (f g : Table → Result Table StateFault) → ((r >>= f) >>= g) ≡ (r >>= (λ t. f t >>= g))
     in_turn (Ok t) f g = refl
@@ -45,8 +45,8 @@ get_in [] i d d' inside = absurd (omega (arith, inside))
 get_in (w ∷ ways) zero d d' inside = refl
 get_in (w ∷ ways) (suc i) d d' inside = get_in ways i d d' (omega (arith, inside))
 
-pub next_way : (p : Placed) (ways : List Edge) (i : ℕ) (d : Edge) → i < length ways → from p (drop i ways) ≡ (p, get_or ways i d) ∷ from p (drop (i + 1) ways)
-next_way p ways i d inside = ap (from p) (drop-cons ways i d inside ∙ ap (λ n. get_or ways i d ∷ drop n ways) (sym (add-one i)))
+pub next_way : (p : Placed) (ways : List Edge) (i : ℕ) (d : Edge) → i < length ways → edges_from p (drop i ways) ≡ (p, get_or ways i d) ∷ edges_from p (drop (i + 1) ways)
+next_way p ways i d inside = ap (edges_from p) (drop-cons ways i d inside ∙ ap (λ n. get_or ways i d ∷ drop n ways) (sym (add-one i)))
 
 -- what holds of the edges before one, and of that one
 pub way_more : (P : Edge → Type 0) (ways : List Edge) (i : ℕ) (e : Edge) → i < length ways → ((k : ℕ) (d : Edge) → k < i → P (get_or ways k d)) → P (get_or ways i e) → (k : ℕ) (d : Edge) → k < i + 1 → P (get_or ways k d)

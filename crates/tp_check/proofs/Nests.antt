@@ -29,12 +29,12 @@ use Rattle.tp_state.specs.After.{after}
 use Rattle.tp_state.proofs.LiveLoops.{same_agree, live_joined}
 use Rattle.tp_state.proofs.LiveWords.{live_after}
 use Rattle.tp_check.specs.Tables.{asked}
-use Rattle.tp_check.specs.Passes.{from, edges_of, edges_in}
+use Rattle.tp_check.specs.Passes.{edges_from, edges_of, edges_in}
 use Rattle.tp_state.specs.Sound.{IsSound, LoadsWord}
 use Rattle.tp_check.specs.Carried.{target_of, outcome_of, leads_to, reached, is_head, AreWide}
 use Rattle.tp_check.proofs.Lone.{IsLone, AreStates, IsAmong, LeadsOn, IsStateAt}
 use Rattle.tp_flow.proofs.FlowSpelled.{some_bytes}
-use Rattle.tp_check.proofs.Places.{place_from, StandsAt, stands_at}
+use Rattle.tp_check.proofs.Places.{place_from, IsInItsPlace, stands_at}
 use Rattle.tp_rules.proofs.SoundJoins.{join_sound}
 use Rattle.tp_rules.proofs.SoundRules.{after_sound}
 use Rattle.tp_check.proofs.Loading.{loads_word}
@@ -73,7 +73,7 @@ count_two p (z ∷ xs) (suc i) (suc j) x y is also holds too lt =
 
 -- ---- edges in their order
 
-ways_at : (p : Placed) (ways : List Edge) (e : Placed × Edge) → IsAmong (from p ways) e → e.0 ≡ p
+ways_at : (p : Placed) (ways : List Edge) (e : Placed × Edge) → IsAmong (edges_from p ways) e → e.0 ≡ p
 ways_at p [] e (i, is) = absurd cc
 ways_at p (w ∷ ways) e (zero, is) = let same : (p, w) ≡ e = same_Some (p, w) e is in ap (λ (f : Placed × Edge). f.0) (sym same)
 ways_at p (w ∷ ways) e (suc i, is) = ways_at p ways e (i, is)
@@ -92,17 +92,17 @@ Rises : List (Placed × Edge) → Type 0
 Rises [] = Unit {0}
 Rises (f ∷ more) = ((e : Placed × Edge) → IsAmong (f ∷ more) e → f.0.at ≤ e.0.at) × Rises more
 
-rises_ways : (p : Placed) (ways : List Edge) (rest : List (Placed × Edge)) → ((e : Placed × Edge) → IsAmong rest e → p.at ≤ e.0.at) → Rises rest → Rises (from p ways ++ rest)
+rises_ways : (p : Placed) (ways : List Edge) (rest : List (Placed × Edge)) → ((e : Placed × Edge) → IsAmong rest e → p.at ≤ e.0.at) → Rises rest → Rises (edges_from p ways ++ rest)
 unfolding Rises
 rises_ways p [] rest above rises = rises
 rises_ways p (w ∷ ways) rest above rises = (first, rises_ways p ways rest above rises)
   where
-    by_way : (e : Placed × Edge) → IsAmong (from p (w ∷ ways)) e ⊎ IsAmong rest e → p.at ≤ e.0.at
+    by_way : (e : Placed × Edge) → IsAmong (edges_from p (w ∷ ways)) e ⊎ IsAmong rest e → p.at ≤ e.0.at
     by_way e (inl here) = let same = ap (λ (q : Placed). q.at) (ways_at p (w ∷ ways) e here) in omega (arith, same)
     by_way e (inr later) = above e later
 
-    first : (e : Placed × Edge) → IsAmong (from p (w ∷ ways) ++ rest) e → p.at ≤ e.0.at
-    first e among = by_way e (among_either (from p (w ∷ ways)) rest e among)
+    first : (e : Placed × Edge) → IsAmong (edges_from p (w ∷ ways) ++ rest) e → p.at ≤ e.0.at
+    first e among = by_way e (among_either (edges_from p (w ∷ ways)) rest e among)
 
 rises_all : (at : ℕ) (cuts : List Cut) → Rises (flat_map edges_of (placed_from at cuts))
 unfolding Rises
@@ -167,14 +167,14 @@ module _ (image : ImageValue) (cuts : List Cut) (kept : KeepsNest image.loops im
   abbrev pub IsOne : Placed × Edge → Type 0
   IsOne e = IsAmong (edges_in cuts) e
 
-  stands : (e : Placed × Edge) → IsOne e → StandsAt cuts e.0
+  stands : (e : Placed × Edge) → IsOne e → IsInItsPlace cuts e.0
   stands e among = let place = among_placed (placed_from 0 cuts) e among in stands_at cuts place.0 e.0 kept.spelled place.1
 
   -- an edge to where edges do not join goes forward
   forward : (e : Placed × Edge) (to : ℕ) → IsOne e → joins to ≡ false → target_of image e ≡ Some to → e.0.at < to
   forward e to among lone goes = by_edge (is_back e.1)
     where
-      it : StandsAt cuts e.0
+      it : IsInItsPlace cuts e.0
       it = stands e among
 
       goes_at : target (ranges image.loops) e.0.at (e.0.at + length it.cut.bytes) it.cut.instr e.1 ≡ Some to
@@ -248,7 +248,7 @@ module _ (image : ImageValue) (cuts : List Cut) (kept : KeepsNest image.loops im
       live = live_after image e.0.at e.0.next e.0.instr e.1 to s t around f.sound.placed f.live goes ok;
     }
       where
-        it : StandsAt cuts e.0
+        it : IsInItsPlace cuts e.0
         it = stands e among
 
         ok : after image e.0.at e.0.next e.0.instr e.1 s ≡ Ok t

@@ -17,8 +17,9 @@ use Rattle.tp_state.specs.declared.fault.StateCode.{StateCode}
 use Rattle.tp_state.specs.Answer.{answered}
 use Rattle.tp_state.specs.Order.{IsBelow, join, TellsChange}
 use Rattle.tp_state.specs.Stored.{IsMetAt}
-use Rattle.tp_check.specs.Passes.{enter, first_table, met, placed}
-use Rattle.tp_check.specs.UnderWay.{Gives, Moves, MovesState}
+use Rattle.tp_check.specs.Passes.{enter, first_table, meeting_if_any, with_place}
+use Rattle.tp_check.specs.UnderWay.{MovesState}
+use Rattle.tp_check.specs.Rising.{Gives, Moves}
 use Rattle.tp_check.specs.Carried.{only_joins}
 use Rattle.tp_check.specs.Numbered.{number_at, joined_number, states_by, AreNumbers}
 use Rattle.tp_check.specs.Meeting.{Meets}
@@ -222,13 +223,13 @@ pub met_numbers : (image : ImageValue) (states : List State) (numbers : List (Op
 met_numbers image states numbers to n there s new (Ok moved) are it kept = subst (λ l. AreNumbers l numbers) (sym it.is) (still_numbers states numbers n it.state are)
 met_numbers image states numbers to n there s new (Err e) are it kept = subst (λ l. AreNumbers l numbers) (sym kept) are
 
-pub meets_agreeing : (to : ℕ) (t s other : State) → IsBelow t s → IsBelow t other → placed to (met (Some s) other) ≡ Ok (join s other)
+pub meets_agreeing : (to : ℕ) (t s other : State) → IsBelow t s → IsBelow t other → with_place to (meeting_if_any (Some s) other) ≡ Ok (join s other)
 meets_agreeing to t s other below also = rw (same_test s.wptr other.wptr (sym below.wptr ∙ also.wptr), same_test s.phase other.phase (sym below.phase ∙ also.phase)) refl
 
 pub meets_so : (image : ImageValue) (to n : ℕ) (s other : State) (states new : List State) → HasWords other → length other.cells ≡ length s.cells → (answer : Result Bool StateCode) → IsMetAt answer s other n states new → (moved : Bool) → answer ≡ Ok moved → Meets image (Ok moved) to n s other states new
 meets_so image to n s other states new words sized answer it moved is = record {
   state = it.joined;
-  gives = (it.joined, refl, ap (placed to) (sym it.gives ∙ ap (λ r. answered r it.joined) is));
+  gives = (it.joined, refl, ap (with_place to) (sym it.gives ∙ ap (λ r. answered r it.joined) is));
   moves = joined_moves image moved s other it.joined answer words sized is it.gives (subst (λ r. IfOk r (λ changed. TellsChange changed s it.joined)) is it.changed);
   is = subst (λ r. IfOk r (λ changed. new ≡ slice_set states n it.joined)) is it.is;
 }

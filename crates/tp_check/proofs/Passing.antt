@@ -19,7 +19,7 @@ use Rattle.tp_flow.proofs.FlowSpelled.{some_bytes}
 use Rattle.tp_flow.proofs.LoopMoves.{keeps_around}
 use Rattle.tp_image.specs.Image.{ImageValue}
 use Rattle.tp_check.specs.UnderWay.{MayBeTaken}
-use Rattle.tp_check.proofs.Places.{StandsAt}
+use Rattle.tp_check.proofs.Places.{IsInItsPlace}
 
 -- ---- an instruction of the code
 
@@ -58,7 +58,7 @@ on_another image cuts kept at to edge cut stands leads = by_edge (is_back edge)
         let some = some_bytes cuts at cut kept.spelled stands in
         omega (arith, up, some, same)
 
-pub may_be_taken : (image : ImageValue) (cuts : List Cut) (places : ℕ) (p : Placed) → KeepsNest image.loops image.workspace cuts → ((at : ℕ) → IsTrue (is_start cuts at) → at < places) → StandsAt cuts p → MayBeTaken image places p
+pub may_be_taken : (image : ImageValue) (cuts : List Cut) (places : ℕ) (p : Placed) → KeepsNest image.loops image.workspace cuts → ((at : ℕ) → IsTrue (is_start cuts at) → at < places) → IsInItsPlace cuts p → MayBeTaken image places p
 may_be_taken image cuts places p kept inside stands = subst (MayBeTaken image places) (sym stands.is) (record {
   inside = inside p.at (ap is_some stands.there);
   targets = λ edge to leads. inside to (kept.starts p.at to edge (record { cut = stands.cut; stands = stands.there; goes = leads }));

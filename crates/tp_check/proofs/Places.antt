@@ -58,12 +58,12 @@ place_is from (c ∷ cuts) (suc i) p is =
     record { cut = later.cut; is_cut = later.is_cut; starts = later.starts; is = later.is }
 
 -- an instruction in its place, by its address
-pub record StandsAt (cuts : List Cut) (p : Placed) : Type 0 where
+pub record IsInItsPlace (cuts : List Cut) (p : Placed) : Type 0 where
   pub cut : Cut
   pub there : cut_at cuts p.at ≡ Some cut
   pub is : p ≡ placed p.at cut
 
-pub stands_at : (cuts : List Cut) (i : ℕ) (p : Placed) → AllByRecursion (λ c. 0 < length c.bytes) cuts → slice_get (placed_from 0 cuts) i ≡ Some p → StandsAt cuts p
+pub stands_at : (cuts : List Cut) (i : ℕ) (p : Placed) → AllByRecursion (λ c. 0 < length c.bytes) cuts → slice_get (placed_from 0 cuts) i ≡ Some p → IsInItsPlace cuts p
 stands_at cuts i p spelled is =
     let place = place_is 0 cuts i p is in
     record { cut = place.cut; there = cut_at_its_start cuts i p.at spelled place.starts ∙ place.is_cut; is = place.is }

@@ -17,7 +17,7 @@ use Rattle.tp_state.specs.Sound.{IsSound}
 use Rattle.tp_state.proofs.StateOrder.{is_below-self, is_below-trans}
 use Rattle.tp_state.proofs.Passing.{same_Ok}
 use Rattle.tp_check.specs.Tables.{Table, asked}
-use Rattle.tp_check.specs.Passes.{from, edges_of, edges_in, pass, passes, IsVerdict}
+use Rattle.tp_check.specs.Passes.{edges_from, edges_of, edges_in, pass, passes, IsVerdict}
 use Rattle.tp_check.specs.EdgesRespect.{HasAbove, RespectsFrom, EveryEdgeRespects}
 use Rattle.tp_check.specs.Carried.{is_kept}
 use Rattle.tp_check.proofs.Lone.{IsAmong, IsStateAt}
@@ -38,7 +38,7 @@ pub right_among : (xs ys : List (Placed × Edge)) (e : Placed × Edge) → IsAmo
 right_among [] ys e among = among
 right_among (x ∷ xs) ys e among = let later = right_among xs ys e among in (suc later.0, later.1)
 
-pub way_there : (p : Placed) (ways : List Edge) (k : ℕ) (d : Edge) → k < length ways → slice_get (from p ways) k ≡ Some (p, get_or ways k d)
+pub way_there : (p : Placed) (ways : List Edge) (k : ℕ) (d : Edge) → k < length ways → slice_get (edges_from p ways) k ≡ Some (p, get_or ways k d)
 way_there p [] k d lt = absurd (omega (arith, lt))
 way_there p (w ∷ ways) zero d lt = refl
 way_there p (w ∷ ways) (suc k) d lt = way_there p ways k d (omega (arith, lt))

@@ -15,7 +15,7 @@ use Rattle.tp_state.specs.Answer.{◌>>=◌}
 use Rattle.tp_state.specs.After.{after}
 use Rattle.tp_check.specs.Tables.{Table, with_state, asked}
 use Rattle.tp_check.specs.EdgesRespect.{HasAbove}
-use Rattle.tp_check.specs.Passes.{enter, placed, met, edges_in}
+use Rattle.tp_check.specs.Passes.{enter, with_place, meeting_if_any, edges_in}
 use Rattle.tp_check.specs.Carried.{target_of, arrive, over, is_head, IsAmong}
 use Rattle.tp_check.specs.UnderWay.{IsPlacedAt, HasGrown, AreJoins, Settles, IsTaken}
 use Rattle.tp_check.proofs.Entering.{Entered, elsewhere, comes_below, rises}
@@ -57,23 +57,23 @@ pub record EntersAlike (to : ℕ) (s : State) (table other new : Table) : Type 0
 
 pub enters_alike : (to : ℕ) (s : State) (table other new : Table) → table to ≡ other to → enter (Some to) s other ≡ Ok new → EntersAlike to s table other new
 unfolding enter
-enters_alike to s table other new same is = by_meeting (placed to (met (other to) s)) refl is
+enters_alike to s table other new same is = by_meeting (with_place to (meeting_if_any (other to) s)) refl is
   where
-    by_meeting : (r : Result State StateFault) → placed to (met (other to) s) ≡ r → (r >>= (λ t. Ok (with_state to t other))) ≡ Ok new → EntersAlike to s table other new
+    by_meeting : (r : Result State StateFault) → with_place to (meeting_if_any (other to) s) ≡ r → (r >>= (λ t. Ok (with_state to t other))) ≡ Ok new → EntersAlike to s table other new
     by_meeting (Ok t) e is =
         let made : with_state to t other ≡ new = cc in
-        record { state = t; is = sym made; enters = ap (λ o. placed to (met o s) >>= (λ t. Ok (with_state to t table))) same ∙ ap (λ r. r >>= (λ t. Ok (with_state to t table))) e }
+        record { state = t; is = sym made; enters = ap (λ o. with_place to (meeting_if_any o s) >>= (λ t. Ok (with_state to t table))) same ∙ ap (λ r. r >>= (λ t. Ok (with_state to t table))) e }
     by_meeting (Err f) e is = absurd cc
 
 pub refuses_alike : (to : ℕ) (s : State) (table other : Table) (fault : StateFault) → table to ≡ other to → enter (Some to) s other ≡ Err fault → enter (Some to) s table ≡ Err fault
 unfolding enter
-refuses_alike to s table other fault same is = by_meeting (placed to (met (other to) s)) refl is
+refuses_alike to s table other fault same is = by_meeting (with_place to (meeting_if_any (other to) s)) refl is
   where
-    by_meeting : (r : Result State StateFault) → placed to (met (other to) s) ≡ r → (r >>= (λ t. Ok (with_state to t other))) ≡ Err fault → (placed to (met (table to) s) >>= (λ t. Ok (with_state to t table))) ≡ Err fault
+    by_meeting : (r : Result State StateFault) → with_place to (meeting_if_any (other to) s) ≡ r → (r >>= (λ t. Ok (with_state to t other))) ≡ Err fault → (with_place to (meeting_if_any (table to) s) >>= (λ t. Ok (with_state to t table))) ≡ Err fault
     by_meeting (Ok t) e is = absurd cc
     by_meeting (Err f) e is =
         let one : f ≡ fault = cc in
-        ap (λ o. placed to (met o s) >>= (λ t. Ok (with_state to t table))) same ∙ ap (λ r. r >>= (λ t. Ok (with_state to t table))) e ∙ ap Err one
+        ap (λ o. with_place to (meeting_if_any o s) >>= (λ t. Ok (with_state to t table))) same ∙ ap (λ r. r >>= (λ t. Ok (with_state to t table))) e ∙ ap Err one
 
 -- ---- tables that differ at one address
 

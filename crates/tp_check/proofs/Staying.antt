@@ -16,7 +16,7 @@ use Rattle.tp_state.specs.Order.{IsBelow, meeting}
 use Rattle.tp_state.proofs.StateOrder.{is_below-self, is_below-trans, is_below-antisym, is_below-join_left, is_below-join_right}
 use Rattle.tp_state.proofs.Passing.{same_Ok}
 use Rattle.tp_check.specs.Tables.{Table, with_state}
-use Rattle.tp_check.specs.Passes.{placed, met, enter, go_along, along}
+use Rattle.tp_check.specs.Passes.{with_place, meeting_if_any, enter, go_along, along_edges}
 use Rattle.tp_check.specs.EdgesRespect.{HasAbove}
 use Rattle.tp_check.specs.Carried.{target_of, outcome_of}
 use Rattle.tp_check.proofs.Lone.{IsLone, AreStates}
@@ -58,12 +58,12 @@ under_with to v table above at s is = by_test (at == to) refl
     by_test false e = record { state = s; there = rw e is; below = is_below-self s }
 
 module _ (image : ImageValue) (are : All IsRow image.loops) (good : All (IsGood image.workspace) image.loops) (joins : ℕ → Bool)
-    (IsEdge : Placed × Edge → Type 0) (Stands : ℕ → State → Type 0) (lone : IsLone image joins IsEdge) (states : AreStates image IsEdge Stands) where
-  abbrev Kept : Table → Type 0
-  Kept table = Trails image are good joins IsEdge Stands lone states table
+    (IsEdge : Placed × Edge → Type 0) (MayOccur : ℕ → State → Type 0) (lone : IsLone image joins IsEdge) (states : AreStates image IsEdge MayOccur) where
+  abbrev HasTrails : Table → Type 0
+  HasTrails table = Trails image are good joins IsEdge MayOccur lone states table
 
   -- where a state comes to an address, what stood there is below what stands there then, and so is the state
-  arrived : (to : ℕ) (t : State) (table new : Table) → Kept table → Stands to t → enter (Some to) t table ≡ Ok new → IsUnder table new × HasAbove new to t
+  arrived : (to : ℕ) (t : State) (table new : Table) → HasTrails table → MayOccur to t → enter (Some to) t table ≡ Ok new → IsUnder table new × HasAbove new to t
   unfolding enter
   arrived to t table new kept stands is = by_state (table to) refl is
     where
@@ -73,16 +73,16 @@ module _ (image : ImageValue) (are : All IsRow image.loops) (good : All (IsGood 
       by_table : (v : State) → with_state to v table ≡ new → ((u : State) → table to ≡ Some u → IsBelow u v) → IsBelow t v → IsUnder table new × HasAbove new to t
       by_table v same above below = subst (λ n. IsUnder table n × HasAbove n to t) same (under_with to v table above, record { state = v; there = here v; below = below })
 
-      by_meeting : (x : State) → table to ≡ Some x → (r : Result State StateCode) → meeting x t ≡ r → (placed to r >>= λ v. Ok (with_state to v table)) ≡ Ok new → IsUnder table new × HasAbove new to t
+      by_meeting : (x : State) → table to ≡ Some x → (r : Result State StateCode) → meeting x t ≡ r → (with_place to r >>= λ v. Ok (with_state to v table)) ≡ Ok new → IsUnder table new × HasAbove new to t
       by_meeting x stood (Err c) m is = cc
       by_meeting x stood (Ok v) m is =
-          let made = met_is image are good joins IsEdge Stands lone states x t v m in
+          let made = met_is image are good joins IsEdge MayOccur lone states x t v m in
           let may = states.meet to x t (kept.stand to x stood) stands made.0 made.1 in
           by_table v (same_Ok _ _ is)
           (λ u stood_u. subst (λ z. IsBelow z v) (same_Some x u (sym stood ∙ stood_u)) (subst (IsBelow x) (sym made.2) (is_below-join_left x t may)))
           (subst (IsBelow t) (sym made.2) (is_below-join_right x t may))
 
-      by_state : (o : Option State) → table to ≡ o → (placed to (met o t) >>= λ v. Ok (with_state to v table)) ≡ Ok new → IsUnder table new × HasAbove new to t
+      by_state : (o : Option State) → table to ≡ o → (with_place to (meeting_if_any o t) >>= λ v. Ok (with_state to v table)) ≡ Ok new → IsUnder table new × HasAbove new to t
       by_state None stood is = by_table t (same_Ok _ _ is) (λ u stood_u. absurd (let no : None ≡ Some u = sym stood ∙ stood_u in cc)) (is_below-self t)
       by_state (Some x) stood is = by_meeting x stood (meeting x t) refl is
 
@@ -91,7 +91,7 @@ module _ (image : ImageValue) (are : All IsRow image.loops) (good : All (IsGood 
     pub under : IsUnder table new
     pub respects : (s : State) → table e.0.at ≡ Some s → (t : State) × (outcome_of image e s ≡ Ok t) × ((to : ℕ) → target_of image e ≡ Some to → HasAbove new to t)
 
-  has_gone : (e : Placed × Edge) → IsEdge e → (table new : Table) → Kept table → go_along image e.0 e.1 (table e.0.at) table ≡ Ok new → HasGone e table new
+  has_gone : (e : Placed × Edge) → IsEdge e → (table new : Table) → HasTrails table → go_along image e.0 e.1 (table e.0.at) table ≡ Ok new → HasGone e table new
   unfolding go_along enter
   has_gone e is_e table new kept is = by_state (table e.0.at) refl is
     where
@@ -113,35 +113,35 @@ module _ (image : ImageValue) (are : All IsRow image.loops) (good : All (IsGood 
           record { under = subst (IsUnder table) same (under_self table); respects = λ u also. absurd (let no : None ≡ Some u = sym there ∙ also in cc) }
       by_state (Some s) there is = by_outcome s there (outcome_of image e s) refl is
 
-  kept_on : (e : Placed × Edge) → IsEdge e → (table new : Table) → Kept table → go_along image e.0 e.1 (table e.0.at) table ≡ Ok new → Kept new
-  kept_on e is_e table new kept is = let one = one_edge image are good joins IsEdge Stands lone states e is_e table kept in by_answer _ (sym one.0 ∙ is) one.1
+  kept_on : (e : Placed × Edge) → IsEdge e → (table new : Table) → HasTrails table → go_along image e.0 e.1 (table e.0.at) table ≡ Ok new → HasTrails new
+  kept_on e is_e table new kept is = let one = one_edge image are good joins IsEdge MayOccur lone states e is_e table kept in by_answer _ (sym one.0 ∙ is) one.1
     where
-      by_answer : (r : Result Table StateFault) → r ≡ Ok new → IfOk r Kept → Kept new
-      by_answer (Ok t) e h = let same : t ≡ new = cc in subst Kept same h
+      by_answer : (r : Result Table StateFault) → r ≡ Ok new → IfOk r HasTrails → HasTrails new
+      by_answer (Ok t) e h = let same : t ≡ new = cc in subst HasTrails same h
       by_answer (Err f) e h = cc
 
-  pub tables_rise : (es : List (Placed × Edge)) → ((i : ℕ) (e : Placed × Edge) → slice_get es i ≡ Some e → IsEdge e) → (table new : Table) → Kept table → along image es table ≡ Ok new → IsUnder table new
+  pub tables_rise : (es : List (Placed × Edge)) → ((i : ℕ) (e : Placed × Edge) → slice_get es i ≡ Some e → IsEdge e) → (table new : Table) → HasTrails table → along_edges image es table ≡ Ok new → IsUnder table new
   tables_rise [] edges table new kept is = subst (IsUnder table) (same_Ok _ _ is) (under_self table)
   tables_rise (e ∷ more) edges table new kept is = by_answer (go_along image e.0 e.1 (table e.0.at) table) refl is (tables_rise more (λ i f is. edges (suc i) f is))
     where
-      by_answer : (r : Result Table StateFault) → go_along image e.0 e.1 (table e.0.at) table ≡ r → (r >>= along image more) ≡ Ok new → ((t n : Table) → Kept t → along image more t ≡ Ok n → IsUnder t n) → IsUnder table new
+      by_answer : (r : Result Table StateFault) → go_along image e.0 e.1 (table e.0.at) table ≡ r → (r >>= along_edges image more) ≡ Ok new → ((t n : Table) → HasTrails t → along_edges image more t ≡ Ok n → IsUnder t n) → IsUnder table new
       by_answer (Ok t) first is go = under_trans table t new (has_gone e (edges 0 e refl) table t kept first).under (go t new (kept_on e (edges 0 e refl) table t kept first) is)
       by_answer (Err f) first is go = cc
 
   -- a pass that leaves its table as it is leaves it so on each edge
-  pub stays_on : (es : List (Placed × Edge)) → ((i : ℕ) (e : Placed × Edge) → slice_get es i ≡ Some e → IsEdge e) → (table : Table) → Kept table → along image es table ≡ Ok table
+  pub stays_on : (es : List (Placed × Edge)) → ((i : ℕ) (e : Placed × Edge) → slice_get es i ≡ Some e → IsEdge e) → (table : Table) → HasTrails table → along_edges image es table ≡ Ok table
       → (i : ℕ) (e : Placed × Edge) → slice_get es i ≡ Some e → HasGone e table table
   stays_on [] edges table kept is i e there = absurd cc
   stays_on (f ∷ more) edges table kept is i e there = by_answer (go_along image f.0 f.1 (table f.0.at) table) refl is i there (stays_on more (λ i g is. edges (suc i) g is) table kept)
     where
-      by_answer : (r : Result Table StateFault) → go_along image f.0 f.1 (table f.0.at) table ≡ r → (r >>= along image more) ≡ Ok table → (i : ℕ) → slice_get (f ∷ more) i ≡ Some e
-          → (along image more table ≡ Ok table → (j : ℕ) (g : Placed × Edge) → slice_get more j ≡ Some g → HasGone g table table) → HasGone e table table
+      by_answer : (r : Result Table StateFault) → go_along image f.0 f.1 (table f.0.at) table ≡ r → (r >>= along_edges image more) ≡ Ok table → (i : ℕ) → slice_get (f ∷ more) i ≡ Some e
+          → (along_edges image more table ≡ Ok table → (j : ℕ) (g : Placed × Edge) → slice_get more j ≡ Some g → HasGone g table table) → HasGone e table table
       by_answer (Err c) first is i there go = cc
       by_answer (Ok t) first is i there go =
           let up = (has_gone f (edges 0 f refl) table t kept first).under in
           let down = tables_rise more (λ i g is. edges (suc i) g is) t table (kept_on f (edges 0 f refl) table t kept first) is in
           let same : t ≡ table = under_both table t up down in
-          let stays : along image more table ≡ Ok table = ap (along image more) (sym same) ∙ is in
+          let stays : along_edges image more table ≡ Ok table = ap (along_edges image more) (sym same) ∙ is in
           by_place i there (has_gone f (edges 0 f refl) table table kept (first ∙ ap Ok same)) (go stays)
         where
           by_place : (i : ℕ) → slice_get (f ∷ more) i ≡ Some e → HasGone f table table → ((j : ℕ) (g : Placed × Edge) → slice_get more j ≡ Some g → HasGone g table table) → HasGone e table table

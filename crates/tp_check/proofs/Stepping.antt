@@ -23,7 +23,8 @@ use Rattle.tp_check.specs.Tables.{Table, table_of, with_state, asked}
 use Rattle.tp_check.specs.EdgesRespect.{HasAbove}
 use Rattle.tp_check.specs.Passes.{enter, edges_in}
 use Rattle.tp_check.specs.Carried.{target_of, over, IsAmong}
-use Rattle.tp_check.specs.UnderWay.{IsPlacedAt, MayBeTaken, is_in, Settles, IsTaken, TakenAt, WasTaken, WasTakenAt, CameBefore, KeepsSound, HasCome, marks, IsUnderWay, IsAmidst, AreAmidst, IsAfterEdge, IsLedOn, SameButSlots, Carries, Gives, Moves, marked}
+use Rattle.tp_check.specs.UnderWay.{IsPlacedAt, MayBeTaken, is_in, Settles, IsTaken, TakenAt, WasTaken, WasTakenAt, KeepsSound, HasCome, marks, IsUnderWay, IsAmidst, AreAmidst, IsAfterEdge, IsLedOn, SameButSlots, Carries, marked}
+use Rattle.tp_check.specs.Rising.{CameBefore, Gives, Moves}
 use Rattle.tp_check.proofs.Again.{rises_after, sound_after, fewer, was_joined, sound_joined, was_elsewhere, was_there, was_own, sound_alone}
 use Rattle.tp_check.proofs.Entering.{Entered, entered, elsewhere, grows, comes_below, rises}
 use Rattle.tp_check.proofs.Taking.{arrives_at}

@@ -11,8 +11,9 @@ use Rattle.tp_state.specs.declared.fault.StateFault.{StateFault}
 use Rattle.tp_state.specs.declared.fault.StateFault.TheVariants.{Refused, Memory}
 use Rattle.tp_state.specs.Answer.{◌>>=◌}
 use Rattle.tp_check.specs.Tables.{table_of, with_state}
-use Rattle.tp_check.specs.Passes.{enter, placed, met}
-use Rattle.tp_check.specs.UnderWay.{Gives, GivesState, MovesState, Moves, height}
+use Rattle.tp_check.specs.Passes.{enter, with_place, meeting_if_any}
+use Rattle.tp_check.specs.UnderWay.{GivesState, MovesState}
+use Rattle.tp_check.specs.Rising.{Gives, Moves, height}
 use Rattle.tp_check.proofs.Heights.{table_sinks}
 
 -- ---- reading
@@ -42,11 +43,11 @@ table_set states i t h = fun_ext λ x. set_there states i t x h
 
 -- ---- a state comes to an address
 
-pub enter_gives : (states : List (Option State)) (i : ℕ) (there new : Option State) (s : State) (r : Result Bool StateFault) → i < length states → there ≡ slice_index_or states i None → GivesState r new (placed i (met there s)) → Gives r (table_of (slice_set states i new)) (enter (Some i) s (table_of states))
+pub enter_gives : (states : List (Option State)) (i : ℕ) (there new : Option State) (s : State) (r : Result Bool StateFault) → i < length states → there ≡ slice_index_or states i None → GivesState r new (with_place i (meeting_if_any there s)) → Gives r (table_of (slice_set states i new)) (enter (Some i) s (table_of states))
 unfolding enter
-enter_gives states i there new s r h is given = by_answer r (placed i (met there s)) (ap (λ o. placed i (met o s)) (table_at states i h ∙ sym is)) given
+enter_gives states i there new s r h is given = by_answer r (with_place i (meeting_if_any there s)) (ap (λ o. with_place i (meeting_if_any o s)) (table_at states i h ∙ sym is)) given
   where
-    by_answer : (r : Result Bool StateFault) (wanted : Result State StateFault) → placed i (met (table_of states i) s) ≡ wanted → GivesState r new wanted → Gives r (table_of (slice_set states i new)) (placed i (met (table_of states i) s) >>= (λ t. Ok (with_state i t (table_of states))))
+    by_answer : (r : Result Bool StateFault) (wanted : Result State StateFault) → with_place i (meeting_if_any (table_of states i) s) ≡ wanted → GivesState r new wanted → Gives r (table_of (slice_set states i new)) (with_place i (meeting_if_any (table_of states i) s) >>= (λ t. Ok (with_state i t (table_of states))))
     by_answer (Ok x) wanted e (t, new_is, gives) = ap (λ r. r >>= (λ t. Ok (with_state i t (table_of states)))) (e ∙ gives) ∙ ap Ok (sym (table_set states i t h) ∙ ap (λ o. table_of (slice_set states i o)) (sym new_is))
     by_answer (Err (Refused code place)) wanted e gives = ap (λ r. r >>= (λ t. Ok (with_state i t (table_of states)))) (e ∙ gives)
     by_answer (Err Memory) wanted e gives = tt

@@ -12,7 +12,7 @@ use Rattle.tp_state.specs.Conditions.{IsPlaced}
 use Rattle.tp_state.specs.After.{after}
 use Rattle.tp_state.proofs.LiveWords.{live_after}
 use Rattle.tp_check.specs.Tables.{Table}
-use Rattle.tp_check.specs.Passes.{enter, go_along, placed}
+use Rattle.tp_check.specs.Passes.{enter, go_along, with_place}
 use Rattle.tp_check.specs.UnderWay.{IsPlacedAt, HasGrown, MayBeTaken}
 
 -- ---- the definition's answers
@@ -22,7 +22,7 @@ unfolding go_along
 along_none image p edge table o is = rw is refl
 
 pub along_some : (image : ImageValue) (p : Placed) (edge : Edge) (table : Table) (o : Option State) (s : State) (r : Result State StateCode) → o ≡ Some s → after image p.at p.next p.instr edge s ≡ r
-    → go_along image p edge o table ≡ (placed p.at r >>= (λ t. enter (target (ranges image.loops) p.at p.next p.instr edge) t table))
+    → go_along image p edge o table ≡ (with_place p.at r >>= (λ t. enter (target (ranges image.loops) p.at p.next p.instr edge) t table))
 unfolding go_along
 along_some image p edge table o s r is goes = rw (is, goes) refl
 

@@ -17,7 +17,7 @@ use Rattle.tp_state.specs.After.{after}
 use Rattle.tp_state.proofs.StateOrder.{is_below-self, is_below-trans, is_below-least, is_below-antisym, is_below-join_left, is_below-join_right}
 use Rattle.tp_state.proofs.Passing.{same_Ok}
 use Rattle.tp_check.specs.Tables.{Table, with_state}
-use Rattle.tp_check.specs.Passes.{placed, met, enter, go_along, along}
+use Rattle.tp_check.specs.Passes.{with_place, meeting_if_any, enter, go_along, along_edges}
 use Rattle.tp_state.specs.Sound.{IsSound}
 use Rattle.tp_rules.proofs.Follows.{Follows}
 use Rattle.tp_check.specs.Carried.{target_of, outcome_of, arrive, go_over, over}
@@ -30,7 +30,7 @@ join-above : (s t : State) → IsBelow s t → MayMeet s t → join s t ≡ t
 join-above s t h m = is_below-antisym (join s t) t (is_below-least s t t h (is_below-self t)) (is_below-join_right s t m)
 
 -- what was refused or not below is not refused above
-pub placed_ok : (at : ℕ) (r : Result State StateCode) (t : State) → placed at r ≡ Ok t → r ≡ Ok t
+pub placed_ok : (at : ℕ) (r : Result State StateCode) (t : State) → with_place at r ≡ Ok t → r ≡ Ok t
 placed_ok at (Ok u) t e = let same : u ≡ t = same_Ok _ _ e in ap Ok same
 placed_ok at (Err c) t e = cc
 
@@ -39,7 +39,7 @@ unfolding enter
 enter_none t table = refl
 
 module _ (image : ImageValue) (are : All IsRow image.loops) (good : All (IsGood image.workspace) image.loops) (joins : ℕ → Bool)
-    (IsEdge : Placed × Edge → Type 0) (Stands : ℕ → State → Type 0) (lone : IsLone image joins IsEdge) (states : AreStates image IsEdge Stands) where
+    (IsEdge : Placed × Edge → Type 0) (MayOccur : ℕ → State → Type 0) (lone : IsLone image joins IsEdge) (states : AreStates image IsEdge MayOccur) where
   -- outcomes rise with what is known before
   pub rises : (e : Placed × Edge) (s t u v : State) → IsSound image s → IsBelow s t → outcome_of image e s ≡ Ok u → outcome_of image e t ≡ Ok v → IsBelow u v
   rises e s t u v sound below was is =
@@ -58,20 +58,20 @@ module _ (image : ImageValue) (are : All IsRow image.loops) (good : All (IsGood 
     pub now : State
     pub there : table edge.0.at ≡ Some now
     pub old : State
-    pub stood : Stands edge.0.at old
+    pub stood : MayOccur edge.0.at old
     pub below : IsBelow old now
     pub gave : outcome_of image edge old ≡ Ok t
 
   pub record Trails (table : Table) : Type 0 where
-    pub stand : (at : ℕ) (s : State) → table at ≡ Some s → Stands at s
+    pub stand : (at : ℕ) (s : State) → table at ≡ Some s → MayOccur at s
     pub trail : (to : ℕ) (t : State) → joins to ≡ false → table to ≡ Some t → HasTrail table to t
 
   -- a state takes an address, where it is above what stood there
-  takes : (to : ℕ) (v : State) (table : Table) → Trails table → Stands to v → ((u : State) → table to ≡ Some u → IsBelow u v)
+  takes : (to : ℕ) (v : State) (table : Table) → Trails table → MayOccur to v → ((u : State) → table to ≡ Some u → IsBelow u v)
       → (joins to ≡ false → HasTrail (with_state to v table) to v) → Trails (with_state to v table)
   takes to v table h stands above trail = record { stand = λ at s is. stand_at at s (at == to) refl is; trail = λ at s lone is. trail_at at s lone (at == to) refl is }
     where
-      stand_at : (at : ℕ) (s : State) (b : Bool) → (at == to) ≡ b → (if b then Some v else table at) ≡ Some s → Stands at s
+      stand_at : (at : ℕ) (s : State) (b : Bool) → (at == to) ≡ b → (if b then Some v else table at) ≡ Some s → MayOccur at s
       stand_at at s true e is =
           let here : at ≡ to = (Decides-eqb at to).0 e in
           let same : v ≡ s = cc in
@@ -126,7 +126,7 @@ module _ (image : ImageValue) (are : All IsRow image.loops) (good : All (IsGood 
         by_test true same = absurd (lone.on e to is_e lone_to goes (sym ((Decides-eqb e.0.at to).0 same)))
         by_test false other = there
 
-    stands_there : (to : ℕ) → target_of image e ≡ Some to → Stands to t
+    stands_there : (to : ℕ) → target_of image e ≡ Some to → MayOccur to t
     stands_there to goes = states.after e s t to is_e (h.stand e.0.at s there) goes gives
 
     -- at a lone target the outcome takes the place of what was known: nothing is refused there
@@ -140,7 +140,7 @@ module _ (image : ImageValue) (are : All IsRow image.loops) (good : All (IsGood 
         trail : HasTrail (with_state to t table) to t
         trail = record { edge = e; is = is_e; goes = goes; now = s; there = source_stays to t lone_to goes; old = s; stood = h.stand e.0.at s there; below = is_below-self s; gave = gives }
 
-        by_state : (o : Option State) → table to ≡ o → (placed to (met o t) >>= λ v. Ok (with_state to v table)) ≡ Ok (with_state to t table)
+        by_state : (o : Option State) → table to ≡ o → (with_place to (meeting_if_any o t) >>= λ v. Ok (with_state to v table)) ≡ Ok (with_state to t table)
         by_state None stood = refl
         by_state (Some u) stood =
             let below = above u stood in
@@ -155,7 +155,7 @@ module _ (image : ImageValue) (are : All IsRow image.loops) (good : All (IsGood 
         no_trail : (v : State) → joins to ≡ false → HasTrail (with_state to v table) to v
         no_trail v lone_to = absurd (let no : true ≡ false = sym joined ∙ lone_to in cc)
 
-        by_meeting : (x : State) → table to ≡ Some x → (r : Result State StateCode) → meeting x t ≡ r → IfOk (placed to r >>= λ v. Ok (with_state to v table)) Trails
+        by_meeting : (x : State) → table to ≡ Some x → (r : Result State StateCode) → meeting x t ≡ r → IfOk (with_place to r >>= λ v. Ok (with_state to v table)) Trails
         by_meeting x stood (Err c) m = tt
         by_meeting x stood (Ok v) m =
             let is = met_is x t v m in
@@ -163,7 +163,7 @@ module _ (image : ImageValue) (are : All IsRow image.loops) (good : All (IsGood 
             rw is.2 (takes to (join x t) table h (states.join to x t (h.stand to x stood) (stands_there to goes) is.0 is.1)
             (λ u stood_u. subst (λ z. IsBelow z (join x t)) (same_Some x u (sym stood ∙ stood_u)) (is_below-join_left x t may)) (no_trail (join x t)))
 
-        by_state : (o : Option State) → table to ≡ o → IfOk (placed to (met o t) >>= λ v. Ok (with_state to v table)) Trails
+        by_state : (o : Option State) → table to ≡ o → IfOk (with_place to (meeting_if_any o t) >>= λ v. Ok (with_state to v table)) Trails
         by_state None stood = takes to t table h (stands_there to goes) (λ u stood_u. absurd (let no : None ≡ Some u = sym stood ∙ stood_u in cc)) (no_trail t)
         by_state (Some x) stood = by_meeting x stood (meeting x t) refl
 
@@ -191,13 +191,13 @@ module _ (image : ImageValue) (are : All IsRow image.loops) (good : All (IsGood 
 
   -- ---- a pass
 
-  pub edge_by_edge : (es : List (Placed × Edge)) → ((i : ℕ) (e : Placed × Edge) → slice_get es i ≡ Some e → IsEdge e) → (table : Table) → Trails table → (along image es table ≡ over image joins es table) × IfOk (over image joins es table) Trails
+  pub edge_by_edge : (es : List (Placed × Edge)) → ((i : ℕ) (e : Placed × Edge) → slice_get es i ≡ Some e → IsEdge e) → (table : Table) → Trails table → (along_edges image es table ≡ over image joins es table) × IfOk (over image joins es table) Trails
   edge_by_edge [] edges table h = (refl, h)
   edge_by_edge (e ∷ more) edges table h =
       let first = one_edge e (edges 0 e refl) table h in
       in_turn (go_along image e.0 e.1 (table e.0.at) table) (go_over image joins e (table e.0.at) table) first.0 first.1 (edge_by_edge more (λ i f is. edges (suc i) f is))
     where
-      in_turn : (r q : Result Table StateFault) → r ≡ q → IfOk q Trails → ((t : Table) → Trails t → (along image more t ≡ over image joins more t) × IfOk (over image joins more t) Trails)
-          → ((r >>= along image more) ≡ (q >>= over image joins more)) × IfOk (q >>= over image joins more) Trails
+      in_turn : (r q : Result Table StateFault) → r ≡ q → IfOk q Trails → ((t : Table) → Trails t → (along_edges image more t ≡ over image joins more t) × IfOk (over image joins more t) Trails)
+          → ((r >>= along_edges image more) ≡ (q >>= over image joins more)) × IfOk (q >>= over image joins more) Trails
       in_turn r (Ok t) same trails go = let rest = go t trails in (rw same rest.0, rest.1)
       in_turn r (Err f) same trails go = (rw same refl, tt)

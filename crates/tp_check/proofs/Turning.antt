@@ -16,7 +16,7 @@ use Rattle.tp_state.specs.Order.{IsBelow}
 use Rattle.tp_state.proofs.StateOrder.{is_below-self}
 use Rattle.tp_check.specs.declared.passes.Passes.{Passes}
 use Rattle.tp_check.specs.Tables.{Table, table_of, asked}
-use Rattle.tp_check.specs.Passes.{from, edges_of}
+use Rattle.tp_check.specs.Passes.{edges_from, edges_of}
 use Rattle.tp_check.specs.Carried.{target_of, over, go_over}
 use Rattle.tp_check.specs.UnderWay.{is_in, AreJoins, Settles, IsTaken, TakenAt, WasTaken, WasTakenAt, marks, flags, HasCome, IsBegun, IsUnderWay, IsBefore, IsReady, IsAmidst, StandsIn, Carries, IsStarted}
 use Rattle.tp_check.proofs.Entering.{enters_below, same_there}
@@ -138,10 +138,10 @@ module _ (image : ImageValue) (joins : ℕ → Bool) (p : Placed) (table : Table
       by_state None e = over_none image joins p edge table e
       by_state (Some s) e = by_target s e (each s e) (target_of image (p, edge)) refl
 
-  pub ways_stay : (ways : List Edge) → ((k : ℕ) (d : Edge) → k < length ways → over image joins ((p, slice_index_or ways k d) ∷ []) table ≡ Ok table) → over image joins (from p ways) table ≡ Ok table
+  pub ways_stay : (ways : List Edge) → ((k : ℕ) (d : Edge) → k < length ways → over image joins ((p, slice_index_or ways k d) ∷ []) table ≡ Ok table) → over image joins (edges_from p ways) table ≡ Ok table
   ways_stay [] each = refl
   ways_stay (w ∷ ways) each =
-      over_one image joins (p, w) (from p ways) table ∙ ap (λ r. r >>= over image joins (from p ways)) (each 0 w (omega arith)) ∙ ways_stay ways (λ k d lt. each (suc k) d (omega (arith, lt)))
+      over_one image joins (p, w) (edges_from p ways) table ∙ ap (λ r. r >>= over image joins (edges_from p ways)) (each 0 w (omega arith)) ∙ ways_stay ways (λ k d lt. each (suc k) d (omega (arith, lt)))
 
 module _ (image : ImageValue) (cuts : List Cut) (joins : ℕ → Bool) (mid : Passes) (place : Placed) (stands : StandsIn cuts place) (whole : Table) (now : IsReady image cuts joins mid place.at whole) where
   -- in its place, of an instruction that is there

@@ -23,7 +23,7 @@ use Rattle.tp_state.proofs.Passing.{same_Ok}
 use Rattle.tp_check.specs.declared.passes.Passes.{Passes}
 use Rattle.tp_check.specs.declared.aside.Registers.{Registers}
 use Rattle.tp_check.specs.Tables.{Table, asked}
-use Rattle.tp_check.specs.Passes.{from, edges_of, edges_in}
+use Rattle.tp_check.specs.Passes.{edges_from, edges_of, edges_in}
 use Rattle.tp_check.specs.Carried.{target_of, over, IsAmong}
 use Rattle.tp_check.specs.UnderWay.{IsNumberOf, HasCome, IsBefore, IsAmidst, IsBegun, IsOnEdge, IsAfterEdge, LeavesWords, Carries, StandsIn}
 use Rattle.tp_check.proofs.Again.{asked_apart}
@@ -115,7 +115,7 @@ module _ (image : ImageValue) (joins : ℕ → Bool) (p : Passes) (place : Place
   }
 
   over_it : over image joins (edges_of place) begun.amid.whole ≡ over image joins ((place, edge) ∷ []) begun.amid.whole
-  over_it = ap (λ ways. over image joins (from place ways) begun.amid.whole) alone
+  over_it = ap (λ ways. over image joins (edges_from place ways) begun.amid.whole) alone
 
   pub one_done : (stands : StandsIn begun.amid.cuts place) (new : Passes) (r : Result Bool StateFault) → Carries r (over image joins ((place, edge) ∷ []) begun.amid.whole) (IsAfterEdge image begun.amid.cuts joins p new place edge 0 begun.amid.whole)
       → Carries r (over image joins (edges_of place) begun.amid.whole) (IsBefore image begun.amid.cuts joins new place.next)
@@ -149,7 +149,7 @@ module _ (image : ImageValue) (joins : ℕ → Bool) (p : Passes) (place : Place
   is_one edge number n = subst (λ e. IsAmong (edges_in begun.amid.cuts) (place, e)) n.is (edge_there (placed_from 0 begun.amid.cuts) begun.amid.number place begun.amid.stands number edge n.inside)
 
   over_two : over image joins (edges_of place) begun.amid.whole ≡ (over image joins ((place, first) ∷ []) begun.amid.whole >>= over image joins ((place, last) ∷ []))
-  over_two = ap (λ ways. over image joins (from place ways) begun.amid.whole) two ∙ over_one image joins (place, first) ((place, last) ∷ []) begun.amid.whole
+  over_two = ap (λ ways. over image joins (edges_from place ways) begun.amid.whole) two ∙ over_one image joins (place, first) ((place, last) ∷ []) begun.amid.whole
 
   -- a state is put aside
   pub record IsAside (leaves : Bool) (aside : Passes) : Type 0 where

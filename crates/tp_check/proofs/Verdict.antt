@@ -28,7 +28,8 @@ use Rattle.tp_check.specs.Tables.{Table, table_of, asked}
 use Rattle.tp_check.specs.Passes.{edges_of, edges_in, first_table, pass, passes, IsVerdict, IsRefusalOf}
 use Rattle.tp_check.specs.Carried.{over, only_joins, is_kept, is_head, reached, AreStatesOf, IsTableOf}
 use Rattle.tp_check.specs.StatesThere.{AreStatesThere}
-use Rattle.tp_check.specs.UnderWay.{is_in, AreJoins, HasPlaces, Settles, marks, IsBefore, StandsIn, Carries, IsAfter, IsCopyOf, Leaves, IsSettled, table_height}
+use Rattle.tp_check.specs.UnderWay.{is_in, AreJoins, Settles, marks, IsBefore, StandsIn, Carries, IsAfter, IsCopyOf, Leaves, IsSettled}
+use Rattle.tp_check.specs.Rising.{HasPlaces, table_height}
 use Rattle.tp_check.proofs.Places.{stands_at, number_of}
 use Rattle.tp_check.proofs.Entering.{first_grown}
 use Rattle.tp_check.proofs.Nests.{or_left}

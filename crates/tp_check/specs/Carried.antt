@@ -13,7 +13,7 @@ use Rattle.tp_state.specs.declared.fault.StateFault.{StateFault}
 use Rattle.tp_state.specs.Answer.{◌>>=◌}
 use Rattle.tp_state.specs.After.{after}
 use Rattle.tp_check.specs.Tables.{Table, with_state}
-use Rattle.tp_check.specs.Passes.{placed, enter, edges_in, first_table, IsVerdict}
+use Rattle.tp_check.specs.Passes.{with_place, enter, edges_in, first_table, IsVerdict}
 
 -- where an edge of an instruction in its place leads
 abbrev pub target_of : ImageValue → Placed × Edge → Option ℕ
@@ -21,7 +21,7 @@ target_of image e = target (ranges image.loops) e.0.at e.0.next e.0.instr e.1
 
 -- what is known after it
 abbrev pub outcome_of : ImageValue → Placed × Edge → State → Result State StateFault
-outcome_of image e s = placed e.0.at (after image e.0.at e.0.next e.0.instr e.1 s)
+outcome_of image e s = with_place e.0.at (after image e.0.at e.0.next e.0.instr e.1 s)
 
 -- a state comes to an address: it joins what is known there, or takes its place
 abbrev pub arrive : (ℕ → Bool) → Option ℕ → State → Table → Result Table StateFault

@@ -1,14 +1,17 @@
+-- What a reader must believe: clauses of public calls cite it.
 pub mod Tables
 pub mod EdgesRespect
 pub mod Passes
-pub mod UnderWay
+pub mod Rising
+pub mod Carried
+pub mod Numbered
+pub mod StatesThere
+pub mod NearRefusal
 pub use Rattle.tp_state.specs.After
 pub use Rattle.tp_state.specs.Order
 pub use Rattle.tp_state.specs.Entry
 pub use Rattle.tp_flow.specs.NestKept
-pub mod Carried
+-- What only private steps cite.
+pub mod UnderWay
 pub mod Joining
-pub mod Numbered
 pub mod Meeting
-pub mod StatesThere
-pub mod NearRefusal

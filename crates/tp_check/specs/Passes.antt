@@ -20,51 +20,51 @@ use Rattle.tp_check.specs.Tables.{Table, no_states, with_state, asked}
 -- ---- one edge
 
 -- a refusal has its place
-abbrev pub placed : {A : Type 0} → ℕ → Result A StateCode → Result A StateFault
-placed place (Ok x) = Ok x
-placed place (Err code) = Err (Refused code place)
+abbrev pub with_place : {A : Type 0} → ℕ → Result A StateCode → Result A StateFault
+with_place place (Ok x) = Ok x
+with_place place (Err code) = Err (Refused code place)
 
 -- what is known where a state comes to another: its first state, or what holds of both
-abbrev pub met : Option State → State → Result State StateCode
-met None s = Ok s
-met (Some t) s = meeting t s
+abbrev pub meeting_if_any : Option State → State → Result State StateCode
+meeting_if_any None s = Ok s
+meeting_if_any (Some t) s = meeting t s
 
 -- a state comes to an edge's target, if it has one: S6 and S9 at the target
 unfoldable pub enter : Option ℕ → State → Table → Result Table StateFault
 enter None s table = Ok table
 enter (Some to) s table = do
-  t ← placed to (met (table to) s)
+  t ← with_place to (meeting_if_any (table to) s)
   Ok (with_state to t table)
 
 -- what is known after an instruction comes to an edge's target, if there is a state before it
 unfoldable pub go_along : ImageValue → Placed → Edge → Option State → Table → Result Table StateFault
 go_along image p edge None table = Ok table
 go_along image p edge (Some s) table = do
-  t ← placed p.at (after image p.at p.next p.instr edge s)
+  t ← with_place p.at (after image p.at p.next p.instr edge s)
   enter (target (ranges image.loops) p.at p.next p.instr edge) t table
 
 -- ---- one pass
 
 -- edges of an instruction, and all that it is asked on, in their order
-abbrev pub from : Placed → List Edge → List (Placed × Edge)
-from p ways = map (λ edge. (p, edge)) ways
+abbrev pub edges_from : Placed → List Edge → List (Placed × Edge)
+edges_from p ways = map (λ edge. (p, edge)) ways
 
 abbrev pub edges_of : Placed → List (Placed × Edge)
-edges_of p = from p (asked p.instr)
+edges_of p = edges_from p (asked p.instr)
 
 -- the edges of a code: by rising address
 abbrev pub edges_in : List Cut → List (Placed × Edge)
 edges_in cuts = flat_map edges_of (placed_from 0 cuts)
 
 -- one edge after another
-abbrev pub along : ImageValue → List (Placed × Edge) → Table → Result Table StateFault
-along image [] table = Ok table
-along image (e ∷ more) table = do
+abbrev pub along_edges : ImageValue → List (Placed × Edge) → Table → Result Table StateFault
+along_edges image [] table = Ok table
+along_edges image (e ∷ more) table = do
   table ← go_along image e.0 e.1 (table e.0.at) table
-  along image more table
+  along_edges image more table
 
 abbrev pub pass : ImageValue → List Cut → Table → Result Table StateFault
-pass image cuts table = along image (edges_in cuts) table
+pass image cuts table = along_edges image (edges_in cuts) table
 
 -- ---- the passes
 

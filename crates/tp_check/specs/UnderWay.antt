@@ -1,5 +1,5 @@
 -- What holds while the passes are made.
-use Rattle.std.specs.Prelude.{◌≡◌, ◌≢◌, ℕ, ◌+◌, ◌*◌, ◌-◌, ◌^◌, ◌<◌, ◌≤◌, ◌==◌, ◌&&◌, Bool, true, false, if◌then◌else◌, ℤ, pos, negsuc, ◌+ℤ◌, ◌-ℤ◌, List, length, sum_by, slice_get, slice_index_or, slice_set, All, ◌⊎◌, Option, Some, None, Result, Ok, Err, IsTrue, IfSome}
+use Rattle.std.specs.Prelude.{◌≡◌, ◌≢◌, ℕ, ◌+◌, ◌^◌, ◌<◌, ◌≤◌, ◌==◌, ◌&&◌, Bool, true, false, if◌then◌else◌, ℤ, List, length, slice_get, slice_index_or, slice_set, All, ◌⊎◌, Option, Some, None, Result, Ok, Err, IfSome}
 use Rattle.std.specs.Option.{option_and_then}
 use Rattle.tp_decode.specs.declared.instr.Instr.{Instr}
 use Rattle.tp_decode.specs.declared.instr.Instr.TheVariants.{Cj}
@@ -13,18 +13,12 @@ use Rattle.tp_flow.specs.LoopsAround.{is_around, entered_by}
 use Rattle.tp_flow.specs.AroundKept.{KeepsAround}
 use Rattle.tp_flow.specs.NestKept.{KeepsNest}
 use Rattle.tp_flow.specs.Edges.{target}
-use Rattle.tp_flow.specs.RowRules.{is_start}
 use Rattle.tp_image.specs.Image.{ImageValue, InRange}
-use Rattle.tp_state.specs.declared.kind.Kind.{Kind}
-use Rattle.tp_state.specs.declared.kind.Kind.TheVariants as kind
-use Rattle.tp_state.specs.declared.cell.Cell.{Cell}
-use Rattle.tp_state.specs.declared.cell.Cell.TheVariants as cell
 use Rattle.tp_state.specs.declared.state.State.{State}
 use Rattle.tp_state.specs.declared.fault.StateFault.{StateFault}
 use Rattle.tp_state.specs.declared.fault.StateFault.TheVariants.{Refused, Memory}
 use Rattle.tp_state.specs.Conditions.{IsPlaced}
 use Rattle.tp_state.specs.Entry.{entry}
-use Rattle.tp_state.specs.Order.{IsBelow}
 use Rattle.tp_state.specs.Sound.{IsSound, LoadsWord}
 use Rattle.tp_state.specs.Live.{LiveWordsAre}
 use Rattle.tp_state.specs.After.{after}
@@ -33,6 +27,7 @@ use Rattle.tp_check.specs.Tables.{Table, table_of, asked}
 use Rattle.tp_check.specs.EdgesRespect.{HasAbove}
 use Rattle.tp_check.specs.Passes.{edges_in, passes, IsVerdict}
 use Rattle.tp_check.specs.Carried.{AreWide, IsAmong, IsLone, over, target_of}
+use Rattle.tp_check.specs.Rising.{HasPlaces, height, table_height}
 
 -- ---- what a table keeps
 
@@ -95,14 +90,6 @@ pub record WasTaken (image : ImageValue) (joins : ℕ → Bool) (table : Table) 
 
 abbrev pub WasTakenAt : ImageValue → (ℕ → Bool) → Table → ℕ → Cut → Type 0
 WasTakenAt image joins table at cut = WasTaken image joins table at (at + length cut.bytes) cut.instr 0
-
--- something came to an address before that is below what comes now
-pub record CameBefore (there : Option State) (s : State) : Type 0 where
-  pub before : State
-  pub state : State
-  pub is : there ≡ Some state
-  pub rose : IsBelow before state
-  pub below : IsBelow before s
 
 -- what is marked: where edges join, what has changed since its edges were last taken; and the address to which a state is
 -- carried
@@ -240,42 +227,6 @@ pub record LeavesWords (nest : List LoopRange) (place : Placed) : Type 0 where
   pub next : option_and_then (entered_by nest place.at) (target nest place.at place.next place.instr Next) ≡ None
   pub taken : option_and_then (entered_by nest place.at) (target nest place.at place.next place.instr Taken) ≡ None
 
--- each instruction has its place
-abbrev pub HasPlaces : List Cut → ℕ → Type 0
-HasPlaces cuts places = (at : ℕ) → IsTrue (is_start cuts at) → at < places
-
--- ---- how far the passes have to go
-
--- a whole number, or 0 in place of one below 0
-abbrev pub size : ℤ → ℕ
-size (pos n) = n
-size (negsuc n) = 0
-
--- how many changes are left to a register
-abbrev pub kind_height : Kind → ℕ
-kind_height kind.Undef = 0
-kind_height (kind.Int low high) = 1 + size (low +ℤ pos (2 ^ 31)) + size (pos (2 ^ 31 - 1) -ℤ high)
-kind_height (kind.Ptr low high) = 1 + low + (2 ^ 32 - 1 - high)
-kind_height (kind.BytePtr low high) = 1 + low + (2 ^ 32 - 1 - high)
-
--- to a word
-abbrev pub cell_height : Cell → ℕ
-cell_height cell.Undef = 0
-cell_height cell.Any = 1
-cell_height c = 2
-
--- to an address
-unfoldable pub state_height : State → ℕ
-state_height s = kind_height s.a + kind_height s.b + kind_height s.c + sum_by cell_height s.cells
-
-abbrev pub height : ImageValue → Option State → ℕ
-height image None = 2 ^ 35 + 2 * image.workspace
-height image (Some s) = state_height s
-
--- and to a table
-unfoldable pub table_height : ImageValue → List (Option State) → ℕ
-table_height image states = sum_by (height image) states
-
 -- ---- between two passes
 
 -- so many passes have been made
@@ -320,12 +271,6 @@ pub record IsSettled (image : ImageValue) (cuts : List Cut) (joins : ℕ → Boo
 
 -- ---- what a step of the passes does
 
--- its answer is the definition's, or a want of memory
-abbrev pub Gives : {X : Type 0} → Result X StateFault → Table → Result Table StateFault → Type 0
-Gives (Ok x) table wanted = wanted ≡ Ok table
-Gives (Err (Refused code place)) table wanted = wanted ≡ Err (Refused code place)
-Gives (Err Memory) table wanted = Unit {0}
-
 -- the same where a state comes to an address
 abbrev pub GivesState : {X : Type 0} → Result X StateFault → Option State → Result State StateFault → Type 0
 GivesState (Ok x) new wanted = (t : State) × (new ≡ Some t) × (wanted ≡ Ok t)
@@ -336,12 +281,6 @@ GivesState (Err Memory) new wanted = Unit {0}
 pub record MovesState (image : ImageValue) (moved : Bool) (old new : Option State) : Type 0 where
   pub stays : moved ≡ false → new ≡ old
   pub falls : moved ≡ true → height image new < height image old
-
--- it tells whether a table has changed, and where it has, fewer changes are left
-pub record Moves (image : ImageValue) (moved : Bool) (old new : List (Option State)) : Type 0 where
-  pub sized : length new ≡ length old
-  pub stays : moved ≡ false → new ≡ old
-  pub falls : moved ≡ true → table_height image new < table_height image old
 
 -- an address is marked, where its state has changed
 abbrev pub marked : Bool → ℕ → List Bool → List Bool

@@ -12,7 +12,7 @@ ghost use Rattle.tp_check.specs.Carried.{only_joins};
 ghost use Rattle.tp_check.specs.Joining.{joins_at};
 ghost use Rattle.tp_check.specs.Numbered.{number_at, joined_number};
 ghost use Rattle.tp_check.specs.Meeting.{Meets};
-ghost use Rattle.tp_check.specs.UnderWay.{Gives, Moves, CameBefore};
+ghost use Rattle.tp_check.specs.Rising.{Gives, Moves, CameBefore};
 
 use crate::way::Ways;
 use std::alloc::{AllocError, Global};
@@ -22,14 +22,14 @@ use tp_state::{State, StateFault, States};
 
 /// What is known before some instructions of a code: a contract sees the state of each address that has one.
 #[derive(Drop)]
-pub struct Kept {
+pub struct KeptStates {
     /// In the order in which their addresses were reached.
     states: States,
     /// By address, the number of its state.
     numbers: Vec<Option<usize>>,
 }
 
-impl Model for Kept {
+impl Model for KeptStates {
     ghost use Rattle.std.specs.Prelude.{List, Option};
     ghost use Rattle.tp_state.specs.declared.state.State.{State};
     ghost use Rattle.tp_check.specs.Numbered.{states_by, AreNumbers};
@@ -41,14 +41,14 @@ impl Model for Kept {
     ghost invariant = { λ k. AreNumbers k.states k.numbers.items };
 }
 
-impl Kept {
+impl KeptStates {
     /// The first instruction alone has a state, of so many addresses.
     pub(crate) fn first(
         alloc: Global,
         image: &Image,
         first: &State,
         places: usize,
-    ) -> Result<Kept, AllocError>
+    ) -> Result<KeptStates, AllocError>
         requires some { 0 < places }
         requires first { first.now ≡ entry image.now }
         ensures sized { IfOk result (λ kept. length kept ≡ places) }
@@ -56,7 +56,7 @@ impl Kept {
     {
         let numbers = first_number(alloc, places)?;
         let states = alone(alloc, first, places)?;
-        Ok(Kept { states, numbers })
+        Ok(KeptStates { states, numbers })
     }
 
     /// How many addresses there may be states at.
@@ -149,12 +149,12 @@ impl Kept {
     }
 
     /// A copy.
-    pub(crate) fn copy_of(&self, alloc: Global) -> Result<Kept, AllocError>
+    pub(crate) fn copy_of(&self, alloc: Global) -> Result<KeptStates, AllocError>
         ensures { IfOk result (λ copy. copy ≡ self.now) }
     {
         let states = self.states.copy_of_all(alloc)?;
         let numbers = Vec::from_slice(alloc, &self.numbers)?;
-        Ok(Kept { states, numbers })
+        Ok(KeptStates { states, numbers })
     }
 }
 

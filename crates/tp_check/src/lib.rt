@@ -15,7 +15,7 @@ mod table;
 mod way;
 
 pub use effort::Effort;
-pub use kept::Kept;
+pub use kept::KeptStates;
 pub use near::{NearRefusal, PassesEnd, near_refusal};
 pub use passes::{check_states, check_states_counting, judge_states, places_of};
 pub use table::Table;

@@ -4,7 +4,8 @@ ghost use Rattle.std.specs.Prelude.{◌≡◌, ◌<◌, ◌≤◌, ◌^◌, ℕ,
 ghost use Rattle.tp_decode.specs.Cutting.{Cut};
 ghost use Rattle.tp_flow.specs.NestKept.{KeepsNest};
 ghost use Rattle.tp_image.specs.Image.{ImageValue};
-ghost use Rattle.tp_check.specs.UnderWay.{AreJoins, HasPlaces, IsAfter};
+ghost use Rattle.tp_check.specs.UnderWay.{AreJoins, IsAfter};
+ghost use Rattle.tp_check.specs.Rising.{HasPlaces};
 ghost use Rattle.tp_check.specs.NearRefusal.{IsMilestone, AreMilestones};
 
 use crate::passes::Passes;

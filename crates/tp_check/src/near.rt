@@ -9,10 +9,11 @@ ghost use Rattle.tp_image.specs.Image.{InRange};
 ghost use Rattle.tp_check.specs.Tables.{Table as WholeTable, table_of};
 ghost use Rattle.tp_check.specs.Passes.{passes};
 ghost use Rattle.tp_check.specs.Joining.{joins_at};
-ghost use Rattle.tp_check.specs.UnderWay.{AreJoins, HasPlaces};
+ghost use Rattle.tp_check.specs.UnderWay.{AreJoins};
+ghost use Rattle.tp_check.specs.Rising.{HasPlaces};
 ghost use Rattle.tp_check.specs.NearRefusal.{IsNearRefusal, IsLastQuiet, IsJoined, IsMilestone, AreMilestones, RefusesNothing, IfFound, EndsWith};
 
-use crate::kept::Kept;
+use crate::kept::KeptStates;
 use crate::milestones::{Milestone, Milestones};
 use crate::passes::{Passes, places_of};
 use crate::way::Ways;
@@ -37,7 +38,7 @@ pub struct NearRefusal {
     /// How many passes were made. They refuse nothing, and of the next two one refuses.
     pub passes: u64,
     /// What is known then where edges join, from which the next pass comes to the same as from all that is known.
-    pub states: Kept,
+    pub states: KeptStates,
 }
 
 /// What the passes over a code come to, of an image whose flow has passed and of its code's listing, and where they stand before
@@ -120,7 +121,7 @@ fn joined_after(
     ways: &Ways,
     from: Milestone,
     number: u64,
-) -> Result<Kept, AllocError>
+) -> Result<KeptStates, AllocError>
     requires range { InRange image.now }
     requires kept { KeepsNest image.now.loops image.now.workspace listing.now }
     requires nest { nest.now ≡ ranges image.now.loops }

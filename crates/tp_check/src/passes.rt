@@ -18,11 +18,12 @@ ghost use Rattle.tp_check.specs.Passes.{enter, edges_of, edges_in, IsVerdict, Is
 ghost use Rattle.tp_check.specs.Carried.{over, IsTableOf};
 ghost use Rattle.tp_check.specs.StatesThere.{AreStatesThere};
 ghost use Rattle.tp_check.specs.Joining.{joins_at, keeps_at};
-ghost use Rattle.tp_check.specs.UnderWay.{is_in, IsBeginning, IsCopyOf, Leaves, AreJoins, HasPlaces, MayBeTaken, StandsIn, IsBefore, Carries, TakesEdges, Gives, Moves, marked, SameButSlots, IsStarted, KeepsSound, CameBefore, IsBegun, IsOnEdge, IsAfterEdge, IsLedOn, IsSettled};
+ghost use Rattle.tp_check.specs.UnderWay.{is_in, IsBeginning, IsCopyOf, Leaves, AreJoins, MayBeTaken, StandsIn, IsBefore, Carries, TakesEdges, marked, SameButSlots, IsStarted, KeepsSound, IsBegun, IsOnEdge, IsAfterEdge, IsLedOn, IsSettled};
+ghost use Rattle.tp_check.specs.Rising.{HasPlaces, Gives, Moves, CameBefore};
 
 use crate::aside::{Registers, leaves_words};
 use crate::effort::Effort;
-use crate::kept::Kept;
+use crate::kept::KeptStates;
 use crate::table::Table;
 use crate::way::Ways;
 use std::alloc::{AllocError, Global};
@@ -115,7 +116,7 @@ fn settle(
     places: usize,
     ways: &Ways,
     effort: &mut Effort,
-) -> Result<Kept, StateFault>
+) -> Result<KeptStates, StateFault>
     requires kept { KeepsNest image.now.loops image.now.workspace listing.now }
     requires nest { nest.now ≡ ranges image.now.loops }
     requires join { AreJoins image.now listing.now (joins_at ways.now) }
@@ -145,7 +146,7 @@ fn settle(
 #[derive(Drop)]
 pub(crate) struct Passes {
     /// The states where edges join.
-    pub(crate) slots: Kept,
+    pub(crate) slots: KeptStates,
     /// By address, whether it is marked: edges join there, and the state has changed since the edges from there were last taken. At
     /// first the first address is.
     changed: Vec<bool>,
@@ -176,7 +177,7 @@ impl Passes {
         // A look into the image tells that it is in range.
         let _ = &image.code;
         let carried = State::entry(alloc, image)?;
-        let slots = Kept::first(alloc, image, &carried, places)?;
+        let slots = KeptStates::first(alloc, image, &carried, places)?;
         let changed = first_marked(alloc, places)?;
         let taken = none_marked(alloc, places)?;
         Ok(Passes {

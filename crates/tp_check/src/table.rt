@@ -5,7 +5,7 @@ ghost use Rattle.tp_check.specs.Tables.{table_of};
 ghost use Rattle.tp_check.specs.Carried.{AreStatesOf};
 ghost use Rattle.tp_check.specs.Joining.{keeps_at};
 
-use crate::kept::Kept;
+use crate::kept::KeptStates;
 use crate::way::Ways;
 use std::alloc::{AllocError, Global};
 use tp_state::State;
@@ -20,7 +20,7 @@ pub struct Table {
 
 impl Table {
     /// What is kept of the states that the passes have left.
-    pub(crate) fn of(alloc: Global, slots: &Kept, ways: &Ways) -> Result<Table, AllocError>
+    pub(crate) fn of(alloc: Global, slots: &KeptStates, ways: &Ways) -> Result<Table, AllocError>
         requires few { length slots.now ≤ 2 ^ 32 }
         ensures { IfOk result (λ table. AreStatesOf (keeps_at ways.now) (table_of slots.now) table.states.items) }
     {

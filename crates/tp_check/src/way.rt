@@ -8,7 +8,8 @@ ghost use Rattle.tp_flow.specs.NestRanges.{ranges};
 ghost use Rattle.tp_flow.specs.NestKept.{KeepsNest};
 ghost use Rattle.tp_check.specs.Passes.{edges_in, edges_of};
 ghost use Rattle.tp_check.specs.Carried.{is_kept, IsAmong};
-ghost use Rattle.tp_check.specs.UnderWay.{AreJoins, HasPlaces, MayBeTaken};
+ghost use Rattle.tp_check.specs.UnderWay.{AreJoins, MayBeTaken};
+ghost use Rattle.tp_check.specs.Rising.{HasPlaces};
 ghost use Rattle.tp_check.specs.Joining.{joins, keeps, joins_at, keeps_at, with_edge, TellWays};
 
 use crate::passes::asked;

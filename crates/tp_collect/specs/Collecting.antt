@@ -8,7 +8,7 @@ use Rattle.tp_collect.specs.declared.collected.LostCause.TheVariants as cause
 use Rattle.tp_collect.specs.declared.fault.PutFault.{PutFault}
 use Rattle.tp_collect.specs.declared.fault.PutFault.TheVariants.{Filed, NoPacket, OtherBatch}
 use Rattle.tp_collect.specs.DoneValue.{DoneValue}
-use Rattle.tp_collect.specs.Collected.{Batch}
+use Rattle.tp_collect.specs.Collected.{JobValue}
 
 -- the most packets of a batch
 abbrev pub most_packets : ℕ
@@ -16,10 +16,10 @@ most_packets = 1024
 
 -- a collector: the batch, and the entries so far
 pub record Collection : Type 0 where
-  pub batch : Batch
+  pub batch : JobValue
   pub entries : List Entry
 
-abbrev pub collection : Batch → List Entry → Collection
+abbrev pub collection : JobValue → List Entry → Collection
 collection batch entries = record { batch = batch; entries = entries }
 
 -- what stands where nothing is filed

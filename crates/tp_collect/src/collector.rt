@@ -2,7 +2,7 @@
 
 ghost use Rattle.std.specs.Prelude.{◌≡◌, ◌<◌, ◌≤◌, length, map, replicate, IfOk, slice_set, vec_len};
 ghost use Rattle.tp_collect.specs.declared.collected.Entry.TheVariants as entry;
-ghost use Rattle.tp_collect.specs.Collected.{IsCollected, Names, batch_of_parts};
+ghost use Rattle.tp_collect.specs.Collected.{IsCollected, Names, job_of_parts};
 ghost use Rattle.tp_collect.specs.Collecting.{most_packets, collection, vacant, is_vacant, lost_by};
 ghost use Rattle.tp_collect.specs.Collecting.{number_fault, put_fault, filed, put_answer, lose_answer};
 
@@ -32,13 +32,13 @@ impl<'j> Model for Collector<'j> {
     ghost Value = { Collection };
 
     ghost use Rattle.std.specs.Prelude.{map};
-    ghost use Rattle.tp_collect.specs.Collected.{IsCollected, batch_of_parts};
+    ghost use Rattle.tp_collect.specs.Collected.{IsCollected, job_of_parts};
 
     ghost view = { λ c. collection
-        (batch_of_parts c.batch c.image.now (map (λ p. p.items) c.packets.now)) c.entries.items };
+        (job_of_parts c.batch c.image.now (map (λ p. p.items) c.packets.now)) c.entries.items };
 
     ghost invariant = { λ c.
-        IsCollected (batch_of_parts c.batch c.image.now (map (λ p. p.items) c.packets.now)) c.entries.items };
+        IsCollected (job_of_parts c.batch c.image.now (map (λ p. p.items) c.packets.now)) c.entries.items };
 }
 
 impl<'j> Collector<'j> {
@@ -50,7 +50,7 @@ impl<'j> Collector<'j> {
         packets: &'j [ArrayVec<u8, MESSAGE_BYTES>],
     ) -> Result<Collector<'j>, AllocError>
         requires { length packets.now ≤ most_packets }
-        ensures { IfOk result (λ c. c ≡ collection (batch_of_parts batch image.now (map (λ p. p.items) packets.now))
+        ensures { IfOk result (λ c. c ≡ collection (job_of_parts batch image.now (map (λ p. p.items) packets.now))
             (replicate (length packets.now) vacant)) }
     {
         let entries = all_vacant(alloc, packets.len())?;

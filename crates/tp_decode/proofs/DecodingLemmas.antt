@@ -10,7 +10,7 @@ use Rattle.tp_decode.specs.declared.fault.DecodeCode.TheVariants.{D1, D2, D3}
 use Rattle.tp_decode.specs.declared.fault.DecodeFault.TheVariants.{Refused, Memory}
 use Rattle.tp_decode.specs.declared.piece.Piece.{Piece}
 use Rattle.tp_decode.specs.Cutting.{Cut, IsSpelled, code_of, IsCutting, IsRefused, IsUnknown, cutting_from, cutting, starts_from}
-use Rattle.tp_prefix.specs.Spelling.{spelled, StandsAt}
+use Rattle.tp_prefix.specs.Spelling.{spelled, IsSpelledAt}
 use Rattle.tp_prefix.specs.declared.spelled.Spelled.{Spelled}
 use Rattle.tp_decode.specs.declared.instr.Instr.{Instr}
 use Rattle.tp_decode.proofs.TableLemmas.{entry_gives, given_entry}
@@ -115,7 +115,7 @@ spelled_some cut is = by_case cut.bytes is.spells
     by_case (b ∷ bytes) is = omega arith
 
 -- what is read in front, as an instruction or as none
-pub unknown_in_front : (code : List ℕ) (at : ℕ) (s : Spelled) → StandsAt code at s → instruction s.function s.operand ≡ None → IsUnknown (drop at code)
+pub unknown_in_front : (code : List ℕ) (at : ℕ) (s : Spelled) → IsSpelledAt code at s → instruction s.function s.operand ≡ None → IsUnknown (drop at code)
 unknown_in_front code at s stands none = record {
   bytes = slice_range code at s.next;
   after = drop (s.next - at) (drop at code);
@@ -130,7 +130,7 @@ unknown_in_front code at s stands none = record {
     missing None i e f = cc
     missing (Some j) i e f = cc
 
-pub known_in_front : (code : List ℕ) (at : ℕ) (s : Spelled) (bytes : List ℕ) (i : Instr) → StandsAt code at s → instruction s.function s.operand ≡ Some i → bytes ≡ take (s.next - at) (drop at code) → BeginsWith (drop at code) record { bytes = bytes; instr = i }
+pub known_in_front : (code : List ℕ) (at : ℕ) (s : Spelled) (bytes : List ℕ) (i : Instr) → IsSpelledAt code at s → instruction s.function s.operand ≡ Some i → bytes ≡ take (s.next - at) (drop at code) → BeginsWith (drop at code) record { bytes = bytes; instr = i }
 known_in_front code at s bytes i stands found is =
     let has = given_entry s.function s.operand i found in
     let count : length bytes ≡ s.next - at = omega (arith, ap length is, length-take (s.next - at) (drop at code), length-drop at code, stands.within) in

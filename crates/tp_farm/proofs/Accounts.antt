@@ -9,7 +9,7 @@ use Rattle.tp_link.specs.declared.links.LinkFault.{LinkFault}
 use Rattle.tp_machine.specs.Devices.{Devices}
 use Rattle.tp_board.specs.Sources.{Progress, HandFinished, HandAbandoned}
 use Rattle.tp_collect.specs.DoneValue.{DoneValue}
-use Rattle.tp_collect.specs.Collected.{Batch, IsResult}
+use Rattle.tp_collect.specs.Collected.{JobValue, IsResult}
 use Rattle.tp_farm.specs.declared.member.Filed.{Filed}
 use Rattle.tp_farm.specs.declared.member.Filed.TheVariants as filed
 use Rattle.tp_farm.specs.Settings.{SameDevice, SameSettings, Rises, failed_by}
@@ -76,7 +76,7 @@ went P p number (Err e) has ok err = absurd (none (sym err ∙ has))
 same_number : (a b : ℕ) → Some a ≡ Some b → a ≡ b
 same_number a b e = cc
 
-module _ (batch : Batch) (before now after : Devices) (p q : Progress) (these : List Filed)
+module _ (batch : JobValue) (before now after : Devices) (p q : Progress) (these : List Filed)
     (h : KeepsAccounts batch before now p these) (same : SameSettings now after) where
   pub accounts_done : (number n : ℕ) (done : DoneValue) → Rises now after (λ which. 0) → IsResult batch number done
       → p.in_hand ≡ Some number → HandFinished p n q → KeepsAccounts batch before after q (these ++ filed.Done done ∷ [])

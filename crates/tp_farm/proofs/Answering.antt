@@ -6,15 +6,15 @@ use Rattle.tp_link.specs.declared.links.Links.{Links}
 use Rattle.tp_farm.specs.declared.job.Job.{Job}
 use Rattle.tp_farm.specs.declared.batch.Batch.{Batch}
 use Rattle.tp_farm.specs.declared.fault.FarmFault.{FarmFault}
-use Rattle.tp_farm.specs.Jobs.{batch_of}
-use Rattle.tp_farm.specs.Working.{work_on}
+use Rattle.tp_farm.specs.Jobs.{value_of_job}
+use Rattle.tp_farm.specs.Works.{work_on}
 use Rattle.tp_farm.specs.Refused.{job_fault, IsFromOutside}
 use Rattle.tp_farm.specs.Answered.{IsBatchOver, AnswersBatch}
 use Rattle.tp_farm.proofs.Beginning.{on_ok, if_ok}
 use Rattle.tp_farm.proofs.Promising.{goes_well}
 
 module _ {D G : Type 0} (state : D → DeviceState) (open_for_good : G → Bool) (job : Job) (gate : G) (links : List (Links D)) where
-  pub answers_begun : (result : Result (Batch D) FarmFault) → job_fault (length links) (batch_of job) ≡ None
+  pub answers_begun : (result : Result (Batch D) FarmFault) → job_fault (length links) (value_of_job job) ≡ None
       → IfOk result (IsBatchOver state (work_on open_for_good job gate) links) → IfErr result IsFromOutside
       → AnswersBatch state open_for_good job gate links result
   answers_begun result none batch err =
@@ -23,7 +23,7 @@ module _ {D G : Type 0} (state : D → DeviceState) (open_for_good : G → Bool)
       record {
         batch = batch;
         goes_well = λ packets. if_ok _ _ result batch λ b is.
-            goes_well (batch_of job) accepted.budget never packets _ _ _ b.collected is;
+            goes_well (value_of_job job) accepted.budget never packets _ _ _ b.collected is;
         begins = on_ok _ result none;
         refused = subst (λ o. IfSome o (λ fault. result ≡ Err fault)) (sym none) tt;
         err = λ _. err;

@@ -7,7 +7,7 @@ use Rattle.std.specs.Option.{option_map}
 use Rattle.std.proofs.lemmas.List.{length-map}
 use Rattle.std.proofs.lemmas.List.Sums.{fails_before_first}
 use Rattle.std.proofs.lemmas.Bool.Decides.{nat_tests}
-use Rattle.tp_collect.specs.Collected.{Batch}
+use Rattle.tp_collect.specs.Collected.{JobValue}
 use Rattle.tp_farm.specs.declared.fault.FarmFault.TheVariants.{Members, Packets, Length}
 use Rattle.tp_farm.specs.Jobs.{AreWhole}
 use Rattle.tp_collect.specs.Collecting.{most_packets}
@@ -22,7 +22,7 @@ module _ {X Y : Type 0} (f : X → Y) (p : Y → Bool) where
   position-map xs = rw (first-map xs, length-map xs f) refl
 
 -- neither G1 nor G2
-pub job_begins : (members : ℕ) (batch : Batch) → (members ≡ 0 → ⊥) → members ≤ 64 → length batch.packets ≤ 1024
+pub job_begins : (members : ℕ) (batch : JobValue) → (members ≡ 0 → ⊥) → members ≤ 64 → length batch.packets ≤ 1024
     → job_fault members batch ≡ option_map Length (first_other batch)
 job_begins members batch some few less =
     let tests : ((members == 0) || nat_lt most_members members) ≡ false = grind (arith, nat_tests) in
@@ -41,7 +41,7 @@ module _ {X : Type 0} (p : X → Bool) (xs : List X) where
   all_other : position p xs ≡ None → (k : ℕ) (d : X) → k < length xs → p (get_or xs k d) ≡ false
   all_other e k d lt = fails_before_first p xs k d (omega (arith, no_first e, lt))
 
-first_whole : (batch : Batch) → first_other batch ≡ None → AreWhole batch
+first_whole : (batch : JobValue) → first_other batch ≡ None → AreWhole batch
 first_whole batch e k d lt =
     same (get_or batch.packets k d) (all_other (λ packet. not (length packet == 4 * batch.image.packet)) batch.packets e k d lt)
   where
@@ -49,7 +49,7 @@ first_whole batch e k d lt =
     same packet is = grind (arith, nat_tests, is)
 
 -- no refusal
-pub begun : (members : ℕ) (batch : Batch) → job_fault members batch ≡ None → Begins members batch
+pub begun : (members : ℕ) (batch : JobValue) → job_fault members batch ≡ None → Begins members batch
 begun members batch e =
     by_tests ((members == 0) || nat_lt most_members members) refl (nat_lt most_packets (length batch.packets)) refl
     (first_other batch) refl e

@@ -2,18 +2,18 @@
 use Rattle.std.proofs.Common.{◌≡◌, List, [], ◌∷◌, ◌++◌, map, Some, slice_get, slice_set, refl, sym, ap, ◌∙◌, subst}
 use Rattle.std.proofs.lemmas.List.{append_assoc}
 use Rattle.tp_collect.specs.declared.collected.Entry.{Entry}
-use Rattle.tp_collect.specs.Collected.{Batch}
+use Rattle.tp_collect.specs.Collected.{JobValue}
 use Rattle.tp_collect.specs.Collecting.{Collection, vacant}
 use Rattle.tp_farm.specs.declared.member.Filed.{Filed}
 use Rattle.tp_farm.specs.Gathering.{number_of, entry_of, filed_in, FindVacant, all_filed}
 
 -- the rest may be filed, and then the entries are these
-pub record MayFile (batch : Batch) (result : List Entry) (c : Collection) (rest : List Filed) : Type 0 where
+pub record MayFile (batch : JobValue) (result : List Entry) (c : Collection) (rest : List Filed) : Type 0 where
   pub batch_is : c.batch ≡ batch
   pub vacant : FindVacant c.entries rest
   pub leads : filed_in c.entries rest ≡ result
 
-pub files_one : (batch : Batch) (result : List Entry) (c c' : Collection) (f : Filed) (rest rest' : List Filed)
+pub files_one : (batch : JobValue) (result : List Entry) (c c' : Collection) (f : Filed) (rest rest' : List Filed)
     → MayFile batch result c rest → rest ≡ f ∷ rest' → c' ≡ record c { entries = slice_set c.entries (number_of f) (entry_of f) }
     → MayFile batch result c' rest'
 files_one batch result c c' f rest rest' h step is =
@@ -24,7 +24,7 @@ files_one batch result c c' f rest rest' h step is =
       leads = ap (λ x. filed_in x.entries rest') is ∙ sym (ap (filed_in c.entries) step) ∙ h.leads;
     }
 
-pub next_vacant : (batch : Batch) (result : List Entry) (c : Collection) (f : Filed) (rest rest' : List Filed)
+pub next_vacant : (batch : JobValue) (result : List Entry) (c : Collection) (f : Filed) (rest rest' : List Filed)
     → MayFile batch result c rest → rest ≡ f ∷ rest' → slice_get c.entries (number_of f) ≡ Some vacant
 next_vacant batch result c f rest rest' h step =
     let v : FindVacant c.entries (f ∷ rest') = subst (FindVacant c.entries) step h.vacant in v.0
@@ -43,7 +43,7 @@ pub filed_in-append : (entries : List Entry) (xs ys : List Filed)
 filed_in-append entries [] ys = refl
 filed_in-append entries (x ∷ xs) ys = filed_in-append (slice_set entries (number_of x) (entry_of x)) xs ys
 
-pub files_more : (batch : Batch) (result : List Entry) (c c' : Collection) (xs ys : List Filed)
+pub files_more : (batch : JobValue) (result : List Entry) (c c' : Collection) (xs ys : List Filed)
     → MayFile batch result c (xs ++ ys) → c' ≡ record c { entries = filed_in c.entries xs } → MayFile batch result c' ys
 files_more batch result c c' xs ys h is = record {
   batch_is = ap (λ x. x.batch) is ∙ h.batch_is;
@@ -56,14 +56,14 @@ module _ {X : Type 0} (of : X → List Filed) where
   pub first_of : (x : X) (rest rest' : List X) → rest ≡ x ∷ rest' → all_filed (map of rest) ≡ of x ++ all_filed (map of rest')
   first_of x rest rest' step = ap (λ xs. all_filed (map of xs)) step
 
-  pub files_all : (batch : Batch) (result : List Entry) (c c' : Collection) (x : X) (rest rest' : List X)
+  pub files_all : (batch : JobValue) (result : List Entry) (c c' : Collection) (x : X) (rest rest' : List X)
       → MayFile batch result c (all_filed (map of rest)) → rest ≡ x ∷ rest'
       → c' ≡ record c { entries = filed_in c.entries (of x) } → MayFile batch result c' (all_filed (map of rest'))
   files_all batch result c c' x rest rest' h step is =
       files_more batch result c c' (of x) (all_filed (map of rest'))
       (subst (MayFile batch result c) (first_of x rest rest' step) h) is
 
-  pub first_vacant : (batch : Batch) (result : List Entry) (c : Collection) (x : X) (rest rest' : List X)
+  pub first_vacant : (batch : JobValue) (result : List Entry) (c : Collection) (x : X) (rest rest' : List X)
       → MayFile batch result c (all_filed (map of rest)) → rest ≡ x ∷ rest' → FindVacant c.entries (of x)
   first_vacant batch result c x rest rest' h step =
       let g = subst (MayFile batch result c) (first_of x rest rest' step) h in

@@ -4,7 +4,7 @@ use Rattle.std.specs.List.{AllZip}
 use Rattle.tp_machine.specs.Devices.{Devices}
 use Rattle.tp_link.specs.declared.links.Link.{Link}
 use Rattle.tp_collect.specs.declared.collected.Entry.{Entry}
-use Rattle.tp_collect.specs.Collected.{Batch, IsCollected}
+use Rattle.tp_collect.specs.Collected.{JobValue, IsCollected}
 use Rattle.tp_farm.specs.Settings.{SameSettings}
 use Rattle.tp_farm.specs.Batches.{tells_failure, IsBatch}
 
@@ -28,7 +28,7 @@ none_tells which [] is = refl
 none_tells which (x ∷ entries) is = cc
 
 -- no member has done anything
-pub nothing_run : (batch : Batch) (open_for_good : Bool) (all : List Devices) (entries : List Entry) → length batch.packets ≡ 0
+pub nothing_run : (batch : JobValue) (open_for_good : Bool) (all : List Devices) (entries : List Entry) → length batch.packets ≡ 0
     → IsCollected batch entries → IsBatch batch open_for_good all all entries
 nothing_run batch o all entries zero collected =
     let none : entries ≡ [] = is_nothing entries (collected.count ∙ zero) in

@@ -18,7 +18,7 @@ use Rattle.tp_collect.specs.declared.collected.Entry.{Entry}
 use Rattle.tp_collect.specs.declared.collected.Entry.TheVariants as entry
 use Rattle.tp_collect.specs.declared.collected.LostCause.TheVariants as cause
 use Rattle.tp_collect.specs.DoneValue.{DoneValue, run_of_done, most_trace}
-use Rattle.tp_collect.specs.Collected.{Batch, IsResult}
+use Rattle.tp_collect.specs.Collected.{JobValue, IsResult}
 use Rattle.tp_farm.specs.Losses.{HasCause, MayLose, TracesMore}
 use Rattle.tp_farm.specs.Batches.{IsBatch}
 use Rattle.tp_farm.specs.Promised.{ArePackets, GivesRun, GoesWell, Takes, TakeAll, ComesTo, LosesLongTracesAlone}
@@ -69,7 +69,7 @@ same_fault fault which code =
 
 -- ---- a batch
 
-module _ (batch : Batch) (budget : ℕ) (never : ending.NeverGoesWrong batch.image budget) (packets : ArePackets batch)
+module _ (batch : JobValue) (budget : ℕ) (never : ending.NeverGoesWrong batch.image budget) (packets : ArePackets batch)
     (open_for_good : Bool) (before after : List Devices) (entries : List Entry)
     (b : IsBatch batch open_for_good before after entries) where
   module _ (i : ℕ) (packet : List ℕ) (at : slice_get batch.packets i ≡ Some packet) where

@@ -12,7 +12,8 @@ use Rattle.tp_machine.specs.Devices.{devices_of}
 use Rattle.tp_farm.specs.declared.member.Filed.{Filed}
 use Rattle.tp_farm.specs.declared.worker.Returned.{Returned}
 use Rattle.tp_farm.specs.declared.gathering.MemberResults.{MemberResults}
-use Rattle.tp_farm.specs.Working.{Work, HasWorked, HaveToSettle}
+use Rattle.tp_farm.specs.Working.{HasWorked, HaveToSettle}
+use Rattle.tp_farm.specs.Works.{Work}
 use Rattle.tp_farm.specs.Gathering.{nothing_filed, fault_of_end, all_filed, filed_in, FindVacant, IsOfBatch}
 use Rattle.tp_farm.specs.Closing.{AddsUp}
 use Rattle.tp_farm.specs.MemberResults.{member_results}

@@ -18,7 +18,7 @@ use Rattle.tp_board.specs.Sources.{Progress}
 use Rattle.tp_collect.specs.declared.collected.Entry.{Entry}
 use Rattle.tp_collect.specs.declared.collected.Entry.TheVariants as entry
 use Rattle.tp_collect.specs.declared.collected.LostCause.TheVariants as cause
-use Rattle.tp_collect.specs.Collected.{Batch, IsCollected}
+use Rattle.tp_collect.specs.Collected.{JobValue, IsCollected}
 use Rattle.tp_collect.specs.Collecting.{vacant}
 use Rattle.tp_farm.specs.declared.member.Filed.{Filed}
 use Rattle.tp_farm.specs.declared.member.Filed.TheVariants as filed
@@ -41,12 +41,12 @@ pub record Member : Type 0 where
   pub end : End
 
 -- it has done its work, and no fault ended it
-pub record DidWell (batch : Batch) (open_for_good : Bool) (m : Member) : Type 0 where
+pub record DidWell (batch : JobValue) (open_for_good : Bool) (m : Member) : Type 0 where
   pub accounts : KeepsAccounts batch m.before m.after m.progress m.filed
   pub ends : EndsBy batch open_for_good m.progress m.end
   pub well : fault_of_end m.end ≡ None
 
-abbrev pub AllDidWell : Batch → Bool → List Member → Type 0
+abbrev pub AllDidWell : JobValue → Bool → List Member → Type 0
 AllDidWell batch o [] = Unit {0}
 AllDidWell batch o (m ∷ ms) = DidWell batch o m × AllDidWell batch o ms
 
@@ -56,7 +56,7 @@ hands ms = map (λ m. m.progress) ms
 abbrev pub everything : List Member → List Filed
 everything ms = all_filed (map (λ m. m.filed) ms)
 
-module _ (batch : Batch) (o : Bool) where
+module _ (batch : JobValue) (o : Bool) where
   -- ---- numbers
 
   numbers-append : (xs ys : List Filed) → numbers (xs ++ ys) ≡ numbers xs ++ numbers ys

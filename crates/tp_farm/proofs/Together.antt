@@ -10,7 +10,8 @@ use Rattle.tp_farm.specs.declared.member.Filed.{Filed}
 use Rattle.tp_farm.specs.declared.member.Filed.TheVariants as filed
 use Rattle.tp_farm.specs.declared.worker.Returned.{Returned}
 use Rattle.tp_farm.specs.Members.{IsFiled}
-use Rattle.tp_farm.specs.Working.{Work, HasWorked}
+use Rattle.tp_farm.specs.Working.{HasWorked}
+use Rattle.tp_farm.specs.Works.{Work}
 use Rattle.tp_farm.specs.Gathering.{fault_of_end, IsOfBatch}
 use Rattle.tp_farm.specs.MemberResults.{member_results}
 use Rattle.tp_farm.proofs.Settling.{Member, AllDidWell, hands}

@@ -6,8 +6,8 @@ use Rattle.tp_machine.specs.Devices.{devices_of}
 use Rattle.tp_farm.specs.declared.job.Job.{Job}
 use Rattle.tp_farm.specs.declared.batch.Batch.{Batch}
 use Rattle.tp_farm.specs.declared.fault.FarmFault.{FarmFault}
-use Rattle.tp_farm.specs.Jobs.{batch_of}
-use Rattle.tp_farm.specs.Working.{Work, work_on}
+use Rattle.tp_farm.specs.Jobs.{value_of_job}
+use Rattle.tp_farm.specs.Works.{Work, work_on}
 use Rattle.tp_farm.specs.Refused.{job_fault, IsFromOutside}
 use Rattle.tp_farm.specs.Batches.{IsBatch}
 use Rattle.tp_farm.specs.Promised.{ArePackets, GoesWell}
@@ -23,8 +23,8 @@ pub record AnswersBatch {D G : Type 0} (state : D → DeviceState) (open_for_goo
   -- what became of its packets, and of the links
   pub batch : IfOk result (IsBatchOver state (work_on open_for_good job gate) links)
   -- accepted code never goes wrong
-  pub goes_well : ArePackets (batch_of job) → IfOk result (λ b. GoesWell (batch_of job) job.image.now.budget b.collected)
+  pub goes_well : ArePackets (value_of_job job) → IfOk result (λ b. GoesWell (value_of_job job) job.image.now.budget b.collected)
   -- G1, G2 and G3 come exactly; a batch that has begun gives nothing where memory or a thread was refused, and there alone
-  pub begins : OnOk result (job_fault (length links) (batch_of job) ≡ None)
-  pub refused : IfSome (job_fault (length links) (batch_of job)) (λ fault. result ≡ Err fault)
-  pub err : job_fault (length links) (batch_of job) ≡ None → IfErr result IsFromOutside
+  pub begins : OnOk result (job_fault (length links) (value_of_job job) ≡ None)
+  pub refused : IfSome (job_fault (length links) (value_of_job job)) (λ fault. result ≡ Err fault)
+  pub err : job_fault (length links) (value_of_job job) ≡ None → IfErr result IsFromOutside

@@ -9,7 +9,7 @@ use Rattle.tp_machine.specs.Devices.{Devices}
 use Rattle.tp_collect.specs.declared.collected.Entry.{Entry}
 use Rattle.tp_collect.specs.declared.collected.Entry.TheVariants as entry
 use Rattle.tp_collect.specs.declared.collected.LostCause.TheVariants as cause
-use Rattle.tp_collect.specs.Collected.{Batch, IsCollected}
+use Rattle.tp_collect.specs.Collected.{JobValue, IsCollected}
 use Rattle.tp_farm.specs.Settings.{SameSettings, failed_by}
 use Rattle.tp_farm.specs.Losses.{MayLose}
 
@@ -30,7 +30,7 @@ tells_failure which (entry.Lost (cause.Link fault)) = failed_by which fault
 tells_failure which (entry.Lost cause.Stopped) = 0
 
 -- the devices of some member may have lost packet i of the batch so
-pub record LostBySome (batch : Batch) (members : List Devices) (i : ℕ) (fault : LinkFault) : Type 0 where
+pub record LostBySome (batch : JobValue) (members : List Devices) (i : ℕ) (fault : LinkFault) : Type 0 where
   pub packet : List ℕ
   pub is : slice_get batch.packets i ≡ Some packet
   pub member : ℕ
@@ -39,7 +39,7 @@ pub record LostBySome (batch : Batch) (members : List Devices) (i : ℕ) (fault 
   pub cause : MayLose batch.image packet devices fault.link fault.code
 
 -- What became of a batch whose members had these devices before, and have these after:
-pub record IsBatch (batch : Batch) (open_for_good : Bool) (before after : List Devices) (entries : List Entry) : Type 0 where
+pub record IsBatch (batch : JobValue) (open_for_good : Bool) (before after : List Devices) (entries : List Entry) : Type 0 where
   -- each result is what the run of its packet alone gives, and there is one entry for each packet
   pub collected : IsCollected batch entries
   -- the links come back in the order given, each device with its room, openness and whether it can fail

@@ -2,7 +2,7 @@
 use Rattle.std.specs.Prelude.{◌≡◌, ℕ, List, [], ◌∷◌, ◌++◌, length, replicate, Some, None, Option, slice_get, slice_set}
 use Rattle.tp_collect.specs.declared.collected.Entry.{Entry}
 use Rattle.tp_collect.specs.declared.collected.Entry.TheVariants as entry
-use Rattle.tp_collect.specs.Collected.{Batch, IsResult}
+use Rattle.tp_collect.specs.Collected.{JobValue, IsResult}
 use Rattle.tp_collect.specs.Collecting.{Collection, collection, vacant, lost_by}
 use Rattle.tp_farm.specs.declared.member.Filed.{Filed}
 use Rattle.tp_farm.specs.declared.member.Filed.TheVariants as filed
@@ -21,12 +21,12 @@ entry_of (filed.Done done) = entry.Done done
 entry_of (filed.Lost number fault) = lost_by fault
 
 -- a result is one of the batch
-abbrev pub IsOfBatch : Batch → Filed → Type 0
+abbrev pub IsOfBatch : JobValue → Filed → Type 0
 IsOfBatch batch (filed.Done done) = IsResult batch done.packet done
 IsOfBatch batch (filed.Lost number fault) = Unit {0}
 
 -- a collector of a batch in which nothing is filed
-abbrev pub nothing_filed : Batch → Collection
+abbrev pub nothing_filed : JobValue → Collection
 nothing_filed batch = collection batch (replicate (length batch.packets) vacant)
 
 -- the entries when all these are filed, one after another

@@ -1,12 +1,12 @@
 -- Jobs as contracts see them.
 use Rattle.std.specs.Prelude.{◌≡◌, ◌*◌, map, length, All}
-use Rattle.tp_collect.specs.Collected.{Batch}
+use Rattle.tp_collect.specs.Collected.{JobValue}
 use Rattle.tp_farm.specs.declared.job.Job.{Job}
 
--- the batch that a job is
-abbrev pub batch_of : Job → Batch
-batch_of job = record { number = job.batch; image = job.image.now.image; packets = map (λ p. p.items) job.packets.now }
+-- what contracts see of a job
+abbrev pub value_of_job : Job → JobValue
+value_of_job job = record { number = job.batch; image = job.image.now.image; packets = map (λ p. p.items) job.packets.now }
 
 -- each packet has the length that the image states
-abbrev pub AreWhole : Batch → Type 0
+abbrev pub AreWhole : JobValue → Type 0
 AreWhole batch = All (λ packet. length packet ≡ 4 * batch.image.packet) batch.packets

@@ -1,19 +1,22 @@
+-- What a reader must believe: clauses of public calls cite it.
 pub mod Settings
 pub mod Losses
-pub mod Stages
-pub mod Handled
 pub mod Jobs
-pub mod Turns
-pub mod Members
-pub mod Working
+pub mod Works
 pub mod Refused
-pub mod Gathering
-pub mod Closing
-pub mod Feeding
-pub mod MemberResults
 pub mod Batches
-pub mod Reserved
 pub mod Promised
 pub mod Answered
 pub use Rattle.tp_machine.specs.Devices
 pub use Rattle.tp_collect.specs.Collected
+-- What only private steps cite.
+pub mod Working
+pub mod Stages
+pub mod Handled
+pub mod Turns
+pub mod Members
+pub mod Gathering
+pub mod Closing
+pub mod Feeding
+pub mod MemberResults
+pub mod Reserved

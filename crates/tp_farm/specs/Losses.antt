@@ -1,22 +1,18 @@
 -- Why a packet may be lost.
-use Rattle.std.specs.Prelude.{◌≡◌, ℕ, ◌*◌, ◌<◌, min, true, false, List, length}
+use Rattle.std.specs.Prelude.{◌≡◌, ℕ, ◌*◌, ◌<◌, min, true, false, List}
 use Rattle.tp_link.specs.Device.{DeviceState}
 use Rattle.tp_link.specs.declared.device.DeviceFault.{DeviceFault}
 use Rattle.tp_link.specs.declared.device.DeviceFault.TheVariants.{Closed, Full, Short, Failed}
 use Rattle.tp_link.specs.declared.links.Link.{Link}
 use Rattle.tp_link.specs.declared.links.Link.TheVariants.{Source, Sink, Trace}
 use Rattle.tp_image.specs.Image.{ImageValue}
-use Rattle.tp_step.specs.State.{State}
-use Rattle.tp_step.specs.Steps.{Reaches}
-use Rattle.tp_step.specs.Runs.{start}
+use Rattle.tp_step.specs.Runs.{TracesMoreThan}
 use Rattle.tp_machine.specs.Devices.{Devices}
 use Rattle.tp_collect.specs.DoneValue.{most_trace}
 
 -- on its way from a packet's start a worker sends more bytes on link 1 than a trace may have, or than there is room for
-pub record TracesMore (image : ImageValue) (packet : List ℕ) (room : ℕ) : Type 0 where
-  pub state : State
-  pub way : Reaches image (start image packet) state
-  pub more : min most_trace room < length state.traced
+abbrev pub TracesMore : ImageValue → (packet : List ℕ) → (room : ℕ) → Type 0
+TracesMore image packet room = TracesMoreThan (min most_trace room) image packet
 
 -- a device's refusal has a cause: it can fail (how often devices failed is told by their counts of faults); it is closed; it
 -- lacks room. It never holds fewer bytes than are asked for.

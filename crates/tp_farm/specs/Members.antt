@@ -5,7 +5,7 @@ use Rattle.tp_link.specs.declared.links.Link.{Link}
 use Rattle.tp_link.specs.declared.links.LinkFault.{LinkFault}
 use Rattle.tp_machine.specs.Devices.{Devices, devices_of}
 use Rattle.tp_board.specs.Sources.{Progress}
-use Rattle.tp_collect.specs.Collected.{Batch, IsResult}
+use Rattle.tp_collect.specs.Collected.{JobValue, IsResult}
 use Rattle.tp_farm.specs.declared.member.Filed.{Filed}
 use Rattle.tp_farm.specs.declared.member.Filed.TheVariants as filed
 use Rattle.tp_farm.specs.declared.member.Member.{Member}
@@ -17,12 +17,12 @@ use Rattle.tp_farm.specs.Losses.{MayLose}
 -- ---- what is filed
 
 -- the packet of a number, which a member's devices lost
-pub record IsLost (batch : Batch) (devices : Devices) (number : ℕ) (fault : LinkFault) : Type 0 where
+pub record IsLost (batch : JobValue) (devices : Devices) (number : ℕ) (fault : LinkFault) : Type 0 where
   pub packet : List ℕ
   pub is : slice_get batch.packets number ≡ Some packet
   pub cause : MayLose batch.image packet devices fault.link fault.code
 
-abbrev pub IsFiled : Batch → Devices → Filed → Type 0
+abbrev pub IsFiled : JobValue → Devices → Filed → Type 0
 IsFiled batch devices (filed.Done done) = IsResult batch done.packet done
 IsFiled batch devices (filed.Lost number fault) = IsLost batch devices number fault
 
@@ -44,14 +44,14 @@ lost_numbers (filed.Lost number fault ∷ more) = number ∷ lost_numbers more
 
 -- A member's accounts: its devices keep their settings and have failed as often as what it files says; what it files is of
 -- the batch; and what it finished and abandoned at its source is what it files as done and as lost.
-pub record KeepsAccounts (batch : Batch) (before now : Devices) (p : Progress) (these : List Filed) : Type 0 where
+pub record KeepsAccounts (batch : JobValue) (before now : Devices) (p : Progress) (these : List Filed) : Type 0 where
   pub settings : SameSettings before now
   pub rises : Rises before now (λ which. sum_by (filed_failed which) these)
   pub filed : All (IsFiled batch before) these
   pub finished : p.finished ≡ done_numbers these
   pub abandoned : p.abandoned ≡ lost_numbers these
 
-abbrev pub HasAccounts : {H D : Type 0} → (D → DeviceState) → (H → Progress) → Batch → Member H D → Type 0
+abbrev pub HasAccounts : {H D : Type 0} → (D → DeviceState) → (H → Progress) → JobValue → Member H D → Type 0
 HasAccounts state progress batch member =
     KeepsAccounts batch (devices_of state member.entry.value) (devices_of state member.links)
     (progress member.hand) member.filed.items
@@ -60,7 +60,7 @@ HasAccounts state progress batch member =
 
 -- With nothing in hand, a member ends where there are no more packets, or where the source was stopped: it has seen the
 -- stop, or its own gate said no, and then it has called stop itself. It has called stop, too, where memory was refused.
-abbrev pub EndsBy : Batch → (open_for_good : Bool) → Progress → End → Type 0
+abbrev pub EndsBy : JobValue → (open_for_good : Bool) → Progress → End → Type 0
 EndsBy batch open_for_good p end.Drained =
     (p.in_hand ≡ None) × (p.stop_called ≡ false) × ((p.ended ≡ true) ⊎ (length batch.packets < length p.taken))
 EndsBy batch open_for_good p end.Stopped =

@@ -10,11 +10,11 @@ use Rattle.tp_machine.specs.Devices.{Devices}
 use Rattle.tp_collect.specs.declared.collected.Entry.{Entry}
 use Rattle.tp_collect.specs.declared.collected.Entry.TheVariants as entry
 use Rattle.tp_collect.specs.declared.collected.LostCause.TheVariants as cause
-use Rattle.tp_collect.specs.Collected.{Batch}
+use Rattle.tp_collect.specs.Collected.{JobValue}
 use Rattle.tp_collect.specs.DoneValue.{run_of_done, most_trace}
 
 -- each packet is of as many bytes as the image states
-abbrev pub ArePackets : Batch → Type 0
+abbrev pub ArePackets : JobValue → Type 0
 ArePackets batch = All (IsPacket batch.image) batch.packets
 
 -- ---- over any devices, and under any gate
@@ -26,14 +26,14 @@ GivesRun run (entry.Lost cause) = Unit {0}
 
 -- The run of packet i alone ends by stopp within the budget, with a result of the stated length, and no state on its way is
 -- stuck. The packet has an entry; where that is a result, it is what this run gives.
-pub record IsPromised (batch : Batch) (budget : ℕ) (entries : List Entry) (i : ℕ) (packet : List ℕ) : Type 0 where
+pub record IsPromised (batch : JobValue) (budget : ℕ) (entries : List Entry) (i : ℕ) (packet : List ℕ) : Type 0 where
   pub ends : EndsWithin batch.image budget packet
   pub entry : Entry
   pub there : slice_get entries i ≡ Some entry
   pub gives : GivesRun ends.run entry
 
 -- so it is of each packet
-abbrev pub GoesWell : Batch → (budget : ℕ) → List Entry → Type 0
+abbrev pub GoesWell : JobValue → (budget : ℕ) → List Entry → Type 0
 GoesWell batch budget entries =
     (i : ℕ) (packet : List ℕ) → slice_get batch.packets i ≡ Some packet → IsPromised batch budget entries i packet
 
@@ -58,13 +58,13 @@ ComesTo run (entry.Lost (cause.Link fault)) = (fault ≡ record { link = Trace; 
 ComesTo run (entry.Lost cause.Stopped) = ⊥
 
 -- packet i comes to what its run alone comes to
-pub record IsComplete (batch : Batch) (budget : ℕ) (entries : List Entry) (i : ℕ) (packet : List ℕ) : Type 0 where
+pub record IsComplete (batch : JobValue) (budget : ℕ) (entries : List Entry) (i : ℕ) (packet : List ℕ) : Type 0 where
   pub ends : EndsWithin batch.image budget packet
   pub entry : Entry
   pub there : slice_get entries i ≡ Some entry
   pub comes : ComesTo ends.run entry
 
 -- so does each packet
-abbrev pub LosesLongTracesAlone : Batch → (budget : ℕ) → List Entry → Type 0
+abbrev pub LosesLongTracesAlone : JobValue → (budget : ℕ) → List Entry → Type 0
 LosesLongTracesAlone batch budget entries =
     (i : ℕ) (packet : List ℕ) → slice_get batch.packets i ≡ Some packet → IsComplete batch budget entries i packet

@@ -4,35 +4,23 @@ use Rattle.std.specs.List.{AllZip}
 use Rattle.tp_link.specs.Device.{DeviceState}
 use Rattle.tp_link.specs.declared.links.Links.{Links}
 use Rattle.tp_board.specs.Sources.{Progress}
-use Rattle.tp_collect.specs.Collected.{Batch}
 use Rattle.tp_collect.specs.Collecting.{Collection, vacant}
 use Rattle.tp_machine.specs.Devices.{devices_of}
-use Rattle.tp_farm.specs.declared.job.Job.{Job}
 use Rattle.tp_farm.specs.declared.member.Filed.{Filed}
 use Rattle.tp_farm.specs.declared.worker.Returned.{Returned}
 use Rattle.tp_farm.specs.declared.worker.Shared.{Shared}
-use Rattle.tp_farm.specs.Jobs.{batch_of, AreWhole}
+use Rattle.tp_farm.specs.Jobs.{value_of_job, AreWhole}
 use Rattle.tp_farm.specs.Turns.{no_progress}
 use Rattle.tp_farm.specs.Members.{KeepsAccounts, EndsBy}
-
--- what all members work on: the batch, and whether its gate is open for good
-pub record Work : Type 0 where
-  pub batch : Batch
-  pub open_for_good : Bool
-
-abbrev pub work_on : {G : Type 0} → (G → Bool) → Job → G → Work
-work_on open_for_good job gate = record {
-  batch = batch_of job;
-  open_for_good = open_for_good gate;
-}
+use Rattle.tp_farm.specs.Works.{Work, work_on}
 
 abbrev pub work_of : {G S : Type 0} → (G → Bool) → Shared G S → Work
 work_of open_for_good shared = work_on open_for_good shared.job.now shared.gate.now
 
 -- the shared's source has the batch's packets, and each packet has its length
 pub record IsSet {G S : Type 0} (packets_of : S → List (List ℕ)) (shared : Shared G S) : Type 0 where
-  pub packets : packets_of shared.source.now ≡ (batch_of shared.job.now).packets
-  pub whole : AreWhole (batch_of shared.job.now)
+  pub packets : packets_of shared.source.now ≡ (value_of_job shared.job.now).packets
+  pub whole : AreWhole (value_of_job shared.job.now)
 
 -- a hand of the source that has done nothing
 pub record IsFresh {H : Type 0} (own : H → Type 0) (progress : H → Progress) (hand : H) : Type 0 where

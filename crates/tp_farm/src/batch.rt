@@ -6,8 +6,9 @@ ghost use Rattle.tp_link.specs.declared.links.Links.{Links};
 ghost use Rattle.tp_board.specs.Ledgers.{Balances};
 ghost use Rattle.tp_board.specs.Streams.{IsHandOf, IsFeederOf, hand_progress, all_seen};
 ghost use Rattle.tp_farm.specs.Feeding.{HasOnlyFed};
-ghost use Rattle.tp_farm.specs.Jobs.{batch_of};
-ghost use Rattle.tp_farm.specs.Working.{Work, HaveToSettle, work_on};
+ghost use Rattle.tp_farm.specs.Jobs.{value_of_job};
+ghost use Rattle.tp_farm.specs.Working.{HaveToSettle};
+ghost use Rattle.tp_farm.specs.Works.{Work, work_on};
 ghost use Rattle.tp_farm.specs.Refused.{job_fault, Begins, IsFromOutside};
 ghost use Rattle.tp_farm.specs.Gathering.{nothing_filed};
 ghost use Rattle.tp_farm.specs.Answered.{IsBatchOver, AnswersBatch};
@@ -44,7 +45,7 @@ fn first_other(packets: &[Packet], bytes: usize) -> Option<usize>
 
 /// Why a batch does not begin: the first that holds of G1, G2 and G3.
 pub(crate) fn job_fault(job: &Job<'_>, members: usize) -> Option<FarmFault>
-    ensures { result ≡ job_fault members (batch_of job.now) }
+    ensures { result ≡ job_fault members (value_of_job job.now) }
 {
     if members == 0 || members > MAX_MEMBERS as usize {
         return Some(FarmFault::Members);
@@ -64,11 +65,11 @@ pub(crate) fn begin<'j>(
     job: &'j Job<'j>,
     members: usize,
 ) -> Result<Collector<'j>, FarmFault>
-    ensures collector { IfOk result (λ c. c ≡ nothing_filed (batch_of job.now)) }
-    ensures begins { OnOk result (job_fault members (batch_of job.now) ≡ None) }
-    ensures begun { OnOk result (Begins members (batch_of job.now)) }
-    ensures refused { IfSome (job_fault members (batch_of job.now)) (λ fault. result ≡ Err fault) }
-    ensures err { job_fault members (batch_of job.now) ≡ None → IfErr result IsFromOutside }
+    ensures collector { IfOk result (λ c. c ≡ nothing_filed (value_of_job job.now)) }
+    ensures begins { OnOk result (job_fault members (value_of_job job.now) ≡ None) }
+    ensures begun { OnOk result (Begins members (value_of_job job.now)) }
+    ensures refused { IfSome (job_fault members (value_of_job job.now)) (λ fault. result ≡ Err fault) }
+    ensures err { job_fault members (value_of_job job.now) ≡ None → IfErr result IsFromOutside }
 {
     if let Some(fault) = job_fault(job, members) {
         return Err(fault);
@@ -189,8 +190,8 @@ fn run_begun<'j, R: Threads + Wait + Sync, D: LinkDevice + Send, G: Gate>(
     gate: &'j G,
     collector: Collector<'_>,
 ) -> Result<Batch<D>, FarmFault>
-    requires begins { Begins (vec_len links) (batch_of job.now) }
-    requires collector { collector ≡ nothing_filed (batch_of job.now) }
+    requires begins { Begins (vec_len links) (value_of_job job.now) }
+    requires collector { collector ≡ nothing_filed (value_of_job job.now) }
     ensures batch { IfOk result (IsBatchOver D.state (work_on G.open_for_good job.now gate.now) links.items) }
     ensures err { IfErr result IsFromOutside }
 {

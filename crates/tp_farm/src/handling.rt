@@ -8,7 +8,7 @@ ghost use Rattle.tp_collect.specs.Collected.{IsResult};
 ghost use Rattle.tp_farm.specs.Settings.{SameDevice, SameSettings};
 ghost use Rattle.tp_farm.specs.Losses.{HasCause};
 ghost use Rattle.tp_farm.specs.Stages.{IsReady, HasGiven, HasTraced};
-ghost use Rattle.tp_farm.specs.Jobs.{batch_of};
+ghost use Rattle.tp_farm.specs.Jobs.{value_of_job};
 ghost use Rattle.tp_farm.specs.Handled.{on_link, HasReason, RisesIn};
 
 use crate::job::Job;
@@ -164,11 +164,11 @@ pub(crate) fn handle<D: LinkDevice>(
     links: &mut Links<D>,
     received: &mut Received,
 ) -> Result<Done, LinkFault>
-    requires packet { slice_get (batch_of job.now).packets number ≡ Some packet.now.items }
+    requires packet { slice_get (value_of_job job.now).packets number ≡ Some packet.now.items }
     requires length { length packet.now.items ≡ 4 * job.now.image.now.image.packet }
     ensures settings { SameSettings (devices_of D.state links.old) (devices_of D.state links.new) }
     ensures rises { RisesIn result (devices_of D.state links.old) (devices_of D.state links.new) }
-    ensures done { IfOk result (IsResult (batch_of job.now) number) }
+    ensures done { IfOk result (IsResult (value_of_job job.now) number) }
     ensures reason { IfErr result (HasReason job.now.image.now.image packet.now.items (devices_of D.state links.old)) }
 {
     prepare(packet, links)?;

@@ -3,7 +3,7 @@
 ghost use Rattle.std.specs.Prelude.{◌≡◌, Bool, true, List, All};
 ghost use Rattle.tp_machine.specs.Devices.{Devices};
 ghost use Rattle.tp_collect.specs.declared.collected.Entry.{Entry};
-ghost use Rattle.tp_farm.specs.Jobs.{batch_of};
+ghost use Rattle.tp_farm.specs.Jobs.{value_of_job};
 ghost use Rattle.tp_farm.specs.Batches.{IsBatch};
 ghost use Rattle.tp_farm.specs.Promised.{ArePackets, GoesWell, TakeAll, LosesLongTracesAlone};
 
@@ -20,17 +20,17 @@ use crate::job::Job;
 /// from being run, has no result, and `IsBatch` says of each why.
 pub fn accepted_code_never_goes_wrong(job: &Job<'_>)
     ensures { (open_for_good : Bool) (before after : List Devices) (entries : List Entry) →
-        ArePackets (batch_of job.now) →
-        IsBatch (batch_of job.now) open_for_good before after entries →
-        GoesWell (batch_of job.now) job.now.image.now.budget entries }
+        ArePackets (value_of_job job.now) →
+        IsBatch (value_of_job job.now) open_for_good before after entries →
+        GoesWell (value_of_job job.now) job.now.image.now.budget entries }
 {}
 
 /// Over devices that are open, cannot fail and have the room, under a gate that is open for good, each packet has the result
 /// of its run alone; but where the trace of that run is longer than 256 bytes, and there alone, the packet is lost by K2 of
 /// the trace.
 pub fn long_traces_alone_are_lost(job: &Job<'_>)
-    ensures { (before after : List Devices) (entries : List Entry) → ArePackets (batch_of job.now) →
+    ensures { (before after : List Devices) (entries : List Entry) → ArePackets (value_of_job job.now) →
         All (TakeAll job.now.image.now.image) before →
-        IsBatch (batch_of job.now) true before after entries →
-        LosesLongTracesAlone (batch_of job.now) job.now.image.now.budget entries }
+        IsBatch (value_of_job job.now) true before after entries →
+        LosesLongTracesAlone (value_of_job job.now) job.now.image.now.budget entries }
 {}

@@ -1,7 +1,7 @@
 //! A member's work: taking packets, handling them, and filing what became of them.
 
 ghost use Rattle.std.specs.Prelude.{◌≡◌, ◌<◌, true, IfSome, Some, None, slice_get, vec_len, vec_capacity};
-ghost use Rattle.tp_farm.specs.Jobs.{batch_of, AreWhole};
+ghost use Rattle.tp_farm.specs.Jobs.{value_of_job, AreWhole};
 ghost use Rattle.tp_farm.specs.Members.{HasAccounts, EndsBy, IsRefused};
 ghost use Rattle.tp_farm.specs.Turns.{no_progress, MayTake, HasTaken, HasPutDown};
 
@@ -60,14 +60,14 @@ fn file_packet<W: WorkSource, D: LinkDevice, G: Gate>(
 )
     requires own { W.is_own source.now member.old.hand }
     requires in_hand { (W.progress member.old.hand).in_hand ≡ Some number }
-    requires whole { AreWhole (batch_of job.now) }
-    requires packet { slice_get (batch_of job.now).packets number ≡ Some packet.now.items }
+    requires whole { AreWhole (value_of_job job.now) }
+    requires packet { slice_get (value_of_job job.now).packets number ≡ Some packet.now.items }
     requires room { vec_len member.old.filed < vec_capacity member.old.filed }
-    requires accounts { HasAccounts D.state W.progress (batch_of job.now) member.old }
+    requires accounts { HasAccounts D.state W.progress (value_of_job job.now) member.old }
     ensures own { W.is_own source.now member.new.hand }
     ensures number { member.new.number ≡ member.old.number }
     ensures entry { member.new.entry.value ≡ member.old.entry.value }
-    ensures accounts { HasAccounts D.state W.progress (batch_of job.now) member.new }
+    ensures accounts { HasAccounts D.state W.progress (value_of_job job.now) member.new }
     ensures put_down { HasPutDown (W.progress member.old.hand) (W.progress member.new.hand) }
 {
     gate.claimed(member.number, number);
@@ -103,18 +103,18 @@ fn take_turn<W: LendingSource, D: LinkDevice, G: Gate>(
 ) -> Option<End>
     requires own { W.is_own source.now member.old.hand }
     requires may { MayTake (W.progress member.old.hand) }
-    requires packets { W.packets source.now ≡ (batch_of job.now).packets }
-    requires whole { AreWhole (batch_of job.now) }
-    requires accounts { HasAccounts D.state W.progress (batch_of job.now) member.old }
+    requires packets { W.packets source.now ≡ (value_of_job job.now).packets }
+    requires whole { AreWhole (value_of_job job.now) }
+    requires accounts { HasAccounts D.state W.progress (value_of_job job.now) member.old }
     ensures own { W.is_own source.now member.new.hand }
     ensures number { member.new.number ≡ member.old.number }
     ensures entry { member.new.entry.value ≡ member.old.entry.value }
-    ensures accounts { HasAccounts D.state W.progress (batch_of job.now) member.new }
+    ensures accounts { HasAccounts D.state W.progress (value_of_job job.now) member.new }
     ensures going { result ≡ None → HasTaken (W.progress member.old.hand) (W.progress member.new.hand) }
     ensures allowed { result ≡ None → G.has_answered gate.now member.old.number true }
     ensures refused { IfSome result
         (IsRefused (G.has_answered gate.now member.old.number) (W.progress member.new.hand)) }
-    ensures end { IfSome result (EndsBy (batch_of job.now) (G.open_for_good gate.now) (W.progress member.new.hand)) }
+    ensures end { IfSome result (EndsBy (value_of_job job.now) (G.open_for_good gate.now) (W.progress member.new.hand)) }
 {
     if member.filed.reserve(1).is_err() {
         source.stop(&mut member.hand);
@@ -146,14 +146,14 @@ pub(crate) fn work<W: LendingSource, D: LinkDevice, G: Gate>(
 ) -> End
     requires own { W.is_own source.now member.old.hand }
     requires fresh { W.progress member.old.hand ≡ no_progress }
-    requires packets { W.packets source.now ≡ (batch_of job.now).packets }
-    requires whole { AreWhole (batch_of job.now) }
-    requires accounts { HasAccounts D.state W.progress (batch_of job.now) member.old }
+    requires packets { W.packets source.now ≡ (value_of_job job.now).packets }
+    requires whole { AreWhole (value_of_job job.now) }
+    requires accounts { HasAccounts D.state W.progress (value_of_job job.now) member.old }
     ensures own { W.is_own source.now member.new.hand }
     ensures entry { member.new.entry.value ≡ member.old.entry.value }
-    ensures accounts { HasAccounts D.state W.progress (batch_of job.now) member.new }
+    ensures accounts { HasAccounts D.state W.progress (value_of_job job.now) member.new }
     ensures refused { IsRefused (G.has_answered gate.now member.old.number) (W.progress member.new.hand) result }
-    ensures end { EndsBy (batch_of job.now) (G.open_for_good gate.now) (W.progress member.new.hand) result }
+    ensures end { EndsBy (value_of_job job.now) (G.open_for_good gate.now) (W.progress member.new.hand) result }
 {
     if member.filed.reserve_exact(share).is_err() {
         source.stop(&mut member.hand);

@@ -8,8 +8,9 @@ ghost use Rattle.tp_link.specs.declared.links.Links.{Links};
 ghost use Rattle.tp_board.specs.Boards.{IsSeatOf, views_of};
 ghost use Rattle.tp_board.specs.Sources.{seat_progress};
 ghost use Rattle.tp_board.specs.Ledgers.{Balances};
-ghost use Rattle.tp_farm.specs.Jobs.{batch_of};
-ghost use Rattle.tp_farm.specs.Working.{Work, IsSet, IsFresh, HaveToSettle, HaveWorkedOn, work_on};
+ghost use Rattle.tp_farm.specs.Jobs.{value_of_job};
+ghost use Rattle.tp_farm.specs.Working.{IsSet, IsFresh, HaveToSettle, HaveWorkedOn};
+ghost use Rattle.tp_farm.specs.Works.{Work, work_on};
 ghost use Rattle.tp_farm.specs.Refused.{Begins, IsFromOutside};
 ghost use Rattle.tp_farm.specs.Gathering.{nothing_filed};
 ghost use Rattle.tp_farm.specs.Answered.{IsBatchOver, AnswersBatch};
@@ -166,8 +167,8 @@ fn run_begun<'j, R: Threads + Wait + Sync, D: LinkDevice + Send, G: Gate>(
     gate: &'j G,
     collector: Collector<'_>,
 ) -> Result<Batch<D>, FarmFault>
-    requires begins { Begins (vec_len links) (batch_of job.now) }
-    requires collector { collector ≡ nothing_filed (batch_of job.now) }
+    requires begins { Begins (vec_len links) (value_of_job job.now) }
+    requires collector { collector ≡ nothing_filed (value_of_job job.now) }
     ensures batch { IfOk result (IsBatchOver D.state (work_on G.open_for_good job.now gate.now) links.items) }
     ensures err { IfErr result IsFromOutside }
 {

@@ -76,22 +76,22 @@ start_within (c ∷ cuts) to all is = by_test (start_within cuts (to - length c.
         let past : length c.bytes ≤ to = grind (arith, nat_tests) in omega (arith, go is, length-append c.bytes (code_of cuts))
 
 -- an instruction with its place stands there
-record Stands (from : ℕ) (cuts : List Cut) (p : Placed) : Type 0 where
+record IsPlacedFrom (from : ℕ) (cuts : List Cut) (p : Placed) : Type 0 where
   cut : Cut
   least : from ≤ p.at
   stands : cut_at cuts (p.at - from) ≡ Some cut
   same : p ≡ placed p.at cut
 
-placed_stands : (from : ℕ) (cuts : List Cut) (i : ℕ) (p : Placed) → AllByRecursion (λ c. 0 < length c.bytes) cuts → slice_get (placed_from from cuts) i ≡ Some p → Stands from cuts p
+placed_stands : (from : ℕ) (cuts : List Cut) (i : ℕ) (p : Placed) → AllByRecursion (λ c. 0 < length c.bytes) cuts → slice_get (placed_from from cuts) i ≡ Some p → IsPlacedFrom from cuts p
 placed_stands from [] i p all is = absurd cc
 placed_stands from (c ∷ cuts) zero p all is =
-    let same : placed from c ≡ p = same_Some _ _ is in subst (Stands from (c ∷ cuts)) same record { cut = c; least = omega arith; stands = ap (cut_at (c ∷ cuts)) (let none : from - from ≡ 0 = omega arith in none); same = refl }
+    let same : placed from c ≡ p = same_Some _ _ is in subst (IsPlacedFrom from (c ∷ cuts)) same record { cut = c; least = omega arith; stands = ap (cut_at (c ∷ cuts)) (let none : from - from ≡ 0 = omega arith in none); same = refl }
 placed_stands from (c ∷ cuts) (suc i) p all is = later (placed_stands (from + length c.bytes) cuts i p all.1 is)
   where
     some : 0 < length c.bytes
     some = all.0
 
-    later : Stands (from + length c.bytes) cuts p → Stands from (c ∷ cuts) p
+    later : IsPlacedFrom (from + length c.bytes) cuts p → IsPlacedFrom from (c ∷ cuts) p
     later s = record { cut = s.cut; least = omega (arith, s.least); stands = by_test (nat_eq (p.at - from) 0) refl (nat_lt (p.at - from) (length c.bytes)) refl; same = s.same }
       where
         by_test : (b : Bool) → nat_eq (p.at - from) 0 ≡ b → (q : Bool) → nat_lt (p.at - from) (length c.bytes) ≡ q → (if b then Some c else if q then None else cut_at cuts (p.at - from - length c.bytes)) ≡ Some s.cut
@@ -329,7 +329,7 @@ module _ (image : ImageValue) (cuts : List Cut) (cutting : IsCutting image.code 
   none_refused = ap (λ xs. slice_get xs 0) (given_none_of (fault_of image cuts) (placed_from 0 cuts) λ k d lt.
       of_place (get_or (placed_from 0 cuts) k d) (placed_stands 0 cuts k (get_or (placed_from 0 cuts) k d) kept.spelled (slice_get-get_or (placed_from 0 cuts) k d lt)))
     where
-      of_place : (p : Placed) → Stands 0 cuts p → fault_of image cuts p ≡ None
+      of_place : (p : Placed) → IsPlacedFrom 0 cuts p → fault_of image cuts p ≡ None
       of_place p s =
           let here : p.at ≡ p.at - 0 = omega arith in
           let fits = ap (cut_at cuts) here ∙ s.stands in

@@ -1,3 +1,4 @@
+-- What a reader must believe: clauses of public calls cite it.
 pub mod Limits
 pub mod NestRanges
 pub mod Edges
@@ -9,6 +10,7 @@ pub mod FlowCodes
 pub mod NestAround
 pub mod LoopsAround
 pub mod AroundKept
-pub mod Stretches
 pub use Rattle.tp_decode.specs.Cutting
 pub use Rattle.tp_image.specs.Image
+-- What only private steps cite.
+pub mod Stretches

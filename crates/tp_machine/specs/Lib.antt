@@ -1,13 +1,16 @@
+-- What a reader must believe: clauses of public calls cite it.
 pub mod Devices
 pub mod Answers
 pub mod Promise
-pub mod Bytes
 pub mod Representation
-pub mod Turning
-pub mod Running
+pub mod Leaving
 pub use Rattle.tp_step.specs.State
 pub use Rattle.tp_step.specs.Steps
 pub use Rattle.tp_step.specs.Runs
 pub use Rattle.tp_image.specs.Image
 pub use Rattle.tp_link.specs.Device
 pub use Rattle.tp_accept.specs.Ending
+-- What only private steps cite.
+pub mod Running
+pub mod Bytes
+pub mod Turning

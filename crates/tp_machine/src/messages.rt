@@ -14,9 +14,7 @@ use crate::memory::MEM_START;
 use crate::registers::Registers;
 use crate::turn::Turn;
 use tp_link::{DeviceFault, Link, LinkDevice, LinkFault, Links};
-
-/// The channel of link 0's output (IMS T414 data sheet, memory map).
-const LINK0_OUTPUT: u32 = 0x8000_0000;
+use tp_step::profile::LINK0_OUTPUT;
 
 /// Receives n bytes into the workspace, from an address on.
 fn receive<D: LinkDevice>(

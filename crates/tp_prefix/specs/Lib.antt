@@ -1,4 +1,6 @@
+-- What a reader must believe: clauses of public calls cite it.
 pub mod Words
 pub mod Spelling
 pub mod Canonical
+-- What only private steps cite.
 pub mod Reading

@@ -45,7 +45,7 @@ pub record IsSpelling (bytes : List ℕ) (function : ℕ) (operand : ℤ) : Type
   pub spells : spelled 0 bytes ≡ Some (function, operand)
 
 -- the spelling that stands in a code at an address, up to the next
-pub record StandsAt (code : List ℕ) (at : ℕ) (s : Spelled) : Type 0 where
+pub record IsSpelledAt (code : List ℕ) (at : ℕ) (s : Spelled) : Type 0 where
   pub forward : at ≤ s.next
   pub within : s.next ≤ length code
   pub spelling : IsSpelling (slice_range code at s.next) s.function s.operand

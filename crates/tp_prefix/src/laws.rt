@@ -2,7 +2,7 @@
 
 ghost use Rattle.std.specs.Prelude.{◌≡◌, ◌≢◌, ℕ, ◌+◌, ◌<◌, ◌++◌, ℤ, List, length, FitsSigned};
 ghost use Rattle.std.specs.Int.{w32};
-ghost use Rattle.tp_prefix.specs.Spelling.{IsSpelling, StandsAt};
+ghost use Rattle.tp_prefix.specs.Spelling.{IsSpelling, IsSpelledAt};
 ghost use Rattle.tp_prefix.specs.Canonical.{canonical};
 
 use crate::{NFIX, PFIX};
@@ -17,6 +17,6 @@ pub fn one_spelling()
 pub fn round_trip()
     ensures { (function : ℕ) (operand : ℤ) (before after : List ℕ) →
         function < 16 → function ≢ PFIX → function ≢ NFIX → FitsSigned w32 operand →
-        StandsAt (before ++ canonical function operand ++ after) (length before)
+        IsSpelledAt (before ++ canonical function operand ++ after) (length before)
         record { function = function; operand = operand; next = length before + length (canonical function operand) } }
 {}

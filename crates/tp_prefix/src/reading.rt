@@ -1,6 +1,6 @@
 ghost use Rattle.std.specs.Prelude.{◌≡◌, ◌↔◌, ◌⊎◌, ℕ, ◌+◌, ◌<◌, ◌^◌, drop, length, IfOk, IfErr};
 ghost use Rattle.tp_prefix.specs.Reading.{Reads};
-ghost use Rattle.tp_prefix.specs.Spelling.{StandsAt, IsCutOff, IsTooLong};
+ghost use Rattle.tp_prefix.specs.Spelling.{IsSpelledAt, IsCutOff, IsTooLong};
 ghost use Rattle.tp_prefix.specs.declared.spelled.Spelled.{Spelled};
 
 use crate::spelled::{PrefixFault, Spelled};
@@ -9,8 +9,8 @@ use crate::{MAX_SPELLING, NFIX, PFIX};
 /// The spelling that stands in a code at an address. It may be longer than the canonical one.
 pub fn read_one(code: &[u8], at: usize) -> Result<Spelled, PrefixFault>
     requires { at < length code.now }
-    ensures found { IfOk result (λ s. StandsAt code.now at s) }
-    ensures only { (s : Spelled) → StandsAt code.now at s → result ≡ Ok s }
+    ensures found { IfOk result (λ s. IsSpelledAt code.now at s) }
+    ensures only { (s : Spelled) → IsSpelledAt code.now at s → result ≡ Ok s }
     ensures refused { IfErr result (λ e. (e ≡ PrefixFault.D1 at) ⊎ (e ≡ PrefixFault.D2 at)) }
     ensures cut_off { (result ≡ Err (PrefixFault.D1 at)) ↔ IsCutOff (drop at code.now) }
     ensures too_long { (result ≡ Err (PrefixFault.D2 at)) ↔ IsTooLong (drop at code.now) }

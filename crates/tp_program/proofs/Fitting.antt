@@ -26,9 +26,9 @@ devices_over media = devices (faultless_device media.source) (faultless_device m
 
 fit_member : (media : Media) → HaveRoom media → AreFitOf (devices_over (wired_media media))
 fit_member media room = record {
-  source = record { opened = refl; room = room.source; sound = refl };
-  sink = record { opened = refl; room = room.sink; sound = refl };
-  trace = record { opened = refl; room = room.trace; sound = refl };
+  source = record { opened = refl; room = room.source; sure = refl };
+  sink = record { opened = refl; room = room.sink; sure = refl };
+  trace = record { opened = refl; room = room.trace; sure = refl };
 }
 
 -- the wires in the boxes lead to media that have room

@@ -1,2 +1,3 @@
+-- What only private steps cite.
 pub mod Media
 pub mod Asked

@@ -11,20 +11,18 @@ use std::alloc::{AllocError, Global};
 use std::io::{Read, Write};
 use std::sync::Wait;
 use std::thread::Threads;
+use tp_collect::limits::MESSAGE_BYTES;
 use tp_link::{LinkDevice, Links, Wire};
 use tp_media::Media;
 use tp_options::Options;
 use tp_session::{Farm, ServeFault, serve};
-
-/// The room of a medium: the longest packet, result or trace, in bytes.
-const ROOM: usize = 256;
 
 /// The media of so many members.
 fn media_of(alloc: Global, members: usize) -> Result<Vec<Media>, AllocError>
     ensures count { IfOk result (λ media. vec_len media ≡ members) }
     ensures room { IfOk result (λ media. All HaveRoom media.items) }
 {
-    let media = tp_media::media_of(alloc, members, ROOM)?;
+    let media = tp_media::media_of(alloc, members, MESSAGE_BYTES)?;
     Ok(media)
 }
 

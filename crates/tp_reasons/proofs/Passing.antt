@@ -17,9 +17,9 @@ use Rattle.tp_state.specs.declared.state.State.{State}
 use Rattle.tp_state.specs.Answer.{◌>>=◌}
 use Rattle.tp_state.specs.declared.fault.StateFault.TheVariants.{Refused}
 use Rattle.tp_state.specs.declared.fault.StateCode.{StateCode}
-use Rattle.tp_check.specs.UnderWay.{Gives}
+use Rattle.tp_check.specs.Rising.{Gives}
 use Rattle.tp_check.specs.Tables.{Table}
-use Rattle.tp_check.specs.Passes.{go_along, along, pass, passes}
+use Rattle.tp_check.specs.Passes.{go_along, along_edges, pass, passes}
 use Rattle.tp_reasons.specs.declared.refusal.EdgeRefusal.{EdgeRefusal}
 use Rattle.tp_check.specs.Tables.{table_of}
 use Rattle.tp_check.specs.Passes.{edges_in, IsVerdict}
@@ -36,11 +36,11 @@ use Rattle.tp_reasons.specs.declared.refusal.FirstRefusal.{FirstRefusal}
 use Rattle.tp_reasons.specs.FirstRefusals.{IsRefusedAmong, IsFirstRefusal}
 
 -- edges behind others
-pub along_append : (image : ImageValue) (xs ys : List (Placed × Edge)) (table there : Table) → along image xs table ≡ Ok there → along image (xs ++ ys) table ≡ along image ys there
-along_append image [] ys table there comes = ap (λ t. along image ys t) (let same : table ≡ there = cc in same)
+pub along_append : (image : ImageValue) (xs ys : List (Placed × Edge)) (table there : Table) → along_edges image xs table ≡ Ok there → along_edges image (xs ++ ys) table ≡ along_edges image ys there
+along_append image [] ys table there comes = ap (λ t. along_edges image ys t) (let same : table ≡ there = cc in same)
 along_append image (x ∷ xs) ys table there comes =
-    let first = ok_first (go_along image x.0 x.1 (table x.0.at) table) (along image xs) there comes in
-    ap (λ r. r >>= along image (xs ++ ys)) first.1 ∙ along_append image xs ys first.0 there first.2
+    let first = ok_first (go_along image x.0 x.1 (table x.0.at) table) (along_edges image xs) there comes in
+    ap (λ r. r >>= along_edges image (xs ++ ys)) first.1 ∙ along_append image xs ys first.0 there first.2
 
 -- ---- one more of a list
 
@@ -54,14 +54,14 @@ flat_on f xs i x is =
 -- ---- the edges of a pass
 
 -- one edge more is taken
-pub one_on : (image : ImageValue) (es : List (Placed × Edge)) (i : ℕ) (e : Placed × Edge) (first table next : Table) → i < length es → slice_index_or es i e ≡ e → along image (take i es) first ≡ Ok table → go_along image e.0 e.1 (table e.0.at) table ≡ Ok next → along image (take (i + 1) es) first ≡ Ok next
+pub one_on : (image : ImageValue) (es : List (Placed × Edge)) (i : ℕ) (e : Placed × Edge) (first table next : Table) → i < length es → slice_index_or es i e ≡ e → along_edges image (take i es) first ≡ Ok table → go_along image e.0 e.1 (table e.0.at) table ≡ Ok next → along_edges image (take (i + 1) es) first ≡ Ok next
 one_on image es i e first table next inside read so_far goes =
-    ap (λ xs. along image xs first) (ap (λ n. take n es) (add-one i) ∙ take-suc es i e inside ∙ ap (λ y. take i es ++ y ∷ []) read)
+    ap (λ xs. along_edges image xs first) (ap (λ n. take n es) (add-one i) ∙ take-suc es i e inside ∙ ap (λ y. take i es ++ y ∷ []) read)
     ∙ along_append image (take i es) (e ∷ []) first table so_far
-    ∙ ap (λ r. r >>= along image []) goes
+    ∙ ap (λ r. r >>= along_edges image []) goes
 
 -- or refused
-pub refused_here : (image : ImageValue) (es : List (Placed × Edge)) (i : ℕ) (r : EdgeRefusal) (first table : Table) → i < length es → slice_index_or es i (r.instruction, r.edge) ≡ (r.instruction, r.edge) → along image (take i es) first ≡ Ok table
+pub refused_here : (image : ImageValue) (es : List (Placed × Edge)) (i : ℕ) (r : EdgeRefusal) (first table : Table) → i < length es → slice_index_or es i (r.instruction, r.edge) ≡ (r.instruction, r.edge) → along_edges image (take i es) first ≡ Ok table
     → go_along image r.instruction r.edge (table r.instruction.at) table ≡ Err (Refused r.code r.place) → IsRefusedAmong image es first table r
 refused_here image es i r first table inside read so_far refused = record {
   earlier = take i es;
@@ -83,7 +83,7 @@ count_placed cuts = length-placed 0 cuts
 pub is_refused : (fault : StateFault) (code : StateCode) (place : ℕ) (table : Table) (wanted : Result Table StateFault) → fault ≡ Refused code place → Gives {X = Bool} (Err fault) table wanted → wanted ≡ Err (Refused code place)
 is_refused fault code place table wanted is gives = subst (λ f. Gives {X = Bool} (Err f) table wanted) is gives
 
-pub refused_in : (image : ImageValue) (es : List (Placed × Edge)) (i : ℕ) (r : EdgeRefusal) (first : Table) (old new : List (Option State)) → new ≡ old → i < length es → slice_index_or es i (r.instruction, r.edge) ≡ (r.instruction, r.edge) → along image (take i es) first ≡ Ok (table_of old)
+pub refused_in : (image : ImageValue) (es : List (Placed × Edge)) (i : ℕ) (r : EdgeRefusal) (first : Table) (old new : List (Option State)) → new ≡ old → i < length es → slice_index_or es i (r.instruction, r.edge) ≡ (r.instruction, r.edge) → along_edges image (take i es) first ≡ Ok (table_of old)
     → go_along image r.instruction r.edge (table_of old r.instruction.at) (table_of old) ≡ Err (Refused r.code r.place) → IsRefusedAmong image es first (table_of new) r
 refused_in image es i r first old new same inside read so_far refused = subst (λ t. IsRefusedAmong image es first (table_of t) r) (sym same) (refused_here image es i r first (table_of old) inside read so_far refused)
 
@@ -96,11 +96,11 @@ taken_there image cuts places kept inside es is k d lt =
     may_be_taken image cuts places e.0 kept inside (stands_at cuts place.0 e.0 kept.spelled place.1)
 
 -- what is refused among the edges of a pass, the pass refuses
-refused_along : (image : ImageValue) (es : List (Placed × Edge)) (table there : Table) (r : EdgeRefusal) → IsRefusedAmong image es table there r → along image es table ≡ Err (Refused r.code r.place)
+refused_along : (image : ImageValue) (es : List (Placed × Edge)) (table there : Table) (r : EdgeRefusal) → IsRefusedAmong image es table there r → along_edges image es table ≡ Err (Refused r.code r.place)
 refused_along image es table there r is =
-    ap (λ xs. along image xs table) is.split
+    ap (λ xs. along_edges image xs table) is.split
     ∙ along_append image is.earlier ((r.instruction, r.edge) ∷ is.later) table there is.comes
-    ∙ ap (λ q. q >>= along image is.later) is.refused
+    ∙ ap (λ q. q >>= along_edges image is.later) is.refused
 
 -- Before a pass: so many have refused nothing, and from these states it comes to the same as from their table, which they are
 -- unless it refuses nothing.
@@ -111,10 +111,10 @@ pub record IsBefore (image : ImageValue) (cuts : List Cut) (n : ℕ) (states : T
   pub whole : (states ≡ table) ⊎ ((next : Table) × (pass image cuts table ≡ Ok next))
 
 -- a pass that refuses nothing comes to the table of one pass more
-pub one_more : (image : ImageValue) (cuts : List Cut) (n : ℕ) (es : List (Placed × Edge)) (states new : Table) → es ≡ edges_in cuts → IsBefore image cuts n states → along image es states ≡ Ok new → IsBefore image cuts (n + 1) new
+pub one_more : (image : ImageValue) (cuts : List Cut) (n : ℕ) (es : List (Placed × Edge)) (states new : Table) → es ≡ edges_in cuts → IsBefore image cuts n states → along_edges image es states ≡ Ok new → IsBefore image cuts (n + 1) new
 one_more image cuts n es states new is before goes = record {
   table = new;
-  comes = ap (passes image cuts) (add-one n) ∙ ap (λ r. r >>= pass image cuts) before.comes ∙ sym before.same ∙ sym (ap (λ xs. along image xs states) is) ∙ goes;
+  comes = ap (passes image cuts) (add-one n) ∙ ap (λ r. r >>= pass image cuts) before.comes ∙ sym before.same ∙ sym (ap (λ xs. along_edges image xs states) is) ∙ goes;
   same = refl;
   whole = inl refl;
 }

@@ -19,8 +19,8 @@ use Rattle.tp_state.specs.StateCodes.{IsFaultAt}
 use Rattle.tp_state.specs.After.{after}
 use Rattle.tp_state.proofs.JoinLemmas.{length-joined}
 use Rattle.tp_check.specs.Tables.{Table, with_state, HasPlacedStates}
-use Rattle.tp_check.specs.Passes.{placed, met, enter, go_along}
-use Rattle.tp_check.specs.UnderWay.{Gives}
+use Rattle.tp_check.specs.Passes.{with_place, meeting_if_any, enter, go_along}
+use Rattle.tp_check.specs.Rising.{Gives}
 
 -- ---- what an edge makes of a table
 
@@ -61,11 +61,11 @@ stays_placed image t s u there comes is =
     subst (IsPlaced image) (sym (meets_to t s u is))
     (record { roomy = there.roomy; inside = there.inside; sized = length-joined t.cells s.cells (comes.sized ∙ sym there.sized) ∙ there.sized })
 
-placed_ok : (at : ℕ) (r : Result State StateCode) (t : State) → placed at r ≡ Ok t → r ≡ Ok t
+placed_ok : (at : ℕ) (r : Result State StateCode) (t : State) → with_place at r ≡ Ok t → r ≡ Ok t
 placed_ok at (Ok x) t e = cc
 placed_ok at (Err code) t e = absurd cc
 
-met_placed : (image : ImageValue) (o : Option State) (s u : State) → ((t : State) → o ≡ Some t → IsPlaced image t) → IsPlaced image s → met o s ≡ Ok u → IsPlaced image u
+met_placed : (image : ImageValue) (o : Option State) (s u : State) → ((t : State) → o ≡ Some t → IsPlaced image t) → IsPlaced image s → meeting_if_any o s ≡ Ok u → IsPlaced image u
 met_placed image None s u there comes is = subst (IsPlaced image) (let same : s ≡ u = cc in same) comes
 met_placed image (Some t) s u there comes is = stays_placed image t s u (there t refl) comes is
 
@@ -79,9 +79,9 @@ put_placed image table to u all comes at s = by_test (at == to)
 pub entered_placed : (image : ImageValue) (table new : Table) (to : ℕ) (u : State) (r : Result Bool StateFault) → HasPlacedStates image table → IsPlaced image u → Gives r new (enter (Some to) u table) → OnErr r (new ≡ table) → HasPlacedStates image new
 unfolding enter
 entered_placed image table new to u (Err e) all comes gives kept = subst (HasPlacedStates image) (sym kept) all
-entered_placed image table new to u (Ok x) all comes gives kept = by_met (placed to (met (table to) u)) refl gives
+entered_placed image table new to u (Ok x) all comes gives kept = by_met (with_place to (meeting_if_any (table to) u)) refl gives
   where
-    by_met : (m : Result State StateFault) → placed to (met (table to) u) ≡ m → (m >>= (λ t. Ok (with_state to t table))) ≡ Ok new → HasPlacedStates image new
+    by_met : (m : Result State StateFault) → with_place to (meeting_if_any (table to) u) ≡ m → (m >>= (λ t. Ok (with_state to t table))) ≡ Ok new → HasPlacedStates image new
     by_met (Ok t) is e =
         let t_placed = met_placed image (table to) u t (all to) comes (placed_ok to _ t is) in
         subst (HasPlacedStates image) (let same : with_state to t table ≡ new = cc in same) (put_placed image table to t all t_placed)

@@ -6,7 +6,7 @@ use Rattle.tp_flow.specs.declared.edge.Edge.{Edge}
 use Rattle.tp_image.specs.Image.{ImageValue}
 use Rattle.tp_state.specs.declared.fault.StateFault.TheVariants.{Refused}
 use Rattle.tp_check.specs.Tables.{Table, table_of}
-use Rattle.tp_check.specs.Passes.{go_along, along, edges_in, passes}
+use Rattle.tp_check.specs.Passes.{go_along, along_edges, edges_in, passes}
 use Rattle.tp_reasons.specs.declared.refusal.EdgeRefusal.{EdgeRefusal}
 use Rattle.tp_reasons.specs.declared.refusal.FirstRefusal.{FirstRefusal}
 
@@ -16,7 +16,7 @@ pub record IsRefusedAmong (image : ImageValue) (edges : List (Placed × Edge)) (
   pub earlier : List (Placed × Edge)
   pub later : List (Placed × Edge)
   pub split : edges ≡ earlier ++ (r.instruction, r.edge) ∷ later
-  pub comes : along image earlier table ≡ Ok there
+  pub comes : along_edges image earlier table ≡ Ok there
   pub refused : go_along image r.instruction r.edge (there r.instruction.at) there ≡ Err (Refused r.code r.place)
 
 -- So many passes refuse nothing, and this is the first edge that the next one refuses; the states are those that it has met.
@@ -29,5 +29,5 @@ pub record IsFirstRefusal (image : ImageValue) (cuts : List Cut) (r : FirstRefus
 
 -- what a pass makes of a table; or what it refuses, and the table then
 abbrev pub EndsAs : ImageValue → List (Placed × Edge) → (old new : Table) → Option EdgeRefusal → Type 0
-EndsAs image edges old new None = along image edges old ≡ Ok new
+EndsAs image edges old new None = along_edges image edges old ≡ Ok new
 EndsAs image edges old new (Some r) = IsRefusedAmong image edges old new r

@@ -1,3 +1,4 @@
+-- What a reader must believe: clauses of public calls cite it.
 pub mod FirstRefusals
 pub mod CostsTold
 pub mod Told

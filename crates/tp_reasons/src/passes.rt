@@ -7,13 +7,14 @@ ghost use Rattle.tp_state.specs.Conditions.{HasGoodLoops};
 ghost use Rattle.tp_state.specs.declared.fault.StateFault.TheVariants.{Refused};
 ghost use Rattle.tp_check.specs.Tables.{asked, table_of, HasPlacedStates};
 ghost use Rattle.tp_check.specs.Passes.{edges_in, edges_of, go_along, IsVerdict};
-ghost use Rattle.tp_check.specs.UnderWay.{MayBeTaken, Gives};
+ghost use Rattle.tp_check.specs.UnderWay.{MayBeTaken};
+ghost use Rattle.tp_check.specs.Rising.{Gives};
 ghost use Rattle.tp_check.specs.NearRefusal.{RefusesNothing, IfFound, EndsWith};
 ghost use Rattle.tp_reasons.specs.FirstRefusals.{IsFirstRefusal, EndsAs};
 
 use crate::refusal::{EdgeRefusal, FirstRefusal};
 use std::alloc::{AllocError, Global};
-use tp_check::{Kept, NearRefusal, PassesEnd, near_refusal};
+use tp_check::{KeptStates, NearRefusal, PassesEnd, near_refusal};
 use tp_decode::{Instr, Listing, Placed};
 use tp_flow::{Edge, Nest, edges};
 use tp_image::Image;
@@ -102,7 +103,7 @@ fn pass(
     image: &Image,
     nest: &Nest,
     asked: &[Asked],
-    table: &mut Kept,
+    table: &mut KeptStates,
 ) -> Result<Option<EdgeRefusal>, AllocError>
     requires good { HasGoodLoops image.now }
     requires nest { nest.now ≡ ranges image.now.loops }
@@ -137,7 +138,7 @@ fn take(
     nest: &Nest,
     instruction: Placed,
     edge: Edge,
-    table: &mut Kept,
+    table: &mut KeptStates,
 ) -> Result<bool, StateFault>
     requires good { HasGoodLoops image.now }
     requires nest { nest.now ≡ ranges image.now.loops }

@@ -1,6 +1,6 @@
 //! A refusal of the passes.
 
-use tp_check::Kept;
+use tp_check::KeptStates;
 use tp_decode::Placed;
 use tp_flow::Edge;
 use tp_state::StateCode;
@@ -26,5 +26,5 @@ pub struct FirstRefusal {
     /// The edge that is refused in the next one.
     pub refusal: EdgeRefusal,
     /// What is known before the instructions when that edge is taken: by address.
-    pub table: Kept,
+    pub table: KeptStates,
 }

@@ -15,14 +15,12 @@ use crate::telling::TellFault;
 use crate::written::{Finding, tell_written};
 use std::alloc::Global;
 use std::io::Write;
-use tp_check::Kept;
+use tp_check::KeptStates;
 use tp_decode::{Instr, Listing, Placed};
 use tp_flow::{Edge, Nest};
 use tp_image::{Image, LoopRow};
 use tp_state::{Cell, State, StateCode, StateFault, after};
-
-/// The words below Wptr that are undefined after a place to deschedule.
-const FRAME_WORDS: i64 = 5;
+use tp_step::profile::FRAME_WORDS;
 
 /// The name of an edge.
 fn name_of(edge: Edge) -> &'static str {
@@ -115,7 +113,7 @@ fn is_live(state: &State, word: i64) -> bool {
 /// Whether one of the five words below Wptr is a live control word.
 fn is_live_below(state: &State) -> bool {
     let wptr = i64::from(state.wptr);
-    (1..=FRAME_WORDS).any(|below| is_live(state, wptr - below))
+    (1..=i64::from(FRAME_WORDS)).any(|below| is_live(state, wptr - below))
 }
 
 /// Which of the meanings of S5 stands at an instruction, on an edge that enters a loop or does not.
@@ -178,7 +176,7 @@ fn tell_arrival<W: Write>(
     alloc: Global,
     image: &Image,
     nest: &Nest,
-    table: &Kept,
+    table: &KeptStates,
     place: Placed,
     edge: Edge,
     to: usize,
@@ -212,7 +210,7 @@ fn tell_arrivals<W: Write>(
     image: &Image,
     listing: &Listing,
     nest: &Nest,
-    table: &Kept,
+    table: &KeptStates,
     to: usize,
     writer: &mut W,
 ) -> Result<(), TellFault>
@@ -233,7 +231,7 @@ fn tell_arrivals<W: Write>(
 /// Writes where two edges may not meet what stands there already.
 fn tell_meeting<W: Write>(
     alloc: Global,
-    table: &Kept,
+    table: &KeptStates,
     refusal: &EdgeRefusal,
     writer: &mut W,
 ) -> Result<(), TellFault> {

@@ -4,14 +4,12 @@ use crate::known::KnownRegister;
 use crate::ways::Way;
 use std::alloc::{AllocError, Global};
 use std::fmt;
-use tp_check::Kept;
+use tp_check::KeptStates;
 use tp_decode::{Instr, Placed};
 use tp_flow::{Edge, Nest};
 use tp_image::Image;
 use tp_state::{Kind, State};
-
-/// The words below Wptr that are undefined after a place to deschedule.
-const FRAME_WORDS: i64 = 5;
+use tp_step::profile::FRAME_WORDS;
 
 /// The bytes of a word.
 const WORD_BYTES: u32 = 4;
@@ -73,7 +71,7 @@ fn is_among(word: usize, first: i64, last: i64, more: i64) -> bool {
 /// Whether a word is one of the five below Wptr.
 fn is_below(state: &State, word: usize) -> bool {
     let wptr = i64::from(state.wptr);
-    is_among(word, wptr - FRAME_WORDS, wptr, -1)
+    is_among(word, wptr - i64::from(FRAME_WORDS), wptr, -1)
 }
 
 /// What a store of a register to a place does to a word.
@@ -177,7 +175,7 @@ pub(crate) fn passages_of(
     alloc: Global,
     image: &Image,
     nest: &Nest,
-    table: &Kept,
+    table: &KeptStates,
     ways: &[Way],
     word: usize,
 ) -> Result<Vec<Passage>, AllocError> {

@@ -54,4 +54,4 @@ asked (request.Image name text) = ToOpen name.items text.items
 asked (request.Packet name bytes) = ToKeep name.items (bytes_spelled bytes)
 asked (request.Run name) = ToRun name.items
 asked request.RunAll = ToRunAll
-asked (request.Close name) = ToDrop name.items
+asked (request.Drop name) = ToDrop name.items

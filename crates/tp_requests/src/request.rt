@@ -29,7 +29,7 @@ pub enum Request<'a> {
     /// To run the packets of all sessions.
     RunAll,
     /// To end the session.
-    Close(Name),
+    Drop(Name),
 }
 
 /// What two fields ask for.
@@ -51,7 +51,7 @@ fn of_two<'a>(alloc: Global, first: &[u8], second: &[u8]) -> Result<Option<Reque
     if second == b"RUN".as_slice() {
         Ok(Some(Request::Run(name)))
     } else if second == b"DROP".as_slice() {
-        Ok(Some(Request::Close(name)))
+        Ok(Some(Request::Drop(name)))
     } else {
         Ok(None)
     }

@@ -1,6 +1,6 @@
 pub mod KnownBytes
 pub mod LineLemmas
-pub mod StandLemmas
+pub mod PointLemmas
 pub mod ReadingLemmas
 pub mod ServeLemmas
 pub mod RunLemmas

@@ -5,7 +5,7 @@ use Rattle.std.specs.List.{filter, list_all, position_or_len}
 use Rattle.std.proofs.lemmas.Bool.Decides.{nat_tests}
 use Rattle.std.proofs.lemmas.Option.{same_Some}
 use Rattle.tp_requests.specs.Lines.{Line, line_feed, onto_first, lines_of, ended_lines}
-use Rattle.tp_session.specs.Stand.{IsPlain}
+use Rattle.tp_session.specs.Points.{IsPlain}
 
 pub take_all : (n : ℕ) (xs : List ℕ) → length xs ≤ n → take n xs ≡ xs
 take_all n [] h = by_case n

@@ -12,15 +12,15 @@ use Rattle.tp_requests.specs.Lines.{Line}
 use Rattle.tp_requests.specs.Requests.{Asked, ToList, ToOpen, ToKeep, ToRun, ToRunAll, ToDrop}
 use Rattle.tp_answers.specs.Sessions.{Session, named, with_session}
 use Rattle.tp_answers.specs.Told.{run_lines, done_line, of_line, all_line}
-use Rattle.tp_answers.specs.Answers.{Standing, is_full, IsRefused, IsOpenedBy, AnswersImage, packet_refusal, AnswersKept}
+use Rattle.tp_answers.specs.Answers.{ServiceState, is_full, IsRefused, IsOpenedBy, AnswersImage, packet_refusal, AnswersKept}
 use Rattle.tp_answers.specs.Answers.{AnswersPacket, IsResult, IsLoss, IsPacketAnswer, ArePacketAnswers, IsRun, AnswersRun}
 use Rattle.tp_answers.specs.Answers.{AreRuns, AnswersDrop, Answers}
 use Rattle.tp_session.specs.Served.{asked_in, next_number, AreAnswers}
 
-abbrev Same : List ℕ → List ℕ → Standing → Standing → Type 0
+abbrev Same : List ℕ → List ℕ → ServiceState → ServiceState → Type 0
 Same told told' after after' = (told ≡ told') × (after ≡ after')
 
-refused_once : (code : List ℕ) (place : ℕ) (before : Standing) (told told' : List ℕ) (after after' : Standing)
+refused_once : (code : List ℕ) (place : ℕ) (before : ServiceState) (told told' : List ℕ) (after after' : ServiceState)
     → IsRefused code place before told after → IsRefused code place before told' after' → Same told told' after after'
 refused_once code place before told told' after after' a b = (a.0 ∙ sym b.0, a.1 ∙ sym b.1)
 
@@ -62,7 +62,7 @@ one_all trace (s ∷ sessions) told told' (here, rest, one, others, is) (here', 
 -- ---- images
 
 module _ (one_text : (text : List ℕ) (a b : Answer) → IsAnswer text a → IsAnswer text b → a ≡ b) where
-  opened_once : (verdict : Answer) (name text : List ℕ) (before : Standing) (told told' : List ℕ) (after after' : Standing)
+  opened_once : (verdict : Answer) (name text : List ℕ) (before : ServiceState) (told told' : List ℕ) (after after' : ServiceState)
       → IsOpenedBy verdict name text before told after → IsOpenedBy verdict name text before told' after'
       → Same told told' after after'
   opened_once (Ok allowed) name text before told told' after after' a b =
@@ -76,8 +76,8 @@ module _ (one_text : (text : List ℕ) (a b : Answer) → IsAnswer text a → Is
       refused_once (refusal_code_text code) place before told told' after after' a b
   opened_once (Err Memory) name text before told told' after after' a b = absurd a
 
-  judged_once : (full : Bool) (number : ℕ) (name text : List ℕ) (before : Standing) (told told' : List ℕ)
-      (after after' : Standing) → AnswersImage full number name text before told after
+  judged_once : (full : Bool) (number : ℕ) (name text : List ℕ) (before : ServiceState) (told told' : List ℕ)
+      (after after' : ServiceState) → AnswersImage full number name text before told after
       → AnswersImage full number name text before told' after' → Same told told' after after'
   judged_once true number name text before told told' after after' a b =
       refused_once (codes "E2") number before told told' after after' a b
@@ -85,30 +85,30 @@ module _ (one_text : (text : List ℕ) (a b : Answer) → IsAnswer text a → Is
       opened_once b.verdict name text before told told' after after'
       (subst (λ v. IsOpenedBy v name text before told after) (one_text text a.verdict b.verdict a.is b.is) a.answers) b.answers
 
-  kept_once : (o : Option (List ℕ)) (number : ℕ) (s : Session) (packet : List ℕ) (before : Standing) (told told' : List ℕ)
-      (after after' : Standing) → AnswersKept o number s packet before told after
+  kept_once : (o : Option (List ℕ)) (number : ℕ) (s : Session) (packet : List ℕ) (before : ServiceState) (told told' : List ℕ)
+      (after after' : ServiceState) → AnswersKept o number s packet before told after
       → AnswersKept o number s packet before told' after' → Same told told' after after'
   kept_once (Some code) number s packet before told told' after after' a b =
       refused_once code number before told told' after after' a b
   kept_once None number s packet before told told' after after' a b = (a.0 ∙ sym b.0, a.1 ∙ sym b.1)
 
-  packet_once : (o : Option Session) (number : ℕ) (packet : List ℕ) (before : Standing) (told told' : List ℕ)
-      (after after' : Standing) → AnswersPacket o number packet before told after
+  packet_once : (o : Option Session) (number : ℕ) (packet : List ℕ) (before : ServiceState) (told told' : List ℕ)
+      (after after' : ServiceState) → AnswersPacket o number packet before told after
       → AnswersPacket o number packet before told' after' → Same told told' after after'
   packet_once None number packet before told told' after after' a b =
       refused_once (codes "P2") number before told told' after after' a b
   packet_once (Some s) number packet before told told' after after' a b =
       kept_once (packet_refusal s packet) number s packet before told told' after after' a b
 
-  run_once : (o : Option Session) (trace : Bool) (number : ℕ) (before : Standing) (told told' : List ℕ) (after after' : Standing)
+  run_once : (o : Option Session) (trace : Bool) (number : ℕ) (before : ServiceState) (told told' : List ℕ) (after after' : ServiceState)
       → AnswersRun o trace number before told after → AnswersRun o trace number before told' after' → Same told told' after after'
   run_once None trace number before told told' after after' a b =
       refused_once (codes "P2") number before told told' after after' a b
   run_once (Some s) trace number before told told' after after' a b =
       (one_session trace s told told' a.run b.run, a.forgotten ∙ sym b.forgotten)
 
-  drop_once : (o : Option Session) (number : ℕ) (name : List ℕ) (before : Standing) (told told' : List ℕ)
-      (after after' : Standing) → AnswersDrop o number name before told after → AnswersDrop o number name before told' after'
+  drop_once : (o : Option Session) (number : ℕ) (name : List ℕ) (before : ServiceState) (told told' : List ℕ)
+      (after after' : ServiceState) → AnswersDrop o number name before told after → AnswersDrop o number name before told' after'
       → Same told told' after after'
   drop_once None number name before told told' after after' a b =
       refused_once (codes "P2") number before told told' after after' a b
@@ -116,8 +116,8 @@ module _ (one_text : (text : List ℕ) (a b : Answer) → IsAnswer text a → Is
 
   -- ---- lines
 
-  pub one_line : (trace : Bool) (number : ℕ) (asked : Option Asked) (before : Standing) (told told' : List ℕ)
-      (after after' : Standing) → Answers trace number asked before told after → Answers trace number asked before told' after'
+  pub one_line : (trace : Bool) (number : ℕ) (asked : Option Asked) (before : ServiceState) (told told' : List ℕ)
+      (after after' : ServiceState) → Answers trace number asked before told after → Answers trace number asked before told' after'
       → Same told told' after after'
   one_line trace number None before told told' after after' a b =
       refused_once (codes "E1") number before told told' after after' a b
@@ -136,8 +136,8 @@ module _ (one_text : (text : List ℕ) (a b : Answer) → IsAnswer text a → Is
   one_line trace number (Some (ToDrop name)) before told told' after after' a b =
       drop_once (named name before.sessions) number name before told told' after after' a b
 
-  pub one_list : (trace : Bool) (number : ℕ) (before : Standing) (lines : List Line) (told told' : List ℕ)
-      (after after' : Standing) → AreAnswers trace number before lines told after
+  pub one_list : (trace : Bool) (number : ℕ) (before : ServiceState) (lines : List Line) (told told' : List ℕ)
+      (after after' : ServiceState) → AreAnswers trace number before lines told after
       → AreAnswers trace number before lines told' after' → Same told told' after after'
   one_list trace number before [] told told' after after' a b = (a.0 ∙ sym b.0, a.1 ∙ sym b.1)
   one_list trace n before (line ∷ lines) t t' end end' (here, rest, mid, one, each, is) (here', rest', mid', one', each', is') =

@@ -9,18 +9,18 @@ use Rattle.std.proofs.Math.Seq.{take-append_seam}
 use Rattle.tp_link.specs.Device.{DeviceState}
 use Rattle.tp_requests.specs.Lines.{line_feed, lines_of, ended_lines, without_return, said_in}
 use Rattle.tp_requests.specs.Requests.{asked_by}
-use Rattle.tp_answers.specs.Answers.{Standing, Answers}
+use Rattle.tp_answers.specs.Answers.{ServiceState, Answers}
 use Rattle.tp_session.specs.declared.fault.ServeFault.{ServeFault}
 use Rattle.tp_session.specs.declared.fault.ServeFault.TheVariants.{Read, Write, Memory, Thread}
 use Rattle.tp_session.specs.declared.progress.Progress.{Progress}
 use Rattle.tp_session.specs.declared.service.Service.{Service}
 use Rattle.tp_session.specs.Served.{most_line, asked_in, next_number, nothing_open, AreTold}
-use Rattle.tp_session.specs.Standing.{standing_of, StaysOn, IsWant}
-use Rattle.tp_session.specs.Stand.{Stand, number_after, IsPlain, Keeps, IsAt, HasToldEnded, Fails, FailsAtEnd, HasToldAll, GoesOn}
+use Rattle.tp_session.specs.Services.{state_of_service, StaysOn, IsWant}
+use Rattle.tp_session.specs.Points.{Point, number_after, IsPlain, Keeps, IsAt, HasToldEnded, Fails, FailsAtEnd, HasToldAll, GoesOn}
 use Rattle.tp_session.proofs.KnownBytes.{appends_more, appends_same, appends_front}
 use Rattle.tp_session.proofs.LineLemmas.{take_all}
-use Rattle.tp_session.proofs.StandLemmas.{answers_more, number_more, with_bytes, stands_more, line_now, lines_now, with_line}
-use Rattle.tp_session.proofs.StandLemmas.{begins_line, stands_line, told_ended, told_whole, told_rest}
+use Rattle.tp_session.proofs.PointLemmas.{answers_more, number_more, with_bytes, reached_more, line_now, lines_now, with_line}
+use Rattle.tp_session.proofs.PointLemmas.{begins_line, reached_line, told_ended, told_whole, told_rest}
 
 -- ---- a line that is kept whole, or in part
 
@@ -63,8 +63,8 @@ said_whole line ended e = rw e refl
 pub said_rest : (line : List ℕ) (ended : Bool) → ended ≡ false → line ≡ said_in record { bytes = line; ended = ended }
 said_rest line ended e = rw e refl
 
-pub answered_now : (trace : Bool) (p : Progress) (number : ℕ) (line says : List ℕ) (ended : Bool) (before : Standing)
-    (told : List ℕ) (after : Standing) → Keeps p number line → nat_lt most_line (length line) ≡ false
+pub answered_now : (trace : Bool) (p : Progress) (number : ℕ) (line says : List ℕ) (ended : Bool) (before : ServiceState)
+    (told : List ℕ) (after : ServiceState) → Keeps p number line → nat_lt most_line (length line) ≡ false
     → says ≡ said_in record { bytes = line; ended = ended } → Answers trace p.number (asked_by says) before told after
     → Answers trace number (asked_in record { bytes = line; ended = ended }) before told after
 answered_now trace p number line says ended before told after keeps short is answer =
@@ -104,21 +104,21 @@ something_left line kept n is long some =
 -- ---- from one stand to the next
 
 module _ {D : Type 0} (state : D → DeviceState) (trace : Bool) (begun now : Option (List ℕ)) (p : Progress) (service : Service D)
-    (s : Stand) (at : IsAt state trace begun p service now s) where
+    (s : Point) (at : IsAt state trace begun p service now s) where
   -- the answer to the line that is being read
-  pub answer_at : (ended : Bool) (here : List ℕ) (after : Standing)
-      → Answers service.trace (number_after 1 s.lines) (asked_in (line_now s ended)) (standing_of service) here after
-      → Answers trace (number_after 1 s.lines) (asked_in (line_now s ended)) s.standing here after
+  pub answer_at : (ended : Bool) (here : List ℕ) (after : ServiceState)
+      → Answers service.trace (number_after 1 s.lines) (asked_in (line_now s ended)) (state_of_service service) here after
+      → Answers trace (number_after 1 s.lines) (asked_in (line_now s ended)) s.service_state here after
   answer_at ended here after answer =
-      subst (λ b. Answers trace (number_after 1 s.lines) (asked_in (line_now s ended)) b here after) at.standing
-      (subst (λ t. Answers t (number_after 1 s.lines) (asked_in (line_now s ended)) (standing_of service) here after) at.trace_is
+      subst (λ b. Answers trace (number_after 1 s.lines) (asked_in (line_now s ended)) b here after) at.service_state
+      (subst (λ t. Answers t (number_after 1 s.lines) (asked_in (line_now s ended)) (state_of_service service) here after) at.trace_is
       answer)
 
   has_told : (taken : List ℕ) → taken ≡ s.taken → HasToldEnded trace taken begun now
   has_told taken is =
       record {
         told = s.told;
-        is = subst (λ l. AreTold trace (ended_lines l) s.told) (sym is) (told_ended trace s at.stands);
+        is = subst (λ l. AreTold trace (ended_lines l) s.told) (sym is) (told_ended trace s at.reached);
         wrote = at.wrote;
       }
 
@@ -144,20 +144,20 @@ module _ {D : Type 0} (state : D → DeviceState) (trace : Bool) (begun now : Op
       (appends_more begun now now' s.told (take n here) at.wrote wrote)
 
   -- the answer could not be written
-  pub fails_writing : (now' : Option (List ℕ)) (here : List ℕ) (after : Standing)
-      → Answers trace (number_after 1 s.lines) (asked_in (line_now s true)) s.standing here after
+  pub fails_writing : (now' : Option (List ℕ)) (here : List ℕ) (after : ServiceState)
+      → Answers trace (number_after 1 s.lines) (asked_in (line_now s true)) s.service_state here after
       → (n : ℕ) × Appends now now' (take n here)
       → Fails trace s.taken (line_feed ∷ []) begun now' Write
   fails_writing now' here after answer wrote =
       let some = some_written now' here wrote.0 wrote.1 in (
         lines_now s true,
-        begins_line trace s at.stands,
+        begins_line trace s at.reached,
         record {
           told = s.told ++ here;
           is = (
             after,
-            answers_more trace 1 nothing_open s.lines s.told s.standing
-                (line_now s true) here after at.stands.answered answer,
+            answers_more trace 1 nothing_open s.lines s.told s.service_state
+                (line_now s true) here after at.reached.answered answer,
           );
           some = some.0;
           wrote = some.1;
@@ -165,21 +165,21 @@ module _ {D : Type 0} (state : D → DeviceState) (trace : Bool) (begun now : Op
       )
 
   pub goes_line : (q : Progress) (service' : Service D) (now' : Option (List ℕ)) (here : List ℕ)
-      → Answers trace (number_after 1 s.lines) (asked_in (line_now s true)) s.standing here (standing_of service')
+      → Answers trace (number_after 1 s.lines) (asked_in (line_now s true)) s.service_state here (state_of_service service')
       → StaysOn state service service' → Appends now now' here → q.number ≡ next_number p.number → q.line.items ≡ []
       → q.long ≡ false → GoesOn state trace begun q service' now' (s.taken ++ line_feed ∷ [])
   goes_line q service' now' here answer stays wrote number_is line_is long_is = record {
-    stand = with_line s here (standing_of service');
+    point = with_line s here (state_of_service service');
     taken_is = refl;
     is = record {
-      stands = stands_line trace s here (standing_of service') at.stands answer;
+      reached = reached_line trace s here (state_of_service service') at.reached answer;
       keeps =
           record {
             number_is = number_is ∙ ap next_number at.keeps.number_is ∙ sym (number_more 1 s.lines (line_now s true));
             line_is = line_is;
             long_is = long_is;
           };
-      standing = refl;
+      service_state = refl;
       trace_is = stays.trace ∙ at.trace_is;
       fit = stays.fit at.fit;
       wrote = appends_more begun now now' s.told here at.wrote wrote;
@@ -189,13 +189,13 @@ module _ {D : Type 0} (state : D → DeviceState) (trace : Bool) (begun now : Op
   pub goes_plain : (q : Progress) (bytes : List ℕ) → IsPlain bytes → Keeps q (number_after 1 s.lines) (s.line ++ bytes)
       → GoesOn state trace begun q service now (s.taken ++ bytes)
   goes_plain q bytes plain keeps = record {
-    stand = with_bytes s bytes;
+    point = with_bytes s bytes;
     taken_is = refl;
     is =
         record {
-          stands = stands_more trace s bytes at.stands plain;
+          reached = reached_more trace s bytes at.reached plain;
           keeps = keeps;
-          standing = at.standing;
+          service_state = at.service_state;
           trace_is = at.trace_is;
           fit = at.fit;
           wrote = at.wrote;
@@ -204,10 +204,10 @@ module _ {D : Type 0} (state : D → DeviceState) (trace : Bool) (begun now : Op
 
   -- the end of the input
   pub told_nothing_more : s.line ≡ [] → HasToldAll trace s.taken begun now
-  told_nothing_more none = record { told = s.told; is = told_whole trace s at.stands none; wrote = at.wrote }
+  told_nothing_more none = record { told = s.told; is = told_whole trace s at.reached none; wrote = at.wrote }
 
-  module _ (some : 0 < length s.line) (here : List ℕ) (after : Standing)
-      (answer : Answers trace (number_after 1 s.lines) (asked_in (line_now s false)) s.standing here after)
+  module _ (some : 0 < length s.line) (here : List ℕ) (after : ServiceState)
+      (answer : Answers trace (number_after 1 s.lines) (asked_in (line_now s false)) s.service_state here after)
       (now' : Option (List ℕ)) {U : Type 0} (r : Result U ServeFault) where
     pub told_last : OnOk r (Appends now now' here) → OnOk r (HasToldAll trace s.taken begun now')
     told_last wrote = by_result r wrote
@@ -216,7 +216,7 @@ module _ {D : Type 0} (state : D → DeviceState) (trace : Bool) (begun now : Op
         by_result (Ok u) h =
             record {
               told = s.told ++ here;
-              is = told_rest trace s here after at.stands some answer;
+              is = told_rest trace s here after at.reached some answer;
               wrote = appends_more begun now now' s.told here at.wrote h;
             }
         by_result (Err e) h = tt
@@ -232,7 +232,7 @@ module _ {D : Type 0} (state : D → DeviceState) (trace : Bool) (begun now : Op
             let written = some_written now' here h.0 h.1 in
             rw f record {
               told = s.told ++ here;
-              is = (told_rest trace s here after at.stands some answer);
+              is = (told_rest trace s here after at.reached some answer);
               some = written.0;
               wrote = written.1;
             }
@@ -242,7 +242,7 @@ module _ {D : Type 0} (state : D → DeviceState) (trace : Bool) (begun now : Op
 pub goes_same : {D : Type 0} (state : D → DeviceState) (trace : Bool) (begun now : Option (List ℕ)) (p : Progress)
     (service : Service D) (xs ys : List ℕ) → xs ≡ ys → GoesOn state trace begun p service now xs
     → GoesOn state trace begun p service now ys
-goes_same state trace begun now p service xs ys e goes = record { stand = goes.stand; taken_is = goes.taken_is ∙ e; is = goes.is }
+goes_same state trace begun now p service xs ys e goes = record { point = goes.point; taken_is = goes.taken_is ∙ e; is = goes.is }
 
 -- the lines that some of the first bytes end were told
 before_more : (trace : Bool) (first taken front middle rest bytes : List ℕ) (begun now : Option (List ℕ))

@@ -11,22 +11,21 @@ use Rattle.std.proofs.lemmas.List.Elements.{All-nil, All-cons, All-head, All-res
 use Rattle.std.proofs.lemmas.List.Folds.{list_all-map}
 use Rattle.std.proofs.lemmas.Slice.Zip.{AllZip-long}
 use Rattle.arrayvec.specs.declared.array_vec.ArrayVec.{ArrayVec}
-use Rattle.tp_answers.specs.declared.session.Kept.{Kept}
+use Rattle.tp_answers.specs.declared.session.OpenSession.{OpenSession}
 use Rattle.std.proofs.lemmas.Option.{same_Some}
 use Rattle.tp_image.specs.Image.{ImageValue}
-use Rattle.tp_step.specs.Runs.{Run, RunsAlone}
+use Rattle.tp_step.specs.Runs.{Run, RunsAlone, TracesMoreThan}
 use Rattle.tp_step.proofs.StepLemmas.{ends_in}
 use Rattle.tp_accept.specs.Acceptance.{IsAcceptable}
 use Rattle.tp_accept.specs.Ending.{IsPacket}
 use Rattle.tp_machine.specs.Devices.{Devices}
-use Rattle.tp_collect.specs.Collected.{Batch}
+use Rattle.tp_collect.specs.Collected.{JobValue}
 use Rattle.tp_collect.specs.declared.collected.Entry.{Entry}
 use Rattle.tp_collect.specs.declared.collected.Entry.TheVariants as entry
 use Rattle.tp_collect.specs.declared.collected.LostCause.TheVariants as cause
 use Rattle.tp_farm.specs.Settings.{SameSettings}
 use Rattle.tp_farm.specs.Refused.{job_fault}
 use Rattle.tp_farm.specs.Promised.{TakeAll, ComesTo, LosesLongTracesAlone}
-use Rattle.tp_answers.specs.Answers.{TracesTooMuch}
 use Rattle.tp_collect.specs.DoneValue.{most_trace}
 use Rattle.tp_answers.specs.Entries.{IsOutcome, AreOutcomes}
 use Rattle.tp_session.specs.Fitness.{AreFitOf}
@@ -78,7 +77,7 @@ none_other image packets e =
     ap (λ n. cond (nat_lt n (length packets)) (Some n) None) (all_before image packets e)
     ∙ ap (λ b. cond b (Some (length packets)) None) test
 
-pub may_begin : (members : ℕ) (batch : Batch) → 1 ≤ members → members ≤ 64 → length batch.packets ≤ 1024
+pub may_begin : (members : ℕ) (batch : JobValue) → 1 ≤ members → members ≤ 64 → length batch.packets ≤ 1024
     → list_all (is_whole batch.image) batch.packets ≡ true → job_fault members batch ≡ None
 may_begin members batch least most few whole =
     let some : nat_eq members 0 ≡ false = grind (arith, nat_tests) in
@@ -98,9 +97,9 @@ short_messages image budget acceptable = (
 fit_takes : (image : ImageValue) (devices : Devices) → 4 * image.packet ≤ 256 → 4 * image.result ≤ 256 → AreFitOf devices
     → TakeAll image devices
 fit_takes image devices packet result fit = record {
-  source = record { opened = fit.source.opened; sure = fit.source.sound; room = omega (arith, packet, fit.source.room) };
-  sink = record { opened = fit.sink.opened; sure = fit.sink.sound; room = omega (arith, result, fit.sink.room) };
-  trace = record { opened = fit.trace.opened; sure = fit.trace.sound; room = fit.trace.room };
+  source = record { opened = fit.source.opened; sure = fit.source.sure; room = omega (arith, packet, fit.source.room) };
+  sink = record { opened = fit.sink.opened; sure = fit.sink.sure; room = omega (arith, result, fit.sink.room) };
+  trace = fit.trace;
 }
 
 pub all_take : (image : ImageValue) (all : List Devices) → 4 * image.packet ≤ 256 → 4 * image.result ≤ 256 → All AreFitOf all
@@ -116,19 +115,19 @@ fit_still d e same fit = record {
       record {
         opened = same.source.opened ∙ fit.source.opened;
         room = omega (arith, same.source.room, fit.source.room);
-        sound = same.source.fallible ∙ fit.source.sound;
+        sure = same.source.fallible ∙ fit.source.sure;
       };
   sink =
       record {
         opened = same.sink.opened ∙ fit.sink.opened;
         room = omega (arith, same.sink.room, fit.sink.room);
-        sound = same.sink.fallible ∙ fit.sink.sound;
+        sure = same.sink.fallible ∙ fit.sink.sure;
       };
   trace =
       record {
         opened = same.trace.opened ∙ fit.trace.opened;
         room = omega (arith, same.trace.room, fit.trace.room);
-        sound = same.trace.fallible ∙ fit.trace.sound;
+        sure = same.trace.fallible ∙ fit.trace.sure;
       };
 }
 
@@ -169,7 +168,7 @@ as_many f g xs ys same = sym (length-map ys g) ∙ AllZip-long SameSettings (map
 -- ---- outcomes
 
 too_much : (image : ImageValue) (packet : List ℕ) (run : Run) → RunsAlone image packet run → most_trace < length run.trace
-    → TracesTooMuch image packet
+    → TracesMoreThan most_trace image packet
 too_much image packet run alone more =
     let end = ends_in image packet run alone in
     record {
@@ -197,7 +196,7 @@ outcomes_of image (p ∷ packets) (e ∷ entries) long each =
       outcomes_of image packets entries (omega (arith, long)) (λ i packet at. each (suc i) packet at),
     )
 
-pub outcomes : (batch : Batch) (budget : ℕ) (entries : List Entry) → length entries ≡ length batch.packets
+pub outcomes : (batch : JobValue) (budget : ℕ) (entries : List Entry) → length entries ≡ length batch.packets
     → LosesLongTracesAlone batch budget entries → AreOutcomes batch.image batch.packets entries
 outcomes batch budget entries long complete =
     outcomes_of batch.image batch.packets entries long λ i packet at.
@@ -209,19 +208,19 @@ outcomes batch budget entries long complete =
 abbrev Packet : Type 0
 Packet = ArrayVec ℕ 256 (Unit {0})
 
-pub kept_whole : (kept : Kept) (packets : List Packet) → packets ≡ kept.packets.items
+pub kept_whole : (kept : OpenSession) (packets : List Packet) → packets ≡ kept.packets.items
     → list_all (is_whole kept.image.image) (map (λ p. p.items) packets) ≡ true
 kept_whole kept packets e =
     ap (λ ps. list_all (is_whole kept.image.image) (map (λ p. p.items) ps)) e
     ∙ list_all-map (is_whole kept.image.image) (λ p. p.items) kept.packets.items ∙ kept.whole
 
-pub kept_few : (kept : Kept) (packets : List Packet) → packets ≡ kept.packets.items → length (map (λ p. p.items) packets) ≤ 1024
+pub kept_few : (kept : OpenSession) (packets : List Packet) → packets ≡ kept.packets.items → length (map (λ p. p.items) packets) ≤ 1024
 kept_few kept packets e = omega (arith, length-map packets (λ p. p.items), ap length e, kept.packets.ok.0, kept.few)
 
-pub kept_count : (kept : Kept) (n : ℕ) → n ≡ vec_len kept.packets → n ≡ length (map (λ p. p.items) kept.packets.items)
+pub kept_count : (kept : OpenSession) (n : ℕ) → n ≡ vec_len kept.packets → n ≡ length (map (λ p. p.items) kept.packets.items)
 kept_count kept n e = e ∙ kept.packets.ok.0 ∙ sym (length-map kept.packets.items (λ p. p.items))
 
-pub of_kept : (kept : Kept) (packets : List Packet) (entries : List Entry) → packets ≡ kept.packets.items
+pub of_kept : (kept : OpenSession) (packets : List Packet) (entries : List Entry) → packets ≡ kept.packets.items
     → AreOutcomes kept.image.image (map (λ p. p.items) packets) entries
     → AreOutcomes kept.image.image (map (λ p. p.items) kept.packets.items) entries
 of_kept kept packets entries e outcomes = subst (λ ps. AreOutcomes kept.image.image (map (λ p. p.items) ps) entries) e outcomes

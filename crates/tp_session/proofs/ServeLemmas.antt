@@ -11,19 +11,19 @@ use Rattle.tp_session.specs.declared.fault.ServeFault.TheVariants.{Read, Write, 
 use Rattle.tp_session.specs.declared.progress.Progress.{Progress}
 use Rattle.tp_session.specs.declared.service.Service.{Service}
 use Rattle.tp_session.specs.Fitness.{AreFit}
-use Rattle.tp_session.specs.Standing.{standing_of}
+use Rattle.tp_session.specs.Services.{state_of_service}
 use Rattle.tp_session.specs.Served.{nothing_open, AreTold, most_read, IsServedBefore, Serves}
-use Rattle.tp_session.specs.Stand.{Stand, number_after, Keeps, IsAt, HasToldEnded, Fails, FailsAtEnd, HasToldAll, GoesOn}
+use Rattle.tp_session.specs.Points.{Point, number_after, Keeps, IsAt, HasToldEnded, Fails, FailsAtEnd, HasToldAll, GoesOn}
 use Rattle.tp_session.proofs.KnownBytes.{appends_none, appends_same, consumes_more, consumes_keeps}
-use Rattle.tp_session.proofs.StandLemmas.{told_ended, start, starts, start_line, start_lines, start_taken, start_told}
-use Rattle.tp_session.proofs.StandLemmas.{start_standing}
+use Rattle.tp_session.proofs.PointLemmas.{told_ended, start, starts, start_line, start_lines, start_taken, start_told}
+use Rattle.tp_session.proofs.PointLemmas.{start_service}
 
 -- the input so far: where its reading stands
 pub record SoFar {D : Type 0} (state : D → DeviceState) (trace : Bool) (input : List ℕ) (left begun now : Option (List ℕ))
     (p : Progress) (service : Service D) : Type 0 where
-  pub stand : Stand
-  pub split : Consumes (Some input) left stand.taken
-  pub is : IsAt state trace begun p service now stand
+  pub point : Point
+  pub split : Consumes (Some input) left point.taken
+  pub is : IsAt state trace begun p service now point
 
 -- the input from what is left of it
 known_split : (input : List ℕ) (left : Option (List ℕ)) (taken : List ℕ) → Consumes (Some input) left taken
@@ -56,31 +56,31 @@ module _ {D : Type 0} (state : D → DeviceState) (trace : Bool) (input : List �
   pub serves_read : (left left' : Option (List ℕ)) → SoFar state trace input left begun now p service → KeepsKnown left left'
       → Serves trace input left' begun now (Err Read)
   serves_read left left' so_far keeps = (
-    so_far.stand.taken,
-    so_far.stand.told,
-    consumes_keeps (Some input) left left' so_far.stand.taken so_far.split keeps,
-    told_ended trace so_far.stand so_far.is.stands,
+    so_far.point.taken,
+    so_far.point.told,
+    consumes_keeps (Some input) left left' so_far.point.taken so_far.split keeps,
+    told_ended trace so_far.point so_far.is.reached,
     so_far.is.wrote,
   )
 
   -- some bytes more were taken
   pub so_far_more : (left left' now' : Option (List ℕ)) (q : Progress) (service' : Service D) (bytes : List ℕ)
       (so_far : SoFar state trace input left begun now p service) → Consumes left left' bytes
-      → GoesOn state trace begun q service' now' (so_far.stand.taken ++ bytes)
+      → GoesOn state trace begun q service' now' (so_far.point.taken ++ bytes)
       → SoFar state trace input left' begun now' q service'
   so_far_more left left' now' q service' bytes so_far consumed goes = record {
-    stand = goes.stand;
+    point = goes.point;
     split =
         subst (λ l. Consumes (Some input) left' l) (sym goes.taken_is)
-        (consumes_more (Some input) left left' so_far.stand.taken bytes so_far.split consumed);
+        (consumes_more (Some input) left left' so_far.point.taken bytes so_far.split consumed);
     is = goes.is;
   }
 
   served_before : (left left' now' : Option (List ℕ)) (bytes : List ℕ) (n : ℕ)
       (so_far : SoFar state trace input left begun now p service) → Consumes left left' bytes → length bytes ≤ most_read
-      → HasToldEnded trace (so_far.stand.taken ++ take n bytes) begun now' → IsServedBefore trace input left' begun now'
+      → HasToldEnded trace (so_far.point.taken ++ take n bytes) begun now' → IsServedBefore trace input left' begun now'
   served_before left left' now' bytes n so_far consumed short told =
-      let taken = so_far.stand.taken in
+      let taken = so_far.point.taken in
       let all : taken ++ bytes ≡ (taken ++ take n bytes) ++ drop n bytes =
       ap (λ l. taken ++ l) (sym (take-append-drop n bytes)) ∙ sym (append_assoc taken (take n bytes) (drop n bytes)) in
       record {
@@ -98,14 +98,14 @@ module _ {D : Type 0} (state : D → DeviceState) (trace : Bool) (input : List �
   -- feeding failed
   pub serves_fed : (left left' now' : Option (List ℕ)) (bytes : List ℕ) (e : ServeFault)
       (so_far : SoFar state trace input left begun now p service) → Consumes left left' bytes → length bytes ≤ most_read
-      → Fails trace so_far.stand.taken bytes begun now' e → Serves trace input left' begun now' (Err e)
+      → Fails trace so_far.point.taken bytes begun now' e → Serves trace input left' begun now' (Err e)
   serves_fed left left' now' bytes Read so_far consumed short fails = absurd fails
   serves_fed left left' now' bytes Memory so_far consumed short fails =
       served_before left left' now' bytes fails.0 so_far consumed short fails.1
   serves_fed left left' now' bytes Thread so_far consumed short fails =
       served_before left left' now' bytes fails.0 so_far consumed short fails.1
   serves_fed left left' now' bytes Write so_far consumed short fails =
-      let taken = so_far.stand.taken in
+      let taken = so_far.point.taken in
       let whole =
       known_split input left' (taken ++ bytes) (consumes_more (Some input) left left' taken bytes so_far.split consumed) in
       let lines = fails.0 in
@@ -115,18 +115,18 @@ module _ {D : Type 0} (state : D → DeviceState) (trace : Bool) (input : List �
 
   -- the end of the input
   pub serves_all : (left left' now' : Option (List ℕ)) (so_far : SoFar state trace input left begun now p service)
-      → Consumes left left' [] → IsAtEnd left' → HasToldAll trace so_far.stand.taken begun now'
+      → Consumes left left' [] → IsAtEnd left' → HasToldAll trace so_far.point.taken begun now'
       → Serves trace input left' begun now' (Ok tt)
   serves_all left left' now' so_far consumed end told =
-      let is : input ≡ so_far.stand.taken = at_the_end input left left' so_far.stand.taken so_far.split consumed end in
+      let is : input ≡ so_far.point.taken = at_the_end input left left' so_far.point.taken so_far.split consumed end in
       (told.told, end, subst (λ l. AreTold trace (lines_of l) told.told) (sym is) told.is, told.wrote)
 
   at_end_before : (left left' now' : Option (List ℕ)) (so_far : SoFar state trace input left begun now p service)
-      → Consumes left left' [] → HasToldEnded trace so_far.stand.taken begun now' → IsServedBefore trace input left' begun now'
+      → Consumes left left' [] → HasToldEnded trace so_far.point.taken begun now' → IsServedBefore trace input left' begun now'
   at_end_before left left' now' so_far consumed told = record {
-    before = so_far.stand.taken;
+    before = so_far.point.taken;
     rest = [];
-    read = consumes_more (Some input) left left' so_far.stand.taken [] so_far.split consumed;
+    read = consumes_more (Some input) left left' so_far.point.taken [] so_far.split consumed;
     last = omega arith;
     told = told.told;
     served = told.is;
@@ -135,13 +135,13 @@ module _ {D : Type 0} (state : D → DeviceState) (trace : Bool) (input : List �
 
   pub serves_end : (left left' now' : Option (List ℕ)) (e : ServeFault)
       (so_far : SoFar state trace input left begun now p service) → Consumes left left' [] → IsAtEnd left'
-      → FailsAtEnd trace so_far.stand.taken begun now' e → Serves trace input left' begun now' (Err e)
+      → FailsAtEnd trace so_far.point.taken begun now' e → Serves trace input left' begun now' (Err e)
   serves_end left left' now' Read so_far consumed end fails = absurd fails
   serves_end left left' now' Memory so_far consumed end fails = at_end_before left left' now' so_far consumed fails
   serves_end left left' now' Thread so_far consumed end fails = at_end_before left left' now' so_far consumed fails
   serves_end left left' now' Write so_far consumed end fails =
-      let is : input ≡ so_far.stand.taken = at_the_end input left left' so_far.stand.taken so_far.split consumed end in
-      let lines = lines_of so_far.stand.taken in
+      let is : input ≡ so_far.point.taken = at_the_end input left left' so_far.point.taken so_far.split consumed end in
+      let lines = lines_of so_far.point.taken in
       let first : take (length lines) (lines_of input) ≡ lines =
       ap (take (length lines)) (ap lines_of is ∙ sym (append-nil lines)) ∙ take-append_seam lines [] in
       (length lines, fails.some, fails.told, subst (λ l. AreTold trace l fails.told) (sym first) fails.is, fails.wrote)
@@ -149,25 +149,25 @@ module _ {D : Type 0} (state : D → DeviceState) (trace : Bool) (input : List �
   -- the last line was answered, or not
   pub ends_by : (left left' now' : Option (List ℕ)) (r : Result (Unit {0}) ServeFault)
       (so_far : SoFar state trace input left begun now p service) → Consumes left left' [] → IsAtEnd left'
-      → OnOk r (HasToldAll trace so_far.stand.taken begun now') → IfErr r (FailsAtEnd trace so_far.stand.taken begun now')
+      → OnOk r (HasToldAll trace so_far.point.taken begun now') → IfErr r (FailsAtEnd trace so_far.point.taken begun now')
       → Serves trace input left' begun now' r
   ends_by left left' now' (Ok u) so_far consumed end ok err = serves_all left left' now' so_far consumed end ok
   ends_by left left' now' (Err e) so_far consumed end ok err = serves_end left left' now' e so_far consumed end err
 
 -- nothing was taken yet
 pub nothing_taken : {D : Type 0} (state : D → DeviceState) (trace : Bool) (left begun : Option (List ℕ)) (p : Progress)
-    (service : Service D) → Keeps p 1 [] → (standing_of service ≡ nothing_open) × (service.trace ≡ trace)
+    (service : Service D) → Keeps p 1 [] → (state_of_service service ≡ nothing_open) × (service.trace ≡ trace)
     → AreFit state service.links.items → IfSome left (λ input. SoFar state trace input left begun begun p service)
 nothing_taken state trace None begun p service keeps new fit = tt
 nothing_taken state trace (Some input) begun p service keeps new fit = record {
-  stand = start;
+  point = start;
   split = ap (λ l. l ++ input) (sym start_taken);
   is = record {
-    stands = starts trace;
+    reached = starts trace;
     keeps =
         subst (λ l. Keeps p (number_after 1 start.lines) l) (sym start_line)
         (subst (λ ls. Keeps p (number_after 1 ls) []) (sym start_lines) keeps);
-    standing = new.0 ∙ sym start_standing;
+    service_state = new.0 ∙ sym start_service;
     trace_is = new.1;
     fit = fit;
     wrote = appends_same begun begun [] start.told (sym start_told) (appends_none begun);

@@ -14,10 +14,10 @@ use Rattle.tp_requests.specs.Requests.{Asked, ToList, ToOpen, ToKeep, ToRun, ToR
 use Rattle.tp_requests.specs.Requests.{asked_by}
 use Rattle.tp_answers.specs.Sessions.{Session, with_session, without_packets}
 use Rattle.tp_answers.specs.Told.{refusal, of_line, GoesOnWith}
-use Rattle.tp_answers.specs.Answers.{Standing, standing, batches_more, IsRun, AnswersRun, AreRuns}
-use Rattle.tp_answers.specs.declared.session.Kept.{Kept}
-use Rattle.tp_answers.specs.Open.{session_of}
-use Rattle.tp_session.specs.Standing.{IsListable}
+use Rattle.tp_answers.specs.Answers.{ServiceState, service_state, batches_more, IsRun, AnswersRun, AreRuns}
+use Rattle.tp_answers.specs.declared.session.OpenSession.{OpenSession}
+use Rattle.tp_answers.specs.OpenSessions.{session_of}
+use Rattle.tp_session.specs.Services.{IsListable}
 
 -- ---- a code that is to be listed is no longer than its line
 
@@ -137,33 +137,33 @@ asked_known value o r a h e = sym h ∙ ap (option_map value) e
 
 -- ---- one session's run
 
-pub run_of_none : (o : Option Session) (trace : Bool) (number : ℕ) (before : Standing) → o ≡ None
+pub run_of_none : (o : Option Session) (trace : Bool) (number : ℕ) (before : ServiceState) → o ≡ None
     → AnswersRun o trace number before (refusal (codes "P2") number) before
 run_of_none o trace number before none = rw none (refl, refl)
 
 ran_to : (trace : Bool) (number : ℕ) (s : Session) (sessions sessions' : List Session) (batches batches' : ℕ)
     (told : List ℕ) {o : Option Session}
     → o ≡ Some s → IsRun trace s told → sessions' ≡ with_session (without_packets s) sessions → batches' ≡ batches_more 1 batches
-    → AnswersRun o trace number (standing sessions batches) told (standing sessions' batches')
+    → AnswersRun o trace number (service_state sessions batches) told (service_state sessions' batches')
 ran_to trace number s sessions sessions' batches batches' told is run forgotten counted =
     rw is record {
       run = run;
-      forgotten = ap (λ ss. standing ss batches') forgotten
-          ∙ ap (standing (with_session (without_packets s) sessions)) counted;
+      forgotten = ap (λ ss. service_state ss batches') forgotten
+          ∙ ap (service_state (with_session (without_packets s) sessions)) counted;
     }
 
 pub ran : {S E : Type 0} (r : Result S E) (trace : Bool) (number : ℕ) (s : Session) (sessions sessions' : List Session)
     (batches batches' : ℕ) (before after : List ℕ) {o : Option Session}
     → o ≡ Some s → OnOk r (GoesOnWith (IsRun trace s) before after)
     → OnOk r (sessions' ≡ with_session (without_packets s) sessions) → OnOk r (batches' ≡ batches_more 1 batches)
-    → OnOk r (GoesOnWith (λ line. AnswersRun o trace number (standing sessions batches) line (standing sessions' batches'))
+    → OnOk r (GoesOnWith (λ line. AnswersRun o trace number (service_state sessions batches) line (service_state sessions' batches'))
     before after)
 ran (Ok x) trace number s sessions sessions' batches batches' before after is (told, goes, run) forgotten counted =
     (told, goes, ran_to trace number s sessions sessions' batches batches' told is run forgotten counted)
 ran (Err e) trace number s sessions sessions' batches batches' before after is goes forgotten counted = tt
 
 -- what is told of what is kept is told of its session
-pub run_of_named : (trace : Bool) (s : Session) (kept : Kept) (before after : List ℕ) → s ≡ session_of s.name kept
+pub run_of_named : (trace : Bool) (s : Session) (kept : OpenSession) (before after : List ℕ) → s ≡ session_of s.name kept
     → GoesOnWith (IsRun trace (session_of s.name kept)) before after → GoesOnWith (IsRun trace s) before after
 run_of_named trace s kept before after is (told, goes, run) =
     (told, goes, subst (λ session. IsRun trace session told) (sym is) run)

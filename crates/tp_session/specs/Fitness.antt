@@ -1,20 +1,16 @@
 -- What serving asks of the devices that it is lent.
-use Rattle.std.specs.Prelude.{◌≡◌, ◌≤◌, true, false, List, length, map, All}
+use Rattle.std.specs.Prelude.{◌≡◌, ◌≤◌, List, length, map, All}
 use Rattle.tp_link.specs.Device.{DeviceState}
 use Rattle.tp_link.specs.declared.links.Links.{Links}
 use Rattle.tp_machine.specs.Devices.{Devices, devices_of}
+use Rattle.tp_collect.specs.DoneValue.{most_trace}
+use Rattle.tp_farm.specs.Promised.{Takes}
 
--- open, with room for each packet, result and trace, and it cannot fail
-pub record IsFit (device : DeviceState) : Type 0 where
-  pub opened : device.opened ≡ true
-  pub room : 256 ≤ device.room
-  pub sound : device.fallible ≡ false
-
--- a member's three devices are
+-- A member's three devices are open and cannot fail, with room for the longest trace; no packet and no result is longer.
 pub record AreFitOf (devices : Devices) : Type 0 where
-  pub source : IsFit devices.source
-  pub sink : IsFit devices.sink
-  pub trace : IsFit devices.trace
+  pub source : Takes most_trace devices.source
+  pub sink : Takes most_trace devices.sink
+  pub trace : Takes most_trace devices.trace
 
 -- those of all members are
 abbrev pub AreFit : {D : Type 0} → (D → DeviceState) → List (Links D) → Type 0

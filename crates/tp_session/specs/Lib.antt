@@ -1,7 +1,9 @@
+-- What a reader must believe: clauses of public calls cite it.
 pub mod Served
 pub mod Fitness
-pub mod Standing
-pub mod Stand
 pub use Rattle.tp_answers.specs.Sessions
 pub use Rattle.tp_answers.specs.Told
 pub use Rattle.tp_answers.specs.Answers
+-- What only private steps cite.
+pub mod Services
+pub mod Points

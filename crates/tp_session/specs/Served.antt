@@ -6,7 +6,7 @@ use Rattle.tp_requests.specs.Lines.{Line, lines_of, ended_lines, said_in}
 use Rattle.tp_requests.specs.Requests.{Asked, asked_by}
 use Rattle.tp_session.specs.declared.fault.ServeFault.{ServeFault}
 use Rattle.tp_session.specs.declared.fault.ServeFault.TheVariants as fault
-use Rattle.tp_answers.specs.Answers.{Standing, Answers}
+use Rattle.tp_answers.specs.Answers.{ServiceState, Answers}
 
 -- the most bytes of a line before its line feed
 abbrev pub most_line : ℕ
@@ -25,19 +25,19 @@ abbrev pub next_number : ℕ → ℕ
 next_number number = min (number + 1) (2 ^ 64 - 1)
 
 -- the answers to lines, the first of which has a number
-abbrev pub AreAnswers : Bool → ℕ → Standing → List Line → List ℕ → Standing → Type 0
+abbrev pub AreAnswers : Bool → ℕ → ServiceState → List Line → List ℕ → ServiceState → Type 0
 AreAnswers trace number before [] told after = (told ≡ []) × (after ≡ before)
 AreAnswers trace number before (line ∷ lines) told after =
-    (here : List ℕ) × (rest : List ℕ) × (between : Standing) × Answers trace number (asked_in line) before here between
+    (here : List ℕ) × (rest : List ℕ) × (between : ServiceState) × Answers trace number (asked_in line) before here between
     × AreAnswers trace (next_number number) between lines rest after × (told ≡ here ++ rest)
 
 -- at first no session is open
-abbrev pub nothing_open : Standing
+abbrev pub nothing_open : ServiceState
 nothing_open = record { sessions = []; batches = 0 }
 
 -- what is told for the first lines of an input
 abbrev pub AreTold : Bool → List Line → List ℕ → Type 0
-AreTold trace lines told = (after : Standing) × AreAnswers trace 1 nothing_open lines told after
+AreTold trace lines told = (after : ServiceState) × AreAnswers trace 1 nothing_open lines told after
 
 -- what is written for an input
 abbrev pub IsServed : Bool → List ℕ → List ℕ → Type 0

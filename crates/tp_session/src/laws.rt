@@ -2,15 +2,15 @@
 
 ghost use Rattle.std.specs.Prelude.{◌≡◌, ℕ, Bool, List, Option};
 ghost use Rattle.tp_requests.specs.Requests.{Asked};
-ghost use Rattle.tp_answers.specs.Answers.{Standing, Answers};
+ghost use Rattle.tp_answers.specs.Answers.{ServiceState, Answers};
 ghost use Rattle.tp_session.specs.Served.{IsServed};
 
 use tp_accept::laws::one_text_has_one_answer;
 
-/// A line has one answer, and leads to one standing.
+/// A line has one answer, and leads to one state of the service.
 pub fn one_line_has_one_answer()
-    ensures { (trace : Bool) (number : ℕ) (asked : Option Asked) (before : Standing) (told told' : List ℕ)
-        (after after' : Standing) → Answers trace number asked before told after →
+    ensures { (trace : Bool) (number : ℕ) (asked : Option Asked) (before : ServiceState) (told told' : List ℕ)
+        (after after' : ServiceState) → Answers trace number asked before told after →
         Answers trace number asked before told' after' → (told ≡ told') × (after ≡ after') }
 {
     one_text_has_one_answer();

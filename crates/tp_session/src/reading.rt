@@ -6,8 +6,8 @@ ghost use Rattle.std.specs.Io.KnownBytes.{Appends};
 ghost use Rattle.tp_requests.specs.Lines.{line_feed, without_return};
 ghost use Rattle.tp_session.specs.Served.{asked_in};
 ghost use Rattle.tp_session.specs.Fitness.{AreFit, HasMembers, AreAsMany};
-ghost use Rattle.tp_session.specs.Standing.{StaysOn, TellsAnswer, IsWant};
-ghost use Rattle.tp_session.specs.Stand.{IsPlain, Keeps, AtEachStand, GoesOn, Fails, FailsAtEnd, HasToldAll};
+ghost use Rattle.tp_session.specs.Services.{StaysOn, TellsAnswer, IsWant};
+ghost use Rattle.tp_session.specs.Points.{IsPlain, Keeps, AtEachPoint, GoesOn, Fails, FailsAtEnd, HasToldAll};
 
 use crate::MAX_LINE;
 use crate::fault::ServeFault;
@@ -111,10 +111,10 @@ fn end_line<R: Threads + Wait + Sync, D: LinkDevice + Send, W: Write>(
     told: &mut Vec<u8>,
 ) -> Result<(), ServeFault>
     requires { HasMembers service.old.links.items }
-    ensures ok { AtEachStand D.state progress.old service.old (W.contents writer.old) (λ trace begun s.
+    ensures ok { AtEachPoint D.state progress.old service.old (W.contents writer.old) (λ trace begun s.
         OnOk result
         (GoesOn D.state trace begun progress.new service.new (W.contents writer.new) (s.taken ++ 10 ∷ []))) }
-    ensures err { AtEachStand D.state progress.old service.old (W.contents writer.old) (λ trace begun s.
+    ensures err { AtEachPoint D.state progress.old service.old (W.contents writer.old) (λ trace begun s.
         IfErr result (Fails trace s.taken (10 ∷ []) begun (W.contents writer.new))) }
     ensures members { OnOk result (AreAsMany service.old.links.items service.new.links.items) }
 {
@@ -171,10 +171,10 @@ pub(crate) fn feed<R: Threads + Wait + Sync, D: LinkDevice + Send, W: Write>(
     bytes: &[u8],
 ) -> Result<(), ServeFault>
     requires { HasMembers service.old.links.items }
-    ensures ok { AtEachStand D.state progress.old service.old (W.contents writer.old) (λ trace begun s.
+    ensures ok { AtEachPoint D.state progress.old service.old (W.contents writer.old) (λ trace begun s.
         OnOk result
         (GoesOn D.state trace begun progress.new service.new (W.contents writer.new) (s.taken ++ bytes.now))) }
-    ensures err { AtEachStand D.state progress.old service.old (W.contents writer.old) (λ trace begun s.
+    ensures err { AtEachPoint D.state progress.old service.old (W.contents writer.old) (λ trace begun s.
         IfErr result (Fails trace s.taken bytes.now begun (W.contents writer.new))) }
     ensures members { OnOk result (AreAsMany service.old.links.items service.new.links.items) }
 {
@@ -198,9 +198,9 @@ pub(crate) fn finish<R: Threads + Wait + Sync, D: LinkDevice + Send, W: Write>(
     told: &mut Vec<u8>,
 ) -> Result<(), ServeFault>
     requires { HasMembers service.old.links.items }
-    ensures ok { AtEachStand D.state progress.now service.old (W.contents writer.old) (λ trace begun s.
+    ensures ok { AtEachPoint D.state progress.now service.old (W.contents writer.old) (λ trace begun s.
         OnOk result (HasToldAll trace s.taken begun (W.contents writer.new))) }
-    ensures err { AtEachStand D.state progress.now service.old (W.contents writer.old) (λ trace begun s.
+    ensures err { AtEachPoint D.state progress.now service.old (W.contents writer.old) (λ trace begun s.
         IfErr result (FailsAtEnd trace s.taken begun (W.contents writer.new))) }
 {
     if progress.line.is_empty() {

@@ -1,22 +1,22 @@
 //! Running the packets of a session.
 
 ghost use Rattle.std.specs.Prelude.{◌≡◌, ◌≤◌, ℕ, List, IfOk, IfErr, OnOk, None, length};
-ghost use Rattle.tp_farm.specs.Jobs.{batch_of};
+ghost use Rattle.tp_farm.specs.Jobs.{value_of_job};
 ghost use Rattle.tp_farm.specs.Refused.{job_fault, IsFromOutside};
 ghost use Rattle.tp_farm.specs.Promised.{ArePackets};
 ghost use Rattle.tp_answers.specs.Told.{GoesOnWith};
 ghost use Rattle.tp_answers.specs.Answers.{IsRun};
-ghost use Rattle.tp_answers.specs.Open.{session_of};
+ghost use Rattle.tp_answers.specs.OpenSessions.{session_of};
 ghost use Rattle.tp_answers.specs.Entries.{AreOutcomes};
 ghost use Rattle.tp_session.specs.Fitness.{AreFit, HasMembers, AreAsMany};
-ghost use Rattle.tp_session.specs.Standing.{IsWant};
+ghost use Rattle.tp_session.specs.Services.{IsWant};
 
 use crate::fault::ServeFault;
 use std::alloc::Global;
 use std::mem;
 use std::sync::Wait;
 use std::thread::Threads;
-use tp_answers::{Kept, tell_done, tell_entries};
+use tp_answers::{OpenSession, tell_done, tell_entries};
 use tp_collect::Collected;
 use tp_farm::laws::long_traces_alone_are_lost;
 use tp_farm::{FarmFault, Job, OpenGate, run_batch_over_board};
@@ -45,10 +45,10 @@ fn run_packets<R: Threads + Wait + Sync, D: LinkDevice + Send>(
     job: &Job<'_>,
 ) -> Result<Collected, ServeFault>
     requires members { HasMembers links.old.items }
-    requires begins { job_fault (length links.old.items) (batch_of job.now) ≡ None }
-    requires packets { ArePackets (batch_of job.now) }
+    requires begins { job_fault (length links.old.items) (value_of_job job.now) ≡ None }
+    requires packets { ArePackets (value_of_job job.now) }
     ensures outcomes { AreFit D.state links.old.items →
-        IfOk result (AreOutcomes (batch_of job.now).image (batch_of job.now).packets) }
+        IfOk result (AreOutcomes (value_of_job job.now).image (value_of_job job.now).packets) }
     ensures members { OnOk result (AreAsMany links.old.items links.new.items) }
     ensures fit { AreFit D.state links.old.items → OnOk result (AreFit D.state links.new.items) }
     ensures want { IfErr result IsWant }
@@ -73,10 +73,10 @@ fn run_on_enough<R: Threads + Wait + Sync, D: LinkDevice + Send>(
     job: &Job<'_>,
 ) -> Result<Collected, ServeFault>
     requires members { HasMembers links.old.items }
-    requires begins { (members : ℕ) → 1 ≤ members → members ≤ 64 → job_fault members (batch_of job.now) ≡ None }
-    requires packets { ArePackets (batch_of job.now) }
+    requires begins { (members : ℕ) → 1 ≤ members → members ≤ 64 → job_fault members (value_of_job job.now) ≡ None }
+    requires packets { ArePackets (value_of_job job.now) }
     ensures outcomes { AreFit D.state links.old.items →
-        IfOk result (AreOutcomes (batch_of job.now).image (batch_of job.now).packets) }
+        IfOk result (AreOutcomes (value_of_job job.now).image (value_of_job job.now).packets) }
     ensures members { OnOk result (AreAsMany links.old.items links.new.items) }
     ensures fit { AreFit D.state links.old.items → OnOk result (AreFit D.state links.new.items) }
     ensures want { IfErr result IsWant }
@@ -95,7 +95,7 @@ pub(crate) fn run_session<R: Threads + Wait + Sync, D: LinkDevice + Send>(
     links: &mut Vec<Links<D>>,
     batch: u64,
     trace: bool,
-    kept: &Kept,
+    kept: &OpenSession,
     text: &mut Vec<u8>,
 ) -> Result<(), ServeFault>
     requires members { HasMembers links.old.items }

@@ -6,9 +6,9 @@ ghost use Rattle.tp_answers.specs.Sessions.{Session, without_packets};
 ghost use Rattle.tp_answers.specs.Told.{of_line, all_line, GoesOnWith};
 ghost use Rattle.tp_answers.specs.Answers.{AreRunAndForgotten, IsRun, batches_more};
 ghost use Rattle.tp_session.specs.Served.{most_line};
-ghost use Rattle.tp_answers.specs.Open.{sessions_of};
+ghost use Rattle.tp_answers.specs.OpenSessions.{sessions_of};
 ghost use Rattle.tp_session.specs.Fitness.{AreFit, HasMembers};
-ghost use Rattle.tp_session.specs.Standing.{standing_of, StaysOn, TellsAnswer, IsWant, IsListable};
+ghost use Rattle.tp_session.specs.Services.{state_of_service, StaysOn, TellsAnswer, IsWant, IsListable};
 
 use crate::fault::ServeFault;
 use crate::running::run_session;
@@ -16,7 +16,7 @@ use std::alloc::{AllocError, Global};
 use std::io::Write;
 use std::sync::Wait;
 use std::thread::Threads;
-use tp_answers::{Sessions, close, keep, list, open, refusal};
+use tp_answers::{Sessions, drop_session, keep, list, open, refusal};
 use tp_link::{LinkDevice, Links};
 use tp_requests::{Name, Request, read_request};
 
@@ -115,7 +115,7 @@ impl<D: LinkDevice + Send> Service<D> {
     ) -> Result<(), ServeFault>
         requires { HasMembers self.old.links.items }
         ensures told { AreFit D.state self.old.links.items → OnOk result (GoesOnWith (λ lines.
-            AreRunAndForgotten self.old.trace (standing_of self.old) lines (standing_of self.new))
+            AreRunAndForgotten self.old.trace (state_of_service self.old) lines (state_of_service self.new))
             told.old.items told.new.items) }
         ensures stays { OnOk result (StaysOn D.state self.old self.new) }
         ensures want { IfErr result IsWant }
@@ -154,7 +154,7 @@ impl<D: LinkDevice + Send> Service<D> {
             Request::Packet(name, bytes) => keep(&mut self.sessions, told, number, &name, &bytes)?,
             Request::Run(name) => return self.run(rt, alloc, number, &name, told),
             Request::RunAll => return self.run_all(rt, alloc, told),
-            Request::Close(name) => close(&mut self.sessions, told, number, &name)?,
+            Request::Drop(name) => drop_session(&mut self.sessions, told, number, &name)?,
         }
         Ok(())
     }

@@ -6,7 +6,7 @@ use Rattle.std.proofs.lemmas.List.{take_at, drop_at}
 use Rattle.std.proofs.lemmas.Option.{same_Some}
 use Rattle.std.specs.List.{AllByRecursion}
 use Rattle.tp_decode.specs.Words.{signed, complement}
-use Rattle.tp_decode.specs.Spelling.{function_of, digit_of, is_prefix, is_pfix, is_nfix, shifted, shifted_complement, spelled, IsSpelling, StandsAt}
+use Rattle.tp_decode.specs.Spelling.{function_of, digit_of, is_prefix, is_pfix, is_nfix, shifted, shifted_complement, spelled, IsSpelling, IsSpelledAt}
 use Rattle.tp_decode.specs.Table.{entry}
 use Rattle.tp_decode.specs.Cutting.{Cut, IsSpelled, IsCutting, code_of, cut_at}
 use Rattle.tp_step.specs.Numbers.{overflows}
@@ -50,7 +50,7 @@ range_of_it front bytes rest =
     rw (count, drop_at front (bytes ++ rest) (length front) refl) (take_at bytes rest (length bytes) refl)
 
 pub stands : (code : List ℕ) (cuts : List Cut) (at : ℕ) (cut : Cut) → IsCutting code cuts → cut_at cuts at ≡ Some cut
-    → StandsAt code at record { function = (entry cut.instr).function; operand = (entry cut.instr).operand; next = at + length cut.bytes }
+    → IsSpelledAt code at record { function = (entry cut.instr).function; operand = (entry cut.instr).operand; next = at + length cut.bytes }
 stands code cuts at cut cutting here =
     let l = lies cuts at cut cutting.each here in
     let code_is : code ≡ l.front ++ (cut.bytes ++ l.rest) = sym cutting.joined ∙ l.joined in

@@ -54,67 +54,67 @@ after_is : (P : State → Type 0) (o : Option State) (t : State) → o ≡ Some 
 after_is P o t e h = subst (After P) e h
 
 -- Iptr is there
-abbrev pub StandsAt : ℤ → State → Type 0
-StandsAt z s = s.iptr ≡ z
+abbrev pub HasIptr : ℤ → State → Type 0
+HasIptr z s = s.iptr ≡ z
 
 module _ (z : ℤ) where
-  descheduled_stays : (image : ImageValue) (s : State) → StandsAt z s → After (StandsAt z) (descheduled image s)
+  descheduled_stays : (image : ImageValue) (s : State) → HasIptr z s → After (HasIptr z) (descheduled image s)
   unfolding descheduled
-  descheduled_stays image s h = search (when (StandsAt z))
+  descheduled_stays image s h = search (when (HasIptr z))
 
-  store_stays : (image : ImageValue) (a word : ℕ) (s : State) → StandsAt z s → After (StandsAt z) (store image a word s)
+  store_stays : (image : ImageValue) (a word : ℕ) (s : State) → HasIptr z s → After (HasIptr z) (store image a word s)
   unfolding store
-  store_stays image a word s h = search (when (StandsAt z))
+  store_stays image a word s h = search (when (HasIptr z))
 
-  divided_stays : (f : ℤ → ℤ → ℤ) (b a : ℤ) (s : State) → StandsAt z s → StandsAt z (divided f b a s)
-  divided_stays f b a s h = search (either (StandsAt z))
+  divided_stays : (f : ℤ → ℤ → ℤ) (b a : ℤ) (s : State) → HasIptr z s → HasIptr z (divided f b a s)
+  divided_stays f b a s h = search (either (HasIptr z))
 
-  sent_on_stays : (image : ImageValue) (channel : ℕ) (bytes : List ℕ) (s : State) → StandsAt z s → After (StandsAt z) (sent_on image channel bytes s)
-  sent_on_stays image channel bytes s h = search (after_either (StandsAt z))
+  sent_on_stays : (image : ImageValue) (channel : ℕ) (bytes : List ℕ) (s : State) → HasIptr z s → After (HasIptr z) (sent_on image channel bytes s)
+  sent_on_stays image channel bytes s h = search (after_either (HasIptr z))
 
   -- an instruction that has the Next edge alone goes on behind itself
-  effect_stays : (image : ImageValue) (instr : Instr) (s : State) → edges instr ≡ Next ∷ [] → StandsAt z s → After (StandsAt z) (effect image instr s)
+  effect_stays : (image : ImageValue) (instr : Instr) (s : State) → edges instr ≡ Next ∷ [] → HasIptr z s → After (HasIptr z) (effect image instr s)
   unfolding effect
   effect_stays image (Jump n) s e h = absurd cc
   effect_stays image (Ldlp n) s e h = h
-  effect_stays image (Ldnl n) s e h = search (bind (StandsAt z))
+  effect_stays image (Ldnl n) s e h = search (bind (HasIptr z))
   effect_stays image (Ldc n) s e h = h
-  effect_stays image (Ldnlp n) s e h = search (bind (StandsAt z))
-  effect_stays image (Ldl n) s e h = search (bind (StandsAt z))
-  effect_stays image (Adc n) s e h = search (bind (StandsAt z))
+  effect_stays image (Ldnlp n) s e h = search (bind (HasIptr z))
+  effect_stays image (Ldl n) s e h = search (bind (HasIptr z))
+  effect_stays image (Adc n) s e h = search (bind (HasIptr z))
   effect_stays image (Cj n) s e h = absurd cc
   effect_stays image (Ajw n) s e h = h
-  effect_stays image (Eqc n) s e h = search (bind (StandsAt z))
-  effect_stays image (Stl n) s e h = search (bind (StandsAt z), chain (StandsAt z) (StandsAt z), store_stays)
-  effect_stays image (Stnl n) s e h = search (bind (StandsAt z), chain (StandsAt z) (StandsAt z), store_stays)
-  effect_stays image Rev s e h = search (bind (StandsAt z))
-  effect_stays image Lb s e h = search (bind (StandsAt z), when (StandsAt z))
-  effect_stays image Bsub s e h = search (bind (StandsAt z))
-  effect_stays image Diff s e h = search (bind (StandsAt z))
-  effect_stays image Add s e h = search (bind (StandsAt z))
-  effect_stays image Input s e h = search (bind (StandsAt z), when (StandsAt z), descheduled_stays) depth 9
-  effect_stays image Prod s e h = search (bind (StandsAt z))
-  effect_stays image Gt s e h = search (bind (StandsAt z))
-  effect_stays image Wsub s e h = search (bind (StandsAt z))
-  effect_stays image Output s e h = search (bind (StandsAt z), chain (StandsAt z) (StandsAt z), when (StandsAt z), descheduled_stays, sent_on_stays) depth 9
-  effect_stays image Sub s e h = search (bind (StandsAt z))
+  effect_stays image (Eqc n) s e h = search (bind (HasIptr z))
+  effect_stays image (Stl n) s e h = search (bind (HasIptr z), chain (HasIptr z) (HasIptr z), store_stays)
+  effect_stays image (Stnl n) s e h = search (bind (HasIptr z), chain (HasIptr z) (HasIptr z), store_stays)
+  effect_stays image Rev s e h = search (bind (HasIptr z))
+  effect_stays image Lb s e h = search (bind (HasIptr z), when (HasIptr z))
+  effect_stays image Bsub s e h = search (bind (HasIptr z))
+  effect_stays image Diff s e h = search (bind (HasIptr z))
+  effect_stays image Add s e h = search (bind (HasIptr z))
+  effect_stays image Input s e h = search (bind (HasIptr z), when (HasIptr z), descheduled_stays) depth 9
+  effect_stays image Prod s e h = search (bind (HasIptr z))
+  effect_stays image Gt s e h = search (bind (HasIptr z))
+  effect_stays image Wsub s e h = search (bind (HasIptr z))
+  effect_stays image Output s e h = search (bind (HasIptr z), chain (HasIptr z) (HasIptr z), when (HasIptr z), descheduled_stays, sent_on_stays) depth 9
+  effect_stays image Sub s e h = search (bind (HasIptr z))
   effect_stays image Seterr s e h = h
-  effect_stays image Csub0 s e h = search (bind (StandsAt z))
+  effect_stays image Csub0 s e h = search (bind (HasIptr z))
   effect_stays image Stopp s e h = absurd cc
-  effect_stays image Rem s e h = search (bind (StandsAt z), divided_stays)
+  effect_stays image Rem s e h = search (bind (HasIptr z), divided_stays)
   effect_stays image Lend s e h = absurd cc
-  effect_stays image Div s e h = search (bind (StandsAt z), divided_stays)
-  effect_stays image BitNot s e h = search (bind (StandsAt z))
-  effect_stays image BitXor s e h = search (bind (StandsAt z))
-  effect_stays image Sb s e h = search (bind (StandsAt z), when (StandsAt z))
-  effect_stays image Shr s e h = search (bind (StandsAt z), when (StandsAt z))
-  effect_stays image Shl s e h = search (bind (StandsAt z), when (StandsAt z))
+  effect_stays image Div s e h = search (bind (HasIptr z), divided_stays)
+  effect_stays image BitNot s e h = search (bind (HasIptr z))
+  effect_stays image BitXor s e h = search (bind (HasIptr z))
+  effect_stays image Sb s e h = search (bind (HasIptr z), when (HasIptr z))
+  effect_stays image Shr s e h = search (bind (HasIptr z), when (HasIptr z))
+  effect_stays image Shl s e h = search (bind (HasIptr z), when (HasIptr z))
   effect_stays image Mint s e h = h
-  effect_stays image BitAnd s e h = search (bind (StandsAt z))
-  effect_stays image MoveBytes s e h = search (bind (StandsAt z), when (StandsAt z))
-  effect_stays image BitOr s e h = search (bind (StandsAt z))
-  effect_stays image Sum s e h = search (bind (StandsAt z))
-  effect_stays image Mul s e h = search (bind (StandsAt z))
+  effect_stays image BitAnd s e h = search (bind (HasIptr z))
+  effect_stays image MoveBytes s e h = search (bind (HasIptr z), when (HasIptr z))
+  effect_stays image BitOr s e h = search (bind (HasIptr z))
+  effect_stays image Sum s e h = search (bind (HasIptr z))
+  effect_stays image Mul s e h = search (bind (HasIptr z))
 
 pub some_is : (o : Option ℕ) → IsSome o → (to : ℕ) × (o ≡ Some to)
 some_is None is = absurd cc
@@ -133,8 +133,8 @@ address_is (negsuc n) to e = cc
 jump_goes : (image : ImageValue) (n : ℤ) (s t : State) → effect image (Jump n) s ≡ Some t → t.iptr ≡ s.iptr +ℤ n
 unfolding effect
 jump_goes image n s t is =
-    after_is (StandsAt (s.iptr +ℤ n)) _ t is
-    (chain (StandsAt (s.iptr +ℤ n)) (StandsAt s.iptr) (descheduled image s) _ (descheduled_stays s.iptr image s refl) λ s' e. ap (λ z. z +ℤ n) e)
+    after_is (HasIptr (s.iptr +ℤ n)) _ t is
+    (chain (HasIptr (s.iptr +ℤ n)) (HasIptr s.iptr) (descheduled image s) _ (descheduled_stays s.iptr image s refl) λ s' e. ap (λ z. z +ℤ n) e)
 
 -- a cj goes n bytes further, or not
 cj_goes : (image : ImageValue) (n : ℤ) (s t : State) → effect image (Cj n) s ≡ Some t → (t.iptr ≡ s.iptr) ⊎ (t.iptr ≡ s.iptr +ℤ n)
@@ -151,9 +151,9 @@ turn_goes : (image : ImageValue) (block index left a : ℕ) (s s' : State) → s
 unfolding Turned
 turn_goes image block index left a s s' is here =
     after_either (Turned s) (int_lt (pos 0) (signed left)) _ _
-    (chain (Turned s) (StandsAt s.iptr) (store image block (low_word (signed index +ℤ pos 1)) s') _ (store_stays s.iptr image block (low_word (signed index +ℤ pos 1)) s' here) λ s1 e1.
-    chain (Turned s) (StandsAt s.iptr) (descheduled image s1) _ (descheduled_stays s.iptr image s1 e1) λ s2 e2. inr (a, is, ap (λ z. z +ℤ (pos 0 -ℤ signed a)) e2))
-    (chain (Turned s) (StandsAt s.iptr) (descheduled image s') _ (descheduled_stays s.iptr image s' here) λ s2 e2. inl e2)
+    (chain (Turned s) (HasIptr s.iptr) (store image block (low_word (signed index +ℤ pos 1)) s') _ (store_stays s.iptr image block (low_word (signed index +ℤ pos 1)) s' here) λ s1 e1.
+    chain (Turned s) (HasIptr s.iptr) (descheduled image s1) _ (descheduled_stays s.iptr image s1 e1) λ s2 e2. inr (a, is, ap (λ z. z +ℤ (pos 0 -ℤ signed a)) e2))
+    (chain (Turned s) (HasIptr s.iptr) (descheduled image s') _ (descheduled_stays s.iptr image s' here) λ s2 e2. inl e2)
 
 lend_goes : (image : ImageValue) (s t : State) → effect image Lend s ≡ Some t → Turned s t
 unfolding effect
@@ -163,7 +163,7 @@ lend_goes image s t is =
     bind (Turned s) s.breg _ λ block.
     bind (Turned s) (load image s block) _ λ index.
     bind (Turned s) (load image s (words_on block (pos 1))) _ λ count.
-    chain (Turned s) (StandsAt s.iptr) (store image (words_on block (pos 1)) (low_word (signed count -ℤ pos 1)) s) _ (store_stays s.iptr image (words_on block (pos 1)) (low_word (signed count -ℤ pos 1)) s refl) λ s' here.
+    chain (Turned s) (HasIptr s.iptr) (store image (words_on block (pos 1)) (low_word (signed count -ℤ pos 1)) s) _ (store_stays s.iptr image (words_on block (pos 1)) (low_word (signed count -ℤ pos 1)) s refl) λ s' here.
     turn_goes image block index (low_word (signed count -ℤ pos 1)) a s s' a_is here)
 
 -- a stopp stops
@@ -201,7 +201,7 @@ module _ (image : ImageValue) (at next : ℕ) (s t : State) (here : s.iptr ≡ p
     edge = Next;
     to = next;
     goes = ap (λ es. if list_any (is_edge Next) es then Some next else None) only;
-    stands = after_is (StandsAt s.iptr) (effect image instr s) t is (effect_stays s.iptr image instr s only refl) ∙ here;
+    stands = after_is (HasIptr s.iptr) (effect image instr s) t is (effect_stays s.iptr image instr s only refl) ∙ here;
   }
 
   pub goes_along : (instr : Instr) → KeepsAround image.loops image.workspace at next instr → KnowsItsHead (ranges image.loops) at next instr s → effect image instr s ≡ Some t → t.stopped ≡ false → IsAlongAnEdge (ranges image.loops) at next instr t

@@ -11,7 +11,7 @@ use Rattle.tp_state.specs.declared.cell.Cell.{Cell}
 use Rattle.tp_state.specs.declared.state.State.{State}
 use Rattle.tp_state.specs.CellRules.{cell_at, is_free}
 use Rattle.tp_state.specs.Order.{kind_below, cell_below, IsBelow}
-use Rattle.tp_state.specs.Fits.{InRange, KindFits, CellFits, LoopsFit, StandsAt, FitsAmong, word_address}
+use Rattle.tp_state.specs.Fits.{InRange, KindFits, CellFits, LoopsFit, IsAtAddress, FitsAmong, word_address}
 use Rattle.tp_state.proofs.OrderLemmas.{int_low, int_high, nat_low, nat_high}
 use Rattle.tp_state.proofs.CellOrder.{BelowWays, below_ways}
 
@@ -93,7 +93,7 @@ loops_fit_above rows around cells cells' m below f = record {
 -- what fits a state fits every state above it
 pub fits_above : (image : ImageValue) (around : ℕ → Bool) (at : ℕ) (t u : State) (s : Machine) → IsBelow t u → FitsAmong image around at t s → FitsAmong image around at u s
 fits_above image around at t u s h f = record {
-  place = subst (λ x. StandsAt image at x s) h.wptr f.place;
+  place = subst (λ x. IsAtAddress image at x s) h.wptr f.place;
   phase = f.phase ∙ h.phase;
   registers = record {
     a = kind_fits_above image t.a u.a s.areg h.a f.registers.a;

@@ -14,8 +14,8 @@ use Rattle.tp_state.specs.declared.kind.Kind.TheVariants as kind
 use Rattle.tp_state.specs.declared.cell.Cell.{Cell}
 use Rattle.tp_state.specs.declared.cell.Cell.TheVariants as cell
 use Rattle.tp_state.specs.declared.state.State.{State}
-use Rattle.tp_state.specs.CellRules.{cell_at, is_free}
-use Rattle.tp_state.specs.Live.{IsInBlock}
+use Rattle.tp_state.specs.CellRules.{cell_at}
+use Rattle.tp_state.specs.Live.{AreInBlocks}
 
 -- the address of a workspace word
 abbrev pub word_address : ℕ → ℕ
@@ -78,12 +78,12 @@ pub record IsLive (cells : List Cell) (m : Memory) (l : ℕ) (row : LoopRow) : T
 -- the live control words are those of the blocks of some loops
 pub record LoopsFit (rows : List LoopRow) (around : ℕ → Bool) (cells : List Cell) (m : Memory) : Type 0 where
   pub live : (l : ℕ) (row : LoopRow) → around l ≡ true → slice_get rows l ≡ Some row → IsLive cells m l row
-  pub only : (x : ℕ) → is_free (cell_at cells x) ≡ false → (l : ℕ) × (around l ≡ true) × IsInBlock rows x l
+  pub only : AreInBlocks rows around cells
 
 -- ---- states
 
 -- Iptr is at an address, between instructions, and Wptr is the word that is known, with five words below it
-pub record StandsAt (image : ImageValue) (at x : ℕ) (s : Machine) : Type 0 where
+pub record IsAtAddress (image : ImageValue) (at x : ℕ) (s : Machine) : Type 0 where
   pub running : s.stopped ≡ false
   pub iptr : s.iptr ≡ pos at
   pub oreg : s.oreg ≡ 0
@@ -93,7 +93,7 @@ pub record StandsAt (image : ImageValue) (at x : ℕ) (s : Machine) : Type 0 whe
 
 -- the same among given loops
 pub record FitsAmong (image : ImageValue) (around : ℕ → Bool) (at : ℕ) (t : State) (s : Machine) : Type 0 where
-  pub place : StandsAt image at t.wptr s
+  pub place : IsAtAddress image at t.wptr s
   pub phase : s.phase ≡ t.phase
   pub registers : RegistersFit image t s
   pub words : WordsFit image.loops image.workspace t.cells s.memory

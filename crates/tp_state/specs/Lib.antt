@@ -1,9 +1,9 @@
+-- What a reader must believe: clauses of public calls cite it.
 pub mod EdgesTaken
 pub mod Answer
 pub mod Kinds
 pub mod CellRules
 pub mod Planes
-pub mod PlaneJoins
 pub mod Conditions
 pub mod Sound
 pub mod Rules
@@ -19,3 +19,5 @@ pub use Rattle.tp_flow.specs.Edges
 pub use Rattle.tp_flow.specs.AroundKept
 pub use Rattle.tp_step.specs.State
 pub use Rattle.tp_step.specs.Effects
+-- What only private steps cite.
+pub mod PlaneJoins

@@ -16,7 +16,11 @@ pub record NamesLoop (cells : List Cell) (l : ℕ) (row : LoopRow) : Type 0 wher
   pub index : cell_at cells row.control ≡ Index l
   pub count : cell_at cells (row.control + 1) ≡ Count l
 
+-- each live control word is in the block of one of some loops
+abbrev pub AreInBlocks : List LoopRow → (around : ℕ → Bool) → List Cell → Type 0
+AreInBlocks rows around cells = (x : ℕ) → is_free (cell_at cells x) ≡ false → (l : ℕ) × (around l ≡ true) × IsInBlock rows x l
+
 -- The live control words are those of the blocks of some loops.
 pub record LiveWordsAre (rows : List LoopRow) (around : ℕ → Bool) (cells : List Cell) : Type 0 where
   pub live : (l : ℕ) (row : LoopRow) → around l ≡ true → slice_get rows l ≡ Some row → NamesLoop cells l row
-  pub only : (x : ℕ) → is_free (cell_at cells x) ≡ false → (l : ℕ) × (around l ≡ true) × IsInBlock rows x l
+  pub only : AreInBlocks rows around cells

@@ -17,7 +17,7 @@ use Rattle.tp_flow.specs.declared.edge.Edge.{Edge}
 use Rattle.tp_flow.specs.declared.edge.Edge.TheVariants.{Taken, Out}
 use Rattle.tp_flow.specs.NestRanges.{ranges, number_ended_at}
 use Rattle.tp_step.specs.Numbers.{least_integer}
-use Rattle.tp_step.specs.Effects.{link0_output, link1_output, link0_input, has_move}
+use Rattle.tp_step.specs.Effects.{link0_output, link1_output, link0_input, most_trace_message, has_move}
 use Rattle.tp_state.specs.declared.kind.Kind.{Kind}
 use Rattle.tp_state.specs.declared.kind.Kind.TheVariants as kind
 use Rattle.tp_state.specs.declared.cell.Cell.{Cell}
@@ -207,7 +207,7 @@ channel address = signed address
 
 -- the words of a trace message of so many bytes: 1 to 64
 abbrev pub is_trace_length : ℕ → Bool
-is_trace_length n = (n % 4 == 0) && nat_le 4 n && nat_le n 256
+is_trace_length n = (n % 4 == 0) && nat_le 4 n && nat_le n most_trace_message
 
 -- one number of bytes
 abbrev pub is_one_length : ℤ × ℤ → Bool

@@ -9,9 +9,7 @@ use crate::fault::StateCode;
 use crate::kind::Kind;
 use crate::ranges::range;
 use tp_image::Image;
-
-/// The least number of words below Wptr.
-const FRAME_WORDS: i64 = 5;
+use tp_step::profile::FRAME_WORDS;
 
 /// A whole number below a bound.
 #[tactic(auto, unfolding(crate::specs::Kinds::below))]
@@ -107,7 +105,7 @@ fn frame_at(image: &Image, x: i64) -> Result<u32, StateCode>
     ensures inside { IfOk result (λ place. place < image.now.workspace) }
 {
     match u32::try_from(x) {
-        Ok(place) if FRAME_WORDS <= x && place < image.workspace => Ok(place),
+        Ok(place) if FRAME_WORDS <= place && place < image.workspace => Ok(place),
         _ => Err(StateCode::S6),
     }
 }

@@ -16,9 +16,7 @@ use crate::kind::Kind;
 use crate::places::word_on;
 use std::alloc::{AllocError, Global};
 use tp_image::Image;
-
-/// The words below Wptr that are undefined after a place to deschedule.
-const FRAME_WORDS: usize = 5;
+use tp_step::profile::FRAME_WORDS;
 
 /// What is known of a worker before an instruction.
 #[derive(Drop)]
@@ -255,8 +253,11 @@ impl State {
         ensures value { self.new ≡ given_way self.old }
         ensures kept { KeepsPlace self.old self.new }
     {
-        self.cells
-            .fill(self.wptr as usize - FRAME_WORDS, FRAME_WORDS, Cell::Undef);
+        self.cells.fill(
+            (self.wptr - FRAME_WORDS) as usize,
+            FRAME_WORDS as usize,
+            Cell::Undef,
+        );
         self.forget_registers();
     }
 
@@ -266,7 +267,7 @@ impl State {
         ensures { result ≡ are_free (below_wptr self.now) }
     {
         self.cells
-            .are_free(self.wptr as usize - FRAME_WORDS, FRAME_WORDS)
+            .are_free((self.wptr - FRAME_WORDS) as usize, FRAME_WORDS as usize)
     }
 
     /// The same, unless one of these words is a live control word.

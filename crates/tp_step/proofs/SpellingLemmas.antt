@@ -4,7 +4,7 @@ use Rattle.std.proofs.lemmas.Option.{same_Some}
 use Rattle.std.proofs.lemmas.List.{length-take}
 use Rattle.tp_image.specs.Image.{ImageValue}
 use Rattle.tp_decode.specs.Words.{signed}
-use Rattle.tp_decode.specs.Spelling.{function_of, digit_of, is_pfix, is_nfix, shifted, shifted_complement, spelled, StandsAt}
+use Rattle.tp_decode.specs.Spelling.{function_of, digit_of, is_pfix, is_nfix, shifted, shifted_complement, spelled, IsSpelledAt}
 use Rattle.tp_decode.specs.declared.instr.Instr.{Instr}
 use Rattle.tp_decode.specs.Table.{entry}
 use Rattle.tp_decode.proofs.TableLemmas.{entry_gives}
@@ -34,9 +34,9 @@ module _ (image : ImageValue) (s : State) (a b : ℕ) (running : s.stopped ≡ f
   last_step no_pfix no_nfix = rw (running, byte_here, no_pfix, no_nfix, place)
 
 -- these bytes stand in the code from a place on
-abbrev pub Stand : List ℕ → ℕ → List ℕ → Type 0
-Stand code a [] = Unit {0}
-Stand code a (b ∷ bytes) = (slice_get code a ≡ Some b) × Stand code (a + 1) bytes
+abbrev pub HasBytesAt : List ℕ → ℕ → List ℕ → Type 0
+HasBytesAt code a [] = Unit {0}
+HasBytesAt code a (b ∷ bytes) = (slice_get code a ≡ Some b) × HasBytesAt code (a + 1) bytes
 
 one_more : (image : ImageValue) (s t : State) (n : ℕ) → step image s ≡ Some t → steps image (suc n) s ≡ steps image n t
 unfolding steps
@@ -54,7 +54,7 @@ only_one image s = by_step (step image s)
 abbrev pub outcome : ImageValue → State → ℕ → ℕ × ℤ → Option State
 outcome image s next (f, n) = performed image f n (at s next 0)
 
-pub spelled_runs : (image : ImageValue) (bytes : List ℕ) (s : State) (a : ℕ) (fn : ℕ × ℤ) → s.stopped ≡ false → s.iptr ≡ pos a → Stand image.code a bytes → spelled s.oreg bytes ≡ Some fn → steps image (length bytes) s ≡ outcome image s (a + length bytes) fn
+pub spelled_runs : (image : ImageValue) (bytes : List ℕ) (s : State) (a : ℕ) (fn : ℕ × ℤ) → s.stopped ≡ false → s.iptr ≡ pos a → HasBytesAt image.code a bytes → spelled s.oreg bytes ≡ Some fn → steps image (length bytes) s ≡ outcome image s (a + length bytes) fn
 unfolding spelled
 spelled_runs image [] s a fn running place stand e = cc
 spelled_runs image (b ∷ []) s a fn running place stand e = by_test (is_pfix b) refl (is_nfix b) refl e
@@ -79,7 +79,7 @@ front [] a h = absurd (omega arith)
 front (b ∷ code) zero h = (b, refl, refl)
 front (b ∷ code) (suc a) h = front code a (omega arith)
 
-stand_range : (n : ℕ) (code : List ℕ) (a : ℕ) → a + n ≤ length code → Stand code a (take n (drop a code))
+stand_range : (n : ℕ) (code : List ℕ) (a : ℕ) → a + n ≤ length code → HasBytesAt code a (take n (drop a code))
 stand_range zero code a h = tt
 stand_range (suc n) code a h =
     let x = front code a (omega arith) in
@@ -91,7 +91,7 @@ length-range : (n : ℕ) (code : List ℕ) (a : ℕ) → a + n ≤ length code �
 length-range n code a h = rw (length-take, length-drop) (omega arith)
 
 -- a spelling that stands in the code runs through
-pub spelling_runs : (image : ImageValue) (s : State) (a next f : ℕ) (n : ℤ) → s.stopped ≡ false → s.oreg ≡ 0 → s.iptr ≡ pos a → StandsAt image.code a record { function = f; operand = n; next = next } → steps image (next - a) s ≡ performed image f n (record s { iptr = pos next })
+pub spelling_runs : (image : ImageValue) (s : State) (a next f : ℕ) (n : ℤ) → s.stopped ≡ false → s.oreg ≡ 0 → s.iptr ≡ pos a → IsSpelledAt image.code a record { function = f; operand = n; next = next } → steps image (next - a) s ≡ performed image f n (record s { iptr = pos next })
 spelling_runs image s a next f n running empty place stands =
     let bytes = slice_range image.code a next in
     let roomy : a + (next - a) ≤ length image.code = omega (arith, stands.forward, stands.within) in
@@ -106,7 +106,7 @@ same_oreg : (image : ImageValue) (instr : Instr) (s : State) (next : ℕ) → s.
 same_oreg image instr s next empty = ap (λ o. effect image instr (at s next o)) (sym empty)
 
 -- and so does an instruction
-pub instruction_runs : (image : ImageValue) (s : State) (a next : ℕ) (instr : Instr) → s.stopped ≡ false → s.oreg ≡ 0 → s.iptr ≡ pos a → StandsAt image.code a record { function = (entry instr).function; operand = (entry instr).operand; next = next } → steps image (next - a) s ≡ effect image instr (record s { iptr = pos next })
+pub instruction_runs : (image : ImageValue) (s : State) (a next : ℕ) (instr : Instr) → s.stopped ≡ false → s.oreg ≡ 0 → s.iptr ≡ pos a → IsSpelledAt image.code a record { function = (entry instr).function; operand = (entry instr).operand; next = next } → steps image (next - a) s ≡ effect image instr (record s { iptr = pos next })
 instruction_runs image s a next instr running empty place stands =
     let found = entry_gives instr in
     spelling_runs image s a next (entry instr).function (entry instr).operand running empty place stands

@@ -1,3 +1,4 @@
+-- What a reader must believe: clauses of public calls cite it.
 pub mod Maybe
 pub mod Numbers
 pub mod Memory

@@ -3,7 +3,7 @@
 pub mod memory;
 
 ghost use Rattle.std.specs.Prelude.{◌≡◌, ℕ, ◌+◌, ◌-◌, ◌*◌, ◌≤◌, ℤ, pos, List, length, [], ◌∷◌, true, false, Some, None, option_and_then};
-ghost use Rattle.tp_decode.specs.Spelling.{StandsAt};
+ghost use Rattle.tp_decode.specs.Spelling.{IsSpelledAt};
 ghost use Rattle.tp_decode.specs.Table.{entry};
 ghost use Rattle.tp_decode.specs.declared.instr.Instr.{Instr};
 ghost use Rattle.tp_image.specs.Image.{ImageValue, InRange};
@@ -40,7 +40,7 @@ pub fn steps_in_a_row()
 pub fn spelling_runs_through()
     ensures { (image : ImageValue) (s : State) (at next function : ℕ) (operand : ℤ) →
         s.stopped ≡ false → s.oreg ≡ 0 → s.iptr ≡ pos at →
-        StandsAt image.code at record { function = function; operand = operand; next = next } →
+        IsSpelledAt image.code at record { function = function; operand = operand; next = next } →
         steps image (next - at) s ≡ performed image function operand (record s { iptr = pos next }) }
 {}
 
@@ -49,7 +49,7 @@ pub fn spelling_runs_through()
 pub fn instruction_runs_through()
     ensures { (image : ImageValue) (s : State) (at next : ℕ) (instr : Instr) →
         s.stopped ≡ false → s.oreg ≡ 0 → s.iptr ≡ pos at →
-        StandsAt image.code at
+        IsSpelledAt image.code at
         record { function = (entry instr).function; operand = (entry instr).operand; next = next } →
         steps image (next - at) s ≡ effect image instr (record s { iptr = pos next }) }
 {}

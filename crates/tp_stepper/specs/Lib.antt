@@ -1,3 +1,4 @@
+-- What a reader must believe: clauses of public calls cite it.
 pub mod Places
 pub mod Stepping
 pub use Rattle.tp_tested.specs.Meaning

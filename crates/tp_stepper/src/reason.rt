@@ -6,26 +6,16 @@ use thiserror::Error;
 use tp_decode::Instr;
 use tp_image::Image;
 use tp_prefix::read_one;
+use tp_step::profile::{
+    FRAME_WORDS, LINK0_INPUT, LINK0_OUTPUT, LINK1_OUTPUT, MOVE_BYTES, TRACE_BYTES,
+};
 use tp_tested::{Phase, Registers};
-
-/// The channels of links 0 and 1 (IMS T414 data sheet, memory map).
-const LINK0_OUTPUT: u32 = 0x8000_0000;
-
-const LINK1_OUTPUT: u32 = 0x8000_0004;
-
-const LINK0_INPUT: u32 = 0x8000_0010;
 
 /// The bytes of a word.
 const WORD_BYTES: u32 = 4;
 
-/// The most bytes of a trace message.
-const TRACE_BYTES: u32 = 256;
-
-/// The most bytes of a move.
-const MOVE_BYTES: u32 = 2048;
-
 /// The bytes below Wptr that are undefined where a worker may give way.
-const BELOW: u32 = 20;
+const BELOW: u32 = FRAME_WORDS * WORD_BYTES;
 
 /// Why a worker is stuck.
 #[derive(Clone, Copy, Debug, PartialEq, Eq, Error)]

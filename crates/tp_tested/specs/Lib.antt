@@ -1,3 +1,4 @@
+-- What a reader must believe: clauses of public calls cite it.
 pub mod Answers
 pub mod Phases
 pub mod Meaning

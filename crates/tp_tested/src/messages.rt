@@ -12,23 +12,14 @@ ghost use Rattle.tp_tested.specs.Phases.{phase_number};
 
 use crate::machine::Machine;
 use crate::phase::Phase;
-use crate::places::{has_move, in_workspace};
+use crate::places::in_workspace;
 use crate::turn::Turn;
 use tp_image::Image;
 use tp_link::{DeviceFault, Link, LinkDevice, LinkFault, Links};
 use tp_machine::MEM_START;
-
-/// The channels of links 0 and 1 (IMS T414 data sheet, memory map).
-const LINK0_OUTPUT: u32 = 0x8000_0000;
-
-const LINK1_OUTPUT: u32 = 0x8000_0004;
-
-const LINK0_INPUT: u32 = 0x8000_0010;
-
-/// The most bytes of a trace message, and of what a move copies.
-const TRACE_BYTES: u32 = 256;
-
-const MOVE_BYTES: u32 = 2048;
+use tp_step::profile::{
+    LINK0_INPUT, LINK0_OUTPUT, LINK1_OUTPUT, MOVE_BYTES, TRACE_BYTES, has_move,
+};
 
 /// Whether these are the channel and the length of a trace message.
 fn is_trace(channel: u32, n: u32) -> bool

@@ -42,10 +42,3 @@ pub(crate) fn code_byte(image: &Image, at: i64) -> Option<u8>
         image.code.get(at as usize).copied()
     }
 }
-
-/// Whether the image's version has move.
-pub(crate) fn has_move(image: &Image) -> bool
-    ensures { result ≡ has_move image.now.version }
-{
-    image.version() == 2
-}

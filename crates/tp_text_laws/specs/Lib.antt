@@ -1,2 +1,3 @@
+-- What a reader must believe: clauses of public calls cite it.
 pub mod Conditions
 pub mod Sources

@@ -5,7 +5,8 @@ ghost use Rattle.tp_decode.specs.declared.instr.Instr.TheVariants.{Input, Output
 ghost use Rattle.tp_step.specs.Effects.{has_move};
 ghost use Rattle.tp_state.specs.Answer.{answered};
 ghost use Rattle.tp_state.specs.Conditions.{KeepsPlace, IsPlaced};
-ghost use Rattle.tp_state.specs.Rules.{rule, count_of, is_one_length, is_trace_length, words_to_send, phase_after, is_move_length, are_apart, moved, FollowsRule};
+ghost use Rattle.tp_state.specs.Kinds.{is_exactly};
+ghost use Rattle.tp_state.specs.Rules.{rule, channel as channel_of, count_of, is_one_length, is_trace_length, words_to_send, phase_after, is_move_length, are_apart, moved, FollowsRule};
 
 use crate::cell::Cell;
 use crate::fault::StateCode;
@@ -13,13 +14,14 @@ use crate::kind::Kind;
 use crate::places::message_in;
 use crate::state::State;
 use tp_image::Image;
+use tp_step::profile::{LINK0_INPUT, LINK0_OUTPUT, LINK1_OUTPUT, TRACE_BYTES, has_move};
 
-// The channels of links 0 and 1, as numbers.
-const LINK0_OUTPUT: i32 = i32::MIN;
-
-const LINK1_OUTPUT: i32 = i32::MIN + 4;
-
-const LINK0_INPUT: i32 = i32::MIN + 16;
+/// Whether what is known of a register is that it has this channel.
+fn is_channel(known: Kind, address: u32) -> bool
+    ensures { result ≡ is_exactly (channel_of address) known }
+{
+    known.is_exactly(address.cast_signed())
+}
 
 /// A number of bytes: 0 for one below 0.
 fn count_of(n: i32) -> u32
@@ -39,7 +41,7 @@ fn is_one_length(length: (i32, i32)) -> bool
 fn is_trace_length(bytes: u32) -> bool
     ensures { result ≡ is_trace_length bytes }
 {
-    bytes % 4 == 0 && 4 <= bytes && bytes <= 256
+    bytes % 4 == 0 && 4 <= bytes && bytes <= TRACE_BYTES
 }
 
 /// How many words a result or a trace message has, by its channel.
@@ -48,13 +50,13 @@ fn words_to_send(image: &Image, channel: Kind, length: (i32, i32)) -> Result<u32
     ensures { result ≡ words_to_send image.now channel length }
 {
     let bytes = count_of(length.0);
-    if channel.is_exactly(LINK0_OUTPUT) {
+    if is_channel(channel, LINK0_OUTPUT) {
         if is_one_length(length) && bytes == 4 * image.result {
             Ok(image.result)
         } else {
             Err(StateCode::S7)
         }
-    } else if channel.is_exactly(LINK1_OUTPUT) {
+    } else if is_channel(channel, LINK1_OUTPUT) {
         if is_one_length(length) && is_trace_length(bytes) {
             Ok(bytes / 4)
         } else {
@@ -70,7 +72,7 @@ fn words_to_send(image: &Image, channel: Kind, length: (i32, i32)) -> Result<u32
 fn phase_after(channel: Kind, phase: u8) -> Result<u8, StateCode>
     ensures { result ≡ phase_after channel phase }
 {
-    if channel.is_exactly(LINK1_OUTPUT) {
+    if is_channel(channel, LINK1_OUTPUT) {
         Ok(phase)
     } else if phase == 1 {
         Ok(2)
@@ -111,7 +113,7 @@ impl State {
         self.a.number()?;
         self.b.number()?;
         let x = self.c.one_word()?;
-        if !self.b.is_exactly(LINK0_INPUT) {
+        if !is_channel(self.b, LINK0_INPUT) {
             return Err(StateCode::S8);
         }
         if !self.a.is_exactly((4 * image.packet) as i32) {
@@ -205,11 +207,4 @@ impl State {
         self.forget_registers();
         Ok(())
     }
-}
-
-/// Whether the image's version has move.
-fn has_move(image: &Image) -> bool
-    ensures { result ≡ has_move image.now.version }
-{
-    image.version() == 2
 }

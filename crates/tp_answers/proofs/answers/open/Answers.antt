@@ -1,6 +1,6 @@
 use Rattle.std.proofs.Common.{◌≡◌, ◌≤◌, ◌<◌, false, length, arith}
 use Rattle.tp_answers.specs.Sessions.{most_sessions}
-use Rattle.tp_answers.specs.Open.{sessions_of}
+use Rattle.tp_answers.specs.OpenSessions.{sessions_of}
 use Rattle.tp_answers.specs.Answers.{is_full}
 use Rattle.tp_answers.proofs.SessionLemmas.{full_none, full_some, full_room}
 use Rattle.tp_answers.proofs.AnswerLemmas.{goes_with, image_full, image_judged}

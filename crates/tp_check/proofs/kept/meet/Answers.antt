@@ -2,7 +2,7 @@ use Rattle.std.proofs.Common.{refl, sym, ap, ◌∙◌, subst}
 use Rattle.std.proofs.lemmas.Option.{same_Some}
 use Rattle.tp_state.specs.Order.{IsBelow, join}
 use Rattle.tp_state.specs.Answer.{answered}
-use Rattle.tp_check.specs.Passes.{placed}
+use Rattle.tp_check.specs.Passes.{with_place}
 use Rattle.tp_check.proofs.Heights.{HasWords, join_moves}
 use Rattle.tp_check.proofs.NumberedLemmas.{meets_agreeing, meets_so}
 use Rattle.tp_check.proofs.kept.meet.Goals as goal
@@ -31,4 +31,4 @@ returns-in-Ok-clause-meets c s get =
 pub returns-in-Err-clause-meets : goal.returns-in-Err-clause-meets
 returns-in-Err-clause-meets c s get =
     let it = c.join.ensures.value s get in
-    record { state = it.joined; gives = ap (placed c.args.to) (sym it.gives ∙ ap (λ r. answered r it.joined) c.in-Err.is); moves = tt; is = tt }
+    record { state = it.joined; gives = ap (with_place c.args.to) (sym it.gives ∙ ap (λ r. answered r it.joined) c.in-Err.is); moves = tt; is = tt }

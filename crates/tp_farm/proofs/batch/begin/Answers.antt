@@ -1,18 +1,18 @@
 use Rattle.std.proofs.Common.{map, length, replicate, sym, ap, ◌∙◌}
 use Rattle.std.proofs.lemmas.List.{length-map}
-use Rattle.tp_collect.specs.Collected.{batch_of_parts}
+use Rattle.tp_collect.specs.Collected.{job_of_parts}
 use Rattle.tp_collect.specs.Collecting.{collection, vacant}
-use Rattle.tp_farm.specs.Jobs.{batch_of}
+use Rattle.tp_farm.specs.Jobs.{value_of_job}
 use Rattle.tp_farm.proofs.Beginning.{begun}
 use Rattle.tp_farm.proofs.batch.begin.Goals as goal
 
 pub returns-in-Ok-clause-begun : goal.returns-in-Ok-clause-begun
-returns-in-Ok-clause-begun c = begun c.args.members (batch_of c.args.job.now) (sym c.job_fault.ensures ∙ c.in_default.is)
+returns-in-Ok-clause-begun c = begun c.args.members (value_of_job c.args.job.now) (sym c.job_fault.ensures ∙ c.in_default.is)
 
 pub returns-in-Ok-clause-collector : goal.returns-in-Ok-clause-collector
 returns-in-Ok-clause-collector c =
     let job = c.args.job.now in
     c.in-Ok.ensures
-    ∙ ap (λ image. collection (batch_of_parts job.batch image (map (λ p. p.items) job.packets.now))
+    ∙ ap (λ image. collection (job_of_parts job.batch image (map (λ p. p.items) job.packets.now))
     (replicate (length job.packets.now) vacant)) c.image.ensures
-    ∙ ap (λ n. collection (batch_of job) (replicate n vacant)) (sym (length-map job.packets.now (λ p. p.items)))
+    ∙ ap (λ n. collection (value_of_job job) (replicate n vacant)) (sym (length-map job.packets.now (λ p. p.items)))

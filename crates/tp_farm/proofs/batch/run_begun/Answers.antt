@@ -2,7 +2,7 @@ use Rattle.std.proofs.Common.{length, ap, subst, arith}
 use Rattle.std.proofs.lemmas.Slice.Zip.{AllZip-long}
 use Rattle.tp_farm.specs.Reserved.{HasRoom}
 use Rattle.tp_board.specs.Streams.{IsHandOf, hand_progress}
-use Rattle.tp_farm.specs.Working.{work_on}
+use Rattle.tp_farm.specs.Works.{work_on}
 use Rattle.tp_farm.proofs.Feeding.{fresh_hands, fresh_feeder}
 use Rattle.tp_farm.proofs.Settled.{to_settle}
 use Rattle.tp_farm.proofs.batch.run_begun.Goals as goal

@@ -5,7 +5,8 @@ use Rattle.std.specs.List.{AllZip}
 use Rattle.tp_farm.specs.Reserved.{HasRoom}
 use Rattle.tp_board.specs.Boards.{IsSeatOf}
 use Rattle.tp_board.specs.Sources.{seat_progress}
-use Rattle.tp_farm.specs.Working.{HasWorked, work_on}
+use Rattle.tp_farm.specs.Working.{HasWorked}
+use Rattle.tp_farm.specs.Works.{work_on}
 use Rattle.tp_farm.proofs.Settled.{to_settle}
 use Rattle.tp_farm.proofs.over_board.run_begun.Goals as goal
 

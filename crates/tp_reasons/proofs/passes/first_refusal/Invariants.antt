@@ -1,6 +1,6 @@
 use Rattle.std.proofs.Common.{length}
 use Rattle.tp_check.specs.Tables.{table_of, HasPlacedStates}
-use Rattle.tp_check.specs.UnderWay.{HasPlaces}
+use Rattle.tp_check.specs.Rising.{HasPlaces}
 use Rattle.tp_reasons.proofs.Passing.{IsBefore}
 use Rattle.tp_reasons.proofs.passes.first_refusal.Given as goal
 

@@ -3,7 +3,7 @@ use Rattle.tp_flow.specs.NestRanges.{ranges}
 use Rattle.tp_flow.specs.Edges.{target}
 use Rattle.tp_check.specs.Tables.{table_of}
 use Rattle.tp_check.specs.Passes.{enter}
-use Rattle.tp_check.specs.UnderWay.{Gives}
+use Rattle.tp_check.specs.Rising.{Gives}
 use Rattle.tp_reasons.proofs.Taking.{none_goes, outcome_goes, refused_goes, nowhere_goes, entered_placed}
 use Rattle.tp_reasons.proofs.passes.take.Goals as goal
 

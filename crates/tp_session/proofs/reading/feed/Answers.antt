@@ -2,7 +2,7 @@ use Rattle.std.proofs.Common.{◌≡◌, ◌++◌, ◌∷◌, [], refl, sym, ap,
 use Rattle.std.proofs.lemmas.Result.{err_from_is_err_and}
 use Rattle.std.proofs.lemmas.List.{append-nil}
 use Rattle.tp_session.specs.declared.fault.ServeFault.TheVariants.{Memory}
-use Rattle.tp_session.specs.Stand.{number_after}
+use Rattle.tp_session.specs.Points.{number_after}
 use Rattle.tp_session.proofs.ReadingLemmas.{goes_same, goes_plain, fails_wanting, fails_more}
 use Rattle.tp_session.proofs.MemberLemmas.{still_members}
 use Rattle.tp_session.proofs.reading.feed.Goals as goal
@@ -13,7 +13,7 @@ loop-line-init g c = record {
   as_many = refl;
   front = [];
   parted = refl;
-  goes = λ trace begun s at. record { stand = s; taken_is = sym (append-nil s.taken); is = at };
+  goes = λ trace begun s at. record { point = s; taken_is = sym (append-nil s.taken); is = at };
 }
 
 pub returns-in_err-take_plain-clause-err : goal.returns-in_err-take_plain-clause-err
@@ -23,9 +23,9 @@ returns-in_err-take_plain-clause-err g c trace begun s at =
     let line = c.in-Some.line.now in
     let behind = c.in-Some.behind.now in
     let p = err_from_is_err_and c.from_residual.result c.from_residual.ensures.1 in
-    rw (p.1, p.2) (fails_more trace s.taken so_far.stand.taken was.front line (10 ∷ behind) c.args.bytes.now begun
+    rw (p.1, p.2) (fails_more trace s.taken so_far.point.taken was.front line (10 ∷ behind) c.args.bytes.now begun
     (g.W.Write.contents c.loop-line.writer) Memory so_far.taken_is (was.parted ∙ ap (λ l. was.front ++ l) c.in-Some.ensures.1)
-    (fails_wanting _ _ _ _ _ _ so_far.stand so_far.is line Memory tt))
+    (fails_wanting _ _ _ _ _ _ so_far.point so_far.is line Memory tt))
 
 pub returns-in_err-end_line-clause-err : goal.returns-in_err-end_line-clause-err
 returns-in_err-end_line-clause-err g c trace begun s at =
@@ -34,15 +34,15 @@ returns-in_err-end_line-clause-err g c trace begun s at =
     let line = c.in-Some.line.now in
     let behind = c.in-Some.behind.now in
     let after =
-    goes_plain _ _ _ _ _ _ so_far.stand so_far.is c.take_plain.new.progress line c.in-Some.ensures.0
-    (c.in_ok-take_plain.ensures.kept (number_after 1 so_far.stand.lines) so_far.stand.line so_far.is.keeps) in
+    goes_plain _ _ _ _ _ _ so_far.point so_far.is c.take_plain.new.progress line c.in-Some.ensures.0
+    (c.in_ok-take_plain.ensures.kept (number_after 1 so_far.point.lines) so_far.point.line so_far.is.keeps) in
     let p = err_from_is_err_and c.from_residual-in_err-end_line.result c.from_residual-in_err-end_line.ensures.1 in
     rw (p.1, p.2) (
-    fails_more trace s.taken after.stand.taken (was.front ++ line) (10 ∷ []) behind c.args.bytes.now begun
+    fails_more trace s.taken after.point.taken (was.front ++ line) (10 ∷ []) behind c.args.bytes.now begun
     (g.W.Write.contents c.end_line.new.writer) _ (after.taken_is ∙ ap (λ l. l ++ line) so_far.taken_is
     ∙ append_assoc s.taken was.front line)
     (was.parted ∙ ap (λ l. was.front ++ l) c.in-Some.ensures.1 ∙ sym (append_assoc was.front line (10 ∷ behind)))
-    (c.in_err-end_line.ensures.err trace begun after.stand after.is)
+    (c.in_err-end_line.ensures.err trace begun after.point after.is)
     )
 
 pub loop-line-preserved : goal.loop-line-preserved
@@ -60,11 +60,11 @@ loop-line-preserved g c =
       goes = λ trace begun s at.
           let so_far = was.goes trace begun s at in
           let after =
-          goes_plain _ _ _ _ _ _ so_far.stand so_far.is c.take_plain.new.progress line c.in-Some.ensures.0
-          (c.in_ok-take_plain.ensures.kept (number_after 1 so_far.stand.lines) so_far.stand.line so_far.is.keeps) in
+          goes_plain _ _ _ _ _ _ so_far.point so_far.is c.take_plain.new.progress line c.in-Some.ensures.0
+          (c.in_ok-take_plain.ensures.kept (number_after 1 so_far.point.lines) so_far.point.line so_far.is.keeps) in
           let taken = after.taken_is ∙ ap (λ l. l ++ line) so_far.taken_is ∙ append_assoc s.taken was.front line in
           goes_same _ trace begun _ _ _ _ _ (ap (λ l. l ++ 10 ∷ []) taken ∙ append_assoc s.taken (was.front ++ line) (10 ∷ []))
-          (c.in_ok-end_line.ensures.ok trace begun after.stand after.is);
+          (c.in_ok-end_line.ensures.ok trace begun after.point after.is);
     }
 
 pub returns-in_err-take_plain-2-clause-err : goal.returns-in_err-take_plain-2-clause-err
@@ -74,9 +74,9 @@ returns-in_err-take_plain-2-clause-err g c trace begun s at =
     let rest = c.loop-line.rest.now in
     let all : c.args.bytes.now ≡ was.front ++ (rest ++ []) = was.parted ∙ ap (λ l. was.front ++ l) (sym (append-nil rest)) in
     let p = err_from_is_err_and c.from_residual-in_err-take_plain-2.result c.from_residual-in_err-take_plain-2.ensures.1 in
-    rw (p.1, p.2) (fails_more trace s.taken so_far.stand.taken was.front rest [] c.args.bytes.now begun
+    rw (p.1, p.2) (fails_more trace s.taken so_far.point.taken was.front rest [] c.args.bytes.now begun
     (g.W.Write.contents c.loop-line.writer) Memory so_far.taken_is all
-    (fails_wanting _ _ _ _ _ _ so_far.stand so_far.is rest Memory tt))
+    (fails_wanting _ _ _ _ _ _ so_far.point so_far.is rest Memory tt))
 
 pub returns-clause-ok : goal.returns-clause-ok
 returns-clause-ok g c trace begun s at =
@@ -84,7 +84,7 @@ returns-clause-ok g c trace begun s at =
     let so_far = was.goes trace begun s at in
     let rest = c.loop-line.rest.now in
     let after =
-    goes_plain _ _ _ _ _ _ so_far.stand so_far.is c.take_plain-2.new.progress rest c.in_default.ensures
-    (c.in_ok-take_plain-2.ensures.kept (number_after 1 so_far.stand.lines) so_far.stand.line so_far.is.keeps) in
+    goes_plain _ _ _ _ _ _ so_far.point so_far.is c.take_plain-2.new.progress rest c.in_default.ensures
+    (c.in_ok-take_plain-2.ensures.kept (number_after 1 so_far.point.lines) so_far.point.line so_far.is.keeps) in
     goes_same _ trace begun _ _ _ _ _ (ap (λ l. l ++ rest) so_far.taken_is ∙ append_assoc s.taken was.front rest
     ∙ ap (λ l. s.taken ++ l) (sym was.parted)) after

@@ -1,6 +1,6 @@
 use Rattle.std.proofs.Common.{◌≡◌, ◌++◌, ℕ, List, length}
 use Rattle.tp_session.specs.Fitness.{HasMembers, AreAsMany}
-use Rattle.tp_session.specs.Stand.{AtEachStand, GoesOn}
+use Rattle.tp_session.specs.Points.{AtEachPoint, GoesOn}
 use Rattle.tp_session.proofs.reading.feed.Given as goal
 
 -- the lines that the bytes so far end are answered, and all members are there
@@ -10,7 +10,7 @@ invariant-loop-line g l = record {
   as_many : AreAsMany l.fn.service.links.items l.service.links.items;
   front : List ℕ;
   parted : l.bytes ≡ front ++ l.rest;
-  goes : AtEachStand g.D.LinkDevice.state l.fn.progress l.fn.service (g.W.Write.contents l.fn.writer) (λ trace begun s.
+  goes : AtEachPoint g.D.LinkDevice.state l.fn.progress l.fn.service (g.W.Write.contents l.fn.writer) (λ trace begun s.
       GoesOn g.D.LinkDevice.state trace begun l.progress l.service (g.W.Write.contents l.writer) (s.taken ++ front));
 }
 

@@ -1,7 +1,7 @@
 use Rattle.std.proofs.Common.{◌≡◌, ◌++◌, length, map, refl, ap, ◌∙◌, append_assoc}
 use Rattle.tp_answers.specs.Told.{done_line}
 use Rattle.tp_answers.specs.Entries.{entries_told}
-use Rattle.tp_answers.specs.Open.{session_of}
+use Rattle.tp_answers.specs.OpenSessions.{session_of}
 use Rattle.tp_answers.proofs.EntryLemmas.{answers_all}
 use Rattle.tp_session.proofs.RunLemmas.{may_begin, whole_packets, kept_whole, kept_few, kept_count, of_kept}
 use Rattle.tp_session.proofs.running.run_session.Goals as goal

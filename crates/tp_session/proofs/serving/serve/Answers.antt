@@ -1,6 +1,6 @@
 use Rattle.std.proofs.Common.{◌<◌, length, ap, ◌∙◌, refl, arith}
 use Rattle.std.proofs.lemmas.Result.{err_from_is_err_and}
-use Rattle.tp_answers.specs.Answers.{standing}
+use Rattle.tp_answers.specs.Answers.{service_state}
 use Rattle.tp_session.proofs.ServeLemmas.{SoFar, if_known, none_read, serves_read, serves_fed, short_read, so_far_more}
 use Rattle.tp_session.proofs.ServeLemmas.{nothing_taken, ends_by}
 use Rattle.tp_session.proofs.MemberLemmas.{still_members, members_of}
@@ -13,7 +13,7 @@ loop-init g c = record {
   members = members_of c.args.farm _ refl;
   as_many = refl;
   so_far =
-      λ fit. nothing_taken _ _ _ _ _ _ c.begin-progress.ensures (ap (λ sessions. standing sessions 0) c.new.ensures, refl) fit;
+      λ fit. nothing_taken _ _ _ _ _ _ c.begin-progress.ensures (ap (λ sessions. service_state sessions 0) c.new.ensures, refl) fit;
 }
 
 pub returns-in_default : goal.returns-in_default
@@ -29,8 +29,8 @@ returns-then-count-eq0 g c fit =
     if_known (λ input. SoFar g.D.LinkDevice.state c.args.farm.trace input (g.R.Read.remaining c.loop.reader)
     (g.W.Write.contents c.args.writer.now) (g.W.Write.contents c.loop.writer) c.loop.progress c.loop.service) _
     (c.loop.invariant.so_far fit) (λ input so_far. ends_by _ _ input _ _ _ _ _ _ _ _ so_far none
-    (c.in-Ok.ensures.bytes.1 c.if-count-eq0.true some) (c.finish.ensures.ok _ _ so_far.stand so_far.is)
-    (c.finish.ensures.err _ _ so_far.stand so_far.is))
+    (c.in-Ok.ensures.bytes.1 c.if-count-eq0.true some) (c.finish.ensures.ok _ _ so_far.point so_far.is)
+    (c.finish.ensures.err _ _ so_far.point so_far.is))
 
 pub loop-preserved : goal.loop-preserved
 loop-preserved g c = record {
@@ -42,7 +42,7 @@ loop-preserved g c = record {
       λ fit. if_known (λ input. SoFar g.D.LinkDevice.state c.args.farm.trace input (g.R.Read.remaining c.loop.reader)
       (g.W.Write.contents c.args.writer.now) (g.W.Write.contents c.loop.writer) c.loop.progress c.loop.service) _
       (c.loop.invariant.so_far fit) (λ input so_far. so_far_more _ _ input _ _ _ _ _ _ _ _ _ _ so_far c.in-Ok.ensures.bytes.0
-      (c.in_ok-feed.ensures.ok _ _ so_far.stand so_far.is));
+      (c.in_ok-feed.ensures.ok _ _ so_far.point so_far.is));
 }
 
 pub returns-in_err-feed : goal.returns-in_err-feed
@@ -52,4 +52,4 @@ returns-in_err-feed g c fit =
     (g.W.Write.contents c.args.writer.now) (g.W.Write.contents c.loop.writer) c.loop.progress c.loop.service) _
     (c.loop.invariant.so_far fit) (λ input so_far. serves_fed _ _ input _ _ _ _ _ _ _ _ _ so_far c.in-Ok.ensures.bytes.0
     (short_read _ _ (omega (arith, c.read.auto.buf, c.loop.invariant.room)))
-    (c.in_err-feed.ensures.err _ _ so_far.stand so_far.is)))
+    (c.in_err-feed.ensures.err _ _ so_far.point so_far.is)))

@@ -1,5 +1,5 @@
 use Rattle.std.proofs.Common.{refl}
-use Rattle.tp_answers.specs.Open.{session_of}
+use Rattle.tp_answers.specs.OpenSessions.{session_of}
 use Rattle.tp_answers.proofs.SessionLemmas.{at_same}
 use Rattle.tp_answers.proofs.sessions.Sessions.at.Goals as goal
 

@@ -1,5 +1,5 @@
 use Rattle.std.proofs.Common.{refl, ap, slice_set, ◌∙◌}
-use Rattle.tp_answers.specs.Open.{session_of, sessions_of}
+use Rattle.tp_answers.specs.OpenSessions.{session_of, sessions_of}
 use Rattle.tp_answers.proofs.SessionLemmas.{set_same, at_same, forgot}
 use Rattle.tp_answers.proofs.sessions.Sessions.forget.Goals as goal
 

@@ -1,6 +1,6 @@
 use Rattle.std.proofs.Common.{◌≡◌, ◌*◌, refl, ap, slice_set, ◌∙◌, ◌<◌, length}
 use Rattle.std.proofs.lemmas.Result.{on_ok_weaker}
-use Rattle.tp_answers.specs.Open.{session_of, sessions_of}
+use Rattle.tp_answers.specs.OpenSessions.{session_of, sessions_of}
 use Rattle.tp_answers.proofs.SessionLemmas.{set_same, at_same, some_at, kept_more, few_kept, at_some}
 use Rattle.tp_answers.proofs.sessions.Sessions.keep.Goals as goal
 

@@ -1,5 +1,5 @@
 use Rattle.std.proofs.Common.{rules, refl, ap, map, ◌∙◌}
-use Rattle.tp_answers.specs.Open.{session_of}
+use Rattle.tp_answers.specs.OpenSessions.{session_of}
 use Rattle.tp_answers.proofs.SessionLemmas.{remove_same}
 use Rattle.tp_answers.proofs.sessions.Sessions.remove.Goals as goal
 

@@ -1,6 +1,6 @@
 use Rattle.std.proofs.Common.{ap, sym, refl, ◌∙◌}
 use Rattle.tp_answers.specs.Sessions.{with_session}
-use Rattle.tp_answers.specs.Open.{session_of, sessions_of}
+use Rattle.tp_answers.specs.OpenSessions.{session_of, sessions_of}
 use Rattle.tp_answers.proofs.SessionLemmas.{placed, set_same}
 use Rattle.tp_answers.proofs.sessions.Sessions.set.Goals as goal
 

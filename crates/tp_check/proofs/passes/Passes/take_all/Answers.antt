@@ -1,6 +1,6 @@
 use Rattle.std.proofs.Common.{refl, sym, subst, arith}
 use Rattle.tp_check.specs.Joining.{joins_at}
-use Rattle.tp_check.specs.UnderWay.{Moves}
+use Rattle.tp_check.specs.Rising.{Moves}
 use Rattle.tp_check.proofs.Moving.{moves_none, moves_more, moves_no_more}
 use Rattle.tp_check.proofs.Passing.{may_be_taken, no_instruction}
 use Rattle.tp_check.proofs.Loading.{loads_word}

@@ -1,6 +1,7 @@
 use Rattle.tp_check.specs.Tables.{Table}
 use Rattle.tp_check.specs.Joining.{joins_at}
-use Rattle.tp_check.specs.UnderWay.{IsBefore, Moves}
+use Rattle.tp_check.specs.UnderWay.{IsBefore}
+use Rattle.tp_check.specs.Rising.{Moves}
 use Rattle.tp_check.proofs.Verdict.{Comes}
 use Rattle.tp_check.proofs.passes.Passes.take_all.Given as goal
 

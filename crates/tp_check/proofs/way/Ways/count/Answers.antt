@@ -3,7 +3,7 @@ use Rattle.std.proofs.lemmas.List.{drop_all}
 use Rattle.tp_flow.specs.declared.edge.Edge.TheVariants.{Next}
 use Rattle.tp_flow.specs.Edges.{target}
 use Rattle.tp_check.specs.Tables.{asked}
-use Rattle.tp_check.specs.Passes.{from}
+use Rattle.tp_check.specs.Passes.{edges_from}
 use Rattle.tp_check.specs.Joining.{TellWays}
 use Rattle.tp_check.proofs.Counting.{next_nowhere, next_there}
 use Rattle.tp_check.proofs.way.Ways.count.Goals as goal
@@ -30,8 +30,8 @@ loop-edge-preserved c =
 
 pub returns-clause-tells : goal.returns-clause-tells
 returns-clause-tells c cuts rest among before =
-    subst (λ es. TellWays c.args.image.now cuts (from c.args.place es ++ rest) c.loop-edge.self-inside.ways.items) none
-    (c.loop-edge.invariant.tells cuts rest among (subst (TellWays c.args.image.now cuts (from c.args.place (asked c.args.place.instr) ++ rest)) (sym c.self.view_is) before))
+    subst (λ es. TellWays c.args.image.now cuts (edges_from c.args.place es ++ rest) c.loop-edge.self-inside.ways.items) none
+    (c.loop-edge.invariant.tells cuts rest among (subst (TellWays c.args.image.now cuts (edges_from c.args.place (asked c.args.place.instr) ++ rest)) (sym c.self.view_is) before))
   where
     none : drop c.loop-edge.edge-index (asked c.args.place.instr) ≡ []
     none = drop_all c.loop-edge.edge-index (asked c.args.place.instr) (subst (λ es. length es ≤ c.loop-edge.edge-index) c.asked-edges.ensures (let e = c.loop-edge-test.false in omega (arith, e)))

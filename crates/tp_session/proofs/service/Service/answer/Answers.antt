@@ -6,5 +6,5 @@ returns-in_ok-open-in-Image-clause-told g c fit = rw c.in-Image.is (c.in_ok-open
 pub returns-in_ok-keep-in-Packet-clause-told : goal.returns-in_ok-keep-in-Packet-clause-told
 returns-in_ok-keep-in-Packet-clause-told g c fit = rw c.in-Packet.is (c.in_ok-keep-in-Packet.ensures c.args.self.now.batches)
 
-pub returns-in_ok-close-in-Close-clause-told : goal.returns-in_ok-close-in-Close-clause-told
-returns-in_ok-close-in-Close-clause-told g c fit = rw c.in-Close.is (c.in_ok-close-in-Close.ensures c.args.self.now.batches)
+pub returns-in_ok-drop_session-in-Drop-clause-told : goal.returns-in_ok-drop_session-in-Drop-clause-told
+returns-in_ok-drop_session-in-Drop-clause-told g c fit = rw c.in-Drop.is (c.in_ok-drop_session-in-Drop.ensures c.args.self.now.batches)

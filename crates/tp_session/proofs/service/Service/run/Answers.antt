@@ -1,9 +1,9 @@
 use Rattle.std.proofs.Common.{sym, ◌∙◌}
 use Rattle.std.proofs.lemmas.Result.{on_ok_weaker}
 use Rattle.tp_answers.specs.Sessions.{without_packets}
-use Rattle.tp_answers.specs.Open.{sessions_of}
+use Rattle.tp_answers.specs.OpenSessions.{sessions_of}
 use Rattle.tp_answers.proofs.SessionLemmas.{placed, absent}
-use Rattle.tp_session.specs.Standing.{standing_of}
+use Rattle.tp_session.specs.Services.{state_of_service}
 use Rattle.tp_session.proofs.ServiceLemmas.{ran, run_of_none}
 use Rattle.tp_session.proofs.service.Service.run.Goals as goal
 
@@ -12,7 +12,7 @@ returns-in_default-clause-told g c fit =
     let sessions = sessions_of c.args.self.now.sessions in (
       _,
       c.in_ok-refusal.ensures,
-      run_of_none _ c.args.self.now.trace c.args.number (standing_of c.args.self.now)
+      run_of_none _ c.args.self.now.trace c.args.number (state_of_service c.args.self.now)
           (absent c.args.name.now.items sessions (sym c.find.ensures ∙ c.in_default.is)),
     )
 

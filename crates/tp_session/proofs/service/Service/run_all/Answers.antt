@@ -3,7 +3,7 @@ use Rattle.std.proofs.Common.{add-one, arith}
 use Rattle.tp_answers.specs.Sessions.{without_packets}
 use Rattle.tp_answers.specs.Told.{of_line, GoesOnWith}
 use Rattle.tp_answers.specs.Answers.{batches_more, IsRun, AreRuns}
-use Rattle.tp_answers.specs.Open.{sessions_of}
+use Rattle.tp_answers.specs.OpenSessions.{sessions_of}
 use Rattle.tp_session.proofs.ServiceLemmas.{there, runs_on, partly, partly_at, partly_more, taken_more, counted_more}
 use Rattle.tp_session.proofs.service.Service.run_all.Goals as goal
 

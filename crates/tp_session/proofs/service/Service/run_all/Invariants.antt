@@ -2,9 +2,9 @@ use Rattle.std.proofs.Common.{◌≡◌, ◌++◌, length, take, drop, map}
 use Rattle.tp_answers.specs.Sessions.{without_packets}
 use Rattle.tp_answers.specs.Told.{GoesOnWith}
 use Rattle.tp_answers.specs.Answers.{AreRuns, batches_more}
-use Rattle.tp_answers.specs.Open.{sessions_of}
+use Rattle.tp_answers.specs.OpenSessions.{sessions_of}
 use Rattle.tp_session.specs.Fitness.{AreFit}
-use Rattle.tp_session.specs.Standing.{StaysOn}
+use Rattle.tp_session.specs.Services.{StaysOn}
 use Rattle.tp_session.proofs.service.Service.run_all.Given as goal
 
 -- so many sessions were run, and their packets are forgotten

@@ -1,6 +1,6 @@
 use Rattle.std.proofs.Common.{◌<◌, length, ◌∙◌, arith}
 use Rattle.tp_check.proofs.NumberedLemmas.{inside_of, has_state}
-use Rattle.tp_check.proofs.kept.Kept.has.Goals as goal
+use Rattle.tp_check.proofs.kept.KeptStates.has.Goals as goal
 
 pub returns : goal.returns
 returns c = c.is_some.ensures ∙ has_state c.self.inside.states c.self.inside.numbers.items c.args.self.now c.self.view_is c.self.invariant c.args.at inside c.index.result.now c.index.ensures

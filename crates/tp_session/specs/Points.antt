@@ -8,19 +8,19 @@ use Rattle.tp_session.specs.declared.fault.ServeFault.{ServeFault}
 use Rattle.tp_session.specs.declared.fault.ServeFault.TheVariants.{Read, Write, Memory, Thread}
 use Rattle.tp_session.specs.declared.progress.Progress.{Progress}
 use Rattle.tp_session.specs.declared.service.Service.{Service}
-use Rattle.tp_answers.specs.Answers.{Standing}
+use Rattle.tp_answers.specs.Answers.{ServiceState}
 use Rattle.tp_session.specs.Served.{most_line, next_number, AreAnswers, nothing_open, AreTold}
 use Rattle.tp_session.specs.Fitness.{AreFit}
-use Rattle.tp_session.specs.Standing.{standing_of}
+use Rattle.tp_session.specs.Services.{state_of_service}
 
 -- the bytes that were taken, the lines that they end and what has come of the next line; what was told for these lines, and
 -- where that leaves serving
-pub record Stand : Type 0 where
+pub record Point : Type 0 where
   pub taken : List ℕ
   pub lines : List Line
   pub line : List ℕ
   pub told : List ℕ
-  pub standing : Standing
+  pub service_state : ServiceState
 
 -- the number of the line that follows these, the first of which has a number
 abbrev pub number_after : ℕ → List Line → ℕ
@@ -32,11 +32,11 @@ abbrev pub IsPlain : List ℕ → Type 0
 IsPlain bytes = list_all (λ b. not (nat_eq b line_feed)) bytes ≡ true
 
 -- it is so, whatever follows
-pub record Stands (trace : Bool) (s : Stand) : Type 0 where
+pub record HasReached (trace : Bool) (s : Point) : Type 0 where
   pub ended : filter (λ line. line.ended) s.lines ≡ s.lines
   pub goes : (more : List ℕ) → lines_of (s.taken ++ more) ≡ s.lines ++ lines_of (s.line ++ more)
   pub plain : IsPlain s.line
-  pub answered : AreAnswers trace 1 nothing_open s.lines s.told s.standing
+  pub answered : AreAnswers trace 1 nothing_open s.lines s.told s.service_state
 
 -- The progress that is kept: of a line that is too long, its first bytes.
 pub record Keeps (p : Progress) (number : ℕ) (line : List ℕ) : Type 0 where
@@ -44,21 +44,21 @@ pub record Keeps (p : Progress) (number : ℕ) (line : List ℕ) : Type 0 where
   pub line_is : p.line.items ≡ take most_line line
   pub long_is : p.long ≡ nat_lt most_line (length line)
 
--- What is kept, and what was written since a beginning, is that of a stand.
+-- What is kept, and what was written since a beginning, is that of a point.
 pub record IsAt {D : Type 0} (state : D → DeviceState) (trace : Bool) (begun : Option (List ℕ))
-    (p : Progress) (service : Service D) (now : Option (List ℕ)) (s : Stand) : Type 0 where
-  pub stands : Stands trace s
+    (p : Progress) (service : Service D) (now : Option (List ℕ)) (s : Point) : Type 0 where
+  pub reached : HasReached trace s
   pub keeps : Keeps p (number_after 1 s.lines) s.line
-  pub standing : standing_of service ≡ s.standing
+  pub service_state : state_of_service service ≡ s.service_state
   pub trace_is : service.trace ≡ trace
   pub fit : AreFit state service.links.items
   pub wrote : Appends begun now s.told
 
--- it is so of each stand that this may be
-abbrev pub AtEachStand : {D : Type 0} → (D → DeviceState) → Progress → Service D → (now : Option (List ℕ))
-    → (Bool → Option (List ℕ) → Stand → Type 0) → Type 0
-AtEachStand state p service now says =
-    (trace : Bool) (begun : Option (List ℕ)) (s : Stand) → IsAt state trace begun p service now s → says trace begun s
+-- it is so of each point that this may be
+abbrev pub AtEachPoint : {D : Type 0} → (D → DeviceState) → Progress → Service D → (now : Option (List ℕ))
+    → (Bool → Option (List ℕ) → Point → Type 0) → Type 0
+AtEachPoint state p service now says =
+    (trace : Bool) (begun : Option (List ℕ)) (s : Point) → IsAt state trace begun p service now s → says trace begun s
 
 -- the answers to the lines that some bytes end are written
 pub record HasToldEnded (trace : Bool) (taken : List ℕ) (begun now : Option (List ℕ)) : Type 0 where
@@ -98,9 +98,9 @@ pub record HasToldAll (trace : Bool) (input : List ℕ) (begun now : Option (Lis
   pub is : AreTold trace (lines_of input) told
   pub wrote : Appends begun now told
 
--- one stand further, by these bytes
+-- one point further, by these bytes
 pub record GoesOn {D : Type 0} (state : D → DeviceState) (trace : Bool) (begun : Option (List ℕ))
     (p : Progress) (service : Service D) (now : Option (List ℕ)) (taken : List ℕ) : Type 0 where
-  pub stand : Stand
-  pub taken_is : stand.taken ≡ taken
-  pub is : IsAt state trace begun p service now stand
+  pub point : Point
+  pub taken_is : point.taken ≡ taken
+  pub is : IsAt state trace begun p service now point

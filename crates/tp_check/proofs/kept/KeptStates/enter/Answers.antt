@@ -3,11 +3,11 @@ use Rattle.std.specs.Prelude.{IfOk, IfSome}
 use Rattle.tp_state.specs.Conditions.{IsPlaced}
 use Rattle.tp_check.specs.Tables.{table_of}
 use Rattle.tp_check.specs.Passes.{enter}
-use Rattle.tp_check.specs.UnderWay.{Gives, Moves, CameBefore}
+use Rattle.tp_check.specs.Rising.{Gives, Moves, CameBefore}
 use Rattle.tp_check.specs.Numbered.{states_by}
 use Rattle.tp_check.proofs.Heights.{HasWords, first_moves}
 use Rattle.tp_check.proofs.NumberedLemmas.{get_there, inside_numbers, number_there, table_there, meets_gives, meets_moves, met_numbers, pushed_numbers, pushed_gives, pushed_moves}
-use Rattle.tp_check.proofs.kept.Kept.enter.Goals as goal
+use Rattle.tp_check.proofs.kept.KeptStates.enter.Goals as goal
 
 pub meet-requires-clause-inside : goal.meet-requires-clause-inside
 meet-requires-clause-inside c = c.self.invariant.inside c.args.to c.in-Some.number (number_there c.self.inside.states c.self.inside.numbers.items c.args.self.now c.self.view_is c.args.to c.requires.inside c.index.result.now c.index.ensures (Some c.in-Some.number) c.in-Some.is)

@@ -6,12 +6,12 @@ use Rattle.tp_session.specs.declared.fault.ServeFault.TheVariants.{Memory, Threa
 use Rattle.tp_session.specs.declared.service.Service.{Service}
 use Rattle.tp_requests.specs.Requests.{Asked, ToList}
 use Rattle.tp_answers.specs.Told.{GoesOnWith}
-use Rattle.tp_answers.specs.Answers.{Standing, standing, Answers}
-use Rattle.tp_answers.specs.Open.{sessions_of}
+use Rattle.tp_answers.specs.Answers.{ServiceState, service_state, Answers}
+use Rattle.tp_answers.specs.OpenSessions.{sessions_of}
 use Rattle.tp_session.specs.Fitness.{AreFit, AreAsMany}
 
-abbrev pub standing_of : {D : Type 0} → Service D → Standing
-standing_of service = standing (sessions_of service.sessions) service.batches
+abbrev pub state_of_service : {D : Type 0} → Service D → ServiceState
+state_of_service service = service_state (sessions_of service.sessions) service.batches
 
 -- there are as many members as before, their devices are as fit as they were, and traces are told as before
 pub record StaysOn {D : Type 0} (state : D → DeviceState) (before after : Service D) : Type 0 where
@@ -33,4 +33,4 @@ IsListable other = Unit {0}
 -- what is told goes on with the answer to a line, which leads from one service to the other
 abbrev pub TellsAnswer : {D : Type 0} → (number : ℕ) → Option Asked → (before after : Service D) → (told told' : List ℕ) → Type 0
 TellsAnswer number asked before after told told' =
-    GoesOnWith (λ line. Answers before.trace number asked (standing_of before) line (standing_of after)) told told'
+    GoesOnWith (λ line. Answers before.trace number asked (state_of_service before) line (state_of_service after)) told told'

@@ -1,6 +1,6 @@
 use Rattle.std.proofs.Common.{◌<◌, length, Some, sym, ◌∙◌, arith}
 use Rattle.tp_check.proofs.NumberedLemmas.{inside_of, number_there, table_there}
-use Rattle.tp_check.proofs.kept.Kept.state_at.Goals as goal
+use Rattle.tp_check.proofs.kept.KeptStates.state_at.Goals as goal
 
 pub copy_of-requires : goal.copy_of-requires
 copy_of-requires c = c.self.invariant.inside c.args.at c.in-Some.number (number_there c.self.inside.states c.self.inside.numbers.items c.args.self.now c.self.view_is c.args.at inside c.index.result.now c.index.ensures (Some c.in-Some.number) c.in-Some.is)

@@ -3,7 +3,7 @@ use Rattle.tp_check.specs.Tables.{table_of}
 use Rattle.tp_check.specs.Carried.{only_joins}
 use Rattle.tp_check.specs.Joining.{joins_at}
 use Rattle.tp_check.proofs.NumberedLemmas.{joined_are, joined_states}
-use Rattle.tp_check.proofs.kept.Kept.keep_joined.Goals as goal
+use Rattle.tp_check.proofs.kept.KeptStates.keep_joined.Goals as goal
 
 pub invariant_of-self : goal.invariant_of-self
 invariant_of-self c = joined_are (joins_at c.args.ways.now) c.self.inside.states c.self.inside.numbers.items _ c.keep_joined_numbers.ensures.joined c.self.invariant

@@ -2,7 +2,7 @@ use Rattle.std.proofs.Common.{◌≡◌, length, Some, sym, ◌∙◌, subst}
 use Rattle.std.specs.Prelude.{IfSome}
 use Rattle.tp_state.specs.Order.{IsBelow}
 use Rattle.tp_check.proofs.NumberedLemmas.{number_there, table_there}
-use Rattle.tp_check.proofs.kept.Kept.give.Goals as goal
+use Rattle.tp_check.proofs.kept.KeptStates.give.Goals as goal
 
 pub raise-requires-clause-inside : goal.raise-requires-clause-inside
 raise-requires-clause-inside c = c.self.invariant.inside c.args.at c.in-Some.number (number_there c.self.inside.states c.self.inside.numbers.items c.args.self.now c.self.view_is c.args.at c.requires.inside c.index.result.now c.index.ensures (Some c.in-Some.number) c.in-Some.is)
