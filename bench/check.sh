@@ -12,7 +12,7 @@
 # Ends with status 1 where an image takes more than half a second of processor time or a process more than 25 MiB; a quarter of
 # a second is wanted.
 top=$(cd "$(dirname "$0")/.." && pwd) || exit 1
-(cd "$top/crates/bench" && rt run >/dev/null) || exit 1
+(cd "$top/crates/bench_verifier" && rt run >/dev/null) || exit 1
 exec python3 - "$top" <<'PY'
 import subprocess, sys
 
@@ -20,7 +20,7 @@ sys.dont_write_bytecode = True
 sys.path.insert(0, sys.argv[1] + "/bench")
 import images, search
 
-BENCH = sys.argv[1] + "/crates/bench/out/bench"
+BENCH = sys.argv[1] + "/crates/bench_verifier/out/bench_verifier"
 RATES = sys.argv[1] + "/bench/rates.py"
 ROUNDS = 5
 CHECKED = [

@@ -3,13 +3,13 @@
 # its packet) and a heavy one (a loop of 10,000 turns), from the queue that is fed while the members run and from a board in
 # turn, eleven times each: the best and the median, each as a ratio to one member and to the board in the same run. Then the
 # peak of memory of one batch of heavy packets by four members, from each.
-cd "$(dirname "$0")/../crates/bench" && rt run >/dev/null || exit 1
-out/bench farm | ../../bench/rates.py farm || exit 1
+cd "$(dirname "$0")/../crates/bench_farm" && rt run >/dev/null || exit 1
+out/bench_farm farm | ../../bench/rates.py farm || exit 1
 exec python3 - <<'PY'
 import os, subprocess
 
 for source in ("farm-queue", "farm-board"):
-    child = subprocess.Popen(["out/bench", source], stdout=subprocess.PIPE, text=True)
+    child = subprocess.Popen(["out/bench_farm", source], stdout=subprocess.PIPE, text=True)
     told = child.stdout.read().strip()
     _, status, usage = os.wait4(child.pid, 0)
     if status:

@@ -1,7 +1,7 @@
 #!/usr/bin/env python3
-"""Makes rates of what the program `bench` prints of a word, which stands on standard input.
+"""Makes rates of what the programs `bench_verifier` and `bench_farm` print of a word, which stands on standard input.
 
-usage: bench WORD .. | bench/rates.py WORD [ROUNDS]
+usage: bench_farm WORD .. | bench/rates.py WORD [ROUNDS]
 
 A line of the program is `NAME: WHAT WAS COUNTED, WHAT N ns, WHAT N ns ..`; ROUNDS is how often `accept` was told to accept.
 """

@@ -3,21 +3,21 @@
 # program from a `RUN` of 1,024 packets to its `DONE`, by 1, 2 and 4 members, and by so many processes side by side that run the machine
 # alone, in turn: the best and the median, and the program's ratio to the machine alone. It wants a quiet machine; where the machine's
 # own speed goes up and down, the best are to be compared, and bench/share.sh counts by samples.
-# PROGRAM=FARMD measures that in place of the proved program of this checkout, BENCH=BENCH that in place of its `bench`.
+# PROGRAM=FARMD measures that in place of the proved program of this checkout, BENCH=BENCH that in place of its `bench_farm`.
 top=$(cd "$(dirname "$0")/.." && pwd) || exit 1
 if [ -z "$PROGRAM" ]; then
     printf '' | "$top/farmd" || exit 1
     PROGRAM=$top/crates/tp_farmd/out/tp_farmd
 fi
 if [ -z "$BENCH" ]; then
-    (cd "$top/crates/bench" && rt run -- turns >/dev/null) || exit 1
-    BENCH=$top/crates/bench/out/bench
+    (cd "$top/crates/bench_farm" && rt run -- turns >/dev/null) || exit 1
+    BENCH=$top/crates/bench_farm/out/bench_farm
 fi
 exec python3 - "$PROGRAM" "$BENCH" <<'PY'
 import statistics, subprocess, sys, time
 
 ROUNDS, BATCHES, PACKETS = 24, 3, 1024
-# Of one packet: 22 bytes around 10,000 turns of 8. `bench turns` makes as many runs as four batches have packets.
+# Of one packet: 22 bytes around 10,000 turns of 8. `bench_farm turns` makes as many runs as four batches have packets.
 BYTES = 80_022
 RUNS_ALONE = 4 * PACKETS
 IMAGE = (

@@ -2,15 +2,15 @@
 # What share of the clock the machine's loop has, a member, from a `RUN` of 1,024 packets of a heavy worker (a loop of 10,000 turns) to
 # its `DONE`, by 1, 2 and 4 members, and in a process that runs the machine alone: the best and the median of 24 batches. It is counted
 # by samples, so it does not hang on how fast the machine is at the moment. It wants `perf` (Debian: linux-perf) and a quiet machine.
-# PROGRAM=FARMD measures that in place of the proved program of this checkout, BENCH=BENCH that in place of its `bench`.
+# PROGRAM=FARMD measures that in place of the proved program of this checkout, BENCH=BENCH that in place of its `bench_farm`.
 top=$(cd "$(dirname "$0")/.." && pwd) || exit 1
 if [ -z "$PROGRAM" ]; then
     printf '' | "$top/farmd" || exit 1
     PROGRAM=$top/crates/tp_farmd/out/tp_farmd
 fi
 if [ -z "$BENCH" ]; then
-    (cd "$top/crates/bench" && rt run -- turns >/dev/null) || exit 1
-    BENCH=$top/crates/bench/out/bench
+    (cd "$top/crates/bench_farm" && rt run -- turns >/dev/null) || exit 1
+    BENCH=$top/crates/bench_farm/out/bench_farm
 fi
 exec python3 - "$PROGRAM" "$BENCH" <<'PY'
 import os, re, statistics, subprocess, sys, tempfile, time

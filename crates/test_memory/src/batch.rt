@@ -1,7 +1,5 @@
 //! Batches: two packets by two members, and by one member more than a queue holds.
 
-use crate::answer::{Answer, same_if};
-use crate::calls::INCREMENT;
 use arrayvec::ArrayVec;
 use std::alloc::{AllocError, Global};
 use std::sync::Wait;
@@ -11,6 +9,8 @@ use tp_board::Packet;
 use tp_collect::{Collected, Entry};
 use tp_farm::{FarmFault, Job, OpenGate, run_batch};
 use tp_media::{boxed, media_of};
+use tp_samples::INCREMENT;
+use tp_samples::answers::{Answer, same_if};
 
 /// The room of each medium in bytes.
 const ROOM: usize = 16;

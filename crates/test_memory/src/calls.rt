@@ -1,11 +1,8 @@
 //! The calls.
 
-use crate::answer::{Answer, Tally, same_if};
 use crate::batch::batch;
-use crate::page::Page;
 use arrayvec::ArrayVec;
 use std::alloc::Global;
-use std::process::ExitCode;
 use std::sync::Wait;
 use std::thread::Threads;
 use tp_accept::{Refusal, accept};
@@ -16,18 +13,13 @@ use tp_decode::{DecodeFault, Instr, Listing, decode};
 use tp_flow::check_flow;
 use tp_image::{Image, ImageFault, read_image, upgrade, write_image};
 use tp_link::{LinkDevice, Medium, OwnedWire, Wire};
-use tp_program::run;
-pub(crate) use tp_samples::INCREMENT;
-use tp_samples::STORES_BY_TWO_WAYS;
-use tp_samples::streams::Words;
+use tp_samples::answers::{Answer, Tally, same_if};
+use tp_samples::{INCREMENT, STORES_BY_TWO_WAYS};
 use tp_state::{Cell, StateFault};
 
 /// Makes every call, and counts the answers.
 pub fn all<R: Threads + Wait + Sync>(rt: &R, alloc: Global) -> Tally {
     let mut tally = Tally::new();
-    let (answer, written) = served(rt, alloc);
-    tally.add(answer);
-    tally.written = written;
     listings(alloc, &mut tally);
     images(alloc, &mut tally);
     tally.add(verified(alloc));
@@ -37,60 +29,6 @@ pub fn all<R: Threads + Wait + Sync>(rt: &R, alloc: Global) -> Tally {
     tally.add(board(alloc));
     tally.add(batch(rt, alloc));
     tally
-}
-
-/// Listings, and a session of three packets, their run and a run of none.
-fn input() -> Page {
-    let mut page = Page::new();
-    page.push(b"LIST 604F\nHELLO\nLIST 24F2616F40\nLIST 41F3\nLIST 2222\na IMAGE ");
-    page.push_digits(INCREMENT);
-    page.push(b"\na PACKET 01000000\na PACKET FFFFFF7F\na PACKET 01000000\na RUN\na RUN");
-    page
-}
-
-const OUTPUT: &[u8] =
-    b"0 604f ldc -1\nDONE 1\nNO E1 2\n0 24f2 mint\n2 616f40 ldc 256 least 212040\nDONE 2\nNO D3 1\nNO D1 0\n\
-    YES 16 16\nKEPT 0\nKEPT 1\nKEPT 2\n\
-    R 0 0 16 02000000\nR 1 1 16 00000080\nR 2 0 16 02000000\nDONE 3\nDONE 0\n";
-
-/// How much of the output is written before each line.
-const BEFORE: [usize; 11] = [0, 21, 29, 78, 86, 94, 104, 111, 118, 125, 186];
-
-/// And before each line that asks for a run.
-const BEFORE_RUNS: [usize; 2] = [125, 186];
-
-/// The program `farmd` from its words to its status, and how much is written. After Memory, and where a thread was refused for
-/// it, the answers to some of the first lines are written, each of them whole, and the fault is told.
-fn served<T: Threads + Wait + Sync>(rt: &T, alloc: Global) -> (Answer, usize) {
-    let input = input();
-    let mut reader = input.written();
-    let mut page = Page::new();
-    let mut errors = Page::new();
-    let words = Words(&["farmd", "--members", "1"]);
-    let status = run(rt, &words, alloc, &mut reader, &mut page, &mut errors);
-    let (written, fault) = (page.written(), errors.written());
-    let answer = if fault.is_empty() {
-        same_if(status == ExitCode::SUCCESS && written == OUTPUT)
-    } else if status == ExitCode::from(1) && OUTPUT.starts_with(written) {
-        want_at(fault, written.len())
-    } else {
-        Answer::Other
-    };
-    (answer, written.len())
-}
-
-/// A fault that is told after so much was written. A line for which a thread was refused asks for a run.
-fn want_at(fault: &[u8], written: usize) -> Answer {
-    let is_want = if fault == b"farmd: thread\n".as_slice() {
-        BEFORE_RUNS.contains(&written)
-    } else {
-        fault == b"farmd: memory\n".as_slice() && BEFORE.contains(&written)
-    };
-    if is_want {
-        Answer::Memory
-    } else {
-        Answer::Other
-    }
 }
 
 /// Cutting a code, and the text of an instruction.

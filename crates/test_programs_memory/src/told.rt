@@ -1,0 +1,147 @@
+//! What the program of those who write workers is given, and what it tells with ample memory.
+
+use tp_samples::page::Page;
+use tp_samples::{FIBONACCI, INCREMENT, SUM_TO_TEN};
+
+/// A text that is given or told.
+#[derive(Clone, Copy, Drop)]
+pub enum Text<'a> {
+    /// Lines.
+    Lines(&'a str),
+    /// One line: a text, and the digits of an image.
+    Digits(&'a str, &'a [u8]),
+}
+
+impl Text<'_> {
+    /// A page with this text.
+    pub fn page(&self) -> Page {
+        let mut page = Page::new();
+        match self {
+            Text::Lines(lines) => page.push(lines.as_bytes()),
+            Text::Digits(before, image) => {
+                page.push(before.as_bytes());
+                page.push_digits(image);
+                page.push(b"\n");
+            }
+        }
+        page
+    }
+}
+
+/// A command line with its input, and what it is answered.
+#[derive(Clone, Copy, Drop)]
+pub struct Case<'a> {
+    pub words: &'a [&'a str],
+    pub input: Text<'a>,
+    pub told: Text<'a>,
+    pub status: u8,
+}
+
+/// The words of a command line are these at most.
+pub const CASES: [Case<'_>; 4] = [
+    Case {
+        words: &["tpw", "asm", "--line", "fib"],
+        input: Text::Lines(FIBONACCI_TEXT),
+        told: Text::Digits("fib IMAGE ", FIBONACCI),
+        status: 0,
+    },
+    Case {
+        words: &["tpw", "dis"],
+        input: Text::Digits("", SUM_TO_TEN),
+        told: Text::Lines(SUM_TO_TEN_TOLD),
+        status: 0,
+    },
+    Case {
+        words: &["tpw", "step", "--packet", "29000000", "--from", "12"],
+        input: Text::Digits("", INCREMENT),
+        told: Text::Lines(INCREMENT_STEPS),
+        status: 0,
+    },
+    Case {
+        words: &["tpw", "why"],
+        input: Text::Lines(KEPT_ADDRESS),
+        told: Text::Lines(KEPT_ADDRESS_TOLD),
+        status: 1,
+    },
+];
+
+/// The worker of docs/WORKERS.md, whose image that page works out.
+const FIBONACCI_TEXT: &str =
+    "packet 1\nresult 1\nlocal n, a, b\nreceive n\nldc 0\nstl a\nldc 1\nstl b\nfor i = 0 for 47\n\
+    ldl n\nldl i\ngt\ncj skip\ntrace a\nldl a\nldl b\nsum\nldl b\nstl a\nstl b\nskip: end i\nsend a\nstopp\n";
+
+/// 12 bytes, a loop of ten turns of 8 bytes, and 7 bytes.
+const SUM_TO_TEN_TOLD: &str = "\
+; at most 99 instruction bytes
+; loop 12 to 18: 10 turns of 8, 80 in all
+; behind an instruction: its address, and the bytes from it to the end of the loop around it, or of the run
+workspace 16
+start 8
+packet 1
+result 1
+loop head L11 lend L17 control 10 turns 10 start 0
+        ldlp 0  ; 0: 99
+        mint  ; 1: 98
+        ldnlp 4  ; 3: 96
+        ldc 4  ; 4: 95
+        in  ; 5: 94
+        ldc 0  ; 6: 93
+        stl 1  ; 7: 92
+        ldc 0  ; 8: 91
+        stl 2  ; 9: 90
+        ldc 10  ; 10: 89
+        stl 3  ; 11: 88
+L11:
+        ldl 1  ; 12: 87
+        ldl 2  ; 13: 7
+        add  ; 14: 6
+        stl 1  ; 15: 5
+        ldlp 2  ; 16: 4
+        ldc 8  ; 17: 3
+L17:
+        lend  ; 18: 2
+        ldlp 1  ; 20: 7
+        mint  ; 21: 6
+        ldc 4  ; 23: 4
+        out  ; 24: 3
+        stopp  ; 25: 2
+";
+
+const INCREMENT_STEPS: &str = "\
+13 12 ldc 4: A 4 B -2147483648 C -2147483544 Wptr 8 flag 0
+14 13 out: A - B - C - Wptr 8 flag 0 result 2a000000
+16 14 stopp: A - B - C - Wptr 8 flag 0
+stopped
+result 2a000000
+trace \nflag 0
+count 16
+";
+
+/// Keeps the address of a word in a word.
+const KEPT_ADDRESS: &str =
+    "packet 1\nresult 1\nlocal n, p\nreceive n\nldlp n\nstl p\nldl p\nldnl 0\nstl n\ndone: send n\nstopp\n";
+
+const KEPT_ADDRESS_TOLD: &str = "\
+NO S2 9
+refused  a register is of the wrong kind
+         5 f7 in  ; line 4: receive n
+         6 10 ldlp 0  ; line 5: ldlp n
+         7 d1 stl 1  ; line 6: stl p
+         8 71 ldl 1  ; line 7: ldl p
+>        9 30 ldnl 0  ; line 8: ldnl 0
+         10 d0 stl 0  ; line 9: stl n
+ done:   11 10 ldlp 0  ; line 10: send n
+         12 24f2 mint  ; line 10: send n
+         14 44 ldc 4  ; line 10: send n
+asked    Areg is the address of a word; the word n further on is in the workspace and defined
+known    Areg any number; Breg may be undefined; Creg may be undefined
+         Wptr at word 5; phase 1, the packet is received and the result not sent
+         words 0 to 4: may be undefined
+         words 5 to 6: any number
+         word 7: 0
+why      Areg is what 8 ldl 1 read from word 6 (p)
+written  word 6 (p) by 7 stl 1: the address of word 5; a word does not keep that it is an address
+from     8 by Next: Areg any number; Breg may be undefined; Creg may be undefined
+found    in pass 1, on the edge Next of the instruction at 9
+instead  address words by ldlp, ldnlp and wsub; a word does not keep that it is an address, so make the address again
+";
