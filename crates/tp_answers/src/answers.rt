@@ -7,6 +7,7 @@ ghost use Rattle.tp_decode.specs.Lines.{lines_from};
 ghost use Rattle.tp_decode.specs.Cutting.{cutting};
 ghost use Rattle.tp_accept.specs.Refusals.{refusal_code_text};
 ghost use Rattle.tp_accept.specs.Verdict.{allowed};
+ghost use Rattle.tp_collect.specs.DoneValue.{most_message};
 ghost use Rattle.tp_answers.specs.Sessions.{is_of, named};
 ghost use Rattle.tp_answers.specs.Told.{written, refusal, listing_answer, yes_line};
 ghost use Rattle.tp_answers.specs.Answers.{is_full, IsJudged, AnswersImage, AnswersPacket, AnswersDrop};
@@ -129,7 +130,7 @@ pub fn open(
 
 /// The packet of the bytes that are spelled, which are decoded into it.
 fn packet_of(bytes: &Spelled<'_>) -> Packet
-    requires { length (bytes_spelled bytes.now) ≤ 256 }
+    requires { length (bytes_spelled bytes.now) ≤ most_message }
     ensures items { result.items ≡ bytes_spelled bytes.now }
     ensures bytes { IsTrue (list_all (λ b. nat_lt b 256) result.items) }
 {

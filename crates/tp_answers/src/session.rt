@@ -2,6 +2,7 @@
 
 ghost use Rattle.std.specs.Prelude.{◌≡◌, ◌==◌, ◌+◌, ◌*◌, ◌≤◌, ◌<◌, [], ◌∷◌, ◌++◌, ◌&&◌, nat_lt, length, vec_len, IsTrue, OnOk};
 ghost use Rattle.std.specs.List.{list_all};
+ghost use Rattle.tp_collect.specs.Collecting.{most_packets};
 
 use std::alloc::{AllocError, Global};
 use tp_accept::Accepted;
@@ -13,7 +14,7 @@ pub struct OpenSession {
     pub image: Accepted,
     /// In order of number, from 0.
     pub packets: Vec<Packet>,
-    ghost few: { vec_len packets ≤ 1024 },
+    ghost few: { vec_len packets ≤ most_packets },
     ghost whole: { IsTrue (list_all (λ p.
         length p.items == 4 * image.image.packet && list_all (λ b. nat_lt b 256) p.items) packets.items) },
 }
@@ -45,7 +46,7 @@ impl OpenSession {
 
     /// Keeps one packet more.
     pub fn keep(&mut self, packet: Packet) -> Result<(), AllocError>
-        requires few { vec_len self.old.packets < 1024 }
+        requires few { vec_len self.old.packets < most_packets }
         requires whole { length packet.items ≡ 4 * self.old.image.image.packet }
         requires bytes { IsTrue (list_all (λ b. nat_lt b 256) packet.items) }
         ensures image { self.new.image ≡ self.old.image }

@@ -3,6 +3,7 @@
 ghost use Rattle.std.specs.Prelude.{◌≡◌, ◌*◌, ◌<◌, [], ◌∷◌, Some, length, position, remove, slice_get, slice_set, nat_lt};
 ghost use Rattle.std.specs.Prelude.{IsTrue, OnOk, IfSome};
 ghost use Rattle.std.specs.List.{list_all};
+ghost use Rattle.tp_collect.specs.Collecting.{most_packets};
 ghost use Rattle.tp_answers.specs.Sessions.{Session, is_of, with_session, with_packet, without_packets};
 ghost use Rattle.tp_answers.specs.OpenSessions.{session_of, sessions_of};
 
@@ -93,7 +94,7 @@ impl Sessions {
     /// The session at a place keeps one packet more.
     pub fn keep(&mut self, index: usize, packet: Packet) -> Result<(), AllocError>
         requires there { index < length (sessions_of self.old) }
-        requires few { IfSome (slice_get (sessions_of self.old) index) (λ s. length s.packets < 1024) }
+        requires few { IfSome (slice_get (sessions_of self.old) index) (λ s. length s.packets < most_packets) }
         requires whole { IfSome (slice_get (sessions_of self.old) index)
             (λ s. length packet.items ≡ 4 * s.image.packet) }
         requires bytes { IsTrue (list_all (λ b. nat_lt b 256) packet.items) }

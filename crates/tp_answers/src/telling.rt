@@ -2,7 +2,7 @@
 
 ghost use Rattle.std.specs.Prelude.{◌≡◌, ◌++◌, ◌≤◌, codes, decimal, length, OnOk};
 ghost use Rattle.hex.specs.Hex.{encode_lower};
-ghost use Rattle.tp_collect.specs.DoneValue.{run_of_done};
+ghost use Rattle.tp_collect.specs.DoneValue.{run_of_done, most_message, most_trace};
 ghost use Rattle.tp_answers.specs.Told.{result_line, kept_line, gone_line, trace_text, trace_line, done_line};
 ghost use Rattle.tp_answers.specs.Entries.{entry_told, entries_told};
 
@@ -13,7 +13,7 @@ use tp_collect::{Done, Entry};
 
 /// Writes bytes in hexadecimal.
 fn tell_hex(text: &mut Vec<u8>, bytes: &[u8]) -> Result<(), AllocError>
-    requires { length bytes.now ≤ 256 }
+    requires { length bytes.now ≤ most_message }
     ensures { OnOk result (text.new.items ≡ text.old.items ++ encode_lower bytes.now) }
 {
     let start = text.len();
@@ -74,7 +74,7 @@ fn tell_result(text: &mut Vec<u8>, number: usize, done: &Done) -> Result<(), All
 /// Writes the bytes of a trace.
 #[tactic(auto, using(crate::proofs::Texts::text_of_trace))]
 fn tell_trace_bytes(text: &mut Vec<u8>, trace: &[u8]) -> Result<(), AllocError>
-    requires { length trace.now ≤ 256 }
+    requires { length trace.now ≤ most_trace }
     ensures { OnOk result (text.new.items ≡ text.old.items ++ trace_text trace.now) }
 {
     if trace.is_empty() {

@@ -6,6 +6,7 @@ use Rattle.tp_board.specs.declared.rule.Size.{Size}
 use Rattle.tp_board.specs.declared.answer.BoardFault.{BoardFault}
 use Rattle.tp_board.specs.declared.answer.BoardFault.TheVariants.{Members, Packets, EmptyHand, Memory}
 use Rattle.tp_board.specs.Counting.{hand_list}
+use Rattle.tp_board.specs.Limits.{most_packets, most_members}
 use Rattle.tp_board.specs.Openings.{InRange}
 use Rattle.tp_board.specs.Views.{newcomer}
 use Rattle.tp_board.specs.Words.{size}
@@ -40,8 +41,8 @@ IsSeatOf b s = (s.table ≡ b.table) × (s.view.packets ≡ b.packets)
 
 -- the refusal that `new` gives for these sizes; with sizes in range it can be Memory alone
 abbrev pub NewRefuses : ℕ → ℕ → BoardFault → Type 0
-NewRefuses packets members Members = (members ≡ 0) ⊎ (64 < members)
-NewRefuses packets members Packets = (0 < members) × (members ≤ 64) × (1024 < packets)
+NewRefuses packets members Members = (members ≡ 0) ⊎ (most_members < members)
+NewRefuses packets members Packets = (0 < members) × (members ≤ most_members) × (most_packets < packets)
 NewRefuses packets members EmptyHand = ⊥
 NewRefuses packets members Memory = InRange packets members
 

@@ -7,6 +7,7 @@ use Rattle.tp_board.specs.declared.event.Event.{Event}
 use Rattle.tp_board.specs.declared.view.Counters.{Counters}
 use Rattle.tp_board.specs.declared.view.View.{View}
 use Rattle.tp_board.specs.declared.rule.Size.{Size}
+use Rattle.tp_board.specs.Limits.{most_packets, most_members}
 use Rattle.tp_board.specs.Words.{desk_words_of}
 use Rattle.tp_board.specs.Rule.{total, AtMost}
 use Rattle.tp_board.specs.Freshness.{IsFresh}
@@ -16,14 +17,14 @@ use Rattle.tp_board.specs.Plays.{Tells}
 -- of one view: it reports no more numbers than there are; one that is no seat, as a joining leaves
 -- it, has made no step
 pub record FitsDesk (k : Size) (w : Counters) (v : View) : Type 0 where
-  pub few : length v.finished + length v.abandoned ≤ 1024 * v.parts
+  pub few : length v.finished + length v.abandoned ≤ most_packets * v.parts
   pub seen : AtMost v.seen w
   pub idle : v.parts ≡ 0 → (v.finished ≡ []) × (v.abandoned ≡ []) × (v.stop_callers ≡ 0)
 
--- of the words and all views, of at most 64 members and a feeder: `done` and `lost` count the numbers
+-- of the words and all views, of the most members at most and a feeder: `done` and `lost` count the numbers
 -- finished and abandoned; `stop` is 1 where some view called stop, and else 0
 pub record DeskRule (k : Size) (w : Counters) (views : List View) : Type 0 where
-  pub few_seats : k.members ≤ 65
+  pub few_seats : k.members ≤ most_members + 1
   pub no_claim : w.claimed ≡ 0
   pub parts : total (λ v. v.parts) views ≡ k.members
   pub done : w.done ≡ total (λ v. length v.finished) views
@@ -41,7 +42,7 @@ holding v numbers = record v { hand = numbers }
 
 -- one seat alone, which may report one more number
 abbrev pub MayReport : View → Type 0
-MayReport v = (v.parts ≡ 1) × (length v.finished + length v.abandoned < 1024)
+MayReport v = (v.parts ≡ 1) × (length v.finished + length v.abandoned < most_packets)
 
 -- a step of a seat with this view, which might make it, where its word was n, which is fresh
 abbrev pub Takes : Event → View → ℕ → View → Type 0

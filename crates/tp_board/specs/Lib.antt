@@ -1,4 +1,5 @@
 -- What a reader must believe: clauses of public calls cite it.
+pub mod Limits
 pub mod Counting
 pub mod Farm
 pub mod Runs

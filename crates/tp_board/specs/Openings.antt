@@ -3,13 +3,14 @@ use Rattle.std.specs.Prelude.{◌≡◌, ℕ, ◌<◌, ◌≤◌, List, replicat
 use Rattle.tp_board.specs.declared.view.View.{View}
 use Rattle.tp_board.specs.Farm.{opening_farm}
 use Rattle.tp_board.specs.FarmOf.{farm_of}
+use Rattle.tp_board.specs.Limits.{most_packets, most_members}
 use Rattle.tp_board.specs.Rule.{KeepsRule}
 use Rattle.tp_board.specs.Views.{newcomer, nothing_seen}
 use Rattle.tp_board.specs.Words.{size, words_of}
 
 -- the sizes that a board can have
 abbrev pub InRange : ℕ → ℕ → Type 0
-InRange packets members = (0 < members) × (members ≤ 64) × (packets ≤ 1024)
+InRange packets members = (0 < members) × (members ≤ most_members) × (packets ≤ most_packets)
 
 -- its words are 0
 abbrev pub opening_words : List ℕ

@@ -6,6 +6,7 @@ use Rattle.tp_board.specs.declared.view.Counters.{Counters}
 use Rattle.tp_board.specs.declared.view.View.{View}
 use Rattle.tp_board.specs.declared.rule.Size.{Size}
 use Rattle.tp_board.specs.Counting.{times, once_below}
+use Rattle.tp_board.specs.Limits.{most_packets, most_members}
 use Rattle.tp_board.specs.Words.{words_of}
 
 -- f of each element, added up
@@ -31,13 +32,13 @@ pub record Fits (k : Size) (w : Counters) (v : View) : Type 0 where
   pub seen : AtMost v.seen w
   pub idle : v.parts ≡ 0 → (v.drawn ≡ []) × (v.stop_callers ≡ 0)
 
--- of the words and all views, of at most 64 members and a feeder: all drawn numbers are those below the lesser of `claimed` and
+-- of the words and all views, of the most members at most and a feeder: all drawn numbers are those below the lesser of `claimed` and
 -- packets, each once; `claimed` also counts the views that learnt the end, which exist only where
 -- it is above packets; `done` and `lost` count the numbers finished and abandoned; `stop` is 1
 -- where some view called stop, and else 0
 pub record Rule (k : Size) (w : Counters) (views : List View) : Type 0 where
-  pub few_packets : k.packets ≤ 1024
-  pub few_members : k.members ≤ 65
+  pub few_packets : k.packets ≤ most_packets
+  pub few_members : k.members ≤ most_members + 1
   pub parts : total (λ v. v.parts) views ≡ k.members
   pub each_once : (x : ℕ) → total (λ v. times x v.drawn) views ≡ once_below x (min w.claimed k.packets)
   pub drawn : total (λ v. length v.drawn) views ≡ min w.claimed k.packets

@@ -16,6 +16,7 @@ use Rattle.tp_board.specs.declared.stream_hand.Fed.TheVariants as fed
 use Rattle.tp_board.specs.declared.view.View.{View}
 use Rattle.tp_board.specs.Calls.{MadeStep, made, Makes, sees_no_stop, sees_stop}
 use Rattle.tp_board.specs.Counting.{times, hand_list, AreBelow}
+use Rattle.tp_board.specs.Limits.{most_packets, most_members}
 use Rattle.tp_board.specs.Lines.{hand, feeder, item_of, put, MayPut, Waits}
 use Rattle.tp_board.specs.Openings.{InRange}
 use Rattle.tp_board.specs.Runs.{numbers_from}
@@ -123,7 +124,7 @@ pub record IsHand (t : Turn) (p : View) (number : Option ℕ) (ended stop_seen :
   pub feeds : t.feeds ≡ 0
   pub pushed : t.pushed ≡ 0
   pub marks : t.marks ≡ 0
-  pub few_packets : t.packets ≤ 1024
+  pub few_packets : t.packets ≤ most_packets
   pub few_popped : length t.popped ≤ t.packets
   pub no_claim : p.seen.claimed ≡ 0
   pub agrees : Agrees (seen_of t p (hand_list number))
@@ -137,8 +138,8 @@ pub record IsFeeder (t : Turn) (p : View) (pushed marks : ℕ) : Type 0 where
   pub feeds : t.feeds ≡ 1
   pub pushed_is : t.pushed ≡ pushed
   pub marks_is : t.marks ≡ marks
-  pub few_packets : t.packets ≤ 1024
-  pub few_members : t.members ≤ 64
+  pub few_packets : t.packets ≤ most_packets
+  pub few_members : t.members ≤ most_members
   pub within : pushed ≤ t.packets
   pub marked : marks ≤ t.members
   pub marks_last : pushed < t.packets → marks ≡ 0

@@ -3,6 +3,7 @@
 ghost use Rattle.std.specs.Prelude.{◌≡◌, ◌<◌, ◌≤◌, ◌+◌, [], true, false, IfOk, MatchOption};
 ghost use Rattle.crossbeam_queue.specs.Fifo.{Held};
 ghost use Rattle.crossbeam_queue.specs.Passes.{view, IsPassOf, IsSamePass, ruled_capacity};
+ghost use Rattle.tp_board.specs.Limits.{most_packets};
 ghost use Rattle.tp_board.specs.Lines.{first, feeder, hand, without_one, joined, put, item_of, MayPut, Took, Waits, Left, LeftAt};
 
 use crossbeam_queue::protocol::{Join, Lesson, Outcome, Protocol, Split};
@@ -226,7 +227,7 @@ fn drain<R: Wait>(rt: &R, line: &Line, pass: &mut Place) -> Option<Item>
 pub fn drained<R: Wait>(rt: &R, line: &Line, pass: &mut Place, pushed: u32) -> u32
     requires queue { IsPassOf line.now pass.old }
     requires parts { (view pass.old).members + 1 ≤ (view pass.old).parts }
-    requires pushed { ((view pass.old).pushed ≡ pushed) × ((view pass.old).packets ≤ 1024) }
+    requires pushed { ((view pass.old).pushed ≡ pushed) × ((view pass.old).packets ≤ most_packets) }
     ensures { LeftAt (view pass.old) result }
 {
     line.learn_as::<Rest>(pass);

@@ -7,6 +7,7 @@ ghost use Rattle.tp_board.specs.Views.{first_of, newcomer};
 ghost use Rattle.tp_board.specs.Calls.{Makes, sees_no_stop, sees_stop, FinishSays, AbandonSays, StopSays};
 ghost use Rattle.tp_board.specs.Ledgers.{Balances, join_of_all};
 ghost use Rattle.tp_board.specs.Counting.{hand_list};
+ghost use Rattle.tp_board.specs.Limits.{most_packets};
 ghost use Rattle.tp_board.specs.Lines.{hand, feeder, item_of, put, MayPut, Waits};
 ghost use Rattle.crossbeam_queue.specs.Fifo.{Held};
 ghost use Rattle.tp_board.specs.Openings.{InRange};
@@ -336,7 +337,7 @@ fn deal_hands(
     requires queue { IsPassOf line.now pass.old × (view pass.old ≡ feeder packets members members) }
     requires desk { (token.old.table_id ≡ desk.now.shared.table_id) × (desk.now.shared.table_id.words ≡ 3) }
     requires seats { token.old.me ≡ (newcomer packets members, []) }
-    requires sizes { (0 < members) × (members ≤ 64) × (packets ≤ 1024) }
+    requires sizes { InRange packets members }
     requires first { hands.old.items ≡
         fresh_hand line.now.table.shared.table_id desk.now.shared.table_id packets members ∷ [] }
     requires room { members ≤ vec_capacity hands.old }
@@ -356,7 +357,7 @@ fn deal_hands(
 fn handed(pass: Place, token: Token, packets: u32, members: u32) -> StreamHand
     requires pass { (view pass ≡ hand packets members) × (pass.me.1 ≡ []) }
     requires token { token.me ≡ (newcomer packets 1, []) }
-    requires few { packets ≤ 1024 }
+    requires few { packets ≤ most_packets }
     ensures { result ≡ hand_of_parts pass.table_id token.table_id (hand packets members) (newcomer packets 1) None }
 {
     StreamHand {

@@ -34,6 +34,10 @@ done_by run batch packet image bytes = record {
   bytes = bytes;
 }
 
+-- the most bytes of a packet, and of a result
+abbrev pub most_message : ℕ
+most_message = 256
+
 -- the most bytes of a packet's trace
 abbrev pub most_trace : ℕ
 most_trace = 256

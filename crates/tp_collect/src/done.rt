@@ -2,7 +2,7 @@
 
 ghost use Rattle.std.specs.Prelude.{◌≡◌, ◌≤◌, length};
 ghost use Rattle.tp_step.specs.Runs.{RunsAlone};
-ghost use Rattle.tp_collect.specs.DoneValue.{run_giving, done_by};
+ghost use Rattle.tp_collect.specs.DoneValue.{run_giving, done_by, most_message, most_trace};
 
 use crate::limits::MESSAGE_BYTES;
 use arrayvec::ArrayVec;
@@ -47,7 +47,7 @@ impl Model for Done {
 // Inlined, as what makes a `Done` is: else each packet's result is copied twice more on its way to where it is filed.
 #[inline(always)]
 fn message(bytes: &[u8]) -> ArrayVec<u8, MESSAGE_BYTES>
-    requires { length bytes.now ≤ 256 }
+    requires { length bytes.now ≤ most_message }
     ensures { result.items ≡ bytes.now }
 {
     let mut message = ArrayVec::new();
@@ -97,8 +97,8 @@ impl Done {
         steps: u32,
         trace: &[u8],
     ) -> Done
-        requires result { length result_bytes.now ≤ 256 }
-        requires trace { length trace.now ≤ 256 }
+        requires result { length result_bytes.now ≤ most_message }
+        requires trace { length trace.now ≤ most_trace }
         requires alone { RunsAlone image.now bytes.now.items (run_giving result_bytes.now error steps trace.now) }
         ensures { result ≡
             done_by (run_giving result_bytes.now error steps trace.now) batch packet image.now bytes.now.items }

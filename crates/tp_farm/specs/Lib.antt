@@ -8,6 +8,7 @@ pub mod Batches
 pub mod Promised
 pub mod Answered
 pub use Rattle.tp_machine.specs.Devices
+pub use Rattle.tp_board.specs.Limits
 pub use Rattle.tp_collect.specs.Collected
 -- What only private steps cite.
 pub mod Working

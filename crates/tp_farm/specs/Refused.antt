@@ -1,15 +1,12 @@
 -- Why a batch gives nothing.
 use Rattle.std.specs.Prelude.{ℕ, ◌*◌, ◌<◌, ◌≤◌, ◌==◌, not, ◌||◌, nat_lt, if◌then◌else◌, length, position, Option, Some}
 use Rattle.std.specs.Option.{option_map}
+use Rattle.tp_board.specs.Limits.{most_members}
 use Rattle.tp_collect.specs.Collected.{JobValue}
 use Rattle.tp_collect.specs.Collecting.{most_packets}
 use Rattle.tp_farm.specs.Jobs.{AreWhole}
 use Rattle.tp_farm.specs.declared.fault.FarmFault.{FarmFault}
 use Rattle.tp_farm.specs.declared.fault.FarmFault.TheVariants.{Members, Packets, Length, Thread, Memory}
-
--- the most members
-abbrev pub most_members : ℕ
-most_members = 64
 
 -- the number of the first packet that has another length than the image's
 abbrev pub first_other : JobValue → Option ℕ
@@ -25,8 +22,8 @@ job_fault members batch =
 -- what stands where none of these holds
 pub record Begins (members : ℕ) (batch : JobValue) : Type 0 where
   pub some : 0 < members
-  pub few : members ≤ 64
-  pub less : length batch.packets ≤ 1024
+  pub few : members ≤ most_members
+  pub less : length batch.packets ≤ most_packets
   pub whole : AreWhole batch
 
 -- why a batch that has begun gives nothing: what it runs on refused a thread (G4) or memory

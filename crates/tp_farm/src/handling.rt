@@ -5,6 +5,7 @@ ghost use Rattle.tp_link.specs.Device.{failures};
 ghost use Rattle.tp_image.specs.Image.{ImageValue};
 ghost use Rattle.tp_machine.specs.Devices.{devices_of};
 ghost use Rattle.tp_collect.specs.Collected.{IsResult};
+ghost use Rattle.tp_collect.specs.DoneValue.{most_message, most_trace};
 ghost use Rattle.tp_farm.specs.Settings.{SameDevice, SameSettings};
 ghost use Rattle.tp_farm.specs.Losses.{HasCause};
 ghost use Rattle.tp_farm.specs.Stages.{IsReady, HasGiven, HasTraced};
@@ -115,7 +116,7 @@ fn receive_held<D: LinkDevice>(
     into: &mut [u8; MESSAGE_BYTES],
 ) -> Result<(), DeviceFault>
     requires count { n ≡ length (D.state device.old).held }
-    requires most { n ≤ 256 }
+    requires most { n ≤ most_message }
     ensures settings { SameDevice (D.state device.old) (D.state device.new) }
     ensures rises { (D.state device.new).faults ≡ (D.state device.old).faults + failures result }
     ensures bytes { OnOk result (take n into.new ≡ (D.state device.old).held) }
@@ -135,7 +136,7 @@ fn receive_trace<D: LinkDevice>(
     ensures settings { SameSettings (devices_of D.state links.old) (devices_of D.state links.new) }
     ensures rises { RisesIn result (devices_of D.state links.old) (devices_of D.state links.new) }
     ensures bytes { IfOk result (λ n. take n into.new ≡ (D.state links.old.trace).held) }
-    ensures most { IfOk result (λ n. n ≤ 256) }
+    ensures most { IfOk result (λ n. n ≤ most_trace) }
     ensures reason { (image : ImageValue) (packet : List ℕ) → HasTraced image packet (D.state links.old.trace).held →
         IfErr result (HasReason image packet (devices_of D.state links.old)) }
 {

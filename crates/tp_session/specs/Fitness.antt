@@ -3,6 +3,7 @@ use Rattle.std.specs.Prelude.{◌≡◌, ◌≤◌, List, length, map, All}
 use Rattle.tp_link.specs.Device.{DeviceState}
 use Rattle.tp_link.specs.declared.links.Links.{Links}
 use Rattle.tp_machine.specs.Devices.{Devices, devices_of}
+use Rattle.tp_board.specs.Limits.{most_members}
 use Rattle.tp_collect.specs.DoneValue.{most_trace}
 use Rattle.tp_farm.specs.Promised.{Takes}
 
@@ -19,7 +20,7 @@ AreFit state links = All AreFitOf (map (devices_of state) links)
 -- 1 to 64 members
 pub record HasMembers {D : Type 0} (links : List (Links D)) : Type 0 where
   pub least : 1 ≤ length links
-  pub most : length links ≤ 64
+  pub most : length links ≤ most_members
 
 -- as many members after as before
 abbrev pub AreAsMany : {D : Type 0} → (before after : List (Links D)) → Type 0

@@ -1,6 +1,7 @@
 //! What serving is lent.
 
 ghost use Rattle.std.specs.Prelude.{◌≡◌, ◌≤◌, vec_len};
+ghost use Rattle.tp_board.specs.Limits.{most_members};
 
 use tp_link::Links;
 
@@ -10,7 +11,7 @@ pub struct Farm<D> {
     pub(crate) links: Vec<Links<D>>,
     pub(crate) trace: bool,
     ghost least: { 1 ≤ vec_len links },
-    ghost most: { vec_len links ≤ 64 },
+    ghost most: { vec_len links ≤ most_members },
 }
 
 impl<D> Farm<D> {
@@ -20,7 +21,7 @@ impl<D> Farm<D> {
     /// What [`serve`](crate::serve) promises, it promises for devices that are open, cannot fail and have room for 256 bytes.
     pub fn new(links: Vec<Links<D>>, trace: bool) -> Farm<D>
         requires least { 1 ≤ vec_len links }
-        requires most { vec_len links ≤ 64 }
+        requires most { vec_len links ≤ most_members }
         ensures links { result.links ≡ links }
         ensures trace { result.trace ≡ trace }
     {

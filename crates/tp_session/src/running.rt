@@ -1,6 +1,7 @@
 //! Running the packets of a session.
 
 ghost use Rattle.std.specs.Prelude.{◌≡◌, ◌≤◌, ℕ, List, IfOk, IfErr, OnOk, None, length};
+ghost use Rattle.tp_board.specs.Limits.{most_members};
 ghost use Rattle.tp_farm.specs.Jobs.{value_of_job};
 ghost use Rattle.tp_farm.specs.Refused.{job_fault, IsFromOutside};
 ghost use Rattle.tp_farm.specs.Promised.{ArePackets};
@@ -73,7 +74,7 @@ fn run_on_enough<R: Threads + Wait + Sync, D: LinkDevice + Send>(
     job: &Job<'_>,
 ) -> Result<Collected, ServeFault>
     requires members { HasMembers links.old.items }
-    requires begins { (members : ℕ) → 1 ≤ members → members ≤ 64 → job_fault members (value_of_job job.now) ≡ None }
+    requires begins { (members : ℕ) → 1 ≤ members → members ≤ most_members → job_fault members (value_of_job job.now) ≡ None }
     requires packets { ArePackets (value_of_job job.now) }
     ensures outcomes { AreFit D.state links.old.items →
         IfOk result (AreOutcomes (value_of_job job.now).image (value_of_job job.now).packets) }
