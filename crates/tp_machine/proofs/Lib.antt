@@ -13,7 +13,6 @@ pub mod Quiet
 pub mod Receiving
 pub mod Exchanging
 pub mod OneStep
-pub mod Cleaning
 pub mod HeldPacket
 pub mod Kept
 pub mod Alone

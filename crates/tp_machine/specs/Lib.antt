@@ -3,7 +3,6 @@ pub mod Devices
 pub mod Answers
 pub mod Promise
 pub mod Representation
-pub mod Leaving
 pub use Rattle.tp_step.specs.State
 pub use Rattle.tp_step.specs.Steps
 pub use Rattle.tp_step.specs.Runs

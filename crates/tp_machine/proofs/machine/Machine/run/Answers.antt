@@ -17,7 +17,7 @@ go-answer-requires-clause-starts g c =
     let before = devices_of g.D.LinkDevice.state c.args.links.now in
     let first : 2147483720 + 4 * c.image.inside.start ≡ mem_start + 4 * image.start = ap (λ i. mem_start + 4 * i.start) (c.image.view_is ∙ c.image-image.ensures) in
     let held = subst (λ i. Holds (with_bytes nothing_defined mem_start (flat_map (to_le_bytes w32) (first_words i))) c.fill.new.workspace) c.image-image.ensures c.fill.ensures in
-    begins image before _ c.fill.new.workspace refl refl first refl held
+    begins image before _ c.fill.new.workspace refl first refl held
 
 pub go-answer-requires-clause-promise : goal.go-answer-requires-clause-promise
 go-answer-requires-clause-promise g c =
@@ -25,8 +25,8 @@ go-answer-requires-clause-promise g c =
     ends c.args.accepted.now.image c.args.accepted.now.budget before (rw c.budget-budget.ensures.value at c.budget-budget.ensures.ends) c.held-held.ensures.bytes
 
 pub returns-clause-alone : goal.returns-clause-alone
-returns-clause-alone g c = answered_alone c.args.accepted.now.image c.args.accepted.now.budget _ _ c.go-answer.result.1 c.go-answer.ensures.answered
+returns-clause-alone g c = answered_alone c.args.accepted.now.image c.args.accepted.now.budget _ _ c.go-answer.result.1 c.go-answer.ensures
 
 pub returns-clause-promise : goal.returns-clause-promise
 returns-clause-promise g c =
-    keeps_promise c.args.accepted.now.image c.args.accepted.now.budget _ _ c.go-answer.result.1 (rw c.budget-budget.ensures.value at c.budget-budget.ensures.ends) c.held-held.ensures.bytes c.go-answer.ensures.answered
+    keeps_promise c.args.accepted.now.image c.args.accepted.now.budget _ _ c.go-answer.result.1 (rw c.budget-budget.ensures.value at c.budget-budget.ensures.ends) c.held-held.ensures.bytes c.go-answer.ensures
