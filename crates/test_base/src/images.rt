@@ -156,7 +156,8 @@ fn refuses_bytes_left_over(rt: HostRuntime) {
 
 #[test]
 fn refuses_fields_out_of_range(rt: HostRuntime) {
-    let refusals: [(&[u8], usize, &[u8], ImageCode, usize); 19] = [
+    // Behind the single fields stand those with two neighbours that are both bad: the first is answered.
+    let refusals: [(&[u8], usize, &[u8], ImageCode, usize); 23] = [
         (INCREMENT, 3, b"3", ImageCode::F1, 0),
         (INCREMENT, 4, b"\x00\x00", ImageCode::F3, 4),
         (INCREMENT, 4, b"\x01\x08", ImageCode::F3, 4),
@@ -176,6 +177,10 @@ fn refuses_fields_out_of_range(rt: HostRuntime) {
         (MOVES_A_WORD, 16, b"\x10\x00", ImageCode::F2, 41),
         (INCREMENT, 4, b"\x00\x00\x00\x00", ImageCode::F3, 4),
         (INCREMENT, 6, b"\x00\x00\x00\x00", ImageCode::F4, 6),
+        (INCREMENT, 8, b"\x04\x00\x00\x00", ImageCode::F5, 8),
+        (INCREMENT, 10, b"\x00\x00\x00\x00", ImageCode::F6, 10),
+        (INCREMENT, 12, b"\x41\x00\x11\x00", ImageCode::F7, 12),
+        (MOVES_A_WORD, 14, b"\x11\x00\x11\x00", ImageCode::F8, 14),
     ];
     for (bytes, place, others, code, at) in refusals {
         let bytes = changed(&rt, rt.alloc(), bytes, place, others);

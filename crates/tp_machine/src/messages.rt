@@ -7,7 +7,7 @@ ghost use Rattle.tp_machine.specs.Devices.{devices_of};
 ghost use Rattle.tp_step.specs.Effects.{effect};
 ghost use Rattle.tp_step.specs.State.{mem_start};
 ghost use Rattle.tp_machine.specs.Bytes.{put};
-ghost use Rattle.tp_machine.specs.Representation.{Goes, Leads};
+ghost use Rattle.tp_machine.specs.Representation.{HasEffect, Simulates};
 ghost use Rattle.tp_machine.specs.Turning.{CanTurn, Turned};
 
 use crate::memory::MEM_START;
@@ -72,8 +72,8 @@ impl Registers {
     /// move, move message
     #[inline(always)]
     pub(crate) fn move_bytes(self, workspace: &mut [u8; 2048])
-        requires { Goes MoveBytes self workspace.old }
-        ensures { Leads MoveBytes self self workspace.old workspace.new }
+        requires { HasEffect MoveBytes self workspace.old }
+        ensures { Simulates MoveBytes self self workspace.old workspace.new }
     {
         copy(workspace, self.b, self.c, self.a);
     }

@@ -2,4 +2,4 @@ use Rattle.tp_machine.proofs.Operating.{leads_sum}
 use Rattle.tp_machine.proofs.registers.Registers.sum.Goals as goal
 
 pub returns : goal.returns
-returns c = rw (c.give.ensures, c.sum.ensures) (leads_sum c.args.self.now c.args.workspace.now)
+returns c bytes = rw (c.give.ensures, c.sum.ensures) (leads_sum c.args.self.now bytes)
