@@ -92,26 +92,28 @@ module _ (image : ImageValue) (prefixes : ℕ) (first : Machine) (phase : Phase)
     devices = record { source = h.source; sink = h.sink; trace = h.trace };
   }
 
-  pub is_stuck : (i : ℕ) (m n : Machine) (later last : Phase) (after left : Devices) → i ≤ prefixes
+  pub is_stuck : (are : ArePrefixes image.code first.iptr prefixes) (i : ℕ) (m n : Machine) (later last : Phase) (after left : Devices) → i ≤ prefixes
       → Along i m later after → Turned image (step image) (state_of m) (state_of n) later last after left turn.Stuck
       → Came image (state_of first) (state_of n) phase last now left (Some turn.Stuck)
-  is_stuck i m n later last after left within h turned = λ before p stands.
+  is_stuck are i m n later last after left within h turned = λ before p stands.
       let x = h.goes before p stands in
       record {
         count = i;
+        within = record { prefixes = prefixes; are = are; within = within };
         state = state_of m x.0;
         come = subst (λ d. HasCome image (state_of first p) before i (state_of m x.0) d) (sym turned.1) (come i m later before after p x.0 x.1 x.2);
         stuck = record { running = ap is_stopped x.2.phase_is ∙ h.running within; no_step = turned.0 x.0 x.2.phase_is };
       }
 
-  pub is_refused : (i : ℕ) (m n : Machine) (later last : Phase) (after left : Devices) (fault : LinkFault)
+  pub is_refused : (are : ArePrefixes image.code first.iptr prefixes) (i : ℕ) (m n : Machine) (later last : Phase) (after left : Devices) (fault : LinkFault) → i ≤ prefixes
       → Along i m later after → Turned image (step image) (state_of m) (state_of n) later last after left (turn.Refused fault)
       → Came image (state_of first) (state_of n) phase last now left (Some (turn.Refused fault))
-  is_refused i m n later last after left fault h turned = λ before p stands.
+  is_refused are i m n later last after left fault within h turned = λ before p stands.
       let x = h.goes before p stands in
       let y = turned before x.0 x.2 in
       record {
         count = i;
+        within = record { prefixes = prefixes; are = are; within = within };
         state = state_of m x.0;
         next = y.0;
         now = after;

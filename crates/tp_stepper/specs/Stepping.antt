@@ -1,5 +1,5 @@
 -- Whole instructions of the step relation, one after another.
-use Rattle.std.specs.Prelude.{◌≡◌, ℕ, suc, ◌<◌, Bool, true, false, ℤ, pos, ◌+ℤ◌, List, Option, Some, None}
+use Rattle.std.specs.Prelude.{◌≡◌, ℕ, suc, ◌<◌, ◌≤◌, Bool, true, false, ℤ, pos, ◌+ℤ◌, List, Option, Some, None}
 use Rattle.std.specs.Option.{option_map_or}
 use Rattle.tp_decode.specs.Spelling.{is_prefix}
 use Rattle.tp_image.specs.Image.{ImageValue}
@@ -29,9 +29,16 @@ pub record IsInstruction (image : ImageValue) (s t : State) : Type 0 where
   pub are : ArePrefixes image.code s.iptr prefixes
   pub leads : steps image (suc prefixes) s ≡ Some t
 
--- steps of the instruction lead from s to a stuck state, and the devices have what belongs to it
+-- so many steps from s are none but those of the prefixes of its next instruction
+pub record IsBeforeLastByte (image : ImageValue) (s : State) (count : ℕ) : Type 0 where
+  pub prefixes : ℕ
+  pub are : ArePrefixes image.code s.iptr prefixes
+  pub within : count ≤ prefixes
+
+-- steps within the instruction lead from s to a stuck state, and the devices have what belongs to it
 pub record StuckFrom (image : ImageValue) (s : State) (before after : Devices) : Type 0 where
   pub count : ℕ
+  pub within : IsBeforeLastByte image s count
   pub state : State
   pub come : HasCome image s before count state after
   pub stuck : IsStuck image state
@@ -39,6 +46,7 @@ pub record StuckFrom (image : ImageValue) (s : State) (before after : Devices) :
 -- or to one whose step is refused by a device
 pub record RefusedFrom (image : ImageValue) (s : State) (before : Devices) (fault : LinkFault) (after : Devices) : Type 0 where
   pub count : ℕ
+  pub within : IsBeforeLastByte image s count
   pub state : State
   pub next : State
   pub now : Devices
