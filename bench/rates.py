@@ -86,16 +86,11 @@ def board():
 def farm():
     rates = collections.defaultdict(list)
     for name, counts, _, times in lines():
-        worker, source, members = name.split(", ")
-        rates[worker, members, source].append(counts["packets"] * 10**9 // times["all"])
+        rates[tuple(name.split(", "))].append(counts["packets"] * 10**9 // times["all"])
     best_and_median = {it: (max(found), int(statistics.median(found))) for it, found in rates.items()}
-    for (worker, members, source), (best, median) in best_and_median.items():
-        if source != "queue":
-            continue
-        told = f"{worker}, {members}, queue: {best} packets a second, median {median}"
-        for of, other in (("one member", (worker, "members 1", "queue")), ("the board", (worker, members, "board"))):
-            percent = [100 * a // b for a, b in zip((best, median), best_and_median[other])]
-            print(f"{told}; {percent[0]} and {percent[1]} percent of {of}")
+    for (worker, members), found in best_and_median.items():
+        percent = [100 * a // b for a, b in zip(found, best_and_median[worker, "members 1"])]
+        print(f"{worker}, {members}: {found[0]} packets a second, median {found[1]}; {percent[0]} and {percent[1]} percent of one member")
 
 
 WORDS = {it.__name__: it for it in (flow, states, check, accept, machine, board, farm)}

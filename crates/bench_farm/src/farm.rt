@@ -1,14 +1,12 @@
 //! How many packets a second a farm of 1, 2 and 4 members runs: one batch of 1,024 packets, with a light worker and with a
-//! heavy one, from a queue that is fed while the members run, and from a board.
+//! heavy one.
 //!
-//! Each batch runs once, the heavy ones with few packets, and what came of it is printed; or several times, from both in turn, with
-//! the times.
+//! Each batch runs once, the heavy ones with few packets, and what came of it is printed; or several times, with the times.
 
 mod workers;
 
 use anyhow::{Result, anyhow};
 use std::alloc::Global;
-use std::fmt;
 use std::rt::Runtime;
 use std::sync::Wait;
 use std::thread::Threads;
@@ -16,38 +14,20 @@ use std::time::Instant;
 use tp_accept::{Accepted, accept};
 use tp_board::Packet;
 use tp_collect::{Collected, Entry};
-use tp_farm::{Batch, FarmFault, Job, OpenGate, run_batch, run_batch_over_board};
+use tp_farm::{Job, OpenGate, run_batch};
 use tp_link::{Links, Medium, OwnedWire};
 use tp_samples::took::Took;
 use workers::Worker;
 
 const TIMED_PACKETS: u32 = 1024;
 
-/// How often each batch is timed, from the queue and the board in turn.
+/// How often each batch is timed.
 const TIMES: u32 = 11;
 
 const MEMBERS: [u32; 3] = [1, 2, 4];
 
-const SOURCES: [Source; 2] = [Source::Queue, Source::Board];
-
 /// The bytes of a word, which each packet and each result is.
 const WORD_BYTES: usize = 4;
-
-/// Where members take their packets from.
-#[derive(Clone, Copy, Debug, PartialEq, Eq)]
-pub(crate) enum Source {
-    Queue,
-    Board,
-}
-
-impl fmt::Display for Source {
-    fn fmt<W: fmt::Write>(&self, f: &mut fmt::Formatter<W>) -> fmt::Result {
-        match self {
-            Source::Queue => f.write_str("queue"),
-            Source::Board => f.write_str("board"),
-        }
-    }
-}
 
 pub(crate) fn measure<R: Runtime<A = Global> + Threads + Wait + Sync>(
     rt: &R,
@@ -120,26 +100,12 @@ fn count(collected: &Collected) -> (u64, u64) {
     (done, sum)
 }
 
-/// Runs a job's batch from a source.
-fn run_from<R: Runtime<A = Global> + Threads + Wait + Sync>(
-    rt: &R,
-    job: &Job<'_>,
-    links: Vec<Links<OwnedWire>>,
-    source: Source,
-) -> Result<Batch<OwnedWire>, FarmFault> {
-    match source {
-        Source::Queue => run_batch(rt, rt.alloc(), job, links, &OpenGate),
-        Source::Board => run_batch_over_board(rt, rt.alloc(), job, links, &OpenGate),
-    }
-}
-
 /// Runs one batch of so many packets.
 fn run_batch_of<R: Runtime<A = Global> + Threads + Wait + Sync>(
     rt: &R,
     image: &Accepted,
     count_of_packets: u32,
     members: u32,
-    source: Source,
     is_timed: bool,
 ) -> Result<Run> {
     let packets = packets(rt.alloc(), count_of_packets)?;
@@ -148,7 +114,7 @@ fn run_batch_of<R: Runtime<A = Global> + Threads + Wait + Sync>(
         image,
         packets: &packets,
     };
-    run_job(rt, &job, members, source, is_timed)
+    run_job(rt, &job, members, is_timed)
 }
 
 /// Runs a job's batch, timed from its call to its answer.
@@ -156,12 +122,13 @@ fn run_job<R: Runtime<A = Global> + Threads + Wait + Sync>(
     rt: &R,
     job: &Job<'_>,
     members: u32,
-    source: Source,
     is_timed: bool,
 ) -> Result<Run> {
     let links = links(rt.alloc(), members)?;
     let start = Instant::now(rt)?;
-    let batch = run_from(rt, job, links, source).map_err(|fault| anyhow!("{fault}"))?;
+    let batch = run_batch(rt, rt.alloc(), job, links, &OpenGate).map_err(|fault| anyhow!(
+        "{fault}"
+    ))?;
     let took = Took::since(rt, start, is_timed, "all");
     let (done, sum) = count(&batch.collected);
     drop(batch);
@@ -183,28 +150,19 @@ fn told<R: Runtime<A = Global> + Threads + Wait + Sync>(
 ) -> Result<()> {
     let name = worker.name;
     let count = if is_timed { TIMED_PACKETS } else { worker.few };
-    for source in SOURCES {
-        for members in MEMBERS {
-            let Run { done, sum, took } = run_batch_of(
-                rt, image, count, members, source, is_timed,
-            )?;
-            println!(rt;
-                "{name}, {source}, members {members}: {done} packets done, sum of results {sum}{took}"
-            )?;
-        }
+    for members in MEMBERS {
+        let Run { done, sum, took } = run_batch_of(rt, image, count, members, is_timed)?;
+        println!(rt; "{name}, members {members}: {done} packets done, sum of results {sum}{took}")?;
     }
     Ok(())
 }
 
-/// Runs one batch of the heavy worker by four members from a source, for its peak of memory.
-pub(crate) fn run_once<R: Runtime<A = Global> + Threads + Wait + Sync>(
-    rt: &R,
-    source: Source,
-) -> Result<()> {
+/// Runs one batch of the heavy worker by four members, for its peak of memory.
+pub(crate) fn run_once<R: Runtime<A = Global> + Threads + Wait + Sync>(rt: &R) -> Result<()> {
     let image = accepted(rt.alloc(), &workers::HEAVY)?;
-    let run = run_batch_of(rt, &image, TIMED_PACKETS, 4, source, false);
+    let run = run_batch_of(rt, &image, TIMED_PACKETS, 4, false);
     drop(image);
     let Run { done, sum, .. } = run?;
-    println!(rt; "{source}: {done} packets done, sum of results {sum}")?;
+    println!(rt; "{done} packets done, sum of results {sum}")?;
     Ok(())
 }

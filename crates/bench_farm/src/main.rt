@@ -26,9 +26,8 @@ fn main(rt: HostRuntime) -> Result<()> {
         "turns" => machine::turns(&rt),
         "board" => board::measure(&rt, true),
         "farm" => farm::measure(&rt, true),
-        "farm-queue" => farm::run_once(&rt, farm::Source::Queue),
-        "farm-board" => farm::run_once(&rt, farm::Source::Board),
-        _ => bail!("the words are machine, turns, board, farm, farm-queue, farm-board"),
+        "farm-once" => farm::run_once(&rt),
+        _ => bail!("the words are machine, turns, board, farm, farm-once"),
     }
 }
 

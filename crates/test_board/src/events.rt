@@ -43,7 +43,7 @@ fn core_of_two_packets(rt: HostRuntime) {
 #[test]
 fn core_of_no_packets(rt: HostRuntime) {
     let mut core = unwrap(&rt, Core::new(rt.alloc(), 0, 1));
-    let reply = unwrap(&rt, core.step(0, Event::Claim));
+    let reply = unwrap(&rt, core.step(rt.alloc(), 0, Event::Claim));
     assert_same(&rt, &reply, &Reply::NoMore);
 }
 

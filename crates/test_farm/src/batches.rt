@@ -16,10 +16,15 @@ use tp_samples::INCREMENT;
 /// The number of the batches here.
 pub(crate) const BATCH: u64 = 7;
 
-/// What became of a packet, its result as one word.
+/// What became of a packet.
 #[derive(Clone, Copy, PartialEq, Eq)]
 pub(crate) enum Told {
-    Done(u32),
+    /// Its result as one word, its error flag, and how many instruction bytes were run.
+    Done {
+        result: u32,
+        error: bool,
+        steps: u32,
+    },
     Lost(Link, DeviceFault),
     Stopped,
 }
@@ -33,9 +38,32 @@ fn word(bytes: &[u8]) -> u32 {
 
 pub(crate) fn of_entry(entry: &Entry) -> Told {
     match entry {
-        Entry::Done(done) => Told::Done(word(done.result.as_slice())),
+        Entry::Done(done) => Told::Done {
+            result: word(done.result.as_slice()),
+            error: done.error,
+            steps: done.steps,
+        },
         Entry::Lost(LostCause::Link(LinkFault { link, code })) => Told::Lost(*link, *code),
         Entry::Lost(LostCause::Stopped) => Told::Stopped,
+    }
+}
+
+/// What `INCREMENT` makes of a packet of this word: one more, in 16 instruction bytes, of which the sum of the greatest number and
+/// one sets the error flag.
+pub(crate) fn one_more(word: u32) -> Told {
+    Told::Done {
+        result: word.wrapping_add(1),
+        error: word == 0x7FFF_FFFF,
+        steps: 16,
+    }
+}
+
+/// What `TRACES_ITS_PACKET` makes of a packet of this word: the same, in 19 instruction bytes.
+pub(crate) fn the_same(word: u32) -> Told {
+    Told::Done {
+        result: word,
+        error: false,
+        steps: 19,
     }
 }
 

@@ -1,7 +1,7 @@
 //! Devices that fail in one call, are closed, or lack room.
 
 use crate::asserts::unwrap;
-use crate::batches::{ROOM, Told, failing, have_ended, told_by_one};
+use crate::batches::{ROOM, Told, failing, have_ended, the_same, told_by_one};
 use std::alloc::Global;
 use std::process::Abort;
 use std::sync::Wait;
@@ -11,7 +11,12 @@ use tp_link::{DeviceFault, Link, LinkDevice, Links};
 use tp_media::Media;
 use tp_samples::*;
 
-const DONE: Told = Told::Done(2);
+/// A packet of 1 is done.
+const DONE: Told = Told::Done {
+    result: 2,
+    error: false,
+    steps: 16,
+};
 
 /// Whether that is told of two packets of 1, where a device fails in one of its calls, and all media have ended.
 fn fails_as<R: Abort + Threads + Wait + Sync>(
@@ -64,7 +69,7 @@ fn a_trace_fails(rt: HostRuntime) {
     for (calls, wanted) in [
         ([0, 0, 1], trace),
         ([0, 0, 2], trace),
-        ([0, 0, 3], Told::Done(10)),
+        ([0, 0, 3], the_same(10)),
         ([0, 1, 1], trace),
         ([0, 1, 2], sink),
         ([0, 2, 2], sink),

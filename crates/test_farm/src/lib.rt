@@ -11,8 +11,6 @@ mod failing;
 #[cfg(test)]
 mod members;
 #[cfg(test)]
-mod over_board;
-#[cfg(test)]
 mod recording;
 #[cfg(test)]
 mod refusing;

@@ -1,7 +1,9 @@
 //! Members beside one another: the same batch by any number of them, and a batch that only threads can end.
 
 use crate::asserts::{assert_same, unwrap};
-use crate::batches::{ROOM, Told, all_told, alone, count_up, failing, increments_by, run_on, same};
+use crate::batches::{
+    ROOM, all_told, alone, count_up, failing, increments_by, one_more, run_on, same,
+};
 use std::alloc::Global;
 use std::process::Abort;
 use std::sync::Wait;
@@ -25,7 +27,7 @@ fn increments_by_one<R: Abort + Threads + Wait + Sync>(
 }
 
 /// Each entry tells its word plus one.
-pub(crate) fn are_one_more(
+fn are_one_more(
     rt: &impl Abort,
     alloc: Global,
     words: &[u32],
@@ -33,7 +35,7 @@ pub(crate) fn are_one_more(
 ) -> bool {
     let all = all_told(rt, alloc, collected);
     for (one, word) in all.iter().zip(words.iter()) {
-        if *one != Told::Done(word.wrapping_add(1)) {
+        if *one != one_more(*word) {
             return false;
         }
     }

@@ -104,12 +104,16 @@ fn a_gate_is_told_of_one_member(rt: HostRuntime) {
     }
 }
 
-/// A batch of no packets starts no member, so nobody asks.
+/// Each member of a batch of no packets is started, asks once, and ends.
 #[test]
-fn a_gate_is_told_nothing_of_no_packets(rt: HostRuntime) {
+fn each_member_asks_where_there_are_no_packets(rt: HostRuntime) {
     let gate = Recording::new(&rt, rt.alloc());
     let _ = increments_by(&rt, rt.alloc(), &[], 3, &gate);
-    assert_same(&rt, &gate.into_heard().len(), &0);
+    let heard = gate.into_heard();
+    assert_same(&rt, &heard.len(), &3);
+    for member in 0..3 {
+        assert!(rt; heard.contains(&Heard::Asked(member)), "{member}");
+    }
 }
 
 /// What is heard of so many members that run 60 packets.

@@ -1,7 +1,9 @@
 //! Gates that stop a batch.
 
 use crate::asserts::{assert_same, unwrap};
-use crate::batches::{ROOM, Told, all_told, batch_on, have_ended, increments_by, told_by_one};
+use crate::batches::{
+    ROOM, Told, all_told, batch_on, have_ended, increments_by, one_more, told_by_one,
+};
 use std::alloc::Global;
 use std::process::Abort;
 use std::sync::Wait;
@@ -59,7 +61,7 @@ fn told_of_three<R: Abort + Threads + Wait + Sync>(
 fn a_gate_stops_one_member(rt: HostRuntime) {
     let gate = Closing::at(3);
     let all = told_of_three(&rt, rt.alloc(), &gate);
-    let done = Told::Done(2);
+    let done = one_more(1);
     assert!(rt; all.as_slice() == [done, done, Told::Stopped].as_slice());
     assert_same(&rt, &gate.asks.load(Ordering::SeqCst), &3);
 }
@@ -113,7 +115,7 @@ fn done_before<R: Abort + Threads + Wait + Sync>(
 ) -> Option<usize> {
     let collected = increments_by(rt, alloc, &[1; 1024], members, &Closing::at(at));
     let all = all_told(rt, alloc, &collected);
-    let done = count_of(&all, Told::Done(2));
+    let done = count_of(&all, one_more(1));
     let stopped = count_of(&all, Told::Stopped);
     (done.saturating_add(stopped) == 1024).then_some(done)
 }
@@ -148,7 +150,7 @@ fn count_of(all: &[Told], wanted: Told) -> usize {
 fn done_and_stopped<R: Abort + Threads + Wait + Sync>(rt: &R, alloc: Global) -> (usize, usize) {
     let collected = increments_by(rt, alloc, &[1; 50], 2, &Closing::at(10));
     let all = all_told(rt, alloc, &collected);
-    (count_of(&all, Told::Done(2)), count_of(&all, Told::Stopped))
+    (count_of(&all, one_more(1)), count_of(&all, Told::Stopped))
 }
 
 /// Where the tenth question is the first that is answered false, nine members went on. The last of these may still find the
@@ -230,7 +232,7 @@ fn done_and_stopped_by_one_no<R: Abort + Threads + Wait + Sync>(
 ) -> (usize, usize) {
     let collected = increments_by(rt, alloc, &[1; 1024], members, gate);
     let all = all_told(rt, alloc, &collected);
-    (count_of(&all, Told::Done(2)), count_of(&all, Told::Stopped))
+    (count_of(&all, one_more(1)), count_of(&all, Told::Stopped))
 }
 
 /// One no stops all members, though they would be let go on: each of them ends, and packets are left. Nine asks were

@@ -2,7 +2,7 @@
 //! each batch comes to its end, with an entry for each packet.
 
 use crate::asserts::unwrap;
-use crate::batches::{ROOM, Told, all_told, count_up, increments_by, run_on};
+use crate::batches::{ROOM, Told, all_told, count_up, increments_by, one_more, run_on};
 use crate::stopping::Closing;
 use std::alloc::Global;
 use std::process::Abort;
@@ -19,7 +19,7 @@ const COUNTS: [u32; 5] = [1, 31, 32, 33, 1024];
 
 /// How many packets are done with their word plus one: 1, or 0 where the packet is told as that; none where it is told as neither.
 fn done_or(one: Told, word: u32, other: Told) -> Option<usize> {
-    if one == Told::Done(word.wrapping_add(1)) {
+    if one == one_more(word) {
         Some(1)
     } else if one == other {
         Some(0)

@@ -82,6 +82,7 @@ fn an_error_flag_is_told(rt: HostRuntime) {
             assert!(rt; first.error && !second.error);
             assert_same(&rt, &first.result.as_slice(), &[0, 0, 0, 0x80].as_slice());
             assert_same(&rt, &second.result.as_slice(), &[2, 0, 0, 0].as_slice());
+            assert_same(&rt, &(first.steps, second.steps), &(16, 16));
         }
         _ => assert!(rt; false, "two results"),
     }

@@ -9,7 +9,7 @@ use mathlib.Core.Option.{some, some-injective}
 use lib.ListN.{get_elem?}
 use Rattle.tp_board.specs.Counting.{times, once_below, AreBelow}
 use Rattle.tp_board.specs.Ledgers.{join_of_all}
-use Rattle.tp_board.specs.Lines.{joined, LeftAt}
+use Rattle.tp_board.specs.Lines.{joined, LeftAt, TookRest}
 use Rattle.tp_board.specs.Runs.{numbers_from}
 use Rattle.tp_board.specs.Streams.{HandView, hand_seen, seen_of, Agrees, IsLeft}
 use Rattle.tp_board.specs.Views.{join_of, all_drawn}
@@ -102,15 +102,14 @@ below_and_from x n (suc k) =
     ap (once_below x) (let e : n + 1 + k ≡ n + suc k = omega arith in e) in
     omega arith
 
--- the numbers popped, and those that the queue holds
-pub left_over : (views : List View) (t : Turn) (n : ℕ) → LeftAt t n → AreBelow (all_drawn views) n → IsLeft views t.pushed n
-left_over views t n left drew =
-    let behind = left.behind in
-    let all : n + (t.pushed - n) ≡ t.pushed = omega arith in (
-      behind,
-      (λ x. let a = times-append x (all_drawn views) (numbers_from n (t.pushed - n)) in let b = below_and_from x n
-          (t.pushed - n) in let c = drew x in let d = ap (once_below x) all in omega arith),
-    )
+-- the numbers popped, and those that the close takes out
+pub left_over : (views : List View) (t u : Turn) (n : ℕ) → LeftAt t n → AreBelow (all_drawn views) n → TookRest t u
+    → IsLeft views t.pushed
+left_over views t u n before drew (left, is, below) = (
+  left,
+  λ x. let a = times-append x (all_drawn views) left in let b = times-append x t.popped left in let c = drew x in let d =
+  before.each_once x in let e = ap (times x) is in let f = below x in omega arith,
+)
 
 pub desk_word_at : (ws : List ℕ) (w : Counters) (i a b : ℕ) → ws ≡ desk_words_of w → get_elem? (desk_words_of w) i ≡ some b
     → get_elem? ws i ≡ some a → a ≡ b

@@ -1,16 +1,22 @@
 -- A stream's queue and words stand for a board under the board's rule.
-use Rattle.std.proofs.Common.{◌≡◌, ℕ, zero, suc, ◌+◌, min, List, [], ◌∷◌, length, map, sym, refl, ap, ◌∙◌, subst, arith}
+use Rattle.std.proofs.Common.{◌≡◌, ℕ, zero, suc, ◌+◌, ◌-◌, min, List, [], ◌∷◌, length, map, replicate, sym, refl, ap, ◌∙◌, subst, arith}
 use mathlib.Core.Option.{some, some-ne-none, some-injective}
 use lib.ListN.{get_elem?}
 use Rattle.tp_board.specs.declared.line.Item.{Item}
+use Rattle.tp_board.specs.declared.line.Item.TheVariants.{End}
 use Rattle.tp_board.specs.declared.line.Turn.{Turn}
 use Rattle.tp_board.specs.declared.view.Counters.{Counters}
 use Rattle.tp_board.specs.declared.view.View.{View}
 use Rattle.tp_board.specs.Counting.{times, once_below}
+use Rattle.tp_board.specs.Lines.{line}
 use Rattle.tp_board.specs.Rule.{total, Fits}
-use Rattle.tp_board.specs.Stages.{HandState, hand_seen, KeepsStream, pops, StreamIsBoardLaw}
+use Rattle.tp_board.specs.Runs.{numbers_from}
+use Rattle.tp_board.specs.Stages.{HandState, hand_seen, KeepsStream, pops, pushed, queued, QueueLaw, StreamIsBoardLaw}
+use Rattle.tp_board.specs.Views.{all_drawn}
 use Rattle.tp_board.specs.Words.{size, counters}
-use Rattle.tp_board.proofs.Gathering.{claims_at}
+use Rattle.tp_board.proofs.Counting.{times-append}
+use Rattle.tp_board.proofs.Gathering.{claims_at, below_and_from}
+use Rattle.tp_board.proofs.Totals.{times_gathered}
 
 pub total_map : {X Y : Type 0} (f : Y → ℕ) (g : X → Y) (xs : List X) → total f (map g xs) ≡ total (λ x. f (g x)) xs
 total_map f g [] = refl
@@ -106,3 +112,31 @@ stand_law packets members items words stands h =
         fits = fits;
       },
     )
+
+-- ---- what the queue holds
+queued_marks : (marks : ℕ) → queued (replicate marks End) ≡ []
+queued_marks zero = refl
+queued_marks (suc marks) = queued_marks marks
+
+queued_line : (from count marks : ℕ) → queued (line from count marks) ≡ numbers_from from count
+queued_line from zero marks = queued_marks marks
+queued_line from (suc count) marks = ap (λ l. from ∷ l) (queued_line (from + 1) count marks)
+
+pub queue_law : QueueLaw
+queue_law packets members items words stands h =
+    let r = h.line in
+    let views = map hand_seen stands in
+    let count : r.drawn + (r.pushed - r.drawn) ≡ pushed stands =
+    (let a = r.behind in let b = total_map (λ (t : Turn). t.pushed) (λ (s : HandState). s.turn) stands in let c =
+    r.pushed_is in omega arith) in
+    let held : queued items ≡ numbers_from r.drawn (r.pushed - r.drawn) =
+    ap queued r.in_line ∙ queued_line r.drawn (r.pushed - r.drawn) (r.marks - r.ended) in
+    λ x. let a = times-append x (all_drawn views) (queued items) in
+    let b = ap (times x) held in
+    let c = times_gathered (λ (v : View). v.drawn) x views in
+    let d = total_map (λ (v : View). times x v.drawn) hand_seen stands in
+    let e = total_map (λ (t : Turn). times x t.popped) (λ (s : HandState). s.turn) stands in
+    let f = r.each_once x in
+    let g = below_and_from x r.drawn (r.pushed - r.drawn) in
+    let k = ap (once_below x) count in
+    omega arith

@@ -8,14 +8,14 @@ use mathlib.Core.Option.{some}
 use lib.ListN.{get_elem?}
 use Rattle.atomic_table.proofs.Lists.{at_set, at_snoc}
 use Rattle.crossbeam_queue.specs.Fifo.{Pushes, Pops, Forks, Merges, Learns}
-use Rattle.tp_board.specs.Counting.{times, once_below}
+use Rattle.tp_board.specs.Counting.{times, once_below, AreBelow}
 use Rattle.tp_board.specs.Runs.{numbers_from}
 use Rattle.tp_board.specs.Rule.{total}
 use Rattle.tp_board.specs.declared.line.Item.{Item}
 use Rattle.tp_board.specs.declared.line.Item.TheVariants.{Number, End}
 use Rattle.tp_board.specs.declared.line.Turn.{Turn}
 use Rattle.tp_board.specs.Lines.{first, feeder, hand, nobody, without_one, joined, put, took, Took, item_of, MayPut, line}
-use Rattle.tp_board.specs.Lines.{FitsLine, Streamed, Waits, Left, LeftAt}
+use Rattle.tp_board.specs.Lines.{FitsLine, Streamed, Waits, Left, LeftAt, TookRest}
 use Rattle.tp_board.proofs.Counting.{times-append, once_more}
 use Rattle.tp_board.proofs.Totals.{total_set, total_snoc, le_total, others_none, all_of, each_set}
 
@@ -500,6 +500,16 @@ none_left from (suc n) marks e = absurd (let z : 0 ≡ suc (length (line (from +
 -- where the pass with every part has drained the queue, it has popped what it pushed
 pub all_popped : (v : Turn) → Left v [] → length v.popped ≡ v.pushed
 all_popped v h = let a = none_left h.0 (v.pushed - h.0) (v.marks - v.ended) h.1 in let b = h.2 in let c = h.4 in omega arith
+
+-- and took out the rest of it
+pub took_rest : (v u w : Turn) (left : List ℕ) → w ≡ u → u.popped ≡ v.popped ++ left → u.pushed ≡ v.pushed → Left u []
+    → TookRest v w
+took_rest v u w left same is pushed h =
+    let all : h.0 ≡ v.pushed = (let a = all_popped u h in let b = h.4 in omega arith) in (
+      left,
+      ap (λ (t : Turn). t.popped) same ∙ is,
+      λ x. ap (λ (t : Turn). times x t.popped) same ∙ h.3 x ∙ ap (once_below x) all,
+    )
 
 -- what it knew before, where that many were popped
 pub left_at : (v : Turn) (n : ℕ) → length v.popped ≡ n → (items : List Item) × Left v items → LeftAt v n

@@ -136,3 +136,7 @@ pub record LeftAt (v : Turn) (n : ℕ) : Type 0 where
   pub counted : length v.popped ≡ n
   pub within : v.pushed ≤ v.packets
   pub ended : 0 < v.ended → n ≡ v.packets
+
+-- it took these numbers out of the queue; with what it had popped before they are the numbers that it pushed, each once
+abbrev pub TookRest : Turn → Turn → Type 0
+TookRest v w = (left : List ℕ) × (w.popped ≡ v.popped ++ left) × AreBelow w.popped v.pushed

@@ -5,8 +5,6 @@ use Rattle.tp_board.specs.declared.answer.Claim.{Claim}
 use Rattle.tp_board.specs.declared.answer.Claim.TheVariants as claim
 use Rattle.tp_board.specs.declared.source.Work.{Work}
 use Rattle.tp_board.specs.declared.source.Work.TheVariants as work
-use Rattle.tp_board.specs.declared.source.Lent.{Lent}
-use Rattle.tp_board.specs.declared.source.Lent.TheVariants as lent
 use Rattle.tp_board.specs.Boards.{BoardView, SeatView}
 use Rattle.tp_board.specs.Views.{first_of}
 
@@ -33,12 +31,6 @@ NextSays packets p (work.Packet n bytes) q =
 NextSays packets p work.NoMore q =
     ((p.ended ≡ true) ⊎ ((p.stop_seen ≡ false) × (p.stop_called ≡ false))) × (q ≡ record p { ended = true })
 NextSays packets p work.Stopped q = (p.ended ≡ false) × (q ≡ record p { stop_seen = true })
-
--- the answer that carries what was found
-abbrev pub work_of : Lent → Work
-work_of (lent.Packet n packet) = work.Packet n packet.now
-work_of lent.NoMore = work.NoMore
-work_of lent.Stopped = work.Stopped
 
 -- the number n, in hand, is finished
 abbrev pub HandFinished : Progress → ℕ → Progress → Type 0

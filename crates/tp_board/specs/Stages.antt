@@ -11,6 +11,7 @@ use Rattle.tp_board.specs.declared.line.Item.{Item}
 use Rattle.tp_board.specs.declared.line.Item.TheVariants.{Number, End}
 use Rattle.tp_board.specs.declared.line.Turn.{Turn}
 use Rattle.tp_board.specs.declared.view.View.{View}
+use Rattle.tp_board.specs.Counting.{AreBelow}
 use Rattle.tp_board.specs.Desks.{KeepsDesk, holding}
 use Rattle.tp_board.specs.Freshness.{IsFresh}
 use Rattle.tp_board.specs.Laws.{IsEvent}
@@ -19,6 +20,7 @@ use Rattle.tp_board.specs.Openings.{InRange}
 use Rattle.tp_board.specs.Rule.{total, KeepsRule}
 use Rattle.tp_board.specs.Steps.{row_of, MayStep}
 use Rattle.tp_board.specs.Streams.{seen_of, Agrees}
+use Rattle.tp_board.specs.Views.{all_drawn}
 use Rattle.tp_board.specs.Words.{size, place_of, desk_place_of}
 
 -- what one member, or the feeder, knows of queue and words, with the numbers in hand
@@ -55,11 +57,29 @@ StreamIsBoardLaw =
     → KeepsStream packets members items words stands
     → KeepsRule (size packets (members + 1)) (pops stands ∷ words) (map hand_seen stands)
 
--- ---- steps
--- what each step makes of the one that takes it
+-- the number that an item is, if it is one
 abbrev pub numbers_in : Item → List ℕ
 numbers_in (Number n) = n ∷ []
 numbers_in End = []
+
+-- those that the queue holds, in order
+abbrev pub queued : List Item → List ℕ
+queued [] = []
+queued (x ∷ items) = numbers_in x ++ queued items
+
+-- how many numbers were pushed
+abbrev pub pushed : List HandState → ℕ
+pushed stands = total (λ s. s.turn.pushed) stands
+
+-- at each moment the numbers that were popped and those that the queue holds are the numbers below `pushed`, each once
+abbrev pub QueueLaw : Type 0
+QueueLaw =
+    (packets members : ℕ) (items : List Item) (words : List ℕ) (stands : List HandState)
+    → KeepsStream packets members items words stands
+    → AreBelow (all_drawn (map hand_seen stands) ++ queued items) (pushed stands)
+
+-- ---- steps
+-- what each step makes of the one that takes it
 
 abbrev pub after_pop : HandState → Item → HandState
 after_pop s x = record s { turn = took s.turn x; numbers = s.numbers ++ numbers_in x }

@@ -1,5 +1,5 @@
 -- What a stream, its hands and its feeder are to a contract, and what its calls say.
-use Rattle.std.specs.Prelude.{◌≡◌, ℕ, ◌+◌, ◌-◌, ◌<◌, ◌≤◌, ◌⊎◌, Bool, List, [], ◌∷◌, ◌++◌, length, map, replicate, Option, Some}
+use Rattle.std.specs.Prelude.{◌≡◌, ℕ, ◌+◌, ◌<◌, ◌≤◌, ◌⊎◌, Bool, List, [], ◌∷◌, ◌++◌, length, map, replicate, Option, Some}
 use Rattle.std.specs.Prelude.{None, slice_get, if◌then◌else◌}
 use Rattle.atomic_table.specs.Seated.{TableId}
 use Rattle.crossbeam_queue.specs.Fifo.{Held}
@@ -19,7 +19,6 @@ use Rattle.tp_board.specs.Counting.{times, hand_list, AreBelow}
 use Rattle.tp_board.specs.Limits.{most_packets, most_members}
 use Rattle.tp_board.specs.Lines.{hand, feeder, item_of, put, MayPut, Waits}
 use Rattle.tp_board.specs.Openings.{InRange}
-use Rattle.tp_board.specs.Runs.{numbers_from}
 use Rattle.tp_board.specs.Sources.{Progress, progress_of}
 use Rattle.tp_board.specs.Views.{newcomer, all_drawn}
 use Rattle.tp_board.specs.Words.{size}
@@ -195,7 +194,6 @@ FeedSays f fed.Stopped g = Makes (feeder_seen f) (sees_stop ∷ []) (feeder_seen
 FeedSays f fed.Over g = LooksOnly f g × IsAllPushed f.turn
 
 -- ---- the close
--- the numbers that the hands drew and those left in the queue, from `drawn` to `pushed`, are the
--- numbers below `pushed`, each once
-abbrev pub IsLeft : List View → ℕ → ℕ → Type 0
-IsLeft views pushed drawn = (drawn ≤ pushed) × AreBelow (all_drawn views ++ numbers_from drawn (pushed - drawn)) pushed
+-- the close took these numbers out of the queue; with those that the hands drew they are the numbers below `pushed`, each once
+abbrev pub IsLeft : List View → (pushed : ℕ) → Type 0
+IsLeft views pushed = (left : List ℕ) × AreBelow (all_drawn views ++ left) pushed

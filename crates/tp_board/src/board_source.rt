@@ -7,7 +7,7 @@ ghost use Rattle.tp_board.specs.Sources.{SourceView, source_of};
 use crate::answer::{BoardFault, Claim};
 use crate::board::Board;
 use crate::seat::Seat;
-use crate::source::{LendingSource, Lent, Packet, Work, WorkSource, answered};
+use crate::source::{Packet, Work, WorkSource, copied};
 use std::marker::Model;
 use std::sync::Wait;
 
@@ -46,7 +46,7 @@ impl<'p> BoardSource<'p> {
 
 impl<'p> WorkSource for BoardSource<'p> {
     ghost use Rattle.tp_board.specs.declared.answer.BoardFault.TheVariants.{EmptyHand};
-    ghost use Rattle.tp_board.specs.Sources.{progress_of, claim_of, work_of, NextSays, HandFinished, HandAbandoned};
+    ghost use Rattle.tp_board.specs.Sources.{progress_of, claim_of, NextSays, HandFinished, HandAbandoned};
     ghost use Rattle.tp_board.specs.Views.{first_of};
 
     type Hand = Seat;
@@ -58,14 +58,22 @@ impl<'p> WorkSource for BoardSource<'p> {
     ghost packets = { λ s. s.packets };
 
     /// One claim.
-    fn next(&self, rt: &impl Wait, hand: &mut Seat) -> Work
+    fn next(&self, _rt: &impl Wait, hand: &mut Seat) -> Work
         requires own { IsSeatOf self.now.board hand.old }
         requires empty { first_of hand.old.view.hand ≡ None }
         ensures own { IsSeatOf self.now.board hand.new }
         ensures work { NextSays self.now.packets (progress_of hand.old.view) result (progress_of hand.new.view) }
         ensures steps { ClaimSays hand.old.view (claim_of result) hand.new.view }
     {
-        answered(self.lend(rt, hand))
+        match self.board.claim(hand) {
+            Claim::Packet(number) => Work::Packet {
+                number,
+                bytes: copied(&self.packets[number as usize]),
+            },
+            Claim::NoMore => Work::NoMore,
+            Claim::Stopped => Work::Stopped,
+            Claim::Busy(_) => unreachable!(),
+        }
     }
 
     /// One finish.
@@ -102,27 +110,5 @@ impl<'p> WorkSource for BoardSource<'p> {
         ensures steps { StopSays hand.old.view hand.new.view }
     {
         self.board.stop(hand);
-    }
-}
-
-impl<'p> LendingSource for BoardSource<'p> {
-    ghost use Rattle.tp_board.specs.Sources.{progress_of, claim_of, work_of, NextSays};
-    ghost use Rattle.tp_board.specs.Views.{first_of};
-
-    /// One claim.
-    fn lend(&self, _rt: &impl Wait, hand: &mut Seat) -> Lent<'_>
-        requires own { IsSeatOf self.now.board hand.old }
-        requires empty { first_of hand.old.view.hand ≡ None }
-        ensures own { IsSeatOf self.now.board hand.new }
-        ensures work { NextSays self.now.packets (progress_of hand.old.view) (work_of result)
-            (progress_of hand.new.view) }
-        ensures steps { ClaimSays hand.old.view (claim_of (work_of result)) hand.new.view }
-    {
-        match self.board.claim(hand) {
-            Claim::Packet(number) => Lent::Packet(number, &self.packets[number as usize]),
-            Claim::NoMore => Lent::NoMore,
-            Claim::Stopped => Lent::Stopped,
-            Claim::Busy(_) => unreachable!(),
-        }
     }
 }

@@ -48,7 +48,7 @@ impl Core {
 
     /// One event of one member. Only Finish and Abandon of a number in hand take memory; after an
     /// `Err` nothing has changed.
-    pub fn step(&mut self, member: u32, event: Event) -> Result<Reply, AllocError>
+    pub fn step(&mut self, alloc: Global, member: u32, event: Event) -> Result<Reply, AllocError>
         requires { member < length self.old.hands }
         ensures ok { IfOk result (λ r. (r, self.new) ≡ step self.old member event) }
         ensures err { OnErr result (self.new ≡ self.old) }
@@ -83,7 +83,7 @@ impl Core {
         let _ = &self.packets;
         let mut answers = Vec::with_capacity(alloc, events.len())?;
         for entry in events {
-            let answer = self.step(entry.0, entry.1)?;
+            let answer = self.step(alloc, entry.0, entry.1)?;
             answers.push_reserved(answer);
         }
         let _ = &self.packets;

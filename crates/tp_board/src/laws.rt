@@ -6,7 +6,7 @@ ghost use Rattle.tp_board.specs.declared.event.Shown.{Shown};
 ghost use Rattle.tp_board.specs.Laws.{StepLaw, AccountsLaw};
 ghost use Rattle.tp_board.specs.Openings.{OpeningLaw};
 ghost use Rattle.tp_board.specs.Schedules.{ScheduleLaw};
-ghost use Rattle.tp_board.specs.Stages.{StreamIsBoardLaw, PopLaw, PushLaw, WordLaw, IsAtWords};
+ghost use Rattle.tp_board.specs.Stages.{StreamIsBoardLaw, QueueLaw, PopLaw, PushLaw, WordLaw, IsAtWords};
 ghost use Rattle.tp_board.specs.StreamRuns.{StreamScheduleLaw, StreamOpeningLaw};
 
 /// Every list of events draws the numbers in order, keeps each of them once, and takes nothing back.
@@ -58,6 +58,12 @@ pub fn rule_keeps_accounts()
 /// rule.
 pub fn stream_stands_for_board()
     ensures { StreamIsBoardLaw }
+{}
+
+/// Whatever a stream's two rules allow, the numbers that were popped and those that the queue holds are the
+/// numbers that were pushed, each once.
+pub fn queue_holds_the_rest()
+    ensures { QueueLaw }
 {}
 
 /// A pop of a packet is Claim answered with its number, and a pop of an end mark Claim answered NoMore.

@@ -26,6 +26,6 @@ pub use board_source::BoardSource;
 pub use event::{Event, Reply, Shown};
 pub use farm_core::Core;
 pub use seat::Seat;
-pub use source::{LendingSource, Lent, Packet, Work, WorkSource};
+pub use source::{Packet, Work, WorkSource};
 pub use stream::{StreamCloseFault, StreamQueue};
 pub use stream_hand::{Fed, Feeder, StreamHand, StreamLedger};

@@ -4,7 +4,7 @@ ghost use Rattle.std.specs.Prelude.{◌≡◌, ◌<◌, ◌≤◌, ◌+◌, [], 
 ghost use Rattle.crossbeam_queue.specs.Fifo.{Held};
 ghost use Rattle.crossbeam_queue.specs.Passes.{view, IsPassOf, IsSamePass, ruled_capacity};
 ghost use Rattle.tp_board.specs.Limits.{most_packets};
-ghost use Rattle.tp_board.specs.Lines.{first, feeder, hand, without_one, joined, put, item_of, MayPut, Took, Waits, Left, LeftAt};
+ghost use Rattle.tp_board.specs.Lines.{first, feeder, hand, without_one, joined, put, item_of, MayPut, Took, Waits, Left, LeftAt, TookRest};
 
 use crossbeam_queue::protocol::{Join, Lesson, Outcome, Protocol, Split};
 use crossbeam_queue::{Pass, RuledArrayQueue};
@@ -228,7 +228,8 @@ pub fn drained<R: Wait>(rt: &R, line: &Line, pass: &mut Place, pushed: u32) -> u
     requires queue { IsPassOf line.now pass.old }
     requires parts { (view pass.old).members + 1 ≤ (view pass.old).parts }
     requires pushed { ((view pass.old).pushed ≡ pushed) × ((view pass.old).packets ≤ most_packets) }
-    ensures { LeftAt (view pass.old) result }
+    ensures before { LeftAt (view pass.old) result }
+    ensures rest { TookRest (view pass.old) (view pass.new) }
 {
     line.learn_as::<Rest>(pass);
     let mut left: u32 = 0;

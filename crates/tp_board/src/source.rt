@@ -1,7 +1,6 @@
 //! Where a member's work comes from.
 ghost use Rattle.std.specs.Prelude.{◌≡◌, true, IfOk, IfErr, OnErr};
 ghost use Rattle.tp_board.specs.declared.answer.BoardFault.TheVariants.{EmptyHand};
-ghost use Rattle.tp_board.specs.Sources.{work_of};
 
 use crate::answer::BoardFault;
 use arrayvec::ArrayVec;
@@ -21,33 +20,8 @@ pub enum Work {
     Stopped,
 }
 
-/// What a request for work found, where the packet's bytes stay in the source.
-#[derive(Clone, Copy)]
-pub enum Lent<'p> {
-    /// The packet of this number, which is now in hand.
-    Packet(u32, &'p Packet),
-    /// All packets were given out.
-    NoMore,
-    /// The source was stopped.
-    Stopped,
-}
-
-/// The answer with the bytes of what was found.
-pub(crate) fn answered(lent: Lent<'_>) -> Work
-    ensures { result ≡ work_of lent.entry }
-{
-    match lent {
-        Lent::Packet(number, packet) => Work::Packet {
-            number,
-            bytes: copied(packet),
-        },
-        Lent::NoMore => Work::NoMore,
-        Lent::Stopped => Work::Stopped,
-    }
-}
-
 // The same bytes. `clone` would take memory's Result.
-fn copied(packet: &Packet) -> Packet
+pub(crate) fn copied(packet: &Packet) -> Packet
     ensures { result.items ≡ packet.now.items }
 {
     let mut copy = ArrayVec::new();
@@ -102,18 +76,4 @@ pub trait WorkSource {
         requires { Self.is_own self.now hand.old }
         ensures own { Self.is_own self.now hand.new }
         ensures called { Self.progress hand.new ≡ record (Self.progress hand.old) { stop_called = true } };
-}
-
-/// A source whose packets a member may read where they lie.
-pub trait LendingSource: WorkSource {
-    ghost use Rattle.std.specs.Prelude.{◌≡◌, None};
-    ghost use Rattle.tp_board.specs.Sources.{NextSays, work_of};
-
-    /// As `next`, but nothing is copied.
-    fn lend(&self, rt: &impl Wait, hand: &mut Self::Hand) -> Lent<'_>
-        requires own { Self.is_own self.now hand.old }
-        requires empty { (Self.progress hand.old).in_hand ≡ None }
-        ensures own { Self.is_own self.now hand.new }
-        ensures work { NextSays (Self.packets self.now) (Self.progress hand.old) (work_of result)
-            (Self.progress hand.new) };
 }

@@ -11,7 +11,7 @@ ghost use Rattle.tp_board.specs.Limits.{most_packets};
 ghost use Rattle.tp_board.specs.Lines.{hand, feeder, item_of, put, MayPut, Waits};
 ghost use Rattle.crossbeam_queue.specs.Fifo.{Held};
 ghost use Rattle.tp_board.specs.Openings.{InRange};
-ghost use Rattle.tp_board.specs.Sources.{work_of, NextSays};
+ghost use Rattle.tp_board.specs.Sources.{NextSays};
 ghost use Rattle.tp_board.specs.Streams.{StreamView, stream_of, hand_of_parts, fresh_hand, seen_of, hand_seen};
 ghost use Rattle.tp_board.specs.Streams.{hand_progress, feeder_seen, all_seen};
 ghost use Rattle.tp_board.specs.Streams.{IsStream, IsHandOf, IsFeederOf, new_hand_of, new_feeder_of};
@@ -23,12 +23,14 @@ use crate::desk::{
     report_lost, set_stop,
 };
 use crate::line::{Item, Line, Place, drained, feed, join, new_hand, opened, take};
-use crate::source::{LendingSource, Lent, Packet, Work, WorkSource, answered};
+use crate::source::{Packet, Work, WorkSource, copied};
 use crate::stream_hand::{Fed, Feeder, StreamHand, StreamLedger};
 use std::alloc::Global;
+use std::hint;
 use std::marker::Model;
 use std::sync::Wait;
-use std::thread;
+use std::thread::Parker;
+use std::time::Duration;
 
 /// Packets that one thread feeds in order of number, through a queue of 32 places, and the members
 /// take, each with its own hand. Shared by `&` between their threads.
@@ -59,6 +61,26 @@ pub struct StreamCloseFault<'p> {
     pub stream: StreamQueue<'p>,
     pub feeder: Feeder,
     pub hands: Vec<StreamHand>,
+}
+
+// So many tries may find the queue empty before a member rests at each, and so many pauses stand before each of them.
+const TRIES_BEFORE_REST: u32 = 16;
+
+const PAUSES: u32 = 256;
+
+// How long a member rests, in microseconds.
+const REST: u64 = 10;
+
+// Leaves the queue to the feeder after a try that found it empty: at first by pauses, then by a rest. It never yields: where
+// others keep the processors busy, a yield gives them a whole turn, and one who has rested is called back soon.
+fn give_way<R: Wait>(rt: &R, tries: u32) {
+    if tries < TRIES_BEFORE_REST {
+        for _ in 0..PAUSES {
+            hint::spin_loop();
+        }
+    } else {
+        Parker::new().park_timeout(rt, Duration::from_micros(REST));
+    }
 }
 
 impl<'p> StreamQueue<'p> {
@@ -182,53 +204,31 @@ impl<'p> StreamQueue<'p> {
         set_stop(&self.desk, &mut feeder.token);
     }
 
-    // The next packet, the end or the stop, by tries until one has an answer.
-    fn next_item<R: Wait>(&self, rt: &R, hand: &mut StreamHand) -> Lent<'_>
-        requires own { IsHandOf self.now hand.old }
-        requires empty { first_of (hand_list hand.old.number) ≡ None }
-        ensures own { IsHandOf self.now hand.new }
-        ensures work { NextSays self.now.packets (hand_progress hand.old) (work_of result) (hand_progress hand.new) }
-        ensures steps { NextMakes (hand_seen hand.old) (work_of result) (hand_seen hand.new) }
-    {
-        if hand.ended {
-            return Lent::NoMore;
-        }
-        if hand.stop_seen {
-            return Lent::Stopped;
-        }
-        for _ in rt.forever() {
-            if let Some(lent) = self.try_next(rt, hand) {
-                return lent;
-            }
-            thread::yield_now();
-        }
-        unreachable!()
-    }
-
     // One load of the stop mark and, where that is clear, one try to pop. None only where the queue
     // was empty.
-    fn try_next<R: Wait>(&self, rt: &R, hand: &mut StreamHand) -> Option<Lent<'_>>
+    fn try_next<R: Wait>(&self, rt: &R, hand: &mut StreamHand) -> Option<Work>
         requires own { IsHandOf self.now hand.old }
         requires empty { hand.old.number ≡ None }
         requires going { ((hand_seen hand.old).ended ≡ 0) × ((hand_seen hand.old).seen.stop ≡ 0) }
         ensures own { IsHandOf self.now hand.new }
         ensures none { result ≡ None →
             (hand.new.number ≡ None) × Makes (hand_seen hand.old) (sees_no_stop ∷ []) (hand_seen hand.new) }
-        ensures some { IfSome result (λ t. NextAfter [] (hand_seen hand.old) (work_of t) (hand_seen hand.new)) }
-        ensures bytes { IfSome result (λ t. HasBytes self.now.packets (work_of t)) }
+        ensures some { IfSome result (λ work. NextAfter [] (hand_seen hand.old) work (hand_seen hand.new)) }
+        ensures bytes { IfSome result (HasBytes self.now.packets) }
     {
         if look_stop(&self.desk, &mut hand.token) != 0 {
             hand.stop_seen = true;
-            return Some(Lent::Stopped);
+            return Some(Work::Stopped);
         }
         match take(rt, &self.line, &mut hand.pass) {
             Some(Item::Number(number)) => {
                 hand.number = Some(number);
-                Some(Lent::Packet(number, &self.packets[number as usize]))
+                let bytes = copied(&self.packets[number as usize]);
+                Some(Work::Packet { number, bytes })
             }
             Some(Item::End) => {
                 hand.ended = true;
-                Some(Lent::NoMore)
+                Some(Work::NoMore)
             }
             None => None,
         }
@@ -248,7 +248,7 @@ impl<'p> StreamQueue<'p> {
         ensures ledger { IfOk result
             (λ l. Balances (length self.entry.packets) (all_seen hands.items feeder) l.ledger) }
         ensures pushed { IfOk result (λ l. l.pushed ≡ feeder.turn.pushed) }
-        ensures left { IfOk result (λ l. IsLeft (all_seen hands.items feeder) l.pushed l.ledger.drawn) }
+        ensures left { IfOk result (λ l. IsLeft (all_seen hands.items feeder) l.pushed) }
         ensures missing { IfErr result (λ f. length hands.items < self.entry.members) }
         ensures err { IfErr result
             (λ f. (f.stream ≡ self.entry) × (f.feeder ≡ feeder) × (f.hands.items ≡ hands.items)) }
@@ -390,7 +390,21 @@ impl<'p> WorkSource for StreamQueue<'p> {
         ensures work { NextSays self.now.packets (hand_progress hand.old) result (hand_progress hand.new) }
         ensures steps { NextMakes (hand_seen hand.old) result (hand_seen hand.new) }
     {
-        answered(self.next_item(rt, hand))
+        if hand.ended {
+            return Work::NoMore;
+        }
+        if hand.stop_seen {
+            return Work::Stopped;
+        }
+        let mut tries = 0u32;
+        for _ in rt.forever() {
+            if let Some(work) = self.try_next(rt, hand) {
+                return work;
+            }
+            give_way(rt, tries);
+            tries = TRIES_BEFORE_REST.min(tries.saturating_add(1));
+        }
+        unreachable!()
     }
 
     /// One addition to the count of packets done.
@@ -437,18 +451,5 @@ impl<'p> WorkSource for StreamQueue<'p> {
         ensures steps { StopSays (hand_seen hand.old) (hand_seen hand.new) }
     {
         set_stop(&self.desk, &mut hand.token);
-    }
-}
-
-impl<'p> LendingSource for StreamQueue<'p> {
-    /// The same loads and tries.
-    fn lend(&self, rt: &impl Wait, hand: &mut StreamHand) -> Lent<'_>
-        requires own { IsHandOf self.now hand.old }
-        requires empty { (hand_progress hand.old).in_hand ≡ None }
-        ensures own { IsHandOf self.now hand.new }
-        ensures work { NextSays self.now.packets (hand_progress hand.old) (work_of result) (hand_progress hand.new) }
-        ensures steps { NextMakes (hand_seen hand.old) (work_of result) (hand_seen hand.new) }
-    {
-        self.next_item(rt, hand)
     }
 }

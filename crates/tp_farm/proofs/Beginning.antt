@@ -1,6 +1,6 @@
 -- Why a batch does not begin.
 use Rattle.std.proofs.Common.{◌≡◌, ℕ, ◌+◌, ◌*◌, ◌<◌, ◌≤◌, Bool, true, false, not, cond, ◌==◌, ◌||◌, nat_lt, if◌then◌else◌, List}
-use Rattle.std.proofs.Common.{[], ◌∷◌, map, position, length, get_or, Option, Some, None, Result, Ok, Err, IfOk, OnOk, refl, ap}
+use Rattle.std.proofs.Common.{All, [], ◌∷◌, map, position, length, get_or, Option, Some, None, Result, Ok, Err, IfOk, OnOk, refl, ap}
 use Rattle.std.proofs.Common.{arith}
 use Rattle.std.specs.List.{position_or_len}
 use Rattle.std.specs.Option.{option_map}
@@ -42,16 +42,21 @@ module _ {X : Type 0} (p : X → Bool) (xs : List X) where
   all_other : position p xs ≡ None → (k : ℕ) (d : X) → k < length xs → p (get_or xs k d) ≡ false
   all_other e k d lt = fails_before_first p xs k d (omega (arith, no_first e, lt))
 
-first_whole : (batch : JobValue) → first_other batch ≡ None → AreWhole batch
-first_whole batch e k d lt =
+-- each packet has its length
+first_long : (batch : JobValue) → first_other batch ≡ None → All (λ packet. length packet ≡ 4 * batch.image.packet) batch.packets
+first_long batch e k d lt =
     same (get_or batch.packets k d) (all_other (λ packet. not (length packet == 4 * batch.image.packet)) batch.packets e k d lt)
   where
     same : (packet : List ℕ) → not (length packet == 4 * batch.image.packet) ≡ false → length packet ≡ 4 * batch.image.packet
     same packet is = grind (arith, nat_tests, is)
 
+-- and is bytes
+pub first_whole : (batch : JobValue) → first_other batch ≡ None → All (All (λ byte. byte < 256)) batch.packets → AreWhole batch
+first_whole batch e bytes k d lt = record { long = first_long batch e k d lt; bytes = bytes k d lt }
+
 -- no refusal
-pub begun : (members : ℕ) (batch : JobValue) → job_fault members batch ≡ None → Begins members batch
-begun members batch e =
+pub begun : (members : ℕ) (batch : JobValue) → AreWhole batch → job_fault members batch ≡ None → Begins members batch
+begun members batch whole e =
     by_tests ((members == 0) || nat_lt most_members members) refl (nat_lt most_packets (length batch.packets)) refl
     (first_other batch) refl e
   where
@@ -65,7 +70,7 @@ begun members batch e =
       some = grind (arith, nat_tests, is);
       few = grind (arith, nat_tests, is);
       less = grind (arith, nat_tests, more);
-      whole = first_whole batch first;
+      whole = whole;
     }
 
 pub on_ok : {A E : Type 0} (P : Type 0) (r : Result A E) → P → OnOk r P

@@ -10,9 +10,6 @@ pub mod Beginning
 pub mod Settling
 pub mod Together
 pub mod Settled
-pub mod Nothing
 pub mod Feeding
 pub mod Views
-pub mod Seats
 pub mod Promising
-pub mod Answering

@@ -21,7 +21,7 @@ use Rattle.tp_collect.specs.DoneValue.{DoneValue, run_of_done, most_trace}
 use Rattle.tp_collect.specs.Collected.{JobValue, IsResult}
 use Rattle.tp_farm.specs.Losses.{HasCause, MayLose, TracesMore}
 use Rattle.tp_farm.specs.Batches.{IsBatch}
-use Rattle.tp_farm.specs.Promised.{ArePackets, GivesRun, GoesWell, Takes, TakeAll, ComesTo, LosesLongTracesAlone}
+use Rattle.tp_farm.specs.Promised.{GivesRun, GoesWell, Takes, TakeAll, ComesTo, LosesLongTracesAlone}
 
 one_of : {A : Type 0} (P : A → Type 0) (xs : List A) (i : ℕ) (x : A) → All P xs → slice_get xs i ≡ Some x → P x
 one_of P xs i x all at = subst P (get_or_from_slice_get xs i x x at) (all i x (slice_get_within xs i x at))
@@ -69,12 +69,12 @@ same_fault fault which code =
 
 -- ---- a batch
 
-module _ (batch : JobValue) (budget : ℕ) (never : ending.NeverGoesWrong batch.image budget) (packets : ArePackets batch)
+module _ (batch : JobValue) (budget : ℕ) (never : ending.NeverGoesWrong batch.image budget)
     (open_for_good : Bool) (before after : List Devices) (entries : List Entry)
     (b : IsBatch batch open_for_good before after entries) where
   module _ (i : ℕ) (packet : List ℕ) (at : slice_get batch.packets i ≡ Some packet) where
     ends : ending.EndsWithin batch.image budget packet
-    ends = never packet (one_of (ending.IsPacket batch.image) batch.packets i packet packets at)
+    ends = never packet (one_of (ending.IsPacket batch.image) batch.packets i packet b.packets at)
 
     -- its entry
     is_there : i < length entries

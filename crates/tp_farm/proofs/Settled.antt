@@ -17,13 +17,14 @@ use Rattle.tp_farm.specs.Works.{Work}
 use Rattle.tp_farm.specs.Gathering.{nothing_filed, fault_of_end, all_filed, filed_in, FindVacant, IsOfBatch}
 use Rattle.tp_farm.specs.Closing.{AddsUp}
 use Rattle.tp_farm.specs.MemberResults.{member_results}
+use Rattle.tp_farm.specs.Jobs.{AreWhole}
 use Rattle.tp_farm.specs.Batches.{IsBatch}
 use Rattle.tp_farm.proofs.Settling.{Member, AllDidWell, hands, everything, all_vacant, settled}
 use Rattle.tp_farm.proofs.Together.{members_of, did_well, before_is, after_is, hands_is, filed_is, length_is, hands_own}
 use Rattle.tp_farm.proofs.Together.{all_of_batch}
 
 module _ {H D : Type 0} (state : D → DeviceState) (own : H → Type 0) (progress : H → Progress) (work : Work)
-    (bs : List (Links D)) (rs : List (Returned H Filed D)) (worked : AllZip (HasWorked state own progress work) bs rs) where
+    (bs : List (Links D)) (rs : List (Returned H D)) (worked : AllZip (HasWorked state own progress work) bs rs) where
   -- what was empty holds what came
   came : {X : Type 0} (old new come : List X) → old ≡ [] → new ≡ old ++ come → new ≡ come
   came old new come none is = is ∙ ap (λ xs. xs ++ come) none
@@ -45,7 +46,7 @@ module _ {H D : Type 0} (state : D → DeviceState) (own : H → Type 0) (progre
 
     module _ (well : All (λ r. fault_of_end r.end ≡ None) rs) (hands0 hands1 : List H) (no_hands : hands0 ≡ [])
         (came_in : hands1 ≡ hands0 ++ map (λ r. r.hand) rs) (l : Ledger) (adds_up : AddsUp n (map progress hands1) l)
-        (sized : n ≡ length work.batch.packets) where
+        (sized : n ≡ length work.batch.packets) (whole : AreWhole work.batch) where
       ms : List Member
       ms = members_of state own progress bs rs
 
@@ -97,7 +98,7 @@ module _ {H D : Type 0} (state : D → DeviceState) (own : H → Type 0) (progre
         unfolding ms
         is_batch =
             let it =
-            settled work.batch work.open_for_good n l ms all_well added_up sized entries entries_filed
+            settled work.batch work.open_for_good n l ms all_well added_up sized whole entries entries_filed
             (subst (λ b. IsCollected b entries) batch_same collected) some_members in
             subst (λ xs. IsBatch work.batch work.open_for_good (map (devices_of state) bs) (map (devices_of state) xs) entries)
             (sym links_is)
@@ -108,10 +109,11 @@ module _ {H D : Type 0} (state : D → DeviceState) (own : H → Type 0) (progre
 
 -- members that have worked on a job's batch, and its collector as it is at first
 pub to_settle : {H D : Type 0} (state : D → DeviceState) (own : H → Type 0) (progress : H → Progress) (n : ℕ) (work : Work)
-    (bs : List (Links D)) (rs : List (Returned H Filed D)) (c : Collection) → AllZip (HasWorked state own progress work) bs rs
-    → n ≡ length work.batch.packets → c ≡ nothing_filed work.batch → HaveToSettle state own progress n work bs rs c
-to_settle state own progress n work bs rs c worked sized empty = record {
+    (bs : List (Links D)) (rs : List (Returned H D)) (c : Collection) → AllZip (HasWorked state own progress work) bs rs
+    → n ≡ length work.batch.packets → AreWhole work.batch → c ≡ nothing_filed work.batch → HaveToSettle state own progress n work bs rs c
+to_settle state own progress n work bs rs c worked sized whole empty = record {
   worked = worked;
   sized = sized;
+  whole = whole;
   empty = empty ∙ ap (λ k. collection work.batch (replicate k vacant)) (sym sized);
 }

@@ -28,6 +28,7 @@ use Rattle.tp_farm.specs.Settings.{SameSettings}
 use Rattle.tp_farm.specs.Members.{KeepsAccounts, EndsBy, IsFiled, filed_failed}
 use Rattle.tp_farm.specs.Closing.{all_finished, all_abandoned, put_down, IsBorneOut, AddsUp}
 use Rattle.tp_farm.specs.Gathering.{number_of, entry_of, filed_in, FindVacant, all_filed, fault_of_end}
+use Rattle.tp_farm.specs.Jobs.{AreWhole}
 use Rattle.tp_farm.specs.Batches.{device_at, failures_at, tells_failure, LostBySome, IsBatch}
 use Rattle.tp_farm.proofs.Numbers.{numbers, times-append, times_parts, find_vacant, tells_all, none_filed}
 use Rattle.tp_farm.proofs.Origins.{Comes, comes_from}
@@ -305,9 +306,10 @@ module _ (batch : JobValue) (o : Bool) where
             let none = none_filed (replicate n vacant) (everything ms) i all_vacant (sym (ap (λ es. slice_get es i) is) ∙ at) in
             absurd (omega (arith, none, each_filed e i any lt))
 
-    pub settled : (entries : List Entry) → entries ≡ filed_in (replicate n vacant) (everything ms) → IsCollected batch entries
+    pub settled : AreWhole batch → (entries : List Entry) → entries ≡ filed_in (replicate n vacant) (everything ms) → IsCollected batch entries
         → 0 < length ms → IsBatch batch o (map (λ m. m.before) ms) (map (λ m. m.after) ms) entries
-    settled entries is collected any = record {
+    settled whole entries is collected any = record {
+      packets = whole;
       collected = collected;
       settings = same_all ms h;
       failures = λ which. failures which entries is;

@@ -17,7 +17,7 @@ use Rattle.tp_farm.specs.MemberResults.{member_results}
 use Rattle.tp_farm.proofs.Settling.{Member, AllDidWell, hands}
 
 module _ {H D : Type 0} (state : D → DeviceState) (own : H → Type 0) (progress : H → Progress) where
-  pub members_of : List (Links D) → List (Returned H Filed D) → List Member
+  pub members_of : List (Links D) → List (Returned H D) → List Member
   members_of [] rs = []
   members_of (b ∷ bs) [] = []
   members_of (b ∷ bs) (r ∷ rs) =
@@ -30,10 +30,10 @@ module _ {H D : Type 0} (state : D → DeviceState) (own : H → Type 0) (progre
       } ∷ members_of bs rs
 
   module _ (work : Work) where
-    abbrev Worked : List (Links D) → List (Returned H Filed D) → Type 0
+    abbrev Worked : List (Links D) → List (Returned H D) → Type 0
     Worked bs rs = AllZip (HasWorked state own progress work) bs rs
 
-    pub did_well : (bs : List (Links D)) (rs : List (Returned H Filed D)) → Worked bs rs
+    pub did_well : (bs : List (Links D)) (rs : List (Returned H D)) → Worked bs rs
         → All (λ r. fault_of_end r.end ≡ None) rs → AllDidWell work.batch work.open_for_good (members_of bs rs)
     unfolding members_of
     did_well [] rs h well = tt
@@ -43,14 +43,14 @@ module _ {H D : Type 0} (state : D → DeviceState) (own : H → Type 0) (progre
       did_well bs rs h.1 (All-tail (λ r. fault_of_end r.end ≡ None) r rs well),
     )
 
-    pub before_is : (bs : List (Links D)) (rs : List (Returned H Filed D)) → Worked bs rs
+    pub before_is : (bs : List (Links D)) (rs : List (Returned H D)) → Worked bs rs
         → map (λ m. m.before) (members_of bs rs) ≡ map (devices_of state) bs
     unfolding members_of
     before_is [] rs h = refl
     before_is (b ∷ bs) [] h = absurd h
     before_is (b ∷ bs) (r ∷ rs) h = ap (λ xs. devices_of state b ∷ xs) (before_is bs rs h.1)
 
-    pub after_is : (bs : List (Links D)) (rs : List (Returned H Filed D)) → Worked bs rs
+    pub after_is : (bs : List (Links D)) (rs : List (Returned H D)) → Worked bs rs
         → map (λ m. m.after) (members_of bs rs) ≡ map (devices_of state) (map (λ k. k.links) (map member_results rs))
     unfolding members_of
     after_is [] [] h = refl
@@ -58,7 +58,7 @@ module _ {H D : Type 0} (state : D → DeviceState) (own : H → Type 0) (progre
     after_is (b ∷ bs) [] h = absurd h
     after_is (b ∷ bs) (r ∷ rs) h = ap (λ xs. devices_of state r.links ∷ xs) (after_is bs rs h.1)
 
-    pub hands_is : (bs : List (Links D)) (rs : List (Returned H Filed D)) → Worked bs rs
+    pub hands_is : (bs : List (Links D)) (rs : List (Returned H D)) → Worked bs rs
         → hands (members_of bs rs) ≡ map progress (map (λ r. r.hand) rs)
     unfolding members_of
     hands_is [] [] h = refl
@@ -66,7 +66,7 @@ module _ {H D : Type 0} (state : D → DeviceState) (own : H → Type 0) (progre
     hands_is (b ∷ bs) [] h = absurd h
     hands_is (b ∷ bs) (r ∷ rs) h = ap (λ xs. progress r.hand ∷ xs) (hands_is bs rs h.1)
 
-    pub filed_is : (bs : List (Links D)) (rs : List (Returned H Filed D)) → Worked bs rs
+    pub filed_is : (bs : List (Links D)) (rs : List (Returned H D)) → Worked bs rs
         → map (λ m. m.filed) (members_of bs rs) ≡ map (λ k. k.filed.items) (map member_results rs)
     unfolding members_of
     filed_is [] [] h = refl
@@ -74,7 +74,7 @@ module _ {H D : Type 0} (state : D → DeviceState) (own : H → Type 0) (progre
     filed_is (b ∷ bs) [] h = absurd h
     filed_is (b ∷ bs) (r ∷ rs) h = ap (λ xs. r.filed.items ∷ xs) (filed_is bs rs h.1)
 
-    pub length_is : (bs : List (Links D)) (rs : List (Returned H Filed D)) → Worked bs rs → length (members_of bs rs) ≡ length rs
+    pub length_is : (bs : List (Links D)) (rs : List (Returned H D)) → Worked bs rs → length (members_of bs rs) ≡ length rs
     unfolding members_of
     length_is [] [] h = refl
     length_is [] (r ∷ rs) h = absurd h
@@ -82,7 +82,7 @@ module _ {H D : Type 0} (state : D → DeviceState) (own : H → Type 0) (progre
     length_is (b ∷ bs) (r ∷ rs) h = ap suc (length_is bs rs h.1)
 
     -- each hand is one of the source's
-    pub hands_own : (bs : List (Links D)) (rs : List (Returned H Filed D)) → Worked bs rs → All own (map (λ r. r.hand) rs)
+    pub hands_own : (bs : List (Links D)) (rs : List (Returned H D)) → Worked bs rs → All own (map (λ r. r.hand) rs)
     hands_own bs [] h = All-nil own
     hands_own [] (r ∷ rs) h = absurd h
     hands_own (b ∷ bs) (r ∷ rs) h = All-cons own r.hand (map (λ r. r.hand) rs) h.0.is_own (hands_own bs rs h.1)
@@ -91,7 +91,7 @@ module _ {H D : Type 0} (state : D → DeviceState) (own : H → Type 0) (progre
     of_batch devices (filed.Done d) h = h
     of_batch devices (filed.Lost n f) h = tt
 
-    pub all_of_batch : (bs : List (Links D)) (rs : List (Returned H Filed D)) → Worked bs rs
+    pub all_of_batch : (bs : List (Links D)) (rs : List (Returned H D)) → Worked bs rs
         → All (λ k. All (IsOfBatch work.batch) k.filed.items) (map member_results rs)
     all_of_batch bs [] h = All-nil (λ k. All (IsOfBatch work.batch) k.filed.items)
     all_of_batch [] (r ∷ rs) h = absurd h

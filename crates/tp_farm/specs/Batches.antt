@@ -1,17 +1,21 @@
 -- A batch that was run.
-use Rattle.std.specs.Prelude.{◌≡◌, ℕ, ◌+◌, Bool, false, List, sum_by, Some, slice_get}
+use Rattle.std.specs.Prelude.{◌≡◌, ℕ, ◌+◌, Bool, false, List, map, sum_by, Some, slice_get}
 use Rattle.std.specs.List.{AllZip}
 use Rattle.tp_link.specs.Device.{DeviceState}
 use Rattle.tp_link.specs.declared.links.Link.{Link}
 use Rattle.tp_link.specs.declared.links.Link.TheVariants.{Source, Sink, Trace}
 use Rattle.tp_link.specs.declared.links.LinkFault.{LinkFault}
-use Rattle.tp_machine.specs.Devices.{Devices}
+use Rattle.tp_link.specs.declared.links.Links.{Links}
+use Rattle.tp_machine.specs.Devices.{Devices, devices_of}
 use Rattle.tp_collect.specs.declared.collected.Entry.{Entry}
 use Rattle.tp_collect.specs.declared.collected.Entry.TheVariants as entry
 use Rattle.tp_collect.specs.declared.collected.LostCause.TheVariants as cause
 use Rattle.tp_collect.specs.Collected.{JobValue, IsCollected}
+use Rattle.tp_farm.specs.declared.batch.Batch.{Batch}
+use Rattle.tp_farm.specs.Jobs.{AreWhole}
 use Rattle.tp_farm.specs.Settings.{SameSettings, failed_by}
 use Rattle.tp_farm.specs.Losses.{MayLose}
+use Rattle.tp_farm.specs.Works.{Work}
 
 -- the device of a link, of a member's three
 abbrev pub device_at : Link → Devices → DeviceState
@@ -40,6 +44,8 @@ pub record LostBySome (batch : JobValue) (members : List Devices) (i : ℕ) (fau
 
 -- What became of a batch whose members had these devices before, and have these after:
 pub record IsBatch (batch : JobValue) (open_for_good : Bool) (before after : List Devices) (entries : List Entry) : Type 0 where
+  -- each packet is as many bytes as the image states
+  pub packets : AreWhole batch
   -- each result is what the run of its packet alone gives, and there is one entry for each packet
   pub collected : IsCollected batch entries
   -- the links come back in the order given, each device with its room, openness and whether it can fail
@@ -51,3 +57,8 @@ pub record IsBatch (batch : JobValue) (open_for_good : Bool) (before after : Lis
       → LostBySome batch before i fault
   -- a packet is lost by a stop only where the gate is not open for good
   pub stopped : (i : ℕ) → slice_get entries i ≡ Some (entry.Lost cause.Stopped) → open_for_good ≡ false
+
+-- what became of the work of members that had these links before
+abbrev pub IsBatchOver : {D : Type 0} → (D → DeviceState) → Work → (before : List (Links D)) → Batch D → Type 0
+IsBatchOver state work before b =
+    IsBatch work.batch work.open_for_good (map (devices_of state) before) (map (devices_of state) b.links.items) b.collected

@@ -1,5 +1,6 @@
 -- Jobs as contracts see them.
-use Rattle.std.specs.Prelude.{◌≡◌, ◌*◌, map, length, All}
+use Rattle.std.specs.Prelude.{map, All}
+use Rattle.tp_accept.specs.Ending.{IsPacket}
 use Rattle.tp_collect.specs.Collected.{JobValue}
 use Rattle.tp_farm.specs.declared.job.Job.{Job}
 
@@ -7,6 +8,6 @@ use Rattle.tp_farm.specs.declared.job.Job.{Job}
 abbrev pub value_of_job : Job → JobValue
 value_of_job job = record { number = job.batch; image = job.image.now.image; packets = map (λ p. p.items) job.packets.now }
 
--- each packet has the length that the image states
+-- each packet is as many bytes as the image states
 abbrev pub AreWhole : JobValue → Type 0
-AreWhole batch = All (λ packet. length packet ≡ 4 * batch.image.packet) batch.packets
+AreWhole batch = All (IsPacket batch.image) batch.packets

@@ -6,7 +6,6 @@ pub mod Works
 pub mod Refused
 pub mod Batches
 pub mod Promised
-pub mod Answered
 pub use Rattle.tp_machine.specs.Devices
 pub use Rattle.tp_board.specs.Limits
 pub use Rattle.tp_collect.specs.Collected

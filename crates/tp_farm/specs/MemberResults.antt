@@ -5,7 +5,7 @@ use Rattle.tp_farm.specs.declared.worker.Returned.{Returned}
 use Rattle.tp_farm.specs.declared.gathering.MemberResults.{MemberResults}
 use Rattle.tp_farm.specs.Gathering.{all_filed}
 
-abbrev pub member_results : {H D : Type 0} → Returned H Filed D → MemberResults D
+abbrev pub member_results : {H D : Type 0} → Returned H D → MemberResults D
 member_results r = record { links = r.links; filed = r.filed }
 
 -- what all of them filed, one after another

@@ -1,21 +1,17 @@
 -- What is promised of a batch of accepted code.
-use Rattle.std.specs.Prelude.{◌≡◌, ℕ, ◌*◌, ◌<◌, ◌≤◌, true, false, List, length, All, Some, slice_get}
+use Rattle.std.specs.Prelude.{◌≡◌, ℕ, ◌*◌, ◌<◌, ◌≤◌, true, false, List, length, Some, slice_get}
 use Rattle.tp_link.specs.Device.{DeviceState}
 use Rattle.tp_link.specs.declared.device.DeviceFault.TheVariants.{Full}
 use Rattle.tp_link.specs.declared.links.Link.TheVariants.{Trace}
 use Rattle.tp_image.specs.Image.{ImageValue}
 use Rattle.tp_step.specs.Runs.{Run}
-use Rattle.tp_accept.specs.Ending.{IsPacket, EndsWithin}
+use Rattle.tp_accept.specs.Ending.{EndsWithin}
 use Rattle.tp_machine.specs.Devices.{Devices}
 use Rattle.tp_collect.specs.declared.collected.Entry.{Entry}
 use Rattle.tp_collect.specs.declared.collected.Entry.TheVariants as entry
 use Rattle.tp_collect.specs.declared.collected.LostCause.TheVariants as cause
 use Rattle.tp_collect.specs.Collected.{JobValue}
 use Rattle.tp_collect.specs.DoneValue.{run_of_done, most_trace}
-
--- each packet is of as many bytes as the image states
-abbrev pub ArePackets : JobValue → Type 0
-ArePackets batch = All (IsPacket batch.image) batch.packets
 
 -- ---- over any devices, and under any gate
 

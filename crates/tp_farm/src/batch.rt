@@ -6,19 +6,19 @@ ghost use Rattle.tp_link.specs.declared.links.Links.{Links};
 ghost use Rattle.tp_board.specs.Ledgers.{Balances};
 ghost use Rattle.tp_board.specs.Streams.{IsHandOf, IsFeederOf, hand_progress, all_seen};
 ghost use Rattle.tp_farm.specs.Feeding.{HasOnlyFed};
-ghost use Rattle.tp_farm.specs.Jobs.{value_of_job};
+ghost use Rattle.tp_farm.specs.Jobs.{value_of_job, AreWhole};
 ghost use Rattle.tp_farm.specs.Working.{HaveToSettle};
 ghost use Rattle.tp_farm.specs.Works.{Work, work_on};
 ghost use Rattle.tp_farm.specs.Refused.{job_fault, Begins, IsFromOutside};
 ghost use Rattle.tp_farm.specs.Gathering.{nothing_filed};
-ghost use Rattle.tp_farm.specs.Answered.{IsBatchOver, AnswersBatch};
+ghost use Rattle.tp_farm.specs.Batches.{IsBatchOver};
+ghost use Rattle.tp_farm.specs.Promised.{GoesWell};
 ghost use Rattle.tp_farm.specs.Reserved.{HasRoom};
 
 use crate::fault::FarmFault;
 use crate::gate::Gate;
 use crate::gathering::{MemberResults, gather_all, take_hands};
 use crate::job::Job;
-use crate::member::Filed;
 use crate::members::run_members;
 use crate::worker::{Returned, Shared};
 use std::alloc::{AllocError, Global};
@@ -35,17 +35,27 @@ pub struct Batch<D> {
     pub links: Vec<Links<D>>,
 }
 
+/// Whether there are so many bytes. That each is below 256 is in the type of the slice.
+fn are_bytes(packet: &[u8], count: usize) -> bool
+    ensures value { result ≡ (length packet.now == count) }
+    ensures bytes { All (λ byte. byte < 256) packet.now }
+{
+    packet.len() == count
+}
+
 /// The number of the first packet that has another length.
 fn first_other(packets: &[Packet], bytes: usize) -> Option<usize>
     ensures value { result ≡ position (λ p. not (length p.items == bytes)) packets.now }
     ensures within { IfSome result (λ i. i < length packets.now) }
+    ensures bytes { result ≡ None → All (λ p. All (λ byte. byte < 256) p.items) packets.now }
 {
-    packets.iter().position(|packet| packet.len() != bytes)
+    packets.iter().position(|packet| !are_bytes(packet.as_slice(), bytes))
 }
 
 /// Why a batch does not begin: the first that holds of G1, G2 and G3.
-pub(crate) fn job_fault(job: &Job<'_>, members: usize) -> Option<FarmFault>
-    ensures { result ≡ job_fault members (value_of_job job.now) }
+fn job_fault(job: &Job<'_>, members: usize) -> Option<FarmFault>
+    ensures fault { result ≡ job_fault members (value_of_job job.now) }
+    ensures whole { result ≡ None → AreWhole (value_of_job job.now) }
 {
     if members == 0 || members > MAX_MEMBERS as usize {
         return Some(FarmFault::Members);
@@ -60,7 +70,7 @@ pub(crate) fn job_fault(job: &Job<'_>, members: usize) -> Option<FarmFault>
 }
 
 /// A collector of the packets of a job that begins.
-pub(crate) fn begin<'j>(
+fn begin<'j>(
     alloc: Global,
     job: &'j Job<'j>,
     members: usize,
@@ -82,15 +92,15 @@ pub(crate) fn begin<'j>(
 
 /// Reserved for what the members give back.
 #[derive(Drop)]
-pub(crate) struct Reserved<H, D> {
-    pub(crate) hands: Vec<H>,
-    pub(crate) kept: Vec<MemberResults<D>>,
-    pub(crate) links: Vec<Links<D>>,
+struct Reserved<H, D> {
+    hands: Vec<H>,
+    kept: Vec<MemberResults<D>>,
+    links: Vec<Links<D>>,
 }
 
 impl<H: Drop, D: Drop> Reserved<H, D> {
     /// Reserved for so many members.
-    pub(crate) fn for_members(alloc: Global, members: usize) -> Result<Reserved<H, D>, AllocError>
+    fn for_members(alloc: Global, members: usize) -> Result<Reserved<H, D>, AllocError>
         ensures { IfOk result (HasRoom members) }
     {
         Ok(Reserved {
@@ -126,7 +136,7 @@ fn settle<R: Wait, D: LinkDevice>(
     stream: StreamQueue<'_>,
     feeder: Feeder,
     mut collector: Collector<'_>,
-    returned: Vec<Returned<StreamHand, Filed, D>>,
+    returned: Vec<Returned<StreamHand, D>>,
     mut room: Reserved<StreamHand, D>,
 ) -> Result<Batch<D>, FarmFault>
     requires worked { (work : Work) × (before : List (Links D)) ×
@@ -156,9 +166,8 @@ fn settle<R: Wait, D: LinkDevice>(
 /// Accepted code never goes wrong: each packet's worker ends by stopp within the budget and is never stuck, and each
 /// result that is collected is what the run of its packet alone gives.
 ///
-/// G1, G2 and G3 are tested first, in this order. A batch of no packets starts no thread. Where a thread cannot be started no
-/// further one is, and the members that were started go on until they end. A member to which memory was refused stops the batch
-/// first.
+/// G1, G2 and G3 are tested first, in this order. Where a thread cannot be started no further one is, and the members that were
+/// started go on until they end. A member to which memory was refused stops the batch first.
 pub fn run_batch<'j, R: Threads + Wait + Sync, D: LinkDevice + Send, G: Gate>(
     rt: &R,
     alloc: Global,
@@ -166,18 +175,15 @@ pub fn run_batch<'j, R: Threads + Wait + Sync, D: LinkDevice + Send, G: Gate>(
     links: Vec<Links<D>>,
     gate: &'j G,
 ) -> Result<Batch<D>, FarmFault>
-    ensures { AnswersBatch D.state G.open_for_good job.now gate.now links.items result }
+    ensures batch { IfOk result (IsBatchOver D.state (work_on G.open_for_good job.now gate.now) links.items) }
+    ensures goes_well { IfOk result (λ b. GoesWell (value_of_job job.now) job.now.image.now.budget b.collected) }
+    ensures refused { IfSome (job_fault (length links.items) (value_of_job job.now)) (λ fault. result ≡ Err fault) }
+    ensures err { job_fault (length links.items) (value_of_job job.now) ≡ None → IfErr result IsFromOutside }
 {
     let collector = match begin(alloc, job, links.len()) {
         Ok(collector) => collector,
         Err(fault) => return Err(fault),
     };
-    if job.packets.is_empty() {
-        return Ok(Batch {
-            collected: collector.finish(),
-            links,
-        });
-    }
     run_begun(rt, alloc, job, links, gate, collector)
 }
 

@@ -33,7 +33,7 @@ fn fault_of_end(end: End) -> Option<FarmFault>
 
 /// Takes the hands from what the members gave back; the first fault of a member is the answer.
 pub(crate) fn take_hands<H: Drop, D: LinkDevice>(
-    returned: Vec<Returned<H, Filed, D>>,
+    returned: Vec<Returned<H, D>>,
     hands: &mut Vec<H>,
     kept: &mut Vec<MemberResults<D>>,
 ) -> Result<(), FarmFault>

@@ -10,11 +10,9 @@ mod job;
 pub mod laws;
 mod member;
 mod members;
-mod over_board;
 mod worker;
 
 pub use batch::{Batch, run_batch};
 pub use fault::FarmFault;
 pub use gate::{Gate, OpenGate};
 pub use job::Job;
-pub use over_board::run_batch_over_board;

@@ -11,7 +11,7 @@ use crate::job::Job;
 use std::alloc::Global;
 use std::snapshot::Snapshot;
 use std::sync::Wait;
-use tp_board::{LendingSource, Lent, Packet, WorkSource};
+use tp_board::{Packet, Work, WorkSource};
 use tp_collect::Done;
 use tp_link::{LinkDevice, LinkFault, Links};
 use tp_machine::Machine;
@@ -94,7 +94,7 @@ fn file_packet<W: WorkSource, D: LinkDevice, G: Gate>(
 }
 
 /// Takes the next packet and files what became of it, or ends.
-fn take_turn<W: LendingSource, D: LinkDevice, G: Gate>(
+fn take_turn<W: WorkSource, D: LinkDevice, G: Gate>(
     rt: &impl Wait,
     job: &Job<'_>,
     gate: &G,
@@ -124,19 +124,19 @@ fn take_turn<W: LendingSource, D: LinkDevice, G: Gate>(
         source.stop(&mut member.hand);
         return Some(End::Stopped);
     }
-    match source.lend(rt, &mut member.hand) {
-        Lent::Packet(number, packet) => {
-            file_packet(job, gate, source, member, number, packet);
+    match source.next(rt, &mut member.hand) {
+        Work::Packet { number, bytes } => {
+            file_packet(job, gate, source, member, number, &bytes);
             None
         }
-        Lent::NoMore => Some(End::Drained),
-        Lent::Stopped => Some(End::Stopped),
+        Work::NoMore => Some(End::Drained),
+        Work::Stopped => Some(End::Stopped),
     }
 }
 
 /// A member's whole work: it makes room for its share, and takes packets until there are no more, or the batch is stopped, or a
 /// fault comes. One turn more than there are packets is enough.
-pub(crate) fn work<W: LendingSource, D: LinkDevice, G: Gate>(
+pub(crate) fn work<W: WorkSource, D: LinkDevice, G: Gate>(
     rt: &impl Wait,
     job: &Job<'_>,
     gate: &G,

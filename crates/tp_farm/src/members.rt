@@ -9,15 +9,14 @@ ghost use Rattle.tp_farm.specs.Working.{IsSet, IsFresh, HasWorkedOn, HaveWorkedO
 
 use crate::fault::FarmFault;
 use crate::gate::Gate;
-use crate::member::Filed;
 use crate::worker::{Returned, Shared, work_as};
 use std::alloc::{AllocError, Global};
 use std::snapshot::Snapshot;
 use std::sync::Wait;
-use std::thread;
 use std::thread::{Parker, Promise, PromisedHandle, Scope, Threads, join_promised};
 use std::time::Duration;
-use tp_board::{Fed, Feeder, LendingSource, StreamHand, StreamQueue, WorkSource};
+use std::{hint, thread};
+use tp_board::{Fed, Feeder, StreamHand, StreamQueue, WorkSource};
 use tp_link::{LinkDevice, Links};
 
 /// What a member's thread keeps: it has done the shared's work with the devices that it had.
@@ -27,7 +26,7 @@ struct MemberPromise<'j, G, D, S> {
     before: Snapshot<Links<D>>,
 }
 
-impl<'j, G: Gate, D: LinkDevice, S: WorkSource> Promise<Returned<S::Hand, Filed, D>>
+impl<'j, G: Gate, D: LinkDevice, S: WorkSource> Promise<Returned<S::Hand, D>>
     for MemberPromise<'j, G, D, S> {
     ghost use Rattle.tp_farm.specs.Working.{HasWorkedOn};
 
@@ -35,10 +34,10 @@ impl<'j, G: Gate, D: LinkDevice, S: WorkSource> Promise<Returned<S::Hand, Filed,
 }
 
 /// A member's thread.
-type Handle<'e, G, D, S, H> = PromisedHandle<Returned<H, Filed, D>, MemberPromise<'e, G, D, S>>;
+type Handle<'e, G, D, S, H> = PromisedHandle<Returned<H, D>, MemberPromise<'e, G, D, S>>;
 
 /// Starts the member of a number.
-fn start<'s, 'e, R: Wait + Sync, D: LinkDevice + Send + 'e, G: Gate, S: LendingSource + Sync>(
+fn start<'s, 'e, R: Wait + Sync, D: LinkDevice + Send + 'e, G: Gate, S: WorkSource + Sync>(
     rt: &'e R,
     scope: &'s Scope<'s, &'e ()>,
     alloc: Global,
@@ -60,7 +59,7 @@ where
     };
     let started = scope.spawn_with(
         promise,
-        move || -> Returned<S::Hand, Filed, D>
+        move || -> Returned<S::Hand, D>
             requires set { IsSet S.packets shared.now }
             requires fresh { IsFresh (S.is_own shared.now.source.now) S.progress hand }
             ensures worked { HasWorkedOn D.state S.is_own S.progress G.open_for_good shared.entry.now links result }
@@ -77,7 +76,7 @@ where
 
 /// Members that were started.
 #[derive(Drop)]
-pub(crate) struct Started<'e, G: Gate, D: LinkDevice, S: WorkSource>
+struct Started<'e, G: Gate, D: LinkDevice, S: WorkSource>
 where
     S::Hand: Drop,
 {
@@ -86,13 +85,13 @@ where
 }
 
 /// Starts a member for each of the links in turn, up to the first for which no thread could be started.
-pub(crate) fn start_all<
+fn start_all<
     's,
     'e,
     R: Wait + Sync,
     D: LinkDevice + Send + 'e,
     G: Gate,
-    S: LendingSource + Sync,
+    S: WorkSource + Sync,
 >(
     rt: &'e R,
     scope: &'s Scope<'s, &'e ()>,
@@ -132,20 +131,32 @@ where
     })
 }
 
-/// So many tries may find the queue full before the feeder rests at each.
-const TRIES_BEFORE_REST: u32 = 256;
+/// So many tries may find the queue full before the feeder rests at each, and so many before its rests are long.
+const TRIES_BEFORE_REST: u32 = 16;
 
-/// So many of these tries a packet that was pushed earns again: where runs are short the feeder does not come to a rest.
-const TRIES_EARNED: u32 = 4;
+const MOST_TRIES: u32 = 32;
+
+/// So many of these tries a packet that was pushed earns again.
+const TRIES_EARNED: u32 = 1;
+
+/// So many pauses stand before a try.
+const PAUSES: u32 = 256;
+
+/// A short rest, in microseconds.
+const SHORT_REST: u64 = 10;
 
 /// The longest rest, in microseconds. It is less than four members take for a full queue of long runs.
 const REST: u64 = 200;
 
-/// Leaves the processor to the members after a try that found the queue full: at first by a yield, which costs little where
-/// runs are short, then by a rest.
+/// Leaves the queue to the members after a try that found it full: at first by pauses, then by a rest. It never yields: where
+/// others keep the processors busy, a yield gives them a whole turn, and one who has rested is called back soon.
 fn give_way<R: Wait>(rt: &R, parker: &Parker, tries: u32) {
     if tries < TRIES_BEFORE_REST {
-        thread::yield_now();
+        for _ in 0..PAUSES {
+            hint::spin_loop();
+        }
+    } else if tries < MOST_TRIES {
+        parker.park_timeout(rt, Duration::from_micros(SHORT_REST));
     } else {
         parker.park_timeout(rt, Duration::from_micros(REST));
     }
@@ -166,7 +177,7 @@ fn feed_all<R: Wait>(rt: &R, stream: &StreamQueue<'_>, feeder: &mut Feeder)
             Fed::Pushed => tries = tries.saturating_sub(TRIES_EARNED),
             Fed::Full => {
                 give_way(rt, &parker, tries);
-                tries = TRIES_BEFORE_REST.min(tries.saturating_add(1));
+                tries = MOST_TRIES.min(tries.saturating_add(1));
             }
             Fed::Stopped | Fed::Over => return,
         }
@@ -174,10 +185,10 @@ fn feed_all<R: Wait>(rt: &R, stream: &StreamQueue<'_>, feeder: &mut Feeder)
 }
 
 /// Joins the members that were started.
-pub(crate) fn join_all<R: Threads + Wait, D: LinkDevice, G: Gate, S: WorkSource>(
+fn join_all<R: Threads + Wait, D: LinkDevice, G: Gate, S: WorkSource>(
     rt: &R,
     started: Started<'_, G, D, S>,
-) -> Result<Vec<Returned<S::Hand, Filed, D>>, FarmFault>
+) -> Result<Vec<Returned<S::Hand, D>>, FarmFault>
 where
     S::Hand: Drop,
     ensures joined { IfOk result (λ rs. (started.entry.all_started ≡ true) × AllZip
@@ -212,7 +223,7 @@ fn start_feed_and_join<'s, 'e, R: Threads + Wait + Sync, D: LinkDevice + Send + 
     mut feeder: Feeder,
     hands: Vec<StreamHand>,
     all: Vec<Links<D>>,
-) -> Result<(Vec<Returned<StreamHand, Filed, D>>, Feeder), FarmFault>
+) -> Result<(Vec<Returned<StreamHand, D>>, Feeder), FarmFault>
     requires set { IsSet (λ s. s.packets) shared.now }
     requires fresh { All (IsFresh (IsHandOf shared.now.source.now) hand_progress) hands.items }
     requires feeder { IsFeederOf shared.now.source.now feeder }
@@ -243,7 +254,7 @@ pub(crate) fn run_members<R: Threads + Wait + Sync, D: LinkDevice + Send, G: Gat
     feeder: Feeder,
     hands: Vec<StreamHand>,
     all: Vec<Links<D>>,
-) -> Result<(Vec<Returned<StreamHand, Filed, D>>, Feeder), FarmFault>
+) -> Result<(Vec<Returned<StreamHand, D>>, Feeder), FarmFault>
     requires set { IsSet (λ s. s.packets) shared.now }
     requires fresh { All (IsFresh (IsHandOf shared.now.source.now) hand_progress) hands.items }
     requires feeder { IsFeederOf shared.now.source.now feeder }
@@ -258,7 +269,7 @@ pub(crate) fn run_members<R: Threads + Wait + Sync, D: LinkDevice + Send, G: Gat
     thread::scope(
         thread::scope_env(),
         rt,
-        |scope| -> Result<(Vec<Returned<StreamHand, Filed, D>>, Feeder), FarmFault>
+        |scope| -> Result<(Vec<Returned<StreamHand, D>>, Feeder), FarmFault>
             requires set { IsSet (λ s. s.packets) shared.now }
             requires fresh { All (IsFresh (IsHandOf shared.now.source.now) hand_progress) hands.items }
             requires feeder { IsFeederOf shared.now.source.now feeder }

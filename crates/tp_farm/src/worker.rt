@@ -10,16 +10,16 @@ use crate::member::{End, Filed, Member, work};
 use std::alloc::Global;
 use std::snapshot::Snapshot;
 use std::sync::Wait;
-use tp_board::LendingSource;
+use tp_board::WorkSource;
 use tp_link::{LinkDevice, Links};
 use tp_machine::Machine;
 
 /// What a member's thread gives back: its hand, its devices, what it filed, and why it ended.
 #[derive(Drop)]
-pub(crate) struct Returned<H, F, D> {
+pub(crate) struct Returned<H, D> {
     pub(crate) hand: H,
     pub(crate) links: Links<D>,
-    pub(crate) filed: Vec<F>,
+    pub(crate) filed: Vec<Filed>,
     pub(crate) end: End,
 }
 
@@ -34,14 +34,14 @@ pub(crate) struct Shared<'j, G, S> {
 }
 
 /// The whole work of the member of a number, on a machine of its own.
-pub(crate) fn work_as<S: LendingSource, D: LinkDevice, G: Gate>(
+pub(crate) fn work_as<S: WorkSource, D: LinkDevice, G: Gate>(
     rt: &impl Wait,
     alloc: Global,
     shared: &Shared<'_, G, S>,
     number: u32,
     hand: S::Hand,
     links: Links<D>,
-) -> Returned<S::Hand, Filed, D>
+) -> Returned<S::Hand, D>
     requires set { IsSet S.packets shared.now }
     requires fresh { IsFresh (S.is_own shared.now.source.now) S.progress hand }
     ensures { HasWorkedOn D.state S.is_own S.progress G.open_for_good shared.now links result }

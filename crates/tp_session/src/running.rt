@@ -4,7 +4,6 @@ ghost use Rattle.std.specs.Prelude.{◌≡◌, ◌≤◌, ℕ, List, IfOk, IfErr
 ghost use Rattle.tp_board.specs.Limits.{most_members};
 ghost use Rattle.tp_farm.specs.Jobs.{value_of_job};
 ghost use Rattle.tp_farm.specs.Refused.{job_fault, IsFromOutside};
-ghost use Rattle.tp_farm.specs.Promised.{ArePackets};
 ghost use Rattle.tp_answers.specs.Told.{GoesOnWith};
 ghost use Rattle.tp_answers.specs.Answers.{IsRun};
 ghost use Rattle.tp_answers.specs.OpenSessions.{session_of};
@@ -19,8 +18,7 @@ use std::sync::Wait;
 use std::thread::Threads;
 use tp_answers::{OpenSession, tell_done, tell_entries};
 use tp_collect::Collected;
-use tp_farm::laws::long_traces_alone_are_lost;
-use tp_farm::{FarmFault, Job, OpenGate, run_batch_over_board};
+use tp_farm::{FarmFault, Job, OpenGate, run_batch};
 use tp_link::{LinkDevice, Links};
 
 /// Why a batch that has begun gives nothing, as serving tells it.
@@ -37,8 +35,7 @@ fn fault_of(fault: FarmFault) -> ServeFault
     }
 }
 
-/// Runs the packets of a job on the members, from a board, since all of them are there. The links come back, as many as there
-/// were.
+/// Runs the packets of a job on the members, from a stream. The links come back, as many as there were.
 fn run_packets<R: Threads + Wait + Sync, D: LinkDevice + Send>(
     rt: &R,
     alloc: Global,
@@ -47,7 +44,6 @@ fn run_packets<R: Threads + Wait + Sync, D: LinkDevice + Send>(
 ) -> Result<Collected, ServeFault>
     requires members { HasMembers links.old.items }
     requires begins { job_fault (length links.old.items) (value_of_job job.now) ≡ None }
-    requires packets { ArePackets (value_of_job job.now) }
     ensures outcomes { AreFit D.state links.old.items →
         IfOk result (AreOutcomes (value_of_job job.now).image (value_of_job job.now).packets) }
     ensures members { OnOk result (AreAsMany links.old.items links.new.items) }
@@ -55,8 +51,7 @@ fn run_packets<R: Threads + Wait + Sync, D: LinkDevice + Send>(
     ensures want { IfErr result IsWant }
 {
     let lent = mem::replace(links, Vec::new(alloc));
-    long_traces_alone_are_lost(job);
-    match run_batch_over_board(rt, alloc, job, lent, &OpenGate) {
+    match run_batch(rt, alloc, job, lent, &OpenGate) {
         Ok(batch) => {
             *links = batch.links;
             Ok(batch.collected)
@@ -75,7 +70,6 @@ fn run_on_enough<R: Threads + Wait + Sync, D: LinkDevice + Send>(
 ) -> Result<Collected, ServeFault>
     requires members { HasMembers links.old.items }
     requires begins { (members : ℕ) → 1 ≤ members → members ≤ most_members → job_fault members (value_of_job job.now) ≡ None }
-    requires packets { ArePackets (value_of_job job.now) }
     ensures outcomes { AreFit D.state links.old.items →
         IfOk result (AreOutcomes (value_of_job job.now).image (value_of_job job.now).packets) }
     ensures members { OnOk result (AreAsMany links.old.items links.new.items) }

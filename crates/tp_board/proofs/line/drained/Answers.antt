@@ -1,14 +1,22 @@
-use Rattle.std.proofs.Common.{◌-◌, length, ap, arith}
+use Rattle.std.proofs.Common.{◌-◌, ◌++◌, length, ap, ◌∙◌, arith}
 use Rattle.crossbeam_queue.specs.Passes.{view}
 use Rattle.tp_board.specs.declared.line.Turn.{Turn}
-use Rattle.tp_board.proofs.Turns.{left, left_at, all_popped}
+use Rattle.tp_board.proofs.Turns.{left, left_at, all_popped, took_rest}
 use Rattle.tp_board.proofs.line.drained.Goals as goal
 
 pub learn_as-requires-clause-rule : goal.learn_as-requires-clause-rule
 learn_as-requires-clause-rule g c = left _ _ c.requires.parts
 
-pub returns-in-None-drain : goal.returns-in-None-drain
-returns-in-None-drain g c =
+pub returns-in-None-drain-clause-rest : goal.returns-in-None-drain-clause-rest
+returns-in-None-drain-clause-rest g c =
+    let i = c.loop.invariant in
+    let same = c.learn_as.ensures.queue.1 in
+    took_rest (view c.args.pass.now) (view c.loop.pass) (view c.drain.new.pass) i.taken.0 c.in-None-drain.ensures.1.0
+    (i.taken.1 ∙ ap (λ (t : Turn). t.popped ++ i.taken.0) same) (i.pushed ∙ ap (λ (t : Turn). t.pushed) same)
+    c.in-None-drain.ensures.1.1
+
+pub returns-in-None-drain-clause-before : goal.returns-in-None-drain-clause-before
+returns-in-None-drain-clause-before g c =
     let i = c.loop.invariant in
     let same = c.learn_as.ensures.queue.1 in
     let was = ap (λ (t : Turn). length t.popped) same in

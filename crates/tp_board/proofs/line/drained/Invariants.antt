@@ -1,4 +1,4 @@
-use Rattle.std.proofs.Common.{◌≡◌, ◌+◌, length}
+use Rattle.std.proofs.Common.{◌≡◌, ◌+◌, ◌++◌, ℕ, List, length}
 use Rattle.crossbeam_queue.specs.Passes.{view, IsPassOf}
 use Rattle.tp_board.proofs.line.drained.Given as goal
 
@@ -10,4 +10,5 @@ invariant-loop g l = record {
   packets : (view l.pass).packets ≡ (view l.initial.pass).packets;
   pushed : (view l.pass).pushed ≡ (view l.initial.pass).pushed;
   count : length (view l.pass).popped ≡ length (view l.initial.pass).popped + l.left;
+  taken : (ns : List ℕ) × ((view l.pass).popped ≡ (view l.initial.pass).popped ++ ns);
 }

@@ -7,7 +7,8 @@ use Rattle.tp_farm.proofs.Beginning.{begun}
 use Rattle.tp_farm.proofs.batch.begin.Goals as goal
 
 pub returns-in-Ok-clause-begun : goal.returns-in-Ok-clause-begun
-returns-in-Ok-clause-begun c = begun c.args.members (value_of_job c.args.job.now) (sym c.job_fault.ensures ∙ c.in_default.is)
+returns-in-Ok-clause-begun c = begun c.args.members (value_of_job c.args.job.now) (c.job_fault.ensures.whole c.in_default.is)
+    (sym c.job_fault.ensures.fault ∙ c.in_default.is)
 
 pub returns-in-Ok-clause-collector : goal.returns-in-Ok-clause-collector
 returns-in-Ok-clause-collector c =

@@ -50,7 +50,7 @@ settle-requires-clause-worked g c =
       c.args.links.items,
       to_settle g.D.LinkDevice.state (IsHandOf stream) hand_progress (length stream.packets) work c.args.links.items
           c.in_ok-returned.returned.items c.args.collector c.in_ok-returned.ensures.worked
-          (ap (λ s. length s.packets) c.in-Ok.ensures.stream) c.requires.collector,
+          (ap (λ s. length s.packets) c.in-Ok.ensures.stream) c.requires.begins.whole c.requires.collector,
     )
 
 pub returns-clause-batch : goal.returns-clause-batch
@@ -60,4 +60,4 @@ returns-clause-batch g c =
     c.settle.ensures.batch work c.args.links.items
     (to_settle g.D.LinkDevice.state (IsHandOf stream) hand_progress (length stream.packets) work c.args.links.items
     c.in_ok-returned.returned.items c.args.collector c.in_ok-returned.ensures.worked
-    (ap (λ s. length s.packets) c.in-Ok.ensures.stream) c.requires.collector)
+    (ap (λ s. length s.packets) c.in-Ok.ensures.stream) c.requires.begins.whole c.requires.collector)

@@ -29,7 +29,7 @@ gather_all-requires-clause-vacant g c =
     vacant_at_first g.D.LinkDevice.state (IsHandOf c.args.stream) hand_progress some.0 some.1 c.args.returned.items some.2.worked
     c.args.collector (length c.args.stream.packets) some.2.empty c.args.room.kept.items c.take_hands.new.kept.items
     c.requires.room.no_kept s.kept s.well c.args.room.hands.items c.take_hands.new.hands.items c.requires.room.no_hands s.hands
-    c.close_stream-ledger.result closed some.2.sized
+    c.close_stream-ledger.result closed some.2.sized some.2.whole
 
 pub returns-clause-batch : goal.returns-clause-batch
 returns-clause-batch g c work before made =
@@ -40,6 +40,6 @@ returns-clause-batch g c work before made =
     is_batch g.D.LinkDevice.state (IsHandOf c.args.stream) hand_progress work before c.args.returned.items made.worked
     c.args.collector (length c.args.stream.packets) made.empty c.args.room.kept.items c.take_hands.new.kept.items
     c.requires.room.no_kept s.kept s.well c.args.room.hands.items c.take_hands.new.hands.items c.requires.room.no_hands s.hands
-    c.close_stream-ledger.result closed made.sized c.gather_all.new.collector c.gather_all.ensures.entries c.finish.result
+    c.close_stream-ledger.result closed made.sized made.whole c.gather_all.new.collector c.gather_all.ensures.entries c.finish.result
     c.finish.ensures.entries c.finish.ensures.collected (omega (arith, c.requires.some, c.args.returned.ok.0))
     c.args.room.links.items c.gather_all.new.links.items c.requires.room.no_links c.gather_all.ensures.links

@@ -4,7 +4,7 @@ use Rattle.tp_farm.proofs.Promising.{goes_well}
 use Rattle.tp_farm.proofs.laws.accepted_code_never_goes_wrong.Goals as goal
 
 pub returns : goal.returns
-returns c = λ opened before after entries packets b.
+returns c = λ opened before after entries b.
     let accepted = c.args.job.now.image.now in
     goes_well (value_of_job c.args.job.now) accepted.budget (never_goes_wrong_of accepted.image accepted.budget accepted.acceptable)
-    packets opened before after entries b
+    opened before after entries b

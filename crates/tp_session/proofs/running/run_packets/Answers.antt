@@ -1,6 +1,8 @@
-use Rattle.std.proofs.Common.{map, sym, subst, All, length, ap, ◌∙◌}
+use Rattle.std.proofs.Common.{map, refl, sym, subst, All, length, ap, ◌∙◌, true}
 use Rattle.tp_machine.specs.Devices.{devices_of}
+use Rattle.tp_accept.proofs.NeverWrong.{never_goes_wrong_of}
 use Rattle.tp_farm.specs.Jobs.{value_of_job}
+use Rattle.tp_farm.proofs.Promising.{loses_long_traces}
 use Rattle.tp_session.specs.Fitness.{AreFitOf}
 use Rattle.tp_session.proofs.RunLemmas.{short_messages, all_take, all_fit_still, as_many, outcomes}
 use Rattle.tp_session.proofs.running.run_packets.Goals as goal
@@ -13,7 +15,8 @@ returns-in-Ok-clause-outcomes g c fit =
     let lent = subst (λ v. All AreFitOf (map (devices_of state) v.items)) (sym c.replace-lent.ensures.value) fit in
     let take = all_take accepted.image (map (devices_of state) c.replace-lent.result.items) short.0 short.1 lent in
     outcomes (value_of_job c.args.job.now) accepted.budget _ c.in-Ok.ensures.batch.collected.count
-    (c.long_traces_alone_are_lost.ensures _ _ _ c.requires.packets take c.in-Ok.ensures.batch)
+    (loses_long_traces (value_of_job c.args.job.now) accepted.budget
+    (never_goes_wrong_of accepted.image accepted.budget accepted.acceptable) true _ _ _ c.in-Ok.ensures.batch refl take)
 
 pub returns-in-Ok-clause-members : goal.returns-in-Ok-clause-members
 returns-in-Ok-clause-members g c =

@@ -3,7 +3,7 @@ use Rattle.tp_answers.specs.Told.{done_line}
 use Rattle.tp_answers.specs.Entries.{entries_told}
 use Rattle.tp_answers.specs.OpenSessions.{session_of}
 use Rattle.tp_answers.proofs.EntryLemmas.{answers_all}
-use Rattle.tp_session.proofs.RunLemmas.{may_begin, whole_packets, kept_whole, kept_few, kept_count, of_kept}
+use Rattle.tp_session.proofs.RunLemmas.{may_begin, kept_whole, kept_few, kept_count, of_kept}
 use Rattle.tp_session.proofs.running.run_session.Goals as goal
 
 pub run_on_enough-requires-clause-begins : goal.run_on_enough-requires-clause-begins
@@ -12,11 +12,6 @@ run_on_enough-requires-clause-begins g c κs within members least most =
     may_begin members record { number = c.args.batch; image = kept.image.image; packets = map (λ p. p.items) c.deref.result.now }
     least most (kept_few kept c.deref.result.now c.deref.ensures.value)
     (kept_whole kept c.deref.result.now c.deref.ensures.value)
-
-pub run_on_enough-requires-clause-packets : goal.run_on_enough-requires-clause-packets
-run_on_enough-requires-clause-packets g c κs within =
-    let kept = c.args.kept.now in
-    whole_packets kept.image.image _ (kept_whole kept c.deref.result.now c.deref.ensures.value)
 
 pub returns-clause-run : goal.returns-clause-run
 returns-clause-run g c fit name =

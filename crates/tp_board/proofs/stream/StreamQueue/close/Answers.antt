@@ -34,7 +34,7 @@ tally-requires g c =
     let lost = desk_word_at _ h.0 1 _ _ h.1 refl c.word-lost.ensures in
     let agrees = subst Agrees (sym t.view.1) t.agrees in
     let counted = agrees.counted in
-    let drawn = c.drained-drawn.ensures.counted in
+    let drawn = c.drained-drawn.ensures.before.counted in
     let finished = h.2.done in
     let abandoned = h.2.lost in
     omega arith
@@ -65,7 +65,7 @@ returns-clause-ledger g c =
     let done = desk_word_at _ h.0 0 _ _ h.1 refl c.word-done.ensures in
     let lost = desk_word_at _ h.0 1 _ _ h.1 refl c.word-lost.ensures in
     let stop = desk_word_at _ h.0 2 _ _ h.1 refl c.word-stop.ensures in
-    let left = c.drained-drawn.ensures in
+    let left = c.drained-drawn.ensures.before in
     let n = c.drained-drawn.result in
     let packets = length c.args.self.packets in
     let turn = view c.gather-pass.result.0 in
@@ -99,5 +99,4 @@ returns-clause-left g c =
     t.sizes.2 ∙ ap (λ (f : FeederView). f.turn.pushed) (sym c.feeder.view_is) ∙ c.feeder.invariant.0.pushed_is in
     let drew = (returns-clause-ledger g c).drew in
     let below = subst (λ (m : ℕ). AreBelow (all_drawn views) m) e.drawn drew in
-    subst (λ (m : ℕ). IsLeft views m c.tally.result.drawn) pushed
-    (subst (λ (m : ℕ). IsLeft views turn.pushed m) (sym e.drawn) (left_over views turn n c.drained-drawn.ensures below))
+    subst (IsLeft views) pushed (left_over views turn (view c.drained-drawn.new.pass) n c.drained-drawn.ensures.before below c.drained-drawn.ensures.rest)

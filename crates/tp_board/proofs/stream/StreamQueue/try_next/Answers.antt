@@ -1,5 +1,5 @@
 use Rattle.std.proofs.Common.{◌≡◌, ℕ, ◌<◌, ◌∷◌, [], length, refl, inr, sym, ap, ◌∙◌, subst, arith}
-use Rattle.std.specs.Prelude.{slice_get}
+use Rattle.std.specs.Prelude.{slice_get, Some}
 use Rattle.crossbeam_queue.specs.Passes.{view}
 use Rattle.tp_board.specs.declared.line.Item.{Item}
 use Rattle.tp_board.specs.declared.source.Work.TheVariants as work
@@ -57,7 +57,7 @@ returns-in-Some-Number-clause-bytes g c =
     let sizes = ap (λ (h : HandView). h.turn.packets) is ∙ c.requires.own.2 ∙ sym here in
     let below : n < length c.self.inside.packets.now = below_map _ c.self.inside.packets.now n _ sizes popped.1.0 in
     ap (λ (q : StreamView). slice_get q.packets n) (sym c.self.view_is)
-    ∙ get_map _ c.self.inside.packets.now n c.index-self-number.result below
+    ∙ get_map _ c.self.inside.packets.now n c.index-self-number.result below ∙ ap Some (sym c.copied-bytes.ensures)
 
 pub returns-in-Some-End-clause-some : goal.returns-in-Some-End-clause-some
 returns-in-Some-End-clause-some g c =

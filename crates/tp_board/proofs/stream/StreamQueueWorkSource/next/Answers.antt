@@ -2,10 +2,9 @@ use Rattle.std.proofs.Common.{suc, sym, ap, ◌∙◌}
 use Rattle.std.specs.Prelude.{if◌then◌else◌, Bool}
 use Rattle.tp_board.specs.declared.view.View.{View}
 use Rattle.tp_board.specs.Counting.{hand_list}
-use Rattle.tp_board.specs.Sources.{work_of}
 use Rattle.tp_board.specs.Streams.{HandView}
 use Rattle.tp_board.proofs.Handing.{no_number, none_of, one_more_look, next_after, next_says}
-use Rattle.tp_board.proofs.stream.StreamQueue.next_item.Goals as goal
+use Rattle.tp_board.proofs.stream.StreamQueueWorkSource.next.Goals as goal
 
 pub returns-in-Some-try_next-clause-steps : goal.returns-in-Some-try_next-clause-steps
 returns-in-Some-try_next-clause-steps g c =
@@ -17,11 +16,11 @@ returns-in-Some-try_next-clause-steps g c =
     ap (λ (h : HandView). h.place.seen.stop) (sym is) ∙ ok.stop_seen_is
     ∙ ap (λ (b : Bool). if b then 1 else 0) c.if-hand-2.false in
     let made = c.loop.invariant.made in
-    (made.0, next_after _ _ _ made.0 (work_of c.in-Some-try_next.lent) none made.1 c.in-Some-try_next.ensures.some going)
+    (made.0, next_after _ _ _ made.0 c.in-Some-try_next.work none made.1 c.in-Some-try_next.ensures.some going)
 
 pub returns-in-Some-try_next-clause-work : goal.returns-in-Some-try_next-clause-work
 returns-in-Some-try_next-clause-work g c =
-    next_says _ _ _ (work_of c.in-Some-try_next.lent) (ap hand_list (no_number _ c.requires.empty))
+    next_says _ _ _ c.in-Some-try_next.work (ap hand_list (no_number _ c.requires.empty))
     (returns-in-Some-try_next-clause-steps g c) c.in-Some-try_next.ensures.bytes
 
 pub loop-preserved : goal.loop-preserved
