@@ -1,10 +1,8 @@
 #!/bin/sh
-# How long check_states takes, how many passes it makes and how many outcomes it works out, each beside check_flow of the same
-# image in the same run: the increment, a straight code of 8,000 bytes, 4,000 conditional jumps, and codes made to keep the
-# passes going: a loop that moves the words of its workspace on by one place, the same in three others, sixteen such loops
-# one behind the other, the jumps behind the loop, stores far from one another in place of the jumps, a register's range that
-# grows by one with each pass, and a code that is refused at its end in the last pass. Outcomes are also given for each edge, of
-# which there are at most 1 + 1,024 and one for each change of a register.
+# How long check_states takes, beside check_flow of the same image in the same run: the increment, a straight code of 8,000 bytes,
+# 4,000 conditional jumps, and codes made to keep the passes going: a loop that moves the words of its workspace on by one place,
+# the same in three others, sixteen such loops one behind the other, the jumps behind the loop, stores far from one another in
+# place of the jumps, a register's range that grows by one with each pass, and a code that is refused at its end in the last pass.
 # Then small random searches (bench/search.py) from three of these change pieces of them so that they take longer, and what each comes
 # to is told.
 # Then the processor time (user and system) and the peak of memory of each image, the found ones too, judged in a process of its

@@ -43,20 +43,16 @@ def states():
 
 def check():
     for name, counts, text, times in lines():
-        passes, outcomes, edges = counts["passes"], counts["outcomes"], counts["edges"]
         judged, flow = times["judged"], times["check_flow 100 times"] / 100
-        print(f"{name}: {judged // 1000} microseconds, {judged / flow:.0f} times check_flow; {passes} passes, each", end=" ")
-        print(f"{judged / passes / flow:.3f} times; {outcomes} outcomes, each {judged / outcomes / flow:.3f} times;", end=" ")
-        print(f"{edges} edges, {outcomes // edges} outcomes on each; {text.split(', ', 3)[3].partition(', judged')[0]}")
+        print(f"{name}: {judged // 1000} microseconds, {judged / flow:.0f} times check_flow; {text.partition(', judged')[0]}")
 
 
 def accept():
     rounds = int(sys.argv[2])
     for name, counts, text, times in lines():
         accepted, decoded = times["accepted"] / rounds, times["decoded"] / rounds
-        print(f"{name}: {counts['code']} code bytes, {counts['passes']} passes, {accepted:.0f} ns, {1e9 / accepted:.3f} a second,", end=" ")
-        ratio = accepted / decoded
-        print(f"{ratio:.0f} times as long as decoding ({decoded:.0f} ns), {ratio / counts['passes']:.0f} times a pass")
+        print(f"{name}: {counts['code']} code bytes, {accepted:.0f} ns, {1e9 / accepted:.3f} a second,", end=" ")
+        print(f"{accepted / decoded:.0f} times as long as decoding ({decoded:.0f} ns)")
 
 
 def machine():

@@ -1,51 +1,45 @@
 //! How many images a second are accepted, beside decoding the same code.
 //!
-//! One image is accepted once, and its code bytes, its budget and the passes over its states are printed; or it is accepted many
-//! times, and what that took is printed. `bench/images.py` makes the images.
+//! One image is accepted once, and its code bytes and its budget are printed; or it is accepted many times, and what that took is
+//! printed. `bench/images.py` makes the images.
 
 use anyhow::{Result, anyhow};
 use std::alloc::Global;
 use std::rt::Runtime;
 use std::time::Instant;
 use tp_accept::accept;
-use tp_check::{Effort, check_states_counting};
 use tp_decode::decode;
-use tp_flow::check_flow;
 use tp_image::{Image, read_image};
 use tp_samples::INCREMENT;
 use tp_samples::took::Took;
 
 /// In small: the increment, once.
 pub(crate) fn measure<R: Runtime<A = Global>>(rt: &R) -> Result<()> {
-    let (bytes, passes) = counts(rt.alloc(), INCREMENT)?;
+    let bytes = code_bytes(rt.alloc(), INCREMENT)?;
     let budget = accept_rounds(rt.alloc(), INCREMENT, 1)?;
-    println!(rt; "increment: {bytes} code bytes, budget {budget}, {passes} passes")?;
+    println!(rt; "increment: {bytes} code bytes, budget {budget}")?;
     Ok(())
 }
 
-/// Decodes an image's code so often, and accepts it, and prints its code bytes, its passes and what all rounds took.
+/// Decodes an image's code so often, and accepts it, and prints its code bytes and what all rounds took.
 pub(crate) fn time<R: Runtime<A = Global>>(
     rt: &R,
     name: &str,
     text: &[u8],
     rounds: u32,
 ) -> Result<()> {
-    let (bytes, passes) = counts(rt.alloc(), text)?;
+    let bytes = code_bytes(rt.alloc(), text)?;
     let decoding = decoding(rt, text, rounds)?;
     let start = Instant::now(rt)?;
     accept_rounds(rt.alloc(), text, rounds)?;
     let acceptance = Took::since(rt, start, true, "accepted")?;
-    println!(rt; "{name}: {bytes} code bytes, {passes} passes{acceptance}{decoding}")?;
+    println!(rt; "{name}: {bytes} code bytes{acceptance}{decoding}")?;
     Ok(())
 }
 
-/// How many code bytes an image has, and how many passes are made over its states.
-fn counts(alloc: Global, text: &[u8]) -> Result<(usize, u64)> {
-    let image = read_image(alloc, text)?;
-    let passes = passes_over(alloc, &image);
-    let bytes = image.code.len();
-    drop(image);
-    Ok((bytes, passes?))
+/// How many code bytes an image has.
+fn code_bytes(alloc: Global, text: &[u8]) -> Result<usize> {
+    Ok(read_image(alloc, text)?.code.len())
 }
 
 /// What it takes to decode the code so often.
@@ -58,17 +52,6 @@ fn decoding_of<R: Runtime<A = Global>>(rt: &R, image: &Image, rounds: u32) -> Re
     let start = Instant::now(rt)?;
     decode_rounds(rt.alloc(), image, rounds)?;
     Ok(Took::since(rt, start, true, "decoded")?)
-}
-
-/// How many passes are made over the states of an image. `accept` does not tell, so they are made once more.
-fn passes_over(alloc: Global, image: &Image) -> Result<u64> {
-    let listing = decode(alloc, &image.code).map_err(|fault| anyhow!("{fault}"))?;
-    let nest = check_flow(image, &listing).map_err(|fault| anyhow!("{fault}"))?;
-    let mut effort = Effort::default();
-    check_states_counting(alloc, image, &listing, &nest, &mut effort).map_err(|fault| anyhow!(
-        "{fault}"
-    ))?;
-    Ok(effort.passes)
 }
 
 /// Decodes the code, so often.

@@ -1,8 +1,7 @@
 //! What the verifier's passes take, beside `check_flow` of the same image in the same run.
 //!
-//! One image is judged once, and it is printed how many states are kept, how many passes were made, and how many outcomes were
-//! worked out; or its times are printed with these counts; or it is judged so often, for the processor time that it takes.
-//! `bench/images.py` makes the images.
+//! One image is judged once, and it is printed how many states are kept; or its times are printed with that; or it is judged so
+//! often, for the processor time that it takes. `bench/images.py` makes the images.
 
 ghost use Rattle.tp_decode.specs.Cutting.{IsCutting};
 
@@ -11,9 +10,9 @@ use std::alloc::Global;
 use std::fmt;
 use std::rt::Runtime;
 use std::time::Instant;
-use tp_check::{Effort, check_states_counting};
-use tp_decode::{Instr, Listing, decode};
-use tp_flow::{check_flow, edges};
+use tp_check::check_states;
+use tp_decode::{Listing, decode};
+use tp_flow::check_flow;
 use tp_image::{Image, read_image};
 use tp_samples::INCREMENT;
 use tp_samples::took::Took;
@@ -66,20 +65,26 @@ fn judge_often<R: Runtime<A = Global>>(
         judged(rt.alloc(), image, listing);
     }
     if rounds > 0
-        && let Some(Found { states, effort }) = judged(rt.alloc(), image, listing)
+        && let Some(found) = judged(rt.alloc(), image, listing)
     {
-        let Effort { passes, outcomes } = effort;
-        let ending = Ending { states };
-        println!(rt; "{name}: {passes} passes, {outcomes} outcomes; {ending}")?;
+        println!(rt; "{name}: {found}")?;
     }
     Ok(())
 }
 
-/// How many states are kept, or the refusal, and what finding it took.
+/// How many states are kept, or the refusal.
 #[derive(Clone, Copy)]
 struct Found {
     states: Result<usize, StateFault>,
-    effort: Effort,
+}
+
+impl fmt::Display for Found {
+    fn fmt<W: fmt::Write>(&self, f: &mut fmt::Formatter<W>) -> fmt::Result {
+        match self.states {
+            Ok(kept) => write!(f, "{kept} states kept"),
+            Err(fault) => write!(f, "refused, {fault}"),
+        }
+    }
 }
 
 /// What the passes find, where the flow passes.
@@ -89,45 +94,14 @@ fn judged(alloc: Global, image: &Image, listing: &Listing) -> Option<Found>
     let Ok(nest) = check_flow(image, listing) else {
         return None;
     };
-    let mut effort = Effort::default();
-    let states = match check_states_counting(alloc, image, listing, &nest, &mut effort) {
+    let states = match check_states(alloc, image, listing, &nest) {
         Ok(table) => Ok(table.kept()),
         Err(fault) => Err(fault),
     };
-    Some(Found { states, effort })
+    Some(Found { states })
 }
 
-/// The end of a line: how many states are kept, or the refusal.
-#[derive(Clone, Copy)]
-struct Ending {
-    states: Result<usize, StateFault>,
-}
-
-impl fmt::Display for Ending {
-    fn fmt<W: fmt::Write>(&self, f: &mut fmt::Formatter<W>) -> fmt::Result {
-        match self.states {
-            Ok(kept) => write!(f, "{kept} states kept"),
-            Err(fault) => write!(f, "refused, {fault}"),
-        }
-    }
-}
-
-/// How many edges a code's instructions are asked on.
-fn edges_asked(listing: &Listing) -> u64 {
-    let mut asked = 0u64;
-    for i in 0..listing.len() {
-        if let Some(place) = listing.get(i) {
-            let ways = match place.instr {
-                Instr::Stopp => 1,
-                instr => edges(instr).len() as u64,
-            };
-            asked = asked.saturating_add(ways);
-        }
-    }
-    asked
-}
-
-/// Prints the passes, the outcomes and the edges, and what `check_flow` and the passes took.
+/// Prints what is found, and what `check_flow` and the passes took.
 fn timed<R: Runtime<A = Global>>(rt: &R, name: &str, image: &Image, listing: &Listing) -> Result<()>
     requires { IsCutting image.now.code listing.now }
 {
@@ -137,15 +111,10 @@ fn timed<R: Runtime<A = Global>>(rt: &R, name: &str, image: &Image, listing: &Li
     }
     let flow = Took::since(rt, start, true, "check_flow 100 times")?;
     let start = Instant::now(rt)?;
-    let Some(Found { states, effort }) = judged(rt.alloc(), image, listing) else {
+    let Some(found) = judged(rt.alloc(), image, listing) else {
         bail!("no nest");
     };
     let both = Took::since(rt, start, true, "judged")?;
-    let Effort { passes, outcomes } = effort;
-    let edges = edges_asked(listing);
-    let ending = Ending { states };
-    println!(rt;
-        "{name}: {passes} passes, {outcomes} outcomes, {edges} edges, {ending}{both}{flow}"
-    )?;
+    println!(rt; "{name}: {found}{both}{flow}")?;
     Ok(())
 }

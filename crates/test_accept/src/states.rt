@@ -1,6 +1,6 @@
 //! Each call of `tp_state` that takes memory once, with ample memory, and codes that are refused on their way.
 
-ghost use Rattle.std.specs.Prelude.{◌≡◌};
+ghost use Rattle.std.specs.Prelude.{◌≡◌, length};
 ghost use Rattle.tp_flow.specs.NestRanges.{ranges};
 ghost use Rattle.tp_state.specs.Conditions.{HasGoodLoops};
 
@@ -8,11 +8,11 @@ use crate::asserts::assert_same;
 use crate::images::*;
 use crate::reading::read;
 use std::process::Abort;
-use tp_decode::Listing;
+use tp_decode::{Instr, Listing};
 use tp_flow::{Edge, Nest, check_flow, edges};
 use tp_image::{Image, read_image};
 use tp_samples::*;
-use tp_state::{Cell, State, StateCode, StateFault, after};
+use tp_state::{Cell, Cells, Kind, State, StateCode, StateFault, after};
 
 /// The refusal of the first instruction that is refused, from the first on, along first edges.
 fn refusal(rt: &(impl Abort + AllocGlobal), bytes: &[u8]) -> Option<StateFault> {
@@ -87,4 +87,55 @@ fn begins_with_the_first_words(rt: HostRuntime) {
     let cells = (copy.cells.get(0), copy.cells.get(15), copy.cells.get(16));
     let expected = (Cell::Known(42), Cell::Known(0), Cell::Undef);
     assert_same(&rt, &(copy.wptr, cells), &(8, expected));
+}
+
+/// What is known of a workspace of 12 words.
+type Words = [Cell; 12];
+
+/// What is known of a worker whose packet has come, with Wptr at word 8.
+fn with_words(rt: &(impl Abort + AllocGlobal), a: Kind, words: &Words) -> State
+    ensures wptr { result.wptr ≡ 8 }
+    ensures sized { length result.cells ≡ 12 }
+{
+    State {
+        wptr: 8,
+        a,
+        b: Kind::Undef,
+        c: Kind::Undef,
+        phase: 1,
+        cells: Cells::from_slice(rt.alloc(), words).expect(rt, "cells"),
+    }
+}
+
+/// That after an instruction of the increment Areg and words are these, where they were those before it.
+fn assert_after(
+    rt: &(impl Abort + AllocGlobal),
+    at: usize,
+    instr: Instr,
+    (a, words): (Kind, &Words),
+    (a_after, words_after): (Kind, &Words),
+) {
+    let (image, listing) = read(rt, INCREMENT);
+    let nest = check_flow(&image, &listing).expect(rt, "a nest");
+    assert!(rt; image.workspace == 12 && at < 16);
+    let before = with_words(rt, a, words);
+    let known = after(rt.alloc(), &before, at, at + 1, instr, Edge::Next, &image, &nest);
+    let known = known.expect(rt, "a state");
+    let cells = known.cells.to_vec(rt.alloc()).expect(rt, "a list");
+    assert_same(rt, &known.a, &a_after);
+    assert_eq!(rt; cells.as_slice(), words_after);
+}
+
+/// States are made by hand: ldl 0 reads word 8, and stl 0 writes it.
+#[test]
+fn takes_states_made_by_hand(rt: HostRuntime) {
+    let mut words = [Cell::Known(0); 12];
+    words[8] = Cell::Known(41);
+    words[3] = Cell::Undef;
+    let loaded = (Kind::Int(41, 41), &words);
+    assert_after(&rt, 6, Instr::Ldl(0), (Kind::Undef, &words), loaded);
+    let mut written = words;
+    written[8] = Cell::Any;
+    let stored = (Kind::Undef, &written);
+    assert_after(&rt, 8, Instr::Stl(0), (Kind::Int(0, 9), &words), stored);
 }

@@ -1,4 +1,4 @@
-//! Tables and refusals of whole workers, and what the passes take.
+//! Tables and refusals of whole workers.
 
 ghost use Rattle.std.specs.Prelude.{◌≡◌, ◌<◌, IfSome};
 ghost use Rattle.std.specs.Option.{option_copied};
@@ -13,7 +13,7 @@ use crate::states::refused;
 use crate::texts::{NINE_HUNDRED, many_jumps};
 use std::alloc::Global;
 use std::process::Abort;
-use tp_check::{Effort, Table, check_states, check_states_counting, judge_states};
+use tp_check::{Table, check_states};
 use tp_decode::{Instr, Listing};
 use tp_flow::{Edge, Nest, check_flow};
 use tp_image::Image;
@@ -27,25 +27,6 @@ fn verdict(rt: &(impl Abort + AllocGlobal), bytes: &[u8]) -> Result<Table, State
     check_states(rt.alloc(), &image, &listing, &nest)
 }
 
-/// What the passes come to, where no table is made.
-fn judged(rt: &(impl Abort + AllocGlobal), bytes: &[u8]) -> Result<(), StateFault> {
-    let (image, listing) = read(rt, bytes);
-    let nest = check_flow(&image, &listing).expect(rt, "a nest");
-    judge_states(rt.alloc(), &image, &listing, &nest)
-}
-
-/// The refusal, if there is one, the passes and the outcomes.
-type Count = (Option<StateFault>, u64, u64);
-
-/// The refusal, if there is one, and what the passes take up to there or to the end.
-fn counted(rt: &(impl Abort + AllocGlobal), bytes: &[u8]) -> Count {
-    let (image, listing) = read(rt, bytes);
-    let nest = check_flow(&image, &listing).expect(rt, "a nest");
-    let mut effort = Effort::default();
-    let answer = check_states_counting(rt.alloc(), &image, &listing, &nest, &mut effort);
-    (answer.err(), effort.passes, effort.outcomes)
-}
-
 /// The increment with another byte in its code.
 fn increment_with(at: usize, byte: u8) -> [u8; 32]
     requires { at < 16 }
@@ -56,10 +37,9 @@ fn increment_with(at: usize, byte: u8) -> [u8; 32]
     bytes
 }
 
-/// That the passes refuse a worker so, or find a table, whether it is made or not.
+/// That the passes refuse a worker so, or find a table.
 fn assert_refusal(rt: &(impl Abort + AllocGlobal), bytes: &[u8], refusal: Option<StateFault>) {
     assert_same(rt, &verdict(rt, bytes).err(), &refusal);
-    assert_same(rt, &judged(rt, bytes).err(), &refusal);
 }
 
 /// That the passes refuse a worker so.
@@ -256,34 +236,4 @@ const CELLS_AT_THE_HEAD: [(usize, Cell); 6] = [
 fn knows_what_stands_at_a_head(rt: HostRuntime) {
     let table = found(&rt, SUM_TO_TEN_THOUSAND);
     assert_cells(&rt, &table, 15, &CELLS_AT_THE_HEAD);
-}
-
-/// That the passes take so much.
-fn assert_counted(rt: &(impl Abort + AllocGlobal), bytes: &[u8], expected: Count) {
-    assert_same(rt, &counted(rt, bytes), &expected);
-}
-
-/// A pass that makes the states has an outcome for each instruction, and one more for a cj and for a lend; a later one has
-/// them from where a state has changed that is kept, up to the next that is.
-#[test]
-fn counts_passes_and_outcomes(rt: HostRuntime) {
-    // 13 instructions, one behind the other, stopp with them, and no state but the first is kept
-    assert_counted(&rt, INCREMENT, (None, 1, 13));
-    // 19 instructions with a cj; its ways meet before what follows is taken, and nothing is left to take
-    assert_counted(&rt, STORES_BY_TWO_WAYS, (None, 1, 19 + 1));
-    // 23 instructions with a lend; then the sum at the head is a number that is not known, and the 12 from there on follow
-    assert_counted(&rt, SUM_TO_TEN_THOUSAND, (None, 2, 23 + 1 + 12 + 1));
-}
-
-/// A refused outcome is the last that is counted.
-#[test]
-fn counts_up_to_a_refusal(rt: HostRuntime) {
-    // 8 instructions up to the add
-    assert_counted(&rt, READS_AFTER_JUMP, (refused(StateCode::S1, 8), 1, 8));
-    // 24 instructions with a lend, and then those at 12, 13 and 14 again
-    assert_counted(
-        &rt,
-        LOADS_ANY_WORD_IN_LATER_TURNS,
-        (refused(StateCode::S3, 14), 2, 24 + 1 + 3),
-    );
 }

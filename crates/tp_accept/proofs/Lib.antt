@@ -13,5 +13,4 @@ pub mod AnswerLemmas
 pub mod RunEnds
 pub mod NeverWrong
 mod Exact
-pub mod Settled
 pub mod Upgrading

@@ -5,11 +5,7 @@ ghost use Rattle.tp_image.specs.Image.{ImageValue};
 ghost use Rattle.tp_image.specs.Text.{IsTextOf};
 ghost use Rattle.tp_image.specs.Faults.{first_fault};
 ghost use Rattle.tp_accept.specs.Refusals.{of_image};
-ghost use Rattle.tp_decode.specs.Cutting.{IsCutting};
-ghost use Rattle.tp_flow.specs.NestKept.{KeepsNest};
-ghost use Rattle.tp_check.specs.Tables.{Table};
-ghost use Rattle.tp_check.specs.Passes.{IsVerdict};
-ghost use Rattle.tp_accept.specs.Verdict.{allowed, IsAnswer, IsStateAnswer};
+ghost use Rattle.tp_accept.specs.Verdict.{allowed, IsAnswer};
 ghost use Rattle.tp_accept.specs.Acceptance.{IsAcceptable};
 ghost use Rattle.tp_accept.specs.Ending.{NeverGoesWrong};
 ghost use Rattle.tp_accept.specs.declared.refusal.Refusal.TheVariants as refusal;
@@ -18,10 +14,10 @@ use crate::accepted::Accepted;
 use crate::bound::budget;
 use crate::refusal::Refusal;
 use std::alloc::Global;
-use tp_check::judge_states;
-use tp_decode::{Listing, decode};
+use tp_check::check_states;
+use tp_decode::decode;
 use tp_flow::check_flow;
-use tp_image::{Image, read_image};
+use tp_image::read_image;
 
 /// The verdict on a text: the image that it spells, if it may be run, or the first refusal. The bytes are judged first, then
 /// the cutting of the code, its flow, its states and its bound. Of an image that may be run, each packet's run ends within the
@@ -42,21 +38,7 @@ pub fn accept(alloc: Global, text: Vec<u8>) -> Result<Accepted, Refusal>
     let image = read_image(alloc, &text)?;
     let listing = decode(alloc, &image.code)?;
     let nest = check_flow(&image, &listing)?;
-    judge_states(alloc, &image, &listing, &nest)?;
-    accept_settled(alloc, image, &listing)
-}
-
-/// The verdict on an image of which all but its bound was judged: `listing` is its code's, no rule of flow is broken, and the passes
-/// have come to their table. Whoever has made the passes need not make them again to accept the image.
-pub fn accept_settled(alloc: Global, image: Image, listing: &Listing) -> Result<Accepted, Refusal>
-    requires cutting { IsCutting image.code listing.now }
-    requires kept { KeepsNest image.loops image.workspace listing.now }
-    requires settled { (table : Table) × IsVerdict image listing.now (Ok table) }
-    ensures image { IfOk result (λ accepted. accepted.image ≡ image) }
-    ensures allowed { IfOk result (λ accepted. IsStateAnswer image listing.now (Ok (allowed image accepted.budget))) }
-    ensures acceptable { IfOk result (λ accepted. IsAcceptable accepted.image accepted.budget) }
-    ensures refused { IfErr result (λ e. e ≢ refusal.Memory → IsStateAnswer image listing.now (Err e)) }
-{
-    let budget = budget(alloc, &image, listing)?;
+    check_states(alloc, &image, &listing, &nest)?;
+    let budget = budget(alloc, &image, &listing)?;
     Ok(Accepted { image, budget })
 }

@@ -13,7 +13,7 @@ pub mod laws;
 pub mod limits;
 mod refusal;
 
-pub use acceptance::{accept, accept_settled};
+pub use acceptance::accept;
 pub use accepted::Accepted;
 pub use bound::costs;
 pub use counting::Counted;

@@ -19,9 +19,8 @@ use Rattle.tp_state.specs.Order.{IsBelow}
 use Rattle.tp_state.specs.Sound.{IsSound, LoadsWord}
 use Rattle.tp_state.proofs.StateOrder.{is_below-trans}
 use Rattle.tp_rules.proofs.Follows.{Follows}
-use Rattle.tp_rules.proofs.Rules.{after_follows}
+use Rattle.tp_rules.proofs.Rules.{after_follows, after_sound}
 use Rattle.tp_rules.proofs.SoundJoins.{join_sound}
-use Rattle.tp_rules.proofs.SoundRules.{after_sound}
 use Rattle.tp_check.specs.Tables.{Table, with_state, asked}
 use Rattle.tp_check.specs.EdgesRespect.{HasAbove}
 use Rattle.tp_check.specs.Passes.{edges_in}

@@ -29,8 +29,7 @@ use Rattle.tp_state.specs.Conditions.{HasGoodLoops}
 use Rattle.tp_state.specs.Sound.{IsSound, LoadsWord}
 use Rattle.tp_rules.proofs.Follows.{Follows}
 use Rattle.tp_check.proofs.Places.{stands_at}
-use Rattle.tp_rules.proofs.Rules.{after_follows}
-use Rattle.tp_rules.proofs.SoundRules.{after_sound}
+use Rattle.tp_rules.proofs.Rules.{after_follows, after_sound}
 use Rattle.tp_rules.proofs.SoundJoins.{entry_sound, join_sound}
 use Rattle.tp_check.proofs.Loading.{loads_word}
 

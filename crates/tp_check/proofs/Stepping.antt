@@ -349,7 +349,7 @@ module _ (image : ImageValue) (joins : ℕ → Bool) (old : Passes) (place : Pla
           }
 
     -- what is carried is led on, and comes there
-    module _ (count : ℕ) (led new : Passes) (on : IsLedOn to place.next (record old { carried = v; outcomes = count }) led) where
+    module _ (led new : Passes) (on : IsLedOn to place.next (record old { carried = v }) led) where
       module _ (r : Result Bool StateFault) (rest : SameButSlots led new) where
         moved_so : IsMoved image v old new
         moved_so = record { carried = rest.carried ∙ on.carried; spare = rest.spare ∙ on.spare; is_again = rest.is_again ∙ on.is_again; taken = rest.taken ∙ on.taken }

@@ -5,7 +5,6 @@
 #![tactic(auto)]
 
 mod aside;
-mod effort;
 mod kept;
 pub mod laws;
 mod milestones;
@@ -14,8 +13,7 @@ mod passes;
 mod table;
 mod way;
 
-pub use effort::Effort;
 pub use kept::KeptStates;
 pub use near::{NearRefusal, PassesEnd, near_refusal};
-pub use passes::{check_states, check_states_counting, judge_states, places_of};
+pub use passes::{check_states, places_of};
 pub use table::Table;

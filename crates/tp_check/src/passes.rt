@@ -22,7 +22,6 @@ ghost use Rattle.tp_check.specs.UnderWay.{is_in, IsBeginning, IsCopyOf, Leaves, 
 ghost use Rattle.tp_check.specs.Rising.{HasPlaces, Gives, Moves, CameBefore};
 
 use crate::aside::{Registers, leaves_words};
-use crate::effort::Effort;
 use crate::kept::KeptStates;
 use crate::table::Table;
 use crate::way::Ways;
@@ -50,64 +49,13 @@ pub fn check_states(
     // Where anything but memory is refused, no table exists that every edge respects.
     ensures exact { IfErr result (λ e. e ≢ fault.Memory → HasNoTable image.now listing.now) }
 {
-    check_states_counting(alloc, image, listing, nest, &mut Effort::default())
-}
-
-/// As `check_states`; and whatever the answer is, `effort` is then what the passes have taken up to it, whatever it was
-/// before. It is for benchmarks: no contract tells what is counted.
-pub fn check_states_counting(
-    alloc: Global,
-    image: &Image,
-    listing: &Listing,
-    nest: &Nest,
-    effort: &mut Effort,
-) -> Result<Table, StateFault>
-    requires kept { KeepsNest image.now.loops image.now.workspace listing.now }
-    requires nest { nest.now ≡ ranges image.now.loops }
-    ensures table { IfOk result (λ table. IsTableOf image.now listing.now table.states.items) }
-    ensures states { IfOk result (λ table. AreStatesThere image.now table.states.items) }
-    ensures refused { IfErr result (IsRefusalOf image.now listing.now) }
-    // Where anything but memory is refused, no table exists that every edge respects.
-    ensures exact { IfErr result (λ e. e ≢ fault.Memory → HasNoTable image.now listing.now) }
-{
-    *effort = Effort::default();
     let places = places_of(listing);
     let ways = Ways::of(alloc, image, listing, nest, places)?;
-    let slots = settle(alloc, image, listing, nest, places, &ways, effort)?;
+    let slots = settle(alloc, image, listing, nest, places, &ways)?;
     Ok(Table::of(alloc, &slots, &ways)?)
 }
 
-/// Whether the passes come to a table, of an image whose flow has passed and of its code's listing: as `check_states`, but no
-/// table is made of the states that they leave.
-pub fn judge_states(
-    alloc: Global,
-    image: &Image,
-    listing: &Listing,
-    nest: &Nest,
-) -> Result<(), StateFault>
-    requires kept { KeepsNest image.now.loops image.now.workspace listing.now }
-    requires nest { nest.now ≡ ranges image.now.loops }
-    ensures table { IfOk result (λ _. (whole : WholeTable) × IsVerdict image.now listing.now (Ok whole)) }
-    ensures refused { IfErr result (IsRefusalOf image.now listing.now) }
-    // Where anything but memory is refused, no table exists that every edge respects.
-    ensures exact { IfErr result (λ e. e ≢ fault.Memory → HasNoTable image.now listing.now) }
-{
-    let places = places_of(listing);
-    let ways = Ways::of(alloc, image, listing, nest, places)?;
-    settle(
-        alloc,
-        image,
-        listing,
-        nest,
-        places,
-        &ways,
-        &mut Effort::default(),
-    )?;
-    Ok(())
-}
-
-/// The states where edges join, when a pass leaves no edge to be taken; or the first refusal. What the passes have taken is added
-/// to `effort`.
+/// The states where edges join, when a pass leaves no edge to be taken; or the first refusal.
 fn settle(
     alloc: Global,
     image: &Image,
@@ -115,7 +63,6 @@ fn settle(
     nest: &Nest,
     places: usize,
     ways: &Ways,
-    effort: &mut Effort,
 ) -> Result<KeptStates, StateFault>
     requires kept { KeepsNest image.now.loops image.now.workspace listing.now }
     requires nest { nest.now ≡ ranges image.now.loops }
@@ -134,10 +81,7 @@ fn settle(
     let mut passes = Passes::begin(alloc, image, places)?;
     let mut is_left = true;
     while is_left {
-        effort.passes = effort.passes.saturating_add(1);
-        let answer = passes.pass(alloc, image, listing, nest, ways);
-        effort.outcomes = passes.outcomes;
-        is_left = answer?;
+        is_left = passes.pass(alloc, image, listing, nest, ways)?;
     }
     Ok(passes.slots)
 }
@@ -161,8 +105,6 @@ pub(crate) struct Passes {
     carried: State,
     /// Room for another, once an instruction has come of which two edges may change words.
     spare: Option<State>,
-    /// How many outcomes were worked out.
-    outcomes: u64,
 }
 
 impl Passes {
@@ -188,7 +130,6 @@ impl Passes {
             is_again: false,
             carried,
             spare: None,
-            outcomes: 0,
         })
     }
 
@@ -208,7 +149,6 @@ impl Passes {
             is_again: self.is_again,
             carried,
             spare: None,
-            outcomes: self.outcomes,
         })
     }
 
@@ -460,7 +400,6 @@ impl Passes {
             (IsAfterEdge image.now way.amid.cuts (joins_at ways.now) self.old self.new place edge done way.amid.whole) }
         ensures moves { IfOk result (λ moved. Moves image.now moved self.old.slots self.new.slots) }
     {
-        self.outcomes = self.outcomes.saturating_add(1);
         let Placed { at, instr, next } = place;
         if let Err(code) = self.carried.go_on(at, next, instr, edge, image, nest) {
             return Err(StateFault::Refused { code, place: at });

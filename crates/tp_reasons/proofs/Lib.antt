@@ -1,4 +1,3 @@
 mod Passing
 mod Taking
 mod Costing
-mod Judging

@@ -1,33 +1,26 @@
 //! A verdict, told.
 
-ghost use Rattle.std.specs.Prelude.{◌≡◌, ◌≢◌, None, Err, IfOk, IfErr, IfSome};
+ghost use Rattle.std.specs.Prelude.{IfOk};
 ghost use Rattle.tp_decode.specs.Cutting.{IsCutting};
-ghost use Rattle.tp_image.specs.Text.{IsTextOf};
-ghost use Rattle.tp_image.specs.Faults.{first_fault};
-ghost use Rattle.tp_accept.specs.Acceptance.{IsAcceptable};
-ghost use Rattle.tp_accept.specs.Verdict.{IsAnswer};
-ghost use Rattle.tp_accept.specs.declared.refusal.Refusal.TheVariants as refusal;
-ghost use Rattle.tp_reasons.specs.Told.{IsToBeTold, IsJudged, IsVerdictOn};
+ghost use Rattle.tp_reasons.specs.Told.{IsVerdictOn};
 
 use crate::fields::{tell_bytes, tell_field, tell_turns};
 use crate::flow::tell_flow;
 use crate::meaning::meaning_of;
 use crate::passes::first_refusal;
-use crate::refusal::{EdgeRefusal, FirstRefusal};
 use crate::source::SourceText;
 use crate::states::tell_state;
 use crate::telling::TellFault;
 use std::alloc::Global;
 use std::io::Write;
-use tp_accept::{Accepted, Refusal, RefusalCode, accept, accept_settled};
+use tp_accept::{Refusal, RefusalCode, accept};
 use tp_check::PassesEnd;
 use tp_decode::{DecodeFault, Listing, decode};
-use tp_flow::{Nest, check_flow};
+use tp_flow::check_flow;
 use tp_image::{Image, ImageFault, read_image};
 
 /// Judges the bytes of an image, and writes the verdict: as farmd answers it, and of a refusal what it means, where it comes, and
-/// what helps; the listing has what a text says of its lines. It answers whether the image is accepted. Where the
-/// passes come to a table they are made once, and the bound alone is left to be judged.
+/// what helps; the listing has what a text says of its lines. It answers whether the image is accepted.
 pub fn tell<W: Write>(
     alloc: Global,
     text: &[u8],
@@ -36,37 +29,7 @@ pub fn tell<W: Write>(
 ) -> Result<bool, TellFault>
     ensures { IfOk result (IsVerdictOn text.now) }
 {
-    match judge(alloc, text)? {
-        Some(Judged::Refused(refused)) => {
-            tell_refused_state(alloc, &refused, source, writer)?;
-            Ok(false)
-        }
-        Some(Judged::Settled(settled)) => {
-            let Settled { image, listing } = settled;
-            let verdict = accept_settled(alloc, image, &listing);
-            tell_verdict(alloc, text, source, verdict, writer)
-        }
-        None => {
-            let verdict = accept(alloc, Vec::from_slice(alloc, text)?);
-            tell_verdict(alloc, text, source, verdict, writer)
-        }
-    }
-}
-
-/// Writes a verdict that is no refusal of states, with what is told of a refusal. It answers whether the image is accepted.
-fn tell_verdict<W: Write>(
-    alloc: Global,
-    text: &[u8],
-    source: SourceText<'_>,
-    verdict: Result<Accepted, Refusal>,
-    writer: &mut W,
-) -> Result<bool, TellFault>
-    requires image { IfOk verdict (λ accepted. IsTextOf text.now accepted.image) }
-    requires acceptable { IfOk verdict (λ accepted. IsAcceptable accepted.image accepted.budget) }
-    requires refused { IfErr verdict (λ e. e ≢ refusal.Memory → IsAnswer text.now (Err e)) }
-    ensures { IfOk result (IsVerdictOn text.now) }
-{
-    match verdict {
+    match accept(alloc, Vec::from_slice(alloc, text)?) {
         Ok(accepted) => {
             let bytes = accepted.code().len();
             let budget = accepted.budget();
@@ -79,81 +42,6 @@ fn tell_verdict<W: Write>(
             Ok(false)
         }
     }
-}
-
-/// An image whose states have been judged.
-#[derive(Drop)]
-enum Judged {
-    /// The passes have come to their table.
-    Settled(Settled),
-    /// They refuse.
-    Refused(RefusedState),
-}
-
-/// An image whose states are not refused.
-#[derive(Drop)]
-struct Settled {
-    image: Image,
-    listing: Listing,
-}
-
-/// An image whose states are refused, and where.
-#[derive(Drop)]
-struct RefusedState {
-    image: Image,
-    listing: Listing,
-    nest: Nest,
-    found: FirstRefusal,
-}
-
-/// What the verifier's passes come to over the image that bytes are; none, where it is refused before they begin, or they come to
-/// nothing that can be counted. The verdict on the bytes is the refusal that is found.
-fn judge(alloc: Global, text: &[u8]) -> Result<Option<Judged>, TellFault>
-    ensures { IfOk result (λ o. IfSome o (IsJudged text.now)) }
-{
-    let Some(image) = image_of(alloc, text)? else {
-        return Ok(None);
-    };
-    let listing = match decode(alloc, &image.code) {
-        Ok(listing) => listing,
-        Err(DecodeFault::Memory) => return Err(TellFault::Memory),
-        Err(DecodeFault::Refused { .. }) => return Ok(None),
-    };
-    let Ok(nest) = check_flow(&image, &listing) else {
-        return Ok(None);
-    };
-    match first_refusal(alloc, &image, &listing, &nest)? {
-        None => Ok(None),
-        Some(PassesEnd::Settled) => Ok(Some(Judged::Settled(Settled { image, listing }))),
-        Some(PassesEnd::Refused(found)) => Ok(Some(Judged::Refused(RefusedState {
-            image,
-            listing,
-            nest,
-            found,
-        }))),
-    }
-}
-
-/// Writes a refusal of states.
-fn tell_refused_state<W: Write>(
-    alloc: Global,
-    refused: &RefusedState,
-    source: SourceText<'_>,
-    writer: &mut W,
-) -> Result<(), TellFault>
-    requires { IsToBeTold refused.now }
-{
-    let RefusedState {
-        image,
-        listing,
-        nest,
-        found,
-    } = refused;
-    let EdgeRefusal { code, place, .. } = found.refusal;
-    let code = RefusalCode::State(code);
-    tell_line(code, place, writer)?;
-    tell_state(alloc, image, listing, nest, source, found, writer)?;
-    tell_instead(code, writer)
 }
 
 /// Writes the line of a refusal, and what it means.
@@ -170,9 +58,7 @@ fn tell_instead<W: Write>(code: RefusalCode, writer: &mut W) -> Result<(), TellF
 }
 
 /// The image that bytes are, if they are one.
-fn image_of(alloc: Global, text: &[u8]) -> Result<Option<Image>, TellFault>
-    ensures { IfOk result (λ o. IfSome o (λ image. IsTextOf text.now image × (first_fault text.now ≡ None))) }
-{
+fn image_of(alloc: Global, text: &[u8]) -> Result<Option<Image>, TellFault> {
     match read_image(alloc, text) {
         Ok(image) => Ok(Some(image)),
         Err(ImageFault::Memory) => Err(TellFault::Memory),
@@ -180,7 +66,7 @@ fn image_of(alloc: Global, text: &[u8]) -> Result<Option<Image>, TellFault>
     }
 }
 
-/// Writes a refusal that is none of states: its line, what it means, where it comes, and what helps.
+/// Writes a refusal: its line, what it means, where it comes, and what helps.
 fn tell_refusal<W: Write>(
     alloc: Global,
     text: &[u8],
@@ -224,7 +110,29 @@ fn tell_code<W: Write>(
 {
     match code {
         RefusalCode::Flow(code) => tell_flow(alloc, image, listing, source, code, place, writer),
+        RefusalCode::State(_) => tell_passes(alloc, image, listing, source, writer),
         RefusalCode::B1 => tell_turns(image, writer),
-        RefusalCode::Image(_) | RefusalCode::Cutting(_) | RefusalCode::State(_) => Ok(()),
+        RefusalCode::Image(_) | RefusalCode::Cutting(_) => Ok(()),
+    }
+}
+
+/// Writes where the passes over a code refuse it, and what is known there: they are made once more.
+fn tell_passes<W: Write>(
+    alloc: Global,
+    image: &Image,
+    listing: &Listing,
+    source: SourceText<'_>,
+    writer: &mut W,
+) -> Result<(), TellFault>
+    requires { IsCutting image.now.code listing.now }
+{
+    let Ok(nest) = check_flow(image, listing) else {
+        return Ok(());
+    };
+    match first_refusal(alloc, image, listing, &nest)? {
+        Some(PassesEnd::Refused(found)) => {
+            tell_state(alloc, image, listing, &nest, source, &found, writer)
+        }
+        _ => Ok(()),
     }
 }

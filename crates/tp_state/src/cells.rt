@@ -48,6 +48,33 @@ impl Cells {
         word_at(&self.values, &self.planes, x)
     }
 
+    /// The cells of a list: of each word, what is known of it. A workspace has at most 512 words.
+    pub fn from_slice(alloc: Global, cells: &[Cell]) -> Result<Cells, AllocError>
+        requires { length cells.now ≤ 512 }
+        ensures { IfOk result (λ new. new ≡ cells.now) }
+    {
+        let words = cells.len();
+        let values = first_values(alloc, &[], words)?;
+        let planes = whole_planes(words);
+        let mut new = Cells { values, planes };
+        for x in 0..words {
+            new.set(x, cells[x]);
+        }
+        Ok(new)
+    }
+
+    /// A list of them.
+    pub fn to_vec(&self, alloc: Global) -> Result<Vec<Cell>, AllocError>
+        ensures { IfOk result (λ cells. cells.items ≡ self.now) }
+    {
+        let words = self.values.len();
+        let mut cells = Vec::with_capacity(alloc, words)?;
+        for x in 0..words {
+            cells.push(self.get(x))?;
+        }
+        Ok(cells)
+    }
+
     pub(crate) fn set(&mut self, x: usize, cell: Cell)
         requires { x < length self.old }
         ensures { self.new ≡ slice_set self.old x cell }

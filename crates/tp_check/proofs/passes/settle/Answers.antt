@@ -22,7 +22,7 @@ returns-in_err-is_left-clause-exact c =
 
 pub loop-is_left-preserved : goal.loop-is_left-preserved
 loop-is_left-preserved c =
-    one_more c.args.image.now c.args.listing.now c.begin.ensures.in_range c.is_spelled.ensures c.requires.kept (joins_at c.args.ways.now) c.requires.join c.loop-is_left.passes c.pass-answer.new.self c.loop-is_left.is_left c.in_ok-is_left.is_left c.loop-is_left.invariant
+    one_more c.args.image.now c.args.listing.now c.begin.ensures.in_range c.is_spelled.ensures c.requires.kept (joins_at c.args.ways.now) c.requires.join c.loop-is_left.passes c.pass.new.self c.loop-is_left.is_left c.in_ok-is_left.is_left c.loop-is_left.invariant
     c.in_ok-is_left.ensures.rests c.in_ok-is_left.ensures.leaves c.in_ok-is_left.ensures.gives
 
 pub returns-clause-settled : goal.returns-clause-settled

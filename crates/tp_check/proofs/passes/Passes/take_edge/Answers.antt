@@ -14,7 +14,7 @@ arrive-requires-clause-placed c is =
 pub arrive-requires-clause-again : goal.arrive-requires-clause-again
 arrive-requires-clause-again c =
     came_led c.args.image.now (joins_at c.args.ways.now) c.args.self.now c.args.place c.args.edge c.requires.way.0 c.requires.way.1.amid c.requires.way.1.here c.requires.way.1.number.inside c.requires.way.1.number.is c.requires.place c.requires.sound c.go_on.new.self goes c.go_on.ensures.placed c.in-Some.to leads
-    _ c.lead_on.new.self c.lead_on.new.self c.lead_on.ensures
+    c.lead_on.new.self c.lead_on.new.self c.lead_on.ensures
   where
     goes : after c.args.image.now c.args.place.at c.args.place.next c.args.place.instr c.args.edge c.args.self.now.carried ≡ Ok c.go_on.new.self
     goes = left c.go_on.result c.in_default.field-0 c.go_on.new.self _ c.in_default.is c.go_on.ensures.value
@@ -25,7 +25,7 @@ arrive-requires-clause-again c =
 pub returns-in-Some-clause-gives : goal.returns-in-Some-clause-gives
 returns-in-Some-clause-gives c done way =
     arrived c.args.image.now (joins_at c.args.ways.now) c.args.self.now c.args.place c.args.edge done way.amid way.here way.number.inside way.number.is c.requires.place c.requires.sound c.go_on.new.self goes c.go_on.ensures.placed c.in-Some.to leads
-    _ c.lead_on.new.self c.arrive.new.self c.lead_on.ensures c.arrive.result c.arrive.ensures.rest c.arrive.ensures.joins c.arrive.ensures.marks c.arrive.ensures.alone c.arrive.ensures.moves
+    c.lead_on.new.self c.arrive.new.self c.lead_on.ensures c.arrive.result c.arrive.ensures.rest c.arrive.ensures.joins c.arrive.ensures.marks c.arrive.ensures.alone c.arrive.ensures.moves
   where
     goes : after c.args.image.now c.args.place.at c.args.place.next c.args.place.instr c.args.edge c.args.self.now.carried ≡ Ok c.go_on.new.self
     goes = left c.go_on.result c.in_default.field-0 c.go_on.new.self _ c.in_default.is c.go_on.ensures.value

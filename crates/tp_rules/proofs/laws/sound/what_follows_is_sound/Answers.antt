@@ -1,4 +1,4 @@
-use Rattle.tp_rules.proofs.SoundRules.{after_sound}
+use Rattle.tp_rules.proofs.Rules.{after_sound}
 use Rattle.tp_rules.proofs.laws.sound.what_follows_is_sound.Goals as goal
 
 pub returns : goal.returns

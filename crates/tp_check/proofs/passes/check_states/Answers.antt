@@ -1,7 +1,7 @@
 use Rattle.std.proofs.Common.{rules}
 use Rattle.tp_check.specs.Joining.{joins_at, keeps_at}
 use Rattle.tp_check.proofs.Verdict.{is_table, are_states_there}
-use Rattle.tp_check.proofs.passes.check_states_counting.Goals as goal
+use Rattle.tp_check.proofs.passes.check_states.Goals as goal
 
 pub returns-clause-table : goal.returns-clause-table
 returns-clause-table c =

@@ -15,7 +15,7 @@ use Rattle.tp_state.specs.Order.{kind_below}
 use Rattle.tp_state.proofs.OrderLemmas.{int_low, int_high}
 use Rattle.tp_state.specs.Sound.{IsRange, IsSoundKind}
 use Rattle.tp_rules.proofs.Ranges.{IsWithin}
-use Rattle.tp_rules.proofs.Results.{at_least_zero, above_zero, quotients_below, remainders_below, conjunctions_below, shifted_up_below, shifted_down_below}
+use Rattle.tp_rules.proofs.ArithmeticOrder.{at_least_zero, above_zero, quotients_below, remainders_below, conjunctions_below, shifted_up_below, shifted_down_below}
 
 -- a range within itself
 pub itself : (a : ℤ × ℤ) → IsRange a.0 a.1 → IsWithin a a
