@@ -16,10 +16,9 @@ import subprocess, sys
 
 sys.dont_write_bytecode = True
 sys.path.insert(0, sys.argv[1] + "/bench")
-import images, search
+import images, measure, search
 
 BENCH = sys.argv[1] + "/crates/bench_verifier/out/bench_verifier"
-RATES = sys.argv[1] + "/bench/rates.py"
 ROUNDS = 5
 CHECKED = [
     "increment", "straight", "jumps", "one loop", "four nested", "sixteen", "behind the loop", "strided stores", "growing range",
@@ -33,7 +32,7 @@ MOST_KIB = 25 * 1024
 judged = {name: images.named(name) for name in CHECKED}
 for name, image in judged.items():
     told = subprocess.run([BENCH, "check", name, image.hex()], stdout=subprocess.PIPE, check=True).stdout
-    print(subprocess.run([RATES, "check"], input=told, stdout=subprocess.PIPE, check=True).stdout.decode(), end="")
+    print(*measure.check(told.decode()), sep="\n")
 for name, image in search.searches(BENCH):
     judged["found from " + name] = image
 slowest = largest = 0
