@@ -132,7 +132,7 @@ fn assert_after(
     let known = known.expect(rt, "a state");
     let cells = known.cells.to_vec(rt.alloc()).expect(rt, "a list");
     assert_same(rt, &known.a, &a_after);
-    assert_eq!(rt; cells.as_slice(), words_after);
+    assert_eq!(rt; cells.as_slice(), words_after.as_slice());
 }
 
 /// States are made by hand: ldl 0 reads word 8, and stl 0 writes it.
