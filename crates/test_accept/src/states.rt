@@ -119,11 +119,20 @@ fn assert_after(
     let nest = check_flow(&image, &listing).expect(rt, "a nest");
     assert!(rt; image.workspace == 12 && at < 16);
     let before = with_words(rt, a, words);
-    let known = after(rt.alloc(), &before, at, at + 1, instr, Edge::Next, &image, &nest);
+    let known = after(
+        rt.alloc(),
+        &before,
+        at,
+        at + 1,
+        instr,
+        Edge::Next,
+        &image,
+        &nest,
+    );
     let known = known.expect(rt, "a state");
     let cells = known.cells.to_vec(rt.alloc()).expect(rt, "a list");
     assert_same(rt, &known.a, &a_after);
-    assert_eq!(rt; cells.as_slice(), words_after);
+    assert_eq!(rt; cells.as_slice(), words_after.as_slice());
 }
 
 /// States are made by hand: ldl 0 reads word 8, and stl 0 writes it.
