@@ -298,9 +298,15 @@ A refused line is answered by NO <code> <place>. docs/PROTOCOL.md says the rest.
 
 #[test]
 fn answers_help_and_version(rt: HostRuntime) {
-    for (word, answer) in [("--help", HELP), ("--version", "farmd 0.1\n")] {
+    // Whatever the file is called.
+    let cases = [
+        ("farmd", "--help", HELP),
+        ("tp_farmd.by-rattle", "--help", HELP),
+        ("farmd", "--version", "farmd 0.1 (rattle-kit-13f)\n"),
+    ];
+    for (name, word, answer) in cases {
         let mut output = Vec::new(rt.alloc());
-        let ended = ran(&rt, rt.alloc(), &["farmd", word], &mut Broken, &mut output);
+        let ended = ran(&rt, rt.alloc(), &[name, word], &mut Broken, &mut output);
         assert_same(&rt, &ended.status, &ExitCode::SUCCESS);
         let told = unwrap(&rt, str::from_utf8(&output));
         assert_same(&rt, &told, &answer);

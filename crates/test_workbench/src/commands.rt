@@ -467,8 +467,13 @@ docs/VERIFIER.md lists every refusal.
 #[test]
 fn help_and_version(rt: HostRuntime) {
     let cases = [
-        (["tpw", "--version"].as_slice(), "tpw 0.1\n"),
+        (
+            ["tpw", "--version"].as_slice(),
+            "tpw 0.1 (rattle-kit-13f)\n",
+        ),
         (["tpw", "--help"].as_slice(), HELP),
+        // Whatever the file is called.
+        (["tpw.by-rattle", "--help"].as_slice(), HELP),
         (["tpw", "step", "--help"].as_slice(), STEP_HELP),
         (["tpw", "why", "--help"].as_slice(), WHY_HELP),
     ];

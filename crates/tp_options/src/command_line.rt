@@ -10,6 +10,9 @@ use clap::{Arg, ArgAction, Command, Error, value_parser};
 use std::alloc::Global;
 use std::convert::AsStr;
 
+/// What `--version` says behind the name: the version, and the kit that the proofs are made with.
+const VERSION: &str = "0.1 (rattle-kit-13f)";
+
 /// What `--help` says below the options.
 const LINES: &str = "\
 Reads lines on standard input, and writes the answer to each on standard output:
@@ -52,7 +55,8 @@ fn command<'a>(alloc: Global) -> Result<Command<'a>, Error>
     ensures memory { IfErr result (λ e. kind_of e ≡ OutOfMemory) }
 {
     let command = Command::new(alloc, "farmd")
-        .version("0.1")
+        .bin_name("farmd")?
+        .version(VERSION)
         .about("A processor farm whose every promise is proved")
         .after_help(LINES)
         .arg(members_argument(alloc))?

@@ -9,6 +9,9 @@ use std::alloc::Global;
 use std::convert::AsStr;
 use tp_stepper::{Place, Span};
 
+/// What `--version` says behind the name: the version, and the kit that the proofs are made with.
+const VERSION: &str = "0.1 (rattle-kit-13f)";
+
 /// The name of the command that tells a run.
 const STEP: &str = "step";
 
@@ -119,7 +122,8 @@ fn dis_command<'a>(alloc: Global) -> Command<'a> {
 /// The command line that the program knows.
 fn command<'a>(alloc: Global) -> Result<Command<'a>, Error> {
     let command = Command::new(alloc, "tpw")
-        .version("0.1")
+        .bin_name("tpw")?
+        .version(VERSION)
         .about("Tools for those who write workers")
         .subcommand_required(true)
         .subcommand(asm_command(alloc)?)?
