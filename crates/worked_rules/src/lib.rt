@@ -7,11 +7,13 @@
 //! | ldc, ldlp, ldnlp, cj, ajw, seterr, stopp, rev, bsub, wsub | [`registers`] |
 //! | ldl, ldnl, stl, stnl, lb, sb, move | [`words`] |
 //! | in, out, j and lend, and the loops that edges enter and leave | [`messages`] |
+//! | states that meet where edges join | [`meetings`] |
 //! | small codes, at the instruction that is refused | [`refusals`] |
 //! | cases that a narrower rule would answer otherwise | [`narrower`] |
 //! | states that are not sound, of which the rules do not keep the order | [`unsound`] |
 #![tactic(auto)]
 
+pub mod meetings;
 pub mod messages;
 pub mod narrower;
 pub mod numbers;

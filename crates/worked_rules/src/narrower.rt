@@ -1,7 +1,7 @@
 //! Cases that a narrower rule would answer otherwise, though it were sound too: computed examples.
 
-ghost use Rattle.std.specs.Prelude.{◌≡◌, pos, [], ◌∷◌, Ok, Err, is_ok, true};
-ghost use Rattle.tp_decode.specs.declared.instr.Instr.TheVariants.{Jump, Cj, Stl, Stnl, Prod, Mul, Csub0, BitNot, BitOr, BitXor, Seterr, MoveBytes};
+ghost use Rattle.std.specs.Prelude.{◌≡◌, pos, [], ◌∷◌, ◌++◌, replicate, Ok, Err, is_ok, true};
+ghost use Rattle.tp_decode.specs.declared.instr.Instr.TheVariants.{Jump, Cj, Ldnl, Stl, Stnl, Lb, Prod, Mul, Csub0, Rem, BitNot, BitAnd, BitOr, BitXor, Seterr, MoveBytes};
 ghost use Rattle.tp_image.specs.declared.image.Version.TheVariants.{Two};
 ghost use Rattle.tp_flow.specs.declared.edge.Edge.TheVariants.{Next, Taken};
 ghost use Rattle.tp_state.specs.declared.kind.Kind.TheVariants.{Undef, Int, Ptr, BytePtr};
@@ -49,4 +49,26 @@ pub fn stored_pointers_and_overlaps_computed()
     ensures stnl { next_of (Stnl (pos 3)) (regs (Ptr 7 7) (BytePtr 1 1) (one 1)) ≡ Ok (regs_words (one 1) Undef Undef
         (words_with (cell.Known (pos 9) ∷ cell.Index 0 ∷ cell.Count 0 ∷ cell.Any ∷ cell.Any ∷ []))) }
     ensures overlap { after (image_of Two 1 1) 12 14 MoveBytes Next (regs (one 8) (Ptr 10 10) (Ptr 10 10)) ≡ Err S3 }
+{}
+
+/// A remainder lies between the divisor's ends whatever the dividend: where it is never above 0, where both are known, and where it is
+/// below the divisor. and of two known numbers goes from 0 to the lesser.
+#[tactic(auto, unfolding(crate::proofs::Computing::by_computing))]
+pub fn remainders_and_masks_computed()
+    ensures never_above_0 { next_of Rem (regs (one 10) (Int (minus 9) (minus 3)) (one 9)) ≡
+        Ok (regs (Int (minus 9) (pos 9)) (one 9) Undef) }
+    ensures both_known { next_of Rem (regs (one 10) (one 23) (one 9)) ≡ Ok (regs (ints 0 9) (one 9) Undef) }
+    ensures below_the_divisor { next_of Rem (regs (one 10) (ints 2 5) (one 9)) ≡ Ok (regs (ints 0 9) (one 9) Undef) }
+    ensures bit_and { next_of BitAnd (regs (one 12) (one 10) (one 9)) ≡ Ok (regs (ints 0 10) (one 9) Undef) }
+{}
+
+/// A byte of a known word is any byte; of several words that are known alike any word is read; and a store to several words leaves
+/// them any, also where each holds the value already.
+#[tactic(auto, unfolding(crate::proofs::Computing::by_computing))]
+pub fn known_words_computed()
+    ensures lb { next_of Lb (regs (BytePtr 1 1) (one 2) (one 3)) ≡ Ok (regs (ints 0 255) (one 2) (one 3)) }
+    ensures ldnl { next_of (Ldnl (pos 0)) (regs (Ptr 3 6) (one 2) (one 3)) ≡ Ok (regs any (one 2) (one 3)) }
+    ensures stnl { next_of (Stnl (pos 0)) (regs (Ptr 3 4) (one 0) (one 3)) ≡ Ok (regs_words (one 3) Undef Undef
+        (cell.Known (pos 0) ∷ cell.Known (minus 1) ∷ replicate 3 cell.Any ++ (replicate 2 (cell.Known (pos 0))
+        ++ (cell.Known (pos 9) ∷ cell.Index 0 ∷ cell.Count 0 ∷ cell.Undef ∷ cell.Any ∷ [])))) }
 {}
