@@ -1,51 +1,67 @@
 -- What is told of the entries of a batch.
-use Rattle.std.proofs.Common.{◌≡◌, ℕ, zero, suc, ◌+◌, Bool, List, [], ◌∷◌, ◌++◌, take, slice_get, Some, refl, ap, sym, ◌∙◌, arith}
-use Rattle.std.proofs.Common.{append_assoc, add-one, inl, inr}
+use Rattle.std.proofs.Common.{◌≡◌, ℕ, zero, suc, ◌+◌, Bool, List, [], ◌∷◌, ◌++◌, take, map, slice_get, Some, ap, sym, ◌∙◌, arith}
+use Rattle.std.proofs.Common.{append_assoc, add-one, codes, Option}
+use Rattle.std.specs.List.{flat_map}
 use Rattle.std.proofs.lemmas.List.{append-nil}
 use Rattle.std.proofs.lemmas.Option.{same_Some}
-use Rattle.tp_image.specs.Image.{ImageValue}
+use Rattle.arrayvec.specs.declared.array_vec.ArrayVec.{ArrayVec}
+use Rattle.tp_step.specs.Runs.{Run}
 use Rattle.tp_collect.specs.declared.collected.Entry.{Entry}
-use Rattle.tp_collect.specs.declared.collected.Entry.TheVariants as entry
-use Rattle.tp_collect.specs.DoneValue.{run_of_done}
-use Rattle.tp_answers.specs.Answers.{IsPacketAnswer, ArePacketAnswers}
-use Rattle.tp_answers.specs.Entries.{entry_told, entries_told, IsOutcome, AreOutcomes}
+use Rattle.tp_answers.specs.Outcomes.{outcome_of}
+use Rattle.tp_answers.specs.Texts.{written, outcome_lines, outcomes_lines, session_lines}
+
+abbrev pub lines_of : Bool → ℕ → List Entry → List ℕ
+lines_of trace n entries = outcomes_lines trace n (map outcome_of entries)
 
 -- one entry more
-pub told_more : (trace : Bool) (entries : List Entry) (i : ℕ) (e : Entry) → slice_get entries i ≡ Some e
-    → entries_told trace 0 (take (i + 1) entries) ≡ entries_told trace 0 (take i entries) ++ entry_told trace i e
-told_more trace entries i e is =
+pub lines_more : (trace : Bool) (entries : List Entry) (i : ℕ) (e : Entry) → slice_get entries i ≡ Some e
+    → lines_of trace 0 (take (i + 1) entries) ≡ lines_of trace 0 (take i entries) ++ outcome_lines trace i (outcome_of e)
+lines_more trace entries i e is =
     let same : 0 + i ≡ i = omega arith in
-    ap (λ n. entries_told trace 0 (take n entries)) (add-one i) ∙ from 0 entries i e is
-    ∙ ap (λ n. entries_told trace 0 (take i entries) ++ entry_told trace n e) same
+    ap (λ n. lines_of trace 0 (take n entries)) (add-one i) ∙ from 0 entries i e is
+    ∙ ap (λ n. lines_of trace 0 (take i entries) ++ outcome_lines trace n (outcome_of e)) same
   where
     from : (n : ℕ) (entries : List Entry) (i : ℕ) (e : Entry) → slice_get entries i ≡ Some e
-        → entries_told trace n (take (suc i) entries) ≡ entries_told trace n (take i entries) ++ entry_told trace (n + i) e
+        → lines_of trace n (take (suc i) entries) ≡ lines_of trace n (take i entries) ++ outcome_lines trace (n + i) (outcome_of e)
     from n [] i e is = cc
     from n (x ∷ entries) zero e is =
         let same : n ≡ n + zero = omega arith in
-        append-nil (entry_told trace n x) ∙ ap (entry_told trace n) (same_Some x e is) ∙ ap (λ m. entry_told trace m e) same
+        append-nil (outcome_lines trace n (outcome_of x)) ∙ ap (λ y. outcome_lines trace n (outcome_of y)) (same_Some x e is)
+        ∙ ap (λ m. outcome_lines trace m (outcome_of e)) same
     from n (x ∷ entries) (suc i) e is =
         let same : (n + 1) + i ≡ n + suc i = omega arith in
-        ap (λ l. entry_told trace n x ++ l) (from (n + 1) entries i e is
-        ∙ ap (λ m. entries_told trace (n + 1) (take i entries) ++ entry_told trace m e) same)
-        ∙ sym (append_assoc (entry_told trace n x) (entries_told trace (n + 1) (take i entries)) (entry_told trace (n + suc i) e))
+        let first = outcome_lines trace n (outcome_of x) in
+        ap (λ l. first ++ l) (from (n + 1) entries i e is
+        ∙ ap (λ m. lines_of trace (n + 1) (take i entries) ++ outcome_lines trace m (outcome_of e)) same)
+        ∙ sym (append_assoc first (lines_of trace (n + 1) (take i entries)) (outcome_lines trace (n + suc i) (outcome_of e)))
 
--- what is told of an entry answers its packet
-answers_one : (trace : Bool) (image : ImageValue) (n : ℕ) (packet : List ℕ) (e : Entry) → IsOutcome image packet e
-    → IsPacketAnswer trace image n packet (entry_told trace n e)
-answers_one trace image n packet (entry.Done done) outcome =
-    inl record { run = run_of_done done; alone = outcome.0; short = outcome.1; told_is = refl }
-answers_one trace image n packet (entry.Lost cause) outcome = inr record { more = outcome; told_is = refl }
+-- ---- several sessions
 
-pub answers_all : (trace : Bool) (image : ImageValue) (n : ℕ) (packets : List (List ℕ)) (entries : List Entry)
-    → AreOutcomes image packets entries → ArePacketAnswers trace image n packets (entries_told trace n entries)
-answers_all trace image n [] [] outcomes = refl
-answers_all trace image n [] (e ∷ entries) outcomes = absurd outcomes
-answers_all trace image n (packet ∷ packets) [] outcomes = absurd outcomes
-answers_all trace image n (packet ∷ packets) (e ∷ entries) outcomes = (
-  entry_told trace n e,
-  entries_told trace (n + 1) entries,
-  answers_one trace image n packet e outcomes.0,
-  answers_all trace image (n + 1) packets entries outcomes.1,
-  refl,
-)
+abbrev Named : Type 0
+Named = ArrayVec ℕ 16 (Unit {0}) × List (Option Run)
+
+abbrev pub seen : Named → List ℕ × List (Option Run)
+seen session = (session.0.items, session.1)
+
+abbrev pub runs_of : Bool → List Named → List ℕ
+runs_of trace sessions = flat_map (session_lines trace) (map seen sessions)
+
+-- one session more
+pub runs_more : (trace : Bool) (sessions : List Named) (i : ℕ) (s : Named) → slice_get sessions i ≡ Some s
+    → runs_of trace (take (i + 1) sessions) ≡ runs_of trace (take i sessions) ++ session_lines trace (seen s)
+runs_more trace sessions i s is = ap (λ n. runs_of trace (take n sessions)) (add-one i) ∙ from sessions i s is
+  where
+    from : (sessions : List Named) (i : ℕ) (s : Named) → slice_get sessions i ≡ Some s
+        → runs_of trace (take (suc i) sessions) ≡ runs_of trace (take i sessions) ++ session_lines trace (seen s)
+    from [] i s is = cc
+    from (x ∷ sessions) zero s is =
+        append-nil (session_lines trace (seen x)) ∙ ap (λ y. session_lines trace (seen y)) (same_Some x s is)
+    from (x ∷ sessions) (suc i) s is =
+        ap (λ l. session_lines trace (seen x) ++ l) (from sessions i s is)
+        ∙ sym (append_assoc (session_lines trace (seen x)) (runs_of trace (take i sessions)) (session_lines trace (seen s)))
+
+-- a session's lines are its name's line and those of its packets, one behind another
+pub session_told : (before name run : List ℕ) {a b c d : List ℕ} → a ≡ before ++ codes "OF " → b ≡ a ++ name → c ≡ b ++ codes "\n"
+    → d ≡ c ++ run → d ≡ before ++ (written (codes "OF " ++ name) ++ run)
+session_told before name run at_a at_b at_c at_d =
+    at_d ∙ ap (λ l. l ++ run) (at_c ∙ ap (λ l. l ++ codes "\n") (at_b ∙ ap (λ l. l ++ name) at_a)) ∙ simp append_assoc
