@@ -1,7 +1,7 @@
 -- Sessions by name, and the map that keeps them.
 use Rattle.std.proofs.Common.{◌≡◌, ℕ, zero, suc, ◌+◌, ◌<◌, ◌≤◌, is_some, nat_eq, nat_lt, nat_le, not, Bool, true, false, cond}
 use Rattle.std.proofs.Common.{if◌then◌else◌, List, [], ◌∷◌, ◌++◌, length, map, slice_get, slice_set, remove, position, vec_len}
-use Rattle.std.proofs.Common.{Option, Some, None, IfSome, subst, refl, ap, sym, ◌∙◌, arith}
+use Rattle.std.proofs.Common.{Option, Some, None, refl, ap, sym, ◌∙◌, arith}
 use Rattle.std.specs.Cmp.Lexicographic.{pointwise, same_text}
 use Rattle.std.specs.List.{position_or_len}
 use Rattle.std.specs.Map.{keys_of, values_of}

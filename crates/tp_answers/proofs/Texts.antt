@@ -1,6 +1,6 @@
 -- Texts in parts.
-use Rattle.std.proofs.Common.{Fits, get_or, nat_lt, ◌≡◌, ℕ, zero, suc, ◌+◌, List, [], ◌∷◌, ◌++◌, length, take, Some, Result, Ok}
-use Rattle.std.proofs.Common.{Err, IfOk, refl, ap, sym, ◌∙◌, arith, append_assoc, slice_get, codes, add-one, nat_eq, Bool, true}
+use Rattle.std.proofs.Common.{Fits, get_or, nat_lt, ◌≡◌, ℕ, zero, suc, ◌+◌, List, [], ◌∷◌, ◌++◌, length, take, Some}
+use Rattle.std.proofs.Common.{refl, ap, ◌∙◌, arith, append_assoc, slice_get, codes, add-one, nat_eq, Bool, true}
 use Rattle.std.proofs.Common.{false}
 use Rattle.std.specs.List.{flat_map, list_all}
 use Rattle.std.proofs.lemmas.List.{append-nil}
@@ -9,7 +9,6 @@ use Rattle.std.proofs.lemmas.Bool.Decides.{nat_tests}
 use Rattle.tp_decode.specs.Cutting.{Cut}
 use Rattle.tp_decode.specs.Lines.{lines_from}
 use Rattle.hex.specs.Hex.{encode_lower}
-use Rattle.std.specs.Fmt.{decimal}
 use Rattle.std.specs.Int.{from_bool, w8}
 use Rattle.tp_answers.specs.Texts.{written, flag, trace_text}
 
