@@ -2,7 +2,7 @@
 use Rattle.std.proofs.Common.{◌≡◌, ◌≢◌, ℕ, ◌*◌, ◌≤◌, ◌<◌, nat_eq, nat_le, Bool, true, false, List, length, Option, Some, None, arith}
 use Rattle.std.proofs.Common.{refl}
 use Rattle.std.proofs.lemmas.Bool.Decides.{nat_tests}
-use Rattle.tp_collect.specs.Collecting.{most_packets}
+use Rattle.tp_board.specs.Limits.{most_packets}
 use Rattle.tp_answers.specs.declared.answer.LineFault.TheVariants.{E2, P1, P2, P3}
 use Rattle.tp_answers.specs.declared.answer.Answer.{Answer}
 use Rattle.tp_answers.specs.declared.answer.Answer.TheVariants.{Kept, Gone, Refused}

@@ -9,9 +9,9 @@ use Rattle.tp_decode.specs.Cutting.{Cut, cutting}
 use Rattle.tp_decode.specs.declared.fault.DecodeFault.{DecodeFault}
 use Rattle.tp_decode.specs.declared.fault.DecodeFault.TheVariants as decode_fault
 use Rattle.tp_image.specs.Image.{ImageValue}
-use Rattle.tp_step.specs.Runs.{Run}
+use Rattle.tp_answers.specs.Results.{RunResult}
 use Rattle.tp_accept.specs.declared.refusal.RefusalCode.{RefusalCode}
-use Rattle.tp_collect.specs.Collecting.{most_packets}
+use Rattle.tp_board.specs.Limits.{most_packets}
 use Rattle.tp_requests.specs.Requests.{Asked, ToList, ToOpen, ToKeep, ToRun, ToRunAll, ToDrop}
 use Rattle.tp_answers.specs.declared.answer.LineFault.TheVariants.{E1, E2, P1, P2, P3, Code, Image}
 use Rattle.tp_answers.specs.declared.answer.Answer.{Answer}
@@ -73,27 +73,27 @@ module _ (Judges : List ℕ → Verdict → Type 0) where
 
 -- ---- <name> RUN, RUN *
 
-module _ (ComesTo : ImageValue → List ℕ → Option Run → Type 0) where
+module _ (ComesTo : ImageValue → List ℕ → Option RunResult → Type 0) where
   -- what the packets of a session come to, in order of number
-  abbrev pub AreOutcomes : Session → List (Option Run) → Type 0
+  abbrev pub AreOutcomes : Session → List (Option RunResult) → Type 0
   AreOutcomes s outcomes = AllZip (ComesTo s.image) s.packets outcomes
 
   abbrev pub IsAnswerToRun : Option Session → Answer → Type 0
   IsAnswerToRun None answer = answer ≡ Refused P2
-  IsAnswerToRun (Some s) answer = (outcomes : List (Option Run)) × AreOutcomes s outcomes × (answer ≡ Ran outcomes)
+  IsAnswerToRun (Some s) answer = (outcomes : List (Option RunResult)) × AreOutcomes s outcomes × (answer ≡ Ran outcomes)
 
   -- a session's name, and what its packets come to
-  abbrev pub IsRun : Session → List ℕ × List (Option Run) → Type 0
+  abbrev pub IsRun : Session → List ℕ × List (Option RunResult) → Type 0
   IsRun s run = (run.0 ≡ s.name) × AreOutcomes s run.1
 
   abbrev pub IsAnswerToRunAll : List Session → Answer → Type 0
   IsAnswerToRunAll sessions answer =
-      (runs : List (List ℕ × List (Option Run))) × AllZip IsRun sessions runs × (answer ≡ RanAll runs)
+      (runs : List (List ℕ × List (Option RunResult))) × AllZip IsRun sessions runs × (answer ≡ RanAll runs)
 
 -- ---- each line, by what it asks for
 
 -- the answer
-module _ (Judges : List ℕ → Verdict → Type 0) (ComesTo : ImageValue → List ℕ → Option Run → Type 0) where
+module _ (Judges : List ℕ → Verdict → Type 0) (ComesTo : ImageValue → List ℕ → Option RunResult → Type 0) where
   abbrev pub IsAnswer : Option Asked → List Session → Answer → Type 0
   IsAnswer None sessions answer = answer ≡ Refused E1
   IsAnswer (Some (ToList code)) sessions answer = IsAnswerToList (cutting code) answer

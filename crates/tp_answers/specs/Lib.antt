@@ -1,5 +1,6 @@
 -- What a reader must believe: clauses of public calls cite it.
 pub mod Sessions
+pub mod Results
 pub mod Answers
 pub mod Texts
 pub mod Rules

@@ -2,10 +2,11 @@
 use Rattle.std.specs.Prelude.{ℕ, ◌≤◌, List, length, Option, Some, None, Ok, Err}
 use Rattle.tp_image.specs.Image.{ImageValue}
 use Rattle.tp_image.specs.Text.{IsTextOf}
-use Rattle.tp_step.specs.Runs.{Run, RunsAlone, TracesMoreThan}
+use Rattle.tp_step.specs.Runs.{RunsAlone, TracesMoreThan}
 use Rattle.tp_accept.specs.declared.refusal.Refusal.TheVariants.{Refused}
 use Rattle.tp_accept.specs.Verdict.{IsAnswer, allowed}
-use Rattle.tp_collect.specs.DoneValue.{most_trace}
+use Rattle.tp_collect.specs.DoneValue.{run_giving, most_trace}
+use Rattle.tp_answers.specs.Results.{RunResult}
 use Rattle.tp_answers.specs.Answers.{Verdict, Accepts, Refuses}
 
 -- the verdict on the text of an image
@@ -14,6 +15,7 @@ IsVerdict text (Accepts image budget) = IsTextOf text image × IsAnswer text (Ok
 IsVerdict text (Refuses code place) = IsAnswer text (Err (Refused code place))
 
 -- what a packet comes to: its run alone, or a loss where that traces more than may be
-abbrev pub IsOutcome : ImageValue → List ℕ → Option Run → Type 0
-IsOutcome image packet (Some run) = RunsAlone image packet run × (length run.trace ≤ most_trace)
+abbrev pub IsOutcome : ImageValue → List ℕ → Option RunResult → Type 0
+IsOutcome image packet (Some run) =
+    RunsAlone image packet (run_giving run.result run.error run.steps run.trace) × (length run.trace ≤ most_trace)
 IsOutcome image packet None = TracesMoreThan most_trace image packet

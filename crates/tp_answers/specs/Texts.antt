@@ -5,7 +5,7 @@ use Rattle.std.specs.Fmt.{decimal}
 use Rattle.hex.specs.Hex.{encode_lower}
 use Rattle.tp_decode.specs.Codes.{decode_code_text}
 use Rattle.tp_decode.specs.Lines.{lines_from}
-use Rattle.tp_step.specs.Runs.{Run}
+use Rattle.tp_answers.specs.Results.{RunResult}
 use Rattle.tp_accept.specs.Refusals.{refusal_code_text}
 use Rattle.tp_requests.specs.Lines.{line_feed}
 use Rattle.tp_answers.specs.declared.answer.LineFault.{LineFault}
@@ -29,7 +29,7 @@ flag false = 0
 flag true = 1
 
 -- a packet's result: its number, the error flag, the steps, the bytes sent on link 0
-abbrev pub result_line : ℕ → Run → List ℕ
+abbrev pub result_line : ℕ → RunResult → List ℕ
 result_line n run =
     written (
     codes "R " ++ decimal n ++ codes " " ++ decimal (flag run.error) ++ codes " " ++ decimal run.steps ++ codes " "
@@ -41,25 +41,25 @@ abbrev pub trace_text : List ℕ → List ℕ
 trace_text [] = codes "-"
 trace_text (b ∷ bytes) = encode_lower (b ∷ bytes)
 
-abbrev pub trace_line : ℕ → Run → List ℕ
+abbrev pub trace_line : ℕ → RunResult → List ℕ
 trace_line n run = written (codes "T " ++ decimal n ++ codes " " ++ trace_text run.trace)
 
 -- the result, and the trace where it is asked for; or that the packet is lost
-abbrev pub outcome_lines : (trace : Bool) → ℕ → Option Run → List ℕ
+abbrev pub outcome_lines : (trace : Bool) → ℕ → Option RunResult → List ℕ
 outcome_lines trace n (Some run) = result_line n run ++ (if trace then trace_line n run else [])
 outcome_lines trace n None = written (codes "LOST " ++ decimal n)
 
 -- of packets, the first of which has number n
-abbrev pub outcomes_lines : (trace : Bool) → ℕ → List (Option Run) → List ℕ
+abbrev pub outcomes_lines : (trace : Bool) → ℕ → List (Option RunResult) → List ℕ
 outcomes_lines trace n [] = []
 outcomes_lines trace n (outcome ∷ outcomes) = outcome_lines trace n outcome ++ outcomes_lines trace (n + 1) outcomes
 
 -- of all packets of a session, and how many they are
-abbrev pub run_lines : (trace : Bool) → List (Option Run) → List ℕ
+abbrev pub run_lines : (trace : Bool) → List (Option RunResult) → List ℕ
 run_lines trace outcomes = outcomes_lines trace 0 outcomes ++ done_line (length outcomes)
 
 -- of one session of several: behind its name
-abbrev pub session_lines : (trace : Bool) → List ℕ × List (Option Run) → List ℕ
+abbrev pub session_lines : (trace : Bool) → List ℕ × List (Option RunResult) → List ℕ
 session_lines trace run = written (codes "OF " ++ run.0) ++ run_lines trace run.1
 
 -- ---- refusals

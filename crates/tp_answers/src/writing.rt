@@ -1,20 +1,18 @@
 //! The writer of answers.
 
-ghost use Rattle.std.specs.Prelude.{◌≡◌, ◌++◌, ◌≤◌, codes, decimal, length, map, OnOk};
+ghost use Rattle.std.specs.Prelude.{◌≡◌, ◌++◌, ◌≤◌, codes, decimal, length, OnOk};
 ghost use Rattle.std.specs.List.{flat_map};
 ghost use Rattle.hex.specs.Hex.{encode_lower};
 ghost use Rattle.tp_decode.specs.Lines.{lines_from};
-ghost use Rattle.tp_collect.specs.DoneValue.{run_of_done, most_message, most_trace};
-ghost use Rattle.tp_answers.specs.Outcomes.{outcome_of};
+ghost use Rattle.tp_collect.specs.DoneValue.{most_message, most_trace};
 ghost use Rattle.tp_answers.specs.Texts.{written, done_line, result_line, trace_text, trace_line, outcome_lines};
 ghost use Rattle.tp_answers.specs.Texts.{outcomes_lines, run_lines, session_lines, answer_text};
 
 use crate::answer::Answer;
-use crate::outcomes::{AllOutcomes, Outcomes};
+use crate::outcomes::{AllOutcomes, Outcome, Outcomes};
 use itoa::Buffer;
 use std::alloc::{AllocError, Global};
 use std::io::Write;
-use tp_collect::{Done, Entry};
 use tp_decode::Listing;
 
 /// Writes bytes in hexadecimal.
@@ -48,14 +46,14 @@ fn write_field(out: &mut Vec<u8>, number: u64) -> Result<(), AllocError>
 }
 
 /// Writes the line of a result.
-fn write_result(out: &mut Vec<u8>, number: usize, done: &Done) -> Result<(), AllocError>
-    ensures { OnOk result (out.new.items ≡ out.old.items ++ result_line number (run_of_done done.now)) }
+fn write_result(out: &mut Vec<u8>, number: usize, run: &Outcome) -> Result<(), AllocError>
+    ensures { OnOk result (out.new.items ≡ out.old.items ++ result_line number run.now) }
 {
     out.extend_from_slice(b"R ")?;
     write_field(out, number as u64)?;
-    write_field(out, u64::from(done.error))?;
-    write_field(out, u64::from(done.steps))?;
-    write_hex(out, done.result.as_slice())?;
+    write_field(out, u64::from(run.error))?;
+    write_field(out, u64::from(run.steps))?;
+    write_hex(out, run.result.as_slice())?;
     out.push(b'\n')?;
     Ok(())
 }
@@ -74,42 +72,46 @@ fn write_trace_bytes(out: &mut Vec<u8>, trace: &[u8]) -> Result<(), AllocError>
 }
 
 /// Writes the line of a result's trace.
-fn write_trace(out: &mut Vec<u8>, number: usize, done: &Done) -> Result<(), AllocError>
-    ensures { OnOk result (out.new.items ≡ out.old.items ++ trace_line number (run_of_done done.now)) }
+fn write_trace(out: &mut Vec<u8>, number: usize, run: &Outcome) -> Result<(), AllocError>
+    ensures { OnOk result (out.new.items ≡ out.old.items ++ trace_line number run.now) }
 {
     write!(out, "T {number} ").or(Err(AllocError))?;
-    write_trace_bytes(out, done.trace.as_slice())?;
+    write_trace_bytes(out, run.trace.as_slice())?;
     out.push(b'\n')?;
     Ok(())
 }
 
-/// Writes the lines of an entry.
-fn write_entry(
+/// Writes what became of a packet.
+fn write_outcome(
     out: &mut Vec<u8>,
     trace: bool,
     number: usize,
-    entry: &Entry,
+    outcome: &Option<Outcome>,
 ) -> Result<(), AllocError>
-    ensures { OnOk result (out.new.items ≡ out.old.items ++ outcome_lines trace number (outcome_of entry.now)) }
+    ensures { OnOk result (out.new.items ≡ out.old.items ++ outcome_lines trace number outcome.now) }
 {
-    match entry {
-        Entry::Done(done) => {
-            write_result(out, number, done)?;
+    match outcome {
+        Some(run) => {
+            write_result(out, number, run)?;
             if trace {
-                write_trace(out, number, done)?;
+                write_trace(out, number, run)?;
             }
             Ok(())
         }
-        Entry::Lost(_) => write!(out, "LOST {number}\n").or(Err(AllocError)),
+        None => write!(out, "LOST {number}\n").or(Err(AllocError)),
     }
 }
 
-/// Writes the lines of the entries of a batch.
-fn write_entries(out: &mut Vec<u8>, trace: bool, entries: &[Entry]) -> Result<(), AllocError>
-    ensures { OnOk result (out.new.items ≡ out.old.items ++ outcomes_lines trace 0 (map outcome_of entries.now)) }
+/// Writes what became of packets, in order of number.
+fn write_outcomes(
+    out: &mut Vec<u8>,
+    trace: bool,
+    runs: &[Option<Outcome>],
+) -> Result<(), AllocError>
+    ensures { OnOk result (out.new.items ≡ out.old.items ++ outcomes_lines trace 0 runs.now) }
 {
-    for (number, entry) in entries.iter().enumerate() {
-        write_entry(out, trace, number, entry)?;
+    for (number, outcome) in runs.iter().enumerate() {
+        write_outcome(out, trace, number, outcome)?;
     }
     Ok(())
 }
@@ -125,9 +127,9 @@ fn write_done(out: &mut Vec<u8>, count: usize) -> Result<(), AllocError>
 fn write_run(out: &mut Vec<u8>, trace: bool, outcomes: &Outcomes) -> Result<(), AllocError>
     ensures { OnOk result (out.new.items ≡ out.old.items ++ run_lines trace outcomes.now) }
 {
-    let entries = outcomes.entries();
-    write_entries(out, trace, entries)?;
-    write_done(out, entries.len())
+    let runs = outcomes.runs();
+    write_outcomes(out, trace, runs)?;
+    write_done(out, runs.len())
 }
 
 /// Writes what became of the packets of each session, behind its name.

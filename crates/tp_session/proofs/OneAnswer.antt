@@ -7,7 +7,7 @@ use Rattle.tp_decode.specs.declared.fault.DecodeFault.{DecodeFault}
 use Rattle.tp_decode.specs.declared.fault.DecodeFault.TheVariants as decode_fault
 use Rattle.tp_image.specs.Image.{ImageValue}
 use Rattle.tp_image.proofs.Unique.{one_image}
-use Rattle.tp_step.specs.Runs.{Run}
+use Rattle.tp_answers.specs.Results.{RunResult, run_result}
 use Rattle.tp_step.proofs.StepLemmas.{one_run}
 use Rattle.tp_step.proofs.LastingLemmas.{begins_length, sends_first}
 use Rattle.tp_accept.specs.Verdict as accept
@@ -37,13 +37,13 @@ list_once (Ok cuts) a b is is' = is ∙ sym is'
 list_once (Err (decode_fault.Refused code place)) a b is is' = is ∙ sym is'
 list_once (Err decode_fault.Memory) a b is is' = absurd is
 
-module _ (Judges : List ℕ → Verdict → Type 0) (ComesTo : ImageValue → List ℕ → Option Run → Type 0) where
+module _ (Judges : List ℕ → Verdict → Type 0) (ComesTo : ImageValue → List ℕ → Option RunResult → Type 0) where
   -- ---- under verdicts and outcomes of which there is one each
 
   module _ (one_verdict : (text : List ℕ) (v w : Verdict) → Judges text v → Judges text w → v ≡ w)
-      (one_outcome : (image : ImageValue) (packet : List ℕ) (o p : Option Run) → ComesTo image packet o → ComesTo image packet p → o ≡ p)
+      (one_outcome : (image : ImageValue) (packet : List ℕ) (o p : Option RunResult) → ComesTo image packet o → ComesTo image packet p → o ≡ p)
     where
-      outcomes_once : (image : ImageValue) (packets : List (List ℕ)) (os ps : List (Option Run)) → AllZip (ComesTo image) packets os
+      outcomes_once : (image : ImageValue) (packets : List (List ℕ)) (os ps : List (Option RunResult)) → AllZip (ComesTo image) packets os
           → AllZip (ComesTo image) packets ps → os ≡ ps
       outcomes_once image [] [] [] is is' = refl
       outcomes_once image [] (o ∷ os) ps is is' = absurd is
@@ -53,7 +53,7 @@ module _ (Judges : List ℕ → Verdict → Type 0) (ComesTo : ImageValue → Li
       outcomes_once image (packet ∷ packets) (o ∷ os) (p ∷ ps) is is' =
           ap (λ x. x ∷ os) (one_outcome image packet o p is.0 is'.0) ∙ ap (λ xs. p ∷ xs) (outcomes_once image packets os ps is.1 is'.1)
 
-      runs_once : (sessions : List Session) (rs qs : List (List ℕ × List (Option Run))) → AllZip (IsRun ComesTo) sessions rs
+      runs_once : (sessions : List Session) (rs qs : List (List ℕ × List (Option RunResult))) → AllZip (IsRun ComesTo) sessions rs
           → AllZip (IsRun ComesTo) sessions qs → rs ≡ qs
       runs_once [] [] [] is is' = refl
       runs_once [] (r ∷ rs) qs is is' = absurd is
@@ -135,9 +135,9 @@ module _ (Judges : List ℕ → Verdict → Type 0) (ComesTo : ImageValue → Li
 
   -- ---- under other verdicts and outcomes, which are also these
 
-  module _ (Judges' : List ℕ → Verdict → Type 0) (ComesTo' : ImageValue → List ℕ → Option Run → Type 0)
+  module _ (Judges' : List ℕ → Verdict → Type 0) (ComesTo' : ImageValue → List ℕ → Option RunResult → Type 0)
       (verdicts : (text : List ℕ) (v : Verdict) → Judges text v → Judges' text v)
-      (outcomes : (image : ImageValue) (packet : List ℕ) (o : Option Run) → ComesTo image packet o → ComesTo' image packet o) where
+      (outcomes : (image : ImageValue) (packet : List ℕ) (o : Option RunResult) → ComesTo image packet o → ComesTo' image packet o) where
     all_so : {X Y : Type 0} (P Q : X → Y → Type 0) → ((x : X) (y : Y) → P x y → Q x y) → (xs : List X) (ys : List Y) → AllZip P xs ys
         → AllZip Q xs ys
     all_so P Q so [] [] is = tt
@@ -227,12 +227,14 @@ verdict_once one_text text (Accepts image budget) (Refuses code place) is is' = 
 verdict_once one_text text (Refuses code place) (Accepts image budget) is is' = cc (one_text text _ _ is is'.1)
 verdict_once one_text text (Refuses code place) (Refuses code' place') is is' = cc (one_text text _ _ is is')
 
-pub outcome_once : (image : ImageValue) (packet : List ℕ) (o p : Option Run) → IsOutcome image packet o → IsOutcome image packet p → o ≡ p
-outcome_once image packet (Some run) (Some run') is is' = ap Some (one_run image packet run run' is.0 is'.0)
+pub outcome_once : (image : ImageValue) (packet : List ℕ) (o p : Option RunResult) → IsOutcome image packet o
+    → IsOutcome image packet p → o ≡ p
+outcome_once image packet (Some run) (Some run') is is' =
+    ap (λ r. Some (run_result r.result r.error r.steps r.trace)) (one_run image packet _ _ is.0 is'.0)
 outcome_once image packet (Some run) None is is' =
-    let sent = sends_first image packet run is.0 is'.way.count is'.state is'.way.leads in
+    let sent = sends_first image packet _ is.0 is'.way.count is'.state is'.way.leads in
     absurd (omega (arith, is.1, is'.more, begins_length is'.state.traced run.trace sent.1))
 outcome_once image packet None (Some run) is is' =
-    let sent = sends_first image packet run is'.0 is.way.count is.state is.way.leads in
+    let sent = sends_first image packet _ is'.0 is.way.count is.state is.way.leads in
     absurd (omega (arith, is'.1, is.more, begins_length is.state.traced run.trace sent.1))
 outcome_once image packet None None is is' = refl

@@ -3,7 +3,7 @@
 -- The verdict on an image and what a packet comes to are parameters. `Served` has what is told by the rules of the product.
 use Rattle.std.specs.Prelude.{◌≡◌, ℕ, ◌+◌, ◌-◌, ◌^◌, min, nat_lt, Bool, true, false, List, [], ◌∷◌, ◌++◌, length, Option, None}
 use Rattle.tp_image.specs.Image.{ImageValue}
-use Rattle.tp_step.specs.Runs.{Run}
+use Rattle.tp_answers.specs.Results.{RunResult}
 use Rattle.tp_requests.specs.Lines.{Line, lines_of, said_in}
 use Rattle.tp_requests.specs.Requests.{Asked}
 use Rattle.tp_requests.specs.Protocol.{AsksFor}
@@ -28,7 +28,7 @@ IsAsked false says asked = AsksFor says asked
 abbrev pub IsAskedIn : Line → Option Asked → Type 0
 IsAskedIn line asked = IsAsked (nat_lt most_line (length line.bytes)) (said_in line) asked
 
-module _ (Judges : List ℕ → Verdict → Type 0) (ComesTo : ImageValue → List ℕ → Option Run → Type 0) where
+module _ (Judges : List ℕ → Verdict → Type 0) (ComesTo : ImageValue → List ℕ → Option RunResult → Type 0) where
   -- what a line is answered with, and the sessions after it
   pub record IsAnswered (line : Line) (before : List Session) (answer : Answer) (after : List Session) : Type 0 where
     pub asked : Option Asked
@@ -48,6 +48,6 @@ module _ (Judges : List ℕ → Verdict → Type 0) (ComesTo : ImageValue → Li
   AreTold trace lines told = (after : List Session) × AreAnswers trace 1 [] lines told after
 
 -- what is written for an input, where this is the verdict on each text and this is what each packet comes to
-abbrev pub IsServedBy : (List ℕ → Verdict) → (ImageValue → List ℕ → Option Run) → Bool → List ℕ → List ℕ → Type 0
+abbrev pub IsServedBy : (List ℕ → Verdict) → (ImageValue → List ℕ → Option RunResult) → Bool → List ℕ → List ℕ → Type 0
 IsServedBy verdict outcome trace input told =
     AreTold (λ text v. v ≡ verdict text) (λ image packet o. o ≡ outcome image packet) trace (lines_of input) told

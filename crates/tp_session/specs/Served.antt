@@ -2,7 +2,7 @@
 use Rattle.std.specs.Prelude.{◌≡◌, ℕ, ◌≤◌, Bool, List, ◌++◌, length, take, Option, Some}
 use Rattle.std.specs.Io.KnownBytes.{Appends, Consumes, IsAtEnd}
 use Rattle.tp_image.specs.Image.{ImageValue}
-use Rattle.tp_step.specs.Runs.{Run}
+use Rattle.tp_answers.specs.Results.{RunResult}
 use Rattle.tp_requests.specs.Lines.{Line, lines_of, ended_lines}
 use Rattle.tp_answers.specs.Answers.{Verdict}
 use Rattle.tp_answers.specs.Rules.{IsVerdict, IsOutcome}
@@ -63,6 +63,6 @@ pub record ServesSome (trace : Bool) (input : List ℕ) (old new : Option (List 
   pub wrote : Appends old new (take some told)
 
 -- functions that give the verifier's verdict on each text, and what each packet comes to
-pub record AreRuled (verdict : List ℕ → Verdict) (outcome : ImageValue → List ℕ → Option Run) : Type 0 where
+pub record AreRuled (verdict : List ℕ → Verdict) (outcome : ImageValue → List ℕ → Option RunResult) : Type 0 where
   pub verdicts : (text : List ℕ) (v : Verdict) → IsVerdict text v → v ≡ verdict text
-  pub outcomes : (image : ImageValue) (packet : List ℕ) (o : Option Run) → IsOutcome image packet o → o ≡ outcome image packet
+  pub outcomes : (image : ImageValue) (packet : List ℕ) (o : Option RunResult) → IsOutcome image packet o → o ≡ outcome image packet

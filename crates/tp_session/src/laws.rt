@@ -2,7 +2,7 @@
 
 ghost use Rattle.std.specs.Prelude.{◌≡◌, ◌^◌, ◌-◌, ◌<◌, ◌+◌, ℕ, Bool, List, Option};
 ghost use Rattle.tp_image.specs.Image.{ImageValue};
-ghost use Rattle.tp_step.specs.Runs.{Run};
+ghost use Rattle.tp_answers.specs.Results.{RunResult};
 ghost use Rattle.tp_answers.specs.Answers.{Verdict};
 ghost use Rattle.tp_session.specs.Protocol.{IsServedBy, next_number};
 ghost use Rattle.tp_session.specs.Served.{IsServed, AreRuled};
@@ -20,9 +20,9 @@ pub fn one_input_has_one_answer()
 /// What is served is what the protocol alone says, whatever functions give the verdicts and the outcomes. These determine it.
 /// So a reader of the protocol needs neither the rules of the verifier nor those of the machine.
 pub fn what_is_served_follows_the_protocol()
-    ensures follows { (verdict : List ℕ → Verdict) (outcome : ImageValue → List ℕ → Option Run) → AreRuled verdict outcome →
+    ensures follows { (verdict : List ℕ → Verdict) (outcome : ImageValue → List ℕ → Option RunResult) → AreRuled verdict outcome →
         (trace : Bool) (input told : List ℕ) → IsServed trace input told → IsServedBy verdict outcome trace input told }
-    ensures one { (verdict : List ℕ → Verdict) (outcome : ImageValue → List ℕ → Option Run)
+    ensures one { (verdict : List ℕ → Verdict) (outcome : ImageValue → List ℕ → Option RunResult)
         (trace : Bool) (input told told' : List ℕ) → IsServedBy verdict outcome trace input told →
         IsServedBy verdict outcome trace input told' → told ≡ told' }
 {}

@@ -112,5 +112,5 @@ pub(crate) fn run_session<R: Threads + Wait + Sync, D: LinkDevice + Send>(
         packets: &session.packets,
     };
     let collected = run_on_enough(rt, alloc, links, &job)?;
-    Ok(Outcomes::new(collected))
+    Ok(Outcomes::new(alloc, &collected)?)
 }

@@ -1,6 +1,6 @@
 use Rattle.std.proofs.Common.{◌≡◌, ◌≢◌, ◌*◌, ◌≤◌, ◌<◌, length, slice_set, ap, sym, ◌∙◌, arith}
 use Rattle.tp_requests.specs.Spelling.{bytes_spelled}
-use Rattle.tp_collect.specs.Collecting.{most_packets}
+use Rattle.tp_board.specs.Limits.{most_packets}
 use Rattle.tp_answers.specs.declared.answer.Answer.TheVariants.{Kept}
 use Rattle.tp_answers.specs.Sessions.{with_packet, with_changed}
 use Rattle.tp_answers.proofs.SessionLemmas.{placed, absent, packets_kept, same_kept, kept_as, kept_more}

@@ -1,5 +1,5 @@
 use Rattle.std.proofs.Common.{◌≡◌, ◌++◌, take}
-use Rattle.tp_answers.proofs.EntryLemmas.{runs_of}
+use Rattle.tp_answers.proofs.OutcomeLemmas.{runs_of}
 use Rattle.tp_answers.proofs.writing.write_runs.Given as goal
 
 abbrev pub invariant-loop-name : goal.invariant-loop-name

@@ -1,6 +1,6 @@
 use Rattle.std.proofs.Common.{List, Option, map, sym, subst}
 use Rattle.std.specs.List.{AllZip}
-use Rattle.tp_step.specs.Runs.{Run}
+use Rattle.tp_answers.specs.Results.{RunResult}
 use Rattle.tp_answers.specs.Rules.{IsOutcome}
 use Rattle.tp_session.proofs.RunLemmas.{may_begin, whole_packets, kept_whole, kept_few, of_kept}
 use Rattle.tp_session.proofs.running.run_session.Goals as goal
@@ -22,4 +22,4 @@ returns-clause-outcomes g c fit s is =
     let outcomes =
     of_kept c.args.session.now c.deref.result.now c.in_ok-collected.collected s c.deref.ensures.value is
     (c.in_ok-collected.ensures.outcomes fit) in
-    subst (λ (os : List (Option Run)). AllZip (IsOutcome s.image) s.packets os) (sym c.new.ensures) outcomes
+    subst (λ (os : List (Option RunResult)). AllZip (IsOutcome s.image) s.packets os) (sym c.in_ok-new.ensures) outcomes

@@ -1,46 +1,41 @@
--- What is told of the entries of a batch.
+-- What is told of outcomes.
 use Rattle.std.proofs.Common.{◌≡◌, ℕ, zero, suc, ◌+◌, Bool, List, [], ◌∷◌, ◌++◌, take, map, slice_get, Some, ap, sym, ◌∙◌, arith}
 use Rattle.std.proofs.Common.{append_assoc, add-one, codes, Option}
 use Rattle.std.specs.List.{flat_map}
 use Rattle.std.proofs.lemmas.List.{append-nil}
 use Rattle.std.proofs.lemmas.Option.{same_Some}
 use Rattle.arrayvec.specs.declared.array_vec.ArrayVec.{ArrayVec}
-use Rattle.tp_step.specs.Runs.{Run}
-use Rattle.tp_collect.specs.declared.collected.Entry.{Entry}
-use Rattle.tp_answers.specs.Outcomes.{outcome_of}
+use Rattle.tp_answers.specs.Results.{RunResult}
 use Rattle.tp_answers.specs.Texts.{written, outcome_lines, outcomes_lines, session_lines}
 
-abbrev pub lines_of : Bool → ℕ → List Entry → List ℕ
-lines_of trace n entries = outcomes_lines trace n (map outcome_of entries)
-
--- one entry more
-pub lines_more : (trace : Bool) (entries : List Entry) (i : ℕ) (e : Entry) → slice_get entries i ≡ Some e
-    → lines_of trace 0 (take (i + 1) entries) ≡ lines_of trace 0 (take i entries) ++ outcome_lines trace i (outcome_of e)
-lines_more trace entries i e is =
+-- one packet more
+pub lines_more : (trace : Bool) (runs : List (Option RunResult)) (i : ℕ) (o : Option RunResult) → slice_get runs i ≡ Some o
+    → outcomes_lines trace 0 (take (i + 1) runs) ≡ outcomes_lines trace 0 (take i runs) ++ outcome_lines trace i o
+lines_more trace runs i o is =
     let same : 0 + i ≡ i = omega arith in
-    ap (λ n. lines_of trace 0 (take n entries)) (add-one i) ∙ from 0 entries i e is
-    ∙ ap (λ n. lines_of trace 0 (take i entries) ++ outcome_lines trace n (outcome_of e)) same
+    ap (λ n. outcomes_lines trace 0 (take n runs)) (add-one i) ∙ from 0 runs i o is
+    ∙ ap (λ n. outcomes_lines trace 0 (take i runs) ++ outcome_lines trace n o) same
   where
-    from : (n : ℕ) (entries : List Entry) (i : ℕ) (e : Entry) → slice_get entries i ≡ Some e
-        → lines_of trace n (take (suc i) entries) ≡ lines_of trace n (take i entries) ++ outcome_lines trace (n + i) (outcome_of e)
-    from n [] i e is = cc
-    from n (x ∷ entries) zero e is =
+    from : (n : ℕ) (runs : List (Option RunResult)) (i : ℕ) (o : Option RunResult) → slice_get runs i ≡ Some o
+        → outcomes_lines trace n (take (suc i) runs) ≡ outcomes_lines trace n (take i runs) ++ outcome_lines trace (n + i) o
+    from n [] i o is = cc
+    from n (x ∷ runs) zero o is =
         let same : n ≡ n + zero = omega arith in
-        append-nil (outcome_lines trace n (outcome_of x)) ∙ ap (λ y. outcome_lines trace n (outcome_of y)) (same_Some x e is)
-        ∙ ap (λ m. outcome_lines trace m (outcome_of e)) same
-    from n (x ∷ entries) (suc i) e is =
+        append-nil (outcome_lines trace n x) ∙ ap (outcome_lines trace n) (same_Some x o is)
+        ∙ ap (λ m. outcome_lines trace m o) same
+    from n (x ∷ runs) (suc i) o is =
         let same : (n + 1) + i ≡ n + suc i = omega arith in
-        let first = outcome_lines trace n (outcome_of x) in
-        ap (λ l. first ++ l) (from (n + 1) entries i e is
-        ∙ ap (λ m. lines_of trace (n + 1) (take i entries) ++ outcome_lines trace m (outcome_of e)) same)
-        ∙ sym (append_assoc first (lines_of trace (n + 1) (take i entries)) (outcome_lines trace (n + suc i) (outcome_of e)))
+        let first = outcome_lines trace n x in
+        ap (λ l. first ++ l) (from (n + 1) runs i o is
+        ∙ ap (λ m. outcomes_lines trace (n + 1) (take i runs) ++ outcome_lines trace m o) same)
+        ∙ sym (append_assoc first (outcomes_lines trace (n + 1) (take i runs)) (outcome_lines trace (n + suc i) o))
 
 -- ---- several sessions
 
 abbrev Named : Type 0
-Named = ArrayVec ℕ 16 (Unit {0}) × List (Option Run)
+Named = ArrayVec ℕ 16 (Unit {0}) × List (Option RunResult)
 
-abbrev pub seen : Named → List ℕ × List (Option Run)
+abbrev pub seen : Named → List ℕ × List (Option RunResult)
 seen session = (session.0.items, session.1)
 
 abbrev pub runs_of : Bool → List Named → List ℕ
