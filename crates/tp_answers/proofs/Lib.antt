@@ -2,4 +2,4 @@ pub mod Texts
 pub mod Places
 pub mod SessionLemmas
 pub mod AnswerLemmas
-pub mod EntryLemmas
+pub mod OutcomeLemmas

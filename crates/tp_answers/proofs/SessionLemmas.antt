@@ -1,7 +1,7 @@
 -- Sessions by name, and the map that keeps them.
 use Rattle.std.proofs.Common.{◌≡◌, ℕ, zero, suc, ◌+◌, ◌<◌, ◌≤◌, is_some, nat_eq, nat_lt, nat_le, not, Bool, true, false, cond}
 use Rattle.std.proofs.Common.{if◌then◌else◌, List, [], ◌∷◌, ◌++◌, length, map, slice_get, slice_set, remove, position, vec_len}
-use Rattle.std.proofs.Common.{Option, Some, None, IfSome, subst, refl, ap, sym, ◌∙◌, arith}
+use Rattle.std.proofs.Common.{Option, Some, None, refl, ap, sym, ◌∙◌, arith}
 use Rattle.std.specs.Cmp.Lexicographic.{pointwise, same_text}
 use Rattle.std.specs.List.{position_or_len}
 use Rattle.std.specs.Map.{keys_of, values_of}
@@ -14,10 +14,9 @@ use Rattle.arrayvec.specs.declared.array_vec.ArrayVec.{ArrayVec}
 use Rattle.tp_image.specs.Image.{ImageValue}
 use Rattle.tp_accept.specs.declared.accepted.Accepted.{Accepted}
 use Rattle.tp_answers.specs.declared.session.OpenSession.{OpenSession}
-use Rattle.tp_answers.specs.Answers.{is_full}
-use Rattle.tp_answers.specs.Sessions.{most_sessions, Session, is_of, named, with_session, without_session, with_packet}
-use Rattle.tp_answers.specs.Sessions.{without_packets}
-use Rattle.tp_answers.specs.OpenSessions.{session_of}
+use Rattle.tp_answers.specs.Sessions.{most_sessions, Session, is_of, named, is_full, with_session, with_changed, without_session}
+use Rattle.tp_answers.specs.Sessions.{with_packet, without_packets}
+use Rattle.tp_answers.specs.OpenSessions.{session_of, with_kept}
 use Rattle.tp_answers.proofs.Places.{IsFirst, NonePasses, first_found, none_found}
 
 -- ---- the first session of a name
@@ -29,7 +28,8 @@ pub record IsPlaced (name : List ℕ) (sessions : List Session) (i : ℕ) : Type
   pub is_named : named name sessions ≡ Some session
   pub name_is : name ≡ session.name
   pub within : i < length sessions
-  pub replaced : (new : Session) → new.name ≡ name → slice_set sessions i new ≡ with_session new sessions
+  pub replaced : (kept : OpenSession) → with_kept sessions i kept ≡ with_session (session_of name kept) sessions
+  pub changed : (change : Session → Session) → slice_set sessions i (change session) ≡ with_changed change name sessions
   pub removed : remove sessions i ≡ without_session name sessions
 
 placed_first : (name : List ℕ) (sessions : List Session) (i : ℕ) → IsFirst (is_of name) sessions i → IsPlaced name sessions i
@@ -40,9 +40,10 @@ placed_first name (s ∷ sessions) zero first = record {
   is_named = ap (λ b. if b then Some s else named name sessions) first;
   name_is = same_text name s.name (sym first);
   within = omega arith;
-  replaced =
-      λ new e. sym (ap (λ n. if is_of n s then new ∷ sessions else s ∷ with_session new sessions) e
-      ∙ ap (λ b. if b then new ∷ sessions else s ∷ with_session new sessions) first);
+  replaced = λ kept.
+      ap (λ n. session_of n kept ∷ sessions) (sym (same_text name s.name (sym first)))
+      ∙ sym (ap (λ b. if b then session_of name kept ∷ sessions else s ∷ with_session (session_of name kept) sessions) first);
+  changed = λ change. sym (ap (λ b. if b then change s ∷ sessions else s ∷ with_changed change name sessions) first);
   removed = sym (ap (λ b. if b then sessions else s ∷ without_session name sessions) first);
 }
 placed_first name (s ∷ sessions) (suc i) first =
@@ -52,10 +53,12 @@ placed_first name (s ∷ sessions) (suc i) first =
       is_named = ap (λ b. if b then Some s else named name sessions) first.0 ∙ rest.is_named;
       name_is = rest.name_is;
       within = omega (arith, rest.within);
-      replaced =
-          λ new e. ap (λ l. s ∷ l) (rest.replaced new e)
-          ∙ sym (ap (λ n. if is_of n s then new ∷ sessions else s ∷ with_session new sessions) e
-          ∙ ap (λ b. if b then new ∷ sessions else s ∷ with_session new sessions) first.0);
+      replaced = λ kept.
+          ap (λ l. s ∷ l) (rest.replaced kept)
+          ∙ sym (ap (λ b. if b then session_of name kept ∷ sessions else s ∷ with_session (session_of name kept) sessions) first.0);
+      changed = λ change.
+          ap (λ l. s ∷ l) (rest.changed change)
+          ∙ sym (ap (λ b. if b then change s ∷ sessions else s ∷ with_changed change name sessions) first.0);
       removed = ap (λ l. s ∷ l) rest.removed ∙ sym (ap (λ b. if b then sessions else s ∷ without_session name sessions) first.0);
     }
 
@@ -70,6 +73,28 @@ absent_from name (s ∷ sessions) none =
 
 pub absent : (name : List ℕ) (sessions : List Session) → position (is_of name) sessions ≡ None → named name sessions ≡ None
 absent name sessions none = absent_from name sessions (none_found (is_of name) sessions none)
+
+unchanged_from : (change : Session → Session) (name : List ℕ) (sessions : List Session) → NonePasses (is_of name) sessions
+    → sessions ≡ with_changed change name sessions
+unchanged_from change name [] none = refl
+unchanged_from change name (s ∷ sessions) none =
+    ap (λ l. s ∷ l) (unchanged_from change name sessions none.1)
+    ∙ sym (ap (λ b. if b then change s ∷ sessions else s ∷ with_changed change name sessions) none.0)
+
+pub unchanged : (change : Session → Session) (name : List ℕ) (sessions : List Session) → position (is_of name) sessions ≡ None
+    → sessions ≡ with_changed change name sessions
+unchanged change name sessions none = unchanged_from change name sessions (none_found (is_of name) sessions none)
+
+still_there_from : (name : List ℕ) (sessions : List Session) → NonePasses (is_of name) sessions
+    → sessions ≡ without_session name sessions
+still_there_from name [] none = refl
+still_there_from name (s ∷ sessions) none =
+    ap (λ l. s ∷ l) (still_there_from name sessions none.1)
+    ∙ sym (ap (λ b. if b then sessions else s ∷ without_session name sessions) none.0)
+
+pub still_there : (name : List ℕ) (sessions : List Session) → position (is_of name) sessions ≡ None
+    → sessions ≡ without_session name sessions
+still_there name sessions none = still_there_from name sessions (none_found (is_of name) sessions none)
 
 -- whether one more may open, where this is the place of its name
 pub full_none : (name : List ℕ) (sessions : List Session) (place : Option ℕ) (none : Bool)
@@ -140,13 +165,6 @@ module _ {K V : Type 0} (text : K → List ℕ) (view : List ℕ → V → Sessi
           ∙ sym (ap (λ b. if b then view (text k) v ∷ map entry es else entry e ∷ with_session (view (text k) v) (map entry es))
           (named_test is))
 
-  pub set_same : (es : List (K × V)) (i : ℕ) (w : V) (s : Session) → slice_get (map entry es) i ≡ Some s
-      → map entry (set_value_at es i w) ≡ slice_set (map entry es) i (view s.name w)
-  set_same [] i w s at = cc
-  set_same (e ∷ es) zero w s at =
-      ap (λ n. view n w ∷ map entry es) (sym (names (text e.0) e.1) ∙ ap (λ s. s.name) (same_Some (entry e) s at))
-  set_same (e ∷ es) (suc i) w s at = ap (λ l. entry e ∷ l) (set_same es i w s at)
-
   pub at_same : (es : List (K × V)) (i : ℕ) (v : V) (s : Session) → slice_get (values_of es) i ≡ Some v
       → slice_get (map entry es) i ≡ Some s → s ≡ view s.name v
   at_same [] i v s value at = cc
@@ -161,25 +179,31 @@ module _ {K V : Type 0} (text : K → List ℕ) (view : List ℕ → V → Sessi
   remove_same (e ∷ es) zero = refl
   remove_same (e ∷ es) (suc i) = ap (λ l. entry e ∷ l) (remove_same es i)
 
-  pub some_at : (es : List (K × V)) (i : ℕ) (v : V) → slice_get (values_of es) i ≡ Some v
-      → (n : List ℕ) × (slice_get (map entry es) i ≡ Some (view n v))
-  some_at [] i v value = cc
-  some_at (e ∷ es) zero v value = (text e.0, ap (λ u. Some (view (text e.0) u)) (same_Some e.1 v value))
-  some_at (e ∷ es) (suc i) v value = some_at es i v value
-
-pub at_some : {X : Type 0} (P : X → Type 0) (o : Option X) (x : X) → o ≡ Some x → IfSome o P → P x
-at_some {X} P o x e h = let Q : Option X → Type 0 = λ o. IfSome o P in subst Q e h
-
 -- ---- what a session keeps
 
 abbrev with_parts : List ℕ → ImageValue → List (List ℕ) → Session
 with_parts name image packets = record { name = name; image = image; packets = packets }
 
+abbrev Named : Type 0
+Named = ArrayVec ℕ 16 (Unit {0})
+
 abbrev bytes_of : List (ArrayVec ℕ 256 (Unit {0})) → List (List ℕ)
 bytes_of packets = map (λ p. p.items) packets
 
-pub few_kept : (name : List ℕ) (kept : OpenSession) → length (session_of name kept).packets < 1024 → vec_len kept.packets < 1024
-few_kept name kept few = omega (arith, few, kept.packets.ok.0, length-map kept.packets.items (λ p. p.items))
+-- a session that is lent, as it comes back
+pub kept_as : (sessions : List Session) (i : ℕ) (s : Session) (kept : OpenSession) → slice_get sessions i ≡ Some s
+    → with_kept sessions i kept ≡ slice_set sessions i (session_of s.name kept)
+kept_as [] i s kept there = cc
+kept_as (x ∷ sessions) zero s kept there = ap (λ t. session_of t.name kept ∷ sessions) (same_Some x s there)
+kept_as (x ∷ sessions) (suc i) s kept there = ap (λ l. x ∷ l) (kept_as sessions i s kept there)
+
+pub same_kept : (sessions : List Session) (i : ℕ) (s : Session) (kept : OpenSession) → slice_get sessions i ≡ Some s
+    → s ≡ session_of s.name kept → with_kept sessions i kept ≡ sessions
+same_kept [] i s kept there is = cc
+same_kept (x ∷ sessions) zero s kept there is =
+    let same = same_Some x s there in
+    ap (λ t. session_of t.name kept ∷ sessions) same ∙ ap (λ t. t ∷ sessions) (sym is ∙ sym same)
+same_kept (x ∷ sessions) (suc i) s kept there is = ap (λ l. x ∷ l) (same_kept sessions i s kept there is)
 
 pub forgot : (s : Session) (kept new : OpenSession) → s ≡ session_of s.name kept → new.image ≡ kept.image → new.packets.items ≡ []
     → session_of s.name new ≡ without_packets s
@@ -190,7 +214,7 @@ forgot s kept new is image none =
 
 pub kept_more : (s : Session) (kept new : OpenSession) (packet : ArrayVec ℕ 256 (Unit {0})) → s ≡ session_of s.name kept
     → new.image ≡ kept.image → new.packets.items ≡ kept.packets.items ++ packet ∷ []
-    → session_of s.name new ≡ with_packet s packet.items
+    → session_of s.name new ≡ with_packet packet.items s
 kept_more s kept new packet is image more =
     ap (λ i. with_parts s.name i.image (bytes_of new.packets.items)) image
     ∙ ap (λ ps. with_parts s.name kept.image.image (bytes_of ps)) more
@@ -205,3 +229,10 @@ pub opened_none : (name : List ℕ) (image : Accepted) (kept : OpenSession) → 
 opened_none name image kept same none =
     ap (λ i. with_parts name i.image (bytes_of kept.packets.items)) same
     ∙ ap (λ ps. with_parts name image.image (bytes_of ps)) none
+
+-- the entries of the map, once one of them is no longer lent
+pub lent_same : (es : List (Named × OpenSession)) (i : ℕ) (kept : OpenSession)
+    → map (λ e. session_of e.0.items e.1) (set_value_at es i kept) ≡ with_kept (map (λ e. session_of e.0.items e.1) es) i kept
+lent_same [] i kept = refl
+lent_same (e ∷ es) zero kept = refl
+lent_same (e ∷ es) (suc i) kept = ap (λ l. session_of e.0.items e.1 ∷ l) (lent_same es i kept)

@@ -1,23 +1,16 @@
 -- Texts in parts.
-use Rattle.std.proofs.Common.{Fits, get_or, nat_lt, ◌≡◌, ℕ, zero, suc, ◌+◌, List, [], ◌∷◌, ◌++◌, length, take, Some, Result, Ok}
-use Rattle.std.proofs.Common.{Err, IfOk, refl, ap, sym, ◌∙◌, arith, append_assoc, slice_get, codes, add-one, nat_eq, Bool, true}
+use Rattle.std.proofs.Common.{Fits, get_or, nat_lt, ◌≡◌, ℕ, zero, suc, ◌+◌, List, [], ◌∷◌, ◌++◌, length, take, Some}
+use Rattle.std.proofs.Common.{refl, ap, ◌∙◌, arith, append_assoc, slice_get, codes, add-one, nat_eq, Bool, true}
 use Rattle.std.proofs.Common.{false}
 use Rattle.std.specs.List.{flat_map, list_all}
 use Rattle.std.proofs.lemmas.List.{append-nil}
 use Rattle.std.proofs.lemmas.Option.{same_Some}
 use Rattle.std.proofs.lemmas.Bool.Decides.{nat_tests}
-use Rattle.tp_decode.specs.Cutting.{Cut, starts_from}
+use Rattle.tp_decode.specs.Cutting.{Cut}
 use Rattle.tp_decode.specs.Lines.{lines_from}
 use Rattle.hex.specs.Hex.{encode_lower}
-use Rattle.std.specs.Fmt.{decimal}
 use Rattle.std.specs.Int.{from_bool, w8}
-use Rattle.tp_answers.specs.Told.{written, kept_line, flag, trace_text, done_line}
-
--- a text that is said to have bytes has bytes that equal them
-pub told : {S E : Type 0} (bytes : S → List ℕ) (r : Result S E) (x y : List ℕ) → IfOk r (λ s. bytes s ≡ x) → x ≡ y
-    → IfOk r (λ s. bytes s ≡ y)
-told bytes (Ok s) x y h e = h ∙ e
-told bytes (Err e') x y h e = tt
+use Rattle.tp_answers.specs.Texts.{written, flag, trace_text}
 
 pub regrouped : (a b c d e : List ℕ) → a ++ (b ++ (c ++ (d ++ e))) ≡ (((a ++ b) ++ c) ++ d) ++ e
 regrouped a b c d e = simp append_assoc
@@ -25,10 +18,6 @@ regrouped a b c d e = simp append_assoc
 pub as_many_lines : (at : ℕ) (cuts : List Cut) → length (lines_from at cuts) ≡ length cuts
 as_many_lines at [] = refl
 as_many_lines at (cut ∷ cuts) = ap suc (as_many_lines (at + length cut.bytes) cuts)
-
-pub as_many_starts : (at : ℕ) (cuts : List Cut) → length (starts_from at cuts) ≡ length cuts
-as_many_starts at [] = refl
-as_many_starts at (cut ∷ cuts) = ap suc (as_many_starts (at + length cut.bytes) cuts)
 
 -- one line more
 pub line_more : (lines : List (List ℕ)) (i : ℕ) (line : List ℕ) → slice_get lines i ≡ Some line
@@ -41,12 +30,6 @@ line_more lines i line e = ap (λ n. flat_map written (take n lines)) (add-one i
     by_recursion (l ∷ lines) zero line e = append-nil (written l) ∙ ap written (same_Some l line e)
     by_recursion (l ∷ lines) (suc i) line e =
         ap (λ xs. written l ++ xs) (by_recursion lines i line e) ∙ simp append_assoc
-
-pub kept_told : (n : ℕ) → codes "KEPT " ++ (decimal n ++ codes "\n") ≡ kept_line n
-kept_told n = sym (append_assoc (codes "KEPT ") (decimal n) (codes "\n"))
-
-pub done_told : (n : ℕ) → codes "DONE " ++ (decimal n ++ codes "\n") ≡ done_line n
-done_told n = sym (append_assoc (codes "DONE ") (decimal n) (codes "\n"))
 
 pub flag_is : (b : Bool) → from_bool b ≡ flag b
 flag_is true = refl

@@ -1,161 +1,116 @@
--- What is answered to a line, and what the line changes.
+-- The protocol: what is answered to a line, and the sessions after it.
 --
--- An answer is a relation, since a verdict and a run are: what a line asks for, where serving stands before it, the bytes of
--- the answer, and where serving stands after it.
-use Rattle.std.specs.Prelude.{◌≡◌, ℕ, ◌+◌, ◌*◌, ◌%◌, ◌^◌, ◌<◌, ◌≤◌, ◌⊎◌, ◌==◌, ◌&&◌, nat_le, not, is_some, Bool, true, false}
-use Rattle.std.specs.Prelude.{if◌then◌else◌, List, [], ◌∷◌, ◌++◌, length, map, codes, Option, Some, None, Ok, Err}
-use Rattle.tp_decode.specs.Cutting.{cutting}
+-- The verdict on an image and what a packet comes to are parameters, so that this can be read without the rules of the
+-- verifier and of the machine. Those that the product answers by stand in `Rules`.
+use Rattle.std.specs.Prelude.{◌≡◌, ℕ, ◌*◌, ◌==◌, nat_le, not, Bool, true, false, if◌then◌else◌, List, [], length, map, Option, Some, None}
+use Rattle.std.specs.Prelude.{Result, Ok, Err}
+use Rattle.std.specs.List.{AllZip}
+use Rattle.tp_decode.specs.Cutting.{Cut, cutting}
+use Rattle.tp_decode.specs.declared.fault.DecodeFault.{DecodeFault}
+use Rattle.tp_decode.specs.declared.fault.DecodeFault.TheVariants as decode_fault
 use Rattle.tp_image.specs.Image.{ImageValue}
-use Rattle.tp_image.specs.Text.{IsTextOf}
-use Rattle.tp_step.specs.Runs.{Run, RunsAlone, TracesMoreThan}
-use Rattle.tp_accept.specs.declared.refusal.Refusal.TheVariants.{Refused, Memory}
-use Rattle.tp_accept.specs.Refusals.{refusal_code_text}
-use Rattle.tp_accept.specs.Verdict.{Answer, IsAnswer}
-use Rattle.tp_collect.specs.Collecting.{most_packets}
-use Rattle.tp_collect.specs.DoneValue.{most_trace}
+use Rattle.tp_answers.specs.Results.{RunResult}
+use Rattle.tp_accept.specs.declared.refusal.RefusalCode.{RefusalCode}
+use Rattle.tp_board.specs.Limits.{most_packets}
 use Rattle.tp_requests.specs.Requests.{Asked, ToList, ToOpen, ToKeep, ToRun, ToRunAll, ToDrop}
-use Rattle.tp_answers.specs.Sessions.{Session, most_sessions, named, with_session, without_session, with_packet}
+use Rattle.tp_answers.specs.declared.answer.LineFault.TheVariants.{E1, E2, P1, P2, P3, Code, Image}
+use Rattle.tp_answers.specs.declared.answer.Answer.{Answer}
+use Rattle.tp_answers.specs.declared.answer.Answer.TheVariants.{Listed, Yes, Kept, Ran, RanAll, Gone, Refused}
+use Rattle.tp_answers.specs.Sessions.{Session, named, is_full, with_session, with_changed, without_session, with_packet}
 use Rattle.tp_answers.specs.Sessions.{without_packets}
-use Rattle.tp_answers.specs.Told.{refusal, listing_answer, yes_line, kept_line, gone_line, run_lines, lost_line, done_line}
-use Rattle.tp_answers.specs.Told.{of_line, all_line}
 
--- Where serving stands between two lines: the open sessions, in the order in which they were opened, and the number of the
--- next batch.
-pub record ServiceState : Type 0 where
-  pub sessions : List Session
-  pub batches : ℕ
+-- the verdict on the text of an image: the image that it spells and its budget, or why it is refused
+pub data Verdict : Type 0 where
+  Accepts : (image : ImageValue) → (budget : ℕ) → Verdict
+  Refuses : (code : RefusalCode) → (place : ℕ) → Verdict
 
-abbrev pub service_state : List Session → ℕ → ServiceState
-service_state sessions batches = record { sessions = sessions; batches = batches }
+-- ---- LIST <hex>
 
--- so many batches more were run; their numbers have 64 bits
-abbrev pub batches_more : ℕ → ℕ → ℕ
-batches_more count batches = (batches + count) % 2 ^ 64
-
--- NO, and nothing else; nothing changes
-abbrev pub IsRefused : (code : List ℕ) → (place : ℕ) → ServiceState → List ℕ → ServiceState → Type 0
-IsRefused code place before told after = (told ≡ refusal code place) × (after ≡ before)
-
--- ---- <name> IMAGE <hex>
-
--- a new name, while as many sessions are open as may be
-abbrev pub is_full : List ℕ → List Session → Bool
-is_full name sessions = not (is_some (named name sessions)) && nat_le most_sessions (length sessions)
-
--- the session opens, or its image is replaced and its packets are forgotten
-pub record IsOpened (name text told_line : List ℕ) (before : ServiceState) (told : List ℕ) (after : ServiceState) : Type 0 where
-  pub image : ImageValue
-  pub spelled : IsTextOf text image
-  pub told_is : told ≡ told_line
-  pub opened :
-      after ≡ record before { sessions = with_session record { name = name; image = image; packets = [] } before.sessions }
-
--- by the verdict on the text
-abbrev pub IsOpenedBy : Answer → (name text : List ℕ) → ServiceState → List ℕ → ServiceState → Type 0
-IsOpenedBy (Ok allowed) name text before told after = IsOpened name text (yes_line allowed) before told after
-IsOpenedBy (Err (Refused code place)) name text before told after = IsRefused (refusal_code_text code) place before told after
-IsOpenedBy (Err Memory) name text before told after = ⊥
-
-pub record IsJudged (name text : List ℕ) (before : ServiceState) (told : List ℕ) (after : ServiceState) : Type 0 where
-  pub verdict : Answer
-  pub is : IsAnswer text verdict
-  pub answers : IsOpenedBy verdict name text before told after
-
--- E2 comes before the text is looked at
-abbrev pub AnswersImage : (full : Bool) → ℕ → (name text : List ℕ) → ServiceState → List ℕ → ServiceState → Type 0
-AnswersImage true number name text before told after = IsRefused (codes "E2") number before told after
-AnswersImage false number name text before told after = IsJudged name text before told after
+abbrev pub IsAnswerToList : Result (List Cut) DecodeFault → Answer → Type 0
+IsAnswerToList (Ok cuts) answer = answer ≡ Listed cuts
+IsAnswerToList (Err (decode_fault.Refused code place)) answer = answer ≡ Refused (Code code place)
+IsAnswerToList (Err decode_fault.Memory) answer = ⊥
 
 -- ---- <name> PACKET <hex>
 
--- why a session does not keep a packet: its length, before the number of packets that it has
-abbrev pub packet_refusal : Session → List ℕ → Option (List ℕ)
-packet_refusal s packet =
-    if not (length packet == 4 * s.image.packet) then Some (codes "P1")
-    else if nat_le most_packets (length s.packets) then Some (codes "P3")
-    else None
+-- its length comes before the number of packets that are kept
+abbrev pub answer_to_packet : Option Session → List ℕ → Answer
+answer_to_packet None packet = Refused P2
+answer_to_packet (Some s) packet =
+    if not (length packet == 4 * s.image.packet) then Refused P1
+    else if nat_le most_packets (length s.packets) then Refused P3
+    else Kept (length s.packets)
 
-abbrev pub AnswersKept : Option (List ℕ) → ℕ → Session → List ℕ → ServiceState → List ℕ → ServiceState → Type 0
-AnswersKept (Some code) number s packet before told after = IsRefused code number before told after
-AnswersKept None number s packet before told after =
-    (told ≡ kept_line (length s.packets))
-    × (after ≡ record before { sessions = with_session (with_packet s packet) before.sessions })
-
-abbrev pub AnswersPacket : Option Session → ℕ → List ℕ → ServiceState → List ℕ → ServiceState → Type 0
-AnswersPacket None number packet before told after = IsRefused (codes "P2") number before told after
-AnswersPacket (Some s) number packet before told after = AnswersKept (packet_refusal s packet) number s packet before told after
-
--- ---- <name> RUN, RUN *
-
--- the packet's run alone ends, with a trace that is not too long: its result
-pub record IsResult (trace : Bool) (image : ImageValue) (n : ℕ) (packet told : List ℕ) : Type 0 where
-  pub run : Run
-  pub alone : RunsAlone image packet run
-  pub short : length run.trace ≤ most_trace
-  pub told_is : told ≡ run_lines trace n run
-
--- the packet is lost where the worker traces more
-pub record IsLoss (image : ImageValue) (n : ℕ) (packet told : List ℕ) : Type 0 where
-  pub more : TracesMoreThan most_trace image packet
-  pub told_is : told ≡ lost_line n
-
-abbrev pub IsPacketAnswer : Bool → ImageValue → ℕ → List ℕ → List ℕ → Type 0
-IsPacketAnswer trace image n packet told = IsResult trace image n packet told ⊎ IsLoss image n packet told
-
--- the answers of packets, in order of number, the first of which is n
-abbrev pub ArePacketAnswers : Bool → ImageValue → ℕ → List (List ℕ) → List ℕ → Type 0
-ArePacketAnswers trace image n [] told = told ≡ []
-ArePacketAnswers trace image n (packet ∷ packets) told =
-    (here : List ℕ) × (rest : List ℕ) × IsPacketAnswer trace image n packet here
-    × ArePacketAnswers trace image (n + 1) packets rest × (told ≡ here ++ rest)
-
--- what is told of a session's packets, and how many there were
-pub record IsRun (trace : Bool) (s : Session) (told : List ℕ) : Type 0 where
-  pub answers : List ℕ
-  pub each : ArePacketAnswers trace s.image 0 s.packets answers
-  pub told_is : told ≡ answers ++ done_line (length s.packets)
-
--- the packets are forgotten, the image stays
-pub record IsRunAndForgotten (trace : Bool) (s : Session) (before : ServiceState) (told : List ℕ) (after : ServiceState) : Type 0 where
-  pub run : IsRun trace s told
-  pub forgotten : after ≡ service_state (with_session (without_packets s) before.sessions) (batches_more 1 before.batches)
-
-abbrev pub AnswersRun : Option Session → Bool → ℕ → ServiceState → List ℕ → ServiceState → Type 0
-AnswersRun None trace number before told after = IsRefused (codes "P2") number before told after
-AnswersRun (Some s) trace number before told after = IsRunAndForgotten trace s before told after
-
--- the runs of sessions, each behind its name
-abbrev pub AreRuns : Bool → List Session → List ℕ → Type 0
-AreRuns trace [] told = told ≡ []
-AreRuns trace (s ∷ sessions) told =
-    (here : List ℕ) × (rest : List ℕ) × IsRun trace s here × AreRuns trace sessions rest × (told ≡ of_line s.name ++ here ++ rest)
-
--- all packets are forgotten
-pub record AreRunAndForgotten (trace : Bool) (before : ServiceState) (told : List ℕ) (after : ServiceState) : Type 0 where
-  pub answers : List ℕ
-  pub each : AreRuns trace before.sessions answers
-  pub told_is : told ≡ answers ++ all_line (length before.sessions)
-  pub forgotten :
-      after ≡ service_state (map without_packets before.sessions) (batches_more (length before.sessions) before.batches)
+-- where a line is refused nothing changes
+abbrev pub unless_refused : Answer → (before after : List Session) → List Session
+unless_refused (Refused fault) before after = before
+unless_refused answer before after = after
 
 -- ---- <name> DROP
 
-abbrev pub AnswersDrop : Option Session → ℕ → List ℕ → ServiceState → List ℕ → ServiceState → Type 0
-AnswersDrop None number name before told after = IsRefused (codes "P2") number before told after
-AnswersDrop (Some s) number name before told after =
-    (told ≡ gone_line) × (after ≡ record before { sessions = without_session name before.sessions })
+abbrev pub answer_to_drop : Option Session → Answer
+answer_to_drop None = Refused P2
+answer_to_drop (Some s) = Gone
 
--- ---- each line, by what it asks for and its number
+-- ---- <name> IMAGE <hex>
 
-abbrev pub Answers : Bool → ℕ → Option Asked → ServiceState → List ℕ → ServiceState → Type 0
-Answers trace number None before told after = IsRefused (codes "E1") number before told after
-Answers trace number (Some (ToList code)) before told after = (told ≡ listing_answer (cutting code)) × (after ≡ before)
-Answers trace number (Some (ToOpen name text)) before told after =
-    AnswersImage (is_full name before.sessions) number name text before told after
-Answers trace number (Some (ToKeep name packet)) before told after =
-    AnswersPacket (named name before.sessions) number packet before told after
-Answers trace number (Some (ToRun name)) before told after =
-    AnswersRun (named name before.sessions) trace number before told after
-Answers trace number (Some ToRunAll) before told after = AreRunAndForgotten trace before told after
-Answers trace number (Some (ToDrop name)) before told after =
-    AnswersDrop (named name before.sessions) number name before told after
+abbrev pub answer_by : Verdict → Answer
+answer_by (Accepts image budget) = Yes (length image.code) budget
+answer_by (Refuses code place) = Refused (Image code place)
+
+module _ (Judges : List ℕ → Verdict → Type 0) where
+  -- whether there is no room for a session comes before the verdict
+  abbrev pub IsAnswerToImage : (full : Bool) → (text : List ℕ) → Answer → Type 0
+  IsAnswerToImage true text answer = answer ≡ Refused E2
+  IsAnswerToImage false text answer = (verdict : Verdict) × Judges text verdict × (answer ≡ answer_by verdict)
+
+  -- the session opens with the image and no packet, in the place of the one of its name if that is open
+  abbrev pub IsAfterImage : (name text : List ℕ) → List Session → Answer → List Session → Type 0
+  IsAfterImage name text before (Yes code_bytes budget) after =
+      (image : ImageValue) × Judges text (Accepts image budget)
+      × (after ≡ with_session record { name = name; image = image; packets = [] } before)
+  IsAfterImage name text before answer after = after ≡ before
+
+-- ---- <name> RUN, RUN *
+
+module _ (ComesTo : ImageValue → List ℕ → Option RunResult → Type 0) where
+  -- what the packets of a session come to, in order of number
+  abbrev pub AreOutcomes : Session → List (Option RunResult) → Type 0
+  AreOutcomes s outcomes = AllZip (ComesTo s.image) s.packets outcomes
+
+  abbrev pub IsAnswerToRun : Option Session → Answer → Type 0
+  IsAnswerToRun None answer = answer ≡ Refused P2
+  IsAnswerToRun (Some s) answer = (outcomes : List (Option RunResult)) × AreOutcomes s outcomes × (answer ≡ Ran outcomes)
+
+  -- a session's name, and what its packets come to
+  abbrev pub IsRun : Session → List ℕ × List (Option RunResult) → Type 0
+  IsRun s run = (run.0 ≡ s.name) × AreOutcomes s run.1
+
+  abbrev pub IsAnswerToRunAll : List Session → Answer → Type 0
+  IsAnswerToRunAll sessions answer =
+      (runs : List (List ℕ × List (Option RunResult))) × AllZip IsRun sessions runs × (answer ≡ RanAll runs)
+
+-- ---- each line, by what it asks for
+
+-- the answer
+module _ (Judges : List ℕ → Verdict → Type 0) (ComesTo : ImageValue → List ℕ → Option RunResult → Type 0) where
+  abbrev pub IsAnswer : Option Asked → List Session → Answer → Type 0
+  IsAnswer None sessions answer = answer ≡ Refused E1
+  IsAnswer (Some (ToList code)) sessions answer = IsAnswerToList (cutting code) answer
+  IsAnswer (Some (ToOpen name text)) sessions answer = IsAnswerToImage Judges (is_full name sessions) text answer
+  IsAnswer (Some (ToKeep name packet)) sessions answer = answer ≡ answer_to_packet (named name sessions) packet
+  IsAnswer (Some (ToRun name)) sessions answer = IsAnswerToRun ComesTo (named name sessions) answer
+  IsAnswer (Some ToRunAll) sessions answer = IsAnswerToRunAll ComesTo sessions answer
+  IsAnswer (Some (ToDrop name)) sessions answer = answer ≡ answer_to_drop (named name sessions)
+
+-- the sessions after it
+module _ (Judges : List ℕ → Verdict → Type 0) where
+  abbrev pub IsAfter : Option Asked → List Session → Answer → List Session → Type 0
+  IsAfter None before answer after = after ≡ before
+  IsAfter (Some (ToList code)) before answer after = after ≡ before
+  IsAfter (Some (ToOpen name text)) before answer after = IsAfterImage Judges name text before answer after
+  IsAfter (Some (ToKeep name packet)) before answer after =
+      after ≡ unless_refused answer before (with_changed (with_packet packet) name before)
+  IsAfter (Some (ToRun name)) before answer after = after ≡ with_changed without_packets name before
+  IsAfter (Some ToRunAll) before answer after = after ≡ map without_packets before
+  IsAfter (Some (ToDrop name)) before answer after = after ≡ without_session name before

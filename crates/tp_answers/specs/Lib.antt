@@ -1,9 +1,12 @@
 -- What a reader must believe: clauses of public calls cite it.
 pub mod Sessions
-pub mod Told
+pub mod Results
 pub mod Answers
+pub mod Texts
+pub mod Rules
+pub mod Outcomes
 pub mod OpenSessions
-pub mod Entries
+pub mod Lending
 pub use Rattle.tp_requests.specs.Lines
 pub use Rattle.tp_requests.specs.Fields
 pub use Rattle.tp_requests.specs.Requests

@@ -1,5 +1,5 @@
 -- The sessions that are open.
-use Rattle.std.specs.Prelude.{ℕ, Bool, if◌then◌else◌, List, [], ◌∷◌, ◌++◌, Option, Some, None}
+use Rattle.std.specs.Prelude.{ℕ, nat_le, ◌&&◌, not, is_some, Bool, if◌then◌else◌, List, [], ◌∷◌, ◌++◌, length, Option, Some, None}
 use Rattle.tp_image.specs.Image.{ImageValue}
 use Rattle.tp_requests.specs.Fields.{is_text}
 
@@ -21,10 +21,19 @@ abbrev pub named : List ℕ → List Session → Option Session
 named name [] = None
 named name (s ∷ sessions) = if is_of name s then Some s else named name sessions
 
+-- the name is new, while as many sessions are open as may be
+abbrev pub is_full : List ℕ → List Session → Bool
+is_full name sessions = not (is_some (named name sessions)) && nat_le most_sessions (length sessions)
+
 -- a session in the place of the one of its name, or else behind all others
 abbrev pub with_session : Session → List Session → List Session
 with_session new [] = new ∷ []
 with_session new (s ∷ sessions) = if is_of new.name s then new ∷ sessions else s ∷ with_session new sessions
+
+-- with the session of a name, if it is open, changed
+abbrev pub with_changed : (Session → Session) → List ℕ → List Session → List Session
+with_changed change name [] = []
+with_changed change name (s ∷ sessions) = if is_of name s then change s ∷ sessions else s ∷ with_changed change name sessions
 
 -- without the session of a name; the others keep their order
 abbrev pub without_session : List ℕ → List Session → List Session
@@ -32,8 +41,8 @@ without_session name [] = []
 without_session name (s ∷ sessions) = if is_of name s then sessions else s ∷ without_session name sessions
 
 -- the session keeps one packet more
-abbrev pub with_packet : Session → List ℕ → Session
-with_packet s packet = record s { packets = s.packets ++ packet ∷ [] }
+abbrev pub with_packet : List ℕ → Session → Session
+with_packet packet s = record s { packets = s.packets ++ packet ∷ [] }
 
 -- it forgets them all
 abbrev pub without_packets : Session → Session

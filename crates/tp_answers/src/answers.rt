@@ -1,27 +1,23 @@
 //! Answers to lines that run nothing.
 
-ghost use Rattle.std.specs.Prelude.{◌≡◌, ◌≤◌, ◌++◌, ℕ, nat_lt, length, position, IsTrue, OnOk};
-ghost use Rattle.std.specs.List.{flat_map, list_all};
+ghost use Rattle.std.specs.Prelude.{◌≡◌, ◌≤◌, nat_lt, length, IsTrue, IfOk};
+ghost use Rattle.std.specs.List.{list_all};
 ghost use Rattle.tp_requests.specs.Spelling.{bytes_spelled};
-ghost use Rattle.tp_decode.specs.Lines.{lines_from};
 ghost use Rattle.tp_decode.specs.Cutting.{cutting};
-ghost use Rattle.tp_accept.specs.Refusals.{refusal_code_text};
-ghost use Rattle.tp_accept.specs.Verdict.{allowed};
 ghost use Rattle.tp_collect.specs.DoneValue.{most_message};
-ghost use Rattle.tp_answers.specs.Sessions.{is_of, named};
-ghost use Rattle.tp_answers.specs.Told.{written, refusal, listing_answer, yes_line};
-ghost use Rattle.tp_answers.specs.Answers.{is_full, IsJudged, AnswersImage, AnswersPacket, AnswersDrop};
-ghost use Rattle.tp_answers.specs.OpenSessions.{sessions_of, TellsOfSessions};
+ghost use Rattle.tp_answers.specs.Sessions.{named, is_full, with_changed, with_packet, without_session};
+ghost use Rattle.tp_answers.specs.Rules.{IsVerdict};
+ghost use Rattle.tp_answers.specs.Answers.{IsAnswerToList, IsAnswerToImage, IsAfterImage, answer_to_packet};
+ghost use Rattle.tp_answers.specs.Answers.{answer_to_drop, unless_refused};
 
+use crate::answer::{Answer, LineFault};
 use crate::session::OpenSession;
 use crate::sessions::Sessions;
-use crate::telling::{tell_done, tell_gone, tell_kept};
 use std::alloc::{AllocError, Global};
-use std::io::Write;
-use tp_accept::{Accepted, Refusal, RefusalCode, accept};
+use tp_accept::{Accepted, Refusal, accept};
 use tp_board::{MAX_PACKETS, Packet};
 use tp_collect::limits::MESSAGE_BYTES;
-use tp_decode::{DecodeFault, Listing, decode};
+use tp_decode::{DecodeFault, decode};
 use tp_requests::{Name, Spelled};
 
 /// The most sessions that are open at a time.
@@ -30,102 +26,56 @@ const MOST_SESSIONS: usize = 64;
 /// The most packets that a session keeps: those of a batch.
 const MOST_PACKETS: usize = MAX_PACKETS as usize;
 
-/// A line that is refused: its code and the place, behind what is told already.
-pub fn refusal(told: &mut Vec<u8>, code: &str, place: u64) -> Result<(), AllocError>
-    ensures { OnOk result (told.new.items ≡ told.old.items ++ refusal code.now place) }
-{
-    write!(told, "NO {code} {place}\n").or(Err(AllocError))
-}
-
-/// The lines of a listing.
-fn lines(told: &mut Vec<u8>, alloc: Global, listing: &Listing) -> Result<(), AllocError>
-    ensures { OnOk result (told.new.items ≡ told.old.items ++ flat_map written (lines_from 0 listing.now)) }
-{
-    for i in 0..listing.starts().len() {
-        told.extend_from_slice(listing.text(alloc, i)?.as_bytes())?;
-        told.push(b'\n')?;
-    }
-    Ok(())
-}
-
-/// The answer to a request for the listing of a code, behind what is told already.
-#[tactic(auto, unfolding(crate::specs::Told::listing_answer))]
-pub fn list(told: &mut Vec<u8>, alloc: Global, code: &[u8]) -> Result<(), AllocError>
+/// The listing of a code.
+pub fn list(alloc: Global, code: &[u8]) -> Result<Answer, AllocError>
     requires { length code.now ≤ 65535 }
-    ensures { OnOk result (told.new.items ≡ told.old.items ++ listing_answer (cutting code.now)) }
+    ensures { IfOk result (IsAnswerToList (cutting code.now)) }
 {
     match decode(alloc, code) {
-        Ok(listing) => {
-            lines(told, alloc, &listing)?;
-            tell_done(told, listing.starts().len())
-        }
+        Ok(listing) => Ok(Answer::Listed(listing)),
         Err(DecodeFault::Refused { code, place }) => {
-            write!(told, "NO {code} {place}\n").or(Err(AllocError))
+            Ok(Answer::Refused(LineFault::Code { code, place }))
         }
         Err(DecodeFault::Memory) => Err(AllocError),
     }
 }
 
-/// That an image may be run.
-fn tell_yes(told: &mut Vec<u8>, image: &Accepted) -> Result<(), AllocError>
-    ensures { OnOk result (told.new.items ≡ told.old.items ++ yes_line (allowed image.now.image image.now.budget)) }
+/// That an image is accepted.
+fn yes(image: &Accepted) -> Answer
+    ensures { result ≡ Answer.Yes (length image.now.image.code) image.now.budget }
 {
-    let bytes = image.code().len();
-    let budget = image.budget();
-    write!(told, "YES {bytes} {budget}\n").or(Err(AllocError))
-}
-
-/// An image that is refused.
-fn refused(told: &mut Vec<u8>, code: RefusalCode, place: usize) -> Result<(), AllocError>
-    ensures { OnOk result (told.new.items ≡ told.old.items ++ refusal (refusal_code_text code) place) }
-{
-    write!(told, "NO {code} {place}\n").or(Err(AllocError))
-}
-
-/// Judges the text of an image. An image that may be run opens a session, or replaces the image of the session that stands at
-/// the place of this name.
-fn judge(
-    sessions: &mut Sessions,
-    told: &mut Vec<u8>,
-    alloc: Global,
-    place: Option<usize>,
-    name: Name,
-    text: Vec<u8>,
-) -> Result<(), AllocError>
-    requires { place ≡ position (is_of name.items) (sessions_of sessions.old) }
-    ensures { (batches : ℕ) → OnOk result (TellsOfSessions batches (IsJudged name.items text.items)
-        sessions.old sessions.new told.old.items told.new.items) }
-{
-    match accept(alloc, text) {
-        Ok(image) => {
-            tell_yes(told, &image)?;
-            sessions.set(place, name, OpenSession::new(alloc, image))?;
-            Ok(())
-        }
-        Err(Refusal::Refused { code, place }) => refused(told, code, place),
-        Err(Refusal::Memory) => Err(AllocError),
+    Answer::Yes {
+        code_bytes: image.code().len(),
+        budget: image.budget(),
     }
 }
 
-/// Opens a session with the image of a text, or replaces the image of the session of this name. The answer comes behind what
-/// is told already.
+/// Opens a session with the image of a text, or replaces the image of the session of this name.
 pub fn open(
     sessions: &mut Sessions,
-    told: &mut Vec<u8>,
     alloc: Global,
-    number: u64,
     name: Name,
     text: Vec<u8>,
-) -> Result<(), AllocError>
-    ensures { (batches : ℕ) → OnOk result (TellsOfSessions batches
-        (AnswersImage (is_full name.items (sessions_of sessions.old)) number name.items text.items)
-        sessions.old sessions.new told.old.items told.new.items) }
+) -> Result<Answer, AllocError>
+    ensures answer { IfOk result (IsAnswerToImage IsVerdict (is_full name.items sessions.old) text.items) }
+    ensures sessions { IfOk result (λ answer.
+        IsAfterImage IsVerdict name.items text.items sessions.old answer sessions.new) }
 {
     let place = sessions.find(&name);
     if place.is_none() && sessions.len() >= MOST_SESSIONS {
-        return refusal(told, "E2", number);
+        return Ok(Answer::Refused(LineFault::E2));
     }
-    judge(sessions, told, alloc, place, name, text)
+    match accept(alloc, text) {
+        Ok(image) => {
+            let answer = yes(&image);
+            sessions.set(place, name, OpenSession::new(alloc, image))?;
+            Ok(answer)
+        }
+        Err(Refusal::Refused { code, place }) => {
+            Ok(Answer::Refused(LineFault::Image { code, place }))
+        }
+        Err(Refusal::Memory) => Err(AllocError),
+    }
 }
 
 /// The packet of the bytes that are spelled, which are decoded into it.
@@ -140,47 +90,40 @@ fn packet_of(bytes: &Spelled<'_>) -> Packet
     packet
 }
 
-/// A session keeps a packet. The answer comes behind what is told already.
+/// A session keeps a packet.
 pub fn keep(
     sessions: &mut Sessions,
-    told: &mut Vec<u8>,
-    number: u64,
     name: &Name,
-    bytes: &Spelled<'_>,
-) -> Result<(), AllocError>
-    ensures { (batches : ℕ) → OnOk result (TellsOfSessions batches
-        (AnswersPacket (named name.now.items (sessions_of sessions.old)) number (bytes_spelled bytes.now))
-        sessions.old sessions.new told.old.items told.new.items) }
+    packet: &Spelled<'_>,
+) -> Result<Answer, AllocError>
+    ensures answer { IfOk result (λ answer.
+        answer ≡ answer_to_packet (named name.now.items sessions.old) (bytes_spelled packet.now)) }
+    ensures sessions { IfOk result (λ answer. sessions.new ≡ unless_refused answer sessions.old
+        (with_changed (with_packet (bytes_spelled packet.now)) name.now.items sessions.old)) }
 {
     let Some(index) = sessions.find(name) else {
-        return refusal(told, "P2", number);
+        return Ok(Answer::Refused(LineFault::P2));
     };
-    let kept = sessions.at(index);
-    if bytes.count() != kept.image.packet_bytes() {
-        return refusal(told, "P1", number);
+    let session = sessions.at_mut(index);
+    if packet.count() != session.image.packet_bytes() {
+        return Ok(Answer::Refused(LineFault::P1));
     }
-    let count = kept.packets.len();
-    if count >= MOST_PACKETS {
-        return refusal(told, "P3", number);
+    let number = session.packets.len();
+    if number >= MOST_PACKETS {
+        return Ok(Answer::Refused(LineFault::P3));
     }
-    sessions.keep(index, packet_of(bytes))?;
-    tell_kept(told, count)
+    session.keep(packet_of(packet))?;
+    Ok(Answer::Kept(number))
 }
 
-/// A session ends. The answer comes behind what is told already.
-pub fn drop_session(
-    sessions: &mut Sessions,
-    told: &mut Vec<u8>,
-    number: u64,
-    name: &Name,
-) -> Result<(), AllocError>
-    ensures { (batches : ℕ) → OnOk result (TellsOfSessions batches
-        (AnswersDrop (named name.now.items (sessions_of sessions.old)) number name.now.items)
-        sessions.old sessions.new told.old.items told.new.items) }
+/// A session ends. This takes no memory.
+pub fn drop_session(sessions: &mut Sessions, name: &Name) -> Answer
+    ensures answer { result ≡ answer_to_drop (named name.now.items sessions.old) }
+    ensures sessions { sessions.new ≡ without_session name.now.items sessions.old }
 {
     let Some(index) = sessions.find(name) else {
-        return refusal(told, "P2", number);
+        return Answer::Refused(LineFault::P2);
     };
     sessions.remove(index);
-    tell_gone(told)
+    Answer::Gone
 }

@@ -1,15 +1,20 @@
 //! Sessions, and the answers to lines.
 //!
-//! What is answered to a line, and what the line changes, is said in `specs/Answers.antt`, by what the line asks for. Here
-//! stand the sessions themselves, the answers to all lines that run no packets, and what is told of packets that were run.
+//! What is answered to a line, and the sessions after it, is said in `specs/Answers.antt`, by what the line asks for; the
+//! text of an answer in `specs/Texts.antt`. Here stand the sessions themselves, the answers to all lines that run no packets,
+//! and the writer of answers.
 #![tactic(auto)]
 
+mod answer;
 mod answers;
+mod outcomes;
 mod session;
 mod sessions;
-mod telling;
+mod writing;
 
-pub use answers::{drop_session, keep, list, open, refusal};
+pub use answer::{Answer, LineFault};
+pub use answers::{drop_session, keep, list, open};
+pub use outcomes::{AllOutcomes, Outcomes};
 pub use session::OpenSession;
 pub use sessions::Sessions;
-pub use telling::{tell_done, tell_entries};
+pub use writing::write_answer;

@@ -2,7 +2,7 @@
 
 ghost use Rattle.std.specs.Prelude.{◌≡◌, ◌==◌, ◌+◌, ◌*◌, ◌≤◌, ◌<◌, [], ◌∷◌, ◌++◌, ◌&&◌, nat_lt, length, vec_len, IsTrue, OnOk};
 ghost use Rattle.std.specs.List.{list_all};
-ghost use Rattle.tp_collect.specs.Collecting.{most_packets};
+ghost use Rattle.tp_board.specs.Limits.{most_packets};
 
 use std::alloc::{AllocError, Global};
 use tp_accept::Accepted;

@@ -1,28 +1,38 @@
 //! All sessions.
 
-ghost use Rattle.std.specs.Prelude.{◌≡◌, ◌*◌, ◌<◌, [], ◌∷◌, Some, length, position, remove, slice_get, slice_set, nat_lt};
-ghost use Rattle.std.specs.Prelude.{IsTrue, OnOk, IfSome};
-ghost use Rattle.std.specs.List.{list_all};
-ghost use Rattle.tp_collect.specs.Collecting.{most_packets};
-ghost use Rattle.tp_answers.specs.Sessions.{Session, is_of, with_session, with_packet, without_packets};
-ghost use Rattle.tp_answers.specs.OpenSessions.{session_of, sessions_of};
+ghost use Rattle.std.specs.Prelude.{◌≡◌, ◌<◌, [], Some, length, position, remove, slice_get, OnOk};
+ghost use Rattle.std.specs.Borrow.{sem};
+ghost use Rattle.tp_answers.specs.Sessions.{Session, is_of, with_session};
+ghost use Rattle.tp_answers.specs.OpenSessions.{session_of};
 
 use crate::session::OpenSession;
 use indexmap::IndexMap;
 use std::alloc::{AllocError, Global};
-use tp_board::Packet;
+use std::marker::Model;
 use tp_requests::Name;
 
-/// The open sessions by name, in the order in which they were opened.
+/// The open sessions by name. A contract sees the list of them, in the order in which they were opened.
 #[derive(Drop)]
 pub struct Sessions {
     by_name: IndexMap<Name, OpenSession>,
 }
 
+impl Model for Sessions {
+    ghost use Rattle.std.specs.Prelude.{List, map};
+    ghost use Rattle.tp_answers.specs.Sessions.{Session};
+    ghost use Rattle.tp_answers.specs.OpenSessions.{session_of};
+
+    ghost Value = { List Session };
+
+    ghost view = { λ sessions. map (λ entry. session_of entry.0.items entry.1) sessions.by_name.entries };
+}
+
 impl Sessions {
+    ghost use Rattle.tp_answers.specs.Lending.{LendsSession};
+
     /// None is open.
     pub fn new(alloc: Global) -> Sessions
-        ensures { sessions_of result ≡ [] }
+        ensures { result ≡ [] }
     {
         Sessions {
             by_name: IndexMap::new(alloc),
@@ -31,30 +41,22 @@ impl Sessions {
 
     /// How many are open.
     pub fn len(&self) -> usize
-        ensures { result ≡ length (sessions_of self.now) }
+        ensures { result ≡ length self.now }
     {
         self.by_name.len()
     }
 
     /// The place of the session of a name, in the order of opening.
     pub fn find(&self, name: &Name) -> Option<usize>
-        ensures { result ≡ position (is_of name.now.items) (sessions_of self.now) }
+        ensures { result ≡ position (is_of name.now.items) self.now }
     {
         self.by_name.get_index_of(name)
     }
 
-    /// What the session at a place keeps.
-    pub fn at(&self, index: usize) -> &OpenSession
-        requires { index < length (sessions_of self.now) }
-        ensures { (s : Session) → slice_get (sessions_of self.now) index ≡ Some s → s ≡ session_of s.name result.now }
-    {
-        &self.by_name[index]
-    }
-
     /// The name of the session at a place.
     pub fn name_at(&self, index: usize) -> &Name
-        requires { index < length (sessions_of self.now) }
-        ensures { (s : Session) → slice_get (sessions_of self.now) index ≡ Some s → s.name ≡ result.now.items }
+        requires { index < length self.now }
+        ensures { (s : Session) → slice_get self.now index ≡ Some s → s.name ≡ result.now.items }
     {
         match self.by_name.get_index(index) {
             Some((name, _)) => name,
@@ -62,10 +64,18 @@ impl Sessions {
         }
     }
 
+    /// What the session at a place keeps.
+    pub fn at_mut(&mut self, index: usize) -> &mut OpenSession
+        requires { index < length self.old }
+        ensures* lends { sem 𝓛 (LendsSession self.entry index result) }
+        ensures value { (s : Session) → slice_get self.old index ≡ Some s → s ≡ session_of s.name result.now }
+    {
+        &mut self.by_name[index]
+    }
+
     /// Opens a session, behind all others; one of this name is replaced, and keeps its place.
-    pub fn put(&mut self, name: Name, kept: OpenSession) -> Result<(), AllocError>
-        ensures { OnOk result
-            (sessions_of self.new ≡ with_session (session_of name.items kept) (sessions_of self.old)) }
+    pub(crate) fn put(&mut self, name: Name, kept: OpenSession) -> Result<(), AllocError>
+        ensures { OnOk result (self.new ≡ with_session (session_of name.items kept) self.old) }
     {
         self.by_name.insert(name, kept)?;
         Ok(())
@@ -78,46 +88,21 @@ impl Sessions {
         name: Name,
         kept: OpenSession,
     ) -> Result<(), AllocError>
-        requires { place ≡ position (is_of name.items) (sessions_of self.old) }
-        ensures { OnOk result
-            (sessions_of self.new ≡ with_session (session_of name.items kept) (sessions_of self.old)) }
+        requires { place ≡ position (is_of name.items) self.old }
+        ensures { OnOk result (self.new ≡ with_session (session_of name.items kept) self.old) }
     {
         match place {
             Some(index) => {
-                self.by_name[index] = kept;
+                *self.at_mut(index) = kept;
                 Ok(())
             }
             None => self.put(name, kept),
         }
     }
 
-    /// The session at a place keeps one packet more.
-    pub fn keep(&mut self, index: usize, packet: Packet) -> Result<(), AllocError>
-        requires there { index < length (sessions_of self.old) }
-        requires few { IfSome (slice_get (sessions_of self.old) index) (λ s. length s.packets < most_packets) }
-        requires whole { IfSome (slice_get (sessions_of self.old) index)
-            (λ s. length packet.items ≡ 4 * s.image.packet) }
-        requires bytes { IsTrue (list_all (λ b. nat_lt b 256) packet.items) }
-        ensures { (s : Session) → slice_get (sessions_of self.old) index ≡ Some s →
-            OnOk result (sessions_of self.new ≡ slice_set (sessions_of self.old) index (with_packet s packet.items)) }
-    {
-        let kept = &mut self.by_name[index];
-        kept.keep(packet)
-    }
-
-    /// The session at a place forgets its packets.
-    pub fn forget(&mut self, index: usize)
-        requires { index < length (sessions_of self.old) }
-        ensures { (s : Session) → slice_get (sessions_of self.old) index ≡ Some s →
-            sessions_of self.new ≡ slice_set (sessions_of self.old) index (without_packets s) }
-    {
-        let kept = &mut self.by_name[index];
-        kept.forget();
-    }
-
     /// The session at a place ends. The others keep their order.
-    pub fn remove(&mut self, index: usize)
-        ensures { sessions_of self.new ≡ remove (sessions_of self.old) index }
+    pub(crate) fn remove(&mut self, index: usize)
+        ensures { self.new ≡ remove self.old index }
     {
         self.by_name.shift_remove_index(index);
     }

@@ -1,12 +1,13 @@
 -- A line that is parted at its first space.
-use Rattle.std.proofs.Common.{◌≡◌, ℕ, suc, ◌+◌, ◌<◌, nat_eq, nat_lt, Bool, true, false, not, ◌&&◌, if◌then◌else◌, codes, cond, List, [], ◌∷◌, length, take, drop, position, Option, Some, None, Result, Ok, Err, IfOk, refl, ap, sym, ◌∙◌, arith}
+use Rattle.std.proofs.Common.{◌≡◌, ℕ, suc, ◌+◌, ◌<◌, nat_eq, nat_lt, Bool, true, false, not, ◌&&◌, if◌then◌else◌, codes, cond, List, [], ◌∷◌, length, take, drop, position, Option, Some, None, refl, ap, sym, ◌∙◌, arith}
 use Rattle.std.specs.List.{position_or_len, list_all}
 use Rattle.std.specs.Option.{option_map}
 use Rattle.hex.specs.Hex.{is_hex_digit}
 use Rattle.std.proofs.lemmas.Bool.Decides.{nat_tests}
 use Rattle.std.proofs.lemmas.Option.{same_Some}
-use Rattle.tp_requests.specs.Fields.{space, onto_first, fields_of, is_text, is_name, hex_bytes}
-use Rattle.tp_requests.specs.Requests.{Asked, ToOpen, ToKeep, of_two, of_three, of_fields, asked_by}
+use Rattle.tp_requests.specs.Fields.{is_text, hex_bytes}
+use Rattle.tp_requests.specs.Requests.{Asked, ToOpen, ToKeep}
+use Rattle.tp_requests.specs.Reading.{space, onto_first, fields_of, is_name, of_two, of_three, of_fields, asked_by}
 use Rattle.tp_requests.proofs.SpellingLemmas.{none_of_other}
 
 abbrev pub is_space : ℕ → Bool
@@ -154,8 +155,3 @@ asks_rest line first rest second third one two = by_space (position is_space thi
     by_space (Some i) is =
         of_three_none first second third (spells_nothing third i is)
         ∙ asks_more line first rest second third (take i third) (drop (i + 1) third) one two (more_fields third i is)
-
--- a request that is known by what it stands for
-pub known : {R E : Type 0} (value : R → Option Asked) (r : Result R E) (a b : Option Asked) → IfOk r (λ x. value x ≡ a) → a ≡ b → IfOk r (λ x. value x ≡ b)
-known value (Ok x) a b h e = h ∙ e
-known value (Err f) a b h e = tt

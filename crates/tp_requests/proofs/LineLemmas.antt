@@ -1,13 +1,14 @@
 -- The lines of the protocol are those that are read.
-use Rattle.std.proofs.Common.{◌≡◌, ℕ, Bool, true, false, not, ◌&&◌, if◌then◌else◌, List, [], ◌∷◌, ◌++◌, codes, Option, Some, None, ◌⊎◌, inl, inr, refl, ap, sym, ◌∙◌, subst, append_assoc}
+use Rattle.std.proofs.Common.{◌≡◌, ℕ, Bool, true, false, not, ◌&&◌, if◌then◌else◌, List, [], ◌∷◌, ◌++◌, codes, Option, Some, None, ◌⊎◌, Result, Ok, Err, IfOk, inl, inr, refl, ap, sym, ◌∙◌, subst, append_assoc}
 use Rattle.std.specs.Option.{option_map}
 use Rattle.std.specs.Cmp.Lexicographic.{bytes_decides}
 use Rattle.std.proofs.lemmas.Bool.{both_ways, false_from_ne_true, not-false, and_parts}
 use Rattle.std.proofs.lemmas.Option.{same_Some}
 use Rattle.hex.specs.Hex.{encode_lower}
-use Rattle.tp_requests.specs.Fields.{space, fields_of, is_text, is_name, hex_bytes}
-use Rattle.tp_requests.specs.Requests.{Asked, ToList, ToOpen, ToKeep, ToRun, ToRunAll, ToDrop, of_two, of_three, of_fields, asked_by}
-use Rattle.tp_requests.specs.Protocol.{IsName, AreDigitsFor, IsLineFor, MayBeAsked, line_for}
+use Rattle.tp_requests.specs.Fields.{is_text, hex_bytes}
+use Rattle.tp_requests.specs.Requests.{Asked, ToList, ToOpen, ToKeep, ToRun, ToRunAll, ToDrop}
+use Rattle.tp_requests.specs.Reading.{space, fields_of, is_name, of_two, of_three, of_fields, asked_by}
+use Rattle.tp_requests.specs.Protocol.{IsName, AreDigitsFor, IsLineFor, AsksFor, MayBeAsked, line_for}
 use Rattle.tp_requests.proofs.ProtocolLemmas.{name_passes, passed_is_name, digits_read, read_are_digits, lower_are_digits, spelled_by_digits, word_and_digits, two_words, name_and_word, name_word_and_digits, joined, joined_again}
 
 -- ---- each line of the protocol is read
@@ -62,7 +63,7 @@ asks_keep name digits bytes is are =
     ∙ ap of_fields (name_word_and_digits name (codes "PACKET") digits bytes is (refl, (refl, (refl, (refl, (refl, (refl, tt)))))) are)
     ∙ keeps name digits bytes (name_passes name is) (digits_read digits bytes are)
 
-pub line_asks : (line : List ℕ) (request : Asked) → IsLineFor line request → asked_by line ≡ Some request
+line_asks : (line : List ℕ) (request : Asked) → IsLineFor line request → asked_by line ≡ Some request
 line_asks line (ToList code) is = ap asked_by is.2 ∙ asks_list is.0 code is.1
 line_asks line (ToOpen name text) is = ap asked_by is.3 ∙ asks_open name is.0 text is.1 is.2
 line_asks line (ToKeep name bytes) is = ap asked_by is.3 ∙ asks_keep name is.0 bytes is.1 is.2
@@ -173,13 +174,29 @@ line_of_fields (first ∷ second ∷ []) request asks = line_of_two first second
 line_of_fields (first ∷ second ∷ third ∷ []) request asks = line_of_three first second third request asks
 line_of_fields (first ∷ second ∷ third ∷ fourth ∷ fields) request asks = cc
 
-pub asks_line : (line : List ℕ) (request : Asked) → asked_by line ≡ Some request → IsLineFor line request
+asks_line : (line : List ℕ) (request : Asked) → asked_by line ≡ Some request → IsLineFor line request
 unfolding asked_by
 asks_line line request asks = subst (λ l. IsLineFor l request) (joined_again line) (line_of_fields (fields_of line) request asks)
 
+pub one_request : (line : List ℕ) (a b : Asked) → IsLineFor line a → IsLineFor line b → a ≡ b
+one_request line a b is is' = same_Some a b (sym (line_asks line a is) ∙ line_asks line b is')
+
+asks_for : (line : List ℕ) (o : Option Asked) → o ≡ asked_by line → AsksFor line o
+asks_for line (Some request) is = asks_line line request (sym is)
+asks_for line None is = λ request line_is. cc (is ∙ line_asks line request line_is)
+
+-- a request that is known by what it stands for
+pub known : {R E : Type 0} (value : R → Option Asked) (line : List ℕ) (r : Result R E) (a : Option Asked)
+    → IfOk r (λ x. value x ≡ a) → a ≡ asked_by line → IfOk r (λ x. AsksFor line (value x))
+known value line (Ok x) a h e = asks_for line (value x) (h ∙ e)
+known value line (Err f) a h e = tt
+
+pub asks_for_none : (line : List ℕ) → None ≡ asked_by line → AsksFor line None
+asks_for_none line none = asks_for line None none
+
 -- ---- the line with digits in lower case
 
-is_line : (request : Asked) → MayBeAsked request → IsLineFor (line_for request) request
+pub is_line : (request : Asked) → MayBeAsked request → IsLineFor (line_for request) request
 is_line (ToList code) may = (encode_lower code, lower_are_digits code may, refl)
 is_line (ToOpen name text) may = (encode_lower text, may.0, lower_are_digits text may.1, refl)
 is_line (ToKeep name bytes) may = (encode_lower bytes, may.0, lower_are_digits bytes may.1, refl)
@@ -187,18 +204,12 @@ is_line (ToRun name) may = (may, refl)
 is_line ToRunAll may = refl
 is_line (ToDrop name) may = (may, refl)
 
-pub line_asks_again : (request : Asked) → MayBeAsked request → asked_by (line_for request) ≡ Some request
-line_asks_again request may = line_asks (line_for request) request (is_line request may)
-
 -- ---- what has a line may be asked for
 
-has_line : (line : List ℕ) (request : Asked) → IsLineFor line request → MayBeAsked request
+pub has_line : (line : List ℕ) (request : Asked) → IsLineFor line request → MayBeAsked request
 has_line line (ToList code) is = spelled_by_digits is.0 code is.1
 has_line line (ToOpen name text) is = (is.1, spelled_by_digits is.0 text is.2)
 has_line line (ToKeep name bytes) is = (is.1, spelled_by_digits is.0 bytes is.2)
 has_line line (ToRun name) is = is.0
 has_line line ToRunAll is = tt
 has_line line (ToDrop name) is = is.0
-
-pub may_be_asked : (line : List ℕ) (request : Asked) → asked_by line ≡ Some request → MayBeAsked request
-may_be_asked line request asks = has_line line request (asks_line line request asks)

@@ -9,7 +9,8 @@ use Rattle.std.proofs.lemmas.Option.{same_Some}
 use Rattle.hex.specs.Hex.{decode_of, encode_lower, is_hex_digit, lower_digits}
 use Rattle.hex.specs.declared.error.FromHexError.{FromHexError}
 use Rattle.hex.proofs.HexLemmas.{decode_of-ok, decode_of-encode_lower, length-encode_with}
-use Rattle.tp_requests.specs.Fields.{space, onto_first, fields_of, is_name_byte, is_name, bytes_if_ok, hex_bytes}
+use Rattle.tp_requests.specs.Fields.{bytes_if_ok, hex_bytes}
+use Rattle.tp_requests.specs.Reading.{space, onto_first, fields_of, is_name_byte, is_name}
 use Rattle.tp_requests.specs.Protocol.{name_characters, IsName, AreDigitsFor, MayBeSpelled}
 use Rattle.tp_requests.proofs.FieldLemmas.{is_space, fields_space, fields_other, first_field, space_is_no_digit}
 

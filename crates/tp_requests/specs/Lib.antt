@@ -4,3 +4,5 @@ pub mod Fields
 pub mod Spelling
 pub mod Requests
 pub mod Protocol
+-- What only private steps cite.
+pub mod Reading

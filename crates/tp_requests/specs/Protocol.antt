@@ -1,5 +1,5 @@
 -- The lines of the protocol, each as it is spelled.
-use Rattle.std.specs.Prelude.{◌≡◌, ℕ, ◌≤◌, List, ◌++◌, length, codes, Ok}
+use Rattle.std.specs.Prelude.{◌≡◌, ℕ, ◌≤◌, List, ◌++◌, length, codes, Option, Some, None, Ok}
 use Rattle.std.specs.List.{All, Contains}
 use Rattle.hex.specs.Hex.{IsBytes, decode_of, encode_lower}
 use Rattle.tp_requests.specs.Requests.{Asked, ToList, ToOpen, ToKeep, ToRun, ToRunAll, ToDrop}
@@ -29,6 +29,11 @@ IsLineFor line (ToKeep name bytes) =
 IsLineFor line (ToRun name) = IsName name × (line ≡ name ++ codes " RUN")
 IsLineFor line ToRunAll = line ≡ codes "RUN *"
 IsLineFor line (ToDrop name) = IsName name × (line ≡ name ++ codes " DROP")
+
+-- what a line asks for, if it is a line of the protocol
+abbrev pub AsksFor : List ℕ → Option Asked → Type 0
+AsksFor line (Some request) = IsLineFor line request
+AsksFor line None = (request : Asked) → IsLineFor line request → ⊥
 
 -- what digits may spell: one byte or more
 pub record MayBeSpelled (bytes : List ℕ) : Type 0 where

@@ -3,7 +3,8 @@
 ghost use Rattle.std.specs.Prelude.{◌≡◌, ◌∷◌, [], if◌then◌else◌, MatchOption, IfOk, IfSome, Some, None, position, ◌==◌, ◌<◌, length};
 ghost use Rattle.std.specs.Option.{option_map};
 ghost use Rattle.std.specs.List.{list_all};
-ghost use Rattle.tp_requests.specs.Fields.{space, fields_of, is_name_byte, is_name, hex_bytes};
+ghost use Rattle.tp_requests.specs.Fields.{hex_bytes};
+ghost use Rattle.tp_requests.specs.Reading.{space, fields_of, is_name_byte, is_name};
 
 use crate::request::{MOST_NAME, Name};
 use hex::FromHexError;

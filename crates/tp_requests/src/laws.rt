@@ -1,21 +1,16 @@
 //! Laws of the protocol's lines: each function's contract is the law.
 
-ghost use Rattle.std.specs.Prelude.{◌≡◌, ℕ, List, Some};
-ghost use Rattle.tp_requests.specs.Requests.{Asked, asked_by};
+ghost use Rattle.std.specs.Prelude.{◌≡◌, ℕ, List};
+ghost use Rattle.tp_requests.specs.Requests.{Asked};
 ghost use Rattle.tp_requests.specs.Protocol.{IsLineFor, MayBeAsked, line_for};
 
-/// A line of the protocol is read as what it asks for. So no line asks for two things.
-pub fn line_is_read()
-    ensures { (line : List ℕ) (request : Asked) → IsLineFor line request → asked_by line ≡ Some request }
+/// No line asks for two things.
+pub fn one_line_asks_for_one_thing()
+    ensures { (line : List ℕ) (a b : Asked) → IsLineFor line a → IsLineFor line b → a ≡ b }
 {}
 
-/// What is read as a request is a line of the protocol for it, and so no other line is read.
-pub fn no_other_line_is_read()
-    ensures { (line : List ℕ) (request : Asked) → asked_by line ≡ Some request → IsLineFor line request }
-{}
-
-/// What may be asked for, and nothing else, has a line. The one with digits in lower case is read back.
-pub fn written_line_is_read_back()
-    ensures back { (request : Asked) → MayBeAsked request → asked_by (line_for request) ≡ Some request }
-    ensures only { (line : List ℕ) (request : Asked) → asked_by line ≡ Some request → MayBeAsked request }
+/// What may be asked for, and nothing else, has a line: the one with digits in lower case, and others.
+pub fn what_may_be_asked_has_a_line()
+    ensures some { (request : Asked) → MayBeAsked request → IsLineFor (line_for request) request }
+    ensures only { (line : List ℕ) (request : Asked) → IsLineFor line request → MayBeAsked request }
 {}

@@ -1,8 +1,10 @@
 //! Requests.
 
-ghost use Rattle.std.specs.Prelude.{◌≡◌, IfOk, Some};
+ghost use Rattle.std.specs.Prelude.{◌≡◌, IfOk};
 ghost use Rattle.std.specs.Option.{option_map};
-ghost use Rattle.tp_requests.specs.Requests.{asked, of_two, of_three, asked_by};
+ghost use Rattle.tp_requests.specs.Requests.{asked};
+ghost use Rattle.tp_requests.specs.Protocol.{AsksFor};
+ghost use Rattle.tp_requests.specs.Reading.{of_two, of_three};
 
 use crate::fields::{bytes_of, name_of, split_field};
 use crate::spelled::Spelled;
@@ -86,7 +88,7 @@ fn of_three<'a>(
 
 /// What a line asks for, without its line feed: none where it is none of the protocol's lines.
 pub fn read_request(alloc: Global, line: &[u8]) -> Result<Option<Request<'_>>, AllocError>
-    ensures { IfOk result (λ r. option_map asked r ≡ asked_by line.now) }
+    ensures { IfOk result (λ r. AsksFor line.now (option_map asked r)) }
 {
     let Some((first, rest)) = split_field(line) else {
         return Ok(None);

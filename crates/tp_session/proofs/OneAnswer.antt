@@ -1,148 +1,240 @@
 -- One line has one answer, and so has one input.
-use Rattle.std.proofs.Common.{◌≡◌, ℕ, ◌+◌, inl, inr, Bool, true, false, List, [], ◌∷◌, ◌++◌, length, codes, Option, Some, None}
-use Rattle.std.proofs.Common.{Ok, Err, ap, sym, subst, ◌∙◌, arith}
+use Rattle.std.proofs.Common.{◌≡◌, ℕ, Bool, true, false, nat_lt, List, [], ◌∷◌, ◌++◌, length, Option, Some, None, Result, Ok, Err}
+use Rattle.std.proofs.Common.{refl, ap, sym, subst, ◌∙◌, arith}
+use Rattle.std.specs.List.{AllZip}
+use Rattle.tp_decode.specs.Cutting.{Cut, cutting}
+use Rattle.tp_decode.specs.declared.fault.DecodeFault.{DecodeFault}
+use Rattle.tp_decode.specs.declared.fault.DecodeFault.TheVariants as decode_fault
 use Rattle.tp_image.specs.Image.{ImageValue}
 use Rattle.tp_image.proofs.Unique.{one_image}
+use Rattle.tp_answers.specs.Results.{RunResult, run_result}
 use Rattle.tp_step.proofs.StepLemmas.{one_run}
 use Rattle.tp_step.proofs.LastingLemmas.{begins_length, sends_first}
-use Rattle.tp_accept.specs.declared.refusal.Refusal.TheVariants.{Refused, Memory}
-use Rattle.tp_accept.specs.Refusals.{refusal_code_text}
-use Rattle.tp_accept.specs.Verdict.{Answer, IsAnswer}
-use Rattle.tp_requests.specs.Lines.{Line}
+use Rattle.tp_accept.specs.Verdict as accept
+use Rattle.tp_requests.specs.Lines.{Line, said_in}
 use Rattle.tp_requests.specs.Requests.{Asked, ToList, ToOpen, ToKeep, ToRun, ToRunAll, ToDrop}
-use Rattle.tp_answers.specs.Sessions.{Session, named, with_session}
-use Rattle.tp_answers.specs.Told.{run_lines, done_line, of_line, all_line}
-use Rattle.tp_answers.specs.Answers.{ServiceState, is_full, IsRefused, IsOpenedBy, AnswersImage, packet_refusal, AnswersKept}
-use Rattle.tp_answers.specs.Answers.{AnswersPacket, IsResult, IsLoss, IsPacketAnswer, ArePacketAnswers, IsRun, AnswersRun}
-use Rattle.tp_answers.specs.Answers.{AreRuns, AnswersDrop, Answers}
-use Rattle.tp_session.specs.Served.{asked_in, next_number, AreAnswers}
+use Rattle.tp_requests.proofs.LineLemmas.{one_request}
+use Rattle.tp_answers.specs.declared.answer.Answer.{Answer}
+use Rattle.tp_answers.specs.declared.answer.Answer.TheVariants.{Listed, Yes, Kept, Ran, RanAll, Gone, Refused}
+use Rattle.tp_answers.specs.Sessions.{Session, named, is_full, with_session}
+use Rattle.tp_answers.specs.Texts.{answer_text}
+use Rattle.tp_answers.specs.Answers.{Verdict, Accepts, Refuses, answer_by, IsAnswerToList, IsAnswerToImage, IsAfterImage, IsRun}
+use Rattle.tp_answers.specs.Answers.{IsAnswerToRun, IsAnswer, IsAfter}
+use Rattle.tp_answers.specs.Rules.{IsVerdict, IsOutcome}
+use Rattle.tp_session.specs.Protocol.{most_line, next_number, IsAsked, IsAnswered, AreAnswers, AreTold}
 
-abbrev Same : List ℕ → List ℕ → ServiceState → ServiceState → Type 0
-Same told told' after after' = (told ≡ told') × (after ≡ after')
+-- ---- a line asks for one thing
 
-refused_once : (code : List ℕ) (place : ℕ) (before : ServiceState) (told told' : List ℕ) (after after' : ServiceState)
-    → IsRefused code place before told after → IsRefused code place before told' after' → Same told told' after after'
-refused_once code place before told told' after after' a b = (a.0 ∙ sym b.0, a.1 ∙ sym b.1)
+asked_once : (long : Bool) (says : List ℕ) (a b : Option Asked) → IsAsked long says a → IsAsked long says b → a ≡ b
+asked_once true says a b is is' = is ∙ sym is'
+asked_once false says (Some a) (Some b) is is' = ap Some (one_request says a b is is')
+asked_once false says (Some a) None is is' = absurd (is' a is)
+asked_once false says None (Some b) is is' = absurd (is b is')
+asked_once false says None None is is' = refl
 
--- ---- runs
+list_once : (cut : Result (List Cut) DecodeFault) (a b : Answer) → IsAnswerToList cut a → IsAnswerToList cut b → a ≡ b
+list_once (Ok cuts) a b is is' = is ∙ sym is'
+list_once (Err (decode_fault.Refused code place)) a b is is' = is ∙ sym is'
+list_once (Err decode_fault.Memory) a b is is' = absurd is
 
-not_both : (trace : Bool) (image : ImageValue) (n : ℕ) (packet told told' : List ℕ) → IsResult trace image n packet told
-    → IsLoss image n packet told' → ⊥
-not_both trace image n packet told told' a b =
-    let sent = sends_first image packet a.run a.alone b.more.way.count b.more.state b.more.way.leads in
-    omega (arith, a.short, b.more.more, begins_length b.more.state.traced a.run.trace sent.1)
+module _ (Judges : List ℕ → Verdict → Type 0) (ComesTo : ImageValue → List ℕ → Option RunResult → Type 0) where
+  -- ---- under verdicts and outcomes of which there is one each
 
-one_packet : (trace : Bool) (image : ImageValue) (n : ℕ) (packet told told' : List ℕ) → IsPacketAnswer trace image n packet told
-    → IsPacketAnswer trace image n packet told' → told ≡ told'
-one_packet trace image n packet told told' (inl a) (inl b) =
-    a.told_is ∙ ap (run_lines trace n) (one_run image packet a.run b.run a.alone b.alone) ∙ sym b.told_is
-one_packet trace image n packet told told' (inl a) (inr b) = absurd (not_both trace image n packet told told' a b)
-one_packet trace image n packet told told' (inr a) (inl b) = absurd (not_both trace image n packet told' told b a)
-one_packet trace image n packet told told' (inr a) (inr b) = a.told_is ∙ sym b.told_is
+  module _ (one_verdict : (text : List ℕ) (v w : Verdict) → Judges text v → Judges text w → v ≡ w)
+      (one_outcome : (image : ImageValue) (packet : List ℕ) (o p : Option RunResult) → ComesTo image packet o → ComesTo image packet p → o ≡ p)
+    where
+      outcomes_once : (image : ImageValue) (packets : List (List ℕ)) (os ps : List (Option RunResult)) → AllZip (ComesTo image) packets os
+          → AllZip (ComesTo image) packets ps → os ≡ ps
+      outcomes_once image [] [] [] is is' = refl
+      outcomes_once image [] (o ∷ os) ps is is' = absurd is
+      outcomes_once image [] [] (p ∷ ps) is is' = absurd is'
+      outcomes_once image (packet ∷ packets) [] ps is is' = absurd is
+      outcomes_once image (packet ∷ packets) (o ∷ os) [] is is' = absurd is'
+      outcomes_once image (packet ∷ packets) (o ∷ os) (p ∷ ps) is is' =
+          ap (λ x. x ∷ os) (one_outcome image packet o p is.0 is'.0) ∙ ap (λ xs. p ∷ xs) (outcomes_once image packets os ps is.1 is'.1)
 
-one_packets : (trace : Bool) (image : ImageValue) (n : ℕ) (packets : List (List ℕ)) (told told' : List ℕ)
-    → ArePacketAnswers trace image n packets told → ArePacketAnswers trace image n packets told' → told ≡ told'
-one_packets trace image n [] told told' a b = a ∙ sym b
-one_packets trace image n (packet ∷ packets) told told' (here, rest, one, others, is) (here', rest', one', others', is') =
-    is ∙ ap (λ l. l ++ rest) (one_packet trace image n packet here here' one one')
-    ∙ ap (λ l. here' ++ l) (one_packets trace image (n + 1) packets rest rest' others others') ∙ sym is'
+      runs_once : (sessions : List Session) (rs qs : List (List ℕ × List (Option RunResult))) → AllZip (IsRun ComesTo) sessions rs
+          → AllZip (IsRun ComesTo) sessions qs → rs ≡ qs
+      runs_once [] [] [] is is' = refl
+      runs_once [] (r ∷ rs) qs is is' = absurd is
+      runs_once [] [] (q ∷ qs) is is' = absurd is'
+      runs_once (s ∷ sessions) [] qs is is' = absurd is
+      runs_once (s ∷ sessions) (r ∷ rs) [] is is' = absurd is'
+      runs_once (s ∷ sessions) ((n, os) ∷ rs) ((m, ps) ∷ qs) is is' =
+          ap (λ x. (x, os) ∷ rs) (is.0.0 ∙ sym is'.0.0)
+          ∙ ap (λ xs. (m, xs) ∷ rs) (outcomes_once s.image s.packets os ps is.0.1 is'.0.1)
+          ∙ ap (λ xs. (m, ps) ∷ xs) (runs_once sessions rs qs is.1 is'.1)
 
-one_session : (trace : Bool) (s : Session) (told told' : List ℕ) → IsRun trace s told → IsRun trace s told' → told ≡ told'
-one_session trace s told told' a b =
-    a.told_is ∙ ap (λ l. l ++ done_line (length s.packets))
-    (one_packets trace s.image 0 s.packets a.answers b.answers a.each b.each) ∙ sym b.told_is
+      image_once : (full : Bool) (text : List ℕ) (a b : Answer) → IsAnswerToImage Judges full text a
+          → IsAnswerToImage Judges full text b → a ≡ b
+      image_once true text a b is is' = is ∙ sym is'
+      image_once false text a b (v, judged, is) (w, judged', is') =
+          is ∙ ap answer_by (one_verdict text v w judged judged') ∙ sym is'
 
-one_all : (trace : Bool) (sessions : List Session) (told told' : List ℕ) → AreRuns trace sessions told
-    → AreRuns trace sessions told' → told ≡ told'
-one_all trace [] told told' a b = a ∙ sym b
-one_all trace (s ∷ sessions) told told' (here, rest, one, others, is) (here', rest', one', others', is') =
-    is ∙ ap (λ l. of_line s.name ++ l ++ rest) (one_session trace s here here' one one')
-    ∙ ap (λ l. of_line s.name ++ here' ++ l) (one_all trace sessions rest rest' others others') ∙ sym is'
+      run_once : (o : Option Session) (a b : Answer) → IsAnswerToRun ComesTo o a → IsAnswerToRun ComesTo o b → a ≡ b
+      run_once None a b is is' = is ∙ sym is'
+      run_once (Some s) a b (os, each, is) (ps, each', is') =
+          is ∙ ap Ran (outcomes_once s.image s.packets os ps each each') ∙ sym is'
 
--- ---- images
+      answer_once : (asked : Option Asked) (before : List Session) (a b : Answer) → IsAnswer Judges ComesTo asked before a
+          → IsAnswer Judges ComesTo asked before b → a ≡ b
+      answer_once None before a b is is' = is ∙ sym is'
+      answer_once (Some (ToList code)) before a b is is' = list_once (cutting code) a b is is'
+      answer_once (Some (ToOpen name text)) before a b is is' = image_once (is_full name before) text a b is is'
+      answer_once (Some (ToKeep name packet)) before a b is is' = is ∙ sym is'
+      answer_once (Some (ToRun name)) before a b is is' = run_once (named name before) a b is is'
+      answer_once (Some ToRunAll) before a b (rs, each, is) (qs, each', is') = is ∙ ap RanAll (runs_once before rs qs each each') ∙ sym is'
+      answer_once (Some (ToDrop name)) before a b is is' = is ∙ sym is'
 
-module _ (one_text : (text : List ℕ) (a b : Answer) → IsAnswer text a → IsAnswer text b → a ≡ b) where
-  opened_once : (verdict : Answer) (name text : List ℕ) (before : ServiceState) (told told' : List ℕ) (after after' : ServiceState)
-      → IsOpenedBy verdict name text before told after → IsOpenedBy verdict name text before told' after'
-      → Same told told' after after'
-  opened_once (Ok allowed) name text before told told' after after' a b =
-      let image = one_image text a.image b.image a.spelled b.spelled in (
-        a.told_is ∙ sym b.told_is,
-        a.opened ∙ ap (λ i.
-            record before { sessions = with_session record { name = name; image = i; packets = [] } before.sessions }) image
-            ∙ sym b.opened,
-      )
-  opened_once (Err (Refused code place)) name text before told told' after after' a b =
-      refused_once (refusal_code_text code) place before told told' after after' a b
-  opened_once (Err Memory) name text before told told' after after' a b = absurd a
+      image_after_once : (name text : List ℕ) (before : List Session) (a : Answer) (s t : List Session)
+          → IsAfterImage Judges name text before a s → IsAfterImage Judges name text before a t → s ≡ t
+      image_after_once name text before (Yes code_bytes budget) s t (image, judged, is) (image', judged', is') =
+          let verdicts : Accepts image budget ≡ Accepts image' budget = one_verdict text _ _ judged judged' in
+          let same : image ≡ image' = cc in
+          is ∙ ap (λ i. with_session record { name = name; image = i; packets = [] } before) same ∙ sym is'
+      image_after_once name text before (Listed cuts) s t is is' = is ∙ sym is'
+      image_after_once name text before (Kept n) s t is is' = is ∙ sym is'
+      image_after_once name text before (Ran outcomes) s t is is' = is ∙ sym is'
+      image_after_once name text before (RanAll runs) s t is is' = is ∙ sym is'
+      image_after_once name text before Gone s t is is' = is ∙ sym is'
+      image_after_once name text before (Refused fault) s t is is' = is ∙ sym is'
 
-  judged_once : (full : Bool) (number : ℕ) (name text : List ℕ) (before : ServiceState) (told told' : List ℕ)
-      (after after' : ServiceState) → AnswersImage full number name text before told after
-      → AnswersImage full number name text before told' after' → Same told told' after after'
-  judged_once true number name text before told told' after after' a b =
-      refused_once (codes "E2") number before told told' after after' a b
-  judged_once false number name text before told told' after after' a b =
-      opened_once b.verdict name text before told told' after after'
-      (subst (λ v. IsOpenedBy v name text before told after) (one_text text a.verdict b.verdict a.is b.is) a.answers) b.answers
+      after_once : (asked : Option Asked) (before : List Session) (a : Answer) (s t : List Session)
+          → IsAfter Judges asked before a s → IsAfter Judges asked before a t → s ≡ t
+      after_once None before a s t is is' = is ∙ sym is'
+      after_once (Some (ToList code)) before a s t is is' = is ∙ sym is'
+      after_once (Some (ToOpen name text)) before a s t is is' = image_after_once name text before a s t is is'
+      after_once (Some (ToKeep name packet)) before a s t is is' = is ∙ sym is'
+      after_once (Some (ToRun name)) before a s t is is' = is ∙ sym is'
+      after_once (Some ToRunAll) before a s t is is' = is ∙ sym is'
+      after_once (Some (ToDrop name)) before a s t is is' = is ∙ sym is'
 
-  kept_once : (o : Option (List ℕ)) (number : ℕ) (s : Session) (packet : List ℕ) (before : ServiceState) (told told' : List ℕ)
-      (after after' : ServiceState) → AnswersKept o number s packet before told after
-      → AnswersKept o number s packet before told' after' → Same told told' after after'
-  kept_once (Some code) number s packet before told told' after after' a b =
-      refused_once code number before told told' after after' a b
-  kept_once None number s packet before told told' after after' a b = (a.0 ∙ sym b.0, a.1 ∙ sym b.1)
+      pub one_line : (line : Line) (before : List Session) (a b : Answer) (s t : List Session) → IsAnswered Judges ComesTo line before a s
+          → IsAnswered Judges ComesTo line before b t → (a ≡ b) × (s ≡ t)
+      one_line line before a b s t is is' =
+          let asked = asked_once (nat_lt most_line (length line.bytes)) (said_in line) is.asked is'.asked is.asks is'.asks in
+          let same =
+          answer_once is'.asked before a b (subst (λ o. IsAnswer Judges ComesTo o before a) asked is.answer_is) is'.answer_is in
+          let after = subst (λ o. IsAfter Judges o before a s) asked is.after_is in
+          (same, after_once is'.asked before b s t (subst (λ x. IsAfter Judges is'.asked before x s) same after) is'.after_is)
 
-  packet_once : (o : Option Session) (number : ℕ) (packet : List ℕ) (before : ServiceState) (told told' : List ℕ)
-      (after after' : ServiceState) → AnswersPacket o number packet before told after
-      → AnswersPacket o number packet before told' after' → Same told told' after after'
-  packet_once None number packet before told told' after after' a b =
-      refused_once (codes "P2") number before told told' after after' a b
-  packet_once (Some s) number packet before told told' after after' a b =
-      kept_once (packet_refusal s packet) number s packet before told told' after after' a b
+      one_list : (trace : Bool) (number : ℕ) (before : List Session) (lines : List Line) (told told' : List ℕ) (s t : List Session)
+          → AreAnswers Judges ComesTo trace number before lines told s → AreAnswers Judges ComesTo trace number before lines told' t
+          → told ≡ told'
+      one_list trace number before [] told told' s t is is' = is.0 ∙ sym is'.0
+      one_list trace n before (line ∷ lines) told told' s t (a, next, rest, one, each, is) (b, next', rest', one', each', is') =
+          let first = one_line line before a b next next' one one' in
+          let then =
+          one_list trace (next_number n) next' lines rest rest' s t
+          (subst (λ between. AreAnswers Judges ComesTo trace (next_number n) between lines rest s) first.1 each) each' in
+          is ∙ ap (λ x. answer_text trace n x ++ rest) first.0 ∙ ap (λ l. answer_text trace n b ++ l) then ∙ sym is'
 
-  run_once : (o : Option Session) (trace : Bool) (number : ℕ) (before : ServiceState) (told told' : List ℕ) (after after' : ServiceState)
-      → AnswersRun o trace number before told after → AnswersRun o trace number before told' after' → Same told told' after after'
-  run_once None trace number before told told' after after' a b =
-      refused_once (codes "P2") number before told told' after after' a b
-  run_once (Some s) trace number before told told' after after' a b =
-      (one_session trace s told told' a.run b.run, a.forgotten ∙ sym b.forgotten)
+      pub one_told : (trace : Bool) (lines : List Line) (told told' : List ℕ) → AreTold Judges ComesTo trace lines told
+          → AreTold Judges ComesTo trace lines told' → told ≡ told'
+      one_told trace lines told told' (s, is) (t, is') = one_list trace 1 [] lines told told' s t is is'
 
-  drop_once : (o : Option Session) (number : ℕ) (name : List ℕ) (before : ServiceState) (told told' : List ℕ)
-      (after after' : ServiceState) → AnswersDrop o number name before told after → AnswersDrop o number name before told' after'
-      → Same told told' after after'
-  drop_once None number name before told told' after after' a b =
-      refused_once (codes "P2") number before told told' after after' a b
-  drop_once (Some s) number name before told told' after after' a b = (a.0 ∙ sym b.0, a.1 ∙ sym b.1)
+  -- ---- under other verdicts and outcomes, which are also these
 
-  -- ---- lines
+  module _ (Judges' : List ℕ → Verdict → Type 0) (ComesTo' : ImageValue → List ℕ → Option RunResult → Type 0)
+      (verdicts : (text : List ℕ) (v : Verdict) → Judges text v → Judges' text v)
+      (outcomes : (image : ImageValue) (packet : List ℕ) (o : Option RunResult) → ComesTo image packet o → ComesTo' image packet o) where
+    all_so : {X Y : Type 0} (P Q : X → Y → Type 0) → ((x : X) (y : Y) → P x y → Q x y) → (xs : List X) (ys : List Y) → AllZip P xs ys
+        → AllZip Q xs ys
+    all_so P Q so [] [] is = tt
+    all_so P Q so [] (y ∷ ys) is = absurd is
+    all_so P Q so (x ∷ xs) [] is = absurd is
+    all_so P Q so (x ∷ xs) (y ∷ ys) is = (so x y is.0, all_so P Q so xs ys is.1)
 
-  pub one_line : (trace : Bool) (number : ℕ) (asked : Option Asked) (before : ServiceState) (told told' : List ℕ)
-      (after after' : ServiceState) → Answers trace number asked before told after → Answers trace number asked before told' after'
-      → Same told told' after after'
-  one_line trace number None before told told' after after' a b =
-      refused_once (codes "E1") number before told told' after after' a b
-  one_line trace number (Some (ToList code)) before told told' after after' a b = (a.0 ∙ sym b.0, a.1 ∙ sym b.1)
-  one_line trace number (Some (ToOpen name text)) before told told' after after' a b =
-      judged_once (is_full name before.sessions) number name text before told told' after after' a b
-  one_line trace number (Some (ToKeep name packet)) before told told' after after' a b =
-      packet_once (named name before.sessions) number packet before told told' after after' a b
-  one_line trace number (Some (ToRun name)) before told told' after after' a b =
-      run_once (named name before.sessions) trace number before told told' after after' a b
-  one_line trace number (Some ToRunAll) before told told' after after' a b = (
-    a.told_is ∙ ap (λ l. l ++ all_line (length before.sessions))
-        (one_all trace before.sessions a.answers b.answers a.each b.each) ∙ sym b.told_is,
-    a.forgotten ∙ sym b.forgotten,
-  )
-  one_line trace number (Some (ToDrop name)) before told told' after after' a b =
-      drop_once (named name before.sessions) number name before told told' after after' a b
+    image_so : (full : Bool) (text : List ℕ) (a : Answer) → IsAnswerToImage Judges full text a
+        → IsAnswerToImage Judges' full text a
+    image_so true text a is = is
+    image_so false text a (Accepts image budget, judged, is) = (Accepts image budget, verdicts text (Accepts image budget) judged, is)
+    image_so false text a (Refuses code place, judged, is) = (Refuses code place, verdicts text (Refuses code place) judged, is)
 
-  pub one_list : (trace : Bool) (number : ℕ) (before : ServiceState) (lines : List Line) (told told' : List ℕ)
-      (after after' : ServiceState) → AreAnswers trace number before lines told after
-      → AreAnswers trace number before lines told' after' → Same told told' after after'
-  one_list trace number before [] told told' after after' a b = (a.0 ∙ sym b.0, a.1 ∙ sym b.1)
-  one_list trace n before (line ∷ lines) t t' end end' (here, rest, mid, one, each, is) (here', rest', mid', one', each', is') =
-      let first = one_line trace n (asked_in line) before here here' mid mid' one one' in
-      let then =
-      one_list trace (next_number n) mid' lines rest rest' end end'
-      (subst (λ s. AreAnswers trace (next_number n) s lines rest end) first.1 each) each' in
-      (is ∙ ap (λ l. l ++ rest) first.0 ∙ ap (λ l. here' ++ l) then.0 ∙ sym is', then.1)
+    run_so : (o : Option Session) (a : Answer) → IsAnswerToRun ComesTo o a → IsAnswerToRun ComesTo' o a
+    run_so None a is = is
+    run_so (Some s) a (os, each, is) = (os, all_so (ComesTo s.image) (ComesTo' s.image) (outcomes s.image) s.packets os each, is)
+
+    answer_so : (asked : Option Asked) (before : List Session) (a : Answer) → IsAnswer Judges ComesTo asked before a
+        → IsAnswer Judges' ComesTo' asked before a
+    answer_so None before a is = is
+    answer_so (Some (ToList code)) before a is = is
+    answer_so (Some (ToOpen name text)) before a is = image_so (is_full name before) text a is
+    answer_so (Some (ToKeep name packet)) before a is = is
+    answer_so (Some (ToRun name)) before a is = run_so (named name before) a is
+    answer_so (Some ToRunAll) before a (rs, each, is) = (
+      rs,
+      all_so (IsRun ComesTo) (IsRun ComesTo')
+          (λ s run ran. (ran.0, all_so (ComesTo s.image) (ComesTo' s.image) (outcomes s.image) s.packets run.1 ran.1)) before rs each,
+      is,
+    )
+    answer_so (Some (ToDrop name)) before a is = is
+
+    image_after_so : (name text : List ℕ) (before : List Session) (a : Answer) (after : List Session)
+        → IsAfterImage Judges name text before a after → IsAfterImage Judges' name text before a after
+    image_after_so name text before (Yes code_bytes budget) after (image, judged, is) =
+        (image, verdicts text (Accepts image budget) judged, is)
+    image_after_so name text before (Listed cuts) after is = is
+    image_after_so name text before (Kept n) after is = is
+    image_after_so name text before (Ran os) after is = is
+    image_after_so name text before (RanAll runs) after is = is
+    image_after_so name text before Gone after is = is
+    image_after_so name text before (Refused fault) after is = is
+
+    after_so : (asked : Option Asked) (before : List Session) (a : Answer) (after : List Session)
+        → IsAfter Judges asked before a after → IsAfter Judges' asked before a after
+    after_so None before a after is = is
+    after_so (Some (ToList code)) before a after is = is
+    after_so (Some (ToOpen name text)) before a after is = image_after_so name text before a after is
+    after_so (Some (ToKeep name packet)) before a after is = is
+    after_so (Some (ToRun name)) before a after is = is
+    after_so (Some ToRunAll) before a after is = is
+    after_so (Some (ToDrop name)) before a after is = is
+
+    list_so : (trace : Bool) (number : ℕ) (before : List Session) (lines : List Line) (told : List ℕ) (after : List Session)
+        → AreAnswers Judges ComesTo trace number before lines told after → AreAnswers Judges' ComesTo' trace number before lines told after
+    list_so trace number before [] told after is = is
+    list_so trace number before (line ∷ lines) told after (a, between, rest, one, each, is) = (
+      a,
+      between,
+      rest,
+      record {
+        asked = one.asked;
+        asks = one.asks;
+        answer_is = answer_so one.asked before a one.answer_is;
+        after_is = after_so one.asked before a between one.after_is;
+      },
+      list_so trace (next_number number) between lines rest after each,
+      is,
+    )
+
+    pub told_so : (trace : Bool) (lines : List Line) (told : List ℕ) → AreTold Judges ComesTo trace lines told
+        → AreTold Judges' ComesTo' trace lines told
+    told_so trace lines told (after, is) = (after, list_so trace 1 [] lines told after is)
+
+-- ---- the rules of the product: one verdict, and one outcome
+
+pub verdict_once : ((text : List ℕ) (a b : accept.Answer) → accept.IsAnswer text a → accept.IsAnswer text b → a ≡ b)
+    → (text : List ℕ) (v w : Verdict) → IsVerdict text v → IsVerdict text w → v ≡ w
+verdict_once one_text text (Accepts image budget) (Accepts image' budget') is is' =
+    let answers = one_text text _ _ is.1 is'.1 in
+    ap (λ i. Accepts i budget) (one_image text image image' is.0 is'.0) ∙ ap (Accepts image') (ap budget_of answers)
+  where
+    budget_of : accept.Answer → ℕ
+    budget_of (Ok allowed) = allowed.budget
+    budget_of (Err refusal) = 0
+verdict_once one_text text (Accepts image budget) (Refuses code place) is is' = cc (one_text text _ _ is.1 is')
+verdict_once one_text text (Refuses code place) (Accepts image budget) is is' = cc (one_text text _ _ is is'.1)
+verdict_once one_text text (Refuses code place) (Refuses code' place') is is' = cc (one_text text _ _ is is')
+
+pub outcome_once : (image : ImageValue) (packet : List ℕ) (o p : Option RunResult) → IsOutcome image packet o
+    → IsOutcome image packet p → o ≡ p
+outcome_once image packet (Some run) (Some run') is is' =
+    ap (λ r. Some (run_result r.result r.error r.steps r.trace)) (one_run image packet _ _ is.0 is'.0)
+outcome_once image packet (Some run) None is is' =
+    let sent = sends_first image packet _ is.0 is'.way.count is'.state is'.way.leads in
+    absurd (omega (arith, is.1, is'.more, begins_length is'.state.traced run.trace sent.1))
+outcome_once image packet None (Some run) is is' =
+    let sent = sends_first image packet _ is'.0 is.way.count is.state is.way.leads in
+    absurd (omega (arith, is'.1, is.more, begins_length is.state.traced run.trace sent.1))
+outcome_once image packet None None is is' = refl

@@ -4,34 +4,39 @@ use Rattle.std.proofs.Common.{append_assoc}
 use Rattle.std.specs.List.{filter}
 use Rattle.std.proofs.lemmas.List.{append-nil}
 use Rattle.tp_requests.specs.Lines.{Line, line_feed, lines_of, ended_lines}
-use Rattle.tp_answers.specs.Answers.{ServiceState, Answers}
-use Rattle.tp_session.specs.Served.{asked_in, next_number, AreAnswers, nothing_open, AreTold}
+use Rattle.tp_answers.specs.declared.answer.Answer.{Answer}
+use Rattle.tp_answers.specs.Sessions.{Session}
+use Rattle.tp_answers.specs.Rules.{IsVerdict, IsOutcome}
+use Rattle.tp_answers.specs.Texts.{answer_text}
+use Rattle.tp_session.specs.Protocol.{next_number, AreAnswers}
+use Rattle.tp_session.specs.Served.{AreTold}
+use Rattle.tp_session.specs.Services.{AnswersLine}
 use Rattle.tp_session.specs.Points.{Point, number_after, IsPlain, HasReached, Begins}
 use Rattle.tp_session.proofs.LineLemmas.{plain_more, lines_plain, lines_none, lines_ended, ended_plain, filter-append}
 
 -- ---- the answers to one line more
 
-pub answers_more : (trace : Bool) (number : ℕ) (before : ServiceState) (lines : List Line) (told : List ℕ) (between : ServiceState)
-    (line : Line) (here : List ℕ) (after : ServiceState)
-    → AreAnswers trace number before lines told between
-    → Answers trace (number_after number lines) (asked_in line) between here after
-    → AreAnswers trace number before (lines ++ line ∷ []) (told ++ here) after
-answers_more trace number before [] told between line here after all one = (
-  here,
-  [],
-  after,
-  subst (λ s. Answers trace number (asked_in line) s here after) all.1 one,
-  (refl, refl),
-  ap (λ l. l ++ here) all.0 ∙ sym (append-nil here),
-)
-answers_more trace number before (first ∷ lines) told between line here after (front, rest, next, answer, others, is) one = (
-  front,
-  rest ++ here,
-  next,
+pub answers_more : (trace : Bool) (number : ℕ) (before : List Session) (lines : List Line) (told : List ℕ) (between : List Session)
+    (line : Line) (answer : Answer) (after : List Session)
+    → AreAnswers IsVerdict IsOutcome trace number before lines told between → AnswersLine line between answer after
+    → AreAnswers IsVerdict IsOutcome trace number before (lines ++ line ∷ [])
+    (told ++ answer_text trace (number_after number lines) answer) after
+answers_more trace number before [] told between line answer after all one = (
   answer,
-  answers_more trace (next_number number) next lines rest between line here after others
-      one,
-  ap (λ l. l ++ here) is ∙ append_assoc front rest here,
+  after,
+  [],
+  subst (λ s. AnswersLine line s answer after) all.1 one,
+  (refl, refl),
+  ap (λ l. l ++ answer_text trace number answer) all.0 ∙ sym (append-nil (answer_text trace number answer)),
+)
+answers_more trace number before (first ∷ lines) told between line answer after (front, next, rest, is, others, told_is) one = (
+  front,
+  next,
+  rest ++ answer_text trace (number_after (next_number number) lines) answer,
+  is,
+  answers_more trace (next_number number) next lines rest between line answer after others one,
+  ap (λ l. l ++ answer_text trace (number_after (next_number number) lines) answer) told_is
+      ∙ append_assoc (answer_text trace number front) rest (answer_text trace (number_after (next_number number) lines) answer),
 )
 
 pub number_more : (number : ℕ) (lines : List Line) (line : Line)
@@ -42,7 +47,7 @@ number_more number (first ∷ lines) line = number_more (next_number number) lin
 -- ---- points
 
 pub start : Point
-start = record { taken = []; lines = []; line = []; told = []; service_state = nothing_open }
+start = record { taken = []; lines = []; line = []; told = []; sessions = [] }
 
 pub start_line : start.line ≡ []
 unfolding start
@@ -60,9 +65,9 @@ pub start_told : start.told ≡ []
 unfolding start
 start_told = refl
 
-pub start_service : start.service_state ≡ nothing_open
+pub start_sessions : start.sessions ≡ []
 unfolding start
-start_service = refl
+start_sessions = refl
 
 pub starts : (trace : Bool) → HasReached trace start
 unfolding start
@@ -90,10 +95,19 @@ line_now s ended = record { bytes = s.line; ended = ended }
 abbrev pub lines_now : Point → Bool → List Line
 lines_now s ended = s.lines ++ line_now s ended ∷ []
 
+-- the text of its answer
+abbrev pub text_now : Bool → Point → Answer → List ℕ
+text_now trace s answer = answer_text trace (number_after 1 s.lines) answer
+
 -- behind its line feed
-abbrev pub with_line : Point → List ℕ → ServiceState → Point
-with_line s here after =
-    record { taken = s.taken ++ line_feed ∷ []; lines = lines_now s true; line = []; told = s.told ++ here; service_state = after }
+abbrev pub with_line : Bool → Point → Answer → List Session → Point
+with_line trace s answer after = record {
+  taken = s.taken ++ line_feed ∷ [];
+  lines = lines_now s true;
+  line = [];
+  told = s.told ++ text_now trace s answer;
+  sessions = after;
+}
 
 -- whatever follows
 pub begins_line : (trace : Bool) (s : Point) → HasReached trace s → Begins (s.taken ++ line_feed ∷ []) (lines_now s true)
@@ -105,15 +119,14 @@ begins_line trace s reached = record {
       ∙ sym (append_assoc s.lines (line_now s true ∷ []) (lines_of more));
 }
 
-pub reached_line : (trace : Bool) (s : Point) (here : List ℕ) (after : ServiceState) → HasReached trace s
-    → Answers trace (number_after 1 s.lines) (asked_in (line_now s true)) s.service_state here after
-    → HasReached trace (with_line s here after)
+pub reached_line : (trace : Bool) (s : Point) (answer : Answer) (after : List Session) → HasReached trace s
+    → AnswersLine (line_now s true) s.sessions answer after → HasReached trace (with_line trace s answer after)
 unfolding begins_line
-reached_line trace s here after reached answer = record {
+reached_line trace s answer after reached is = record {
   ended = filter-append (λ line. line.ended) s.lines (line_now s true ∷ []) ∙ ap (λ l. l ++ line_now s true ∷ []) reached.ended;
   goes = (begins_line trace s reached).is;
   plain = refl;
-  answered = answers_more trace 1 nothing_open s.lines s.told s.service_state (line_now s true) here after reached.answered answer;
+  answered = answers_more trace 1 [] s.lines s.told s.sessions (line_now s true) answer after reached.answered is;
 }
 
 -- the lines that the taken bytes end
@@ -126,7 +139,7 @@ ended_so_far trace s reached =
     ∙ append-nil (filter (λ line. line.ended) s.lines) ∙ reached.ended
 
 pub told_ended : (trace : Bool) (s : Point) → HasReached trace s → AreTold trace (ended_lines s.taken) s.told
-told_ended trace s reached = (s.service_state, rw (ended_so_far trace s reached) reached.answered)
+told_ended trace s reached = (s.sessions, rw (ended_so_far trace s reached) reached.answered)
 
 -- all lines, where nothing is left
 pub lines_whole : (trace : Bool) (s : Point) → HasReached trace s → s.line ≡ [] → lines_of s.taken ≡ s.lines
@@ -135,7 +148,7 @@ lines_whole trace s reached none =
     ∙ ap (λ l. s.lines ++ l) lines_none ∙ append-nil s.lines
 
 pub told_whole : (trace : Bool) (s : Point) → HasReached trace s → s.line ≡ [] → AreTold trace (lines_of s.taken) s.told
-told_whole trace s reached none = (s.service_state, rw (lines_whole trace s reached none) reached.answered)
+told_whole trace s reached none = (s.sessions, rw (lines_whole trace s reached none) reached.answered)
 
 -- all lines, where a rest is left
 pub lines_rest : (trace : Bool) (s : Point) → HasReached trace s → 0 < length s.line → lines_of s.taken ≡ lines_now s false
@@ -147,11 +160,10 @@ lines_rest trace s reached some =
     by_line [] some plain = absurd (omega (arith, some))
     by_line (b ∷ line) some plain = lines_plain b line plain
 
-pub told_rest : (trace : Bool) (s : Point) (here : List ℕ) (after : ServiceState) → HasReached trace s → 0 < length s.line
-    → Answers trace (number_after 1 s.lines) (asked_in (line_now s false)) s.service_state here after
-    → AreTold trace (lines_of s.taken) (s.told ++ here)
-told_rest trace s here after reached some answer = (
+pub told_rest : (trace : Bool) (s : Point) (answer : Answer) (after : List Session) → HasReached trace s → 0 < length s.line
+    → AnswersLine (line_now s false) s.sessions answer after → AreTold trace (lines_of s.taken) (s.told ++ text_now trace s answer)
+told_rest trace s answer after reached some is = (
   after,
-  rw (lines_rest trace s reached some) (answers_more trace 1 nothing_open s.lines s.told s.service_state
-      (line_now s false) here after reached.answered answer),
+  rw (lines_rest trace s reached some)
+      (answers_more trace 1 [] s.lines s.told s.sessions (line_now s false) answer after reached.answered is),
 )

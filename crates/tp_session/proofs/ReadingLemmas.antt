@@ -1,6 +1,6 @@
 -- What reading has told.
 use Rattle.std.proofs.Common.{◌≡◌, ◌≢◌, ℕ, zero, suc, ◌+◌, ◌-◌, ◌<◌, min, nat_lt, nat_eq, Bool, true, false, ◌||◌, List, [], ◌∷◌}
-use Rattle.std.proofs.Common.{◌++◌, length, take, drop, Option, Result, Ok, Err, OnOk, OnErr, IfErr, refl, ap, sym, subst, ◌∙◌}
+use Rattle.std.proofs.Common.{◌++◌, length, take, drop, Option, None, refl, ap, sym, subst, ◌∙◌}
 use Rattle.std.proofs.Common.{arith, append_assoc, length-append}
 use Rattle.std.specs.Io.KnownBytes.{Appends}
 use Rattle.std.proofs.lemmas.Bool.Decides.{nat_tests}
@@ -8,18 +8,23 @@ use Rattle.std.proofs.lemmas.List.{append-nil, take-append-drop, length-take}
 use Rattle.std.proofs.Math.Seq.{take-append_seam}
 use Rattle.tp_link.specs.Device.{DeviceState}
 use Rattle.tp_requests.specs.Lines.{line_feed, lines_of, ended_lines, without_return, said_in}
-use Rattle.tp_requests.specs.Requests.{asked_by}
-use Rattle.tp_answers.specs.Answers.{ServiceState, Answers}
+use Rattle.tp_requests.specs.Protocol.{AsksFor}
+use Rattle.tp_answers.specs.declared.answer.Answer.{Answer}
+use Rattle.tp_answers.specs.declared.answer.Answer.TheVariants.{Refused}
+use Rattle.tp_answers.specs.declared.answer.LineFault.TheVariants.{E1}
+use Rattle.tp_answers.specs.Sessions.{Session}
+use Rattle.tp_answers.specs.Texts.{answer_text}
 use Rattle.tp_session.specs.declared.fault.ServeFault.{ServeFault}
 use Rattle.tp_session.specs.declared.fault.ServeFault.TheVariants.{Read, Write, Memory, Thread}
 use Rattle.tp_session.specs.declared.progress.Progress.{Progress}
 use Rattle.tp_session.specs.declared.service.Service.{Service}
-use Rattle.tp_session.specs.Served.{most_line, asked_in, next_number, nothing_open, AreTold}
-use Rattle.tp_session.specs.Services.{state_of_service, StaysOn, IsWant}
+use Rattle.tp_session.specs.Protocol.{most_line, next_number}
+use Rattle.tp_session.specs.Served.{AreTold, IsWant}
+use Rattle.tp_session.specs.Services.{StaysOn, AnswersText, AnswersLine, IsSentInPart}
 use Rattle.tp_session.specs.Points.{Point, number_after, IsPlain, Keeps, IsAt, HasToldEnded, Fails, FailsAtEnd, HasToldAll, GoesOn}
-use Rattle.tp_session.proofs.KnownBytes.{appends_more, appends_same, appends_front}
+use Rattle.tp_session.proofs.KnownBytes.{appends_none, appends_more, appends_same, appends_front}
 use Rattle.tp_session.proofs.LineLemmas.{take_all}
-use Rattle.tp_session.proofs.PointLemmas.{answers_more, number_more, with_bytes, reached_more, line_now, lines_now, with_line}
+use Rattle.tp_session.proofs.PointLemmas.{answers_more, number_more, with_bytes, reached_more, line_now, lines_now, text_now, with_line}
 use Rattle.tp_session.proofs.PointLemmas.{begins_line, reached_line, told_ended, told_whole, told_rest}
 
 -- ---- a line that is kept whole, or in part
@@ -63,14 +68,21 @@ said_whole line ended e = rw e refl
 pub said_rest : (line : List ℕ) (ended : Bool) → ended ≡ false → line ≡ said_in record { bytes = line; ended = ended }
 said_rest line ended e = rw e refl
 
-pub answered_now : (trace : Bool) (p : Progress) (number : ℕ) (line says : List ℕ) (ended : Bool) (before : ServiceState)
-    (told : List ℕ) (after : ServiceState) → Keeps p number line → nat_lt most_line (length line) ≡ false
-    → says ≡ said_in record { bytes = line; ended = ended } → Answers trace p.number (asked_by says) before told after
-    → Answers trace number (asked_in record { bytes = line; ended = ended }) before told after
-answered_now trace p number line says ended before told after keeps short is answer =
-    let numbered = subst (λ n. Answers trace n (asked_by says) before told after) keeps.number_is answer in
-    let said = subst (λ l. Answers trace number (asked_by l) before told after) is numbered in
-    rw short said
+pub answered_now : (line says : List ℕ) (ended : Bool) (before : List Session) (answer : Answer)
+    (after : List Session) → nat_lt most_line (length line) ≡ false → says ≡ said_in record { bytes = line; ended = ended }
+    → AnswersText says before answer after → AnswersLine record { bytes = line; ended = ended } before answer after
+answered_now line says ended before answer after short is (asked, asks, request) = record {
+  asked = asked;
+  asks = rw short (subst (λ l. AsksFor l asked) is asks);
+  answer_is = request.0;
+  after_is = request.1;
+}
+
+pub refused_long : (p : Progress) (number : ℕ) (line : List ℕ) (ended : Bool) (sessions : List Session) → Keeps p number line
+    → p.long ≡ true → AnswersLine record { bytes = line; ended = ended } sessions (Refused E1) sessions
+refused_long p number line ended sessions keeps long =
+    let test : nat_lt most_line (length line) ≡ true = sym keeps.long_is ∙ long in
+    record { asked = None; asks = rw test refl; answer_is = refl; after_is = refl }
 
 -- more of a line, of which so much is kept as there is room for
 pub keeps_more : (p q : Progress) (number : ℕ) (line bytes : List ℕ) (kept : ℕ) → Keeps p number line
@@ -101,37 +113,41 @@ something_left line kept n is long some =
     let other : n ≢ 0 = grind (arith, nat_tests, some) in
     omega (arith, other, long, ap length is, length-take most_line line)
 
+-- a text that is this one
+pub sent_as : (old new : Option (List ℕ)) (xs ys : List ℕ) (e : ServeFault) → xs ≡ ys → IsSentInPart old new xs e → IsSentInPart old new ys e
+sent_as old new xs ys e same sent = subst (λ text. IsSentInPart old new text e) same sent
+
 -- ---- from one stand to the next
 
 module _ {D : Type 0} (state : D → DeviceState) (trace : Bool) (begun now : Option (List ℕ)) (p : Progress) (service : Service D)
     (s : Point) (at : IsAt state trace begun p service now s) where
-  -- the answer to the line that is being read
-  pub answer_at : (ended : Bool) (here : List ℕ) (after : ServiceState)
-      → Answers service.trace (number_after 1 s.lines) (asked_in (line_now s ended)) (state_of_service service) here after
-      → Answers trace (number_after 1 s.lines) (asked_in (line_now s ended)) s.service_state here after
-  answer_at ended here after answer =
-      subst (λ b. Answers trace (number_after 1 s.lines) (asked_in (line_now s ended)) b here after) at.service_state
-      (subst (λ t. Answers t (number_after 1 s.lines) (asked_in (line_now s ended)) (state_of_service service) here after) at.trace_is
-      answer)
+  -- the answer to the line that is being read, and its text
+  pub answer_at : (ended : Bool) (answer : Answer) (after : List Session) → AnswersLine (line_now s ended) service.sessions answer after
+      → AnswersLine (line_now s ended) s.sessions answer after
+  answer_at ended answer after is = subst (λ sessions. AnswersLine (line_now s ended) sessions answer after) at.sessions is
 
-  has_told : (taken : List ℕ) → taken ≡ s.taken → HasToldEnded trace taken begun now
-  has_told taken is =
+  pub text_at : (told : Bool) (answer : Answer) → told ≡ service.trace → answer_text told p.number answer ≡ text_now trace s answer
+  text_at told answer same =
+      ap (λ t. answer_text t p.number answer) (same ∙ at.trace_is) ∙ ap (λ n. answer_text trace n answer) at.keeps.number_is
+
+  has_told : (taken : List ℕ) (now' : Option (List ℕ)) → taken ≡ s.taken → Appends now now' [] → HasToldEnded trace taken begun now'
+  has_told taken now' is nothing =
       record {
         told = s.told;
         is = subst (λ l. AreTold trace (ended_lines l) s.told) (sym is) (told_ended trace s at.reached);
-        wrote = at.wrote;
+        wrote = appends_same _ _ _ _ (append-nil s.told) (appends_more begun now now' s.told [] at.wrote nothing);
       }
 
   -- what was wanted was refused before anything was written
   pub fails_wanting : (bytes : List ℕ) (e : ServeFault) → IsWant e → Fails trace s.taken bytes begun now e
-  fails_wanting bytes Memory want = (0, has_told (s.taken ++ []) (append-nil s.taken))
-  fails_wanting bytes Thread want = (0, has_told (s.taken ++ []) (append-nil s.taken))
+  fails_wanting bytes Memory want = (0, has_told (s.taken ++ []) now (append-nil s.taken) (appends_none now))
+  fails_wanting bytes Thread want = (0, has_told (s.taken ++ []) now (append-nil s.taken) (appends_none now))
   fails_wanting bytes Read want = absurd want
   fails_wanting bytes Write want = absurd want
 
   pub wanting_at_end : (e : ServeFault) → IsWant e → FailsAtEnd trace s.taken begun now e
-  wanting_at_end Memory want = has_told s.taken refl
-  wanting_at_end Thread want = has_told s.taken refl
+  wanting_at_end Memory want = has_told s.taken now refl (appends_none now)
+  wanting_at_end Thread want = has_told s.taken now refl (appends_none now)
   wanting_at_end Read want = absurd want
   wanting_at_end Write want = absurd want
 
@@ -143,46 +159,44 @@ module _ {D : Type 0} (state : D → DeviceState) (trace : Bool) (begun now : Op
       appends_front begun now' (s.told ++ take n here) (drop n here) (s.told ++ here) all
       (appends_more begun now now' s.told (take n here) at.wrote wrote)
 
-  -- the answer could not be written
-  pub fails_writing : (now' : Option (List ℕ)) (here : List ℕ) (after : ServiceState)
-      → Answers trace (number_after 1 s.lines) (asked_in (line_now s true)) s.service_state here after
-      → (n : ℕ) × Appends now now' (take n here)
-      → Fails trace s.taken (line_feed ∷ []) begun now' Write
-  fails_writing now' here after answer wrote =
-      let some = some_written now' here wrote.0 wrote.1 in (
+  -- the answer was not written whole
+  pub fails_sending : (now' : Option (List ℕ)) (answer : Answer) (after : List Session)
+      → AnswersLine (line_now s true) s.sessions answer after → (e : ServeFault) → IsSentInPart now now' (text_now trace s answer) e
+      → Fails trace s.taken (line_feed ∷ []) begun now' e
+  fails_sending now' answer after is Memory nothing = (0, has_told (s.taken ++ []) now' (append-nil s.taken) nothing)
+  fails_sending now' answer after is Thread sent = absurd sent
+  fails_sending now' answer after is Read sent = absurd sent
+  fails_sending now' answer after is Write (n, wrote) =
+      let some = some_written now' (text_now trace s answer) n wrote in (
         lines_now s true,
         begins_line trace s at.reached,
         record {
-          told = s.told ++ here;
-          is = (
-            after,
-            answers_more trace 1 nothing_open s.lines s.told s.service_state
-                (line_now s true) here after at.reached.answered answer,
-          );
+          told = s.told ++ text_now trace s answer;
+          is = (after, answers_more trace 1 [] s.lines s.told s.sessions (line_now s true) answer after at.reached.answered is);
           some = some.0;
           wrote = some.1;
         },
       )
 
-  pub goes_line : (q : Progress) (service' : Service D) (now' : Option (List ℕ)) (here : List ℕ)
-      → Answers trace (number_after 1 s.lines) (asked_in (line_now s true)) s.service_state here (state_of_service service')
-      → StaysOn state service service' → Appends now now' here → q.number ≡ next_number p.number → q.line.items ≡ []
-      → q.long ≡ false → GoesOn state trace begun q service' now' (s.taken ++ line_feed ∷ [])
-  goes_line q service' now' here answer stays wrote number_is line_is long_is = record {
-    point = with_line s here (state_of_service service');
+  pub goes_line : (q : Progress) (service' : Service D) (now' : Option (List ℕ)) (answer : Answer)
+      → AnswersLine (line_now s true) s.sessions answer service'.sessions
+      → StaysOn state service service' → Appends now now' (text_now trace s answer) → q.number ≡ next_number p.number
+      → q.line.items ≡ [] → q.long ≡ false → GoesOn state trace begun q service' now' (s.taken ++ line_feed ∷ [])
+  goes_line q service' now' answer is stays wrote number_is line_is long_is = record {
+    point = with_line trace s answer service'.sessions;
     taken_is = refl;
     is = record {
-      reached = reached_line trace s here (state_of_service service') at.reached answer;
+      reached = reached_line trace s answer service'.sessions at.reached is;
       keeps =
           record {
             number_is = number_is ∙ ap next_number at.keeps.number_is ∙ sym (number_more 1 s.lines (line_now s true));
             line_is = line_is;
             long_is = long_is;
           };
-      service_state = refl;
+      sessions = refl;
       trace_is = stays.trace ∙ at.trace_is;
       fit = stays.fit at.fit;
-      wrote = appends_more begun now now' s.told here at.wrote wrote;
+      wrote = appends_more begun now now' s.told (text_now trace s answer) at.wrote wrote;
     };
   }
 
@@ -195,7 +209,7 @@ module _ {D : Type 0} (state : D → DeviceState) (trace : Bool) (begun now : Op
         record {
           reached = reached_more trace s bytes at.reached plain;
           keeps = keeps;
-          service_state = at.service_state;
+          sessions = at.sessions;
           trace_is = at.trace_is;
           fit = at.fit;
           wrote = at.wrote;
@@ -206,36 +220,27 @@ module _ {D : Type 0} (state : D → DeviceState) (trace : Bool) (begun now : Op
   pub told_nothing_more : s.line ≡ [] → HasToldAll trace s.taken begun now
   told_nothing_more none = record { told = s.told; is = told_whole trace s at.reached none; wrote = at.wrote }
 
-  module _ (some : 0 < length s.line) (here : List ℕ) (after : ServiceState)
-      (answer : Answers trace (number_after 1 s.lines) (asked_in (line_now s false)) s.service_state here after)
-      (now' : Option (List ℕ)) {U : Type 0} (r : Result U ServeFault) where
-    pub told_last : OnOk r (Appends now now' here) → OnOk r (HasToldAll trace s.taken begun now')
-    told_last wrote = by_result r wrote
-      where
-        by_result : (r : Result U ServeFault) → OnOk r (Appends now now' here) → OnOk r (HasToldAll trace s.taken begun now')
-        by_result (Ok u) h =
-            record {
-              told = s.told ++ here;
-              is = told_rest trace s here after at.reached some answer;
-              wrote = appends_more begun now now' s.told here at.wrote h;
-            }
-        by_result (Err e) h = tt
+  module _ (some : 0 < length s.line) (answer : Answer) (after : List Session)
+      (is : AnswersLine (line_now s false) s.sessions answer after) (now' : Option (List ℕ)) where
+    pub told_last : Appends now now' (text_now trace s answer) → HasToldAll trace s.taken begun now'
+    told_last wrote = record {
+      told = s.told ++ text_now trace s answer;
+      is = told_rest trace s answer after at.reached some is;
+      wrote = appends_more begun now now' s.told (text_now trace s answer) at.wrote wrote;
+    }
 
-    pub fails_last : OnErr r ((n : ℕ) × Appends now now' (take n here)) → IfErr r (λ e. e ≡ Write)
-        → IfErr r (FailsAtEnd trace s.taken begun now')
-    fails_last wrote fault = by_result r wrote fault
-      where
-        by_result : (r : Result U ServeFault) → OnErr r ((n : ℕ) × Appends now now' (take n here)) → IfErr r (λ e. e ≡ Write)
-            → IfErr r (FailsAtEnd trace s.taken begun now')
-        by_result (Ok u) h f = tt
-        by_result (Err e) h f =
-            let written = some_written now' here h.0 h.1 in
-            rw f record {
-              told = s.told ++ here;
-              is = (told_rest trace s here after at.reached some answer);
-              some = written.0;
-              wrote = written.1;
-            }
+    pub fails_last : (e : ServeFault) → IsSentInPart now now' (text_now trace s answer) e → FailsAtEnd trace s.taken begun now' e
+    fails_last Memory nothing = has_told s.taken now' refl nothing
+    fails_last Thread sent = absurd sent
+    fails_last Read sent = absurd sent
+    fails_last Write (n, wrote) =
+        let written = some_written now' (text_now trace s answer) n wrote in
+        record {
+          told = s.told ++ text_now trace s answer;
+          is = told_rest trace s answer after at.reached some is;
+          some = written.0;
+          wrote = written.1;
+        }
 
 -- ---- some bytes
 
@@ -284,7 +289,3 @@ fails_more trace first taken front middle rest bytes begun now Memory is split f
     before_more trace first taken front middle rest bytes begun now is split fails
 fails_more trace first taken front middle rest bytes begun now Thread is split fails =
     before_more trace first taken front middle rest bytes begun now is split fails
-
-pub some_of : (now now' : Option (List ℕ)) (xs ys : List ℕ) → xs ≡ ys → (n : ℕ) × Appends now now' (take n xs)
-    → (n : ℕ) × Appends now now' (take n ys)
-some_of now now' xs ys e (n, wrote) = (n, appends_same now now' (take n xs) (take n ys) (ap (take n) e) wrote)

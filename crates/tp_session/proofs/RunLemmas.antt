@@ -1,6 +1,6 @@
 -- Runs of the packets of a session.
 use Rattle.std.proofs.Common.{◌≡◌, ℕ, zero, suc, ◌++◌, take, drop, ◌+◌, ◌*◌, ◌≤◌, ◌<◌, nat_eq, nat_lt, not, ◌&&◌, Bool, true}
-use Rattle.std.proofs.Common.{false, cond, List, [], ◌∷◌, length, map, position, slice_get, vec_len, All, Some, None, refl, ap}
+use Rattle.std.proofs.Common.{false, cond, List, [], ◌∷◌, length, map, position, slice_get, All, Some, None, refl, ap}
 use Rattle.std.proofs.Common.{sym, subst, ◌∙◌, arith}
 use Rattle.std.specs.List.{list_all, AllZip, position_or_len}
 use Rattle.std.proofs.Math.Logic.{∥∥₁_elim}
@@ -27,7 +27,10 @@ use Rattle.tp_farm.specs.Settings.{SameSettings}
 use Rattle.tp_farm.specs.Refused.{job_fault}
 use Rattle.tp_farm.specs.Promised.{TakeAll, ComesTo, LosesLongTracesAlone}
 use Rattle.tp_collect.specs.DoneValue.{most_trace}
-use Rattle.tp_answers.specs.Entries.{IsOutcome, AreOutcomes}
+use Rattle.tp_answers.specs.Rules.{IsOutcome}
+use Rattle.tp_answers.specs.Outcomes.{outcome_of}
+use Rattle.tp_answers.specs.Sessions.{Session}
+use Rattle.tp_answers.specs.OpenSessions.{session_of}
 use Rattle.tp_session.specs.Fitness.{AreFitOf}
 
 -- ---- packets that may be run
@@ -41,24 +44,6 @@ are_bytes packet = list_all (λ b. nat_lt b 256) packet
 
 abbrev pub is_whole : ImageValue → List ℕ → Bool
 is_whole image packet = nat_eq (length packet) (4 * image.packet) && are_bytes packet
-
-bytes_below : (packet : List ℕ) → are_bytes packet ≡ true → All (λ byte. byte < 256) packet
-bytes_below [] e = All-nil (λ byte. byte < 256)
-bytes_below (b ∷ packet) e =
-    let both = and_true (nat_lt b 256) (are_bytes packet) e in
-    let test = both.0 in
-    let least : b < 256 = grind (arith, nat_tests, test) in
-    All-cons (λ byte. byte < 256) b packet least (bytes_below packet both.1)
-
-pub whole_packets : (image : ImageValue) (packets : List (List ℕ)) → list_all (is_whole image) packets ≡ true
-    → All (IsPacket image) packets
-whole_packets image [] e = All-nil (IsPacket image)
-whole_packets image (p ∷ packets) e =
-    let all = and_true (is_whole image p) (list_all (is_whole image) packets) e in
-    let both = and_true (nat_eq (length p) (4 * image.packet)) (are_bytes p) all.0 in
-    let test = both.0 in
-    let long : length p ≡ 4 * image.packet = grind (arith, nat_tests, test) in
-    All-cons (IsPacket image) p packets record { long = long; bytes = bytes_below p both.1 } (whole_packets image packets all.1)
 
 all_before : (image : ImageValue) (packets : List (List ℕ)) → list_all (is_whole image) packets ≡ true
     → position_or_len (λ p. not (nat_eq (length p) (4 * image.packet))) packets ≡ length packets
@@ -178,26 +163,29 @@ too_much image packet run alone more =
     }
 
 is_outcome : (image : ImageValue) (packet : List ℕ) (run : Run) (e : Entry) → RunsAlone image packet run → ComesTo run e
-    → IsOutcome image packet e
+    → IsOutcome image packet (outcome_of e)
 is_outcome image packet run (entry.Done done) alone comes =
     (subst (RunsAlone image packet) (sym comes.0) alone, subst (λ r. length r.trace ≤ most_trace) (sym comes.0) comes.1)
 is_outcome image packet run (entry.Lost (cause.Link fault)) alone comes = too_much image packet run alone comes.1
 is_outcome image packet run (entry.Lost cause.Stopped) alone comes = absurd comes
 
+abbrev pub AreOutcomesOf : ImageValue → List (List ℕ) → List Entry → Type 0
+AreOutcomesOf image packets entries = AllZip (IsOutcome image) packets (map outcome_of entries)
+
 outcomes_of : (image : ImageValue) (packets : List (List ℕ)) (entries : List Entry) → length entries ≡ length packets
     → ((i : ℕ) (packet : List ℕ) → slice_get packets i ≡ Some packet
-    → (e : Entry) × (slice_get entries i ≡ Some e) × IsOutcome image packet e) → AreOutcomes image packets entries
+    → (e : Entry) × (slice_get entries i ≡ Some e) × IsOutcome image packet (outcome_of e)) → AreOutcomesOf image packets entries
 outcomes_of image [] [] long each = tt
 outcomes_of image [] (e ∷ entries) long each = absurd (omega (arith, long))
 outcomes_of image (p ∷ packets) [] long each = absurd (omega (arith, long))
 outcomes_of image (p ∷ packets) (e ∷ entries) long each =
     let first = each 0 p refl in (
-      subst (IsOutcome image p) (sym (same_Some e first.0 first.1)) first.2,
+      subst (λ x. IsOutcome image p (outcome_of x)) (sym (same_Some e first.0 first.1)) first.2,
       outcomes_of image packets entries (omega (arith, long)) (λ i packet at. each (suc i) packet at),
     )
 
 pub outcomes : (batch : JobValue) (budget : ℕ) (entries : List Entry) → length entries ≡ length batch.packets
-    → LosesLongTracesAlone batch budget entries → AreOutcomes batch.image batch.packets entries
+    → LosesLongTracesAlone batch budget entries → AreOutcomesOf batch.image batch.packets entries
 outcomes batch budget entries long complete =
     outcomes_of batch.image batch.packets entries long λ i packet at.
     let c = complete i packet at in
@@ -217,10 +205,9 @@ kept_whole kept packets e =
 pub kept_few : (kept : OpenSession) (packets : List Packet) → packets ≡ kept.packets.items → length (map (λ p. p.items) packets) ≤ 1024
 kept_few kept packets e = omega (arith, length-map packets (λ p. p.items), ap length e, kept.packets.ok.0, kept.few)
 
-pub kept_count : (kept : OpenSession) (n : ℕ) → n ≡ vec_len kept.packets → n ≡ length (map (λ p. p.items) kept.packets.items)
-kept_count kept n e = e ∙ kept.packets.ok.0 ∙ sym (length-map kept.packets.items (λ p. p.items))
-
-pub of_kept : (kept : OpenSession) (packets : List Packet) (entries : List Entry) → packets ≡ kept.packets.items
-    → AreOutcomes kept.image.image (map (λ p. p.items) packets) entries
-    → AreOutcomes kept.image.image (map (λ p. p.items) kept.packets.items) entries
-of_kept kept packets entries e outcomes = subst (λ ps. AreOutcomes kept.image.image (map (λ p. p.items) ps) entries) e outcomes
+pub of_kept : (kept : OpenSession) (packets : List Packet) (entries : List Entry) (s : Session) → packets ≡ kept.packets.items
+    → s ≡ session_of s.name kept → AreOutcomesOf kept.image.image (map (λ p. p.items) packets) entries
+    → AllZip (IsOutcome s.image) s.packets (map outcome_of entries)
+of_kept kept packets entries s e is outcomes =
+    let kept_ones = subst (λ ps. AreOutcomesOf kept.image.image (map (λ p. p.items) ps) entries) e outcomes in
+    subst (λ t. AllZip (IsOutcome t.image) t.packets (map outcome_of entries)) (sym is) kept_ones

@@ -11,12 +11,53 @@ use Rattle.tp_session.specs.declared.fault.ServeFault.TheVariants.{Read, Write, 
 use Rattle.tp_session.specs.declared.progress.Progress.{Progress}
 use Rattle.tp_session.specs.declared.service.Service.{Service}
 use Rattle.tp_session.specs.Fitness.{AreFit}
-use Rattle.tp_session.specs.Services.{state_of_service}
-use Rattle.tp_session.specs.Served.{nothing_open, AreTold, most_read, IsServedBefore, Serves}
+use Rattle.tp_session.specs.Served.{AreTold, most_read, IsWant, ServesAll, ServesRead, ServesBefore, ServesSome}
 use Rattle.tp_session.specs.Points.{Point, number_after, Keeps, IsAt, HasToldEnded, Fails, FailsAtEnd, HasToldAll, GoesOn}
 use Rattle.tp_session.proofs.KnownBytes.{appends_none, appends_same, consumes_more, consumes_keeps}
 use Rattle.tp_session.proofs.PointLemmas.{told_ended, start, starts, start_line, start_lines, start_taken, start_told}
-use Rattle.tp_session.proofs.PointLemmas.{start_service}
+use Rattle.tp_session.proofs.PointLemmas.{start_sessions}
+
+-- what serving has done with an input, by how it ended
+abbrev pub Serves : Bool → List ℕ → (left old new : Option (List ℕ)) → Result (Unit {0}) ServeFault → Type 0
+Serves trace input left old new (Ok _) = ServesAll trace input left old new
+Serves trace input left old new (Err Read) = ServesRead trace input left old new
+Serves trace input left old new (Err Memory) = ServesBefore trace input left old new
+Serves trace input left old new (Err Thread) = ServesBefore trace input left old new
+Serves trace input left old new (Err Write) = ServesSome trace input old new
+
+-- of an input that is known
+abbrev pub ServesKnown : Bool → (input left old new : Option (List ℕ)) → Result (Unit {0}) ServeFault → Type 0
+ServesKnown trace known left old new r = IfSome known (λ input. Serves trace input left old new r)
+
+-- which is one fact an outcome, where a premise holds
+pub record ByOutcome (Premise : Type 0) (trace : Bool) (known left old new : Option (List ℕ)) (r : Result (Unit {0}) ServeFault)
+    : Type 0 where
+  pub all : Premise → IfSome known (λ input. OnOk r (ServesAll trace input left old new))
+  pub read : Premise → IfSome known (λ input. r ≡ Err Read → ServesRead trace input left old new)
+  pub want : Premise → IfSome known (λ input. IfErr r (λ fault. IsWant fault → ServesBefore trace input left old new))
+  pub write : Premise → IfSome known (λ input. r ≡ Err Write → ServesSome trace input old new)
+
+pub by_outcome : {Premise : Type 0} (trace : Bool) (known left old new : Option (List ℕ)) (r : Result (Unit {0}) ServeFault)
+    → (Premise → ServesKnown trace known left old new r) → ByOutcome Premise trace known left old new r
+by_outcome trace None left old new r is = record { all = λ _. tt; read = λ _. tt; want = λ _. tt; write = λ _. tt }
+by_outcome trace (Some input) left old new r is = record {
+  all = λ premise. all r (is premise);
+  read = λ premise e. subst (Serves trace input left old new) e (is premise);
+  want = λ premise. want r (is premise);
+  write = λ premise e. subst (Serves trace input left old new) e (is premise);
+}
+  where
+    all : (r : Result (Unit {0}) ServeFault) → Serves trace input left old new r → OnOk r (ServesAll trace input left old new)
+    all (Ok u) is = is
+    all (Err e) is = tt
+
+    want : (r : Result (Unit {0}) ServeFault) → Serves trace input left old new r
+        → IfErr r (λ fault. IsWant fault → ServesBefore trace input left old new)
+    want (Ok u) is = tt
+    want (Err Memory) is = λ wanted. is
+    want (Err Thread) is = λ wanted. is
+    want (Err Read) is = λ wanted. absurd wanted
+    want (Err Write) is = λ wanted. absurd wanted
 
 -- the input so far: where its reading stands
 pub record SoFar {D : Type 0} (state : D → DeviceState) (trace : Bool) (input : List ℕ) (left begun now : Option (List ℕ))
@@ -54,14 +95,14 @@ module _ {D : Type 0} (state : D → DeviceState) (trace : Bool) (input : List �
     (service : Service D) where
   -- the reader failed
   pub serves_read : (left left' : Option (List ℕ)) → SoFar state trace input left begun now p service → KeepsKnown left left'
-      → Serves trace input left' begun now (Err Read)
-  serves_read left left' so_far keeps = (
-    so_far.point.taken,
-    so_far.point.told,
-    consumes_keeps (Some input) left left' so_far.point.taken so_far.split keeps,
-    told_ended trace so_far.point so_far.is.reached,
-    so_far.is.wrote,
-  )
+      → ServesRead trace input left' begun now
+  serves_read left left' so_far keeps = record {
+    taken = so_far.point.taken;
+    told = so_far.point.told;
+    read = consumes_keeps (Some input) left left' so_far.point.taken so_far.split keeps;
+    served = told_ended trace so_far.point so_far.is.reached;
+    wrote = so_far.is.wrote;
+  }
 
   -- some bytes more were taken
   pub so_far_more : (left left' now' : Option (List ℕ)) (q : Progress) (service' : Service D) (bytes : List ℕ)
@@ -78,7 +119,7 @@ module _ {D : Type 0} (state : D → DeviceState) (trace : Bool) (input : List �
 
   served_before : (left left' now' : Option (List ℕ)) (bytes : List ℕ) (n : ℕ)
       (so_far : SoFar state trace input left begun now p service) → Consumes left left' bytes → length bytes ≤ most_read
-      → HasToldEnded trace (so_far.point.taken ++ take n bytes) begun now' → IsServedBefore trace input left' begun now'
+      → HasToldEnded trace (so_far.point.taken ++ take n bytes) begun now' → ServesBefore trace input left' begun now'
   served_before left left' now' bytes n so_far consumed short told =
       let taken = so_far.point.taken in
       let all : taken ++ bytes ≡ (taken ++ take n bytes) ++ drop n bytes =
@@ -111,18 +152,29 @@ module _ {D : Type 0} (state : D → DeviceState) (trace : Bool) (input : List �
       let lines = fails.0 in
       let first : take (length lines) (lines_of input) ≡ lines =
       ap (take (length lines)) (ap lines_of whole.1 ∙ fails.1.is whole.0) ∙ take-append_seam lines (fails.1.rest whole.0) in
-      (length lines, fails.2.some, fails.2.told, subst (λ l. AreTold trace l fails.2.told) (sym first) fails.2.is, fails.2.wrote)
+      record {
+        lines = length lines;
+        some = fails.2.some;
+        told = fails.2.told;
+        served = subst (λ l. AreTold trace l fails.2.told) (sym first) fails.2.is;
+        wrote = fails.2.wrote;
+      }
 
   -- the end of the input
   pub serves_all : (left left' now' : Option (List ℕ)) (so_far : SoFar state trace input left begun now p service)
       → Consumes left left' [] → IsAtEnd left' → HasToldAll trace so_far.point.taken begun now'
-      → Serves trace input left' begun now' (Ok tt)
+      → ServesAll trace input left' begun now'
   serves_all left left' now' so_far consumed end told =
       let is : input ≡ so_far.point.taken = at_the_end input left left' so_far.point.taken so_far.split consumed end in
-      (told.told, end, subst (λ l. AreTold trace (lines_of l) told.told) (sym is) told.is, told.wrote)
+      record {
+        told = told.told;
+        read = end;
+        served = subst (λ l. AreTold trace (lines_of l) told.told) (sym is) told.is;
+        wrote = told.wrote;
+      }
 
   at_end_before : (left left' now' : Option (List ℕ)) (so_far : SoFar state trace input left begun now p service)
-      → Consumes left left' [] → HasToldEnded trace so_far.point.taken begun now' → IsServedBefore trace input left' begun now'
+      → Consumes left left' [] → HasToldEnded trace so_far.point.taken begun now' → ServesBefore trace input left' begun now'
   at_end_before left left' now' so_far consumed told = record {
     before = so_far.point.taken;
     rest = [];
@@ -144,7 +196,13 @@ module _ {D : Type 0} (state : D → DeviceState) (trace : Bool) (input : List �
       let lines = lines_of so_far.point.taken in
       let first : take (length lines) (lines_of input) ≡ lines =
       ap (take (length lines)) (ap lines_of is ∙ sym (append-nil lines)) ∙ take-append_seam lines [] in
-      (length lines, fails.some, fails.told, subst (λ l. AreTold trace l fails.told) (sym first) fails.is, fails.wrote)
+      record {
+        lines = length lines;
+        some = fails.some;
+        told = fails.told;
+        served = subst (λ l. AreTold trace l fails.told) (sym first) fails.is;
+        wrote = fails.wrote;
+      }
 
   -- the last line was answered, or not
   pub ends_by : (left left' now' : Option (List ℕ)) (r : Result (Unit {0}) ServeFault)
@@ -156,7 +214,7 @@ module _ {D : Type 0} (state : D → DeviceState) (trace : Bool) (input : List �
 
 -- nothing was taken yet
 pub nothing_taken : {D : Type 0} (state : D → DeviceState) (trace : Bool) (left begun : Option (List ℕ)) (p : Progress)
-    (service : Service D) → Keeps p 1 [] → (state_of_service service ≡ nothing_open) × (service.trace ≡ trace)
+    (service : Service D) → Keeps p 1 [] → (service.sessions ≡ []) × (service.trace ≡ trace)
     → AreFit state service.links.items → IfSome left (λ input. SoFar state trace input left begun begun p service)
 nothing_taken state trace None begun p service keeps new fit = tt
 nothing_taken state trace (Some input) begun p service keeps new fit = record {
@@ -167,7 +225,7 @@ nothing_taken state trace (Some input) begun p service keeps new fit = record {
     keeps =
         subst (λ l. Keeps p (number_after 1 start.lines) l) (sym start_line)
         (subst (λ ls. Keeps p (number_after 1 ls) []) (sym start_lines) keeps);
-    service_state = new.0 ∙ sym start_service;
+    sessions = new.0 ∙ sym start_sessions;
     trace_is = new.1;
     fit = fit;
     wrote = appends_same begun begun [] start.told (sym start_told) (appends_none begun);

@@ -8,19 +8,20 @@ use Rattle.tp_session.specs.declared.fault.ServeFault.{ServeFault}
 use Rattle.tp_session.specs.declared.fault.ServeFault.TheVariants.{Read, Write, Memory, Thread}
 use Rattle.tp_session.specs.declared.progress.Progress.{Progress}
 use Rattle.tp_session.specs.declared.service.Service.{Service}
-use Rattle.tp_answers.specs.Answers.{ServiceState}
-use Rattle.tp_session.specs.Served.{most_line, next_number, AreAnswers, nothing_open, AreTold}
+use Rattle.tp_answers.specs.Sessions.{Session}
+use Rattle.tp_answers.specs.Rules.{IsVerdict, IsOutcome}
+use Rattle.tp_session.specs.Protocol.{most_line, next_number, AreAnswers}
+use Rattle.tp_session.specs.Served.{AreTold}
 use Rattle.tp_session.specs.Fitness.{AreFit}
-use Rattle.tp_session.specs.Services.{state_of_service}
 
 -- the bytes that were taken, the lines that they end and what has come of the next line; what was told for these lines, and
--- where that leaves serving
+-- the sessions after them
 pub record Point : Type 0 where
   pub taken : List ℕ
   pub lines : List Line
   pub line : List ℕ
   pub told : List ℕ
-  pub service_state : ServiceState
+  pub sessions : List Session
 
 -- the number of the line that follows these, the first of which has a number
 abbrev pub number_after : ℕ → List Line → ℕ
@@ -36,7 +37,7 @@ pub record HasReached (trace : Bool) (s : Point) : Type 0 where
   pub ended : filter (λ line. line.ended) s.lines ≡ s.lines
   pub goes : (more : List ℕ) → lines_of (s.taken ++ more) ≡ s.lines ++ lines_of (s.line ++ more)
   pub plain : IsPlain s.line
-  pub answered : AreAnswers trace 1 nothing_open s.lines s.told s.service_state
+  pub answered : AreAnswers IsVerdict IsOutcome trace 1 [] s.lines s.told s.sessions
 
 -- The progress that is kept: of a line that is too long, its first bytes.
 pub record Keeps (p : Progress) (number : ℕ) (line : List ℕ) : Type 0 where
@@ -49,7 +50,7 @@ pub record IsAt {D : Type 0} (state : D → DeviceState) (trace : Bool) (begun :
     (p : Progress) (service : Service D) (now : Option (List ℕ)) (s : Point) : Type 0 where
   pub reached : HasReached trace s
   pub keeps : Keeps p (number_after 1 s.lines) s.line
-  pub service_state : state_of_service service ≡ s.service_state
+  pub sessions : service.sessions ≡ s.sessions
   pub trace_is : service.trace ≡ trace
   pub fit : AreFit state service.links.items
   pub wrote : Appends begun now s.told

@@ -1,20 +1,13 @@
 //! Laws of what is served: each function's contract is the law.
 
-ghost use Rattle.std.specs.Prelude.{◌≡◌, ℕ, Bool, List, Option};
-ghost use Rattle.tp_requests.specs.Requests.{Asked};
-ghost use Rattle.tp_answers.specs.Answers.{ServiceState, Answers};
-ghost use Rattle.tp_session.specs.Served.{IsServed};
+ghost use Rattle.std.specs.Prelude.{◌≡◌, ◌^◌, ◌-◌, ◌<◌, ◌+◌, ℕ, Bool, List, Option};
+ghost use Rattle.tp_image.specs.Image.{ImageValue};
+ghost use Rattle.tp_answers.specs.Results.{RunResult};
+ghost use Rattle.tp_answers.specs.Answers.{Verdict};
+ghost use Rattle.tp_session.specs.Protocol.{IsServedBy, next_number};
+ghost use Rattle.tp_session.specs.Served.{IsServed, AreRuled};
 
 use tp_accept::laws::one_text_has_one_answer;
-
-/// A line has one answer, and leads to one state of the service.
-pub fn one_line_has_one_answer()
-    ensures { (trace : Bool) (number : ℕ) (asked : Option Asked) (before : ServiceState) (told told' : List ℕ)
-        (after after' : ServiceState) → Answers trace number asked before told after →
-        Answers trace number asked before told' after' → (told ≡ told') × (after ≡ after') }
-{
-    one_text_has_one_answer();
-}
 
 /// What is served for an input is a function of the input, and of whether traces are told.
 pub fn one_input_has_one_answer()
@@ -23,3 +16,19 @@ pub fn one_input_has_one_answer()
 {
     one_text_has_one_answer();
 }
+
+/// What is served is what the protocol alone says, whatever functions give the verdicts and the outcomes. These determine it.
+/// So a reader of the protocol needs neither the rules of the verifier nor those of the machine.
+pub fn what_is_served_follows_the_protocol()
+    ensures follows { (verdict : List ℕ → Verdict) (outcome : ImageValue → List ℕ → Option RunResult) → AreRuled verdict outcome →
+        (trace : Bool) (input told : List ℕ) → IsServed trace input told → IsServedBy verdict outcome trace input told }
+    ensures one { (verdict : List ℕ → Verdict) (outcome : ImageValue → List ℕ → Option RunResult)
+        (trace : Bool) (input told told' : List ℕ) → IsServedBy verdict outcome trace input told →
+        IsServedBy verdict outcome trace input told' → told ≡ told' }
+{}
+
+/// The number of a line stays at the greatest number of 64 bits.
+pub fn line_numbers_stay_at_the_greatest()
+    ensures stays { next_number 18446744073709551615 ≡ 18446744073709551615 }
+    ensures reached { next_number 18446744073709551614 ≡ 18446744073709551615 }
+{}

@@ -9,5 +9,7 @@ pub(crate) struct Progress {
     pub(crate) line: Vec<u8>,
     /// Whether more than that has come.
     pub(crate) long: bool,
+    /// Room for the text of an answer, which lasts from one line to the next.
+    pub(crate) room: Vec<u8>,
     ghost within: { vec_len line ≤ 32768 },
 }

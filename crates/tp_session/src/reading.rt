@@ -1,12 +1,13 @@
 //! Reading lines, and answering each.
 
-ghost use Rattle.std.specs.Prelude.{◌≡◌, ℕ, List, Some, [], ◌∷◌, ◌++◌, OnOk, OnErr, IfErr, IfSome, MatchOption};
+ghost use Rattle.std.specs.Prelude.{◌≡◌, ℕ, List, Some, [], ◌∷◌, ◌++◌, OnOk, OnErr, IfOk, IfErr, IfSome, MatchOption};
 ghost use Rattle.std.specs.Prelude.{position, ◌==◌, ◌<◌, length, take};
 ghost use Rattle.std.specs.Io.KnownBytes.{Appends};
 ghost use Rattle.tp_requests.specs.Lines.{line_feed, without_return};
-ghost use Rattle.tp_session.specs.Served.{asked_in};
+ghost use Rattle.tp_answers.specs.Texts.{answer_text};
 ghost use Rattle.tp_session.specs.Fitness.{AreFit, HasMembers, AreAsMany};
-ghost use Rattle.tp_session.specs.Services.{StaysOn, TellsAnswer, IsWant};
+ghost use Rattle.tp_session.specs.Services.{StaysOn, AnswersLine, IsSentInPart};
+ghost use Rattle.tp_session.specs.Served.{IsWant};
 ghost use Rattle.tp_session.specs.Points.{IsPlain, Keeps, AtEachPoint, GoesOn, Fails, FailsAtEnd, HasToldAll};
 
 use crate::MAX_LINE;
@@ -17,7 +18,7 @@ use std::alloc::{AllocError, Global};
 use std::io::Write;
 use std::sync::Wait;
 use std::thread::Threads;
-use tp_answers::refusal;
+use tp_answers::{Answer, LineFault, write_answer};
 use tp_link::LinkDevice;
 
 /// The beginning of an input.
@@ -28,6 +29,7 @@ pub(crate) fn begin(alloc: Global) -> Progress
         number: 1,
         line: Vec::new(alloc),
         long: false,
+        room: Vec::new(alloc),
     }
 }
 
@@ -41,32 +43,29 @@ fn without_return(line: &[u8]) -> &[u8]
     }
 }
 
-/// The answer to the line that is being read, which a line feed has ended or the end of the input, behind what is told already.
+/// The answer to the line that is being read, which a line feed has ended or the end of the input.
 fn answer<R: Threads + Wait + Sync, D: LinkDevice + Send>(
     service: &mut Service<D>,
     rt: &R,
     alloc: Global,
     progress: &Progress,
     ended: bool,
-    told: &mut Vec<u8>,
-) -> Result<(), ServeFault>
+) -> Result<Answer, ServeFault>
     requires { HasMembers service.old.links.items }
-    ensures told { AreFit D.state service.old.links.items → (number : ℕ) (line : List ℕ) →
-        Keeps progress.now number line →
-        OnOk result (TellsAnswer number (asked_in record { bytes = line; ended = ended }) service.old service.new
-        told.old.items told.new.items) }
+    ensures answer { AreFit D.state service.old.links.items → (number : ℕ) (line : List ℕ) →
+        Keeps progress.now number line → IfOk result (λ answer.
+        AnswersLine record { bytes = line; ended = ended } service.old.sessions answer service.new.sessions) }
     ensures stays { OnOk result (StaysOn D.state service.old service.new) }
     ensures want { IfErr result IsWant }
 {
     if progress.long {
-        refusal(told, "E1", progress.number)?;
-        return Ok(());
+        return Ok(Answer::Refused(LineFault::E1));
     }
     let line = progress.line.as_slice();
     if ended {
-        service.answer_line(rt, alloc, progress.number, without_return(line), told)
+        service.answer_line(rt, alloc, without_return(line))
     } else {
-        service.answer_line(rt, alloc, progress.number, line, told)
+        service.answer_line(rt, alloc, line)
     }
 }
 
@@ -94,21 +93,39 @@ fn write_whole<W: Write>(writer: &mut W, text: &[u8]) -> Result<(), ServeFault>
 const KEPT_ROOM: usize = 4096;
 
 /// Gives back the room of a long answer.
-fn give_back(told: &mut Vec<u8>, alloc: Global) {
-    if told.capacity() > KEPT_ROOM {
-        *told = Vec::new(alloc);
+fn give_back(room: &mut Vec<u8>, alloc: Global) {
+    if room.capacity() > KEPT_ROOM {
+        *room = Vec::new(alloc);
     }
 }
 
-/// Answers the line that is being read, which a line feed has ended, and begins the next. The answer takes the room of the one
-/// before.
+/// Writes the answer to the line of a number whole, and flushes it. Its text takes the room of the one before.
+fn send<W: Write>(
+    writer: &mut W,
+    room: &mut Vec<u8>,
+    alloc: Global,
+    trace: bool,
+    number: u64,
+    answer: Answer,
+) -> Result<(), ServeFault>
+    ensures ok { OnOk result (Appends (W.contents writer.old) (W.contents writer.new) (answer_text trace number answer)) }
+    ensures err { IfErr result (IsSentInPart (W.contents writer.old) (W.contents writer.new)
+        (answer_text trace number answer)) }
+{
+    room.clear();
+    write_answer(room, alloc, trace, number, &answer)?;
+    write_whole(writer, room.as_slice())?;
+    give_back(room, alloc);
+    Ok(())
+}
+
+/// Answers the line that is being read, which a line feed has ended, and begins the next.
 fn end_line<R: Threads + Wait + Sync, D: LinkDevice + Send, W: Write>(
     progress: &mut Progress,
     service: &mut Service<D>,
     rt: &R,
     alloc: Global,
     writer: &mut W,
-    told: &mut Vec<u8>,
 ) -> Result<(), ServeFault>
     requires { HasMembers service.old.links.items }
     ensures ok { AtEachPoint D.state progress.old service.old (W.contents writer.old) (λ trace begun s.
@@ -118,10 +135,15 @@ fn end_line<R: Threads + Wait + Sync, D: LinkDevice + Send, W: Write>(
         IfErr result (Fails trace s.taken (10 ∷ []) begun (W.contents writer.new))) }
     ensures members { OnOk result (AreAsMany service.old.links.items service.new.links.items) }
 {
-    told.clear();
-    answer(service, rt, alloc, progress, true, told)?;
-    write_whole(writer, told.as_slice())?;
-    give_back(told, alloc);
+    let answer = answer(service, rt, alloc, progress, true)?;
+    send(
+        writer,
+        &mut progress.room,
+        alloc,
+        service.trace,
+        progress.number,
+        answer,
+    )?;
     progress.line.clear();
     progress.long = false;
     progress.number = progress.number.saturating_add(1);
@@ -160,14 +182,13 @@ fn take_plain(progress: &mut Progress, bytes: &[u8]) -> Result<(), AllocError>
     Ok(())
 }
 
-/// Takes some bytes of the input, and answers the lines that they end. What `told` says is thrown away.
+/// Takes some bytes of the input, and answers the lines that they end.
 pub(crate) fn feed<R: Threads + Wait + Sync, D: LinkDevice + Send, W: Write>(
     progress: &mut Progress,
     service: &mut Service<D>,
     rt: &R,
     alloc: Global,
     writer: &mut W,
-    told: &mut Vec<u8>,
     bytes: &[u8],
 ) -> Result<(), ServeFault>
     requires { HasMembers service.old.links.items }
@@ -181,7 +202,7 @@ pub(crate) fn feed<R: Threads + Wait + Sync, D: LinkDevice + Send, W: Write>(
     let mut rest = bytes;
     while let Some((line, behind)) = split_line(rest) {
         take_plain(progress, line)?;
-        end_line(progress, service, rt, alloc, writer, told)?;
+        end_line(progress, service, rt, alloc, writer)?;
         rest = behind;
     }
     take_plain(progress, rest)?;
@@ -190,23 +211,28 @@ pub(crate) fn feed<R: Threads + Wait + Sync, D: LinkDevice + Send, W: Write>(
 
 /// Answers what is left at the end of the input.
 pub(crate) fn finish<R: Threads + Wait + Sync, D: LinkDevice + Send, W: Write>(
-    progress: &Progress,
+    progress: &mut Progress,
     service: &mut Service<D>,
     rt: &R,
     alloc: Global,
     writer: &mut W,
-    told: &mut Vec<u8>,
 ) -> Result<(), ServeFault>
     requires { HasMembers service.old.links.items }
-    ensures ok { AtEachPoint D.state progress.now service.old (W.contents writer.old) (λ trace begun s.
+    ensures ok { AtEachPoint D.state progress.old service.old (W.contents writer.old) (λ trace begun s.
         OnOk result (HasToldAll trace s.taken begun (W.contents writer.new))) }
-    ensures err { AtEachPoint D.state progress.now service.old (W.contents writer.old) (λ trace begun s.
+    ensures err { AtEachPoint D.state progress.old service.old (W.contents writer.old) (λ trace begun s.
         IfErr result (FailsAtEnd trace s.taken begun (W.contents writer.new))) }
 {
     if progress.line.is_empty() {
         return Ok(());
     }
-    told.clear();
-    answer(service, rt, alloc, progress, false, told)?;
-    write_whole(writer, told.as_slice())
+    let answer = answer(service, rt, alloc, progress, false)?;
+    send(
+        writer,
+        &mut progress.room,
+        alloc,
+        service.trace,
+        progress.number,
+        answer,
+    )
 }

@@ -1,22 +1,24 @@
 //! Running the packets of a session.
 
-ghost use Rattle.std.specs.Prelude.{◌≡◌, ◌≤◌, ℕ, List, IfOk, IfErr, OnOk, None, length};
+ghost use Rattle.std.specs.Prelude.{◌≡◌, ◌≤◌, ℕ, IfOk, IfErr, OnOk, None, length, map};
+ghost use Rattle.std.specs.List.{AllZip};
 ghost use Rattle.tp_board.specs.Limits.{most_members};
 ghost use Rattle.tp_farm.specs.Jobs.{value_of_job};
 ghost use Rattle.tp_farm.specs.Refused.{job_fault, IsFromOutside};
-ghost use Rattle.tp_answers.specs.Told.{GoesOnWith};
-ghost use Rattle.tp_answers.specs.Answers.{IsRun};
+ghost use Rattle.tp_answers.specs.Sessions.{Session};
+ghost use Rattle.tp_answers.specs.Rules.{IsOutcome};
+ghost use Rattle.tp_answers.specs.Answers.{AreOutcomes};
+ghost use Rattle.tp_answers.specs.Outcomes.{outcome_of};
 ghost use Rattle.tp_answers.specs.OpenSessions.{session_of};
-ghost use Rattle.tp_answers.specs.Entries.{AreOutcomes};
 ghost use Rattle.tp_session.specs.Fitness.{AreFit, HasMembers, AreAsMany};
-ghost use Rattle.tp_session.specs.Services.{IsWant};
+ghost use Rattle.tp_session.specs.Served.{IsWant};
 
 use crate::fault::ServeFault;
 use std::alloc::Global;
 use std::mem;
 use std::sync::Wait;
 use std::thread::Threads;
-use tp_answers::{OpenSession, tell_done, tell_entries};
+use tp_answers::{OpenSession, Outcomes};
 use tp_collect::Collected;
 use tp_farm::{FarmFault, Job, OpenGate, run_batch};
 use tp_link::{LinkDevice, Links};
@@ -44,8 +46,8 @@ fn run_packets<R: Threads + Wait + Sync, D: LinkDevice + Send>(
 ) -> Result<Collected, ServeFault>
     requires members { HasMembers links.old.items }
     requires begins { job_fault (length links.old.items) (value_of_job job.now) ≡ None }
-    ensures outcomes { AreFit D.state links.old.items →
-        IfOk result (AreOutcomes (value_of_job job.now).image (value_of_job job.now).packets) }
+    ensures outcomes { AreFit D.state links.old.items → IfOk result (λ entries.
+        AllZip (IsOutcome (value_of_job job.now).image) (value_of_job job.now).packets (map outcome_of entries)) }
     ensures members { OnOk result (AreAsMany links.old.items links.new.items) }
     ensures fit { AreFit D.state links.old.items → OnOk result (AreFit D.state links.new.items) }
     ensures want { IfErr result IsWant }
@@ -70,8 +72,8 @@ fn run_on_enough<R: Threads + Wait + Sync, D: LinkDevice + Send>(
 ) -> Result<Collected, ServeFault>
     requires members { HasMembers links.old.items }
     requires begins { (members : ℕ) → 1 ≤ members → members ≤ most_members → job_fault members (value_of_job job.now) ≡ None }
-    ensures outcomes { AreFit D.state links.old.items →
-        IfOk result (AreOutcomes (value_of_job job.now).image (value_of_job job.now).packets) }
+    ensures outcomes { AreFit D.state links.old.items → IfOk result (λ entries.
+        AllZip (IsOutcome (value_of_job job.now).image) (value_of_job job.now).packets (map outcome_of entries)) }
     ensures members { OnOk result (AreAsMany links.old.items links.new.items) }
     ensures fit { AreFit D.state links.old.items → OnOk result (AreFit D.state links.new.items) }
     ensures want { IfErr result IsWant }
@@ -83,30 +85,26 @@ fn run_on_enough<R: Threads + Wait + Sync, D: LinkDevice + Send>(
     Ok(collected)
 }
 
-/// Runs the packets of a session, and tells what became of each, behind what the text says already.
+/// Runs the packets of a session.
 pub(crate) fn run_session<R: Threads + Wait + Sync, D: LinkDevice + Send>(
     rt: &R,
     alloc: Global,
     links: &mut Vec<Links<D>>,
     batch: u64,
-    trace: bool,
-    kept: &OpenSession,
-    text: &mut Vec<u8>,
-) -> Result<(), ServeFault>
+    session: &OpenSession,
+) -> Result<Outcomes, ServeFault>
     requires members { HasMembers links.old.items }
-    ensures run { AreFit D.state links.old.items → (name : List ℕ) →
-        OnOk result (GoesOnWith (IsRun trace (session_of name kept.now)) text.old.items text.new.items) }
+    ensures outcomes { AreFit D.state links.old.items → (s : Session) → s ≡ session_of s.name session.now →
+        IfOk result (AreOutcomes IsOutcome s) }
     ensures members { OnOk result (AreAsMany links.old.items links.new.items) }
     ensures fit { AreFit D.state links.old.items → OnOk result (AreFit D.state links.new.items) }
     ensures want { IfErr result IsWant }
 {
     let job = Job {
         batch,
-        image: &kept.image,
-        packets: &kept.packets,
+        image: &session.image,
+        packets: &session.packets,
     };
     let collected = run_on_enough(rt, alloc, links, &job)?;
-    tell_entries(text, trace, &collected.entries)?;
-    tell_done(text, kept.packets.len())?;
-    Ok(())
+    Ok(Outcomes::new(alloc, &collected)?)
 }

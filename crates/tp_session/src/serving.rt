@@ -1,7 +1,7 @@
 //! Serving an input.
 
-ghost use Rattle.std.specs.Prelude.{IfSome};
-ghost use Rattle.tp_session.specs.Served.{Serves};
+ghost use Rattle.std.specs.Prelude.{◌≡◌, Err, IfSome, IfErr, OnOk};
+ghost use Rattle.tp_session.specs.Served.{ServesAll, ServesRead, ServesBefore, ServesSome, IsWant};
 ghost use Rattle.tp_session.specs.Fitness.{AreFit};
 
 use crate::farm::Farm;
@@ -12,7 +12,6 @@ use std::alloc::Global;
 use std::io::{Read, Write};
 use std::sync::Wait;
 use std::thread::Threads;
-use tp_answers::Sessions;
 use tp_link::LinkDevice;
 
 /// The most bytes that one call of the reader is asked for.
@@ -31,24 +30,24 @@ pub fn serve<T: Threads + Wait + Sync, D: LinkDevice + Send, R: Read, W: Write>(
     writer: &mut W,
     farm: Farm<D>,
 ) -> Result<(), ServeFault>
-    ensures { AreFit D.state farm.links.items → IfSome (R.remaining reader.old) (λ input.
-        Serves farm.trace input (R.remaining reader.new) (W.contents writer.old) (W.contents writer.new) result) }
+    ensures all { AreFit D.state farm.links.items → IfSome (R.remaining reader.old) (λ input. OnOk result
+        (ServesAll farm.trace input (R.remaining reader.new) (W.contents writer.old) (W.contents writer.new))) }
+    ensures read { AreFit D.state farm.links.items → IfSome (R.remaining reader.old) (λ input. result ≡ Err ServeFault.Read →
+        ServesRead farm.trace input (R.remaining reader.new) (W.contents writer.old) (W.contents writer.new)) }
+    ensures want { AreFit D.state farm.links.items → IfSome (R.remaining reader.old) (λ input. IfErr result (λ fault. IsWant fault →
+        ServesBefore farm.trace input (R.remaining reader.new) (W.contents writer.old) (W.contents writer.new))) }
+    ensures write { AreFit D.state farm.links.items → IfSome (R.remaining reader.old) (λ input. result ≡ Err ServeFault.Write →
+        ServesSome farm.trace input (W.contents writer.old) (W.contents writer.new)) }
 {
-    let mut service = Service {
-        sessions: Sessions::new(alloc),
-        links: farm.links,
-        trace: farm.trace,
-        batches: 0,
-    };
+    let mut service = Service::new(alloc, farm.links, farm.trace);
     let mut progress = begin(alloc);
-    let mut told = Vec::new(alloc);
     let mut buffer = [0; READ_SIZE];
     for _ in rt.forever() {
         let Ok(count) = reader.read(&mut buffer) else {
             return Err(ServeFault::Read);
         };
         if count == 0 {
-            return finish(&progress, &mut service, rt, alloc, writer, &mut told);
+            return finish(&mut progress, &mut service, rt, alloc, writer);
         }
         feed(
             &mut progress,
@@ -56,7 +55,6 @@ pub fn serve<T: Threads + Wait + Sync, D: LinkDevice + Send, R: Read, W: Write>(
             rt,
             alloc,
             writer,
-            &mut told,
             &buffer[..count],
         )?;
     }

@@ -1,6 +1,6 @@
 use Rattle.std.proofs.Common.{◌+◌, ◌∷◌, take, ap, sym, ◌∙◌}
 use Rattle.std.proofs.lemmas.List.{take_rest}
-use Rattle.tp_requests.specs.Fields.{fields_of}
+use Rattle.tp_requests.specs.Reading.{fields_of}
 use Rattle.tp_requests.proofs.FieldLemmas.{one_field, more_fields}
 use Rattle.tp_requests.proofs.fields.split_field.Goals as goal
 

@@ -1,11 +1,9 @@
 use Rattle.std.proofs.Common.{false}
-use Rattle.std.proofs.lemmas.Result.{err_from_is_err_and, on_ok_weaker, on_err_weaker}
-use Rattle.tp_session.specs.Services.{state_of_service}
+use Rattle.std.proofs.lemmas.Result.{err_from_is_err_and, on_ok_weaker, IfErr-weaker}
 use Rattle.tp_session.specs.Points.{number_after}
 use Rattle.tp_session.proofs.KnownBytes.{appends_same}
-use Rattle.tp_session.proofs.ServiceLemmas.{from_nothing}
-use Rattle.tp_session.proofs.ReadingLemmas.{answer_at, wanting_at_end, told_nothing_more, told_last, fails_last, nothing_left}
-use Rattle.tp_session.proofs.ReadingLemmas.{something_left, some_of}
+use Rattle.tp_session.proofs.ReadingLemmas.{answer_at, text_at, sent_as, wanting_at_end, told_nothing_more, told_last, fails_last}
+use Rattle.tp_session.proofs.ReadingLemmas.{nothing_left, something_left}
 use Rattle.tp_session.proofs.reading.finish.Goals as goal
 
 pub returns-then-is_empty-clause-ok : goal.returns-then-is_empty-clause-ok
@@ -21,18 +19,19 @@ returns-in_err-answer-clause-err g c trace begun s at =
 pub returns-clause-ok : goal.returns-clause-ok
 returns-clause-ok g c trace begun s at =
     let some = something_left s.line _ _ at.keeps.line_is c.args.progress.now.line.ok.0 c.if-is_empty.ensures in
-    let answer =
-    answer_at _ _ _ _ _ _ s at false c.answer.new.told.items (state_of_service c.answer.new.service)
-    (from_nothing _ _ _ c.clear.ensures.items (c.in_ok-answer.ensures.told at.fit (number_after 1 s.lines) s.line at.keeps)) in
-    told_last _ _ _ _ _ _ s at some _ _ answer _ c.write_whole.result
-    (on_ok_weaker c.write_whole.result (appends_same _ _ _ _ c.as_slice.ensures.value) c.write_whole.ensures.ok)
+    let is =
+    answer_at _ _ _ _ _ _ s at false c.in_ok-answer.answer _
+    (c.in_ok-answer.ensures.answer at.fit (number_after 1 s.lines) s.line at.keeps) in
+    let text = text_at _ _ _ _ _ _ s at _ c.in_ok-answer.answer c.in_ok-answer.ensures.stays.trace in
+    on_ok_weaker c.send.result (λ wrote. told_last _ _ _ _ _ _ s at some c.in_ok-answer.answer _ is _
+    (appends_same _ _ _ _ text wrote)) c.send.ensures.ok
 
 pub returns-clause-err : goal.returns-clause-err
 returns-clause-err g c trace begun s at =
     let some = something_left s.line _ _ at.keeps.line_is c.args.progress.now.line.ok.0 c.if-is_empty.ensures in
-    let answer =
-    answer_at _ _ _ _ _ _ s at false c.answer.new.told.items (state_of_service c.answer.new.service)
-    (from_nothing _ _ _ c.clear.ensures.items (c.in_ok-answer.ensures.told at.fit (number_after 1 s.lines) s.line at.keeps)) in
-    fails_last _ _ _ _ _ _ s at some _ _ answer _ c.write_whole.result
-    (on_err_weaker c.write_whole.result (some_of _ _ _ _ c.as_slice.ensures.value) c.write_whole.ensures.err)
-    c.write_whole.ensures.fault
+    let is =
+    answer_at _ _ _ _ _ _ s at false c.in_ok-answer.answer _
+    (c.in_ok-answer.ensures.answer at.fit (number_after 1 s.lines) s.line at.keeps) in
+    let text = text_at _ _ _ _ _ _ s at _ c.in_ok-answer.answer c.in_ok-answer.ensures.stays.trace in
+    IfErr-weaker c.send.result _ _ (λ e sent. fails_last _ _ _ _ _ _ s at some c.in_ok-answer.answer _ is _ e
+    (sent_as _ _ _ _ e text sent)) c.send.ensures.err

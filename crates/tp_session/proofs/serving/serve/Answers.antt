@@ -1,8 +1,9 @@
-use Rattle.std.proofs.Common.{◌<◌, length, ap, ◌∙◌, refl, arith}
+use Rattle.std.proofs.Common.{◌<◌, Err, length, ◌∙◌, ap, sym, subst, arith}
 use Rattle.std.proofs.lemmas.Result.{err_from_is_err_and}
-use Rattle.tp_answers.specs.Answers.{service_state}
 use Rattle.tp_session.proofs.ServeLemmas.{SoFar, if_known, none_read, serves_read, serves_fed, short_read, so_far_more}
-use Rattle.tp_session.proofs.ServeLemmas.{nothing_taken, ends_by}
+use Rattle.tp_session.specs.declared.fault.ServeFault.TheVariants.{Read}
+use Rattle.tp_session.specs.Fitness.{AreFit}
+use Rattle.tp_session.proofs.ServeLemmas.{nothing_taken, ends_by, by_outcome}
 use Rattle.tp_session.proofs.MemberLemmas.{still_members, members_of}
 use Rattle.tp_session.proofs.serving.serve.Goals as goal
 
@@ -10,27 +11,34 @@ pub loop-init : goal.loop-init
 loop-init g c = record {
   turns = (tt, tt);
   room = omega arith;
-  members = members_of c.args.farm _ refl;
-  as_many = refl;
-  so_far =
-      λ fit. nothing_taken _ _ _ _ _ _ c.begin-progress.ensures (ap (λ sessions. service_state sessions 0) c.new.ensures, refl) fit;
+  members = members_of c.args.farm _ (ap (λ l. length l.items) c.new-service.ensures.links);
+  as_many = ap (λ l. length l.items) c.new-service.ensures.links;
+  so_far = λ fit.
+      nothing_taken _ _ _ _ _ _ c.begin-progress.ensures (c.new-service.ensures.sessions, c.new-service.ensures.trace)
+      (subst (λ l. AreFit g.D.LinkDevice.state l.items) (sym c.new-service.ensures.links) fit);
 }
 
 pub returns-in_default : goal.returns-in_default
-returns-in_default g c fit =
+returns-in_default g c =
+    let four = by_outcome {Premise = AreFit g.D.LinkDevice.state c.args.farm.links.items} c.args.farm.trace
+    (g.R.Read.remaining c.args.reader.now) _ (g.W.Write.contents c.args.writer.now) _ (Err Read) (λ fit.
     if_known (λ input. SoFar g.D.LinkDevice.state c.args.farm.trace input (g.R.Read.remaining c.loop.reader)
     (g.W.Write.contents c.args.writer.now) (g.W.Write.contents c.loop.writer) c.loop.progress c.loop.service) _
-    (c.loop.invariant.so_far fit) (λ input so_far. serves_read _ _ input _ _ _ _ _ _ so_far c.in_default.ensures.bytes)
+    (c.loop.invariant.so_far fit) (λ input so_far. serves_read _ _ input _ _ _ _ _ _ so_far c.in_default.ensures.bytes)) in
+    record { all = four.all; read = four.read; want = four.want; write = four.write }
 
 pub returns-then-count-eq0 : goal.returns-then-count-eq0
-returns-then-count-eq0 g c fit =
+returns-then-count-eq0 g c =
     let some : 0 < length c.read.new.buf = omega (arith, c.read.auto.buf, c.loop.invariant.room) in
     let none = none_read _ _ c.in-Ok.count _ c.if-count-eq0.true c.in-Ok.ensures.bytes.0 in
+    let four = by_outcome {Premise = AreFit g.D.LinkDevice.state c.args.farm.links.items} c.args.farm.trace
+    (g.R.Read.remaining c.args.reader.now) _ (g.W.Write.contents c.args.writer.now) _ c.finish.result (λ fit.
     if_known (λ input. SoFar g.D.LinkDevice.state c.args.farm.trace input (g.R.Read.remaining c.loop.reader)
     (g.W.Write.contents c.args.writer.now) (g.W.Write.contents c.loop.writer) c.loop.progress c.loop.service) _
     (c.loop.invariant.so_far fit) (λ input so_far. ends_by _ _ input _ _ _ _ _ _ _ _ so_far none
     (c.in-Ok.ensures.bytes.1 c.if-count-eq0.true some) (c.finish.ensures.ok _ _ so_far.point so_far.is)
-    (c.finish.ensures.err _ _ so_far.point so_far.is))
+    (c.finish.ensures.err _ _ so_far.point so_far.is))) in
+    record { all = four.all; read = four.read; want = four.want; write = four.write }
 
 pub loop-preserved : goal.loop-preserved
 loop-preserved g c = record {
@@ -46,10 +54,13 @@ loop-preserved g c = record {
 }
 
 pub returns-in_err-feed : goal.returns-in_err-feed
-returns-in_err-feed g c fit =
+returns-in_err-feed g c =
     let p = err_from_is_err_and c.from_residual.result c.from_residual.ensures.1 in
-    rw (p.1, p.2) (if_known (λ input. SoFar g.D.LinkDevice.state c.args.farm.trace input (g.R.Read.remaining c.loop.reader)
+    let four = by_outcome {Premise = AreFit g.D.LinkDevice.state c.args.farm.links.items} c.args.farm.trace
+    (g.R.Read.remaining c.args.reader.now) _ (g.W.Write.contents c.args.writer.now) _ c.from_residual.result (λ fit. rw (p.1, p.2) (
+    if_known (λ input. SoFar g.D.LinkDevice.state c.args.farm.trace input (g.R.Read.remaining c.loop.reader)
     (g.W.Write.contents c.args.writer.now) (g.W.Write.contents c.loop.writer) c.loop.progress c.loop.service) _
     (c.loop.invariant.so_far fit) (λ input so_far. serves_fed _ _ input _ _ _ _ _ _ _ _ _ so_far c.in-Ok.ensures.bytes.0
     (short_read _ _ (omega (arith, c.read.auto.buf, c.loop.invariant.room)))
-    (c.in_err-feed.ensures.err _ _ so_far.point so_far.is)))
+    (c.in_err-feed.ensures.err _ _ so_far.point so_far.is)))) in
+    record { all = four.all; read = four.read; want = four.want; write = four.write }

@@ -1,8 +1,0 @@
-use Rattle.std.proofs.Common.{◌≡◌, ◌++◌, take}
-use Rattle.std.specs.List.{flat_map}
-use Rattle.tp_decode.specs.Lines.{lines_from}
-use Rattle.tp_answers.specs.Told.{written}
-use Rattle.tp_answers.proofs.answers.lines.Given as goal
-
-abbrev pub invariant-loop-i : goal.invariant-loop-i
-invariant-loop-i l = l.told.items ≡ l.fn.told.items ++ flat_map written (take l.i (lines_from 0 l.listing))
