@@ -12,7 +12,6 @@
 mod arithmetic;
 mod bits;
 mod control;
-mod decode;
 mod fault;
 mod functions;
 mod machine;

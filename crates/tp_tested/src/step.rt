@@ -7,7 +7,6 @@ ghost use Rattle.tp_step.specs.Steps.{step};
 ghost use Rattle.tp_machine.specs.Devices.{devices_of};
 ghost use Rattle.tp_machine.specs.Turning.{is_quiet};
 
-use crate::decode::instruction;
 use crate::machine::Machine;
 use crate::phase::Phase;
 use crate::places::code_byte;
@@ -166,7 +165,7 @@ impl Machine {
             }
             function => {
                 self.clear_operand();
-                match instruction(function, operand.cast_signed()) {
+                match Instr::of(function, operand.cast_signed()) {
                     Some(instr) => self.execute(image, links, phase, instr),
                     None => Turn::Stuck,
                 }

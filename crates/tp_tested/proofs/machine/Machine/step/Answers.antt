@@ -9,9 +9,9 @@ use Rattle.tp_tested.specs.Phases.{is_stopped}
 use Rattle.tp_tested.proofs.TurnLemmas.{turned_alike, not_stopped}
 use Rattle.tp_tested.proofs.machine.Machine.step.Goals as goal
 
-pub returns-in-Some-instruction : goal.returns-in-Some-instruction
+pub returns-in-Some-of : goal.returns-in-Some-of
 unfolding step
-returns-in-Some-instruction g c =
+returns-in-Some-of g c =
     let image = c.args.image.now in
     let f = c.in-Some.byte / 16 in
     let fits : SFits w64 c.args.self.now.iptr = search rules in
@@ -21,9 +21,9 @@ returns-in-Some-instruction g c =
     let byte_is : code_byte image.code c.args.self.now.iptr ≡ Some c.in-Some.byte = sym (simp to_z-of_z at c.in-Some.ensures.value) in
     let fits' : SFits w32 c.cast_signed.result = search rules in
     let operand : c.cast_signed.result ≡ signed (c.args.self.now.oreg + c.in-Some.byte % 16) = simp (c.from.ensures, c.advance.ensures) at c.cast_signed.ensures in
-    let found = simp to_z-of_z at c.in-Some-instruction.ensures in
-    let instr_is : instruction f (signed (c.args.self.now.oreg + c.in-Some.byte % 16)) ≡ Some c.in-Some-instruction.instr = sym (found ∙ ap (instruction f) operand) in
-    turned_alike image (step image) (effect image c.in-Some-instruction.instr) (state_of c.args.self.now) (state_of c.clear_operand.new.self) (state_of c.execute.new.self) c.args.phase.now c.execute.new.phase _ _ c.execute.result
+    let found = simp to_z-of_z at c.in-Some-of.ensures in
+    let instr_is : instruction f (signed (c.args.self.now.oreg + c.in-Some.byte % 16)) ≡ Some c.in-Some-of.instr = sym (found ∙ ap (instruction f) operand) in
+    turned_alike image (step image) (effect image c.in-Some-of.instr) (state_of c.args.self.now) (state_of c.clear_operand.new.self) (state_of c.execute.new.self) c.args.phase.now c.execute.new.phase _ _ c.execute.result
     (λ p is. rw (c.clear_operand.ensures.rest p, c.advance.ensures, is, going, byte_is, not_pfix, not_nfix, instr_is) refl)
     (λ p. (refl, refl, refl))
     c.execute.ensures
