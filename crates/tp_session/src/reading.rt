@@ -44,6 +44,7 @@ fn without_return(line: &[u8]) -> &[u8]
 }
 
 /// The answer to the line that is being read, which a line feed has ended or the end of the input.
+#[inline(always)]
 fn answer<R: Threads + Wait + Sync, D: LinkDevice + Send>(
     service: &mut Service<D>,
     rt: &R,
@@ -100,6 +101,7 @@ fn give_back(room: &mut Vec<u8>, alloc: Global) {
 }
 
 /// Writes the answer to the line of a number whole, and flushes it. Its text takes the room of the one before.
+#[inline(always)]
 fn send<W: Write>(
     writer: &mut W,
     room: &mut Vec<u8>,

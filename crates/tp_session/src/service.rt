@@ -116,6 +116,8 @@ impl<D: LinkDevice + Send> Service<D> {
     }
 
     /// The answer to a request.
+    // Inlined, as what answers a line is: else each answer is copied once more on its way to where it is written.
+    #[inline(always)]
     fn answer<R: Threads + Wait + Sync>(
         &mut self,
         rt: &R,
@@ -140,6 +142,7 @@ impl<D: LinkDevice + Send> Service<D> {
     }
 
     /// The answer to what a line says.
+    #[inline(always)]
     pub(crate) fn answer_line<R: Threads + Wait + Sync>(
         &mut self,
         rt: &R,
