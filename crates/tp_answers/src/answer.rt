@@ -1,7 +1,9 @@
 //! Answers, as values.
 
 use crate::outcomes::{AllOutcomes, Outcomes};
+use std::alloc::{AllocError, Global};
 use std::fmt;
+use std::marker::Model;
 use tp_accept::RefusalCode;
 use tp_decode::{DecodeCode, Listing};
 
@@ -59,11 +61,44 @@ impl fmt::Display for LineFault {
     }
 }
 
+/// A listing, in a box: an answer is handed on several times, and most have a few words to say.
+#[derive(Drop)]
+pub struct BoxedListing {
+    listing: Box<Listing>,
+}
+
+impl Model for BoxedListing {
+    ghost use Rattle.std.specs.Prelude.{List};
+    ghost use Rattle.tp_decode.specs.Cutting.{Cut};
+
+    ghost Value = { List Cut };
+
+    ghost view = { λ boxed. boxed.listing.value };
+}
+
+impl BoxedListing {
+    ghost use Rattle.std.specs.Prelude.{◌≡◌, IfOk};
+
+    pub(crate) fn new(alloc: Global, listing: Listing) -> Result<BoxedListing, AllocError>
+        ensures { IfOk result (λ boxed. boxed ≡ listing) }
+    {
+        Ok(BoxedListing {
+            listing: Box::new(alloc, listing)?,
+        })
+    }
+
+    pub(crate) fn listing(&self) -> &Listing
+        ensures { result.now ≡ self.now }
+    {
+        &self.listing
+    }
+}
+
 /// What a line is answered with.
 #[derive(Drop)]
 pub enum Answer {
     /// The instructions of a code.
-    Listed(Listing),
+    Listed(BoxedListing),
     /// The image is accepted, and its session is open.
     Yes { code_bytes: usize, budget: u32 },
     /// The packet is kept under this number of the coming batch.

@@ -10,7 +10,7 @@ ghost use Rattle.tp_answers.specs.Rules.{IsVerdict};
 ghost use Rattle.tp_answers.specs.Answers.{IsAnswerToList, IsAnswerToImage, IsAfterImage, answer_to_packet};
 ghost use Rattle.tp_answers.specs.Answers.{answer_to_drop, unless_refused};
 
-use crate::answer::{Answer, LineFault};
+use crate::answer::{Answer, BoxedListing, LineFault};
 use crate::session::OpenSession;
 use crate::sessions::Sessions;
 use std::alloc::{AllocError, Global};
@@ -32,7 +32,7 @@ pub fn list(alloc: Global, code: &[u8]) -> Result<Answer, AllocError>
     ensures { IfOk result (IsAnswerToList (cutting code.now)) }
 {
     match decode(alloc, code) {
-        Ok(listing) => Ok(Answer::Listed(listing)),
+        Ok(listing) => Ok(Answer::Listed(BoxedListing::new(alloc, listing)?)),
         Err(DecodeFault::Refused { code, place }) => {
             Ok(Answer::Refused(LineFault::Code { code, place }))
         }

@@ -12,7 +12,7 @@ mod session;
 mod sessions;
 mod writing;
 
-pub use answer::{Answer, LineFault};
+pub use answer::{Answer, BoxedListing, LineFault};
 pub use answers::{drop_session, keep, list, open};
 pub use outcomes::{AllOutcomes, Outcomes};
 pub use session::OpenSession;

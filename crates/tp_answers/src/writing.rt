@@ -169,7 +169,8 @@ pub fn write_answer(
     ensures { OnOk result (out.new.items ≡ out.old.items ++ answer_text trace number answer.now) }
 {
     match answer {
-        Answer::Listed(listing) => {
+        Answer::Listed(boxed) => {
+            let listing = boxed.listing();
             write_lines(out, alloc, listing)?;
             write_done(out, listing.len())
         }

@@ -108,14 +108,14 @@ fn send<W: Write>(
     alloc: Global,
     trace: bool,
     number: u64,
-    answer: Answer,
+    answer: &Answer,
 ) -> Result<(), ServeFault>
-    ensures ok { OnOk result (Appends (W.contents writer.old) (W.contents writer.new) (answer_text trace number answer)) }
+    ensures ok { OnOk result (Appends (W.contents writer.old) (W.contents writer.new) (answer_text trace number answer.now)) }
     ensures err { IfErr result (IsSentInPart (W.contents writer.old) (W.contents writer.new)
-        (answer_text trace number answer)) }
+        (answer_text trace number answer.now)) }
 {
     room.clear();
-    write_answer(room, alloc, trace, number, &answer)?;
+    write_answer(room, alloc, trace, number, answer)?;
     write_whole(writer, room.as_slice())?;
     give_back(room, alloc);
     Ok(())
@@ -144,7 +144,7 @@ fn end_line<R: Threads + Wait + Sync, D: LinkDevice + Send, W: Write>(
         alloc,
         service.trace,
         progress.number,
-        answer,
+        &answer,
     )?;
     progress.line.clear();
     progress.long = false;
@@ -235,6 +235,6 @@ pub(crate) fn finish<R: Threads + Wait + Sync, D: LinkDevice + Send, W: Write>(
         alloc,
         service.trace,
         progress.number,
-        answer,
+        &answer,
     )
 }
