@@ -7,3 +7,4 @@ pub mod RunLemmas
 pub mod ServiceLemmas
 pub mod OneAnswer
 pub mod MemberLemmas
+pub mod InTime

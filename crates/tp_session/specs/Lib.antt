@@ -1,5 +1,6 @@
 -- What a reader must believe: clauses of public calls cite it.
 pub mod Protocol
+pub mod InTime
 pub mod Served
 pub mod Fitness
 pub use Rattle.tp_board.specs.Limits

@@ -6,7 +6,12 @@ ghost use Rattle.tp_answers.specs.Results.{RunResult};
 ghost use Rattle.tp_answers.specs.Answers.{Verdict};
 ghost use Rattle.tp_session.specs.Protocol.{IsServedBy, next_number};
 ghost use Rattle.tp_session.specs.Served.{IsServed, AreRuled};
+ghost use Rattle.tp_session.specs.InTime.{IsOutcomeInTime};
+ghost use Rattle.tp_requests.specs.Lines.{lines_of};
+ghost use Rattle.tp_answers.specs.Rules.{IsVerdict};
+ghost use Rattle.tp_session.specs.Protocol as protocol;
 
+use tp_accept::laws::exact::acceptable_images_alone_may_be_run;
 use tp_accept::laws::one_text_has_one_answer;
 
 /// What is served for an input is a function of the input, and of whether traces are told.
@@ -26,6 +31,15 @@ pub fn what_is_served_follows_the_protocol()
         (trace : Bool) (input told told' : List ℕ) → IsServedBy verdict outcome trace input told →
         IsServedBy verdict outcome trace input told' → told ≡ told' }
 {}
+
+/// The headline, read off what is written: each result that is served is that of a run which ends within the budget that `YES`
+/// told for its image, and no state on the run's way is stuck.
+pub fn results_are_in_time()
+    ensures { (trace : Bool) (input told : List ℕ) → IsServed trace input told →
+        protocol.AreTold IsVerdict IsOutcomeInTime trace (lines_of input) told }
+{
+    acceptable_images_alone_may_be_run();
+}
 
 /// The number of a line stays at the greatest number of 64 bits.
 pub fn line_numbers_stay_at_the_greatest()
