@@ -25,12 +25,10 @@ use crate::desk::{
 use crate::line::{Item, Line, Place, drained, feed, join, new_hand, opened, take};
 use crate::source::{Packet, Work, WorkSource, copied};
 use crate::stream_hand::{Fed, Feeder, StreamHand, StreamLedger};
+use crate::waiting::Waiting;
 use std::alloc::Global;
-use std::hint;
 use std::marker::Model;
 use std::sync::Wait;
-use std::thread::Parker;
-use std::time::Duration;
 
 /// Packets that one thread feeds in order of number, through a queue of 32 places, and the members
 /// take, each with its own hand. Shared by `&` between their threads.
@@ -43,6 +41,7 @@ pub struct StreamQueue<'p> {
     members: u32,
     line: Line,
     desk: Desk,
+    waiting: Waiting,
 }
 
 impl<'p> Model for StreamQueue<'p> {
@@ -61,26 +60,6 @@ pub struct StreamCloseFault<'p> {
     pub stream: StreamQueue<'p>,
     pub feeder: Feeder,
     pub hands: Vec<StreamHand>,
-}
-
-// So many tries may find the queue empty before a member rests at each, and so many pauses stand before each of them.
-const TRIES_BEFORE_REST: u32 = 16;
-
-const PAUSES: u32 = 256;
-
-// How long a member rests, in microseconds.
-const REST: u64 = 10;
-
-// Leaves the queue to the feeder after a try that found it empty: at first by pauses, then by a rest. It never yields: where
-// others keep the processors busy, a yield gives them a whole turn, and one who has rested is called back soon.
-fn give_way<R: Wait>(rt: &R, tries: u32) {
-    if tries < TRIES_BEFORE_REST {
-        for _ in 0..PAUSES {
-            hint::spin_loop();
-        }
-    } else {
-        Parker::new().park_timeout(rt, Duration::from_micros(REST));
-    }
 }
 
 impl<'p> StreamQueue<'p> {
@@ -125,6 +104,7 @@ impl<'p> StreamQueue<'p> {
             members,
             line,
             desk,
+            waiting: Waiting::new(),
         };
         Ok((stream, feeder, hands))
     }
@@ -191,7 +171,16 @@ impl<'p> StreamQueue<'p> {
             Item::Number(_) => feeder.pushed += 1,
             Item::End => feeder.marks += 1,
         }
+        self.waiting.pushed(item);
         true
+    }
+
+    /// Sleeps until members have taken half of what the queue has room for, the stream is stopped, or a millisecond has
+    /// passed: for the feeder, where the queue was full.
+    pub fn wait_for_room<R: Wait>(&self, rt: &R, _feeder: &mut Feeder)
+        ensures { _feeder.new ≡ _feeder.old }
+    {
+        self.waiting.sleep_as_feeder(rt);
     }
 
     /// Sets the stop mark, by one step.
@@ -202,6 +191,7 @@ impl<'p> StreamQueue<'p> {
         ensures turn { feeder.new.turn ≡ feeder.old.turn }
     {
         set_stop(&self.desk, &mut feeder.token);
+        self.waiting.wake_members();
     }
 
     // One load of the stop mark and, where that is clear, one try to pop. None only where the queue
@@ -220,17 +210,18 @@ impl<'p> StreamQueue<'p> {
             hand.stop_seen = true;
             return Some(Work::Stopped);
         }
-        match take(rt, &self.line, &mut hand.pass) {
-            Some(Item::Number(number)) => {
+        let item = take(rt, &self.line, &mut hand.pass)?;
+        self.waiting.popped(item);
+        match item {
+            Item::Number(number) => {
                 hand.number = Some(number);
                 let bytes = copied(&self.packets[number as usize]);
                 Some(Work::Packet { number, bytes })
             }
-            Some(Item::End) => {
+            Item::End => {
                 hand.ended = true;
                 Some(Work::NoMore)
             }
-            None => None,
         }
     }
 
@@ -268,6 +259,7 @@ impl<'p> StreamQueue<'p> {
             members: _,
             line: _,
             desk,
+            waiting: _,
         } = self;
         let closed = desk.close_with(token);
         let done = closed.word(DONE);
@@ -396,13 +388,12 @@ impl<'p> WorkSource for StreamQueue<'p> {
         if hand.stop_seen {
             return Work::Stopped;
         }
-        let mut tries = 0u32;
         for _ in rt.forever() {
+            let wakes = self.waiting.wakes();
             if let Some(work) = self.try_next(rt, hand) {
                 return work;
             }
-            give_way(rt, tries);
-            tries = TRIES_BEFORE_REST.min(tries.saturating_add(1));
+            self.waiting.sleep_as_member(rt, wakes);
         }
         unreachable!()
     }
@@ -451,5 +442,7 @@ impl<'p> WorkSource for StreamQueue<'p> {
         ensures steps { StopSays (hand_seen hand.old) (hand_seen hand.new) }
     {
         set_stop(&self.desk, &mut hand.token);
+        self.waiting.wake_members();
+        self.waiting.wake_feeder();
     }
 }

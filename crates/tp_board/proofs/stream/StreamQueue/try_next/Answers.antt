@@ -9,23 +9,23 @@ use Rattle.tp_board.specs.Streams.{HandView, StreamView, hand_seen, seen_of, Nex
 use Rattle.tp_board.proofs.Handing.{hand_popped, says_number, says_end, get_map, below_map}
 use Rattle.tp_board.proofs.stream.StreamQueue.try_next.Goals as goal
 
-pub invariant_of-hand-in-Some-Number : goal.invariant_of-hand-in-Some-Number
-invariant_of-hand-in-Some-Number g c =
+pub invariant_of-hand-in-Number : goal.invariant_of-hand-in-Number
+invariant_of-hand-in-Number g c =
     let i = c.hand.invariant in
     let is = c.hand.view_is in
     let looked = c.look_stop.ensures in
     let empty = ap (λ (h : HandView). h.number) is ∙ c.requires.empty in
     let none = ap (λ (h : HandView). h.place.seen.stop) is ∙ c.requires.going.1 in
     let popped =
-    subst (λ (x : Item). Took (view c.hand.inside.pass) x (view c.take.new.pass)) c.in-Some-Number.field-0-is
-    c.in-Some-Number.ensures.1 in (
+    subst (λ (x : Item). Took (view c.hand.inside.pass) x (view c.take.new.pass)) c.in-Number.is
+    c.in_ok-item.ensures.1 in (
       hand_popped _ _ _ _ _ _ _ _ _ empty i.0 none c.if-look_stop-ne0.false looked.step.0 popped.0 popped.1,
-      c.in-Some-Number.ensures.0.2 ∙ i.1,
+      c.in_ok-item.ensures.0.2 ∙ i.1,
       looked.own.1 ∙ i.2,
     )
 
-pub returns-in-Some-Number-clause-some : goal.returns-in-Some-Number-clause-some
-returns-in-Some-Number-clause-some g c =
+pub returns-in-Number-clause-some : goal.returns-in-Number-clause-some
+returns-in-Number-clause-some g c =
     let i = c.hand.invariant in
     let is = c.hand.view_is in
     let looked = c.look_stop.ensures in
@@ -33,9 +33,9 @@ returns-in-Some-Number-clause-some g c =
     let going = ap (λ (h : HandView). h.turn.ended) is ∙ c.requires.going.0 in
     let none = ap (λ (h : HandView). h.place.seen.stop) is ∙ c.requires.going.1 in
     let popped =
-    subst (λ (x : Item). Took (view c.hand.inside.pass) x (view c.take.new.pass)) c.in-Some-Number.field-0-is
-    c.in-Some-Number.ensures.1 in
-    let n : ℕ = c.in-Some-Number.number in
+    subst (λ (x : Item). Took (view c.hand.inside.pass) x (view c.take.new.pass)) c.in-Number.is
+    c.in_ok-item.ensures.1 in
+    let n : ℕ = c.in-Number.number in
     subst (λ (h : HandView). NextAfter [] (hand_seen h) (work.Packet n c.index-self-number.result)
     (seen_of (view c.take.new.pass) c.look_stop.new.token.me.0 (n ∷ []))) is (
       going,
@@ -46,21 +46,21 @@ returns-in-Some-Number-clause-some g c =
           looked.step.2 n (n ∷ []) refl popped.0 popped.1,
     )
 
-pub returns-in-Some-Number-clause-bytes : goal.returns-in-Some-Number-clause-bytes
-returns-in-Some-Number-clause-bytes g c =
+pub returns-in-Number-clause-bytes : goal.returns-in-Number-clause-bytes
+returns-in-Number-clause-bytes g c =
     let is = c.hand.view_is in
     let popped =
-    subst (λ (x : Item). Took (view c.hand.inside.pass) x (view c.take.new.pass)) c.in-Some-Number.field-0-is
-    c.in-Some-Number.ensures.1 in
-    let n : ℕ = c.in-Some-Number.number in
+    subst (λ (x : Item). Took (view c.hand.inside.pass) x (view c.take.new.pass)) c.in-Number.is
+    c.in_ok-item.ensures.1 in
+    let n : ℕ = c.in-Number.number in
     let here = ap (λ (q : StreamView). length q.packets) c.self.view_is in
     let sizes = ap (λ (h : HandView). h.turn.packets) is ∙ c.requires.own.2 ∙ sym here in
     let below : n < length c.self.inside.packets.now = below_map _ c.self.inside.packets.now n _ sizes popped.1.0 in
     ap (λ (q : StreamView). slice_get q.packets n) (sym c.self.view_is)
     ∙ get_map _ c.self.inside.packets.now n c.index-self-number.result below ∙ ap Some (sym c.copied-bytes.ensures)
 
-pub returns-in-Some-End-clause-some : goal.returns-in-Some-End-clause-some
-returns-in-Some-End-clause-some g c =
+pub returns-in-End-clause-some : goal.returns-in-End-clause-some
+returns-in-End-clause-some g c =
     let i = c.hand.invariant in
     let is = c.hand.view_is in
     let looked = c.look_stop.ensures in
@@ -68,8 +68,8 @@ returns-in-Some-End-clause-some g c =
     let going = ap (λ (h : HandView). h.turn.ended) is ∙ c.requires.going.0 in
     let none = ap (λ (h : HandView). h.place.seen.stop) is ∙ c.requires.going.1 in
     let popped =
-    subst (λ (x : Item). Took (view c.hand.inside.pass) x (view c.take.new.pass)) c.in-Some-End.field-0-is
-    c.in-Some-End.ensures.1 in
+    subst (λ (x : Item). Took (view c.hand.inside.pass) x (view c.take.new.pass)) c.in-End.is
+    c.in_ok-item.ensures.1 in
     let packets = c.hand.inside.pass.me.0.client.packets in
     subst (λ (h : HandView). NextAfter [] (hand_seen h) work.NoMore
     (seen_of (view c.take.new.pass) c.look_stop.new.token.me.0 (hand_list c.hand.inside.number))) is
