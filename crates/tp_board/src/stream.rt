@@ -191,7 +191,7 @@ impl<'p> StreamQueue<'p> {
         ensures turn { feeder.new.turn ≡ feeder.old.turn }
     {
         set_stop(&self.desk, &mut feeder.token);
-        self.waiting.wake_members();
+        self.waiting.wake_all();
     }
 
     // One load of the stop mark and, where that is clear, one try to pop. None only where the queue
@@ -388,12 +388,17 @@ impl<'p> WorkSource for StreamQueue<'p> {
         if hand.stop_seen {
             return Work::Stopped;
         }
+        let mut has_slept = false;
         for _ in rt.forever() {
             let wakes = self.waiting.wakes();
             if let Some(work) = self.try_next(rt, hand) {
+                if has_slept {
+                    self.waiting.wake_member();
+                }
                 return work;
             }
             self.waiting.sleep_as_member(rt, wakes);
+            has_slept = true;
         }
         unreachable!()
     }
@@ -442,7 +447,6 @@ impl<'p> WorkSource for StreamQueue<'p> {
         ensures steps { StopSays (hand_seen hand.old) (hand_seen hand.new) }
     {
         set_stop(&self.desk, &mut hand.token);
-        self.waiting.wake_members();
-        self.waiting.wake_feeder();
+        self.waiting.wake_all();
     }
 }

@@ -43,7 +43,7 @@ impl Waiting {
         (self.wakes.load(Ordering::SeqCst) % (1 << 32)) as u32
     }
 
-    /// A member sleeps until members are woken again.
+    /// A member sleeps until it is woken, or does not where a member was woken since it read `wakes`.
     pub fn sleep_as_member<R: Wait>(&self, rt: &R, wakes: u32) {
         let longest = Duration::from_micros(LONGEST_SLEEP);
         self.wakes.park_timeout(rt, wakes, longest);
@@ -55,26 +55,30 @@ impl Waiting {
         self.feeder.park_timeout(rt, longest);
     }
 
-    pub fn wake_members(&self) {
+    /// Wakes one member, which wakes the next once it has work: so members of which a few are enough do not wake each other in vain.
+    pub fn wake_member(&self) {
         self.wakes.fetch_add(1, Ordering::SeqCst);
-        self.wakes.wake_all();
+        self.wakes.wake_one();
     }
 
-    pub fn wake_feeder(&self) {
+    /// Wakes all: the stream is stopped.
+    pub fn wake_all(&self) {
+        self.wakes.fetch_add(1, Ordering::SeqCst);
+        self.wakes.wake_all();
         self.feeder.unpark();
     }
 
     /// The feeder has pushed this.
     pub fn pushed(&self, item: Item) {
         if is_worth_a_wake(item) {
-            self.wake_members();
+            self.wake_member();
         }
     }
 
     /// A member has popped this.
     pub fn popped(&self, item: Item) {
         if is_worth_a_wake(item) {
-            self.wake_feeder();
+            self.feeder.unpark();
         }
     }
 }
