@@ -1,13 +1,12 @@
 use Rattle.std.proofs.Common.{◌≡◌, ℕ, ◌<◌, ◌∷◌, [], length, refl, inr, sym, ap, ◌∙◌, subst, arith}
-use Rattle.std.specs.Prelude.{slice_get, Some}
 use Rattle.crossbeam_queue.specs.Passes.{view}
 use Rattle.tp_board.specs.declared.line.Item.{Item}
-use Rattle.tp_board.specs.declared.source.Work.TheVariants as work
+use Rattle.tp_board.specs.declared.answer.Claim.TheVariants as claim
 use Rattle.tp_board.specs.Counting.{hand_list}
 use Rattle.tp_board.specs.Lines.{Took}
-use Rattle.tp_board.specs.Streams.{HandView, StreamView, hand_seen, seen_of, NextAfter}
-use Rattle.tp_board.proofs.Handing.{hand_popped, says_number, says_end, get_map, below_map}
-use Rattle.tp_board.proofs.stream.StreamQueue.try_next.Goals as goal
+use Rattle.tp_board.specs.Streams.{HandView, hand_seen, seen_of, NextAfter}
+use Rattle.tp_board.proofs.Handing.{hand_popped, says_number, says_end}
+use Rattle.tp_board.proofs.stream.StreamQueue.try_claim.Goals as goal
 
 pub invariant_of-hand-in-Number : goal.invariant_of-hand-in-Number
 invariant_of-hand-in-Number g c =
@@ -36,7 +35,7 @@ returns-in-Number-clause-some g c =
     subst (λ (x : Item). Took (view c.hand.inside.pass) x (view c.take.new.pass)) c.in-Number.is
     c.in_ok-item.ensures.1 in
     let n : ℕ = c.in-Number.number in
-    subst (λ (h : HandView). NextAfter [] (hand_seen h) (work.Packet n c.index-self-number.result)
+    subst (λ (h : HandView). NextAfter [] (hand_seen h) (claim.Packet n)
     (seen_of (view c.take.new.pass) c.look_stop.new.token.me.0 (n ∷ []))) is (
       going,
       none,
@@ -45,19 +44,6 @@ returns-in-Number-clause-some g c =
       says_number _ _ _ _ _ _ _ _ empty i.0 going c.if-look_stop-ne0.false looked.step.0
           looked.step.2 n (n ∷ []) refl popped.0 popped.1,
     )
-
-pub returns-in-Number-clause-bytes : goal.returns-in-Number-clause-bytes
-returns-in-Number-clause-bytes g c =
-    let is = c.hand.view_is in
-    let popped =
-    subst (λ (x : Item). Took (view c.hand.inside.pass) x (view c.take.new.pass)) c.in-Number.is
-    c.in_ok-item.ensures.1 in
-    let n : ℕ = c.in-Number.number in
-    let here = ap (λ (q : StreamView). length q.packets) c.self.view_is in
-    let sizes = ap (λ (h : HandView). h.turn.packets) is ∙ c.requires.own.2 ∙ sym here in
-    let below : n < length c.self.inside.packets.now = below_map _ c.self.inside.packets.now n _ sizes popped.1.0 in
-    ap (λ (q : StreamView). slice_get q.packets n) (sym c.self.view_is)
-    ∙ get_map _ c.self.inside.packets.now n c.index-self-number.result below ∙ ap Some (sym c.copied-bytes.ensures)
 
 pub returns-in-End-clause-some : goal.returns-in-End-clause-some
 returns-in-End-clause-some g c =
@@ -71,7 +57,7 @@ returns-in-End-clause-some g c =
     subst (λ (x : Item). Took (view c.hand.inside.pass) x (view c.take.new.pass)) c.in-End.is
     c.in_ok-item.ensures.1 in
     let packets = c.hand.inside.pass.me.0.client.packets in
-    subst (λ (h : HandView). NextAfter [] (hand_seen h) work.NoMore
+    subst (λ (h : HandView). NextAfter [] (hand_seen h) claim.NoMore
     (seen_of (view c.take.new.pass) c.look_stop.new.token.me.0 (hand_list c.hand.inside.number))) is
     (inr (
       going,
