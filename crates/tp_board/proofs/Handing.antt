@@ -5,6 +5,8 @@ use Rattle.std.proofs.Common.{length-append}
 use Rattle.std.specs.Prelude.{slice_get, if◌then◌else◌}
 use Rattle.std.proofs.lemmas.Bool.{lt-ltb, le-ltb}
 use Rattle.std.proofs.lemmas.List.{length-map}
+use Rattle.tp_board.specs.declared.answer.Claim.{Claim}
+use Rattle.tp_board.specs.declared.answer.Claim.TheVariants as claim
 use Rattle.tp_board.specs.declared.event.Event.TheVariants as event
 use Rattle.tp_board.specs.declared.event.Reply.TheVariants as reply
 use Rattle.tp_board.specs.declared.event.Shown.TheVariants as shown
@@ -16,11 +18,11 @@ use Rattle.tp_board.specs.declared.view.View.{View}
 use Rattle.tp_board.specs.Calls.{MadeStep, made, Makes, sees_no_stop, sees_stop}
 use Rattle.tp_board.specs.Counting.{times, hand_list}
 use Rattle.tp_board.specs.Lines.{took, IsNext}
-use Rattle.tp_board.specs.Sources.{progress_of, NextSays}
+use Rattle.tp_board.specs.Sources.{progress_of, claim_of, NextSays, IsAnswerable, HasBytes}
 use Rattle.tp_board.specs.Views.{first_of}
 use Rattle.tp_board.specs.Desks.{holding}
 use Rattle.tp_board.specs.Steps.{with_number, with_end, after_draw, after_finish, after_abandon, after_look}
-use Rattle.tp_board.specs.Streams.{seen_of, IsHand, NextAfter, NextMakes, HasBytes}
+use Rattle.tp_board.specs.Streams.{seen_of, IsHand, NextAfter, NextMakes}
 use Rattle.tp_board.proofs.Counting.{times-append}
 
 pub no_number : (m : Option ℕ) → first_of (hand_list m) ≡ None → m ≡ None
@@ -181,9 +183,10 @@ looks_keep (suc k) v u none h =
     (ih.0, ih.1, ih.2, ih.3, ih.4 ∙ ap (λ n. record (progress_of v) { stop_seen = nat_lt 0 n }) (sym none))
 
 -- what was found, as the answer that carries it
-pub next_after : (v u w : View) (k : ℕ) (given : Work) → v.seen.stop ≡ 0 → Makes v (replicate k sees_no_stop) u
+pub next_after : (v u w : View) (k : ℕ) (given : Claim) → v.seen.stop ≡ 0 → Makes v (replicate k sees_no_stop) u
     → NextAfter [] u given w → v.ended ≡ 0 → NextAfter (replicate k sees_no_stop) v given w
-next_after v u w k (work.Packet n bytes) none made_looks says going =
+next_after v u w k (claim.Busy n) none made_looks says going = says
+next_after v u w k (claim.Packet n) none made_looks says going =
     let same = looks_keep k v u none made_looks in
     let packets = same.2 in
     let below = says.2 in (
@@ -193,12 +196,12 @@ next_after v u w k (work.Packet n bytes) none made_looks says going =
       (λ y some_time. says.3 y (subst (λ l. 0 < times y l) (sym same.3) some_time)),
       makes_then _ v _ u w made_looks says.4,
     )
-next_after v u w k work.NoMore none made_looks says going = ⊎_elim
+next_after v u w k claim.NoMore none made_looks says going = ⊎_elim
     (λ known. let same = (looks_keep k v u none made_looks).0 in let a = known.0 in absurd (omega arith))
     (λ learnt. let same = (looks_keep k v u none made_looks).2 in let m = learnt.2.0 in let above = learnt.2.1 in inr
     (going, none, (m, omega arith, makes_then _ v _ u w made_looks learnt.2.2)))
     says
-next_after v u w k work.Stopped none made_looks says going = (
+next_after v u w k claim.Stopped none made_looks says going = (
   going,
   ⊎_elim
       (λ known. let same = (looks_keep k v u none made_looks).1 in let a = known.0 in absurd (omega arith))
@@ -245,7 +248,7 @@ first_fresh : (v w : View) (k : ℕ) (rest : List MadeStep) → Makes v (replica
 first_fresh v w zero rest h = h.1
 first_fresh v w (suc k) rest h = h.1
 
-pub next_says : (packets : List (List ℕ)) (v w : View) (given : Work) → v.hand ≡ [] → NextMakes v given w
+pub next_says : (packets : List (List ℕ)) (v w : View) (given : Work) → v.hand ≡ [] → NextMakes v (claim_of given) w
     → HasBytes packets given → NextSays packets (progress_of v) given (progress_of w)
 next_says packets v w (work.Packet n bytes) empty (k, (going, none, below, rises, h)) got =
     let fresh = first_fresh v w k _ h in
@@ -274,6 +277,14 @@ next_says packets v w work.Stopped empty (k, (going, says)) got = (
       (λ learnt. saw_stop v w k learnt.1)
       says,
 )
+
+-- what is claimed is a number of the packets', or no number
+pub answerable : (packets : ℕ) (v w : View) (claimed : Claim) → v.packets ≡ packets → NextMakes v claimed w
+    → IsAnswerable packets claimed
+answerable packets v w (claim.Packet n) same (k, says) = let below = says.2 in omega arith
+answerable packets v w (claim.Busy n) same (k, says) = absurd says
+answerable packets v w claim.NoMore same makes = tt
+answerable packets v w claim.Stopped same makes = tt
 
 -- ---- the bytes
 pub get_map : {X Y : Type 0} (f : X → Y) (xs : List X) (n : ℕ) (d : X) → n < length xs

@@ -1,5 +1,5 @@
 -- What a source of work says of a hand before, the answer, and the hand after.
-use Rattle.std.specs.Prelude.{◌≡◌, ℕ, ◌⊎◌, nat_lt, Bool, true, false, List, [], ◌∷◌, ◌++◌, Option, Some, None, slice_get}
+use Rattle.std.specs.Prelude.{◌≡◌, ℕ, ◌<◌, ◌⊎◌, nat_lt, Bool, true, false, List, [], ◌∷◌, ◌++◌, Option, Some, None, slice_get}
 use Rattle.tp_board.specs.declared.view.View.{View}
 use Rattle.tp_board.specs.declared.answer.Claim.{Claim}
 use Rattle.tp_board.specs.declared.answer.Claim.TheVariants as claim
@@ -40,11 +40,24 @@ HandFinished p n q = (p.in_hand ≡ Some n) × (q ≡ record p { finished = p.fi
 abbrev pub HandAbandoned : Progress → ℕ → Progress → Type 0
 HandAbandoned p n q = (p.in_hand ≡ Some n) × (q ≡ record p { abandoned = p.abandoned ++ n ∷ []; in_hand = None })
 
--- the claim that an answer of a board's source rests on
+-- the claim that an answer rests on
 abbrev pub claim_of : Work → Claim
 claim_of (work.Packet n bytes) = claim.Packet n
 claim_of work.NoMore = claim.NoMore
 claim_of work.Stopped = claim.Stopped
+
+-- a claim is answered with work where a number is one of so many packets', and nothing was in hand
+abbrev pub IsAnswerable : (packets : ℕ) → Claim → Type 0
+IsAnswerable packets (claim.Packet n) = n < packets
+IsAnswerable packets (claim.Busy n) = ⊥
+IsAnswerable packets claim.NoMore = Unit {0}
+IsAnswerable packets claim.Stopped = Unit {0}
+
+-- a packet comes with the bytes of its number
+abbrev pub HasBytes : List (List ℕ) → Work → Type 0
+HasBytes packets (work.Packet n bytes) = slice_get packets n ≡ Some bytes.items
+HasBytes packets work.NoMore = Unit {0}
+HasBytes packets work.Stopped = Unit {0}
 
 -- ---- the board as a source
 -- a board with the bytes of its packets

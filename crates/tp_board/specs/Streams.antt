@@ -4,13 +4,13 @@ use Rattle.std.specs.Prelude.{None, slice_get, if◌then◌else◌}
 use Rattle.atomic_table.specs.Seated.{TableId}
 use Rattle.crossbeam_queue.specs.Fifo.{Held}
 use Rattle.crossbeam_queue.specs.Passes.{Pass, view}
+use Rattle.tp_board.specs.declared.answer.Claim.{Claim}
+use Rattle.tp_board.specs.declared.answer.Claim.TheVariants as claim
 use Rattle.tp_board.specs.declared.event.Event.TheVariants as event
 use Rattle.tp_board.specs.declared.event.Reply.TheVariants as reply
 use Rattle.tp_board.specs.declared.line.Item.{Item}
 use Rattle.tp_board.specs.declared.line.Turn.{Turn}
 use Rattle.tp_board.specs.declared.rule.Size.{Size}
-use Rattle.tp_board.specs.declared.source.Work.{Work}
-use Rattle.tp_board.specs.declared.source.Work.TheVariants as work
 use Rattle.tp_board.specs.declared.stream_hand.Fed.{Fed}
 use Rattle.tp_board.specs.declared.stream_hand.Fed.TheVariants as fed
 use Rattle.tp_board.specs.declared.view.View.{View}
@@ -147,32 +147,27 @@ pub record IsFeeder (t : Turn) (p : View) (pushed marks : ℕ) : Type 0 where
   pub agrees : Agrees (seen_of t p [])
 
 -- ---- the calls
--- what `next` answers after these steps: of a hand's view before, the answer, and the view after.
+-- what is claimed after these steps: of a hand's view before, the claim, and the view after.
 -- NoMore and Stopped come without a step where the hand knows them already
-abbrev pub NextAfter : List MadeStep → View → Work → View → Type 0
-NextAfter before v (work.Packet n bytes) w =
+abbrev pub NextAfter : List MadeStep → View → Claim → View → Type 0
+NextAfter before v (claim.Busy n) w = ⊥
+NextAfter before v (claim.Packet n) w =
     (v.ended ≡ 0)
     × (v.seen.stop ≡ 0)
     × (n < v.packets)
     × ((y : ℕ) → 0 < times y v.drawn → y < n)
     × Makes v (before ++ sees_no_stop ∷ made event.Claim n (reply.Number n) ∷ []) w
-NextAfter before v work.NoMore w =
+NextAfter before v claim.NoMore w =
     ((v.ended ≡ 1) × Makes v [] w)
     ⊎ ((v.ended ≡ 0) × (v.seen.stop ≡ 0)
     × ((n : ℕ) × (v.packets ≤ n) × Makes v (before ++ sees_no_stop ∷ made event.Claim n reply.NoMore ∷ []) w))
-NextAfter before v work.Stopped w =
+NextAfter before v claim.Stopped w =
     (v.ended ≡ 0)
     × (((v.seen.stop ≡ 1) × Makes v [] w) ⊎ ((v.seen.stop ≡ 0) × Makes v (before ++ sees_stop ∷ []) w))
 
 -- it may have found the queue empty, so many times, and looked at the stop mark each time
-abbrev pub NextMakes : View → Work → View → Type 0
-NextMakes v work w = (tries : ℕ) × NextAfter (replicate tries sees_no_stop) v work w
-
--- a packet comes with the bytes of its number
-abbrev pub HasBytes : List (List ℕ) → Work → Type 0
-HasBytes packets (work.Packet n bytes) = slice_get packets n ≡ Some bytes.items
-HasBytes packets work.NoMore = Unit {0}
-HasBytes packets work.Stopped = Unit {0}
+abbrev pub NextMakes : View → Claim → View → Type 0
+NextMakes v claimed w = (tries : ℕ) × NextAfter (replicate tries sees_no_stop) v claimed w
 
 -- all packets are pushed, and all end marks
 abbrev pub IsAllPushed : Turn → Type 0

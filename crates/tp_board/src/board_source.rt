@@ -4,10 +4,10 @@ ghost use Rattle.tp_board.specs.Boards.{IsSeatOf};
 ghost use Rattle.tp_board.specs.Calls.{ClaimSays, FinishSays, AbandonSays, StopSays};
 ghost use Rattle.tp_board.specs.Sources.{SourceView, source_of};
 
-use crate::answer::{BoardFault, Claim};
+use crate::answer::BoardFault;
 use crate::board::Board;
 use crate::seat::Seat;
-use crate::source::{Packet, Work, WorkSource, copied};
+use crate::source::{Packet, Work, WorkSource, with_bytes};
 use std::marker::Model;
 use std::sync::Wait;
 
@@ -65,15 +65,7 @@ impl<'p> WorkSource for BoardSource<'p> {
         ensures work { NextSays self.now.packets (progress_of hand.old.view) result (progress_of hand.new.view) }
         ensures steps { ClaimSays hand.old.view (claim_of result) hand.new.view }
     {
-        match self.board.claim(hand) {
-            Claim::Packet(number) => Work::Packet {
-                number,
-                bytes: copied(&self.packets[number as usize]),
-            },
-            Claim::NoMore => Work::NoMore,
-            Claim::Stopped => Work::Stopped,
-            Claim::Busy(_) => unreachable!(),
-        }
+        with_bytes(self.board.claim(hand), self.packets)
     }
 
     /// One finish.

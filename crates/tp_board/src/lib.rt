@@ -19,6 +19,7 @@ mod source;
 mod stream;
 mod stream_hand;
 mod view;
+mod waiting;
 
 pub use answer::{BoardFault, Claim, Ledger, MAX_MEMBERS, MAX_PACKETS};
 pub use board::{Board, CloseFault};

@@ -1,8 +1,9 @@
 //! Where a member's work comes from.
-ghost use Rattle.std.specs.Prelude.{◌≡◌, true, IfOk, IfErr, OnErr};
+ghost use Rattle.std.specs.Prelude.{◌≡◌, true, map, length, IfOk, IfErr, OnErr};
+ghost use Rattle.tp_board.specs.Sources.{claim_of, IsAnswerable, HasBytes};
 ghost use Rattle.tp_board.specs.declared.answer.BoardFault.TheVariants.{EmptyHand};
 
-use crate::answer::BoardFault;
+use crate::answer::{BoardFault, Claim};
 use arrayvec::ArrayVec;
 use std::sync::Wait;
 
@@ -20,8 +21,27 @@ pub enum Work {
     Stopped,
 }
 
+/// What was claimed, a packet with its bytes.
+#[inline(always)]
+pub(crate) fn with_bytes(claimed: Claim, packets: &[Packet]) -> Work
+    requires { IsAnswerable (length packets.now) claimed }
+    ensures claimed { claim_of result ≡ claimed }
+    ensures bytes { HasBytes (map (λ p. p.items) packets.entry.now) result }
+{
+    match claimed {
+        Claim::Packet(number) => Work::Packet {
+            number,
+            bytes: copied(&packets[number as usize]),
+        },
+        Claim::NoMore => Work::NoMore,
+        Claim::Stopped => Work::Stopped,
+        Claim::Busy(_) => unreachable!(),
+    }
+}
+
 // The same bytes. `clone` would take memory's Result.
-pub(crate) fn copied(packet: &Packet) -> Packet
+#[inline(always)]
+fn copied(packet: &Packet) -> Packet
     ensures { result.items ≡ packet.now.items }
 {
     let mut copy = ArrayVec::new();

@@ -11,26 +11,24 @@ ghost use Rattle.tp_board.specs.Limits.{most_packets};
 ghost use Rattle.tp_board.specs.Lines.{hand, feeder, item_of, put, MayPut, Waits};
 ghost use Rattle.crossbeam_queue.specs.Fifo.{Held};
 ghost use Rattle.tp_board.specs.Openings.{InRange};
-ghost use Rattle.tp_board.specs.Sources.{NextSays};
+ghost use Rattle.tp_board.specs.Sources.{NextSays, claim_of};
 ghost use Rattle.tp_board.specs.Streams.{StreamView, stream_of, hand_of_parts, fresh_hand, seen_of, hand_seen};
 ghost use Rattle.tp_board.specs.Streams.{hand_progress, feeder_seen, all_seen};
 ghost use Rattle.tp_board.specs.Streams.{IsStream, IsHandOf, IsFeederOf, new_hand_of, new_feeder_of};
-ghost use Rattle.tp_board.specs.Streams.{NextAfter, NextMakes, HasBytes, IsAllPushed, FeedSays, IsLeft, Agrees};
+ghost use Rattle.tp_board.specs.Streams.{NextAfter, NextMakes, IsAllPushed, FeedSays, IsLeft, Agrees};
 
-use crate::answer::{BoardFault, Ledger, MAX_MEMBERS, MAX_PACKETS};
+use crate::answer::{BoardFault, Claim, Ledger, MAX_MEMBERS, MAX_PACKETS};
 use crate::desk::{
     DONE, Desk, LOST, STOP, Token, another_seat, join_seats, look_stop, open_desk, report_done,
     report_lost, set_stop,
 };
 use crate::line::{Item, Line, Place, drained, feed, join, new_hand, opened, take};
-use crate::source::{Packet, Work, WorkSource, copied};
+use crate::source::{Packet, Work, WorkSource, with_bytes};
 use crate::stream_hand::{Fed, Feeder, StreamHand, StreamLedger};
+use crate::waiting::Waiting;
 use std::alloc::Global;
-use std::hint;
 use std::marker::Model;
 use std::sync::Wait;
-use std::thread::Parker;
-use std::time::Duration;
 
 /// Packets that one thread feeds in order of number, through a queue of 32 places, and the members
 /// take, each with its own hand. Shared by `&` between their threads.
@@ -43,6 +41,7 @@ pub struct StreamQueue<'p> {
     members: u32,
     line: Line,
     desk: Desk,
+    waiting: Waiting,
 }
 
 impl<'p> Model for StreamQueue<'p> {
@@ -61,26 +60,6 @@ pub struct StreamCloseFault<'p> {
     pub stream: StreamQueue<'p>,
     pub feeder: Feeder,
     pub hands: Vec<StreamHand>,
-}
-
-// So many tries may find the queue empty before a member rests at each, and so many pauses stand before each of them.
-const TRIES_BEFORE_REST: u32 = 16;
-
-const PAUSES: u32 = 256;
-
-// How long a member rests, in microseconds.
-const REST: u64 = 10;
-
-// Leaves the queue to the feeder after a try that found it empty: at first by pauses, then by a rest. It never yields: where
-// others keep the processors busy, a yield gives them a whole turn, and one who has rested is called back soon.
-fn give_way<R: Wait>(rt: &R, tries: u32) {
-    if tries < TRIES_BEFORE_REST {
-        for _ in 0..PAUSES {
-            hint::spin_loop();
-        }
-    } else {
-        Parker::new().park_timeout(rt, Duration::from_micros(REST));
-    }
 }
 
 impl<'p> StreamQueue<'p> {
@@ -125,6 +104,7 @@ impl<'p> StreamQueue<'p> {
             members,
             line,
             desk,
+            waiting: Waiting::new(),
         };
         Ok((stream, feeder, hands))
     }
@@ -191,7 +171,16 @@ impl<'p> StreamQueue<'p> {
             Item::Number(_) => feeder.pushed += 1,
             Item::End => feeder.marks += 1,
         }
+        self.waiting.pushed(item);
         true
+    }
+
+    /// Sleeps until members have taken half of what the queue has room for, the stream is stopped, or a millisecond has
+    /// passed: for the feeder, where the queue was full.
+    pub fn wait_for_room<R: Wait>(&self, rt: &R, _feeder: &mut Feeder)
+        ensures { _feeder.new ≡ _feeder.old }
+    {
+        self.waiting.sleep_as_feeder(rt);
     }
 
     /// Sets the stop mark, by one step.
@@ -202,35 +191,63 @@ impl<'p> StreamQueue<'p> {
         ensures turn { feeder.new.turn ≡ feeder.old.turn }
     {
         set_stop(&self.desk, &mut feeder.token);
+        self.waiting.wake_all();
+    }
+
+    // The next number, the end or the stop, by tries until one has an answer.
+    fn claim<R: Wait>(&self, rt: &R, hand: &mut StreamHand) -> Claim
+        requires own { IsHandOf self.now hand.old }
+        requires empty { hand.old.number ≡ None }
+        ensures own { IsHandOf self.now hand.new }
+        ensures steps { NextMakes (hand_seen hand.old) result (hand_seen hand.new) }
+    {
+        if hand.ended {
+            return Claim::NoMore;
+        }
+        if hand.stop_seen {
+            return Claim::Stopped;
+        }
+        let mut has_slept = false;
+        for _ in rt.forever() {
+            let wakes = self.waiting.wakes();
+            if let Some(claimed) = self.try_claim(rt, hand) {
+                if has_slept {
+                    self.waiting.wake_member();
+                }
+                return claimed;
+            }
+            self.waiting.sleep_as_member(rt, wakes);
+            has_slept = true;
+        }
+        unreachable!()
     }
 
     // One load of the stop mark and, where that is clear, one try to pop. None only where the queue
     // was empty.
-    fn try_next<R: Wait>(&self, rt: &R, hand: &mut StreamHand) -> Option<Work>
+    fn try_claim<R: Wait>(&self, rt: &R, hand: &mut StreamHand) -> Option<Claim>
         requires own { IsHandOf self.now hand.old }
         requires empty { hand.old.number ≡ None }
         requires going { ((hand_seen hand.old).ended ≡ 0) × ((hand_seen hand.old).seen.stop ≡ 0) }
         ensures own { IsHandOf self.now hand.new }
         ensures none { result ≡ None →
             (hand.new.number ≡ None) × Makes (hand_seen hand.old) (sees_no_stop ∷ []) (hand_seen hand.new) }
-        ensures some { IfSome result (λ work. NextAfter [] (hand_seen hand.old) work (hand_seen hand.new)) }
-        ensures bytes { IfSome result (HasBytes self.now.packets) }
+        ensures some { IfSome result (λ claimed. NextAfter [] (hand_seen hand.old) claimed (hand_seen hand.new)) }
     {
         if look_stop(&self.desk, &mut hand.token) != 0 {
             hand.stop_seen = true;
-            return Some(Work::Stopped);
+            return Some(Claim::Stopped);
         }
-        match take(rt, &self.line, &mut hand.pass) {
-            Some(Item::Number(number)) => {
+        let item = take(rt, &self.line, &mut hand.pass)?;
+        self.waiting.popped(item);
+        match item {
+            Item::Number(number) => {
                 hand.number = Some(number);
-                let bytes = copied(&self.packets[number as usize]);
-                Some(Work::Packet { number, bytes })
+                Some(Claim::Packet(number))
             }
-            Some(Item::End) => {
+            Item::End => {
                 hand.ended = true;
-                Some(Work::NoMore)
+                Some(Claim::NoMore)
             }
-            None => None,
         }
     }
 
@@ -268,6 +285,7 @@ impl<'p> StreamQueue<'p> {
             members: _,
             line: _,
             desk,
+            waiting: _,
         } = self;
         let closed = desk.close_with(token);
         let done = closed.word(DONE);
@@ -388,23 +406,9 @@ impl<'p> WorkSource for StreamQueue<'p> {
         requires empty { (hand_progress hand.old).in_hand ≡ None }
         ensures own { IsHandOf self.now hand.new }
         ensures work { NextSays self.now.packets (hand_progress hand.old) result (hand_progress hand.new) }
-        ensures steps { NextMakes (hand_seen hand.old) result (hand_seen hand.new) }
+        ensures steps { NextMakes (hand_seen hand.old) (claim_of result) (hand_seen hand.new) }
     {
-        if hand.ended {
-            return Work::NoMore;
-        }
-        if hand.stop_seen {
-            return Work::Stopped;
-        }
-        let mut tries = 0u32;
-        for _ in rt.forever() {
-            if let Some(work) = self.try_next(rt, hand) {
-                return work;
-            }
-            give_way(rt, tries);
-            tries = TRIES_BEFORE_REST.min(tries.saturating_add(1));
-        }
-        unreachable!()
+        with_bytes(self.claim(rt, hand), self.packets)
     }
 
     /// One addition to the count of packets done.
@@ -451,5 +455,6 @@ impl<'p> WorkSource for StreamQueue<'p> {
         ensures steps { StopSays (hand_seen hand.old) (hand_seen hand.new) }
     {
         set_stop(&self.desk, &mut hand.token);
+        self.waiting.wake_all();
     }
 }

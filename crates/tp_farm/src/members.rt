@@ -13,9 +13,8 @@ use crate::worker::{Returned, Shared, work_as};
 use std::alloc::{AllocError, Global};
 use std::snapshot::Snapshot;
 use std::sync::Wait;
-use std::thread::{Parker, Promise, PromisedHandle, Scope, Threads, join_promised};
-use std::time::Duration;
-use std::{hint, thread};
+use std::thread;
+use std::thread::{Promise, PromisedHandle, Scope, Threads, join_promised};
 use tp_board::{Fed, Feeder, StreamHand, StreamQueue, WorkSource};
 use tp_link::{LinkDevice, Links};
 
@@ -131,37 +130,6 @@ where
     })
 }
 
-/// So many tries may find the queue full before the feeder rests at each, and so many before its rests are long.
-const TRIES_BEFORE_REST: u32 = 16;
-
-const MOST_TRIES: u32 = 32;
-
-/// So many of these tries a packet that was pushed earns again.
-const TRIES_EARNED: u32 = 1;
-
-/// So many pauses stand before a try.
-const PAUSES: u32 = 256;
-
-/// A short rest, in microseconds.
-const SHORT_REST: u64 = 10;
-
-/// The longest rest, in microseconds. It is less than four members take for a full queue of long runs.
-const REST: u64 = 200;
-
-/// Leaves the queue to the members after a try that found it full: at first by pauses, then by a rest. It never yields: where
-/// others keep the processors busy, a yield gives them a whole turn, and one who has rested is called back soon.
-fn give_way<R: Wait>(rt: &R, parker: &Parker, tries: u32) {
-    if tries < TRIES_BEFORE_REST {
-        for _ in 0..PAUSES {
-            hint::spin_loop();
-        }
-    } else if tries < MOST_TRIES {
-        parker.park_timeout(rt, Duration::from_micros(SHORT_REST));
-    } else {
-        parker.park_timeout(rt, Duration::from_micros(REST));
-    }
-}
-
 /// Feeds a stream until all is pushed, or a member has stopped it.
 fn feed_all<R: Wait>(rt: &R, stream: &StreamQueue<'_>, feeder: &mut Feeder)
     requires own { IsFeederOf stream.now feeder.old }
@@ -170,15 +138,10 @@ fn feed_all<R: Wait>(rt: &R, stream: &StreamQueue<'_>, feeder: &mut Feeder)
     ensures fed { HasOnlyFed feeder.new }
     ensures ends { HasEnded feeder.new }
 {
-    let parker = Parker::new();
-    let mut tries = 0u32;
     for _ in rt.forever() {
         match stream.feed(rt, feeder) {
-            Fed::Pushed => tries = tries.saturating_sub(TRIES_EARNED),
-            Fed::Full => {
-                give_way(rt, &parker, tries);
-                tries = MOST_TRIES.min(tries.saturating_add(1));
-            }
+            Fed::Pushed => {}
+            Fed::Full => stream.wait_for_room(rt, feeder),
             Fed::Stopped | Fed::Over => return,
         }
     }

@@ -95,6 +95,7 @@ enum Step {
     /// Feeds until a try pushes nothing: how many pushes, and the answer to that try.
     Fill(u32, Fed),
     Feed(Fed),
+    WaitForRoom,
     Take(u16),
     Finish(Result<u32, BoardFault>),
     Abandon(Result<u32, BoardFault>),
@@ -119,6 +120,10 @@ fn is_made<R: Wait>(
     match step {
         Step::Fill(count, answer) => fed(rt, stream, feeder) == (*count, *answer),
         Step::Feed(answer) => stream.feed(rt, feeder) == *answer,
+        Step::WaitForRoom => {
+            stream.wait_for_room(rt, feeder);
+            true
+        }
         Step::Take(number) => takes(rt, stream, hand, *number),
         Step::Finish(number) => stream.finish(hand) == *number,
         Step::Abandon(number) => stream.abandon(hand) == *number,
@@ -194,6 +199,35 @@ fn room_for_thirty_two(rt: HostRuntime) {
             drawn: 1,
             done: 1,
             lost: 0,
+            in_hand: 0,
+            stopped: false,
+        },
+    };
+    assert_same(
+        &rt,
+        &ledger_after(&rt, rt.alloc(), 40, &steps),
+        &Some(wanted),
+    );
+}
+
+/// A wait for room ends also where nobody takes a packet.
+#[test]
+fn waits_for_room_that_end(rt: HostRuntime) {
+    let steps = [
+        Step::Fill(32, Fed::Full),
+        Step::WaitForRoom,
+        Step::Feed(Fed::Full),
+        Step::Take(0),
+        Step::WaitForRoom,
+        Step::Feed(Fed::Pushed),
+        Step::Abandon(Ok(0)),
+    ];
+    let wanted = StreamLedger {
+        pushed: 33,
+        ledger: Ledger {
+            drawn: 1,
+            done: 0,
+            lost: 1,
             in_hand: 0,
             stopped: false,
         },

@@ -1,35 +1,21 @@
-use Rattle.std.proofs.Common.{suc, sym, ap, ◌∙◌}
-use Rattle.std.specs.Prelude.{if◌then◌else◌, Bool}
-use Rattle.tp_board.specs.declared.view.View.{View}
+use Rattle.std.proofs.Common.{◌≡◌, length, sym, ap, ◌∙◌, subst}
+use Rattle.std.proofs.lemmas.List.{length-map}
 use Rattle.tp_board.specs.Counting.{hand_list}
-use Rattle.tp_board.specs.Streams.{HandView}
-use Rattle.tp_board.proofs.Handing.{no_number, none_of, one_more_look, next_after, next_says}
+use Rattle.tp_board.specs.Sources.{HasBytes}
+use Rattle.tp_board.specs.Streams.{StreamView, NextMakes, hand_seen}
+use Rattle.tp_board.proofs.Handing.{no_number, answerable, next_says}
 use Rattle.tp_board.proofs.stream.StreamQueueWorkSource.next.Goals as goal
 
-pub returns-in-Some-try_next-clause-steps : goal.returns-in-Some-try_next-clause-steps
-returns-in-Some-try_next-clause-steps g c =
-    let ok = c.hand.invariant.0 in
-    let is = c.hand.view_is in
-    let going =
-    ap (λ (h : HandView). h.turn.ended) (sym is) ∙ ok.ended_is ∙ ap (λ (b : Bool). if b then 1 else 0) c.if-hand.false in
-    let none =
-    ap (λ (h : HandView). h.place.seen.stop) (sym is) ∙ ok.stop_seen_is
-    ∙ ap (λ (b : Bool). if b then 1 else 0) c.if-hand-2.false in
-    let made = c.loop.invariant.made in
-    (made.0, next_after _ _ _ made.0 c.in-Some-try_next.work none made.1 c.in-Some-try_next.ensures.some going)
+pub with_bytes-requires : goal.with_bytes-requires
+with_bytes-requires g c =
+    let here = ap (λ (q : StreamView). length q.packets) c.self.view_is in
+    answerable _ (hand_seen c.args.hand.now) (hand_seen c.claim.new.hand) c.claim.result
+    (c.requires.own.2 ∙ sym here ∙ length-map c.self.inside.packets.now (λ p. p.items)) c.claim.ensures.steps
 
-pub returns-in-Some-try_next-clause-work : goal.returns-in-Some-try_next-clause-work
-returns-in-Some-try_next-clause-work g c =
-    next_says _ _ _ c.in-Some-try_next.work (ap hand_list (no_number _ c.requires.empty))
-    (returns-in-Some-try_next-clause-steps g c) c.in-Some-try_next.ensures.bytes
-
-pub loop-preserved : goal.loop-preserved
-loop-preserved g c =
-    let i = c.loop.invariant in
-    let h = c.try_next.ensures.none (none_of c.try_next.result c.in_default.not-Some) in
-    let looked = h.1.3 in record {
-      own = c.try_next.ensures.own;
-      empty = h.0;
-      going = (ap (λ (v : View). v.ended) looked ∙ i.going.0, ap (λ (v : View). v.seen.stop) looked);
-      made = (suc i.made.0, one_more_look _ _ _ i.made.0 i.made.1 h.1);
-    }
+pub returns-clause-work : goal.returns-clause-work
+returns-clause-work g c =
+    next_says c.args.self.now.packets (hand_seen c.args.hand.now) (hand_seen c.claim.new.hand) c.with_bytes.result
+    (ap hand_list (no_number _ c.requires.empty))
+    (subst (λ claimed. NextMakes (hand_seen c.args.hand.now) claimed (hand_seen c.claim.new.hand)) (sym c.with_bytes.ensures.claimed)
+    c.claim.ensures.steps)
+    (subst (λ (q : StreamView). HasBytes q.packets c.with_bytes.result) c.self.view_is c.with_bytes.ensures.bytes)

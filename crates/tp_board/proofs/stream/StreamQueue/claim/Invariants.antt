@@ -1,7 +1,7 @@
 use Rattle.std.proofs.Common.{◌≡◌, ℕ, None, replicate}
 use Rattle.tp_board.specs.Calls.{Makes, sees_no_stop}
 use Rattle.tp_board.specs.Streams.{IsHandOf, hand_seen}
-use Rattle.tp_board.proofs.stream.StreamQueueWorkSource.next.Given as goal
+use Rattle.tp_board.proofs.stream.StreamQueue.claim.Given as goal
 
 abbrev pub invariant-loop : goal.invariant-loop
 invariant-loop g l = record {
