@@ -108,7 +108,7 @@ pub left_over : (views : List View) (t u : Turn) (n : ℕ) → LeftAt t n → Ar
 left_over views t u n before drew (left, is, below) = (
   left,
   λ x. let a = times-append x (all_drawn views) left in let b = times-append x t.popped left in let c = drew x in let d =
-  before.each_once x in let e = ap (times x) is in let f = below x in omega arith,
+      before.each_once x in let e = ap (times x) is in let f = below x in omega arith,
 )
 
 pub desk_word_at : (ws : List ℕ) (w : Counters) (i a b : ℕ) → ws ≡ desk_words_of w → get_elem? (desk_words_of w) i ≡ some b

@@ -177,9 +177,7 @@ impl<'p> StreamQueue<'p> {
 
     /// Sleeps until members have taken half of what the queue has room for, the stream is stopped, or a millisecond has
     /// passed: for the feeder, where the queue was full.
-    pub fn wait_for_room<R: Wait>(&self, rt: &R, _feeder: &mut Feeder)
-        ensures { _feeder.new ≡ _feeder.old }
-    {
+    pub fn wait_for_room<R: Wait>(&self, rt: &R) {
         self.waiting.sleep_as_feeder(rt);
     }
 

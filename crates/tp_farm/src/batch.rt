@@ -49,7 +49,9 @@ fn first_other(packets: &[Packet], bytes: usize) -> Option<usize>
     ensures within { IfSome result (λ i. i < length packets.now) }
     ensures bytes { result ≡ None → All (λ p. All (λ byte. byte < 256) p.items) packets.now }
 {
-    packets.iter().position(|packet| !are_bytes(packet.as_slice(), bytes))
+    packets
+        .iter()
+        .position(|packet| !are_bytes(packet.as_slice(), bytes))
 }
 
 /// Why a batch does not begin: the first that holds of G1, G2 and G3.
@@ -70,11 +72,7 @@ fn job_fault(job: &Job<'_>, members: usize) -> Option<FarmFault>
 }
 
 /// A collector of the packets of a job that begins.
-fn begin<'j>(
-    alloc: Global,
-    job: &'j Job<'j>,
-    members: usize,
-) -> Result<Collector<'j>, FarmFault>
+fn begin<'j>(alloc: Global, job: &'j Job<'j>, members: usize) -> Result<Collector<'j>, FarmFault>
     ensures collector { IfOk result (λ c. c ≡ nothing_filed (value_of_job job.now)) }
     ensures begins { OnOk result (job_fault members (value_of_job job.now) ≡ None) }
     ensures begun { OnOk result (Begins members (value_of_job job.now)) }

@@ -84,14 +84,7 @@ where
 }
 
 /// Starts a member for each of the links in turn, up to the first for which no thread could be started.
-fn start_all<
-    's,
-    'e,
-    R: Wait + Sync,
-    D: LinkDevice + Send + 'e,
-    G: Gate,
-    S: WorkSource + Sync,
->(
+fn start_all<'s, 'e, R: Wait + Sync, D: LinkDevice + Send + 'e, G: Gate, S: WorkSource + Sync>(
     rt: &'e R,
     scope: &'s Scope<'s, &'e ()>,
     alloc: Global,
@@ -141,7 +134,7 @@ fn feed_all<R: Wait>(rt: &R, stream: &StreamQueue<'_>, feeder: &mut Feeder)
     for _ in rt.forever() {
         match stream.feed(rt, feeder) {
             Fed::Pushed => {}
-            Fed::Full => stream.wait_for_room(rt, feeder),
+            Fed::Full => stream.wait_for_room(rt),
             Fed::Stopped | Fed::Over => return,
         }
     }
