@@ -121,7 +121,7 @@ fn is_made<R: Wait>(
         Step::Fill(count, answer) => fed(rt, stream, feeder) == (*count, *answer),
         Step::Feed(answer) => stream.feed(rt, feeder) == *answer,
         Step::WaitForRoom => {
-            stream.wait_for_room(rt, feeder);
+            stream.wait_for_room(rt);
             true
         }
         Step::Take(number) => takes(rt, stream, hand, *number),

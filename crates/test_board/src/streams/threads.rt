@@ -167,7 +167,7 @@ fn feed_all<R: Wait>(rt: &R, stream: &StreamQueue<'_>, feeder: &mut Feeder, feed
     for _ in rt.forever() {
         match stream.feed(rt, feeder) {
             Fed::Pushed => {}
-            Fed::Full => stream.wait_for_room(rt, feeder),
+            Fed::Full => stream.wait_for_room(rt),
             Fed::Stopped => return Fed::Stopped,
             Fed::Over => return Fed::Over,
         }
