@@ -27,12 +27,7 @@ fn increments_by_one<R: Abort + Threads + Wait + Sync>(
 }
 
 /// Each entry tells its word plus one.
-fn are_one_more(
-    rt: &impl Abort,
-    alloc: Global,
-    words: &[u32],
-    collected: &Collected,
-) -> bool {
+fn are_one_more(rt: &impl Abort, alloc: Global, words: &[u32], collected: &Collected) -> bool {
     let all = all_told(rt, alloc, collected);
     for (one, word) in all.iter().zip(words.iter()) {
         if *one != one_more(*word) {
