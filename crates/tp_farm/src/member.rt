@@ -124,9 +124,10 @@ fn take_turn<W: WorkSource, D: LinkDevice, G: Gate>(
         source.stop(&mut member.hand);
         return Some(End::Stopped);
     }
-    match source.next(rt, &mut member.hand) {
+    let given = source.next(rt, &mut member.hand);
+    match &given {
         Work::Packet { number, bytes } => {
-            file_packet(job, gate, source, member, number, &bytes);
+            file_packet(job, gate, source, member, *number, bytes);
             None
         }
         Work::NoMore => Some(End::Drained),
