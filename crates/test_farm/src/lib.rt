@@ -15,6 +15,8 @@ mod recording;
 #[cfg(test)]
 mod refusing;
 #[cfg(test)]
+mod returning;
+#[cfg(test)]
 mod stopping;
 #[cfg(test)]
 mod streaming;
