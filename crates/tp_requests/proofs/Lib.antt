@@ -1,4 +1,4 @@
-pub mod FieldLemmas
+pub mod Parting
 pub mod SpellingLemmas
 pub mod ProtocolLemmas
 pub mod LineLemmas

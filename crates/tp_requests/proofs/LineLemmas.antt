@@ -1,198 +1,155 @@
 -- The lines of the protocol are those that are read.
-use Rattle.std.proofs.Common.{◌≡◌, ℕ, Bool, true, false, not, ◌&&◌, if◌then◌else◌, List, [], ◌∷◌, ◌++◌, codes, Option, Some, None, ◌⊎◌, Result, Ok, Err, IfOk, inl, inr, refl, ap, sym, ◌∙◌, subst, append_assoc}
+use Rattle.std.proofs.Common.{◌≡◌, ℕ, drop, take, length, Bool, true, false, ◌&&◌, if◌then◌else◌, List, ◌∷◌, ◌++◌, codes, Option, Some, None, Result, Ok, Err, IfOk, refl, ap, sym, ◌∙◌, subst, append_assoc}
 use Rattle.std.specs.Option.{option_map}
 use Rattle.std.specs.Cmp.Lexicographic.{bytes_decides}
-use Rattle.std.proofs.lemmas.Bool.{both_ways, false_from_ne_true, not-false, and_parts}
+use Rattle.std.proofs.lemmas.Bool.{both_ways, false_from_ne_true, and_parts}
 use Rattle.std.proofs.lemmas.Option.{same_Some}
+use Rattle.std.proofs.lemmas.Result.{IfOk-weaker}
+use Rattle.std.proofs.lemmas.List.{take-append-drop}
 use Rattle.hex.specs.Hex.{encode_lower}
 use Rattle.tp_requests.specs.Fields.{is_text, hex_bytes}
 use Rattle.tp_requests.specs.Requests.{Asked, ToList, ToOpen, ToKeep, ToRun, ToRunAll, ToDrop}
-use Rattle.tp_requests.specs.Reading.{space, fields_of, is_name, of_two, of_three, of_fields, asked_by}
+use Rattle.tp_requests.specs.Parts.{IsWithout}
+use Rattle.tp_requests.specs.Reading.{space, is_name, begins, of_name, of_parts}
 use Rattle.tp_requests.specs.Protocol.{IsName, AreDigitsFor, IsLineFor, AsksFor, MayBeAsked, line_for}
-use Rattle.tp_requests.proofs.ProtocolLemmas.{name_passes, passed_is_name, digits_read, read_are_digits, lower_are_digits, spelled_by_digits, word_and_digits, two_words, name_and_word, name_word_and_digits, joined, joined_again}
+use Rattle.tp_requests.proofs.Parting.{never_without, same_parts}
+use Rattle.tp_requests.proofs.ProtocolLemmas.{name_passes, passed_is_name, name_without_space, digits_read, read_are_digits, lower_are_digits, spelled_by_digits}
 
 -- ---- each line of the protocol is read
+
+-- the parts of a line that asks for this
+record HasParts (line : List ℕ) (request : Asked) : Type 0 where
+  first : List ℕ
+  words : List ℕ
+  before : IsWithout space first
+  is : line ≡ first ++ space ∷ words
+  read : of_parts first words ≡ Some request
 
 -- a name is no text that is none
 not_text : (name text : List ℕ) → is_name name ≡ true → is_name text ≡ false → is_text name text ≡ false
 not_text name text is other =
     false_from_ne_true (is_text name text) (λ e. both_ways (is_name text) other (ap is_name (sym ((bytes_decides name text).0 e)) ∙ is))
 
-asks_list : (digits code : List ℕ) → AreDigitsFor digits code → asked_by (codes "LIST " ++ digits) ≡ Some (ToList code)
-unfolding asked_by
-asks_list digits code are =
-    ap of_fields (word_and_digits (codes "LIST") digits code (refl, (refl, (refl, (refl, tt)))) are) ∙ ap (option_map ToList) (digits_read digits code are)
+named : (name words : List ℕ) → is_name name ≡ true → of_parts name words ≡ of_name name words
+named name words is = rw (not_text name (codes "LIST") is refl, not_text name (codes "RUN") is refl, is) refl
 
-asks_run_all : asked_by (codes "RUN *") ≡ Some ToRunAll
-unfolding asked_by
-asks_run_all = ap of_fields (two_words (codes "RUN") (codes "*") (refl, (refl, (refl, tt))) (refl, tt))
+has_parts : (line : List ℕ) (request : Asked) → IsLineFor line request → HasParts line request
+has_parts line (ToList code) (digits, are, is) =
+    record { first = codes "LIST"; words = digits; before = (refl, (refl, (refl, (refl, tt)))); is = is; read = ap (option_map ToList) (digits_read digits code are) }
+has_parts line (ToOpen name text) (digits, is_named, are, is) =
+    record {
+      first = name;
+      words = codes "IMAGE " ++ digits;
+      before = name_without_space name is_named;
+      is = is ∙ append_assoc name (codes " IMAGE ") digits;
+      read = named name (codes "IMAGE " ++ digits) (name_passes name is_named) ∙ ap (option_map (ToOpen name)) (digits_read digits text are);
+    }
+has_parts line (ToKeep name bytes) (digits, is_named, are, is) =
+    record {
+      first = name;
+      words = codes "PACKET " ++ digits;
+      before = name_without_space name is_named;
+      is = is ∙ append_assoc name (codes " PACKET ") digits;
+      read = named name (codes "PACKET " ++ digits) (name_passes name is_named) ∙ ap (option_map (ToKeep name)) (digits_read digits bytes are);
+    }
+has_parts line (ToRun name) (is_named, is) =
+    record { first = name; words = codes "RUN"; before = name_without_space name is_named; is = is; read = named name (codes "RUN") (name_passes name is_named) }
+has_parts line ToRunAll is =
+    record { first = codes "RUN"; words = codes "*"; before = (refl, (refl, (refl, tt))); is = is; read = refl }
+has_parts line (ToDrop name) (is_named, is) =
+    record { first = name; words = codes "DROP"; before = name_without_space name is_named; is = is; read = named name (codes "DROP") (name_passes name is_named) }
 
-runs : (name : List ℕ) → is_name name ≡ true → of_two name (codes "RUN") ≡ Some (ToRun name)
-runs name is = rw (not_text name (codes "LIST") is refl, not_text name (codes "RUN") is refl, is) refl
+-- so by whatever parts
+read_by : (first words : List ℕ) (request : Asked) → IsWithout space first → IsLineFor (first ++ space ∷ words) request
+    → of_parts first words ≡ Some request
+read_by first words request before is =
+    let it = has_parts (first ++ space ∷ words) request is in
+    let same = same_parts space first words it.first it.words before it.before it.is in
+    ap (λ l. of_parts l words) same.0 ∙ ap (of_parts it.first) same.1 ∙ it.read
 
-drops : (name : List ℕ) → is_name name ≡ true → of_two name (codes "DROP") ≡ Some (ToDrop name)
-drops name is = rw (not_text name (codes "LIST") is refl, not_text name (codes "RUN") is refl, is) refl
-
-asks_run : (name : List ℕ) → IsName name → asked_by (name ++ codes " RUN") ≡ Some (ToRun name)
-unfolding asked_by
-asks_run name is =
-    ap of_fields (name_and_word name (codes "RUN") is (refl, (refl, (refl, tt)))) ∙ runs name (name_passes name is)
-
-asks_drop : (name : List ℕ) → IsName name → asked_by (name ++ codes " DROP") ≡ Some (ToDrop name)
-unfolding asked_by
-asks_drop name is =
-    ap of_fields (name_and_word name (codes "DROP") is (refl, (refl, (refl, (refl, tt))))) ∙ drops name (name_passes name is)
-
-opens : (name digits text : List ℕ) → is_name name ≡ true → hex_bytes digits ≡ Some text → of_three name (codes "IMAGE") digits ≡ Some (ToOpen name text)
-opens name digits text is read = rw (is, read) refl
-
-keeps : (name digits bytes : List ℕ) → is_name name ≡ true → hex_bytes digits ≡ Some bytes → of_three name (codes "PACKET") digits ≡ Some (ToKeep name bytes)
-keeps name digits bytes is read = rw (is, read) refl
-
-asks_open : (name digits text : List ℕ) → IsName name → AreDigitsFor digits text → asked_by (name ++ codes " IMAGE " ++ digits) ≡ Some (ToOpen name text)
-unfolding asked_by
-asks_open name digits text is are =
-    ap (λ line. of_fields (fields_of line)) (append_assoc name (codes " IMAGE ") digits)
-    ∙ ap of_fields (name_word_and_digits name (codes "IMAGE") digits text is (refl, (refl, (refl, (refl, (refl, tt))))) are)
-    ∙ opens name digits text (name_passes name is) (digits_read digits text are)
-
-asks_keep : (name digits bytes : List ℕ) → IsName name → AreDigitsFor digits bytes → asked_by (name ++ codes " PACKET " ++ digits) ≡ Some (ToKeep name bytes)
-unfolding asked_by
-asks_keep name digits bytes is are =
-    ap (λ line. of_fields (fields_of line)) (append_assoc name (codes " PACKET ") digits)
-    ∙ ap of_fields (name_word_and_digits name (codes "PACKET") digits bytes is (refl, (refl, (refl, (refl, (refl, (refl, tt)))))) are)
-    ∙ keeps name digits bytes (name_passes name is) (digits_read digits bytes are)
-
-line_asks : (line : List ℕ) (request : Asked) → IsLineFor line request → asked_by line ≡ Some request
-line_asks line (ToList code) is = ap asked_by is.2 ∙ asks_list is.0 code is.1
-line_asks line (ToOpen name text) is = ap asked_by is.3 ∙ asks_open name is.0 text is.1 is.2
-line_asks line (ToKeep name bytes) is = ap asked_by is.3 ∙ asks_keep name is.0 bytes is.1 is.2
-line_asks line (ToRun name) is = ap asked_by is.1 ∙ asks_run name is.0
-line_asks line ToRunAll is = ap asked_by is ∙ asks_run_all
-line_asks line (ToDrop name) is = ap asked_by is.1 ∙ asks_drop name is.0
+pub one_request : (line : List ℕ) (a b : Asked) → IsLineFor line a → IsLineFor line b → a ≡ b
+one_request line a b is is' =
+    let it = has_parts line a is in
+    same_Some a b (sym it.read ∙ read_by it.first it.words b it.before (subst (λ l. IsLineFor l b) it.is is'))
 
 -- ---- what is read is a line of the protocol
 
--- what two fields ask for, test by test
-abbrev of_word : List ℕ → List ℕ → Option Asked
-of_word name word =
-    if is_text word (codes "RUN") then Some (ToRun name) else if is_text word (codes "DROP") then Some (ToDrop name) else None
-
-abbrev of_named : List ℕ → List ℕ → Option Asked
-of_named first second = if not (is_name first) then None else of_word first second
-
-abbrev of_running : List ℕ → List ℕ → Option Asked
-of_running first second =
-    if is_text first (codes "RUN") && is_text second (codes "*") then Some ToRunAll else of_named first second
-
 -- which way a test went
-chosen : (t : Bool) (x y z : Option Asked) → (if t then x else y) ≡ z → ((t ≡ true) × (x ≡ z)) ⊎ ((t ≡ false) × (y ≡ z))
-chosen true x y z is = inl (refl, is)
-chosen false x y z is = inr (refl, is)
-
--- what was made of bytes that were read
-made_of : (make : List ℕ → Asked) (read : Option (List ℕ)) (request : Asked) → option_map make read ≡ Some request
-    → (bytes : List ℕ) × (read ≡ Some bytes) × (make bytes ≡ request)
-made_of make None request is = cc
-made_of make (Some bytes) request is = (bytes, refl, same_Some (make bytes) request is)
+by_if : {x y : Option Asked} {request : Asked} {P : Type 0} (t : Bool) → (t ≡ true → x ≡ Some request → P) → (y ≡ Some request → P)
+    → (if t then x else y) ≡ Some request → P
+by_if true so other is = so refl is
+by_if false so other is = other is
 
 same_text : (field text : List ℕ) → is_text field text ≡ true → field ≡ text
 same_text field text is = (bytes_decides field text).0 is
 
-word_line : (name word : List ℕ) (request : Asked) → IsName name → of_word name word ≡ Some request → IsLineFor (name ++ space ∷ word) request
-word_line name word request is asks =
-    elim (chosen (is_text word (codes "RUN")) (Some (ToRun name)) (if is_text word (codes "DROP") then Some (ToDrop name) else None) (Some request) asks) [
-      | inl run ↦
-          subst (λ r. IsLineFor (name ++ space ∷ word) r) (same_Some (ToRun name) request run.1) (is, ap (λ w. name ++ space ∷ w) (same_text word (codes "RUN") run.0))
-      | inr other ↦
-          elim (chosen (is_text word (codes "DROP")) (Some (ToDrop name)) None (Some request) other.1) [
-            | inl drop ↦
-                subst (λ r. IsLineFor (name ++ space ∷ word) r) (same_Some (ToDrop name) request drop.1) (is, ap (λ w. name ++ space ∷ w) (same_text word (codes "DROP") drop.0))
-            | inr none ↦ cc none.1
-          ]
-    ]
+-- digits that are read
+by_digits : (make : List ℕ → Asked) (digits : List ℕ) (request : Asked) (P : Asked → Type 0)
+    → ((bytes : List ℕ) → AreDigitsFor digits bytes → P (make bytes)) → option_map make (hex_bytes digits) ≡ Some request → P request
+by_digits make digits request P is asks = by_bytes (hex_bytes digits) refl asks
+  where
+    by_bytes : (o : Option (List ℕ)) → hex_bytes digits ≡ o → option_map make o ≡ Some request → P request
+    by_bytes None read asks = cc
+    by_bytes (Some bytes) read asks = subst P (same_Some (make bytes) request asks) (is bytes (read_are_digits digits bytes read))
 
-named_line : (first second : List ℕ) (request : Asked) → of_named first second ≡ Some request → IsLineFor (first ++ space ∷ second) request
-named_line first second request asks =
-    elim (chosen (not (is_name first)) None (of_word first second) (Some request) asks) [
-      | inl none ↦ cc none.1
-      | inr named ↦ word_line first second request (passed_is_name first (not-false (is_name first) named.0)) named.1
-    ]
+-- words that begin with a text
+begun : (words text : List ℕ) → begins words text ≡ true → words ≡ text ++ drop (length text) words
+begun words text is =
+    sym (take-append-drop (length text) words)
+    ∙ ap (λ l. l ++ drop (length text) words) (same_text (take (length text) words) text is)
 
-running_line : (first second : List ℕ) (request : Asked) → of_running first second ≡ Some request → IsLineFor (first ++ space ∷ second) request
-running_line first second request asks =
-    elim (chosen (is_text first (codes "RUN") && is_text second (codes "*")) (Some ToRunAll) (of_named first second) (Some request) asks) [
-      | inl all ↦
-          let both = and_parts (is_text first (codes "RUN")) (is_text second (codes "*")) all.0 in
-          subst (λ r. IsLineFor (first ++ space ∷ second) r) (same_Some ToRunAll request all.1)
-          (ap (λ w. w ++ space ∷ second) (same_text first (codes "RUN") both.0) ∙ ap (λ w. codes "RUN " ++ w) (same_text second (codes "*") both.1))
-      | inr other ↦ named_line first second request other.1
-    ]
+module _ (name words : List ℕ) (request : Asked) (is : IsName name) where
+  abbrev Named : Asked → Type 0
+  Named r = IsLineFor (name ++ space ∷ words) r
 
-line_of_two : (first second : List ℕ) (request : Asked) → of_two first second ≡ Some request → IsLineFor (first ++ space ∷ second) request
-line_of_two first second request asks =
-    elim (chosen (is_text first (codes "LIST")) (option_map ToList (hex_bytes second)) (of_running first second) (Some request) asks) [
-      | inl list ↦
-          let made = made_of ToList (hex_bytes second) request list.1 in
-          subst (λ r. IsLineFor (first ++ space ∷ second) r) made.2
-          (second, read_are_digits second made.0 made.1, ap (λ w. w ++ space ∷ second) (same_text first (codes "LIST") list.0))
-      | inr other ↦ running_line first second request other.1
-    ]
+  line_of_name : of_name name words ≡ Some request → Named request
+  line_of_name =
+      by_if (begins words (codes "PACKET ")) (λ t. by_digits (ToKeep name) (drop 7 words) request Named (λ bytes are.
+      (drop 7 words, is, are, ap (λ l. name ++ space ∷ l) (begun words (codes "PACKET ") t) ∙ sym (append_assoc name (codes " PACKET ") (drop 7 words)))))
+      (by_if (begins words (codes "IMAGE ")) (λ t. by_digits (ToOpen name) (drop 6 words) request Named (λ text are.
+      (drop 6 words, is, are, ap (λ l. name ++ space ∷ l) (begun words (codes "IMAGE ") t) ∙ sym (append_assoc name (codes " IMAGE ") (drop 6 words)))))
+      (by_if (is_text words (codes "RUN")) (λ t asks. subst Named (same_Some (ToRun name) request asks) (is, ap (λ l. name ++ space ∷ l) (same_text words (codes "RUN") t)))
+      (by_if (is_text words (codes "DROP")) (λ t asks. subst Named (same_Some (ToDrop name) request asks) (is, ap (λ l. name ++ space ∷ l) (same_text words (codes "DROP") t)))
+      (λ none. cc))))
 
--- a name, a word that is this text, and digits
-spelled_line : (name word digits text : List ℕ) → word ≡ text → name ++ space ∷ (word ++ space ∷ digits) ≡ name ++ (space ∷ (text ++ space ∷ [])) ++ digits
-spelled_line name word digits text is =
-    ap (λ w. name ++ space ∷ (w ++ space ∷ digits)) is ∙ ap (λ rest. name ++ space ∷ rest) (sym (append_assoc text (space ∷ []) digits))
-    ∙ sym (append_assoc name (space ∷ (text ++ space ∷ [])) digits)
+line_of_parts : (first words : List ℕ) (request : Asked) → of_parts first words ≡ Some request → IsLineFor (first ++ space ∷ words) request
+line_of_parts first words request =
+    by_if (is_text first (codes "LIST")) (λ t. by_digits ToList words request (IsLineFor (first ++ space ∷ words)) (λ code are.
+    (words, are, ap (λ l. l ++ space ∷ words) (same_text first (codes "LIST") t))))
+    (by_if (is_text first (codes "RUN") && is_text words (codes "*")) (λ t asks.
+    let both = and_parts (is_text first (codes "RUN")) (is_text words (codes "*")) t in
+    subst (IsLineFor (first ++ space ∷ words)) (same_Some ToRunAll request asks)
+    (ap (λ l. l ++ space ∷ words) (same_text first (codes "RUN") both.0) ∙ ap (λ l. codes "RUN " ++ l) (same_text words (codes "*") both.1)))
+    (by_if (is_name first) (λ t. line_of_name first words request (passed_is_name first t)) (λ none. cc)))
 
-line_of_three : (first second third : List ℕ) (request : Asked) → of_three first second third ≡ Some request → IsLineFor (first ++ space ∷ (second ++ space ∷ third)) request
-line_of_three first second third request asks =
-    elim (chosen (not (is_name first)) None _ (Some request) asks) [
-      | inl none ↦ cc none.1
-      | inr named ↦
-          let is = passed_is_name first (not-false (is_name first) named.0) in
-          elim (chosen (is_text second (codes "IMAGE")) (option_map (ToOpen first) (hex_bytes third)) (if is_text second (codes "PACKET") then option_map (ToKeep first) (hex_bytes third) else None) (Some request) named.1) [
-            | inl image ↦
-                let made = made_of (ToOpen first) (hex_bytes third) request image.1 in
-                subst (λ r. IsLineFor (first ++ space ∷ (second ++ space ∷ third)) r) made.2
-                (third, is, read_are_digits third made.0 made.1, spelled_line first second third (codes "IMAGE") (same_text second (codes "IMAGE") image.0))
-            | inr other ↦
-                elim (chosen (is_text second (codes "PACKET")) (option_map (ToKeep first) (hex_bytes third)) None (Some request) other.1) [
-                  | inl packet ↦
-                      let made = made_of (ToKeep first) (hex_bytes third) request packet.1 in
-                      subst (λ r. IsLineFor (first ++ space ∷ (second ++ space ∷ third)) r) made.2
-                      (third, is, read_are_digits third made.0 made.1, spelled_line first second third (codes "PACKET") (same_text second (codes "PACKET") packet.0))
-                  | inr none ↦ cc none.1
-                ]
-          ]
-    ]
+-- ---- a request that is known by what it stands for
 
-line_of_fields : (fields : List (List ℕ)) (request : Asked) → of_fields fields ≡ Some request → IsLineFor (joined fields) request
-line_of_fields [] request asks = cc
-line_of_fields (first ∷ []) request asks = cc
-line_of_fields (first ∷ second ∷ []) request asks = line_of_two first second request asks
-line_of_fields (first ∷ second ∷ third ∷ []) request asks = line_of_three first second third request asks
-line_of_fields (first ∷ second ∷ third ∷ fourth ∷ fields) request asks = cc
+asks_for : (first words : List ℕ) → IsWithout space first → (o : Option Asked) → o ≡ of_parts first words → AsksFor (first ++ space ∷ words) o
+asks_for first words before (Some request) is = line_of_parts first words request (sym is)
+asks_for first words before None is = λ request line_is. cc (is ∙ read_by first words request before line_is)
 
-asks_line : (line : List ℕ) (request : Asked) → asked_by line ≡ Some request → IsLineFor line request
-unfolding asked_by
-asks_line line request asks = subst (λ l. IsLineFor l request) (joined_again line) (line_of_fields (fields_of line) request asks)
+pub known : {R E : Type 0} (value : R → Option Asked) (line first words : List ℕ) → IsWithout space first × (line ≡ first ++ space ∷ words)
+    → (r : Result R E) → IfOk r (λ x. value x ≡ of_parts first words) → IfOk r (λ x. AsksFor line (value x))
+known value line first words parts (Ok x) is = subst (λ l. AsksFor l (value x)) (sym parts.1) (asks_for first words parts.0 (value x) is)
+known value line first words parts (Err f) is = tt
 
-pub one_request : (line : List ℕ) (a b : Asked) → IsLineFor line a → IsLineFor line b → a ≡ b
-one_request line a b is is' = same_Some a b (sym (line_asks line a is) ∙ line_asks line b is')
+-- by a name that was read
+pub known_name : {N R E : Type 0} (items : N → List ℕ) (value : R → Option Asked) (first words : List ℕ) (o : Option N) (name : N)
+    → option_map items o ≡ (if is_name first then Some first else None) → o ≡ Some name → (r : Result R E)
+    → IfOk r (λ x. value x ≡ of_name (items name) words) → IfOk r (λ x. value x ≡ of_parts first words)
+known_name {N} items value first words o name is read r asks =
+    by_test (is_name first) refl (sym (ap (option_map items) read) ∙ is)
+  where
+    by_test : (t : Bool) → is_name first ≡ t → Some (items name) ≡ (if t then Some first else None) → IfOk r (λ x. value x ≡ of_parts first words)
+    by_test false e same = cc
+    by_test true e same =
+        IfOk-weaker r _ _ (λ x asked_so. asked_so ∙ ap (λ n. of_name n words) (same_Some (items name) first same) ∙ sym (named first words e)) asks
 
-asks_for : (line : List ℕ) (o : Option Asked) → o ≡ asked_by line → AsksFor line o
-asks_for line (Some request) is = asks_line line request (sym is)
-asks_for line None is = λ request line_is. cc (is ∙ line_asks line request line_is)
-
--- a request that is known by what it stands for
-pub known : {R E : Type 0} (value : R → Option Asked) (line : List ℕ) (r : Result R E) (a : Option Asked)
-    → IfOk r (λ x. value x ≡ a) → a ≡ asked_by line → IfOk r (λ x. AsksFor line (value x))
-known value line (Ok x) a h e = asks_for line (value x) (h ∙ e)
-known value line (Err f) a h e = tt
-
-pub asks_for_none : (line : List ℕ) → None ≡ asked_by line → AsksFor line None
-asks_for_none line none = asks_for line None none
+-- a line without a space
+pub asks_for_none : (line : List ℕ) → IsWithout space line → AsksFor line None
+asks_for_none line none = λ request is.
+    let it = has_parts line request is in
+    never_without space it.first it.words (subst (IsWithout space) it.is none)
 
 -- ---- the line with digits in lower case
 

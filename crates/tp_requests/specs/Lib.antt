@@ -1,5 +1,6 @@
 -- What a reader must believe: clauses of public calls cite it.
 pub mod Lines
+pub mod Parts
 pub mod Fields
 pub mod Spelling
 pub mod Requests

@@ -1,30 +1,31 @@
 //! The fields of a line.
 
-ghost use Rattle.std.specs.Prelude.{◌≡◌, ◌∷◌, [], if◌then◌else◌, MatchOption, IfOk, IfSome, Some, None, position, ◌==◌, ◌<◌, length};
+ghost use Rattle.std.specs.Prelude.{◌≡◌, ◌∷◌, ◌++◌, if◌then◌else◌, MatchOption, IfOk, IfSome, Some, None, position, ◌==◌, ◌<◌, length};
 ghost use Rattle.std.specs.Option.{option_map};
 ghost use Rattle.std.specs.List.{list_all};
 ghost use Rattle.tp_requests.specs.Fields.{hex_bytes};
-ghost use Rattle.tp_requests.specs.Reading.{space, fields_of, is_name_byte, is_name};
+ghost use Rattle.tp_requests.specs.Parts.{IsWithout};
+ghost use Rattle.tp_requests.specs.Reading.{is_name_byte, is_name};
 
 use crate::request::{MOST_NAME, Name};
 use hex::FromHexError;
 use std::alloc::{AllocError, Global};
 
-/// The place of the first space.
-fn first_space(line: &[u8]) -> Option<usize>
-    ensures value { result ≡ position (λ b. b == space) line.now }
-    ensures within { IfSome result (λ i. i < length line.now) }
+/// The place of the first byte of a kind.
+fn place_of(byte: u8, bytes: &[u8]) -> Option<usize>
+    ensures value { result ≡ position (λ b. b == byte) bytes.now }
+    ensures within { IfSome result (λ i. i < length bytes.now) }
 {
-    line.iter().position(|byte| *byte == b' ')
+    bytes.iter().position(|other| *other == byte)
 }
 
-/// The first field and what stands behind its space; none where there is no space.
-pub(crate) fn split_field(line: &[u8]) -> Option<(&[u8], &[u8])>
-    ensures { MatchOption result (fields_of line.now ≡ line.now ∷ [])
-        (λ p. fields_of line.now ≡ p.0.now ∷ fields_of p.1.now) }
+/// What stands before the first `separator`, and what stands behind it.
+pub fn split_once(bytes: &[u8], separator: u8) -> Option<(&[u8], &[u8])>
+    ensures { MatchOption result (IsWithout separator bytes.now) (λ parts.
+        IsWithout separator parts.0.now × (bytes.now ≡ parts.0.now ++ separator ∷ parts.1.now)) }
 {
-    match first_space(line) {
-        Some(at) => Some((&line[..at], &line[at + 1..])),
+    match place_of(separator, bytes) {
+        Some(at) => Some((&bytes[..at], &bytes[at + 1..])),
         None => None,
     }
 }

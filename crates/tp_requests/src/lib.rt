@@ -9,5 +9,6 @@ pub mod laws;
 mod request;
 mod spelled;
 
+pub use fields::split_once;
 pub use request::{Name, Request, read_request};
 pub use spelled::Spelled;

@@ -4,9 +4,9 @@ ghost use Rattle.std.specs.Prelude.{◌≡◌, IfOk};
 ghost use Rattle.std.specs.Option.{option_map};
 ghost use Rattle.tp_requests.specs.Requests.{asked};
 ghost use Rattle.tp_requests.specs.Protocol.{AsksFor};
-ghost use Rattle.tp_requests.specs.Reading.{of_two, of_three};
+ghost use Rattle.tp_requests.specs.Reading.{of_name, of_parts};
 
-use crate::fields::{bytes_of, name_of, split_field};
+use crate::fields::{bytes_of, name_of, split_once};
 use crate::spelled::Spelled;
 use arrayvec::ArrayVec;
 use std::alloc::{AllocError, Global};
@@ -34,55 +34,55 @@ pub enum Request<'a> {
     Drop(Name),
 }
 
-/// What two fields ask for.
-fn of_two<'a>(alloc: Global, first: &[u8], second: &[u8]) -> Result<Option<Request<'a>>, AllocError>
-    ensures { IfOk result (λ r. option_map asked r ≡ of_two first.now second.now) }
+/// What is asked of the session of a name, by the words behind it.
+fn of_name<'a>(
+    alloc: Global,
+    name: Name,
+    words: &'a [u8],
+) -> Result<Option<Request<'a>>, AllocError>
+    ensures { IfOk result (λ r. option_map asked r ≡ of_name name.items words.now) }
 {
-    if first == b"LIST".as_slice() {
-        return match bytes_of(alloc, second)? {
-            Some(code) => Ok(Some(Request::List(code))),
+    if let Some(digits) = words.strip_prefix(b"PACKET ".as_slice()) {
+        return match Spelled::of(digits) {
+            Some(bytes) => Ok(Some(Request::Packet(name, bytes))),
             None => Ok(None),
         };
     }
-    if first == b"RUN".as_slice() && second == b"*".as_slice() {
-        return Ok(Some(Request::RunAll));
+    if let Some(digits) = words.strip_prefix(b"IMAGE ".as_slice()) {
+        return match bytes_of(alloc, digits)? {
+            Some(text) => Ok(Some(Request::Image(name, text))),
+            None => Ok(None),
+        };
     }
-    let Some(name) = name_of(first) else {
-        return Ok(None);
-    };
-    if second == b"RUN".as_slice() {
+    if words == b"RUN".as_slice() {
         Ok(Some(Request::Run(name)))
-    } else if second == b"DROP".as_slice() {
+    } else if words == b"DROP".as_slice() {
         Ok(Some(Request::Drop(name)))
     } else {
         Ok(None)
     }
 }
 
-/// What three fields ask for.
-fn of_three<'a>(
+/// What a line asks for, by what stands before and behind its first space.
+fn of_parts<'a>(
     alloc: Global,
     first: &[u8],
-    second: &[u8],
-    third: &'a [u8],
+    words: &'a [u8],
 ) -> Result<Option<Request<'a>>, AllocError>
-    ensures { IfOk result (λ r. option_map asked r ≡ of_three first.now second.now third.now) }
+    ensures { IfOk result (λ r. option_map asked r ≡ of_parts first.now words.now) }
 {
-    let Some(name) = name_of(first) else {
-        return Ok(None);
-    };
-    if second == b"IMAGE".as_slice() {
-        match bytes_of(alloc, third)? {
-            Some(text) => Ok(Some(Request::Image(name, text))),
+    if first == b"LIST".as_slice() {
+        return match bytes_of(alloc, words)? {
+            Some(code) => Ok(Some(Request::List(code))),
             None => Ok(None),
-        }
-    } else if second == b"PACKET".as_slice() {
-        match Spelled::of(third) {
-            Some(bytes) => Ok(Some(Request::Packet(name, bytes))),
-            None => Ok(None),
-        }
-    } else {
-        Ok(None)
+        };
+    }
+    if first == b"RUN".as_slice() && words == b"*".as_slice() {
+        return Ok(Some(Request::RunAll));
+    }
+    match name_of(first) {
+        Some(name) => of_name(alloc, name, words),
+        None => Ok(None),
     }
 }
 
@@ -90,12 +90,8 @@ fn of_three<'a>(
 pub fn read_request(alloc: Global, line: &[u8]) -> Result<Option<Request<'_>>, AllocError>
     ensures { IfOk result (λ r. AsksFor line.now (option_map asked r)) }
 {
-    let Some((first, rest)) = split_field(line) else {
-        return Ok(None);
-    };
-    match split_field(rest) {
-        None => of_two(alloc, first, rest),
-        // A third field with a space in it spells nothing, so that a fourth is refused.
-        Some((second, third)) => of_three(alloc, first, second, third),
+    match split_once(line, b' ') {
+        Some((first, words)) => of_parts(alloc, first, words),
+        None => Ok(None),
     }
 }
