@@ -1,11 +1,12 @@
 -- Sessions by name, and the map that keeps them.
-use Rattle.std.proofs.Common.{◌≡◌, ℕ, zero, suc, ◌+◌, ◌<◌, ◌≤◌, is_some, nat_eq, nat_lt, nat_le, not, Bool, true, false, cond}
+use Rattle.std.proofs.Common.{◌≡◌, ℕ, zero, suc, ◌+◌, ◌<◌, ◌≤◌, is_some, nat_eq, nat_le, not, Bool, true, false, cond}
 use Rattle.std.proofs.Common.{if◌then◌else◌, List, [], ◌∷◌, ◌++◌, length, map, slice_get, slice_set, remove, position, vec_len}
 use Rattle.std.proofs.Common.{Option, Some, None, refl, ap, sym, ◌∙◌, arith}
 use Rattle.std.specs.Cmp.Lexicographic.{pointwise, same_text}
-use Rattle.std.specs.List.{position_or_len}
+use Rattle.std.specs.List.{position_from}
 use Rattle.std.specs.Map.{keys_of, values_of}
 use Rattle.std.proofs.lemmas.Bool.Decides.{nat_tests}
+use Rattle.std.proofs.lemmas.Iterator.Adapters.{position_from-zero}
 use Rattle.std.proofs.lemmas.Option.{same_Some}
 use Rattle.std.proofs.lemmas.List.{map-append, length-map}
 use Rattle.indexmap.specs.Layout.{set_value_at}
@@ -17,7 +18,6 @@ use Rattle.tp_answers.specs.declared.session.OpenSession.{OpenSession}
 use Rattle.tp_answers.specs.Sessions.{most_sessions, Session, is_of, named, is_full, with_session, with_changed, without_session}
 use Rattle.tp_answers.specs.Sessions.{with_packet, without_packets}
 use Rattle.tp_answers.specs.OpenSessions.{session_of, with_kept}
-use Rattle.tp_answers.proofs.Places.{IsFirst, NonePasses, first_found, none_found}
 
 -- ---- the first session of a name
 
@@ -26,75 +26,74 @@ pub record IsPlaced (name : List ℕ) (sessions : List Session) (i : ℕ) : Type
   pub session : Session
   pub there : slice_get sessions i ≡ Some session
   pub is_named : named name sessions ≡ Some session
-  pub name_is : name ≡ session.name
-  pub within : i < length sessions
   pub replaced : (kept : OpenSession) → with_kept sessions i kept ≡ with_session (session_of name kept) sessions
   pub changed : (change : Session → Session) → slice_set sessions i (change session) ≡ with_changed change name sessions
   pub removed : remove sessions i ≡ without_session name sessions
 
-placed_first : (name : List ℕ) (sessions : List Session) (i : ℕ) → IsFirst (is_of name) sessions i → IsPlaced name sessions i
-placed_first name [] i first = absurd first
-placed_first name (s ∷ sessions) zero first = record {
-  session = s;
-  there = refl;
-  is_named = ap (λ b. if b then Some s else named name sessions) first;
-  name_is = same_text name s.name (sym first);
-  within = omega arith;
-  replaced = λ kept.
-      ap (λ n. session_of n kept ∷ sessions) (sym (same_text name s.name (sym first)))
-      ∙ sym (ap (λ b. if b then session_of name kept ∷ sessions else s ∷ with_session (session_of name kept) sessions) first);
-  changed = λ change. sym (ap (λ b. if b then change s ∷ sessions else s ∷ with_changed change name sessions) first);
-  removed = sym (ap (λ b. if b then sessions else s ∷ without_session name sessions) first);
-}
-placed_first name (s ∷ sessions) (suc i) first =
-    let rest = placed_first name sessions i first.1 in record {
-      session = rest.session;
-      there = rest.there;
-      is_named = ap (λ b. if b then Some s else named name sessions) first.0 ∙ rest.is_named;
-      name_is = rest.name_is;
-      within = omega (arith, rest.within);
-      replaced = λ kept.
-          ap (λ l. s ∷ l) (rest.replaced kept)
-          ∙ sym (ap (λ b. if b then session_of name kept ∷ sessions else s ∷ with_session (session_of name kept) sessions) first.0);
-      changed = λ change.
-          ap (λ l. s ∷ l) (rest.changed change)
-          ∙ sym (ap (λ b. if b then change s ∷ sessions else s ∷ with_changed change name sessions) first.0);
-      removed = ap (λ l. s ∷ l) rest.removed ∙ sym (ap (λ b. if b then sessions else s ∷ without_session name sessions) first.0);
-    }
+placed_from : (name : List ℕ) (sessions : List Session) (n i : ℕ) → position_from (is_of name) n sessions ≡ Some i
+    → (j : ℕ) × (i ≡ n + j) × IsPlaced name sessions j
+placed_from name [] n i found = cc
+placed_from name (s ∷ sessions) n i found = by_test (is_of name s) refl found (placed_from name sessions (n + 1) i)
+  where
+    by_test : (t : Bool) → is_of name s ≡ t → cond t (Some n) (position_from (is_of name) (n + 1) sessions) ≡ Some i
+        → (position_from (is_of name) (n + 1) sessions ≡ Some i → (j : ℕ) × (i ≡ (n + 1) + j) × IsPlaced name sessions j)
+        → (j : ℕ) × (i ≡ n + j) × IsPlaced name (s ∷ sessions) j
+    by_test true e found rest =
+        let here : n ≡ i = same_Some n i found in (
+          0,
+          omega (arith, here),
+          record {
+            session = s;
+            there = refl;
+            is_named = rw e refl;
+            replaced = λ kept. rw e (ap (λ n. session_of n kept ∷ sessions) (sym (same_text name s.name (sym e))));
+            changed = λ change. rw e refl;
+            removed = rw e refl;
+          },
+        )
+    by_test false e found rest =
+        let it = rest found in (
+          suc it.0,
+          omega (arith, it.1),
+          record {
+            session = it.2.session;
+            there = it.2.there;
+            is_named = rw e it.2.is_named;
+            replaced = λ kept. rw e (ap (λ l. s ∷ l) (it.2.replaced kept));
+            changed = λ change. rw e (ap (λ l. s ∷ l) (it.2.changed change));
+            removed = rw e (ap (λ l. s ∷ l) it.2.removed);
+          },
+        )
 
 pub placed : (name : List ℕ) (sessions : List Session) (i : ℕ) → position (is_of name) sessions ≡ Some i
     → IsPlaced name sessions i
-placed name sessions i found = placed_first name sessions i (first_found (is_of name) sessions i found)
+placed name sessions i found =
+    let it = placed_from name sessions 0 i (sym (position_from-zero (is_of name) sessions) ∙ found) in
+    let same : i ≡ it.0 = omega (arith, it.1) in
+    rw same it.2
 
-absent_from : (name : List ℕ) (sessions : List Session) → NonePasses (is_of name) sessions → named name sessions ≡ None
-absent_from name [] none = refl
-absent_from name (s ∷ sessions) none =
-    ap (λ b. if b then Some s else named name sessions) none.0 ∙ absent_from name sessions none.1
+-- no session has the name
+pub record IsAbsent (name : List ℕ) (sessions : List Session) : Type 0 where
+  pub is_named : named name sessions ≡ None
+  pub changed : (change : Session → Session) → sessions ≡ with_changed change name sessions
+  pub removed : sessions ≡ without_session name sessions
 
-pub absent : (name : List ℕ) (sessions : List Session) → position (is_of name) sessions ≡ None → named name sessions ≡ None
-absent name sessions none = absent_from name sessions (none_found (is_of name) sessions none)
+absent_from : (name : List ℕ) (sessions : List Session) (n : ℕ) → position_from (is_of name) n sessions ≡ None → IsAbsent name sessions
+absent_from name [] n none = record { is_named = refl; changed = λ change. refl; removed = refl }
+absent_from name (s ∷ sessions) n none = by_test (is_of name s) refl none (absent_from name sessions (n + 1))
+  where
+    by_test : (t : Bool) → is_of name s ≡ t → cond t (Some n) (position_from (is_of name) (n + 1) sessions) ≡ None
+        → (position_from (is_of name) (n + 1) sessions ≡ None → IsAbsent name sessions) → IsAbsent name (s ∷ sessions)
+    by_test true e none rest = cc
+    by_test false e none rest =
+        let it = rest none in record {
+          is_named = rw e it.is_named;
+          changed = λ change. rw e (ap (λ l. s ∷ l) (it.changed change));
+          removed = rw e (ap (λ l. s ∷ l) it.removed);
+        }
 
-unchanged_from : (change : Session → Session) (name : List ℕ) (sessions : List Session) → NonePasses (is_of name) sessions
-    → sessions ≡ with_changed change name sessions
-unchanged_from change name [] none = refl
-unchanged_from change name (s ∷ sessions) none =
-    ap (λ l. s ∷ l) (unchanged_from change name sessions none.1)
-    ∙ sym (ap (λ b. if b then change s ∷ sessions else s ∷ with_changed change name sessions) none.0)
-
-pub unchanged : (change : Session → Session) (name : List ℕ) (sessions : List Session) → position (is_of name) sessions ≡ None
-    → sessions ≡ with_changed change name sessions
-unchanged change name sessions none = unchanged_from change name sessions (none_found (is_of name) sessions none)
-
-still_there_from : (name : List ℕ) (sessions : List Session) → NonePasses (is_of name) sessions
-    → sessions ≡ without_session name sessions
-still_there_from name [] none = refl
-still_there_from name (s ∷ sessions) none =
-    ap (λ l. s ∷ l) (still_there_from name sessions none.1)
-    ∙ sym (ap (λ b. if b then sessions else s ∷ without_session name sessions) none.0)
-
-pub still_there : (name : List ℕ) (sessions : List Session) → position (is_of name) sessions ≡ None
-    → sessions ≡ without_session name sessions
-still_there name sessions none = still_there_from name sessions (none_found (is_of name) sessions none)
+pub absent : (name : List ℕ) (sessions : List Session) → position (is_of name) sessions ≡ None → IsAbsent name sessions
+absent name sessions none = absent_from name sessions 0 (sym (position_from-zero (is_of name) sessions) ∙ none)
 
 -- whether one more may open, where this is the place of its name
 pub full_none : (name : List ℕ) (sessions : List Session) (place : Option ℕ) (none : Bool)
@@ -102,7 +101,7 @@ pub full_none : (name : List ℕ) (sessions : List Session) (place : Option ℕ)
     → is_full name sessions ≡ true
 full_none name sessions None none at is e many =
     let test : nat_le most_sessions (length sessions) ≡ true = grind (arith, nat_tests, many) in
-    rw (absent name sessions (sym at)) test
+    rw ((absent name sessions (sym at)).is_named) test
 full_none name sessions (Some i) none at is e many = cc
 
 pub full_some : (name : List ℕ) (sessions : List Session) (place : Option ℕ) (none : Bool)
@@ -114,7 +113,7 @@ pub full_room : (name : List ℕ) (sessions : List Session) (place : Option ℕ)
     → length sessions < most_sessions → is_full name sessions ≡ false
 full_room name sessions None at few =
     let test : nat_le most_sessions (length sessions) ≡ false = grind (arith, nat_tests, few) in
-    rw (absent name sessions (sym at)) test
+    rw ((absent name sessions (sym at)).is_named) test
 full_room name sessions (Some i) at few = let it = placed name sessions i (sym at) in rw it.is_named refl
 
 -- ---- the entries of a map, as sessions
@@ -127,22 +126,14 @@ module _ {K V : Type 0} (text : K → List ℕ) (view : List ℕ → V → Sessi
   abbrev entry : K × V → Session
   entry e = view (text e.0) e.1
 
-  before_same : (k : K) (es : List (K × V)) → position_or_len (eq k) (keys_of es) ≡ position_or_len (is_of (text k))
-      (map entry es)
-  before_same k [] = refl
-  before_same k (e ∷ es) =
-      ap (λ n. cond (not (pointwise nat_eq (text k) n)) (1 + position_or_len (eq k) (keys_of es)) 0) (sym (names (text e.0) e.1))
-      ∙ ap (λ m. cond (not (is_of (text k) (entry e))) (1 + m) 0) (before_same k es)
-
-  length_same : (es : List (K × V)) → length (keys_of es) ≡ length (map entry es)
-  length_same [] = refl
-  length_same (e ∷ es) = ap suc (length_same es)
+  found_from : (k : K) (n : ℕ) (es : List (K × V)) → position_from (eq k) n (keys_of es) ≡ position_from (is_of (text k)) n (map entry es)
+  found_from k n [] = refl
+  found_from k n (e ∷ es) =
+      ap (λ t. cond (pointwise nat_eq (text k) t) (Some n) (position_from (eq k) (n + 1) (keys_of es))) (sym (names (text e.0) e.1))
+      ∙ ap (cond (is_of (text k) (entry e)) (Some n)) (found_from k (n + 1) es)
 
   pub found_same : (k : K) (es : List (K × V)) → position (eq k) (keys_of es) ≡ position (is_of (text k)) (map entry es)
-  found_same k es =
-      ap (λ n. cond (nat_lt n (length (keys_of es))) (Some n) None) (before_same k es)
-      ∙ ap (λ l. cond (nat_lt (position_or_len (is_of (text k)) (map entry es)) l)
-      (Some (position_or_len (is_of (text k)) (map entry es))) None) (length_same es)
+  found_same k es = position_from-zero (eq k) (keys_of es) ∙ found_from k 0 es ∙ sym (position_from-zero (is_of (text k)) (map entry es))
 
   pub put_same : (k : K) (v : V) (es : List (K × V))
       → map entry (insert_entry eq es k v) ≡ with_session (view (text k) v) (map entry es)

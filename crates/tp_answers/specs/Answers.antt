@@ -41,10 +41,14 @@ answer_to_packet (Some s) packet =
     else if nat_le most_packets (length s.packets) then Refused P3
     else Kept (length s.packets)
 
--- where a line is refused nothing changes
+-- where it is refused nothing changes
 abbrev pub unless_refused : Answer → (before after : List Session) → List Session
 unless_refused (Refused fault) before after = before
 unless_refused answer before after = after
+
+abbrev pub after_packet : (name packet : List ℕ) → List Session → List Session
+after_packet name packet before =
+    unless_refused (answer_to_packet (named name before) packet) before (with_changed (with_packet packet) name before)
 
 -- ---- <name> DROP
 
@@ -58,18 +62,20 @@ abbrev pub answer_by : Verdict → Answer
 answer_by (Accepts image budget) = Yes (length image.code) budget
 answer_by (Refuses code place) = Refused (Image code place)
 
+-- the session opens with the image and no packet, in the place of the one of its name if that is open
+abbrev pub after_verdict : (name : List ℕ) → Verdict → List Session → List Session
+after_verdict name (Accepts image budget) before = with_session record { name = name; image = image; packets = [] } before
+after_verdict name (Refuses code place) before = before
+
 module _ (Judges : List ℕ → Verdict → Type 0) where
   -- whether there is no room for a session comes before the verdict
   abbrev pub IsAnswerToImage : (full : Bool) → (text : List ℕ) → Answer → Type 0
   IsAnswerToImage true text answer = answer ≡ Refused E2
   IsAnswerToImage false text answer = (verdict : Verdict) × Judges text verdict × (answer ≡ answer_by verdict)
 
-  -- the session opens with the image and no packet, in the place of the one of its name if that is open
-  abbrev pub IsAfterImage : (name text : List ℕ) → List Session → Answer → List Session → Type 0
-  IsAfterImage name text before (Yes code_bytes budget) after =
-      (image : ImageValue) × Judges text (Accepts image budget)
-      × (after ≡ with_session record { name = name; image = image; packets = [] } before)
-  IsAfterImage name text before answer after = after ≡ before
+  abbrev pub IsAfterImage : (full : Bool) → (name text : List ℕ) → (before after : List Session) → Type 0
+  IsAfterImage true name text before after = after ≡ before
+  IsAfterImage false name text before after = (verdict : Verdict) × Judges text verdict × (after ≡ after_verdict name verdict before)
 
 -- ---- <name> RUN, RUN *
 
@@ -105,12 +111,11 @@ module _ (Judges : List ℕ → Verdict → Type 0) (ComesTo : ImageValue → Li
 
 -- the sessions after it
 module _ (Judges : List ℕ → Verdict → Type 0) where
-  abbrev pub IsAfter : Option Asked → List Session → Answer → List Session → Type 0
-  IsAfter None before answer after = after ≡ before
-  IsAfter (Some (ToList code)) before answer after = after ≡ before
-  IsAfter (Some (ToOpen name text)) before answer after = IsAfterImage Judges name text before answer after
-  IsAfter (Some (ToKeep name packet)) before answer after =
-      after ≡ unless_refused answer before (with_changed (with_packet packet) name before)
-  IsAfter (Some (ToRun name)) before answer after = after ≡ with_changed without_packets name before
-  IsAfter (Some ToRunAll) before answer after = after ≡ map without_packets before
-  IsAfter (Some (ToDrop name)) before answer after = after ≡ without_session name before
+  abbrev pub IsAfter : Option Asked → (before after : List Session) → Type 0
+  IsAfter None before after = after ≡ before
+  IsAfter (Some (ToList code)) before after = after ≡ before
+  IsAfter (Some (ToOpen name text)) before after = IsAfterImage Judges (is_full name before) name text before after
+  IsAfter (Some (ToKeep name packet)) before after = after ≡ after_packet name packet before
+  IsAfter (Some (ToRun name)) before after = after ≡ with_changed without_packets name before
+  IsAfter (Some ToRunAll) before after = after ≡ map without_packets before
+  IsAfter (Some (ToDrop name)) before after = after ≡ without_session name before

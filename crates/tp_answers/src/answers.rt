@@ -1,14 +1,14 @@
 //! Answers to lines that run nothing.
 
-ghost use Rattle.std.specs.Prelude.{◌≡◌, ◌≤◌, nat_lt, length, IsTrue, IfOk};
+ghost use Rattle.std.specs.Prelude.{◌≡◌, ◌≤◌, nat_lt, length, IsTrue, IfOk, OnOk};
 ghost use Rattle.std.specs.List.{list_all};
 ghost use Rattle.tp_requests.specs.Spelling.{bytes_spelled};
 ghost use Rattle.tp_decode.specs.Cutting.{cutting};
 ghost use Rattle.tp_collect.specs.DoneValue.{most_message};
-ghost use Rattle.tp_answers.specs.Sessions.{named, is_full, with_changed, with_packet, without_session};
+ghost use Rattle.tp_answers.specs.Sessions.{named, is_full, without_session};
 ghost use Rattle.tp_answers.specs.Rules.{IsVerdict};
 ghost use Rattle.tp_answers.specs.Answers.{IsAnswerToList, IsAnswerToImage, IsAfterImage, answer_to_packet};
-ghost use Rattle.tp_answers.specs.Answers.{answer_to_drop, unless_refused};
+ghost use Rattle.tp_answers.specs.Answers.{answer_to_drop, after_packet};
 
 use crate::answer::{Answer, BoxedListing, LineFault};
 use crate::session::OpenSession;
@@ -58,8 +58,8 @@ pub fn open(
     text: Vec<u8>,
 ) -> Result<Answer, AllocError>
     ensures answer { IfOk result (IsAnswerToImage IsVerdict (is_full name.items sessions.old) text.items) }
-    ensures sessions { IfOk result (λ answer.
-        IsAfterImage IsVerdict name.items text.items sessions.old answer sessions.new) }
+    ensures sessions { OnOk result (IsAfterImage IsVerdict (is_full name.items sessions.old) name.items text.items
+        sessions.old sessions.new) }
 {
     let place = sessions.find(&name);
     if place.is_none() && sessions.len() >= MOST_SESSIONS {
@@ -98,8 +98,7 @@ pub fn keep(
 ) -> Result<Answer, AllocError>
     ensures answer { IfOk result (λ answer.
         answer ≡ answer_to_packet (named name.now.items sessions.old) (bytes_spelled packet.now)) }
-    ensures sessions { IfOk result (λ answer. sessions.new ≡ unless_refused answer sessions.old
-        (with_changed (with_packet (bytes_spelled packet.now)) name.now.items sessions.old)) }
+    ensures sessions { OnOk result (sessions.new ≡ after_packet name.now.items (bytes_spelled packet.now) sessions.old) }
 {
     let Some(index) = sessions.find(name) else {
         return Ok(Answer::Refused(LineFault::P2));

@@ -1,9 +1,9 @@
 //! The members of the farm.
 
-ghost use Rattle.std.specs.Prelude.{◌≡◌, ◌≤◌, Err, All, IfOk, IfErr, IfSome, OnOk, length, vec_len};
+ghost use Rattle.std.specs.Prelude.{◌≡◌, ◌≤◌, All, IfOk, IfSome, length, vec_len};
 ghost use Rattle.tp_link.specs.Wire.{device_of};
 ghost use Rattle.tp_session.specs.Fitness.{AreFit};
-ghost use Rattle.tp_session.specs.Served.{ServesAll, ServesRead, ServesBefore, ServesSome, IsWant};
+ghost use Rattle.tp_session.specs.Served.{Serves};
 ghost use Rattle.tp_program.specs.Media.{HaveRoom};
 ghost use Rattle.tp_program.specs.Asked.{IsAsked};
 
@@ -47,14 +47,8 @@ fn serve_as_asked<T: Threads + Wait + Sync, D: LinkDevice + Send, R: Read, W: Wr
 ) -> Result<(), ServeFault>
     requires asked { IsAsked _asked farm }
     requires fit { AreFit D.state farm.links.items }
-    ensures all { IfSome (R.remaining reader.old) (λ input. OnOk result
-        (ServesAll _asked.trace input (R.remaining reader.new) (W.contents writer.old) (W.contents writer.new))) }
-    ensures read { IfSome (R.remaining reader.old) (λ input. result ≡ Err ServeFault.Read →
-        ServesRead _asked.trace input (R.remaining reader.new) (W.contents writer.old) (W.contents writer.new)) }
-    ensures want { IfSome (R.remaining reader.old) (λ input. IfErr result (λ fault. IsWant fault →
-        ServesBefore _asked.trace input (R.remaining reader.new) (W.contents writer.old) (W.contents writer.new))) }
-    ensures write { IfSome (R.remaining reader.old) (λ input. result ≡ Err ServeFault.Write →
-        ServesSome _asked.trace input (W.contents writer.old) (W.contents writer.new)) }
+    ensures { IfSome (R.remaining reader.old) (λ input.
+        Serves _asked.trace input (R.remaining reader.new) (W.contents writer.old) (W.contents writer.new) result) }
 {
     serve(rt, alloc, reader, writer, farm)
 }
@@ -69,14 +63,8 @@ pub fn serve_members<T: Threads + Wait + Sync, R: Read, W: Write>(
 ) -> Result<(), ServeFault>
     requires least { 1 ≤ asked.members }
     requires most { asked.members ≤ 64 }
-    ensures all { IfSome (R.remaining reader.old) (λ input. OnOk result
-        (ServesAll asked.trace input (R.remaining reader.new) (W.contents writer.old) (W.contents writer.new))) }
-    ensures read { IfSome (R.remaining reader.old) (λ input. result ≡ Err ServeFault.Read →
-        ServesRead asked.trace input (R.remaining reader.new) (W.contents writer.old) (W.contents writer.new)) }
-    ensures want { IfSome (R.remaining reader.old) (λ input. IfErr result (λ fault. IsWant fault →
-        ServesBefore asked.trace input (R.remaining reader.new) (W.contents writer.old) (W.contents writer.new))) }
-    ensures write { IfSome (R.remaining reader.old) (λ input. result ≡ Err ServeFault.Write →
-        ServesSome asked.trace input (W.contents writer.old) (W.contents writer.new)) }
+    ensures { IfSome (R.remaining reader.old) (λ input.
+        Serves asked.trace input (R.remaining reader.new) (W.contents writer.old) (W.contents writer.new) result) }
 {
     let mut media = media_of(alloc, asked.members)?;
     let links = boxed(alloc, &mut media)?;

@@ -6,5 +6,6 @@ pub mod ServeLemmas
 pub mod RunLemmas
 pub mod ServiceLemmas
 pub mod OneAnswer
+pub mod OtherRules
 pub mod MemberLemmas
 pub mod InTime

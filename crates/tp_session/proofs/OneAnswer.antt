@@ -15,10 +15,10 @@ use Rattle.tp_requests.specs.Lines.{Line, said_in}
 use Rattle.tp_requests.specs.Requests.{Asked, ToList, ToOpen, ToKeep, ToRun, ToRunAll, ToDrop}
 use Rattle.tp_requests.proofs.LineLemmas.{one_request}
 use Rattle.tp_answers.specs.declared.answer.Answer.{Answer}
-use Rattle.tp_answers.specs.declared.answer.Answer.TheVariants.{Listed, Yes, Kept, Ran, RanAll, Gone, Refused}
-use Rattle.tp_answers.specs.Sessions.{Session, named, is_full, with_session}
+use Rattle.tp_answers.specs.declared.answer.Answer.TheVariants.{Ran, RanAll}
+use Rattle.tp_answers.specs.Sessions.{Session, named, is_full}
 use Rattle.tp_answers.specs.Texts.{answer_text}
-use Rattle.tp_answers.specs.Answers.{Verdict, Accepts, Refuses, answer_by, IsAnswerToList, IsAnswerToImage, IsAfterImage, IsRun}
+use Rattle.tp_answers.specs.Answers.{Verdict, Accepts, Refuses, answer_by, after_verdict, IsAnswerToList, IsAnswerToImage, IsAfterImage, IsRun}
 use Rattle.tp_answers.specs.Answers.{IsAnswerToRun, IsAnswer, IsAfter}
 use Rattle.tp_answers.specs.Rules.{IsVerdict, IsOutcome}
 use Rattle.tp_session.specs.Protocol.{most_line, next_number, IsAsked, IsAnswered, AreAnswers, AreTold}
@@ -86,37 +86,27 @@ module _ (Judges : List ℕ → Verdict → Type 0) (ComesTo : ImageValue → Li
       answer_once (Some ToRunAll) before a b (rs, each, is) (qs, each', is') = is ∙ ap RanAll (runs_once before rs qs each each') ∙ sym is'
       answer_once (Some (ToDrop name)) before a b is is' = is ∙ sym is'
 
-      image_after_once : (name text : List ℕ) (before : List Session) (a : Answer) (s t : List Session)
-          → IsAfterImage Judges name text before a s → IsAfterImage Judges name text before a t → s ≡ t
-      image_after_once name text before (Yes code_bytes budget) s t (image, judged, is) (image', judged', is') =
-          let verdicts : Accepts image budget ≡ Accepts image' budget = one_verdict text _ _ judged judged' in
-          let same : image ≡ image' = cc in
-          is ∙ ap (λ i. with_session record { name = name; image = i; packets = [] } before) same ∙ sym is'
-      image_after_once name text before (Listed cuts) s t is is' = is ∙ sym is'
-      image_after_once name text before (Kept n) s t is is' = is ∙ sym is'
-      image_after_once name text before (Ran outcomes) s t is is' = is ∙ sym is'
-      image_after_once name text before (RanAll runs) s t is is' = is ∙ sym is'
-      image_after_once name text before Gone s t is is' = is ∙ sym is'
-      image_after_once name text before (Refused fault) s t is is' = is ∙ sym is'
+      image_after_once : (full : Bool) (name text : List ℕ) (before s t : List Session) → IsAfterImage Judges full name text before s
+          → IsAfterImage Judges full name text before t → s ≡ t
+      image_after_once true name text before s t is is' = is ∙ sym is'
+      image_after_once false name text before s t (v, judged, is) (w, judged', is') =
+          is ∙ ap (λ x. after_verdict name x before) (one_verdict text v w judged judged') ∙ sym is'
 
-      after_once : (asked : Option Asked) (before : List Session) (a : Answer) (s t : List Session)
-          → IsAfter Judges asked before a s → IsAfter Judges asked before a t → s ≡ t
-      after_once None before a s t is is' = is ∙ sym is'
-      after_once (Some (ToList code)) before a s t is is' = is ∙ sym is'
-      after_once (Some (ToOpen name text)) before a s t is is' = image_after_once name text before a s t is is'
-      after_once (Some (ToKeep name packet)) before a s t is is' = is ∙ sym is'
-      after_once (Some (ToRun name)) before a s t is is' = is ∙ sym is'
-      after_once (Some ToRunAll) before a s t is is' = is ∙ sym is'
-      after_once (Some (ToDrop name)) before a s t is is' = is ∙ sym is'
+      after_once : (asked : Option Asked) (before s t : List Session) → IsAfter Judges asked before s → IsAfter Judges asked before t → s ≡ t
+      after_once None before s t is is' = is ∙ sym is'
+      after_once (Some (ToList code)) before s t is is' = is ∙ sym is'
+      after_once (Some (ToOpen name text)) before s t is is' = image_after_once (is_full name before) name text before s t is is'
+      after_once (Some (ToKeep name packet)) before s t is is' = is ∙ sym is'
+      after_once (Some (ToRun name)) before s t is is' = is ∙ sym is'
+      after_once (Some ToRunAll) before s t is is' = is ∙ sym is'
+      after_once (Some (ToDrop name)) before s t is is' = is ∙ sym is'
 
       pub one_line : (line : Line) (before : List Session) (a b : Answer) (s t : List Session) → IsAnswered Judges ComesTo line before a s
           → IsAnswered Judges ComesTo line before b t → (a ≡ b) × (s ≡ t)
       one_line line before a b s t is is' =
           let asked = asked_once (nat_lt most_line (length line.bytes)) (said_in line) is.asked is'.asked is.asks is'.asks in
-          let same =
-          answer_once is'.asked before a b (subst (λ o. IsAnswer Judges ComesTo o before a) asked is.answer_is) is'.answer_is in
-          let after = subst (λ o. IsAfter Judges o before a s) asked is.after_is in
-          (same, after_once is'.asked before b s t (subst (λ x. IsAfter Judges is'.asked before x s) same after) is'.after_is)
+          let same = subst (λ o. IsAnswer Judges ComesTo o before a × IsAfter Judges o before s) asked (is.answer_is, is.after_is) in
+          (answer_once is'.asked before a b same.0 is'.answer_is, after_once is'.asked before s t same.1 is'.after_is)
 
       one_list : (trace : Bool) (number : ℕ) (before : List Session) (lines : List Line) (told told' : List ℕ) (s t : List Session)
           → AreAnswers Judges ComesTo trace number before lines told s → AreAnswers Judges ComesTo trace number before lines told' t
@@ -132,85 +122,6 @@ module _ (Judges : List ℕ → Verdict → Type 0) (ComesTo : ImageValue → Li
       pub one_told : (trace : Bool) (lines : List Line) (told told' : List ℕ) → AreTold Judges ComesTo trace lines told
           → AreTold Judges ComesTo trace lines told' → told ≡ told'
       one_told trace lines told told' (s, is) (t, is') = one_list trace 1 [] lines told told' s t is is'
-
-  -- ---- under other verdicts and outcomes, which are also these
-
-  module _ (Judges' : List ℕ → Verdict → Type 0) (ComesTo' : ImageValue → List ℕ → Option RunResult → Type 0)
-      (verdicts : (text : List ℕ) (v : Verdict) → Judges text v → Judges' text v)
-      (outcomes : (image : ImageValue) (packet : List ℕ) (o : Option RunResult) → ComesTo image packet o → ComesTo' image packet o) where
-    all_so : {X Y : Type 0} (P Q : X → Y → Type 0) → ((x : X) (y : Y) → P x y → Q x y) → (xs : List X) (ys : List Y) → AllZip P xs ys
-        → AllZip Q xs ys
-    all_so P Q so [] [] is = tt
-    all_so P Q so [] (y ∷ ys) is = absurd is
-    all_so P Q so (x ∷ xs) [] is = absurd is
-    all_so P Q so (x ∷ xs) (y ∷ ys) is = (so x y is.0, all_so P Q so xs ys is.1)
-
-    image_so : (full : Bool) (text : List ℕ) (a : Answer) → IsAnswerToImage Judges full text a
-        → IsAnswerToImage Judges' full text a
-    image_so true text a is = is
-    image_so false text a (Accepts image budget, judged, is) = (Accepts image budget, verdicts text (Accepts image budget) judged, is)
-    image_so false text a (Refuses code place, judged, is) = (Refuses code place, verdicts text (Refuses code place) judged, is)
-
-    run_so : (o : Option Session) (a : Answer) → IsAnswerToRun ComesTo o a → IsAnswerToRun ComesTo' o a
-    run_so None a is = is
-    run_so (Some s) a (os, each, is) = (os, all_so (ComesTo s.image) (ComesTo' s.image) (outcomes s.image) s.packets os each, is)
-
-    answer_so : (asked : Option Asked) (before : List Session) (a : Answer) → IsAnswer Judges ComesTo asked before a
-        → IsAnswer Judges' ComesTo' asked before a
-    answer_so None before a is = is
-    answer_so (Some (ToList code)) before a is = is
-    answer_so (Some (ToOpen name text)) before a is = image_so (is_full name before) text a is
-    answer_so (Some (ToKeep name packet)) before a is = is
-    answer_so (Some (ToRun name)) before a is = run_so (named name before) a is
-    answer_so (Some ToRunAll) before a (rs, each, is) = (
-      rs,
-      all_so (IsRun ComesTo) (IsRun ComesTo')
-          (λ s run ran. (ran.0, all_so (ComesTo s.image) (ComesTo' s.image) (outcomes s.image) s.packets run.1 ran.1)) before rs each,
-      is,
-    )
-    answer_so (Some (ToDrop name)) before a is = is
-
-    image_after_so : (name text : List ℕ) (before : List Session) (a : Answer) (after : List Session)
-        → IsAfterImage Judges name text before a after → IsAfterImage Judges' name text before a after
-    image_after_so name text before (Yes code_bytes budget) after (image, judged, is) =
-        (image, verdicts text (Accepts image budget) judged, is)
-    image_after_so name text before (Listed cuts) after is = is
-    image_after_so name text before (Kept n) after is = is
-    image_after_so name text before (Ran os) after is = is
-    image_after_so name text before (RanAll runs) after is = is
-    image_after_so name text before Gone after is = is
-    image_after_so name text before (Refused fault) after is = is
-
-    after_so : (asked : Option Asked) (before : List Session) (a : Answer) (after : List Session)
-        → IsAfter Judges asked before a after → IsAfter Judges' asked before a after
-    after_so None before a after is = is
-    after_so (Some (ToList code)) before a after is = is
-    after_so (Some (ToOpen name text)) before a after is = image_after_so name text before a after is
-    after_so (Some (ToKeep name packet)) before a after is = is
-    after_so (Some (ToRun name)) before a after is = is
-    after_so (Some ToRunAll) before a after is = is
-    after_so (Some (ToDrop name)) before a after is = is
-
-    list_so : (trace : Bool) (number : ℕ) (before : List Session) (lines : List Line) (told : List ℕ) (after : List Session)
-        → AreAnswers Judges ComesTo trace number before lines told after → AreAnswers Judges' ComesTo' trace number before lines told after
-    list_so trace number before [] told after is = is
-    list_so trace number before (line ∷ lines) told after (a, between, rest, one, each, is) = (
-      a,
-      between,
-      rest,
-      record {
-        asked = one.asked;
-        asks = one.asks;
-        answer_is = answer_so one.asked before a one.answer_is;
-        after_is = after_so one.asked before a between one.after_is;
-      },
-      list_so trace (next_number number) between lines rest after each,
-      is,
-    )
-
-    pub told_so : (trace : Bool) (lines : List Line) (told : List ℕ) → AreTold Judges ComesTo trace lines told
-        → AreTold Judges' ComesTo' trace lines told
-    told_so trace lines told (after, is) = (after, list_so trace 1 [] lines told after is)
 
 -- ---- the rules of the product: one verdict, and one outcome
 

@@ -11,7 +11,7 @@ use Rattle.tp_answers.specs.Texts.{answer_text}
 use Rattle.tp_session.specs.Protocol.{next_number, AreAnswers}
 use Rattle.tp_session.specs.Served.{AreTold}
 use Rattle.tp_session.specs.Services.{AnswersLine}
-use Rattle.tp_session.specs.Points.{Point, number_after, IsPlain, HasReached, Begins}
+use Rattle.tp_session.specs.Points.{Point, number_after, IsPlain, HasReached}
 use Rattle.tp_session.proofs.LineLemmas.{plain_more, lines_plain, lines_none, lines_ended, ended_plain, filter-append}
 
 -- ---- the answers to one line more
@@ -46,32 +46,11 @@ number_more number (first ∷ lines) line = number_more (next_number number) lin
 
 -- ---- points
 
-pub start : Point
+abbrev pub start : Point
 start = record { taken = []; lines = []; line = []; told = []; sessions = [] }
 
-pub start_line : start.line ≡ []
-unfolding start
-start_line = refl
-
-pub start_lines : start.lines ≡ []
-unfolding start
-start_lines = refl
-
-pub start_taken : start.taken ≡ []
-unfolding start
-start_taken = refl
-
-pub start_told : start.told ≡ []
-unfolding start
-start_told = refl
-
-pub start_sessions : start.sessions ≡ []
-unfolding start
-start_sessions = refl
-
 pub starts : (trace : Bool) → HasReached trace start
-unfolding start
-starts trace = record { ended = refl; goes = λ more. refl; plain = refl; answered = (refl, refl) }
+starts trace = record { ended = refl; goes = λ more. refl; plain = tt; answered = (refl, refl) }
 
 -- more of a line
 abbrev pub with_bytes : Point → List ℕ → Point
@@ -110,22 +89,19 @@ with_line trace s answer after = record {
 }
 
 -- whatever follows
-pub begins_line : (trace : Bool) (s : Point) → HasReached trace s → Begins (s.taken ++ line_feed ∷ []) (lines_now s true)
-begins_line trace s reached = record {
-  rest = lines_of;
-  is = λ more.
-      ap lines_of (append_assoc s.taken (line_feed ∷ []) more) ∙ reached.goes (line_feed ∷ more)
-      ∙ ap (λ l. s.lines ++ l) (lines_ended s.line more reached.plain)
-      ∙ sym (append_assoc s.lines (line_now s true ∷ []) (lines_of more));
-}
+pub begins_line : (trace : Bool) (s : Point) → HasReached trace s → (more : List ℕ)
+    → lines_of ((s.taken ++ line_feed ∷ []) ++ more) ≡ lines_now s true ++ lines_of more
+begins_line trace s reached more =
+    ap lines_of (append_assoc s.taken (line_feed ∷ []) more) ∙ reached.goes (line_feed ∷ more)
+    ∙ ap (λ l. s.lines ++ l) (lines_ended s.line more reached.plain)
+    ∙ sym (append_assoc s.lines (line_now s true ∷ []) (lines_of more))
 
 pub reached_line : (trace : Bool) (s : Point) (answer : Answer) (after : List Session) → HasReached trace s
     → AnswersLine (line_now s true) s.sessions answer after → HasReached trace (with_line trace s answer after)
-unfolding begins_line
 reached_line trace s answer after reached is = record {
   ended = filter-append (λ line. line.ended) s.lines (line_now s true ∷ []) ∙ ap (λ l. l ++ line_now s true ∷ []) reached.ended;
-  goes = (begins_line trace s reached).is;
-  plain = refl;
+  goes = begins_line trace s reached;
+  plain = tt;
   answered = answers_more trace 1 [] s.lines s.told s.sessions (line_now s true) answer after reached.answered is;
 }
 
@@ -159,11 +135,3 @@ lines_rest trace s reached some =
     by_line : (line : List ℕ) → 0 < length line → IsPlain line → lines_of line ≡ record { bytes = line; ended = false } ∷ []
     by_line [] some plain = absurd (omega (arith, some))
     by_line (b ∷ line) some plain = lines_plain b line plain
-
-pub told_rest : (trace : Bool) (s : Point) (answer : Answer) (after : List Session) → HasReached trace s → 0 < length s.line
-    → AnswersLine (line_now s false) s.sessions answer after → AreTold trace (lines_of s.taken) (s.told ++ text_now trace s answer)
-told_rest trace s answer after reached some is = (
-  after,
-  rw (lines_rest trace s reached some)
-      (answers_more trace 1 [] s.lines s.told s.sessions (line_now s false) answer after reached.answered is),
-)

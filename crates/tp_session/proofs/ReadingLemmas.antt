@@ -1,5 +1,5 @@
 -- What reading has told.
-use Rattle.std.proofs.Common.{◌≡◌, ◌≢◌, ℕ, zero, suc, ◌+◌, ◌-◌, ◌<◌, min, nat_lt, nat_eq, Bool, true, false, ◌||◌, List, [], ◌∷◌}
+use Rattle.std.proofs.Common.{◌≡◌, ◌≢◌, ℕ, zero, suc, ◌+◌, ◌-◌, ◌<◌, ◌≤◌, min, nat_lt, nat_eq, Bool, true, false, ◌||◌, List, [], ◌∷◌}
 use Rattle.std.proofs.Common.{◌++◌, length, take, drop, Option, None, refl, ap, sym, subst, ◌∙◌}
 use Rattle.std.proofs.Common.{arith, append_assoc, length-append}
 use Rattle.std.specs.Io.KnownBytes.{Appends}
@@ -7,7 +7,7 @@ use Rattle.std.proofs.lemmas.Bool.Decides.{nat_tests}
 use Rattle.std.proofs.lemmas.List.{append-nil, take-append-drop, length-take}
 use Rattle.std.proofs.Math.Seq.{take-append_seam}
 use Rattle.tp_link.specs.Device.{DeviceState}
-use Rattle.tp_requests.specs.Lines.{line_feed, lines_of, ended_lines, without_return, said_in}
+use Rattle.tp_requests.specs.Lines.{Line, line_feed, lines_of, ended_lines, without_return, said_in}
 use Rattle.tp_requests.specs.Protocol.{AsksFor}
 use Rattle.tp_answers.specs.declared.answer.Answer.{Answer}
 use Rattle.tp_answers.specs.declared.answer.Answer.TheVariants.{Refused}
@@ -19,13 +19,13 @@ use Rattle.tp_session.specs.declared.fault.ServeFault.TheVariants.{Read, Write, 
 use Rattle.tp_session.specs.declared.progress.Progress.{Progress}
 use Rattle.tp_session.specs.declared.service.Service.{Service}
 use Rattle.tp_session.specs.Protocol.{most_line, next_number}
-use Rattle.tp_session.specs.Served.{AreTold, IsWant}
-use Rattle.tp_session.specs.Services.{StaysOn, AnswersText, AnswersLine, IsSentInPart}
-use Rattle.tp_session.specs.Points.{Point, number_after, IsPlain, Keeps, IsAt, HasToldEnded, Fails, FailsAtEnd, HasToldAll, GoesOn}
+use Rattle.tp_session.specs.Served.{AreTold, AreWritten, AreWrittenBefore}
+use Rattle.tp_session.specs.Services.{StaysOn, IsWant, AnswersText, AnswersLine, IsSentInPart}
+use Rattle.tp_session.specs.Points.{Point, number_after, IsPlain, Keeps, IsAt, Fails, GoesOn}
 use Rattle.tp_session.proofs.KnownBytes.{appends_none, appends_more, appends_same, appends_front}
 use Rattle.tp_session.proofs.LineLemmas.{take_all}
 use Rattle.tp_session.proofs.PointLemmas.{answers_more, number_more, with_bytes, reached_more, line_now, lines_now, text_now, with_line}
-use Rattle.tp_session.proofs.PointLemmas.{begins_line, reached_line, told_ended, told_whole, told_rest}
+use Rattle.tp_session.proofs.PointLemmas.{reached_line, told_ended, told_whole, lines_rest}
 
 -- ---- a line that is kept whole, or in part
 
@@ -130,53 +130,58 @@ module _ {D : Type 0} (state : D → DeviceState) (trace : Bool) (begun now : Op
   text_at told answer same =
       ap (λ t. answer_text t p.number answer) (same ∙ at.trace_is) ∙ ap (λ n. answer_text trace n answer) at.keeps.number_is
 
-  has_told : (taken : List ℕ) (now' : Option (List ℕ)) → taken ≡ s.taken → Appends now now' [] → HasToldEnded trace taken begun now'
-  has_told taken now' is nothing =
+  -- what was told is written, and the answer to the line that is being read is told
+  written : (now' : Option (List ℕ)) → Appends now now' [] → AreWritten trace (ended_lines s.taken) begun now'
+  written now' nothing =
       record {
         told = s.told;
-        is = subst (λ l. AreTold trace (ended_lines l) s.told) (sym is) (told_ended trace s at.reached);
+        is = told_ended trace s at.reached;
         wrote = appends_same _ _ _ _ (append-nil s.told) (appends_more begun now now' s.told [] at.wrote nothing);
       }
 
-  -- what was wanted was refused before anything was written
-  pub fails_wanting : (bytes : List ℕ) (e : ServeFault) → IsWant e → Fails trace s.taken bytes begun now e
-  fails_wanting bytes Memory want = (0, has_told (s.taken ++ []) now (append-nil s.taken) (appends_none now))
-  fails_wanting bytes Thread want = (0, has_told (s.taken ++ []) now (append-nil s.taken) (appends_none now))
-  fails_wanting bytes Read want = absurd want
-  fails_wanting bytes Write want = absurd want
+  told_now : (ended : Bool) (answer : Answer) (after : List Session) → AnswersLine (line_now s ended) s.sessions answer after
+      → AreTold trace (lines_now s ended) (s.told ++ text_now trace s answer)
+  told_now ended answer after is =
+      (after, answers_more trace 1 [] s.lines s.told s.sessions (line_now s ended) answer after at.reached.answered is)
 
-  pub wanting_at_end : (e : ServeFault) → IsWant e → FailsAtEnd trace s.taken begun now e
-  wanting_at_end Memory want = has_told s.taken now refl (appends_none now)
-  wanting_at_end Thread want = has_told s.taken now refl (appends_none now)
-  wanting_at_end Read want = absurd want
-  wanting_at_end Write want = absurd want
+  -- ---- within the last of the bytes that were taken of an input
 
-  some_written : (now' : Option (List ℕ)) (here : List ℕ) (n : ℕ) → Appends now now' (take n here)
-      → (m : ℕ) × Appends begun now' (take m (s.told ++ here))
-  some_written now' here n wrote =
-      let all : s.told ++ here ≡ (s.told ++ take n here) ++ drop n here =
-      ap (λ l. s.told ++ l) (sym (take-append-drop n here)) ∙ sym (append_assoc s.told (take n here) (drop n here)) in
-      appends_front begun now' (s.told ++ take n here) (drop n here) (s.told ++ here) all
-      (appends_more begun now now' s.told (take n here) at.wrote wrote)
+  module _ (input taken rest : List ℕ) (last : ℕ) (split : taken ≡ s.taken ++ rest) (short : length rest ≤ last) where
+    before : (now' : Option (List ℕ)) → Appends now now' [] → AreWrittenBefore trace taken last begun now'
+    before now' nothing =
+        record { before = s.taken; rest = rest; split = split; short = short; answers = written now' nothing }
 
-  -- the answer was not written whole
-  pub fails_sending : (now' : Option (List ℕ)) (answer : Answer) (after : List Session)
-      → AnswersLine (line_now s true) s.sessions answer after → (e : ServeFault) → IsSentInPart now now' (text_now trace s answer) e
-      → Fails trace s.taken (line_feed ∷ []) begun now' e
-  fails_sending now' answer after is Memory nothing = (0, has_told (s.taken ++ []) now' (append-nil s.taken) nothing)
-  fails_sending now' answer after is Thread sent = absurd sent
-  fails_sending now' answer after is Read sent = absurd sent
-  fails_sending now' answer after is Write (n, wrote) =
-      let some = some_written now' (text_now trace s answer) n wrote in (
-        lines_now s true,
-        begins_line trace s at.reached,
-        record {
-          told = s.told ++ text_now trace s answer;
-          is = (after, answers_more trace 1 [] s.lines s.told s.sessions (line_now s true) answer after at.reached.answered is);
-          some = some.0;
-          wrote = some.1;
-        },
-      )
+    -- what was wanted was refused before anything was written
+    pub fails_wanting : (e : ServeFault) → IsWant e → Fails trace input taken last begun now e
+    fails_wanting Memory want = before now (appends_none now)
+    fails_wanting Thread want = before now (appends_none now)
+    fails_wanting Read want = absurd want
+    fails_wanting Write want = absurd want
+
+    -- the answer was not written whole
+    pub fails_sending : (ended : Bool) (more : List Line) → lines_of input ≡ lines_now s ended ++ more → (answer : Answer) (after : List Session)
+        → AnswersLine (line_now s ended) s.sessions answer after → (now' : Option (List ℕ)) (e : ServeFault)
+        → IsSentInPart now now' (text_now trace s answer) e → Fails trace input taken last begun now' e
+    fails_sending ended more lines answer after is now' Memory nothing = before now' nothing
+    fails_sending ended more lines answer after is now' Thread sent = absurd sent
+    fails_sending ended more lines answer after is now' Read sent = absurd sent
+    fails_sending ended more lines answer after is now' Write (n, wrote) =
+        let here = text_now trace s answer in
+        let first : take (length (lines_now s ended)) (lines_of input) ≡ lines_now s ended =
+        ap (take (length (lines_now s ended))) lines ∙ take-append_seam (lines_now s ended) more in
+        let all : s.told ++ here ≡ (s.told ++ take n here) ++ drop n here =
+        ap (λ l. s.told ++ l) (sym (take-append-drop n here)) ∙ sym (append_assoc s.told (take n here) (drop n here)) in
+        let some =
+        appends_front begun now' (s.told ++ take n here) (drop n here) (s.told ++ here) all
+        (appends_more begun now now' s.told (take n here) at.wrote wrote) in (
+          length (lines_now s ended),
+          record {
+            told = s.told ++ here;
+            is = subst (λ l. AreTold trace l (s.told ++ here)) (sym first) (told_now ended answer after is);
+            some = some.0;
+            wrote = some.1;
+          },
+        )
 
   pub goes_line : (q : Progress) (service' : Service D) (now' : Option (List ℕ)) (answer : Answer)
       → AnswersLine (line_now s true) s.sessions answer service'.sessions
@@ -217,30 +222,16 @@ module _ {D : Type 0} (state : D → DeviceState) (trace : Bool) (begun now : Op
   }
 
   -- the end of the input
-  pub told_nothing_more : s.line ≡ [] → HasToldAll trace s.taken begun now
-  told_nothing_more none = record { told = s.told; is = told_whole trace s at.reached none; wrote = at.wrote }
+  pub written_whole : s.line ≡ [] → AreWritten trace (lines_of s.taken) begun now
+  written_whole none = record { told = s.told; is = told_whole trace s at.reached none; wrote = at.wrote }
 
-  module _ (some : 0 < length s.line) (answer : Answer) (after : List Session)
-      (is : AnswersLine (line_now s false) s.sessions answer after) (now' : Option (List ℕ)) where
-    pub told_last : Appends now now' (text_now trace s answer) → HasToldAll trace s.taken begun now'
-    told_last wrote = record {
-      told = s.told ++ text_now trace s answer;
-      is = told_rest trace s answer after at.reached some is;
-      wrote = appends_more begun now now' s.told (text_now trace s answer) at.wrote wrote;
-    }
-
-    pub fails_last : (e : ServeFault) → IsSentInPart now now' (text_now trace s answer) e → FailsAtEnd trace s.taken begun now' e
-    fails_last Memory nothing = has_told s.taken now' refl nothing
-    fails_last Thread sent = absurd sent
-    fails_last Read sent = absurd sent
-    fails_last Write (n, wrote) =
-        let written = some_written now' (text_now trace s answer) n wrote in
-        record {
-          told = s.told ++ text_now trace s answer;
-          is = told_rest trace s answer after at.reached some is;
-          some = written.0;
-          wrote = written.1;
-        }
+  pub written_last : 0 < length s.line → (answer : Answer) (after : List Session) → AnswersLine (line_now s false) s.sessions answer after
+      → (now' : Option (List ℕ)) → Appends now now' (text_now trace s answer) → AreWritten trace (lines_of s.taken) begun now'
+  written_last some answer after is now' wrote = record {
+    told = s.told ++ text_now trace s answer;
+    is = subst (λ l. AreTold trace l (s.told ++ text_now trace s answer)) (sym (lines_rest trace s at.reached some)) (told_now false answer after is);
+    wrote = appends_more begun now now' s.told (text_now trace s answer) at.wrote wrote;
+  }
 
 -- ---- some bytes
 
@@ -249,43 +240,20 @@ pub goes_same : {D : Type 0} (state : D → DeviceState) (trace : Bool) (begun n
     → GoesOn state trace begun p service now ys
 goes_same state trace begun now p service xs ys e goes = record { point = goes.point; taken_is = goes.taken_is ∙ e; is = goes.is }
 
--- the lines that some of the first bytes end were told
-before_more : (trace : Bool) (first taken front middle rest bytes : List ℕ) (begun now : Option (List ℕ))
-    → taken ≡ first ++ front → bytes ≡ front ++ (middle ++ rest)
-    → (n : ℕ) × HasToldEnded trace (taken ++ take n middle) begun now
-    → (n : ℕ) × HasToldEnded trace (first ++ take n bytes) begun now
-before_more trace first taken front middle rest bytes begun now is split (n, told) =
-    let xs = front ++ take n middle in
-    let all : bytes ≡ xs ++ (drop n middle ++ rest) =
-    split ∙ ap (λ l. front ++ (l ++ rest)) (sym (take-append-drop n middle))
-    ∙ ap (λ l. front ++ l) (append_assoc (take n middle) (drop n middle) rest)
-    ∙ sym (append_assoc front (take n middle) (drop n middle ++ rest)) in
-    let same : taken ++ take n middle ≡ first ++ take (length xs) bytes =
-    ap (λ l. l ++ take n middle) is ∙ append_assoc first front (take n middle)
-    ∙ ap (λ l. first ++ l) (sym (ap (take (length xs)) all ∙ take-append_seam xs (drop n middle ++ rest))) in
-    (length xs, subst (λ l. HasToldEnded trace l begun now) same told)
+-- where more bytes were taken
+before_more : (trace : Bool) (taken rest all : List ℕ) (m last : ℕ) (begun now : Option (List ℕ)) → all ≡ taken ++ rest → m + length rest ≤ last
+    → AreWrittenBefore trace taken m begun now → AreWrittenBefore trace all last begun now
+before_more trace taken rest all m last begun now split short it = record {
+  before = it.before;
+  rest = it.rest ++ rest;
+  split = split ∙ ap (λ l. l ++ rest) it.split ∙ append_assoc it.before it.rest rest;
+  short = omega (arith, short, it.short, length-append it.rest rest);
+  answers = it.answers;
+}
 
--- an error at bytes behind some others
-pub fails_more : (trace : Bool) (first taken front middle rest bytes : List ℕ) (begun now : Option (List ℕ)) (e : ServeFault)
-    → taken ≡ first ++ front → bytes ≡ front ++ (middle ++ rest) → Fails trace taken middle begun now e
-    → Fails trace first bytes begun now e
-fails_more trace first taken front middle rest bytes begun now Read is split fails = absurd fails
-fails_more trace first taken front middle rest bytes begun now Write is split fails = (
-  fails.0,
-  record {
-    rest = λ more. fails.1.rest (rest ++ more);
-    is = λ more.
-        ap lines_of (
-        ap (λ l. (first ++ l) ++ more) split ∙ append_assoc first (front ++ (middle ++ rest)) more
-        ∙ ap (λ l. first ++ l) (append_assoc front (middle ++ rest) more)
-        ∙ sym (append_assoc first front ((middle ++ rest) ++ more)) ∙ ap (λ l. (first ++ front) ++ l)
-        (append_assoc middle rest more) ∙ ap (λ l. l ++ (middle ++ (rest ++ more))) (sym is)
-        ∙ sym (append_assoc taken middle (rest ++ more))
-        ) ∙ fails.1.is (rest ++ more);
-  },
-  fails.2,
-)
-fails_more trace first taken front middle rest bytes begun now Memory is split fails =
-    before_more trace first taken front middle rest bytes begun now is split fails
-fails_more trace first taken front middle rest bytes begun now Thread is split fails =
-    before_more trace first taken front middle rest bytes begun now is split fails
+pub fails_more : (trace : Bool) (input taken rest all : List ℕ) (m last : ℕ) (begun now : Option (List ℕ)) (e : ServeFault) → all ≡ taken ++ rest
+    → m + length rest ≤ last → Fails trace input taken m begun now e → Fails trace input all last begun now e
+fails_more trace input taken rest all m last begun now Memory split short it = before_more trace taken rest all m last begun now split short it
+fails_more trace input taken rest all m last begun now Thread split short it = before_more trace taken rest all m last begun now split short it
+fails_more trace input taken rest all m last begun now Write split short it = it
+fails_more trace input taken rest all m last begun now Read split short it = it

@@ -1,9 +1,10 @@
 -- Where the reading of an input stands: between two stretches of its bytes.
-use Rattle.std.specs.Prelude.{◌≡◌, ℕ, nat_lt, nat_eq, not, Bool, true, List, [], ◌∷◌, ◌++◌, length, take, Option}
-use Rattle.std.specs.List.{list_all, filter}
+use Rattle.std.specs.Prelude.{◌≡◌, ℕ, nat_lt, Bool, List, [], ◌∷◌, ◌++◌, length, take, Option}
+use Rattle.std.specs.List.{filter}
 use Rattle.std.specs.Io.KnownBytes.{Appends}
 use Rattle.tp_link.specs.Device.{DeviceState}
-use Rattle.tp_requests.specs.Lines.{Line, line_feed, lines_of, ended_lines}
+use Rattle.tp_requests.specs.Lines.{Line, line_feed, lines_of}
+use Rattle.tp_requests.specs.Parts.{IsWithout}
 use Rattle.tp_session.specs.declared.fault.ServeFault.{ServeFault}
 use Rattle.tp_session.specs.declared.fault.ServeFault.TheVariants.{Read, Write, Memory, Thread}
 use Rattle.tp_session.specs.declared.progress.Progress.{Progress}
@@ -11,7 +12,7 @@ use Rattle.tp_session.specs.declared.service.Service.{Service}
 use Rattle.tp_answers.specs.Sessions.{Session}
 use Rattle.tp_answers.specs.Rules.{IsVerdict, IsOutcome}
 use Rattle.tp_session.specs.Protocol.{most_line, next_number, AreAnswers}
-use Rattle.tp_session.specs.Served.{AreTold}
+use Rattle.tp_session.specs.Served.{AreWrittenBefore, ServesSome}
 use Rattle.tp_session.specs.Fitness.{AreFit}
 
 -- the bytes that were taken, the lines that they end and what has come of the next line; what was told for these lines, and
@@ -30,7 +31,7 @@ number_after number (line ∷ lines) = number_after (next_number number) lines
 
 -- no line feed among the bytes
 abbrev pub IsPlain : List ℕ → Type 0
-IsPlain bytes = list_all (λ b. not (nat_eq b line_feed)) bytes ≡ true
+IsPlain bytes = IsWithout line_feed bytes
 
 -- it is so, whatever follows
 pub record HasReached (trace : Bool) (s : Point) : Type 0 where
@@ -61,43 +62,16 @@ abbrev pub AtEachPoint : {D : Type 0} → (D → DeviceState) → Progress → S
 AtEachPoint state p service now says =
     (trace : Bool) (begun : Option (List ℕ)) (s : Point) → IsAt state trace begun p service now s → says trace begun s
 
--- the answers to the lines that some bytes end are written
-pub record HasToldEnded (trace : Bool) (taken : List ℕ) (begun now : Option (List ℕ)) : Type 0 where
-  pub told : List ℕ
-  pub is : AreTold trace (ended_lines taken) told
-  pub wrote : Appends begun now told
+-- an input begins with these bytes
+abbrev pub Begins : (input taken : List ℕ) → Type 0
+Begins input taken = (rest : List ℕ) × (input ≡ taken ++ rest)
 
--- lines that an input begins with, whatever follows
-pub record Begins (taken : List ℕ) (lines : List Line) : Type 0 where
-  pub rest : List ℕ → List Line
-  pub is : (more : List ℕ) → lines_of (taken ++ more) ≡ lines ++ rest more
-
--- some of the first bytes of the answers to first lines are written
-pub record HasToldSome (trace : Bool) (lines : List Line) (begun now : Option (List ℕ)) : Type 0 where
-  pub told : List ℕ
-  pub is : AreTold trace lines told
-  pub some : ℕ
-  pub wrote : Appends begun now (take some told)
-
--- why serving ends among bytes that follow those taken, and what it has written
-abbrev pub Fails : Bool → (taken bytes : List ℕ) → (begun now : Option (List ℕ)) → ServeFault → Type 0
-Fails trace taken bytes begun now Memory = (n : ℕ) × HasToldEnded trace (taken ++ take n bytes) begun now
-Fails trace taken bytes begun now Thread = (n : ℕ) × HasToldEnded trace (taken ++ take n bytes) begun now
-Fails trace taken bytes begun now Write = (lines : List Line) × Begins (taken ++ bytes) lines × HasToldSome trace lines begun now
-Fails trace taken bytes begun now Read = ⊥
-
--- and at the end of the input
-abbrev pub FailsAtEnd : Bool → (input : List ℕ) → (begun now : Option (List ℕ)) → ServeFault → Type 0
-FailsAtEnd trace input begun now Memory = HasToldEnded trace input begun now
-FailsAtEnd trace input begun now Thread = HasToldEnded trace input begun now
-FailsAtEnd trace input begun now Write = HasToldSome trace (lines_of input) begun now
-FailsAtEnd trace input begun now Read = ⊥
-
--- the end of the input is answered
-pub record HasToldAll (trace : Bool) (input : List ℕ) (begun now : Option (List ℕ)) : Type 0 where
-  pub told : List ℕ
-  pub is : AreTold trace (lines_of input) told
-  pub wrote : Appends begun now told
+-- why serving ends within the last of the bytes that it took of an input, and what it has written
+abbrev pub Fails : Bool → (input taken : List ℕ) → (last : ℕ) → (begun now : Option (List ℕ)) → ServeFault → Type 0
+Fails trace input taken last begun now Memory = AreWrittenBefore trace taken last begun now
+Fails trace input taken last begun now Thread = AreWrittenBefore trace taken last begun now
+Fails trace input taken last begun now Write = ServesSome trace input begun now
+Fails trace input taken last begun now Read = ⊥
 
 -- one point further, by these bytes
 pub record GoesOn {D : Type 0} (state : D → DeviceState) (trace : Bool) (begun : Option (List ℕ))

@@ -34,7 +34,7 @@ module _ (Judges : List ℕ → Verdict → Type 0) (ComesTo : ImageValue → Li
     pub asked : Option Asked
     pub asks : IsAskedIn line asked
     pub answer_is : IsAnswer Judges ComesTo asked before answer
-    pub after_is : IsAfter Judges asked before answer after
+    pub after_is : IsAfter Judges asked before after
 
   -- the texts of the answers to lines, the first of which has a number
   abbrev pub AreAnswers : Bool → ℕ → List Session → List Line → List ℕ → List Session → Type 0

@@ -1,5 +1,5 @@
 -- What is written for an input.
-use Rattle.std.specs.Prelude.{◌≡◌, ℕ, ◌≤◌, Bool, List, ◌++◌, length, take, Option, Some}
+use Rattle.std.specs.Prelude.{◌≡◌, ℕ, ◌≤◌, Bool, List, ◌++◌, length, take, Option, Some, Result, Ok, Err}
 use Rattle.std.specs.Io.KnownBytes.{Appends, Consumes, IsAtEnd}
 use Rattle.tp_image.specs.Image.{ImageValue}
 use Rattle.tp_answers.specs.Results.{RunResult}
@@ -7,7 +7,7 @@ use Rattle.tp_requests.specs.Lines.{Line, lines_of, ended_lines}
 use Rattle.tp_answers.specs.Answers.{Verdict}
 use Rattle.tp_answers.specs.Rules.{IsVerdict, IsOutcome}
 use Rattle.tp_session.specs.declared.fault.ServeFault.{ServeFault}
-use Rattle.tp_session.specs.declared.fault.ServeFault.TheVariants.{Memory, Thread}
+use Rattle.tp_session.specs.declared.fault.ServeFault.TheVariants.{Read, Write, Memory, Thread}
 use Rattle.tp_session.specs.Protocol as protocol
 
 -- the most bytes that are read at a time
@@ -22,45 +22,56 @@ AreTold trace lines told = protocol.AreTold IsVerdict IsOutcome trace lines told
 abbrev pub IsServed : Bool → List ℕ → List ℕ → Type 0
 IsServed trace input told = AreTold trace (lines_of input) told
 
--- a growth or a thread was refused
-abbrev pub IsWant : ServeFault → Type 0
-IsWant Memory = Unit {0}
-IsWant Thread = Unit {0}
-IsWant fault = ⊥
+-- the answers to these lines are written
+pub record AreWritten (trace : Bool) (lines : List Line) (old new : Option (List ℕ)) : Type 0 where
+  pub told : List ℕ
+  pub is : AreTold trace lines told
+  pub wrote : Appends old new told
+
+-- some of the first bytes of these answers are
+pub record AreWrittenInPart (trace : Bool) (lines : List Line) (old new : Option (List ℕ)) : Type 0 where
+  pub told : List ℕ
+  pub is : AreTold trace lines told
+  pub some : ℕ
+  pub wrote : Appends old new (take some told)
+
+-- the answers to the whole lines before a byte are, which is among the last of those that were taken, or behind them
+pub record AreWrittenBefore (trace : Bool) (taken : List ℕ) (last : ℕ) (old new : Option (List ℕ)) : Type 0 where
+  pub before : List ℕ
+  pub rest : List ℕ
+  pub split : taken ≡ before ++ rest
+  pub short : length rest ≤ last
+  pub answers : AreWritten trace (ended_lines before) old new
 
 -- all is read, and what is served is written
 pub record ServesAll (trace : Bool) (input : List ℕ) (left old new : Option (List ℕ)) : Type 0 where
-  pub told : List ℕ
   pub read : IsAtEnd left
-  pub served : IsServed trace input told
-  pub wrote : Appends old new told
+  pub answers : AreWritten trace (lines_of input) old new
 
 -- the answers to the whole lines that were read are written
 pub record ServesRead (trace : Bool) (input : List ℕ) (left old new : Option (List ℕ)) : Type 0 where
   pub taken : List ℕ
-  pub told : List ℕ
   pub read : Consumes (Some input) left taken
-  pub served : AreTold trace (ended_lines taken) told
-  pub wrote : Appends old new told
+  pub answers : AreWritten trace (ended_lines taken) old new
 
--- the answers to the whole lines before the byte at which a growth or a thread was refused are written; that byte is among
--- those that were read last, or the end of the input
+-- the answers to the whole lines before the byte at which a growth or a thread was refused are: one of those that were read
+-- last, or the end of the input
 pub record ServesBefore (trace : Bool) (input : List ℕ) (left old new : Option (List ℕ)) : Type 0 where
-  pub before : List ℕ
-  pub rest : List ℕ
-  pub told : List ℕ
-  pub read : Consumes (Some input) left (before ++ rest)
-  pub last : length rest ≤ most_read
-  pub served : AreTold trace (ended_lines before) told
-  pub wrote : Appends old new told
+  pub taken : List ℕ
+  pub read : Consumes (Some input) left taken
+  pub answers : AreWrittenBefore trace taken most_read old new
 
--- some of the first bytes of the answers to the first lines are written
-pub record ServesSome (trace : Bool) (input : List ℕ) (old new : Option (List ℕ)) : Type 0 where
-  pub lines : ℕ
-  pub some : ℕ
-  pub told : List ℕ
-  pub served : AreTold trace (take lines (lines_of input)) told
-  pub wrote : Appends old new (take some told)
+-- some of the first bytes of the answers to the first lines are
+abbrev pub ServesSome : Bool → (input : List ℕ) → (old new : Option (List ℕ)) → Type 0
+ServesSome trace input old new = (lines : ℕ) × AreWrittenInPart trace (take lines (lines_of input)) old new
+
+-- what serving has written of an input, by how it ends; what it leaves of the input
+abbrev pub Serves : Bool → (input : List ℕ) → (left old new : Option (List ℕ)) → Result (Unit {0}) ServeFault → Type 0
+Serves trace input left old new (Ok _) = ServesAll trace input left old new
+Serves trace input left old new (Err Read) = ServesRead trace input left old new
+Serves trace input left old new (Err Memory) = ServesBefore trace input left old new
+Serves trace input left old new (Err Thread) = ServesBefore trace input left old new
+Serves trace input left old new (Err Write) = ServesSome trace input old new
 
 -- functions that give the verifier's verdict on each text, and what each packet comes to
 pub record AreRuled (verdict : List ℕ → Verdict) (outcome : ImageValue → List ℕ → Option RunResult) : Type 0 where

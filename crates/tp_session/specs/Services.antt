@@ -3,7 +3,7 @@ use Rattle.std.specs.Prelude.{◌≡◌, ℕ, ◌≤◌, List, [], length, take,
 use Rattle.std.specs.Io.KnownBytes.{Appends}
 use Rattle.tp_link.specs.Device.{DeviceState}
 use Rattle.tp_session.specs.declared.fault.ServeFault.{ServeFault}
-use Rattle.tp_session.specs.declared.fault.ServeFault.TheVariants.{Memory, Write}
+use Rattle.tp_session.specs.declared.fault.ServeFault.TheVariants.{Memory, Thread, Write}
 use Rattle.tp_session.specs.declared.service.Service.{Service}
 use Rattle.tp_requests.specs.Lines.{Line}
 use Rattle.tp_requests.specs.Requests.{Asked, ToList}
@@ -21,6 +21,12 @@ pub record StaysOn {D : Type 0} (state : D → DeviceState) (before after : Serv
   pub fit : AreFit state before.links.items → AreFit state after.links.items
   pub trace : after.trace ≡ before.trace
 
+-- a growth or a thread was refused
+abbrev pub IsWant : ServeFault → Type 0
+IsWant Memory = Unit {0}
+IsWant Thread = Unit {0}
+IsWant fault = ⊥
+
 -- a code that is to be listed has no more bytes than may be
 abbrev pub IsListable : Asked → Type 0
 IsListable (ToList code) = length code ≤ 65535
@@ -29,7 +35,7 @@ IsListable other = Unit {0}
 -- what is asked for is answered so, which leads from one list of sessions to the other
 abbrev pub AnswersRequest : Option Asked → List Session → Answer → List Session → Type 0
 AnswersRequest asked before answer after =
-    IsAnswer IsVerdict IsOutcome asked before answer × IsAfter IsVerdict asked before answer after
+    IsAnswer IsVerdict IsOutcome asked before answer × IsAfter IsVerdict asked before after
 
 -- so is what a text asks for
 abbrev pub AnswersText : List ℕ → List Session → Answer → List Session → Type 0

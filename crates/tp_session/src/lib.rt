@@ -16,6 +16,7 @@ mod serving;
 
 pub use farm::Farm;
 pub use fault::ServeFault;
+pub use reading::write_whole;
 pub use serving::serve;
 
 /// The most bytes of a line before its line feed.

@@ -1,14 +1,13 @@
 //! Reading lines, and answering each.
 
-ghost use Rattle.std.specs.Prelude.{◌≡◌, ℕ, List, Some, [], ◌∷◌, ◌++◌, OnOk, OnErr, IfOk, IfErr, IfSome, MatchOption};
-ghost use Rattle.std.specs.Prelude.{position, ◌==◌, ◌<◌, length, take};
+ghost use Rattle.std.specs.Prelude.{◌≡◌, ℕ, List, Some, [], ◌∷◌, ◌++◌, OnOk, OnErr, IfOk, IfErr, length, take};
 ghost use Rattle.std.specs.Io.KnownBytes.{Appends};
-ghost use Rattle.tp_requests.specs.Lines.{line_feed, without_return};
+ghost use Rattle.tp_requests.specs.Lines.{lines_of, without_return};
 ghost use Rattle.tp_answers.specs.Texts.{answer_text};
 ghost use Rattle.tp_session.specs.Fitness.{AreFit, HasMembers, AreAsMany};
-ghost use Rattle.tp_session.specs.Services.{StaysOn, AnswersLine, IsSentInPart};
-ghost use Rattle.tp_session.specs.Served.{IsWant};
-ghost use Rattle.tp_session.specs.Points.{IsPlain, Keeps, AtEachPoint, GoesOn, Fails, FailsAtEnd, HasToldAll};
+ghost use Rattle.tp_session.specs.Services.{StaysOn, IsWant, AnswersLine, IsSentInPart};
+ghost use Rattle.tp_session.specs.Served.{AreWritten};
+ghost use Rattle.tp_session.specs.Points.{Keeps, AtEachPoint, GoesOn, Begins, Fails};
 
 use crate::MAX_LINE;
 use crate::fault::ServeFault;
@@ -20,6 +19,7 @@ use std::sync::Wait;
 use std::thread::Threads;
 use tp_answers::{Answer, LineFault, write_answer};
 use tp_link::LinkDevice;
+use tp_requests::split_once;
 
 /// The beginning of an input.
 pub(crate) fn begin(alloc: Global) -> Progress
@@ -70,8 +70,8 @@ fn answer<R: Threads + Wait + Sync, D: LinkDevice + Send>(
     }
 }
 
-/// Writes a whole answer, and flushes it.
-fn write_whole<W: Write>(writer: &mut W, text: &[u8]) -> Result<(), ServeFault>
+/// Writes a whole text, and flushes it. Where the writer fails, some of its first bytes are written.
+pub fn write_whole<W: Write>(writer: &mut W, text: &[u8]) -> Result<(), ServeFault>
     ensures ok { OnOk result (Appends (W.contents writer.old) (W.contents writer.new) text.now) }
     ensures err { OnErr result ((n : ℕ) × Appends (W.contents writer.old) (W.contents writer.new) (take n text.now)) }
     ensures fault { IfErr result (λ e. e ≡ ServeFault.Write) }
@@ -133,8 +133,8 @@ fn end_line<R: Threads + Wait + Sync, D: LinkDevice + Send, W: Write>(
     ensures ok { AtEachPoint D.state progress.old service.old (W.contents writer.old) (λ trace begun s.
         OnOk result
         (GoesOn D.state trace begun progress.new service.new (W.contents writer.new) (s.taken ++ 10 ∷ []))) }
-    ensures err { AtEachPoint D.state progress.old service.old (W.contents writer.old) (λ trace begun s.
-        IfErr result (Fails trace s.taken (10 ∷ []) begun (W.contents writer.new))) }
+    ensures err { AtEachPoint D.state progress.old service.old (W.contents writer.old) (λ trace begun s. (input : List ℕ) →
+        Begins input (s.taken ++ 10 ∷ []) → IfErr result (Fails trace input (s.taken ++ 10 ∷ []) 1 begun (W.contents writer.new))) }
     ensures members { OnOk result (AreAsMany service.old.links.items service.new.links.items) }
 {
     let answer = answer(service, rt, alloc, progress, true)?;
@@ -150,25 +150,6 @@ fn end_line<R: Threads + Wait + Sync, D: LinkDevice + Send, W: Write>(
     progress.long = false;
     progress.number = progress.number.saturating_add(1);
     Ok(())
-}
-
-/// The place of the first line feed.
-fn first_line_feed(bytes: &[u8]) -> Option<usize>
-    ensures value { result ≡ position (λ b. b == line_feed) bytes.now }
-    ensures within { IfSome result (λ i. i < length bytes.now) }
-{
-    bytes.iter().position(|byte| *byte == b'\n')
-}
-
-/// The bytes before the first line feed, and those behind it.
-fn split_line(bytes: &[u8]) -> Option<(&[u8], &[u8])>
-    ensures { MatchOption result (IsPlain bytes.now) (λ parts.
-        IsPlain parts.0.now × (bytes.now ≡ parts.0.now ++ line_feed ∷ parts.1.now)) }
-{
-    match first_line_feed(bytes) {
-        Some(at) => Some((&bytes[..at], &bytes[at + 1..])),
-        None => None,
-    }
 }
 
 /// Takes more of the line that is being read.
@@ -197,12 +178,13 @@ pub(crate) fn feed<R: Threads + Wait + Sync, D: LinkDevice + Send, W: Write>(
     ensures ok { AtEachPoint D.state progress.old service.old (W.contents writer.old) (λ trace begun s.
         OnOk result
         (GoesOn D.state trace begun progress.new service.new (W.contents writer.new) (s.taken ++ bytes.now))) }
-    ensures err { AtEachPoint D.state progress.old service.old (W.contents writer.old) (λ trace begun s.
-        IfErr result (Fails trace s.taken bytes.now begun (W.contents writer.new))) }
+    ensures err { AtEachPoint D.state progress.old service.old (W.contents writer.old) (λ trace begun s. (input : List ℕ) →
+        Begins input (s.taken ++ bytes.now) →
+        IfErr result (Fails trace input (s.taken ++ bytes.now) (length bytes.now) begun (W.contents writer.new))) }
     ensures members { OnOk result (AreAsMany service.old.links.items service.new.links.items) }
 {
     let mut rest = bytes;
-    while let Some((line, behind)) = split_line(rest) {
+    while let Some((line, behind)) = split_once(rest, b'\n') {
         take_plain(progress, line)?;
         end_line(progress, service, rt, alloc, writer)?;
         rest = behind;
@@ -221,9 +203,9 @@ pub(crate) fn finish<R: Threads + Wait + Sync, D: LinkDevice + Send, W: Write>(
 ) -> Result<(), ServeFault>
     requires { HasMembers service.old.links.items }
     ensures ok { AtEachPoint D.state progress.old service.old (W.contents writer.old) (λ trace begun s.
-        OnOk result (HasToldAll trace s.taken begun (W.contents writer.new))) }
+        OnOk result (AreWritten trace (lines_of s.taken) begun (W.contents writer.new))) }
     ensures err { AtEachPoint D.state progress.old service.old (W.contents writer.old) (λ trace begun s.
-        IfErr result (FailsAtEnd trace s.taken begun (W.contents writer.new))) }
+        IfErr result (Fails trace s.taken s.taken 0 begun (W.contents writer.new))) }
 {
     if progress.line.is_empty() {
         return Ok(());

@@ -11,7 +11,7 @@ ghost use Rattle.tp_answers.specs.Answers.{AreOutcomes};
 ghost use Rattle.tp_answers.specs.Outcomes.{outcome_of};
 ghost use Rattle.tp_answers.specs.OpenSessions.{session_of};
 ghost use Rattle.tp_session.specs.Fitness.{AreFit, HasMembers, AreAsMany};
-ghost use Rattle.tp_session.specs.Served.{IsWant};
+ghost use Rattle.tp_session.specs.Services.{IsWant};
 
 use crate::fault::ServeFault;
 use std::alloc::Global;

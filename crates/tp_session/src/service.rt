@@ -6,9 +6,8 @@ ghost use Rattle.tp_answers.specs.Sessions.{Session, named, with_changed, withou
 ghost use Rattle.tp_answers.specs.Rules.{IsOutcome};
 ghost use Rattle.tp_answers.specs.Answers.{AreOutcomes, IsAnswerToRun, IsAnswerToRunAll};
 ghost use Rattle.tp_session.specs.Protocol.{most_line};
-ghost use Rattle.tp_session.specs.Served.{IsWant};
 ghost use Rattle.tp_session.specs.Fitness.{AreFit, HasMembers};
-ghost use Rattle.tp_session.specs.Services.{StaysOn, IsListable, AnswersRequest, AnswersText};
+ghost use Rattle.tp_session.specs.Services.{StaysOn, IsWant, IsListable, AnswersRequest, AnswersText};
 
 use crate::fault::ServeFault;
 use crate::running::run_session;

@@ -1,7 +1,7 @@
 //! Serving an input.
 
-ghost use Rattle.std.specs.Prelude.{◌≡◌, Err, IfSome, IfErr, OnOk};
-ghost use Rattle.tp_session.specs.Served.{ServesAll, ServesRead, ServesBefore, ServesSome, IsWant};
+ghost use Rattle.std.specs.Prelude.{IfSome};
+ghost use Rattle.tp_session.specs.Served.{Serves};
 ghost use Rattle.tp_session.specs.Fitness.{AreFit};
 
 use crate::farm::Farm;
@@ -30,14 +30,8 @@ pub fn serve<T: Threads + Wait + Sync, D: LinkDevice + Send, R: Read, W: Write>(
     writer: &mut W,
     farm: Farm<D>,
 ) -> Result<(), ServeFault>
-    ensures all { AreFit D.state farm.links.items → IfSome (R.remaining reader.old) (λ input. OnOk result
-        (ServesAll farm.trace input (R.remaining reader.new) (W.contents writer.old) (W.contents writer.new))) }
-    ensures read { AreFit D.state farm.links.items → IfSome (R.remaining reader.old) (λ input. result ≡ Err ServeFault.Read →
-        ServesRead farm.trace input (R.remaining reader.new) (W.contents writer.old) (W.contents writer.new)) }
-    ensures want { AreFit D.state farm.links.items → IfSome (R.remaining reader.old) (λ input. IfErr result (λ fault. IsWant fault →
-        ServesBefore farm.trace input (R.remaining reader.new) (W.contents writer.old) (W.contents writer.new))) }
-    ensures write { AreFit D.state farm.links.items → IfSome (R.remaining reader.old) (λ input. result ≡ Err ServeFault.Write →
-        ServesSome farm.trace input (W.contents writer.old) (W.contents writer.new)) }
+    ensures { AreFit D.state farm.links.items → IfSome (R.remaining reader.old) (λ input.
+        Serves farm.trace input (R.remaining reader.new) (W.contents writer.old) (W.contents writer.new) result) }
 {
     let mut service = Service::new(alloc, farm.links, farm.trace);
     let mut progress = begin(alloc);

@@ -6,17 +6,13 @@ use Rattle.tp_program.proofs.members.serve_members.Goals as goal
 
 pub returns-in_err-media : goal.returns-in_err-media
 returns-in_err-media g c =
-    let it =
     unserved c.args.asked.trace (g.R.Read.remaining c.args.reader.now) (g.W.Write.contents c.args.writer.now) c.from_residual.result
-    c.from_residual.ensures.1 in
-    record { all = it.all; read = it.read; want = it.want; write = it.write }
+    c.from_residual.ensures.1
 
 pub returns-in_err-links : goal.returns-in_err-links
 returns-in_err-links g c =
-    let it =
     unserved c.args.asked.trace (g.R.Read.remaining c.args.reader.now) (g.W.Write.contents c.args.writer.now) c.from_residual-in_err-links.result
-    c.from_residual-in_err-links.ensures.1 in
-    record { all = it.all; read = it.read; want = it.want; write = it.write }
+    c.from_residual-in_err-links.ensures.1
 
 pub serve_as_asked-requires-clause-fit : goal.serve_as_asked-requires-clause-fit
 serve_as_asked-requires-clause-fit g c κs within = subst (λ v. AreFit (λ b. device_of b.value) v.items) (sym c.new-farm.ensures.links) c.in_ok-links.ensures.fit

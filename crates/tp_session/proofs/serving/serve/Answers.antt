@@ -1,9 +1,9 @@
-use Rattle.std.proofs.Common.{◌<◌, Err, length, ◌∙◌, ap, sym, subst, arith}
+use Rattle.std.proofs.Common.{◌<◌, Some, take, length, ◌∙◌, ap, sym, subst, arith}
 use Rattle.std.proofs.lemmas.Result.{err_from_is_err_and}
-use Rattle.tp_session.proofs.ServeLemmas.{SoFar, if_known, none_read, serves_read, serves_fed, short_read, so_far_more}
-use Rattle.tp_session.specs.declared.fault.ServeFault.TheVariants.{Read}
+use Rattle.tp_session.proofs.KnownBytes.{consumes_more}
+use Rattle.tp_session.proofs.ServeLemmas.{SoFar, if_known, known_split, none_read, serves_read, serves_err, short_read, so_far_more}
 use Rattle.tp_session.specs.Fitness.{AreFit}
-use Rattle.tp_session.proofs.ServeLemmas.{nothing_taken, ends_by, by_outcome}
+use Rattle.tp_session.proofs.ServeLemmas.{nothing_taken, ends_by}
 use Rattle.tp_session.proofs.MemberLemmas.{still_members, members_of}
 use Rattle.tp_session.proofs.serving.serve.Goals as goal
 
@@ -19,26 +19,20 @@ loop-init g c = record {
 }
 
 pub returns-in_default : goal.returns-in_default
-returns-in_default g c =
-    let four = by_outcome {Premise = AreFit g.D.LinkDevice.state c.args.farm.links.items} c.args.farm.trace
-    (g.R.Read.remaining c.args.reader.now) _ (g.W.Write.contents c.args.writer.now) _ (Err Read) (λ fit.
+returns-in_default g c fit =
     if_known (λ input. SoFar g.D.LinkDevice.state c.args.farm.trace input (g.R.Read.remaining c.loop.reader)
     (g.W.Write.contents c.args.writer.now) (g.W.Write.contents c.loop.writer) c.loop.progress c.loop.service) _
-    (c.loop.invariant.so_far fit) (λ input so_far. serves_read _ _ input _ _ _ _ _ _ so_far c.in_default.ensures.bytes)) in
-    record { all = four.all; read = four.read; want = four.want; write = four.write }
+    (c.loop.invariant.so_far fit) (λ input so_far. serves_read _ _ input _ _ _ _ _ _ so_far c.in_default.ensures.bytes)
 
 pub returns-then-count-eq0 : goal.returns-then-count-eq0
-returns-then-count-eq0 g c =
+returns-then-count-eq0 g c fit =
     let some : 0 < length c.read.new.buf = omega (arith, c.read.auto.buf, c.loop.invariant.room) in
     let none = none_read _ _ c.in-Ok.count _ c.if-count-eq0.true c.in-Ok.ensures.bytes.0 in
-    let four = by_outcome {Premise = AreFit g.D.LinkDevice.state c.args.farm.links.items} c.args.farm.trace
-    (g.R.Read.remaining c.args.reader.now) _ (g.W.Write.contents c.args.writer.now) _ c.finish.result (λ fit.
     if_known (λ input. SoFar g.D.LinkDevice.state c.args.farm.trace input (g.R.Read.remaining c.loop.reader)
     (g.W.Write.contents c.args.writer.now) (g.W.Write.contents c.loop.writer) c.loop.progress c.loop.service) _
-    (c.loop.invariant.so_far fit) (λ input so_far. ends_by _ _ input _ _ _ _ _ _ _ _ so_far none
+    (c.loop.invariant.so_far fit) (λ input so_far. ends_by _ input _ _ _ _ _ c.finish.result so_far.split none
     (c.in-Ok.ensures.bytes.1 c.if-count-eq0.true some) (c.finish.ensures.ok _ _ so_far.point so_far.is)
-    (c.finish.ensures.err _ _ so_far.point so_far.is))) in
-    record { all = four.all; read = four.read; want = four.want; write = four.write }
+    (c.finish.ensures.err _ _ so_far.point so_far.is))
 
 pub loop-preserved : goal.loop-preserved
 loop-preserved g c = record {
@@ -54,13 +48,12 @@ loop-preserved g c = record {
 }
 
 pub returns-in_err-feed : goal.returns-in_err-feed
-returns-in_err-feed g c =
+returns-in_err-feed g c fit =
     let p = err_from_is_err_and c.from_residual.result c.from_residual.ensures.1 in
-    let four = by_outcome {Premise = AreFit g.D.LinkDevice.state c.args.farm.links.items} c.args.farm.trace
-    (g.R.Read.remaining c.args.reader.now) _ (g.W.Write.contents c.args.writer.now) _ c.from_residual.result (λ fit. rw (p.1, p.2) (
-    if_known (λ input. SoFar g.D.LinkDevice.state c.args.farm.trace input (g.R.Read.remaining c.loop.reader)
+    rw (p.1, p.2) (if_known (λ input. SoFar g.D.LinkDevice.state c.args.farm.trace input (g.R.Read.remaining c.loop.reader)
     (g.W.Write.contents c.args.writer.now) (g.W.Write.contents c.loop.writer) c.loop.progress c.loop.service) _
-    (c.loop.invariant.so_far fit) (λ input so_far. serves_fed _ _ input _ _ _ _ _ _ _ _ _ so_far c.in-Ok.ensures.bytes.0
-    (short_read _ _ (omega (arith, c.read.auto.buf, c.loop.invariant.room)))
-    (c.in_err-feed.ensures.err _ _ so_far.point so_far.is)))) in
-    record { all = four.all; read = four.read; want = four.want; write = four.write }
+    (c.loop.invariant.so_far fit) (λ input so_far.
+    let bytes = take c.in-Ok.count c.read.new.buf in
+    let all = consumes_more (Some input) _ _ so_far.point.taken bytes so_far.split c.in-Ok.ensures.bytes.0 in
+    serves_err _ input _ _ _ _ _ _ all (short_read c.in-Ok.count c.read.new.buf (omega (arith, c.read.auto.buf, c.loop.invariant.room)))
+    (c.in_err-feed.ensures.err _ _ so_far.point so_far.is input (known_split input _ _ all))))

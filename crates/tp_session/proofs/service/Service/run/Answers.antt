@@ -1,6 +1,6 @@
 use Rattle.std.proofs.Common.{refl, sym, ◌∙◌}
 use Rattle.tp_answers.specs.Sessions.{without_packets}
-use Rattle.tp_answers.proofs.SessionLemmas.{placed, absent, unchanged}
+use Rattle.tp_answers.proofs.SessionLemmas.{placed, absent}
 use Rattle.tp_session.proofs.service.Service.run.Goals as goal
 
 pub returns-in_ok-run_at-in-Some-clause-answer : goal.returns-in_ok-run_at-in-Some-clause-answer
@@ -16,8 +16,8 @@ returns-in_ok-run_at-in-Some-clause-sessions g c =
 pub returns-in-None-clause-answer : goal.returns-in-None-clause-answer
 returns-in-None-clause-answer g c fit =
     let none = absent c.args.name.now.items c.args.self.now.sessions (sym c.find.ensures ∙ c.in-None.is) in
-    rw none refl
+    rw (none.is_named) refl
 
 pub returns-in-None-clause-sessions : goal.returns-in-None-clause-sessions
 returns-in-None-clause-sessions g c =
-    unchanged without_packets c.args.name.now.items c.args.self.now.sessions (sym c.find.ensures ∙ c.in-None.is)
+    (absent c.args.name.now.items c.args.self.now.sessions (sym c.find.ensures ∙ c.in-None.is)).changed without_packets
