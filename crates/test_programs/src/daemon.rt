@@ -361,8 +361,8 @@ fn endings(rt: HostRuntime) {
         (Ending::Fault(ServeFault::Thread), 1, "farmd: thread\n"),
     ];
     for (ending, status, text) in &endings {
-        assert_same(&rt, &ending.status(), &*status);
-        let told = unwrap(&rt, format!(in rt.alloc(); "{ending}"));
-        assert_same(&rt, &told.as_str(), &*text);
+        let mut errors = Vec::new(rt.alloc());
+        assert_same(&rt, &ending.tell(&mut errors), &ExitCode::from(*status));
+        assert!(rt; errors.as_slice() == text.as_bytes());
     }
 }

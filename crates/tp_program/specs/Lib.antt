@@ -1,3 +1,6 @@
+-- What a reader must believe: clauses of public calls cite it.
+pub mod Program
+pub mod Endings
 -- What only private steps cite.
 pub mod Media
 pub mod Asked

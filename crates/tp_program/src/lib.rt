@@ -8,4 +8,4 @@ mod words;
 
 pub use ending::Ending;
 pub use members::serve_members;
-pub use program::run;
+pub use program::{run, run_words};

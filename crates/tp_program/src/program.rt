@@ -1,57 +1,87 @@
 //! The program, from its words and streams to its status.
 
+ghost use Rattle.std.specs.Prelude.{◌≡◌, [], map, IfOk, IfErr};
+ghost use Rattle.std.specs.Process.{exit_status};
+ghost use Rattle.clap.specs.Words.{fault_of};
+ghost use Rattle.tp_options.specs.CommandLine.{farmd, AsksFor};
+ghost use Rattle.tp_program.specs.Program.{Performs, PerformsSome};
+ghost use Rattle.tp_program.specs.Endings.{IsEndingBy};
+
 use crate::ending::Ending;
 use crate::members::serve_members;
 use crate::words::words_of;
 use std::alloc::Global;
+use std::convert::AsStr;
 use std::env::Env;
 use std::io::{Read, Write};
 use std::process::ExitCode;
 use std::sync::Wait;
 use std::thread::Threads;
-use tp_options::options;
+use tp_options::{Options, options};
 use tp_session::ServeFault;
 
-/// Does what the words ask for.
-fn perform<T: Threads + Wait + Sync, R: Read, W: Write>(
-    rt: &T,
-    words: &impl Env,
-    alloc: Global,
-    reader: &mut R,
-    writer: &mut W,
-) -> Result<(), Ending> {
-    let words = words_of(words, alloc)?;
-    let asked = options(alloc, &words)?;
-    serve_members(rt, alloc, reader, writer, asked)?;
-    Ok(())
-}
-
-/// Writes the text that a command line asks for, and flushes it.
-fn show<W: Write>(writer: &mut W, text: &clap::Error) -> Result<(), Ending> {
-    match write!(writer, "{text}").and_then(|()| writer.flush()) {
-        Ok(()) => Ok(()),
-        Err(_) => Err(Ending::Fault(ServeFault::Write)),
+/// The options that the words ask for.
+fn asked<S: AsStr>(alloc: Global, words: &[S]) -> Result<Options, Ending>
+    ensures asked { IfOk result (AsksFor (map S.text words.now)) }
+    ensures none { IfOk result (λ asked. fault_of farmd (map S.text words.now) ≡ []) }
+    ensures fails { IfErr result (IsEndingBy (fault_of farmd (map S.text words.now))) }
+{
+    match options(alloc, words) {
+        Ok(asked) => Ok(asked),
+        Err(error) => Err(Ending::from(error)),
     }
 }
 
-/// Does what the words ask for. Where that ends early, writes why to `errors`.
-pub fn run<T: Threads + Wait + Sync, R: Read, W: Write, E: Write>(
+/// Writes the text that a command line asks for, and flushes it.
+fn show<W: Write>(writer: &mut W, text: &clap::Error) -> Result<(), ServeFault> {
+    match write!(writer, "{text}").and_then(|()| writer.flush()) {
+        Ok(()) => Ok(()),
+        Err(_) => Err(ServeFault::Write),
+    }
+}
+
+/// Does what these words ask for, the first of which names the program. Where that ends early, writes why to `errors`.
+pub fn run_words<T: Threads + Wait + Sync, S: AsStr, R: Read, W: Write, E: Write>(
     rt: &T,
-    words: &impl Env,
+    words: &[S],
     alloc: Global,
     reader: &mut R,
     writer: &mut W,
     errors: &mut E,
-) -> ExitCode {
-    let ended = match perform(rt, words, alloc, reader, writer) {
-        Err(Ending::Shown(text)) => show(writer, &text),
-        ended => ended,
-    };
-    match ended {
-        Ok(()) => ExitCode::SUCCESS,
-        Err(ending) => {
-            let _ = write!(errors, "{ending}");
-            ExitCode::from(ending.status())
-        }
+) -> ExitCode
+    ensures { Performs (map S.text words.now) (R.remaining reader.old) (R.remaining reader.new) (W.contents writer.old)
+        (W.contents writer.new) (E.contents errors.old) (E.contents errors.new) (exit_status result) }
+{
+    match asked(alloc, words) {
+        Ok(asked) => match serve_members(rt, alloc, reader, writer, asked) {
+            Ok(()) => ExitCode::SUCCESS,
+            Err(fault) => Ending::Fault(fault).tell(errors),
+        },
+        Err(Ending::Shown(text)) => match show(writer, &text) {
+            Ok(()) => ExitCode::SUCCESS,
+            Err(fault) => Ending::Fault(fault).tell(errors),
+        },
+        Err(ending) => ending.tell(errors),
+    }
+}
+
+/// Does what the words of a command line ask for. Where that ends early, writes why to `errors`.
+///
+/// No contract says which words an environment has: what is done is what `run_words` does with the words that were had, or
+/// nothing, with status 1 or 2.
+pub fn run<T: Threads + Wait + Sync, R: Read, W: Write, E: Write>(
+    rt: &T,
+    environment: &impl Env,
+    alloc: Global,
+    reader: &mut R,
+    writer: &mut W,
+    errors: &mut E,
+) -> ExitCode
+    ensures { PerformsSome (R.remaining reader.old) (R.remaining reader.new) (W.contents writer.old)
+        (W.contents writer.new) (E.contents errors.old) (E.contents errors.new) (exit_status result) }
+{
+    match words_of(environment, alloc) {
+        Ok(words) => run_words(rt, &words, alloc, reader, writer, errors),
+        Err(ending) => ending.tell(errors),
     }
 }

@@ -1,0 +1,62 @@
+-- What the program does with its words: what it reads and writes, and its status.
+use Rattle.std.specs.Prelude.{◌≡◌, ◌≢◌, ◌⊎◌, ℕ, Bool, List, [], codes, take, Option, IfSome, Result, Ok, Err}
+use Rattle.std.specs.Io.KnownBytes.{Appends}
+use Rattle.clap.specs.Words.{Text, Kinds, IsAmong, fault_of, matches_of, one_of}
+use Rattle.clap.specs.declared.error.kind.ErrorKind.{ErrorKind}
+use Rattle.clap.specs.declared.error.kind.ErrorKind.TheVariants.{DisplayHelp, DisplayVersion}
+use Rattle.tp_options.specs.CommandLine.{farmd, is_up}
+use Rattle.tp_session.specs.declared.fault.ServeFault.{ServeFault}
+use Rattle.tp_session.specs.declared.fault.ServeFault.TheVariants.{Read, Write, Memory, Thread}
+use Rattle.tp_session.specs.Served.{Serves}
+
+-- ---- words that ask for options
+
+abbrev pub asks_traces : List Text → Bool
+asks_traces words = is_up (one_of (codes "trace") (matches_of farmd words))
+
+abbrev pub status_of : Result (Unit {0}) ServeFault → ℕ
+status_of (Ok _) = 0
+status_of (Err fault) = 1
+
+-- what is told of a fault
+abbrev pub fault_text : ServeFault → List ℕ
+fault_text Read = codes "farmd: read\n"
+fault_text Write = codes "farmd: write\n"
+fault_text Memory = codes "farmd: memory\n"
+fault_text Thread = codes "farmd: thread\n"
+
+abbrev pub told_of : Result (Unit {0}) ServeFault → List ℕ
+told_of (Ok _) = []
+told_of (Err fault) = fault_text fault
+
+-- what is served for the input is written; a fault is told, as far as that can be written
+pub record HasServed (trace : Bool) (input : List ℕ) (left old new told told' : Option (List ℕ)) (status : ℕ) : Type 0 where
+  pub result : Result (Unit {0}) ServeFault
+  pub serves : Serves trace input left old new result
+  pub status_is : status ≡ status_of result
+  pub some : ℕ
+  pub tells : Appends told told' (take some (told_of result))
+
+-- ---- other words: they ask for a text, or are refused
+
+abbrev pub kind_status : ErrorKind → ℕ
+kind_status DisplayHelp = 0
+kind_status DisplayVersion = 0
+kind_status kind = 2
+
+-- the status is that of one of these kinds, or 1 for want of memory or where the text cannot be written
+abbrev pub IsStatusBy : Kinds → ℕ → Type 0
+IsStatusBy kinds status = ((kind : ErrorKind) × IsAmong kind kinds × (status ≡ kind_status kind)) ⊎ (status ≡ 1)
+
+-- ---- what the words ask for is done
+
+-- from streams whose bytes are known or not, as they were and as they are left
+pub record Performs (words : List Text) (begun left old new told told' : Option (List ℕ)) (status : ℕ) : Type 0 where
+  pub serves : fault_of farmd words ≡ [] → IfSome begun (λ input. HasServed (asks_traces words) input left old new told told' status)
+  pub other : fault_of farmd words ≢ [] → IsStatusBy (fault_of farmd words) status × (left ≡ begun)
+  pub refused : status ≡ 2 → new ≡ old
+
+-- so with some words, or none could be had: then nothing is read and nothing served
+abbrev pub PerformsSome : (begun left old new told told' : Option (List ℕ)) → (status : ℕ) → Type 0
+PerformsSome begun left old new told told' status =
+    ((words : List Text) × Performs words begun left old new told told' status) ⊎ ((left ≡ begun) × (new ≡ old))
