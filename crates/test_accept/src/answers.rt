@@ -47,7 +47,7 @@ fn answers_images(rt: HostRuntime) {
 /// An image with bytes changed: the image, the place of the first, the bytes, and the answer.
 type Change = (&'static [u8], usize, &'static [u8], &'static str);
 
-const CHANGED_IMAGES: [Change; 16] = [
+const CHANGED_IMAGES: [Change; 17] = [
     (INCREMENT, 4, &[0x4D, 0x1F], "NO F3 4"),
     (INCREMENT, 6, &[0, 2], "NO F4 6"),
     (INCREMENT_2, 6, &[0, 2], "YES 16 16"),
@@ -62,6 +62,8 @@ const CHANGED_IMAGES: [Change; 16] = [
     (SUM_TO_TEN, 43, &[0xD3], "NO S5 15"),
     // ajw -8, ldc 0 for ldlp 0, ldnlp 3 for ldnlp 4, ldc 8 for ldc 4
     (INCREMENT, 16, &[0xB8], "NO S6 0"),
+    // cj over an ajw: where the two ways meet Wptr differs
+    (INCREMENT, 23, &[0xA1, 0xB1], "NO S6 9"),
     (INCREMENT, 16, &[0x40], "NO S2 5"),
     (INCREMENT, 19, &[0x53], "NO S8 5"),
     (INCREMENT, 20, &[0x48], "NO S7 5"),
