@@ -135,3 +135,20 @@ fn refusals(rt: HostRuntime) {
         assert!(rt; same, "{input}");
     }
 }
+
+/// What names are spelled with.
+const NAME_BYTES: &[u8] = b"abcdefghijklmnopqrstuvwxyz0123456789";
+
+/// Each byte as a name: a session of that name is not open, or the line is none of the protocol's.
+#[test]
+fn names_of_one_byte(rt: HostRuntime) {
+    for byte in 0u8..=255 {
+        let wanted = match byte {
+            b'\n' => b"NO E1 1\nNO E1 2\n".as_slice(),
+            _ if NAME_BYTES.contains(&byte) => b"NO P2 1\n".as_slice(),
+            _ => b"NO E1 1\n".as_slice(),
+        };
+        let input = [byte, b' ', b'R', b'U', b'N'];
+        assert!(rt; answers(&rt, rt.alloc(), 1, &input, wanted), "{byte}");
+    }
+}

@@ -175,7 +175,11 @@ pub fn write_answer(
             write_done(out, listing.len())
         }
         Answer::Yes { code_bytes, budget } => {
-            write!(out, "YES {code_bytes} {budget}\n").or(Err(AllocError))
+            out.extend_from_slice(b"YES ")?;
+            write_field(out, *code_bytes as u64)?;
+            write_number(out, u64::from(*budget))?;
+            out.push(b'\n')?;
+            Ok(())
         }
         Answer::Kept(number) => {
             out.extend_from_slice(b"KEPT ")?;
