@@ -26,4 +26,3 @@ mod Two
 mod Verdict
 mod Counting
 mod Keeping
-pub mod LastQuiet

@@ -1,9 +1,8 @@
 -- States by address, where an address has the number of its state.
-use Rattle.std.proofs.Common.{◌≡◌, ◌⊎◌, inl, inr, ◌==◌, if◌then◌else◌, ℕ, zero, suc, ◌<◌, List, [], ◌∷◌, ◌++◌, length, replicate, slice_get, slice_set, slice_index_or, Option, Some, None, Bool, true, false, Result, Ok, Err, refl, sym, ap, ◌∙◌, subst, arith, length-set, length-append, get_or-set_same, get_or-set_other}
+use Rattle.std.proofs.Common.{◌≡◌, ◌⊎◌, inl, inr, ℕ, zero, suc, ◌<◌, List, [], ◌∷◌, ◌++◌, length, replicate, slice_get, slice_set, slice_index_or, Option, Some, None, Bool, true, Result, Ok, Err, refl, sym, ap, ◌∙◌, subst, arith, length-set, length-append, get_or-set_same, get_or-set_other}
 use Rattle.std.specs.Prelude.{IfOk, OnErr}
-use Rattle.std.specs.Option.{option_and_then, is_some}
+use Rattle.std.specs.Option.{option_and_then}
 use Rattle.std.proofs.lemmas.Bool.{cases_eq}
-use Rattle.std.proofs.lemmas.Bool.Decides.{nat_tests}
 use Rattle.std.proofs.lemmas.List.{length-map, get_or-map, ext_get_or}
 use Rattle.std.proofs.lemmas.Option.{same_Some}
 use mathlib.Core.Path.{fun_ext}
@@ -15,20 +14,15 @@ use Rattle.tp_state.specs.Entry.{entry}
 use Rattle.tp_check.specs.Tables.{table_of, with_state, no_states}
 use Rattle.tp_state.specs.declared.fault.StateCode.{StateCode}
 use Rattle.tp_state.specs.Answer.{answered}
-use Rattle.tp_state.specs.Order.{IsBelow, join, TellsChange}
+use Rattle.tp_state.specs.Order.{TellsChange}
 use Rattle.tp_state.specs.Stored.{IsMetAt}
-use Rattle.tp_check.specs.Passes.{enter, first_table, meeting_if_any, with_place}
+use Rattle.tp_check.specs.Passes.{enter, first_table, with_place}
 use Rattle.tp_check.specs.UnderWay.{MovesState}
 use Rattle.tp_check.specs.Rising.{Gives, Moves}
-use Rattle.tp_check.specs.Carried.{only_joins}
-use Rattle.tp_check.specs.Numbered.{number_at, joined_number, states_by, AreNumbers}
+use Rattle.tp_check.specs.Numbered.{number_at, states_by, AreNumbers}
 use Rattle.tp_check.specs.Meeting.{Meets}
 use Rattle.tp_check.proofs.Heights.{HasWords, joined_moves}
-use Rattle.tp_check.proofs.Keeping.{all_joined}
 use Rattle.tp_check.proofs.TableSteps.{table_at, table_set, enter_gives, enter_moves}
-
-same_test : (n m : ℕ) → n ≡ m → (n == m) ≡ true
-same_test n m e = grind (arith, nat_tests)
 
 -- ---- lists
 
@@ -57,11 +51,6 @@ pub get_there : {A : Type 0} (xs : List A) (n : ℕ) (d : A) → n < length xs �
 get_there [] n d h = absurd (omega (arith, h))
 get_there (x ∷ xs) zero d h = refl
 get_there (x ∷ xs) (suc n) d h = get_there xs n d (omega (arith, h))
-
-get_any : (states : List State) (n : ℕ) → n < length states → (s : State) × (slice_get states n ≡ Some s)
-get_any [] n lt = absurd (omega (arith, lt))
-get_any (s ∷ states) zero lt = (s, refl)
-get_any (s ∷ states) (suc n) lt = get_any states n (omega (arith, lt))
 
 -- ---- reading
 
@@ -209,22 +198,9 @@ module _ (states : List State) (numbers : List (Option ℕ)) (slots : List (Opti
   pub inside_of : i < length numbers → i < length slots
   inside_of lt = let e : length slots ≡ length numbers = sym (ap length view) ∙ length_by states numbers in omega (arith, lt, e)
 
-pub has_state : (states : List State) (numbers : List (Option ℕ)) (slots : List (Option State)) → states_by states numbers ≡ slots → AreNumbers states numbers → (i : ℕ) → i < length slots → (o : Option ℕ) → o ≡ slice_index_or numbers i o → is_some o ≡ is_some (table_of slots i)
-has_state states numbers slots view are i inside o index = by_number o refl
-  where
-    by_number : (is : Option ℕ) → o ≡ is → is_some o ≡ is_some (table_of slots i)
-    by_number None e = ap is_some e ∙ sym (ap is_some (table_nowhere states numbers slots view i inside o index e))
-    by_number (Some n) e =
-        let there = table_there states numbers slots view i inside o index n e in
-        let kept = are.inside i n (number_there states numbers slots view i inside o index (Some n) e) in
-        ap is_some e ∙ sym (ap is_some (there ∙ (get_any states n kept).1))
-
 pub met_numbers : (image : ImageValue) (states : List State) (numbers : List (Option ℕ)) (to n : ℕ) (there s : State) (new : List State) (r : Result Bool StateFault) → AreNumbers states numbers → Meets image r to n there s states new → OnErr r (new ≡ states) → AreNumbers new numbers
 met_numbers image states numbers to n there s new (Ok moved) are it kept = subst (λ l. AreNumbers l numbers) (sym it.is) (still_numbers states numbers n it.state are)
 met_numbers image states numbers to n there s new (Err e) are it kept = subst (λ l. AreNumbers l numbers) (sym kept) are
-
-pub meets_agreeing : (to : ℕ) (t s other : State) → IsBelow t s → IsBelow t other → with_place to (meeting_if_any (Some s) other) ≡ Ok (join s other)
-meets_agreeing to t s other below also = rw (same_test s.wptr other.wptr (sym below.wptr ∙ also.wptr), same_test s.phase other.phase (sym below.phase ∙ also.phase)) refl
 
 pub meets_so : (image : ImageValue) (to n : ℕ) (s other : State) (states new : List State) → HasWords other → length other.cells ≡ length s.cells → (answer : Result Bool StateCode) → IsMetAt answer s other n states new → (moved : Bool) → answer ≡ Ok moved → Meets image (Ok moved) to n s other states new
 meets_so image to n s other states new words sized answer it moved is = record {
@@ -268,34 +244,3 @@ module _ (image : ImageValue) (places : ℕ) (some : 0 < places) (s : State) (st
       ∙ table_set (states_by [] (replicate places None)) 0 s (omega (arith, some, long places, length_by [] (replicate places None)))
       ∙ ap (λ table. with_state 0 s table) (fun_ext λ x. nothing places x)
       ∙ ap (λ s. with_state 0 s no_states) entered
-
--- ---- a list of states that grows
-
--- ---- what is kept where edges join
-
--- numbers where edges join are those of states, each of one address
-module _ (joins : ℕ → Bool) (states : List State) (old new : List (Option ℕ)) (same : (x : ℕ) → number_at new x ≡ joined_number joins old x) where
-  was : (x n : ℕ) → number_at new x ≡ Some n → number_at old x ≡ Some n
-  was x n is = by_join (joins x) (sym (same x) ∙ is)
-    where
-      by_join : (b : Bool) → (if b then number_at old x else None) ≡ Some n → number_at old x ≡ Some n
-      by_join true e = e
-      by_join false e = absurd cc
-
-  pub joined_are : AreNumbers states old → AreNumbers states new
-  joined_are are = record {
-    inside = λ at n is. are.inside at n (was at n is);
-    apart = λ at other n is also. are.apart at other n (was at n is) (was other n also);
-  }
-
-  pub joined_states : length new ≡ length old → table_of (states_by states new) ≡ only_joins joins (table_of (states_by states old))
-  joined_states sized = all_joined joins (states_by states old) (states_by states new) (length old) (omega (arith, length_by states old)) (length_by states new ∙ sized ∙ sym (length_by states old)) each
-    where
-      pushed : (b : Bool) (o : Option ℕ) → option_and_then (slice_get states) (if b then o else None) ≡ (if b then option_and_then (slice_get states) o else None)
-      pushed true o = refl
-      pushed false o = refl
-
-      each : (x : ℕ) → x < length old → table_of (states_by states new) x ≡ only_joins joins (table_of (states_by states old)) x
-      each x lt =
-          table_by states new x (omega (arith, lt, sized)) ∙ ap (option_and_then (slice_get states)) (same x) ∙ pushed (joins x) (number_at old x)
-          ∙ ap (λ o. if joins x then o else None) (sym (table_by states old x lt))

@@ -28,7 +28,7 @@ use Rattle.tp_check.specs.Tables.{Table, table_of, asked}
 use Rattle.tp_check.specs.Passes.{edges_of, edges_in, first_table, pass, passes, IsVerdict, IsRefusalOf}
 use Rattle.tp_check.specs.Carried.{over, only_joins, is_kept, is_head, reached, AreStatesOf, IsTableOf}
 use Rattle.tp_check.specs.StatesThere.{AreStatesThere}
-use Rattle.tp_check.specs.UnderWay.{is_in, AreJoins, Settles, marks, IsBefore, StandsIn, Carries, IsAfter, IsCopyOf, Leaves, IsSettled}
+use Rattle.tp_check.specs.UnderWay.{is_in, AreJoins, Settles, marks, IsBefore, StandsIn, Carries, IsAfter, Leaves, IsSettled}
 use Rattle.tp_check.specs.Rising.{HasPlaces, table_height}
 use Rattle.tp_check.proofs.Places.{stands_at, number_of}
 use Rattle.tp_check.proofs.Entering.{first_grown}
@@ -201,40 +201,6 @@ pub record IsBetween (image : ImageValue) (cuts : List Cut) (joins : ℕ → Boo
 abbrev pub left_of : ImageValue → Bool → Passes → ℕ
 left_of image true p = 1 + table_height image p.slots
 left_of image false p = 0
-
-module _ (image : ImageValue) (cuts : List Cut) (joins : ℕ → Bool) where
-  -- a copy stands where the passes do
-  pub copied : (p copy : Passes) (n : ℕ) → IsAfter image cuts joins p n → IsCopyOf p copy → IsAfter image cuts joins copy n
-  copied p copy n on is = record {
-    places = λ at starts. rw is.slots (on.places at starts);
-    few = rw is.slots on.few;
-    rests = rests;
-    whole = on.whole;
-    before = record {
-      way = record {
-        flags = ap length is.changed ∙ on.before.way.flags ∙ ap length (sym is.slots);
-        takes = ap length is.taken ∙ on.before.way.takes ∙ ap length (sym is.slots);
-        carried = rw is.carried on.before.way.carried;
-        spare = subst (λ o. IfSome o (IsPlaced image)) (sym is.spare) tt;
-        slots = λ x joined. on.before.way.slots x joined ∙ ap (λ states. table_of states x) (sym is.slots);
-        grown = on.before.way.grown;
-        sound = on.before.way.sound;
-      };
-      here = λ sure. absurd (let no : false ≡ true = sym rests ∙ sure in cc);
-      taken = λ x cut there k d lt mark. on.before.taken x cut there k d lt (same_mark x ∙ mark);
-      again = λ _ sure. absurd (let no : false ≡ true = sym rests ∙ sure in cc);
-      early = λ x cut joined sure there. on.before.early x cut joined (sym (ap (λ items. is_in items x) is.taken) ∙ sure) there;
-    };
-    comes = on.comes;
-  }
-    where
-      rests : copy.is_carried ≡ false
-      rests = is.is_carried ∙ on.rests
-
-      same_mark : (x : ℕ) → marks joins p 0 x ≡ marks joins copy 0 x
-      same_mark x =
-          ap (λ items. if joins x then is_in items x else (x == 0) && p.is_carried) (sym is.changed)
-          ∙ ap (λ b. if joins x then is_in copy.changed.items x else (x == 0) && b) (sym is.is_carried)
 
 module _ (image : ImageValue) (cuts : List Cut) (joins : ℕ → Bool) (join : AreJoins image cuts joins) where
   pub zero_joins : joins 0 ≡ true

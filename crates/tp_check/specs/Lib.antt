@@ -6,7 +6,6 @@ pub mod Rising
 pub mod Carried
 pub mod Numbered
 pub mod StatesThere
-pub mod NearRefusal
 pub use Rattle.tp_state.specs.After
 pub use Rattle.tp_state.specs.Order
 pub use Rattle.tp_state.specs.Entry

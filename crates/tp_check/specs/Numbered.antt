@@ -1,14 +1,10 @@
 -- States by address, where an address has the number of its state.
-use Rattle.std.specs.Prelude.{◌≡◌, ℕ, ◌<◌, Bool, if◌then◌else◌, List, length, map, Option, Some, None, slice_get, slice_index_or}
+use Rattle.std.specs.Prelude.{◌≡◌, ℕ, ◌<◌, List, length, map, Option, Some, None, slice_get, slice_index_or}
 use Rattle.std.specs.Option.{option_and_then}
 use Rattle.tp_state.specs.declared.state.State.{State}
 
 abbrev pub number_at : List (Option ℕ) → ℕ → Option ℕ
 number_at numbers at = slice_index_or numbers at None
-
--- the same, where edges join, and none elsewhere
-abbrev pub joined_number : (ℕ → Bool) → List (Option ℕ) → ℕ → Option ℕ
-joined_number joins numbers at = if joins at then number_at numbers at else None
 
 abbrev pub states_by : List State → List (Option ℕ) → List (Option State)
 states_by states numbers = map (option_and_then (slice_get states)) numbers

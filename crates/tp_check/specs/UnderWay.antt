@@ -244,15 +244,6 @@ IsBeginning image places p =
     (cuts : List Cut) (joins : ℕ → Bool) → HasPlaces cuts places → KeepsNest image.loops image.workspace cuts → AreJoins image cuts joins
     → IsAfter image cuts joins p 0
 
--- a copy of them, without the room for a second state
-pub record IsCopyOf (p copy : Passes) : Type 0 where
-  pub slots : copy.slots ≡ p.slots
-  pub changed : copy.changed.items ≡ p.changed.items
-  pub taken : copy.taken.items ≡ p.taken.items
-  pub is_carried : copy.is_carried ≡ p.is_carried
-  pub carried : copy.carried ≡ p.carried
-  pub spare : copy.spare ≡ None
-
 -- Whether a pass leaves edges to be taken is told: where it does, fewer changes are left; and where it does not, it has changed no
 -- state that is kept, or has left no address marked.
 pub record Leaves (image : ImageValue) (is_left : Bool) (old new : Passes) : Type 0 where

@@ -1,20 +1,15 @@
 //! The states that the passes keep.
 
 ghost use Rattle.std.specs.Prelude.{◌≡◌, ◌<◌, ◌∷◌, [], ℕ, replicate, slice_set, length, true, false, slice_get, Some, None, IfOk, IfSome, OnErr};
-ghost use Rattle.std.specs.Option.{is_some};
 ghost use Rattle.tp_state.specs.Conditions.{IsPlaced};
 ghost use Rattle.tp_state.specs.Entry.{entry};
 ghost use Rattle.tp_state.specs.Order.{IsBelow};
 ghost use Rattle.tp_state.specs.declared.state.State.{State as AState};
 ghost use Rattle.tp_check.specs.Tables.{table_of};
 ghost use Rattle.tp_check.specs.Passes.{enter, first_table};
-ghost use Rattle.tp_check.specs.Carried.{only_joins};
-ghost use Rattle.tp_check.specs.Joining.{joins_at};
-ghost use Rattle.tp_check.specs.Numbered.{number_at, joined_number};
 ghost use Rattle.tp_check.specs.Meeting.{Meets};
 ghost use Rattle.tp_check.specs.Rising.{Gives, Moves, CameBefore};
 
-use crate::way::Ways;
 use std::alloc::{AllocError, Global};
 use std::marker::Model;
 use tp_image::Image;
@@ -116,16 +111,6 @@ impl KeptStates {
         true
     }
 
-    /// Whether a state is kept at an address.
-    pub fn has(&self, at: usize) -> bool
-        ensures { result ≡ is_some (table_of self.now at) }
-    {
-        if at >= self.numbers.len() {
-            return false;
-        }
-        self.numbers[at].is_some()
-    }
-
     /// A copy of the state at an address.
     pub fn state_at(&self, alloc: Global, at: usize) -> Result<Option<State>, AllocError>
         ensures { IfOk result (λ state. state ≡ table_of self.now at) }
@@ -139,23 +124,6 @@ impl KeptStates {
         let state = self.states.copy_of(alloc, number)?;
         Ok(Some(state))
     }
-
-    /// What is kept where edges join stays, and nothing elsewhere.
-    pub(crate) fn keep_joined(&mut self, ways: &Ways)
-        ensures sized { length self.new ≡ length self.old }
-        ensures states { table_of self.new ≡ only_joins (joins_at ways.now) (table_of self.old) }
-    {
-        keep_joined_numbers(&mut self.numbers, ways);
-    }
-
-    /// A copy.
-    pub(crate) fn copy_of(&self, alloc: Global) -> Result<KeptStates, AllocError>
-        ensures { IfOk result (λ copy. copy ≡ self.now) }
-    {
-        let states = self.states.copy_of_all(alloc)?;
-        let numbers = Vec::from_slice(alloc, &self.numbers)?;
-        Ok(KeptStates { states, numbers })
-    }
 }
 
 /// The first address alone has a number.
@@ -166,19 +134,6 @@ fn first_number(alloc: Global, places: usize) -> Result<Vec<Option<usize>>, Allo
     let mut numbers = vec![in alloc; None; places]?;
     numbers[0] = Some(0);
     Ok(numbers)
-}
-
-/// Where no edges join an address has no number any more.
-fn keep_joined_numbers(numbers: &mut Vec<Option<usize>>, ways: &Ways)
-    ensures sized { length numbers.new.items ≡ length numbers.old.items }
-    ensures joined { (at : ℕ) →
-        number_at numbers.new.items at ≡ joined_number (joins_at ways.now) numbers.old.items at }
-{
-    for at in 0..numbers.len() {
-        if !ways.joins(at) {
-            numbers[at] = None;
-        }
-    }
 }
 
 /// One state alone, with room for so many: what has no state by the passes' end is never touched.

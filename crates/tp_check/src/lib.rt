@@ -7,13 +7,11 @@
 mod aside;
 mod kept;
 pub mod laws;
-mod milestones;
-mod near;
 mod passes;
+mod states;
 mod table;
 mod way;
 
-pub use kept::KeptStates;
-pub use near::{NearRefusal, PassesEnd, near_refusal};
 pub use passes::{check_states, places_of};
+pub use states::{enter, first_states, state_at};
 pub use table::Table;

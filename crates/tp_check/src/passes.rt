@@ -18,7 +18,7 @@ ghost use Rattle.tp_check.specs.Passes.{enter, edges_of, edges_in, IsVerdict, Is
 ghost use Rattle.tp_check.specs.Carried.{over, IsTableOf};
 ghost use Rattle.tp_check.specs.StatesThere.{AreStatesThere};
 ghost use Rattle.tp_check.specs.Joining.{joins_at, keeps_at};
-ghost use Rattle.tp_check.specs.UnderWay.{is_in, IsBeginning, IsCopyOf, Leaves, AreJoins, MayBeTaken, StandsIn, IsBefore, Carries, TakesEdges, marked, SameButSlots, IsStarted, KeepsSound, IsBegun, IsOnEdge, IsAfterEdge, IsLedOn, IsSettled};
+ghost use Rattle.tp_check.specs.UnderWay.{is_in, IsBeginning, Leaves, AreJoins, MayBeTaken, StandsIn, IsBefore, Carries, TakesEdges, marked, SameButSlots, IsStarted, KeepsSound, IsBegun, IsOnEdge, IsAfterEdge, IsLedOn, IsSettled};
 ghost use Rattle.tp_check.specs.Rising.{HasPlaces, Gives, Moves, CameBefore};
 
 use crate::aside::{Registers, leaves_words};
@@ -128,25 +128,6 @@ impl Passes {
             taken,
             is_carried: false,
             is_again: false,
-            carried,
-            spare: None,
-        })
-    }
-
-    /// A copy, between two passes.
-    pub(crate) fn copy_of(&self, alloc: Global) -> Result<Passes, AllocError>
-        ensures { IfOk result (IsCopyOf self.now) }
-    {
-        let slots = self.slots.copy_of(alloc)?;
-        let changed = Vec::from_slice(alloc, &self.changed)?;
-        let taken = Vec::from_slice(alloc, &self.taken)?;
-        let carried = self.carried.copy_of(alloc)?;
-        Ok(Passes {
-            slots,
-            changed,
-            taken,
-            is_carried: self.is_carried,
-            is_again: self.is_again,
             carried,
             spare: None,
         })

@@ -4,7 +4,8 @@ use Rattle.tp_state.specs.Order.{IsBelow, join}
 use Rattle.tp_state.specs.Answer.{answered}
 use Rattle.tp_check.specs.Passes.{with_place}
 use Rattle.tp_check.proofs.Heights.{HasWords, join_moves}
-use Rattle.tp_check.proofs.NumberedLemmas.{meets_agreeing, meets_so}
+use Rattle.tp_check.proofs.NumberedLemmas.{meets_so}
+use Rattle.tp_check.proofs.TableSteps.{meets_agreeing}
 use Rattle.tp_check.proofs.kept.meet.Goals as goal
 
 pub join_agreeing-requires-clause-below : goal.join_agreeing-requires-clause-below

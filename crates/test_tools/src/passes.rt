@@ -1,43 +1,38 @@
-//! What the passes come to, and where they stand before one of them refuses.
+//! The first refusal of the passes, and what is known then.
 
-ghost use Rattle.std.specs.Prelude.{◌<◌, ◌≤◌, ◌^◌};
+ghost use Rattle.std.specs.Prelude.{◌<◌, ◌≤◌};
 
 use crate::asserts::{assert_same, unwrap};
-use crate::reading::read;
 use std::alloc::Global;
 use std::process::Abort;
-use tp_check::{NearRefusal, PassesEnd, near_refusal};
+use tp_check::state_at;
+use tp_decode::decode;
 use tp_flow::check_flow;
+use tp_image::read_image;
+use tp_reasons::{FirstRefusal, first_refusal};
 use tp_samples::*;
-use tp_state::{Cell, State};
+use tp_state::Cell;
 
-/// What the passes come to.
-fn end(rt: &(impl Abort + AllocGlobal), bytes: &[u8]) -> PassesEnd<NearRefusal> {
-    let (image, listing) = read(rt, bytes);
+/// What the passes over an image's code refuse first.
+fn found(rt: &(impl Abort + AllocGlobal), bytes: &[u8]) -> Option<FirstRefusal> {
+    let image = read_image(rt.alloc(), bytes).expect(rt, "an image");
+    let listing = decode(rt.alloc(), &image.code).expect(rt, "a listing");
     let nest = check_flow(&image, &listing).expect(rt, "a nest");
-    let end = near_refusal(rt.alloc(), &image, &listing, &nest).expect(rt, "memory");
-    end.expect(rt, "an end")
-}
-
-/// The passes near the refusal.
-fn near(rt: &(impl Abort + AllocGlobal), bytes: &[u8]) -> NearRefusal {
-    match end(rt, bytes) {
-        PassesEnd::Settled => panic!(rt; "nothing is refused"),
-        PassesEnd::Refused(near) => near,
-    }
+    first_refusal(rt.alloc(), &image, &listing, &nest).expect(rt, "memory")
 }
 
 #[test]
-fn stands_before_the_first_pass(rt: HostRuntime) {
-    let near = near(&rt, READS_AFTER_JUMP);
-    assert_same(&rt, &near.passes, &0);
-    assert!(rt; near.states.has(0));
-    assert!(rt; !near.states.has(8));
+fn refuses_in_the_first_pass(rt: HostRuntime) {
+    let found = found(&rt, READS_AFTER_JUMP).expect(&rt, "a refusal");
+    assert_same(&rt, &found.passes, &0);
+    assert!(rt; state_at(&found.table, 0).is_some());
+    assert!(rt; state_at(&found.table, 8).is_some());
+    assert!(rt; state_at(&found.table, 9).is_none());
 }
 
 #[test]
-fn settles_where_nothing_is_refused(rt: HostRuntime) {
-    assert!(rt; matches!(end(&rt, INCREMENT), PassesEnd::Settled));
+fn finds_nothing_where_nothing_is_refused(rt: HostRuntime) {
+    assert!(rt; found(&rt, INCREMENT).is_none());
 }
 
 /// A header of version 2 but for its code bytes: 32 words, Wptr at word 8, a row.
@@ -105,27 +100,21 @@ fn moving(rt: &impl Abort, alloc: Global, words: u8) -> Vec<u8>
     image
 }
 
-/// The pass that refuses has the number of the last word that is written: it knows no longer what stands there. So the passes
-/// that refuse nothing are 0 to 19, and their number has just doubled, is one less, and one more.
+/// The pass that refuses has the number of the last word that is written: it knows no longer what stands there.
 #[test]
-fn stands_before_each_of_many_passes(rt: HostRuntime) {
+fn refuses_in_each_of_many_passes(rt: HostRuntime) {
     for words in 1..21 {
         let image = moving(&rt, rt.alloc(), words);
-        let near = near(&rt, &image);
-        let passes = words.saturating_sub(2);
-        assert_eq!(rt; near.passes, u64::from(passes), "{words} words");
-        let head = unwrap(&rt, near.states.state_at(rt.alloc(), usize::from(HEAD)));
-        match head {
-            None => assert_same(&rt, &passes, &0),
-            Some(head) => assert_last_unknown(&rt, &head, usize::from(passes) + 8, words),
-        }
+        let found = found(&rt, &image).expect(&rt, "a refusal");
+        assert_eq!(rt; found.passes + 1, u64::from(words), "{words} words");
+        let head = state_at(&found.table, usize::from(HEAD)).expect(
+            &rt,
+            "a state at the loop's head",
+        );
+        assert_eq!(rt;
+            head.cells.get(usize::from(words) + 8),
+            Cell::Any,
+            "{words} words"
+        );
     }
-}
-
-/// Up to this word of the workspace it is not known any more what stands there.
-fn assert_last_unknown(rt: &impl Abort, head: &State, last: usize, words: u8)
-    requires { last < 2 ^ 16 }
-{
-    assert_eq!(rt; head.cells.get(last), Cell::Any, "{words} words");
-    assert_eq!(rt; head.cells.get(last + 1), Cell::Known(0), "{words} words");
 }
