@@ -1,7 +1,6 @@
 pub mod PassLemmas
 mod Heights
 mod TableSteps
-mod NumberedLemmas
 pub mod Places
 mod Loading
 mod Entering

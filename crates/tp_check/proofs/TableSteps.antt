@@ -89,6 +89,13 @@ module _ (states : List (Option State)) (i : ℕ) (inside : i < length states) (
   pub refused_there : (s : State) (code : StateCode) → with_place i (meeting_if_any there s) ≡ Err (Refused code i) → enter (Some i) s (table_of states) ≡ Err (Refused code i)
   refused_there s code e = enter_gives states i there there s (Err (Refused code i)) inside (slot_is states i d there inside is) e
 
+-- what stands behind an address that takes something else
+pub set_before : (states : List (Option State)) (i x : ℕ) (o : Option State) → i < x → table_of (slice_set states i o) x ≡ table_of states x
+set_before [] i x o lt = refl
+set_before (y ∷ states) i zero o lt = absurd (omega (arith, lt))
+set_before (y ∷ states) zero (suc x) o lt = refl
+set_before (y ∷ states) (suc i) (suc x) o lt = set_before states i x o (omega (arith, lt))
+
 -- ---- no states
 
 pub one_more : {A : Type 0} (n : ℕ) (x : A) → replicate (suc n) x ≡ replicate n x ++ x ∷ []

@@ -4,8 +4,6 @@
 //! The laws are the contracts of the functions of [`laws`].
 #![tactic(auto)]
 
-mod aside;
-mod kept;
 pub mod laws;
 mod passes;
 mod states;

@@ -1,7 +1,8 @@
 //! What is known before the instructions of a code, by address.
 
-ghost use Rattle.std.specs.Prelude.{◌≡◌, ◌<◌, length, replicate, true, Some, None, IfOk, IfSome, OnErr};
+ghost use Rattle.std.specs.Prelude.{◌≡◌, ◌<◌, length, replicate, true, false, Some, None, IfOk, IfSome, OnErr};
 ghost use Rattle.tp_image.specs.Image.{ImageValue};
+ghost use Rattle.tp_state.specs.Order.{IsBelow};
 ghost use Rattle.tp_check.specs.Tables.{table_of, HasPlacedStates};
 ghost use Rattle.tp_check.specs.Passes.{enter, first_table};
 ghost use Rattle.tp_check.specs.Rising.{Gives, Moves, CameBefore};
@@ -58,7 +59,7 @@ pub fn enter(
     state.has_word_ends();
     let slot = &mut states[to];
     match slot {
-        Some(there) if is_again => Ok(there.join_agreeing(state)),
+        Some(there) if is_again => Ok(there.join_compatible(state)),
         Some(there) => match there.join(state) {
             Ok(moved) => Ok(moved),
             Err(code) => Err(StateFault::Refused { code, place: to }),
@@ -79,4 +80,23 @@ pub fn state_at(states: &[Option<State>], at: usize) -> Option<&State>
         Some(slot) => slot.as_ref(),
         None => None,
     }
+}
+
+/// A state takes the value of that which stands at an address, if one does: one above it, where it comes there, or any. It answers
+/// whether one stands there.
+pub(crate) fn read_into(states: &[Option<State>], at: usize, state: &mut State, comes: bool) -> bool
+    requires sized { IfSome (table_of states.now at) (λ s. length s.cells ≡ length state.old.cells) }
+    requires below { comes ≡ true → IfSome (table_of states.now at) (IsBelow state.old) }
+    ensures some { result ≡ true → table_of states.now at ≡ Some state.new }
+    ensures none { result ≡ false → (table_of states.now at ≡ None) × (state.new ≡ state.old) }
+{
+    let Some(there) = state_at(states, at) else {
+        return false;
+    };
+    if comes {
+        state.raise_to(there);
+    } else {
+        state.set_to(there);
+    }
+    true
 }

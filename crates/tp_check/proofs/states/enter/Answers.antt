@@ -13,16 +13,16 @@ pub returns-in-Some-clause-gives : goal.returns-in-Some-clause-gives
 returns-in-Some-clause-gives c =
     let came = c.requires.again c.if-is_again.true in
     let there : came.state ≡ c.in-Some.there = same_Some _ _ (sym came.is ∙ stands c.args.states.now c.args.to c.requires.inside c.index-states-to.result (Some c.in-Some.there) c.in-Some.is) in
-    comes_to c.args.states.now c.args.to c.requires.inside c.index-states-to.result (Some c.in-Some.there) c.in-Some.is c.args.state.now c.join_agreeing.new.self
-    (meets_agreeing c.args.to came.before c.in-Some.there c.args.state.now (subst (IsBelow came.before) there came.rose) came.below ∙ ap Ok (sym c.join_agreeing.ensures.value))
+    comes_to c.args.states.now c.args.to c.requires.inside c.index-states-to.result (Some c.in-Some.there) c.in-Some.is c.args.state.now c.join_compatible.new.self
+    (meets_agreeing c.args.to came.before c.in-Some.there c.args.state.now (subst (IsBelow came.before) there came.rose) came.below ∙ ap Ok (sym c.join_compatible.ensures.value))
 
 pub returns-in-Some-clause-moves : goal.returns-in-Some-clause-moves
 returns-in-Some-clause-moves c image sized =
     let words : HasWords c.args.state.now = record { a = c.has_word_ends.ensures.a; b = c.has_word_ends.ensures.b; c = c.has_word_ends.ensures.c } in
     let there = stands c.args.states.now c.args.to c.requires.inside c.index-states-to.result (Some c.in-Some.there) c.in-Some.is in
     let long : length c.args.state.now.cells ≡ length c.in-Some.there.cells = subst (λ o. IfSome o (λ t. length c.args.state.now.cells ≡ length t.cells)) there c.requires.sized in
-    changes c.args.states.now c.args.to c.requires.inside c.index-states-to.result (Some c.in-Some.there) c.in-Some.is c.args.state.now c.join_agreeing.new.self image c.join_agreeing.result
-    (join_moves image c.join_agreeing.result c.in-Some.there c.args.state.now c.join_agreeing.new.self words long c.join_agreeing.ensures.value c.join_agreeing.ensures.changed)
+    changes c.args.states.now c.args.to c.requires.inside c.index-states-to.result (Some c.in-Some.there) c.in-Some.is c.args.state.now c.join_compatible.new.self image c.join_compatible.result
+    (join_moves image c.join_compatible.result c.in-Some.there c.args.state.now c.join_compatible.new.self words long c.join_compatible.ensures.value c.join_compatible.ensures.changed)
 
 pub returns-in-Ok-clause-gives : goal.returns-in-Ok-clause-gives
 returns-in-Ok-clause-gives c =

@@ -2,7 +2,7 @@ use Rattle.std.proofs.Common.{◌≡◌, length, refl, sym, ap, ◌∙◌, arith
 use Rattle.tp_state.specs.Planes.{seen}
 use Rattle.tp_state.proofs.SeenLemmas.{length_seen}
 use Rattle.tp_state.proofs.AgreeLemmas.{whole_risen, seen_risen, written}
-use Rattle.tp_state.proofs.cells.Cells.rise_to.Goals as goal
+use Rattle.tp_state.proofs.cells.Cells.raise_to.Goals as goal
 
 pub set_planes-requires : goal.set_planes-requires
 set_planes-requires c =
