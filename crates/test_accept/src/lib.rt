@@ -1,4 +1,4 @@
-//! Codes judged by hand: their flow, what is known along them, the tables of whole workers and what the passes take. Texts that are
+//! Codes judged by hand: their flow, what is known along them, and the tables of whole workers. Texts that are
 //! accepted or refused, and runs of the accepted ones, worked out by hand; runs on a machine whatever it held before (`machine`); the
 //! media of members. There is no code here but tests.
 #![tactic(auto)]
@@ -17,8 +17,6 @@ mod images;
 mod machine;
 #[cfg(test)]
 mod media;
-#[cfg(test)]
-mod near;
 #[cfg(test)]
 mod reading;
 #[cfg(test)]

@@ -1,5 +1,5 @@
-//! What the authors' tools are made of: programs and their images, their texts, runs told line by line, and a hostile image told at
-//! full size. There is no code here but tests.
+//! What the authors' tools are made of: programs and their images, their texts, runs told line by line, first refusals, and a hostile image
+//! told at full size. There is no code here but tests.
 #![tactic(auto)]
 
 #[cfg(test)]
@@ -8,6 +8,8 @@ mod assembly;
 mod asserts;
 #[cfg(test)]
 mod hostile;
+#[cfg(test)]
+mod passes;
 #[cfg(test)]
 mod steps;
 #[cfg(test)]

@@ -1,12 +1,11 @@
 -- What is kept of a table, address by address.
-use Rattle.std.proofs.Common.{◌≡◌, ℕ, zero, suc, ◌+◌, ◌<◌, ◌≤◌, ◌⊎◌, inl, inr, Bool, true, false, if◌then◌else◌, IsTrue, List, [], ◌∷◌, ◌++◌, length, slice_get, Option, Some, None, refl, sym, ap, ◌∙◌, subst, arith}
-use mathlib.Core.Path.{fun_ext}
+use Rattle.std.proofs.Common.{◌≡◌, ℕ, zero, suc, ◌+◌, ◌<◌, ◌≤◌, ◌⊎◌, inl, inr, Bool, true, IsTrue, List, [], ◌∷◌, ◌++◌, length, slice_get, Option, Some, None, refl, sym, ap, ◌∙◌, subst, arith}
 use Rattle.std.specs.Option.{option_and_then}
 use Rattle.std.proofs.lemmas.Bool.{cases_eq, cases_lt}
 use Rattle.std.proofs.lemmas.Option.{same_Some, slice_get_past, slice_get_within}
 use Rattle.tp_state.specs.declared.state.State.{State}
 use Rattle.tp_check.specs.Tables.{Table, table_of}
-use Rattle.tp_check.specs.Carried.{AreStatesOf, only_joins}
+use Rattle.tp_check.specs.Carried.{AreStatesOf}
 
 -- those below an address
 pub record AreSome (keeps : ℕ → Bool) (table : Table) (k : ℕ) (states : List (ℕ × State)) : Type 0 where
@@ -96,19 +95,3 @@ some_all keeps slots k states end some = record { rising = some.rising; each = s
     by_place : (at : ℕ) (s : State) → keeps at ≡ true → table_of slots at ≡ Some s → (at < k) ⊎ (k ≤ at) → (i : ℕ) × (slice_get states i ≡ Some (at, s))
     by_place at s is stood (inl lt) = some.all at s lt is stood
     by_place at s is stood (inr past) = absurd (no_state_past slots at s (omega (arith, end, past)) stood)
-
--- ---- what is kept where edges join
-
-pub all_joined : (joins : ℕ → Bool) (first now : List (Option State)) (k : ℕ) → length first ≤ k → length now ≡ length first → ((x : ℕ) → x < k → table_of now x ≡ only_joins joins (table_of first) x) → table_of now ≡ only_joins joins (table_of first)
-all_joined joins first now k end sized done = fun_ext λ x. by_place x (cases_lt x k)
-  where
-    none_past : (states : List (Option State)) (x : ℕ) → length states ≤ x → table_of states x ≡ None
-    none_past states x past = ap (option_and_then (λ s. s)) (slice_get_past states x past)
-
-    none_either : (b : Bool) (o : Option State) → o ≡ None → (if b then o else None) ≡ None
-    none_either true o is = is
-    none_either false o is = refl
-
-    by_place : (x : ℕ) → (x < k) ⊎ (k ≤ x) → table_of now x ≡ only_joins joins (table_of first) x
-    by_place x (inl lt) = done x lt
-    by_place x (inr past) = none_past now x (omega (arith, end, sized, past)) ∙ sym (none_either (joins x) (table_of first x) (none_past first x (omega (arith, end, past))))

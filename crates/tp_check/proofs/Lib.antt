@@ -1,7 +1,6 @@
 pub mod PassLemmas
 mod Heights
 mod TableSteps
-mod NumberedLemmas
 pub mod Places
 mod Loading
 mod Entering
@@ -26,4 +25,3 @@ mod Two
 mod Verdict
 mod Counting
 mod Keeping
-pub mod LastQuiet

@@ -23,7 +23,7 @@ use Rattle.tp_check.specs.Tables.{Table, table_of, with_state, asked}
 use Rattle.tp_check.specs.EdgesRespect.{HasAbove}
 use Rattle.tp_check.specs.Passes.{enter, edges_in}
 use Rattle.tp_check.specs.Carried.{target_of, over, IsAmong}
-use Rattle.tp_check.specs.UnderWay.{IsPlacedAt, MayBeTaken, is_in, Settles, IsTaken, TakenAt, WasTaken, WasTakenAt, KeepsSound, HasCome, marks, IsUnderWay, IsAmidst, AreAmidst, IsAfterEdge, IsLedOn, SameButSlots, Carries, marked}
+use Rattle.tp_check.specs.UnderWay.{IsPlacedAt, MayBeTaken, is_in, Settles, IsTaken, TakenAt, WasTaken, WasTakenAt, KeepsSound, HasCome, marks, IsUnderWay, IsAmidst, AreAmidst, IsAfterEdge, IsLedOn, SameButStates, Carries, marked}
 use Rattle.tp_check.specs.Rising.{CameBefore, Gives, Moves}
 use Rattle.tp_check.proofs.Again.{rises_after, sound_after, fewer, was_joined, sound_joined, was_elsewhere, was_there, was_own, sound_alone}
 use Rattle.tp_check.proofs.Entering.{Entered, entered, elsewhere, grows, comes_below, rises}
@@ -48,12 +48,11 @@ not_same x y e same = let yes : (x == y) ≡ true = grind (arith, nat_tests) in 
 -- of all that is not kept where edges join the state that is carried alone has changed
 pub record IsMoved (image : ImageValue) (v : State) (old new : Passes) : Type 0 where
   pub carried : new.carried ≡ v
-  pub spare : new.spare ≡ old.spare
   pub is_again : new.is_again ≡ old.is_again
   pub taken : new.taken.items ≡ old.taken.items
 
 module _ (image : ImageValue) (joins : ℕ → Bool) (old : Passes) (place : Placed) (edge : Edge) (done : ℕ) (amid : AreAmidst image joins old place done) (stood : amid.whole place.at ≡ Some old.carried)
-    (lt : done < length (asked place.instr)) (at_edge : slice_index_or (asked place.instr) done edge ≡ edge) (may : MayBeTaken image (length old.slots) place) (sure : KeepsSound image place)
+    (lt : done < length (asked place.instr)) (at_edge : slice_index_or (asked place.instr) done edge ≡ edge) (may : MayBeTaken image (length old.states.items) place) (sure : KeepsSound image place)
     (v : State) (goes : after image place.at place.next place.instr edge old.carried ≡ Ok v) (fits : IsPlaced image v) where
   abbrev whole : Table
   whole = amid.whole
@@ -74,10 +73,10 @@ module _ (image : ImageValue) (joins : ℕ → Bool) (old : Passes) (place : Pla
         let w = amid.amidst.again again in
         rises_after image sure.range may.around.good place.at place.next place.instr edge w.before old.carried settled_before.outcome v w.sound (subst (IsBelow w.before) (same_Some _ _ (sym w.above.there ∙ stood)) w.above.below) settled_before.goes_on goes
 
-    came_before : (to : ℕ) → target_of image (place, edge) ≡ Some to → joins to ≡ true → CameBefore (table_of old.slots to) v
+    came_before : (to : ℕ) → target_of image (place, edge) ≡ Some to → joins to ≡ true → CameBefore (table_of old.states.items to) v
     came_before to leads is =
         let above = settled_before.meets to leads is in
-        record { before = settled_before.outcome; state = above.state; is = sym (amid.amidst.way.slots to is) ∙ above.there; rose = above.below; below = rose }
+        record { before = settled_before.outcome; state = above.state; is = sym (amid.amidst.way.states to is) ∙ above.there; rose = above.below; below = rose }
 
   own_edge : (k : ℕ) (d : Edge) → k < length (asked place.instr) → IsAmong (edges_in amid.cuts) (place, slice_index_or (asked place.instr) k d)
   own_edge k d less = edge_there (placed_from 0 amid.cuts) amid.number place amid.stands k d less
@@ -100,15 +99,13 @@ module _ (image : ImageValue) (joins : ℕ → Bool) (old : Passes) (place : Pla
       still (placed_cut x cut) (slice_index_or (asked cut.instr) k d) (among amid.cuts x cut stands k d less) (amid.amidst.others x cut other stands k d less)
 
   -- it leads nowhere
-  pub nowhere : (new : Passes) → new.slots ≡ old.slots → new.changed.items ≡ old.changed.items → IsMoved image v old new → new.is_carried ≡ old.is_carried → target_of image (place, edge) ≡ None
+  pub nowhere : (new : Passes) → new.states.items ≡ old.states.items → new.changed.items ≡ old.changed.items → IsMoved image v old new → new.is_carried ≡ old.is_carried → target_of image (place, edge) ≡ None
       → Carries {X = Bool} (Ok false) (over image joins ((place, edge) ∷ []) amid.whole) (IsAfterEdge image amid.cuts joins old new place edge done amid.whole)
   nowhere new slots changed rest is_carried leads = (
     amid.whole,
     over_nowhere image joins place edge amid.whole old.carried stood v goes leads,
     record {
       amidst = amidst_nowhere;
-      gone = goes ∙ ap Ok (sym rest.carried);
-      spare = rest.spare;
       comes = λ to also. absurd (let no : None ≡ Some to = sym leads ∙ also in cc);
       here = refl;
       rises = λ x s _ above. above;
@@ -127,8 +124,7 @@ module _ (image : ImageValue) (joins : ℕ → Bool) (old : Passes) (place : Pla
           flags = ap length changed ∙ amid.amidst.way.flags ∙ ap length (sym slots);
           takes = ap length rest.taken ∙ amid.amidst.way.takes ∙ ap length (sym slots);
           carried = rw rest.carried fits;
-          spare = rw rest.spare amid.amidst.way.spare;
-          slots = λ at is. amid.amidst.way.slots at is ∙ ap (λ states. table_of states at) (sym slots);
+          states = λ at is. amid.amidst.way.states at is ∙ ap (λ states. table_of states at) (sym slots);
           grown = amid.amidst.way.grown;
           sound = amid.amidst.way.sound;
         };
@@ -144,18 +140,18 @@ module _ (image : ImageValue) (joins : ℕ → Bool) (old : Passes) (place : Pla
 
   module _ (to : ℕ) (leads : target_of image (place, edge) ≡ Some to) where
     stands_there : IsPlacedAt image to v
-    stands_there = arrives_at image place edge (length old.slots) to amid.whole old.carried v may amid.amidst.way.grown stood goes fits leads
+    stands_there = arrives_at image place edge (length old.states.items) to amid.whole old.carried v may amid.amidst.way.grown stood goes fits leads
 
     inside : to < length old.changed.items
     inside = let le = may.targets edge to leads in let long = amid.amidst.way.flags in omega (arith, le, long)
 
     -- it leads to where edges join
     module _ (is_joined : joins to ≡ true) (new : Passes) (rest : IsMoved image v old new) (on_next : to ≡ place.next → new.is_carried ≡ true) (off_next : to ≢ place.next → new.is_carried ≡ old.is_carried) where
-      module _ (moved : Bool) (comes : enter (Some to) v (table_of old.slots) ≡ Ok (table_of new.slots)) (flags : new.changed.items ≡ marked moved to old.changed.items) (moves : Moves image moved old.slots new.slots) where
-        same_there : amid.whole to ≡ table_of old.slots to
-        same_there = amid.amidst.way.slots to is_joined
+      module _ (moved : Bool) (comes : enter (Some to) v (table_of old.states.items) ≡ Ok (table_of new.states.items)) (flags : new.changed.items ≡ marked moved to old.changed.items) (moves : Moves image moved old.states.items new.states.items) where
+        same_there : amid.whole to ≡ table_of old.states.items to
+        same_there = amid.amidst.way.states to is_joined
 
-        module _ (table : Table) (it : Entered amid.whole to v table) (made : (x : ℕ) → joins x ≡ true → table x ≡ table_of new.slots x) where
+        module _ (table : Table) (it : Entered amid.whole to v table) (made : (x : ℕ) → joins x ≡ true → table x ≡ table_of new.states.items x) where
           stays : moved ≡ false → (x : ℕ) → table x ≡ amid.whole x
           stays still x = by_place (cases_eq x to)
             where
@@ -202,8 +198,7 @@ module _ (image : ImageValue) (joins : ℕ → Bool) (old : Passes) (place : Pla
               flags = ap length flags ∙ long moved ∙ amid.amidst.way.flags ∙ sym moves.sized;
               takes = ap length rest.taken ∙ amid.amidst.way.takes ∙ sym moves.sized;
               carried = rw rest.carried fits;
-              spare = rw rest.spare amid.amidst.way.spare;
-              slots = made;
+              states = made;
               grown = grows image amid.whole to v amid.amidst.way.grown stands_there table it;
               sound = sound_joined image joins amid.whole to v amid.amidst.way.grown stands_there table it amid.amidst.way.sound sound_v;
             };
@@ -228,11 +223,9 @@ module _ (image : ImageValue) (joins : ℕ → Bool) (old : Passes) (place : Pla
               long true = length-set old.changed.items to true
               long false = refl
 
-        after_joined : (table : Table) (it : Entered amid.whole to v table) → ((x : ℕ) → joins x ≡ true → table x ≡ table_of new.slots x) → IsAfterEdge image amid.cuts joins old new place edge done amid.whole table
+        after_joined : (table : Table) (it : Entered amid.whole to v table) → ((x : ℕ) → joins x ≡ true → table x ≡ table_of new.states.items x) → IsAfterEdge image amid.cuts joins old new place edge done amid.whole table
         after_joined table it made = record {
           amidst = amidst_joined table it made;
-          gone = goes ∙ ap Ok (sym rest.carried);
-          spare = rest.spare;
           comes = λ x also. subst (λ y. HasCome joins table y new.carried) (same_Some to x (sym leads ∙ also)) (record {
             joined = λ _. subst (HasAbove table to) (sym rest.carried) (comes_below image amid.whole to v amid.amidst.way.grown stands_there table it);
             alone = λ alone. absurd (let no : false ≡ true = sym alone ∙ is_joined in cc);
@@ -246,24 +239,24 @@ module _ (image : ImageValue) (joins : ℕ → Bool) (old : Passes) (place : Pla
 
         at_join : Carries {X = Bool} (Ok moved) (over image joins ((place, edge) ∷ []) amid.whole) (IsAfterEdge image amid.cuts joins old new place edge done amid.whole)
         at_join =
-            let alike = enters_alike to v amid.whole (table_of old.slots) (table_of new.slots) same_there comes in
+            let alike = enters_alike to v amid.whole (table_of old.states.items) (table_of new.states.items) same_there comes in
             let gives = over_joined image joins place edge amid.whole old.carried stood v goes to leads is_joined ∙ alike.enters in
             let e = entered amid.whole to v (with_state to alike.state amid.whole) alike.enters in
             (with_state to alike.state amid.whole, gives, after_joined (with_state to alike.state amid.whole) e (λ x is. at_place alike.state alike.is x is (cases_eq x to)))
           where
-            at_place : (u : State) → table_of new.slots ≡ with_state to u (table_of old.slots) → (x : ℕ) → joins x ≡ true → (x ≡ to) ⊎ (x ≡ to → ⊥) → with_state to u amid.whole x ≡ table_of new.slots x
-            at_place u made x is (inl same) = ap (with_state to u amid.whole) same ∙ with_there to u amid.whole ∙ sym (with_there to u (table_of old.slots)) ∙ ap (with_state to u (table_of old.slots)) (sym same) ∙ sym (ap (λ (t : Table). t x) made)
-            at_place u made x is (inr other) = with_elsewhere to u amid.whole x other ∙ amid.amidst.way.slots x is ∙ sym (with_elsewhere to u (table_of old.slots) x other) ∙ sym (ap (λ (t : Table). t x) made)
+            at_place : (u : State) → table_of new.states.items ≡ with_state to u (table_of old.states.items) → (x : ℕ) → joins x ≡ true → (x ≡ to) ⊎ (x ≡ to → ⊥) → with_state to u amid.whole x ≡ table_of new.states.items x
+            at_place u made x is (inl same) = ap (with_state to u amid.whole) same ∙ with_there to u amid.whole ∙ sym (with_there to u (table_of old.states.items)) ∙ ap (with_state to u (table_of old.states.items)) (sym same) ∙ sym (ap (λ (t : Table). t x) made)
+            at_place u made x is (inr other) = with_elsewhere to u amid.whole x other ∙ amid.amidst.way.states x is ∙ sym (with_elsewhere to u (table_of old.states.items) x other) ∙ sym (ap (λ (t : Table). t x) made)
 
-      to_join : (r : Result Bool StateFault) → Gives r (table_of new.slots) (enter (Some to) v (table_of old.slots)) → IfOk r (λ moved. new.changed.items ≡ marked moved to old.changed.items) → IfOk r (λ moved. Moves image moved old.slots new.slots)
+      to_join : (r : Result Bool StateFault) → Gives r (table_of new.states.items) (enter (Some to) v (table_of old.states.items)) → IfOk r (λ moved. new.changed.items ≡ marked moved to old.changed.items) → IfOk r (λ moved. Moves image moved old.states.items new.states.items)
           → Carries r (over image joins ((place, edge) ∷ []) amid.whole) (IsAfterEdge image amid.cuts joins old new place edge done amid.whole)
       to_join (Ok moved) gives flags moves = at_join moved gives flags moves
       to_join (Err (Refused code at)) gives flags moves =
-          over_joined image joins place edge amid.whole old.carried stood v goes to leads is_joined ∙ refuses_alike to v amid.whole (table_of old.slots) (Refused code at) (amid.amidst.way.slots to is_joined) gives
+          over_joined image joins place edge amid.whole old.carried stood v goes to leads is_joined ∙ refuses_alike to v amid.whole (table_of old.states.items) (Refused code at) (amid.amidst.way.states to is_joined) gives
       to_join (Err Memory) gives flags moves = tt
 
     -- it alone leads there: control falls to the next instruction
-    module _ (is_alone : joins to ≡ false) (new : Passes) (slots : new.slots ≡ old.slots) (changed : new.changed.items ≡ old.changed.items) (rest : IsMoved image v old new) (on_next : to ≡ place.next → new.is_carried ≡ true) where
+    module _ (is_alone : joins to ≡ false) (new : Passes) (slots : new.states.items ≡ old.states.items) (changed : new.changed.items ≡ old.changed.items) (rest : IsMoved image v old new) (on_next : to ≡ place.next → new.is_carried ≡ true) where
       falls : to ≡ place.next
       falls = amid.join.falls (place, edge) to one is_alone leads
 
@@ -313,8 +306,6 @@ module _ (image : ImageValue) (joins : ℕ → Bool) (old : Passes) (place : Pla
         over_alone image joins place edge amid.whole old.carried stood v goes to leads is_alone,
         record {
           amidst = amidst_alone;
-          gone = goes ∙ ap Ok (sym rest.carried);
-          spare = rest.spare;
           comes = λ x also. subst (λ y. HasCome joins (with_state to v amid.whole) y new.carried) (same_Some to x (sym leads ∙ also)) (record {
             joined = λ is. absurd (let no : true ≡ false = sym is ∙ is_alone in cc);
             alone = λ _. with_there to v amid.whole ∙ ap Some (sym rest.carried);
@@ -333,8 +324,7 @@ module _ (image : ImageValue) (joins : ℕ → Bool) (old : Passes) (place : Pla
               flags = ap length changed ∙ amid.amidst.way.flags ∙ ap length (sym slots);
               takes = ap length rest.taken ∙ amid.amidst.way.takes ∙ ap length (sym slots);
               carried = rw rest.carried fits;
-              spare = rw rest.spare amid.amidst.way.spare;
-              slots = λ at is. with_elsewhere to v amid.whole at (differ_too joins at to is is_alone) ∙ amid.amidst.way.slots at is ∙ ap (λ states. table_of states at) (sym slots);
+              states = λ at is. with_elsewhere to v amid.whole at (differ_too joins at to is is_alone) ∙ amid.amidst.way.states at is ∙ ap (λ states. table_of states at) (sym slots);
               grown = grows_alone image amid.cuts joins amid.join place edge one amid.whole amid.amidst.way.grown old.carried v stood goes to leads stands_there is_alone (marks joins old place.next) (marks joins new place.next) keeps_alone;
               sound = sound_alone image amid.cuts joins amid.join place edge one amid.whole to v leads is_alone amid.amidst.way.sound sound_v;
             };
@@ -350,34 +340,38 @@ module _ (image : ImageValue) (joins : ℕ → Bool) (old : Passes) (place : Pla
 
     -- what is carried is led on, and comes there
     module _ (led new : Passes) (on : IsLedOn to place.next (record old { carried = v }) led) where
-      module _ (r : Result Bool StateFault) (rest : SameButSlots led new) where
+      module _ (r : Result Bool StateFault) (rest : SameButStates led new) where
         moved_so : IsMoved image v old new
-        moved_so = record { carried = rest.carried ∙ on.carried; spare = rest.spare ∙ on.spare; is_again = rest.is_again ∙ on.is_again; taken = rest.taken ∙ on.taken }
+        moved_so = record { carried = rest.carried ∙ on.carried; is_again = rest.is_again ∙ on.is_again; taken = rest.taken ∙ on.taken }
 
-        pub arrived : (joins to ≡ true → Gives r (table_of new.slots) (enter (Some to) led.carried (table_of led.slots))) → (joins to ≡ true → IfOk r (λ moved. new.changed.items ≡ marked moved to led.changed.items)) → (joins to ≡ false → (r ≡ Ok false) × (new ≡ led)) → IfOk r (λ moved. Moves image moved led.slots new.slots)
+        pub arrived : (joins to ≡ true → Gives r (table_of new.states.items) (enter (Some to) led.carried (table_of led.states.items))) → (joins to ≡ true → IfOk r (λ moved. new.changed.items ≡ marked moved to led.changed.items)) → (joins to ≡ false → (r ≡ Ok false) × (new ≡ led)) → IfOk r (λ moved. Moves image moved led.states.items new.states.items)
             → Carries r (over image joins ((place, edge) ∷ []) amid.whole) (IsAfterEdge image amid.cuts joins old new place edge done amid.whole)
         arrived gives marks alone moves = by_join (joins to) refl
           where
             by_join : (b : Bool) → joins to ≡ b → Carries r (over image joins ((place, edge) ∷ []) amid.whole) (IsAfterEdge image amid.cuts joins old new place edge done amid.whole)
             by_join true is =
                 to_join is new moved_so (λ same. rest.is_carried ∙ on.next same) (λ other. rest.is_carried ∙ on.elsewhere other) r
-                (subst (λ s. Gives r (table_of new.slots) (enter (Some to) s (table_of old.slots))) on.carried (subst (λ states. Gives r (table_of new.slots) (enter (Some to) led.carried (table_of states))) on.slots (gives is)))
+                (subst (λ s. Gives r (table_of new.states.items) (enter (Some to) s (table_of old.states.items))) on.carried (subst (λ states. Gives r (table_of new.states.items) (enter (Some to) led.carried (table_of states))) on.states (gives is)))
                 (subst (λ items. IfOk r (λ moved. new.changed.items ≡ marked moved to items)) on.changed (marks is))
-                (subst (λ states. IfOk r (λ moved. Moves image moved states new.slots)) on.slots moves)
+                (subst (λ states. IfOk r (λ moved. Moves image moved states new.states.items)) on.states moves)
             by_join false is =
                 let stays = alone is in
                 subst (λ a. Carries a (over image joins ((place, edge) ∷ []) amid.whole) (IsAfterEdge image amid.cuts joins old new place edge done amid.whole)) (sym stays.0)
-                (to_next is new (ap (λ (p : Passes). p.slots) stays.1 ∙ on.slots) (ap (λ (p : Passes). p.changed.items) stays.1 ∙ on.changed) moved_so (λ same. rest.is_carried ∙ on.next same))
+                (to_next is new (ap (λ (p : Passes). p.states.items) stays.1 ∙ on.states) (ap (λ (p : Passes). p.changed.items) stays.1 ∙ on.changed) moved_so (λ same. rest.is_carried ∙ on.next same))
 
-      pub came_led : joins to ≡ true → led.is_again ≡ true → CameBefore (table_of led.slots to) led.carried
+      pub came_led : joins to ≡ true → led.is_again ≡ true → CameBefore (table_of led.states.items to) led.carried
       came_led is again =
-          subst (λ s. CameBefore (table_of led.slots to) s) (sym on.carried)
-          (subst (λ states. CameBefore (table_of states to) v) (sym on.slots) (came_before (sym on.is_again ∙ again) to leads is))
+          subst (λ s. CameBefore (table_of led.states.items to) s) (sym on.carried)
+          (subst (λ states. CameBefore (table_of states to) v) (sym on.states) (came_before (sym on.is_again ∙ again) to leads is))
 
 -- the states that are kept where edges join are those of the image's worker
-pub slot_is_placed : (image : ImageValue) (joins : ℕ → Bool) (p : Passes) (whole : Table) → IsUnderWay image joins p whole → (at : ℕ) → joins at ≡ true → IfSome (table_of p.slots at) (IsPlaced image)
-slot_is_placed image joins p whole way at is = by_state (table_of p.slots at) refl
+pub slot_is_placed : (image : ImageValue) (joins : ℕ → Bool) (p : Passes) (whole : Table) → IsUnderWay image joins p whole → (at : ℕ) → joins at ≡ true → IfSome (table_of p.states.items at) (IsPlaced image)
+slot_is_placed image joins p whole way at is = by_state (table_of p.states.items at) refl
   where
-    by_state : (o : Option State) → table_of p.slots at ≡ o → IfSome o (IsPlaced image)
+    by_state : (o : Option State) → table_of p.states.items at ≡ o → IfSome o (IsPlaced image)
     by_state None e = search rules
-    by_state (Some s) e = (way.grown.states at s (way.slots at is ∙ e)).placed
+    by_state (Some s) e = (way.grown.states at s (way.states at is ∙ e)).placed
+
+pub as_many_words : (image : ImageValue) (o : Option State) (v : State) → IfSome o (IsPlaced image) → IsPlaced image v → IfSome o (λ s. length v.cells ≡ length s.cells)
+as_many_words image None v stands fits = tt
+as_many_words image (Some s) v stands fits = fits.sized ∙ sym stands.sized

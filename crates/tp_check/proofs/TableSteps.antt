@@ -1,17 +1,20 @@
 -- What a table becomes where a state comes to an address.
-use Rattle.std.proofs.Common.{◌≡◌, ℕ, zero, suc, ◌<◌, nat_eq, if◌then◌else◌, Bool, false, List, [], ◌∷◌, length, slice_set, slice_index_or, Option, Some, None, Result, Ok, Err, refl, sym, ap, ◌∙◌, subst, arith}
+use Rattle.std.proofs.Common.{◌≡◌, ℕ, zero, suc, ◌<◌, ◌==◌, nat_eq, if◌then◌else◌, Bool, true, false, List, [], ◌∷◌, length, replicate, ◌++◌, slice_set, slice_index_or, Option, Some, None, Result, Ok, Err, refl, sym, ap, ◌∙◌, subst, arith}
 use mathlib.Core.Path.{fun_ext}
 use Rattle.std.specs.Option.{option_and_then}
 use Rattle.std.proofs.lemmas.Bool.Decides.{nat_tests}
 use Rattle.std.proofs.Common.{length-set}
-use Rattle.std.proofs.lemmas.List.{set-get_or}
+use Rattle.std.proofs.lemmas.List.{set-get_or, length-replicate}
 use Rattle.tp_image.specs.Image.{ImageValue}
 use Rattle.tp_state.specs.declared.state.State.{State}
+use Rattle.tp_state.specs.declared.fault.StateCode.{StateCode}
+use Rattle.tp_state.specs.Order.{IsBelow, join}
 use Rattle.tp_state.specs.declared.fault.StateFault.{StateFault}
 use Rattle.tp_state.specs.declared.fault.StateFault.TheVariants.{Refused, Memory}
 use Rattle.tp_state.specs.Answer.{◌>>=◌}
-use Rattle.tp_check.specs.Tables.{table_of, with_state}
-use Rattle.tp_check.specs.Passes.{enter, with_place, meeting_if_any}
+use Rattle.tp_state.specs.Entry.{entry}
+use Rattle.tp_check.specs.Tables.{table_of, with_state, no_states}
+use Rattle.tp_check.specs.Passes.{enter, first_table, with_place, meeting_if_any}
 use Rattle.tp_check.specs.UnderWay.{GivesState, MovesState}
 use Rattle.tp_check.specs.Rising.{Gives, Moves, height}
 use Rattle.tp_check.proofs.Heights.{table_sinks}
@@ -58,3 +61,54 @@ enter_moves image states i there new moved h is moves = record {
   stays = λ same. ap (slice_set states i) (moves.stays same ∙ is) ∙ set-get_or states i None;
   falls = λ differs. table_sinks image states i new h (subst (λ o. height image new < height image o) is (moves.falls differs));
 }
+
+-- ---- a state comes to another
+
+same_test : (n m : ℕ) → n ≡ m → (n == m) ≡ true
+same_test n m e = grind (arith, nat_tests)
+
+pub meets_agreeing : (to : ℕ) (t s other : State) → IsBelow t s → IsBelow t other → with_place to (meeting_if_any (Some s) other) ≡ Ok (join s other)
+meets_agreeing to t s other below also = rw (same_test s.wptr other.wptr (sym below.wptr ∙ also.wptr), same_test s.phase other.phase (sym below.phase ∙ also.phase)) refl
+
+slot_is : (states : List (Option State)) (i : ℕ) (d o : Option State) → i < length states → slice_index_or states i d ≡ o → o ≡ slice_index_or states i None
+slot_is [] i d o h is = absurd (omega (arith, h))
+slot_is (x ∷ states) zero d o h is = sym is
+slot_is (x ∷ states) (suc i) d o h is = slot_is states i d o (omega (arith, h)) is
+
+module _ (states : List (Option State)) (i : ℕ) (inside : i < length states) (d there : Option State) (is : slice_index_or states i d ≡ there) where
+  pub stands : table_of states i ≡ there
+  stands = table_at states i inside ∙ sym (slot_is states i d there inside is)
+
+  module _ (s new : State) where
+    pub comes_to : with_place i (meeting_if_any there s) ≡ Ok new → enter (Some i) s (table_of states) ≡ Ok (table_of (slice_set states i (Some new)))
+    comes_to e = enter_gives states i there (Some new) s (Ok true) inside (slot_is states i d there inside is) (new, refl, e)
+
+    pub changes : (image : ImageValue) (moved : Bool) → MovesState image moved there (Some new) → Moves image moved states (slice_set states i (Some new))
+    changes image moved m = enter_moves image states i there (Some new) moved inside (slot_is states i d there inside is) m
+
+  pub refused_there : (s : State) (code : StateCode) → with_place i (meeting_if_any there s) ≡ Err (Refused code i) → enter (Some i) s (table_of states) ≡ Err (Refused code i)
+  refused_there s code e = enter_gives states i there there s (Err (Refused code i)) inside (slot_is states i d there inside is) e
+
+-- what stands behind an address that takes something else
+pub set_before : (states : List (Option State)) (i x : ℕ) (o : Option State) → i < x → table_of (slice_set states i o) x ≡ table_of states x
+set_before [] i x o lt = refl
+set_before (y ∷ states) i zero o lt = absurd (omega (arith, lt))
+set_before (y ∷ states) zero (suc x) o lt = refl
+set_before (y ∷ states) (suc i) (suc x) o lt = set_before states i x o (omega (arith, lt))
+
+-- ---- no states
+
+pub one_more : {A : Type 0} (n : ℕ) (x : A) → replicate (suc n) x ≡ replicate n x ++ x ∷ []
+one_more zero x = refl
+one_more (suc n) x = ap (λ xs. x ∷ xs) (one_more n x)
+
+no_state : (n x : ℕ) → table_of (replicate n None) x ≡ None
+no_state zero x = refl
+no_state (suc n) zero = refl
+no_state (suc n) (suc x) = no_state n x
+
+pub first_is : (image : ImageValue) (places : ℕ) (s : State) → 0 < places → s ≡ entry image → table_of (slice_set (replicate places None) 0 (Some s)) ≡ first_table image
+first_is image places s some is =
+    table_set (replicate places None) 0 s (omega (arith, some, length-replicate {A = Option State} places None))
+    ∙ ap (λ table. with_state 0 s table) (fun_ext λ x. no_state places x)
+    ∙ ap (λ t. with_state 0 t no_states) is

@@ -41,15 +41,14 @@ no_flag joins p at x other is = by_join (joins x) refl
     by_join true e = ap (λ c. if c then is_in p.changed.items x else (x == at) && p.is_carried) e ∙ sym (ap (λ c. if c then is_in p.changed.items x else false) e) ∙ is
     by_join false e = ap (λ c. if c then is_in p.changed.items x else (x == at) && p.is_carried) e ∙ not_both x at p.is_carried other
 
-module _ (image : ImageValue) (cuts : List Cut) (joins : ℕ → Bool) (old mid : Passes) (at : ℕ) (whole : Table) (before : IsBefore image cuts joins old at whole) (inside : at < length old.slots) where
+module _ (image : ImageValue) (cuts : List Cut) (joins : ℕ → Bool) (old mid : Passes) (at : ℕ) (whole : Table) (before : IsBefore image cuts joins old at whole) (inside : at < length old.states.items) where
   ready_joined : joins at ≡ true → IsStarted at old mid → IsReady image cuts joins mid at whole
   ready_joined is st = record {
     way = record {
-      flags = ap length st.changed ∙ length-set old.changed.items at false ∙ before.way.flags ∙ ap length (sym st.slots);
-      takes = long mid.is_carried refl ∙ before.way.takes ∙ ap length (sym st.slots);
+      flags = ap length st.changed ∙ length-set old.changed.items at false ∙ before.way.flags ∙ ap length (sym st.states);
+      takes = long mid.is_carried refl ∙ before.way.takes ∙ ap length (sym st.states);
       carried = by_flag mid.is_carried refl;
-      spare = rw st.spare before.way.spare;
-      slots = λ x sure. before.way.slots x sure ∙ ap (λ states. table_of states x) (sym st.slots);
+      states = λ x sure. before.way.states x sure ∙ ap (λ states. table_of states x) (sym st.states);
       grown = before.way.grown;
       sound = before.way.sound;
     };
@@ -70,7 +69,7 @@ module _ (image : ImageValue) (cuts : List Cut) (joins : ℕ → Bool) (old mid 
       was_taken x allows false e = sym (ap (λ items. is_in items x) (st.rests e))
 
       here : mid.is_carried ≡ true → whole at ≡ Some mid.carried
-      here on = before.way.slots at is ∙ st.yes on
+      here on = before.way.states at is ∙ st.yes on
 
       by_flag : (b : Bool) → mid.is_carried ≡ b → IsPlaced image mid.carried
       by_flag true e = (before.way.grown.states at mid.carried (here e)).placed
@@ -82,10 +81,10 @@ module _ (image : ImageValue) (cuts : List Cut) (joins : ℕ → Bool) (old mid 
           ∙ sym (ap (λ c. if c then is_in mid.changed.items x else false) e) ∙ mark
       by_join x other false e mark = ap (λ c. if c then is_in old.changed.items x else (x == at) && old.is_carried) e ∙ not_both x at old.is_carried other
 
-      at_own : (is_in old.changed.items at ≡ false) ⊎ (table_of old.slots at ≡ None) → (cut : Cut) → cut_at cuts at ≡ Some cut → (k : ℕ) (d : Edge) → k < length (asked cut.instr) → (s : State) → whole at ≡ Some s
+      at_own : (is_in old.changed.items at ≡ false) ⊎ (table_of old.states.items at ≡ None) → (cut : Cut) → cut_at cuts at ≡ Some cut → (k : ℕ) (d : Edge) → k < length (asked cut.instr) → (s : State) → whole at ≡ Some s
           → Settles image joins whole at (at + length cut.bytes) cut.instr s (slice_index_or (asked cut.instr) k d)
       at_own (inl rests) cut stands k d lt s stood = before.taken at cut stands k d lt (ap (λ c. if c then is_in old.changed.items at else (at == at) && old.is_carried) is ∙ rests) s stood
-      at_own (inr none) cut stands k d lt s stood = absurd (let no : None ≡ Some s = sym none ∙ sym (before.way.slots at is) ∙ stood in cc)
+      at_own (inr none) cut stands k d lt s stood = absurd (let no : None ≡ Some s = sym none ∙ sym (before.way.states at is) ∙ stood in cc)
 
   ready_alone : joins at ≡ false → IsReady image cuts joins old at whole
   ready_alone alone = record {
@@ -106,18 +105,18 @@ module _ (image : ImageValue) (cuts : List Cut) (joins : ℕ → Bool) (old mid 
       by_join false e = subst (λ p. IsReady image cuts joins p at whole) (sym (other e)) (ready_alone e)
 
 -- a state that is carried to where edges join is below the one that is kept there
-pub rises_to : (image : ImageValue) (cuts : List Cut) (joins : ℕ → Bool) (p : Passes) (at : ℕ) (whole : Table) → IsBefore image cuts joins p at whole → joins at ≡ true → p.is_carried ≡ true → IfSome (table_of p.slots at) (IsBelow p.carried)
+pub rises_to : (image : ImageValue) (cuts : List Cut) (joins : ℕ → Bool) (p : Passes) (at : ℕ) (whole : Table) → IsBefore image cuts joins p at whole → joins at ≡ true → p.is_carried ≡ true → IfSome (table_of p.states.items at) (IsBelow p.carried)
 rises_to image cuts joins p at whole before is on =
     let above = (before.here on).joined is in
-    subst (λ o. IfSome o (IsBelow p.carried)) (sym above.there ∙ before.way.slots at is) above.below
+    subst (λ o. IfSome o (IsBelow p.carried)) (sym above.there ∙ before.way.states at is) above.below
 
 -- what a state that is kept and the one that is carried have as many words of
-pub as_long : (image : ImageValue) (joins : ℕ → Bool) (p : Passes) (whole : Table) → IsUnderWay image joins p whole → (at : ℕ) → joins at ≡ true → IfSome (table_of p.slots at) (λ s. length s.cells ≡ length p.carried.cells)
-as_long image joins p whole way at is = by_state (table_of p.slots at) refl
+pub as_long : (image : ImageValue) (joins : ℕ → Bool) (p : Passes) (whole : Table) → IsUnderWay image joins p whole → (at : ℕ) → joins at ≡ true → IfSome (table_of p.states.items at) (λ s. length s.cells ≡ length p.carried.cells)
+as_long image joins p whole way at is = by_state (table_of p.states.items at) refl
   where
-    by_state : (o : Option State) → table_of p.slots at ≡ o → IfSome o (λ s. length s.cells ≡ length p.carried.cells)
+    by_state : (o : Option State) → table_of p.states.items at ≡ o → IfSome o (λ s. length s.cells ≡ length p.carried.cells)
     by_state None e = search rules
-    by_state (Some s) e = (way.grown.states at s (way.slots at is ∙ e)).placed.sized ∙ sym way.carried.sized
+    by_state (Some s) e = (way.grown.states at s (way.states at is ∙ e)).placed.sized ∙ sym way.carried.sized
 
 -- ---- nothing is carried
 
@@ -177,14 +176,13 @@ module _ (image : ImageValue) (cuts : List Cut) (joins : ℕ → Bool) (mid : Pa
 
   -- ---- a state is carried
 
-  pub begun : (new : Passes) → new.slots ≡ mid.slots → new.changed.items ≡ mid.changed.items → new.carried ≡ mid.carried → new.spare ≡ mid.spare → new.taken.items ≡ mid.taken.items → new.is_again ≡ mid.is_again → new.is_carried ≡ false → mid.is_carried ≡ true → IsAmidst image cuts joins new place 0 whole
-  begun new slots changed carried spare takes is_again rests on = record {
+  pub begun : (new : Passes) → new.states.items ≡ mid.states.items → new.changed.items ≡ mid.changed.items → new.carried ≡ mid.carried → new.taken.items ≡ mid.taken.items → new.is_again ≡ mid.is_again → new.is_carried ≡ false → mid.is_carried ≡ true → IsAmidst image cuts joins new place 0 whole
+  begun new slots changed carried takes is_again rests on = record {
     way = record {
       flags = ap length changed ∙ now.way.flags ∙ ap length (sym slots);
       takes = ap length takes ∙ now.way.takes ∙ ap length (sym slots);
       carried = rw carried now.way.carried;
-      spare = rw spare now.way.spare;
-      slots = λ x is. now.way.slots x is ∙ ap (λ states. table_of states x) (sym slots);
+      states = λ x is. now.way.states x is ∙ ap (λ states. table_of states x) (sym slots);
       grown = now.way.grown;
       sound = now.way.sound;
     };
@@ -204,9 +202,9 @@ module _ (image : ImageValue) (cuts : List Cut) (joins : ℕ → Bool) (mid : Pa
       quiet x true e m = ap (λ c. if c then is_in mid.changed.items x else false) e ∙ sym (ap (λ items. is_in items x) changed) ∙ sym (ap (λ c. if c then is_in new.changed.items x else (x == place.next) && new.is_carried) e) ∙ m
       quiet x false e m = ap (λ c. if c then is_in mid.changed.items x else false) e
 
-  abbrev pub begins : (new : Passes) → new.slots ≡ mid.slots → new.changed.items ≡ mid.changed.items → new.carried ≡ mid.carried → new.spare ≡ mid.spare → new.taken.items ≡ mid.taken.items → new.is_again ≡ mid.is_again → new.is_carried ≡ false → mid.is_carried ≡ true → AreJoins image cuts joins → IsBegun image joins new place
-  begins new slots changed carried spare takes is_again rests on join = record {
-    amid = record { cuts = cuts; number = stands.number; stands = stands.is; join = join; whole = whole; amidst = begun new slots changed carried spare takes is_again rests on };
+  abbrev pub begins : (new : Passes) → new.states.items ≡ mid.states.items → new.changed.items ≡ mid.changed.items → new.carried ≡ mid.carried → new.taken.items ≡ mid.taken.items → new.is_again ≡ mid.is_again → new.is_carried ≡ false → mid.is_carried ≡ true → AreJoins image cuts joins → IsBegun image joins new place
+  begins new slots changed carried takes is_again rests on join = record {
+    amid = record { cuts = cuts; number = stands.number; stands = stands.is; join = join; whole = whole; amidst = begun new slots changed carried takes is_again rests on };
     here = now.here on ∙ ap Some (sym carried);
     rests = rests;
   }

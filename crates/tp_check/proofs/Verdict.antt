@@ -1,7 +1,7 @@
 -- One pass, instruction by instruction, and one after another.
 use Rattle.std.proofs.Common.{◌≡◌, ℕ, zero, suc, ◌+◌, ◌<◌, ◌≤◌, ◌^◌, ◌⊎◌, inl, inr, ◌==◌, ◌&&◌, nat_le, if◌then◌else◌, Bool, true, false, List, [], ◌∷◌, ◌++◌, length, slice_get, slice_index_or, Option, Some, None, Result, Ok, Err, refl, sym, ap, ◌∙◌, subst, rules, arith, drop, add-one, drop-cons}
 use mathlib.Core.Path.{fun_ext}
-use Rattle.std.specs.Prelude.{IfErr, IfSome, IsErrAnd}
+use Rattle.std.specs.Prelude.{IfErr, IsErrAnd}
 use Rattle.std.specs.List.{flat_map, AllByRecursion}
 use Rattle.std.specs.Option.{is_some}
 use Rattle.std.proofs.lemmas.Bool.{cases_eq}
@@ -28,7 +28,7 @@ use Rattle.tp_check.specs.Tables.{Table, table_of, asked}
 use Rattle.tp_check.specs.Passes.{edges_of, edges_in, first_table, pass, passes, IsVerdict, IsRefusalOf}
 use Rattle.tp_check.specs.Carried.{over, only_joins, is_kept, is_head, reached, AreStatesOf, IsTableOf}
 use Rattle.tp_check.specs.StatesThere.{AreStatesThere}
-use Rattle.tp_check.specs.UnderWay.{is_in, AreJoins, Settles, marks, IsBefore, StandsIn, Carries, IsAfter, IsCopyOf, Leaves, IsSettled}
+use Rattle.tp_check.specs.UnderWay.{is_in, AreJoins, Settles, marks, IsBefore, StandsIn, Carries, IsAfter, Leaves, IsSettled}
 use Rattle.tp_check.specs.Rising.{HasPlaces, table_height}
 use Rattle.tp_check.proofs.Places.{stands_at, number_of}
 use Rattle.tp_check.proofs.Entering.{first_grown}
@@ -125,9 +125,9 @@ module _ (image : ImageValue) (cuts : List Cut) (joins : ℕ → Bool) where
           passed j q lt there (inr other) = let less = on.past j q (omega (arith, lt, other)) there in let here = on.next p is in omega (arith, longer, less, here)
 
   -- after all of them
-  pub come_all : (first now new : Passes) (i : ℕ) (begun : Table) → length cuts ≤ i → Comes first now i begun → new.slots ≡ now.slots → new.changed.items ≡ now.changed.items → new.carried ≡ now.carried → new.spare ≡ now.spare → new.taken.items ≡ now.taken.items → new.is_carried ≡ false → (moved : Bool)
+  pub come_all : (first now new : Passes) (i : ℕ) (begun : Table) → length cuts ≤ i → Comes first now i begun → new.states.items ≡ now.states.items → new.changed.items ≡ now.changed.items → new.carried ≡ now.carried → new.taken.items ≡ now.taken.items → new.is_carried ≡ false → (moved : Bool)
       → Carries (Ok moved) (over image joins (edges_in cuts) begun) (IsBefore image cuts joins new 0)
-  come_all first now new i begun end on slots changed carried spare takes rests moved = (
+  come_all first now new i begun end on slots changed carried takes rests moved = (
     on.whole,
     on.gives ∙ ap (λ ps. over image joins (flat_map edges_of ps) on.whole) none,
     record {
@@ -135,8 +135,7 @@ module _ (image : ImageValue) (cuts : List Cut) (joins : ℕ → Bool) where
         flags = ap length changed ∙ on.before.way.flags ∙ ap length (sym slots);
         takes = ap length takes ∙ on.before.way.takes ∙ ap length (sym slots);
         carried = rw carried on.before.way.carried;
-        spare = rw spare on.before.way.spare;
-        slots = λ x is. on.before.way.slots x is ∙ ap (λ states. table_of states x) (sym slots);
+        states = λ x is. on.before.way.states x is ∙ ap (λ states. table_of states x) (sym slots);
         grown = on.before.way.grown;
         sound = on.before.way.sound;
       };
@@ -199,42 +198,8 @@ pub record IsBetween (image : ImageValue) (cuts : List Cut) (joins : ℕ → Boo
 
 -- the passes that are left
 abbrev pub left_of : ImageValue → Bool → Passes → ℕ
-left_of image true p = 1 + table_height image p.slots
+left_of image true p = 1 + table_height image p.states.items
 left_of image false p = 0
-
-module _ (image : ImageValue) (cuts : List Cut) (joins : ℕ → Bool) where
-  -- a copy stands where the passes do
-  pub copied : (p copy : Passes) (n : ℕ) → IsAfter image cuts joins p n → IsCopyOf p copy → IsAfter image cuts joins copy n
-  copied p copy n on is = record {
-    places = λ at starts. rw is.slots (on.places at starts);
-    few = rw is.slots on.few;
-    rests = rests;
-    whole = on.whole;
-    before = record {
-      way = record {
-        flags = ap length is.changed ∙ on.before.way.flags ∙ ap length (sym is.slots);
-        takes = ap length is.taken ∙ on.before.way.takes ∙ ap length (sym is.slots);
-        carried = rw is.carried on.before.way.carried;
-        spare = subst (λ o. IfSome o (IsPlaced image)) (sym is.spare) tt;
-        slots = λ x joined. on.before.way.slots x joined ∙ ap (λ states. table_of states x) (sym is.slots);
-        grown = on.before.way.grown;
-        sound = on.before.way.sound;
-      };
-      here = λ sure. absurd (let no : false ≡ true = sym rests ∙ sure in cc);
-      taken = λ x cut there k d lt mark. on.before.taken x cut there k d lt (same_mark x ∙ mark);
-      again = λ _ sure. absurd (let no : false ≡ true = sym rests ∙ sure in cc);
-      early = λ x cut joined sure there. on.before.early x cut joined (sym (ap (λ items. is_in items x) is.taken) ∙ sure) there;
-    };
-    comes = on.comes;
-  }
-    where
-      rests : copy.is_carried ≡ false
-      rests = is.is_carried ∙ on.rests
-
-      same_mark : (x : ℕ) → marks joins p 0 x ≡ marks joins copy 0 x
-      same_mark x =
-          ap (λ items. if joins x then is_in items x else (x == 0) && p.is_carried) (sym is.changed)
-          ∙ ap (λ b. if joins x then is_in copy.changed.items x else (x == 0) && b) (sym is.is_carried)
 
 module _ (image : ImageValue) (cuts : List Cut) (joins : ℕ → Bool) (join : AreJoins image cuts joins) where
   pub zero_joins : joins 0 ≡ true
@@ -245,10 +210,10 @@ module _ (image : ImageValue) (cuts : List Cut) (joins : ℕ → Bool) (join : A
       by_join false e = let no : true ≡ false = or_left true (is_head image 0) (nat_le 2 (reached image cuts 0)) (join.wide 0 e) in cc
 
   -- before the first pass
-  pub none_made : InRange image → KeepsNest image.loops image.workspace cuts → (p : Passes) (places : ℕ) → HasPlaces cuts places → places ≤ 2 ^ 32 → length p.slots ≡ places → length p.changed.items ≡ places
-      → table_of p.slots ≡ first_table image → is_in p.changed.items 0 ≡ true → length p.taken.items ≡ places → ((at : ℕ) → at < places → is_in p.taken.items at ≡ false)
-      → p.is_carried ≡ false → IsPlaced image p.carried → p.spare ≡ None → IsAfter image cuts joins p 0
-  none_made range kept p places inside few sized flags table marked takes fresh rests carried spare = record {
+  pub none_made : InRange image → KeepsNest image.loops image.workspace cuts → (p : Passes) (places : ℕ) → HasPlaces cuts places → places ≤ 2 ^ 32 → length p.states.items ≡ places → length p.changed.items ≡ places
+      → table_of p.states.items ≡ first_table image → is_in p.changed.items 0 ≡ true → length p.taken.items ≡ places → ((at : ℕ) → at < places → is_in p.taken.items at ≡ false)
+      → p.is_carried ≡ false → IsPlaced image p.carried → IsAfter image cuts joins p 0
+  none_made range kept p places inside few sized flags table marked takes fresh rests carried = record {
     places = λ at starts. rw sized (inside at starts);
     few = rw sized few;
     rests = rests;
@@ -258,8 +223,7 @@ module _ (image : ImageValue) (cuts : List Cut) (joins : ℕ → Bool) (join : A
         flags = flags ∙ sym sized;
         takes = takes ∙ sym sized;
         carried = carried;
-        spare = subst (λ o. IfSome o (IsPlaced image)) (sym spare) tt;
-        slots = λ x is. sym (ap (λ (t : Table). t x) table);
+        states = λ x is. sym (ap (λ (t : Table). t x) table);
         grown = first_grown image (first_table image) kept.begins (entry_sound image range).placed refl;
         sound = λ x s stood. sound_first x s stood (cases_eq x 0);
       };
@@ -323,12 +287,12 @@ module _ (image : ImageValue) (cuts : List Cut) (range : InRange image) (spelled
       stays : m ≡ false → IsVerdict image cuts (Ok done.0)
       stays e = record { number = suc n; comes = comes; stays = by_end (leaves.ends e) }
         where
-          alike : new.slots ≡ old.slots → (x : ℕ) (b : Bool) → joins x ≡ b → only_joins joins done.0 x ≡ only_joins joins on.whole x
+          alike : new.states.items ≡ old.states.items → (x : ℕ) (b : Bool) → joins x ≡ b → only_joins joins done.0 x ≡ only_joins joins on.whole x
           alike same x true is =
-              ap (λ c. if c then done.0 x else None) is ∙ done.2.way.slots x is ∙ ap (λ states. table_of states x) same ∙ sym (on.before.way.slots x is) ∙ sym (ap (λ c. if c then on.whole x else None) is)
+              ap (λ c. if c then done.0 x else None) is ∙ done.2.way.states x is ∙ ap (λ states. table_of states x) same ∙ sym (on.before.way.states x is) ∙ sym (ap (λ c. if c then on.whole x else None) is)
           alike same x false is = ap (λ c. if c then done.0 x else None) is ∙ sym (ap (λ c. if c then on.whole x else None) is)
 
-          by_end : (new.slots ≡ old.slots) ⊎ ((at : ℕ) → is_in new.changed.items at ≡ false) → pass image cuts done.0 ≡ Ok done.0
+          by_end : (new.states.items ≡ old.states.items) ⊎ ((at : ℕ) → is_in new.changed.items at ≡ false) → pass image cuts done.0 ≡ Ok done.0
           by_end (inl same) =
               (one_pass image cuts range spelled kept joins join.wide done.0 (good_after image cuts range spelled kept joins join.wide (suc n) done.0 comes)).0
               ∙ ap (over image joins (edges_in cuts)) (fun_ext λ x. alike same x (joins x) refl)
@@ -349,8 +313,8 @@ module _ (image : ImageValue) (cuts : List Cut) (range : InRange image) (spelled
   is_refusal old moved on Memory P gives = tt
 
   -- after the last pass
-  pub is_settled : (p : Passes) → IsBetween image cuts joins p false → IsSettled image cuts joins p.slots
-  is_settled p on = record { few = on.after.few; whole = on.after.whole; verdict = on.stays refl; there = on.after.before.way.slots }
+  pub is_settled : (p : Passes) → IsBetween image cuts joins p false → IsSettled image cuts joins p.states.items
+  is_settled p on = record { few = on.after.few; whole = on.after.whole; verdict = on.stays refl; there = on.after.before.way.states }
 
   pub is_table : (slots : List (Option State)) (keeps : ℕ → Bool) (states : List (ℕ × State)) → IsSettled image cuts joins slots → ((at : ℕ) → keeps at ≡ is_kept image cuts at) → AreStatesOf keeps (table_of slots) states → IsTableOf image cuts states
   is_table slots keeps states on same are = record {

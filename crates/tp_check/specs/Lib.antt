@@ -4,9 +4,7 @@ pub mod EdgesRespect
 pub mod Passes
 pub mod Rising
 pub mod Carried
-pub mod Numbered
 pub mod StatesThere
-pub mod NearRefusal
 pub use Rattle.tp_state.specs.After
 pub use Rattle.tp_state.specs.Order
 pub use Rattle.tp_state.specs.Entry
@@ -14,4 +12,3 @@ pub use Rattle.tp_flow.specs.NestKept
 -- What only private steps cite.
 pub mod UnderWay
 pub mod Joining
-pub mod Meeting

@@ -1,15 +1,11 @@
 -- What holds while the passes are made.
-use Rattle.std.specs.Prelude.{◌≡◌, ◌≢◌, ℕ, ◌+◌, ◌^◌, ◌<◌, ◌≤◌, ◌==◌, ◌&&◌, Bool, true, false, if◌then◌else◌, ℤ, List, length, slice_get, slice_index_or, slice_set, All, ◌⊎◌, Option, Some, None, Result, Ok, Err, IfSome}
-use Rattle.std.specs.Option.{option_and_then}
+use Rattle.std.specs.Prelude.{◌≡◌, ◌≢◌, ℕ, ◌+◌, ◌^◌, ◌<◌, ◌≤◌, ◌==◌, ◌&&◌, Bool, true, false, if◌then◌else◌, List, length, slice_get, slice_index_or, slice_set, All, ◌⊎◌, Option, Some, None, Result, Ok, Err}
 use Rattle.tp_decode.specs.declared.instr.Instr.{Instr}
-use Rattle.tp_decode.specs.declared.instr.Instr.TheVariants.{Cj}
 use Rattle.tp_decode.specs.declared.placed.Placed.{Placed}
 use Rattle.tp_decode.specs.Cutting.{Cut, cut_at, placed_from}
 use Rattle.tp_flow.specs.declared.edge.Edge.{Edge}
-use Rattle.tp_flow.specs.declared.edge.Edge.TheVariants.{Next, Taken}
-use Rattle.tp_flow.specs.declared.range.LoopRange.{LoopRange}
 use Rattle.tp_flow.specs.NestRanges.{ranges}
-use Rattle.tp_flow.specs.LoopsAround.{is_around, entered_by}
+use Rattle.tp_flow.specs.LoopsAround.{is_around}
 use Rattle.tp_flow.specs.AroundKept.{KeepsAround}
 use Rattle.tp_flow.specs.NestKept.{KeepsNest}
 use Rattle.tp_flow.specs.Edges.{target}
@@ -100,11 +96,10 @@ marks joins p ahead at = if joins at then is_in p.changed.items at else (at == a
 
 -- Where edges join the passes keep the states of a whole table.
 pub record IsUnderWay (image : ImageValue) (joins : ℕ → Bool) (p : Passes) (whole : Table) : Type 0 where
-  pub flags : length p.changed.items ≡ length p.slots
-  pub takes : length p.taken.items ≡ length p.slots
+  pub flags : length p.changed.items ≡ length p.states.items
+  pub takes : length p.taken.items ≡ length p.states.items
   pub carried : IsPlaced image p.carried
-  pub spare : IfSome p.spare (IsPlaced image)
-  pub slots : (at : ℕ) → joins at ≡ true → whole at ≡ table_of p.slots at
+  pub states : (at : ℕ) → joins at ≡ true → whole at ≡ table_of p.states.items at
   pub grown : HasGrown image whole
   pub sound : (at : ℕ) (s : State) → whole at ≡ Some s → IsSound image s
 
@@ -201,8 +196,6 @@ pub record IsOnEdge (image : ImageValue) (joins : ℕ → Bool) (p : Passes) (pl
 -- elsewhere a state only rises, where edges join.
 pub record IsAfterEdge (image : ImageValue) (cuts : List Cut) (joins : ℕ → Bool) (old new : Passes) (place : Placed) (edge : Edge) (done : ℕ) (whole table : Table) : Type 0 where
   pub amidst : IsAmidst image cuts joins new place (done + 1) table
-  pub gone : after image place.at place.next place.instr edge old.carried ≡ Ok new.carried
-  pub spare : new.spare ≡ old.spare
   pub comes : (to : ℕ) → target_of image (place, edge) ≡ Some to → HasCome joins table to new.carried
   pub here : table place.at ≡ whole place.at
   pub rises : (x : ℕ) (s : State) → joins x ≡ true → HasAbove whole x s → HasAbove table x s
@@ -212,27 +205,20 @@ pub record IsAfterEdge (image : ImageValue) (cuts : List Cut) (joins : ℕ → B
 
 -- what is carried is carried on, if it comes to the next instruction
 pub record IsLedOn (to there : ℕ) (old new : Passes) : Type 0 where
-  pub slots : new.slots ≡ old.slots
+  pub states : new.states.items ≡ old.states.items
   pub changed : new.changed.items ≡ old.changed.items
   pub taken : new.taken.items ≡ old.taken.items
   pub is_again : new.is_again ≡ old.is_again
   pub carried : new.carried ≡ old.carried
-  pub spare : new.spare ≡ old.spare
   pub next : to ≡ there → new.is_carried ≡ true
   pub elsewhere : to ≢ there → new.is_carried ≡ old.is_carried
-
--- both edges of an instruction leave words as they are: it is a cj, and neither enters a loop
-pub record LeavesWords (nest : List LoopRange) (place : Placed) : Type 0 where
-  pub is : (n : ℤ) × (place.instr ≡ Cj n)
-  pub next : option_and_then (entered_by nest place.at) (target nest place.at place.next place.instr Next) ≡ None
-  pub taken : option_and_then (entered_by nest place.at) (target nest place.at place.next place.instr Taken) ≡ None
 
 -- ---- between two passes
 
 -- so many passes have been made
 pub record IsAfter (image : ImageValue) (cuts : List Cut) (joins : ℕ → Bool) (p : Passes) (number : ℕ) : Type 0 where
-  pub places : HasPlaces cuts (length p.slots)
-  pub few : length p.slots ≤ 2 ^ 32
+  pub places : HasPlaces cuts (length p.states.items)
+  pub few : length p.states.items ≤ 2 ^ 32
   pub rests : p.is_carried ≡ false
   pub whole : Table
   pub before : IsBefore image cuts joins p 0 whole
@@ -244,21 +230,12 @@ IsBeginning image places p =
     (cuts : List Cut) (joins : ℕ → Bool) → HasPlaces cuts places → KeepsNest image.loops image.workspace cuts → AreJoins image cuts joins
     → IsAfter image cuts joins p 0
 
--- a copy of them, without the room for a second state
-pub record IsCopyOf (p copy : Passes) : Type 0 where
-  pub slots : copy.slots ≡ p.slots
-  pub changed : copy.changed.items ≡ p.changed.items
-  pub taken : copy.taken.items ≡ p.taken.items
-  pub is_carried : copy.is_carried ≡ p.is_carried
-  pub carried : copy.carried ≡ p.carried
-  pub spare : copy.spare ≡ None
-
 -- Whether a pass leaves edges to be taken is told: where it does, fewer changes are left; and where it does not, it has changed no
 -- state that is kept, or has left no address marked.
 pub record Leaves (image : ImageValue) (is_left : Bool) (old new : Passes) : Type 0 where
-  pub sized : length new.slots ≡ length old.slots
-  pub falls : is_left ≡ true → table_height image new.slots < table_height image old.slots
-  pub ends : is_left ≡ false → (new.slots ≡ old.slots) ⊎ ((at : ℕ) → is_in new.changed.items at ≡ false)
+  pub sized : length new.states.items ≡ length old.states.items
+  pub falls : is_left ≡ true → table_height image new.states.items < table_height image old.states.items
+  pub ends : is_left ≡ false → (new.states.items ≡ old.states.items) ⊎ ((at : ℕ) → is_in new.changed.items at ≡ false)
 
 -- ---- when they are done
 
@@ -287,21 +264,19 @@ abbrev pub marked : Bool → ℕ → List Bool → List Bool
 marked moved to flags = if moved then slice_set flags to true else flags
 
 -- all but the states that are kept and the marks is as before
-pub record SameButSlots (old new : Passes) : Type 0 where
+pub record SameButStates (old new : Passes) : Type 0 where
   pub is_carried : new.is_carried ≡ old.is_carried
   pub carried : new.carried ≡ old.carried
-  pub spare : new.spare ≡ old.spare
   pub is_again : new.is_again ≡ old.is_again
   pub taken : new.taken.items ≡ old.taken.items
 
 -- the state that is kept at an address is carried, if it was marked and there is one: its edges are taken, again where they
 -- were before; it is not marked any more
 pub record IsStarted (at : ℕ) (old new : Passes) : Type 0 where
-  pub slots : new.slots ≡ old.slots
+  pub states : new.states.items ≡ old.states.items
   pub changed : new.changed.items ≡ slice_set old.changed.items at false
-  pub spare : new.spare ≡ old.spare
-  pub yes : new.is_carried ≡ true → table_of old.slots at ≡ Some new.carried
+  pub yes : new.is_carried ≡ true → table_of old.states.items at ≡ Some new.carried
   pub again : new.is_carried ≡ true → new.is_again ≡ is_in old.taken.items at
   pub takes : new.is_carried ≡ true → new.taken.items ≡ slice_set old.taken.items at true
   pub rests : new.is_carried ≡ false → new.taken.items ≡ old.taken.items
-  pub no : new.is_carried ≡ false → (new.carried ≡ old.carried) × ((is_in old.changed.items at ≡ false) ⊎ (table_of old.slots at ≡ None))
+  pub no : new.is_carried ≡ false → (new.carried ≡ old.carried) × ((is_in old.changed.items at ≡ false) ⊎ (table_of old.states.items at ≡ None))

@@ -4,16 +4,12 @@
 //! The laws are the contracts of the functions of [`laws`].
 #![tactic(auto)]
 
-mod aside;
-mod kept;
 pub mod laws;
-mod milestones;
-mod near;
 mod passes;
+mod states;
 mod table;
 mod way;
 
-pub use kept::KeptStates;
-pub use near::{NearRefusal, PassesEnd, near_refusal};
 pub use passes::{check_states, places_of};
+pub use states::{enter, first_states, state_at};
 pub use table::Table;

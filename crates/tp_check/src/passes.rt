@@ -8,7 +8,7 @@ ghost use Rattle.tp_flow.specs.declared.edge.Edge.{Edge as AnEdge};
 ghost use Rattle.tp_flow.specs.NestRanges.{ranges};
 ghost use Rattle.tp_flow.specs.NestKept.{KeepsNest};
 ghost use Rattle.tp_flow.specs.RowRules.{is_start};
-ghost use Rattle.tp_image.specs.Image.{InRange};
+ghost use Rattle.tp_image.specs.Image.{ImageValue, InRange};
 ghost use Rattle.tp_state.specs.Conditions.{IsPlaced};
 ghost use Rattle.tp_state.specs.Order.{IsBelow};
 ghost use Rattle.tp_state.specs.declared.fault.StateFault.TheVariants as fault;
@@ -18,11 +18,10 @@ ghost use Rattle.tp_check.specs.Passes.{enter, edges_of, edges_in, IsVerdict, Is
 ghost use Rattle.tp_check.specs.Carried.{over, IsTableOf};
 ghost use Rattle.tp_check.specs.StatesThere.{AreStatesThere};
 ghost use Rattle.tp_check.specs.Joining.{joins_at, keeps_at};
-ghost use Rattle.tp_check.specs.UnderWay.{is_in, IsBeginning, IsCopyOf, Leaves, AreJoins, MayBeTaken, StandsIn, IsBefore, Carries, TakesEdges, marked, SameButSlots, IsStarted, KeepsSound, IsBegun, IsOnEdge, IsAfterEdge, IsLedOn, IsSettled};
+ghost use Rattle.tp_check.specs.UnderWay.{is_in, IsBeginning, Leaves, AreJoins, MayBeTaken, StandsIn, IsBefore, Carries, TakesEdges, marked, SameButStates, IsStarted, KeepsSound, IsBegun, IsOnEdge, IsAfterEdge, IsLedOn, IsSettled};
 ghost use Rattle.tp_check.specs.Rising.{HasPlaces, Gives, Moves, CameBefore};
 
-use crate::aside::{Registers, leaves_words};
-use crate::kept::KeptStates;
+use crate::states::{enter, first_states, read_into};
 use crate::table::Table;
 use crate::way::Ways;
 use std::alloc::{AllocError, Global};
@@ -51,8 +50,8 @@ pub fn check_states(
 {
     let places = places_of(listing);
     let ways = Ways::of(alloc, image, listing, nest, places)?;
-    let slots = settle(alloc, image, listing, nest, places, &ways)?;
-    Ok(Table::of(alloc, &slots, &ways)?)
+    let states = settle(alloc, image, listing, nest, places, &ways)?;
+    Ok(Table::of(alloc, states, &ways)?)
 }
 
 /// The states where edges join, when a pass leaves no edge to be taken; or the first refusal.
@@ -63,14 +62,14 @@ fn settle(
     nest: &Nest,
     places: usize,
     ways: &Ways,
-) -> Result<KeptStates, StateFault>
+) -> Result<Vec<Option<State>>, StateFault>
     requires kept { KeepsNest image.now.loops image.now.workspace listing.now }
     requires nest { nest.now ≡ ranges image.now.loops }
     requires join { AreJoins image.now listing.now (joins_at ways.now) }
     requires some { 0 < places }
     requires few { places ≤ 2 ^ 32 }
     requires all { HasPlaces listing.now places }
-    ensures settled { IfOk result (IsSettled image.now listing.now (joins_at ways.now)) }
+    ensures settled { IfOk result (λ states. IsSettled image.now listing.now (joins_at ways.now) states.items) }
     ensures refused { IfErr result (IsRefusalOf image.now listing.now) }
     ensures exact { IfErr result (λ e. e ≢ fault.Memory → HasNoTable image.now listing.now) }
     // This is known of every image, and of every listing.
@@ -83,14 +82,14 @@ fn settle(
     while is_left {
         is_left = passes.pass(alloc, image, listing, nest, ways)?;
     }
-    Ok(passes.slots)
+    Ok(passes.states)
 }
 
 /// The passes, between two edges.
 #[derive(Drop)]
 pub(crate) struct Passes {
-    /// The states where edges join.
-    pub(crate) slots: KeptStates,
+    /// What is known where edges join, by address.
+    states: Vec<Option<State>>,
     /// By address, whether it is marked: edges join there, and the state has changed since the edges from there were last taken. At
     /// first the first address is.
     changed: Vec<bool>,
@@ -103,8 +102,6 @@ pub(crate) struct Passes {
     is_again: bool,
     /// What is known before the instruction that is being taken, and then after its edge.
     carried: State,
-    /// Room for another, once an instruction has come of which two edges may change words.
-    spare: Option<State>,
 }
 
 impl Passes {
@@ -119,36 +116,16 @@ impl Passes {
         // A look into the image tells that it is in range.
         let _ = &image.code;
         let carried = State::entry(alloc, image)?;
-        let slots = KeptStates::first(alloc, image, &carried, places)?;
+        let states = first_states(alloc, image, places)?;
         let changed = first_marked(alloc, places)?;
         let taken = none_marked(alloc, places)?;
         Ok(Passes {
-            slots,
+            states,
             changed,
             taken,
             is_carried: false,
             is_again: false,
             carried,
-            spare: None,
-        })
-    }
-
-    /// A copy, between two passes.
-    pub(crate) fn copy_of(&self, alloc: Global) -> Result<Passes, AllocError>
-        ensures { IfOk result (IsCopyOf self.now) }
-    {
-        let slots = self.slots.copy_of(alloc)?;
-        let changed = Vec::from_slice(alloc, &self.changed)?;
-        let taken = Vec::from_slice(alloc, &self.taken)?;
-        let carried = self.carried.copy_of(alloc)?;
-        Ok(Passes {
-            slots,
-            changed,
-            taken,
-            is_carried: self.is_carried,
-            is_again: self.is_again,
-            carried,
-            spare: None,
         })
     }
 
@@ -167,7 +144,7 @@ impl Passes {
         requires spelled { AllByRecursion IsSpelled listing.now }
         requires nest { nest.now ≡ ranges image.now.loops }
         requires join { AreJoins image.now listing.now (joins_at ways.now) }
-        requires places { HasPlaces listing.now (length self.old.slots) }
+        requires places { HasPlaces listing.now (length self.old.states.items) }
         requires rests { self.old.is_carried ≡ false }
         requires way { (whole : WholeTable) × IsBefore image.now listing.now (joins_at ways.now) self.old 0 whole }
         ensures gives { (whole : WholeTable) → IsBefore image.now listing.now (joins_at ways.now) self.old 0 whole →
@@ -196,13 +173,13 @@ impl Passes {
         requires spelled { AllByRecursion IsSpelled listing.now }
         requires nest { nest.now ≡ ranges image.now.loops }
         requires join { AreJoins image.now listing.now (joins_at ways.now) }
-        requires places { HasPlaces listing.now (length self.old.slots) }
+        requires places { HasPlaces listing.now (length self.old.states.items) }
         requires rests { self.old.is_carried ≡ false }
         requires way { (whole : WholeTable) × IsBefore image.now listing.now (joins_at ways.now) self.old 0 whole }
         ensures gives { (whole : WholeTable) → IsBefore image.now listing.now (joins_at ways.now) self.old 0 whole →
             TakesEdges image.now listing.now (joins_at ways.now) (edges_in listing.now) whole result self.new 0 }
         ensures rests { OnOk result (self.new.is_carried ≡ false) }
-        ensures moves { IfOk result (λ moved. Moves image.now moved self.old.slots self.new.slots) }
+        ensures moves { IfOk result (λ moved. Moves image.now moved self.old.states.items self.new.states.items) }
     {
         let mut moved = false;
         for i in 0..listing.len() {
@@ -227,7 +204,7 @@ impl Passes {
         place: Placed,
     ) -> Result<bool, StateFault>
         requires nest { nest.now ≡ ranges image.now.loops }
-        requires place { MayBeTaken image.now (length self.old.slots) place }
+        requires place { MayBeTaken image.now (length self.old.states.items) place }
         requires sound { KeepsSound image.now place }
         requires way { (cuts : List Cut) × StandsIn cuts place × AreJoins image.now cuts (joins_at ways.now) ×
             (whole : WholeTable) × IsBefore image.now cuts (joins_at ways.now) self.old place.at whole }
@@ -235,7 +212,7 @@ impl Passes {
             AreJoins image.now cuts (joins_at ways.now) →
             IsBefore image.now cuts (joins_at ways.now) self.old place.at whole →
             TakesEdges image.now cuts (joins_at ways.now) (edges_of place) whole result self.new place.next }
-        ensures moves { IfOk result (λ moved. Moves image.now moved self.old.slots self.new.slots) }
+        ensures moves { IfOk result (λ moved. Moves image.now moved self.old.states.items self.new.states.items) }
     {
         self.start(ways, place.at);
         if !self.is_carried {
@@ -248,16 +225,16 @@ impl Passes {
     /// Where edges join, the state that is kept is carried from here on, if it has changed since it last was. One that is
     /// carried here is below it, and rises to it.
     fn start(&mut self, ways: &Ways, at: usize)
-        requires stands { at < length self.old.slots }
+        requires stands { at < length self.old.states.items }
         requires inside { at < length self.old.changed.items }
         requires takes { at < length self.old.taken.items }
         requires sized { joins_at ways.now at ≡ true →
-            IfSome (table_of self.old.slots at) (λ s. length s.cells ≡ length self.old.carried.cells) }
+            IfSome (table_of self.old.states.items at) (λ s. length s.cells ≡ length self.old.carried.cells) }
         requires below { joins_at ways.now at ≡ true → self.old.is_carried ≡ true →
-            IfSome (table_of self.old.slots at) (IsBelow self.old.carried) }
+            IfSome (table_of self.old.states.items at) (IsBelow self.old.carried) }
         ensures started { joins_at ways.now at ≡ true → IsStarted at self.old self.new }
         ensures other { joins_at ways.now at ≡ false → self.new ≡ self.old }
-        ensures slots { self.new.slots ≡ self.old.slots }
+        ensures states { self.new.states.items ≡ self.old.states.items }
     {
         if !ways.joins(at) {
             return;
@@ -269,7 +246,7 @@ impl Passes {
         if !is_marked {
             return;
         }
-        if self.slots.give(at, &mut self.carried, comes) {
+        if read_into(&self.states, at, &mut self.carried, comes) {
             self.is_carried = true;
             self.is_again = self.taken[at];
             self.taken[at] = true;
@@ -286,13 +263,13 @@ impl Passes {
         place: Placed,
     ) -> Result<bool, StateFault>
         requires nest { nest.now ≡ ranges image.now.loops }
-        requires place { MayBeTaken image.now (length self.old.slots) place }
+        requires place { MayBeTaken image.now (length self.old.states.items) place }
         requires sound { KeepsSound image.now place }
         requires way { IsBegun image.now (joins_at ways.now) self.old place }
         ensures gives { (way : IsBegun image.now (joins_at ways.now) self.old place) → StandsIn way.amid.cuts place →
             TakesEdges image.now way.amid.cuts (joins_at ways.now)
             (edges_of place) way.amid.whole result self.new place.next }
-        ensures moves { IfOk result (λ moved. Moves image.now moved self.old.slots self.new.slots) }
+        ensures moves { IfOk result (λ moved. Moves image.now moved self.old.states.items self.new.states.items) }
     {
         match asked(place.instr) {
             [edge] => self.take_edge(alloc, image, nest, ways, place, *edge),
@@ -301,8 +278,8 @@ impl Passes {
         }
     }
 
-    /// Two edges are taken, each from the state that is carried. A copy of it is put aside for the second one; or its
-    /// registers alone, where both leave words as they are.
+    /// Two edges are taken, each from the state that is carried: the second from a copy. Of what comes of both, that is carried on
+    /// which comes to the next instruction.
     fn take_two(
         &mut self,
         alloc: Global,
@@ -314,71 +291,24 @@ impl Passes {
         last: Edge,
     ) -> Result<bool, StateFault>
         requires nest { nest.now ≡ ranges image.now.loops }
-        requires place { MayBeTaken image.now (length self.old.slots) place }
+        requires place { MayBeTaken image.now (length self.old.states.items) place }
         requires sound { KeepsSound image.now place }
         requires edges { asked place.instr ≡ first ∷ last ∷ [] }
         requires way { IsBegun image.now (joins_at ways.now) self.old place }
         ensures gives { (way : IsBegun image.now (joins_at ways.now) self.old place) → StandsIn way.amid.cuts place →
             TakesEdges image.now way.amid.cuts (joins_at ways.now)
             (edges_of place) way.amid.whole result self.new place.next }
-        ensures moves { IfOk result (λ moved. Moves image.now moved self.old.slots self.new.slots) }
+        ensures moves { IfOk result (λ moved. Moves image.now moved self.old.states.items self.new.states.items) }
     {
-        let leaves_words = leaves_words(nest, place);
-        let before = Registers::of(&self.carried);
-        self.put_aside(alloc, leaves_words)?;
+        let mut other = self.carried.copy_of(alloc)?;
         let moved = self.take_edge(alloc, image, nest, ways, place, first)?;
         let is_next = self.is_carried;
-        let after = Registers::of(&self.carried);
-        self.put_back(before, leaves_words);
+        mem::swap(&mut self.carried, &mut other);
         let also = self.take_edge(alloc, image, nest, ways, place, last)?;
-        if !is_next {
-            return Ok(moved || also);
+        if is_next {
+            mem::swap(&mut self.carried, &mut other);
         }
-        self.put_back(after, leaves_words);
         Ok(moved || also)
-    }
-
-    /// A copy of the state that is carried is put aside, unless words stay as they are. The first one takes memory.
-    fn put_aside(&mut self, alloc: Global, leaves_words: bool) -> Result<(), AllocError>
-        requires { IfSome self.old.spare (λ s. length self.old.carried.cells ≡ length s.cells) }
-        ensures light { leaves_words ≡ true → self.new ≡ self.old }
-        ensures copied { IfOk result
-            (λ _. leaves_words ≡ false → self.new ≡ record self.old { spare = Some self.old.carried }) }
-        ensures slots { self.new.slots ≡ self.old.slots }
-    {
-        if leaves_words {
-            return Ok(());
-        }
-        match &mut self.spare {
-            Some(spare) => spare.set_to(&self.carried),
-            None => {
-                let copy = self.carried.copy_of(alloc)?;
-                self.spare = Some(copy);
-            }
-        }
-        Ok(())
-    }
-
-    /// The state that was carried before is carried again: where words have stayed as they were, it is told by its registers;
-    /// else it was put aside, and changes places with what is carried now.
-    fn put_back(&mut self, registers: Registers, leaves_words: bool)
-        ensures light { leaves_words ≡ true →
-            self.new ≡ record self.old {
-              carried = record self.old.carried {
-                a = registers.a;
-                b = registers.b;
-                c = registers.c;
-              };
-            } }
-        ensures copied { leaves_words ≡ false →
-            IfSome self.old.spare (λ s. self.new ≡ record self.old { carried = s; spare = Some self.old.carried }) }
-        ensures slots { self.new.slots ≡ self.old.slots }
-    {
-        if leaves_words {
-            registers.put(&mut self.carried);
-        } else if let Some(spare) = &mut self.spare {
-            mem::swap(&mut self.carried, spare);
-        }
     }
 
     /// An edge is taken: what is carried becomes what is known after it, and comes to its target.
@@ -392,13 +322,13 @@ impl Passes {
         edge: Edge,
     ) -> Result<bool, StateFault>
         requires nest { nest.now ≡ ranges image.now.loops }
-        requires place { MayBeTaken image.now (length self.old.slots) place }
+        requires place { MayBeTaken image.now (length self.old.states.items) place }
         requires sound { KeepsSound image.now place }
         requires way { (done : ℕ) × IsOnEdge image.now (joins_at ways.now) self.old place edge done }
         ensures gives { (done : ℕ) (way : IsOnEdge image.now (joins_at ways.now) self.old place edge done) →
             Carries result (over image.now (joins_at ways.now) ((place, edge) ∷ []) way.amid.whole)
             (IsAfterEdge image.now way.amid.cuts (joins_at ways.now) self.old self.new place edge done way.amid.whole) }
-        ensures moves { IfOk result (λ moved. Moves image.now moved self.old.slots self.new.slots) }
+        ensures moves { IfOk result (λ moved. Moves image.now moved self.old.states.items self.new.states.items) }
     {
         let Placed { at, instr, next } = place;
         if let Err(code) = self.carried.go_on(at, next, instr, edge, image, nest) {
@@ -407,7 +337,7 @@ impl Passes {
         match nest.target(at, next, instr, edge) {
             Some(to) => {
                 self.lead_on(to, next);
-                self.arrive(alloc, image, ways, to)
+                self.arrive(alloc, ways, to)
             }
             None => Ok(false),
         }
@@ -424,33 +354,26 @@ impl Passes {
 
     /// What is carried comes to an address: it joins what is kept there, if edges join there. It answers whether anything
     /// changed.
-    fn arrive(
-        &mut self,
-        alloc: Global,
-        image: &Image,
-        ways: &Ways,
-        to: usize,
-    ) -> Result<bool, StateFault>
-        requires inside { to < length self.old.slots }
-        requires flags { length self.old.changed.items ≡ length self.old.slots }
-        requires placed { joins_at ways.now to ≡ true → IfSome (table_of self.old.slots to) (IsPlaced image.now) }
-        requires carried { IsPlaced image.now self.old.carried }
+    fn arrive(&mut self, alloc: Global, ways: &Ways, to: usize) -> Result<bool, StateFault>
+        requires inside { to < length self.old.states.items }
+        requires flags { length self.old.changed.items ≡ length self.old.states.items }
+        requires sized { joins_at ways.now to ≡ true →
+            IfSome (table_of self.old.states.items to) (λ s. length self.old.carried.cells ≡ length s.cells) }
         requires again { joins_at ways.now to ≡ true → self.old.is_again ≡ true →
-            CameBefore (table_of self.old.slots to) self.old.carried }
+            CameBefore (table_of self.old.states.items to) self.old.carried }
         ensures joins { joins_at ways.now to ≡ true →
-            Gives result (table_of self.new.slots) (enter (Some to) self.old.carried (table_of self.old.slots)) }
+            Gives result (table_of self.new.states.items) (enter (Some to) self.old.carried (table_of self.old.states.items)) }
         ensures marks { joins_at ways.now to ≡ true →
             IfOk result (λ moved. self.new.changed.items ≡ marked moved to self.old.changed.items) }
-        ensures rest { SameButSlots self.old self.new }
+        ensures rest { SameButStates self.old self.new }
         ensures alone { joins_at ways.now to ≡ false → (result ≡ Ok false) × (self.new ≡ self.old) }
-        ensures moves { IfOk result (λ moved. Moves image.now moved self.old.slots self.new.slots) }
+        ensures moves { (image : ImageValue) → length self.old.carried.cells ≡ image.workspace →
+            IfOk result (λ moved. Moves image moved self.old.states.items self.new.states.items) }
     {
         if !ways.joins(to) {
             return Ok(false);
         }
-        let moved = self
-            .slots
-            .enter(alloc, image, to, &self.carried, self.is_again)?;
+        let moved = enter(alloc, &mut self.states, to, &self.carried, self.is_again)?;
         if moved {
             self.changed[to] = true;
         }

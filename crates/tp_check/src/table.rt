@@ -5,7 +5,6 @@ ghost use Rattle.tp_check.specs.Tables.{table_of};
 ghost use Rattle.tp_check.specs.Carried.{AreStatesOf};
 ghost use Rattle.tp_check.specs.Joining.{keeps_at};
 
-use crate::kept::KeptStates;
 use crate::way::Ways;
 use std::alloc::{AllocError, Global};
 use tp_state::State;
@@ -20,19 +19,24 @@ pub struct Table {
 
 impl Table {
     /// What is kept of the states that the passes have left.
-    pub(crate) fn of(alloc: Global, slots: &KeptStates, ways: &Ways) -> Result<Table, AllocError>
-        requires few { length slots.now ≤ 2 ^ 32 }
-        ensures { IfOk result (λ table. AreStatesOf (keeps_at ways.now) (table_of slots.now) table.states.items) }
+    pub(crate) fn of(
+        alloc: Global,
+        mut states: Vec<Option<State>>,
+        ways: &Ways,
+    ) -> Result<Table, AllocError>
+        requires few { length states.items ≤ 2 ^ 32 }
+        ensures { IfOk result (λ table. AreStatesOf (keeps_at ways.now) (table_of states.items) table.states.items) }
     {
-        let mut states = Vec::new(alloc);
-        for at in 0..slots.len() {
+        let mut kept = Vec::new(alloc);
+        for at in 0..states.len() {
+            let state = states[at].take();
             if ways.keeps(at) {
-                if let Some(state) = slots.state_at(alloc, at)? {
-                    states.push((at as u32, state))?;
+                if let Some(state) = state {
+                    kept.push((at as u32, state))?;
                 }
             }
         }
-        Ok(Table { states })
+        Ok(Table { states: kept })
     }
 
     /// How many states it keeps.

@@ -1,5 +1,5 @@
 -- The passes, one edge and one pass after another.
-use Rattle.std.proofs.Common.{◌≡◌, ℕ, zero, suc, ◌+◌, ◌<◌, ◌⊎◌, inl, inr, Bool, List, [], ◌∷◌, ◌++◌, length, Option, Some, Ok, Err, Result, refl, sym, ap, ◌∙◌, subst, arith}
+use Rattle.std.proofs.Common.{◌≡◌, ℕ, zero, suc, ◌+◌, ◌-◌, ◌^◌, ◌<◌, min, ◌||◌, Bool, true, false, List, [], ◌∷◌, ◌++◌, length, Option, Some, Ok, Err, Result, refl, sym, ap, ◌∙◌, subst, arith}
 use Rattle.std.specs.List.{flat_map}
 use Rattle.std.proofs.Common.{take, drop, slice_get, slice_index_or, add-one}
 use Rattle.std.proofs.Math.Seq.{take-suc, split_at}
@@ -17,9 +17,10 @@ use Rattle.tp_state.specs.declared.state.State.{State}
 use Rattle.tp_state.specs.Answer.{◌>>=◌}
 use Rattle.tp_state.specs.declared.fault.StateFault.TheVariants.{Refused}
 use Rattle.tp_state.specs.declared.fault.StateCode.{StateCode}
-use Rattle.tp_check.specs.Rising.{Gives}
+use Rattle.tp_check.specs.Rising.{Gives, Moves, table_height}
+use Rattle.tp_state.proofs.AgreeLemmas.{written}
 use Rattle.tp_check.specs.Tables.{Table}
-use Rattle.tp_check.specs.Passes.{go_along, along_edges, pass, passes}
+use Rattle.tp_check.specs.Passes.{go_along, along_edges, first_table, pass, passes}
 use Rattle.tp_reasons.specs.declared.refusal.EdgeRefusal.{EdgeRefusal}
 use Rattle.tp_check.specs.Tables.{table_of}
 use Rattle.tp_check.specs.Passes.{edges_in, IsVerdict}
@@ -102,37 +103,63 @@ refused_along image es table there r is =
     ∙ along_append image is.earlier ((r.instruction, r.edge) ∷ is.later) table there is.comes
     ∙ ap (λ q. q >>= along_edges image is.later) is.refused
 
--- Before a pass: so many have refused nothing, and from these states it comes to the same as from their table, which they are
--- unless it refuses nothing.
-pub record IsBefore (image : ImageValue) (cuts : List Cut) (n : ℕ) (states : Table) : Type 0 where
-  pub table : Table
-  pub comes : passes image cuts n ≡ Ok table
-  pub same : pass image cuts states ≡ pass image cuts table
-  pub whole : (states ≡ table) ⊎ ((next : Table) × (pass image cuts table ≡ Ok next))
+-- Before a pass: so many have refused nothing, and these are the states of their table.
+pub record IsBefore (image : ImageValue) (cuts : List Cut) (counted : ℕ) (states : Table) : Type 0 where
+  pub number : ℕ
+  pub count : counted ≡ min number (2 ^ 64 - 1)
+  pub comes : passes image cuts number ≡ Ok states
+
+pub none_made : (image : ImageValue) (cuts : List Cut) (states : Table) → states ≡ first_table image → IsBefore image cuts 0 states
+none_made image cuts states is = record { number = 0; count = refl; comes = ap Ok (sym is) }
 
 -- a pass that refuses nothing comes to the table of one pass more
-pub one_more : (image : ImageValue) (cuts : List Cut) (n : ℕ) (es : List (Placed × Edge)) (states new : Table) → es ≡ edges_in cuts → IsBefore image cuts n states → along_edges image es states ≡ Ok new → IsBefore image cuts (n + 1) new
-one_more image cuts n es states new is before goes = record {
-  table = new;
-  comes = ap (passes image cuts) (add-one n) ∙ ap (λ r. r >>= pass image cuts) before.comes ∙ sym before.same ∙ sym (ap (λ xs. along_edges image xs states) is) ∙ goes;
-  same = refl;
-  whole = inl refl;
+pub one_more : (image : ImageValue) (cuts : List Cut) (counted next : ℕ) (es : List (Placed × Edge)) (states new : Table) → next ≡ min (counted + 1) (2 ^ 64 - 1) → es ≡ edges_in cuts → IsBefore image cuts counted states → along_edges image es states ≡ Ok new → IsBefore image cuts next new
+one_more image cuts counted next es states new more is before goes = record {
+  number = suc before.number;
+  count = omega (arith, more, before.count);
+  comes = ap (λ r. r >>= pass image cuts) before.comes ∙ sym (ap (λ xs. along_edges image xs states) is) ∙ goes;
 }
 
 -- one that refuses an edge refuses it from the table of the passes before
-pub is_first : (image : ImageValue) (cuts : List Cut) (es : List (Placed × Edge)) (states : Table) (r : FirstRefusal) → es ≡ edges_in cuts → IsBefore image cuts r.passes states → IsRefusedAmong image es states (table_of r.table) r.refusal → IsFirstRefusal image cuts r
-is_first image cuts es states r is before among = by_whole before.whole
-  where
-    here : IsRefusedAmong image (edges_in cuts) states (table_of r.table) r.refusal
-    here = subst (λ xs. IsRefusedAmong image xs states (table_of r.table) r.refusal) is among
-
-    by_whole : (states ≡ before.table) ⊎ ((next : Table) × (pass image cuts before.table ≡ Ok next)) → IsFirstRefusal image cuts r
-    by_whole (inl same) = record { table = before.table; comes = before.comes; among = subst (λ t. IsRefusedAmong image (edges_in cuts) t (table_of r.table) r.refusal) same here }
-    by_whole (inr (next, goes)) = absurd (let no : Err (Refused r.refusal.code r.refusal.place) ≡ Ok next = sym (refused_along image (edges_in cuts) states (table_of r.table) r.refusal here) ∙ before.same ∙ goes in cc)
+pub is_first : (image : ImageValue) (cuts : List Cut) (es : List (Placed × Edge)) (states : Table) (r : FirstRefusal) → es ≡ edges_in cuts → IsBefore image cuts r.passes states → IsRefusedAmong image es states (table_of r.table.items) r.refusal → IsFirstRefusal image cuts r
+is_first image cuts es states r is before among = record {
+  number = before.number;
+  counted = before.count;
+  table = states;
+  comes = before.comes;
+  among = subst (λ xs. IsRefusedAmong image xs states (table_of r.table.items) r.refusal) is among;
+}
 
 pub is_verdict : (image : ImageValue) (cuts : List Cut) (r : FirstRefusal) → IsFirstRefusal image cuts r → IsVerdict image cuts (Err (Refused r.refusal.code r.refusal.place))
 is_verdict image cuts r first = record {
-  number = suc r.passes;
-  comes = ap (λ q. q >>= pass image cuts) first.comes ∙ refused_along image (edges_in cuts) first.table (table_of r.table) r.refusal first.among;
+  number = suc first.number;
+  comes = ap (λ q. q >>= pass image cuts) first.comes ∙ refused_along image (edges_in cuts) first.table (table_of r.table.items) r.refusal first.among;
   stays = refl;
 }
+
+-- one that changes nothing
+pub stays_so : (image : ImageValue) (cuts : List Cut) (es : List (Placed × Edge)) (old new : List (Option State)) → es ≡ edges_in cuts → new ≡ old → along_edges image es (table_of old) ≡ Ok (table_of new) → pass image cuts (table_of new) ≡ Ok (table_of new)
+stays_so image cuts es old new is same goes = ap (λ l. pass image cuts (table_of l)) same ∙ sym (ap (λ xs. along_edges image xs (table_of old)) is) ∙ goes
+
+-- the passes that are left
+abbrev pub left_of : ImageValue → Bool → List (Option State) → ℕ
+left_of image true states = 1 + table_height image states
+left_of image false states = 0
+
+-- what a pass has left, where it was given all of a vector
+pub left_there : (items new : List (Option State)) (n : ℕ) → length items ≡ n → length new ≡ length items → take n (new ++ drop (length new) items) ≡ new
+left_there items new n whole long = written items new n (sym whole) long
+
+pub fewer_left : (image : ImageValue) (was changed : Bool) (old new now : List (Option State)) → was ≡ true → now ≡ new → Moves image changed old new → left_of image changed now < left_of image was old
+fewer_left image was true old new now is same moves = rw (is, same) (omega (arith, moves.falls refl))
+fewer_left image was false old new now is same moves = rw is (omega arith)
+
+pub is_settled : (image : ImageValue) (cuts : List Cut) (counted : ℕ) (states : Table) → IsBefore image cuts counted states → pass image cuts states ≡ Ok states → (table : Table) × IsVerdict image cuts (Ok table)
+is_settled image cuts counted states before stays = (states, record { number = before.number; comes = before.comes; stays = stays })
+
+-- a step after others
+pub moves_on : (image : ImageValue) (moved more : Bool) (first then_ last : List (Option State)) → Moves image moved first then_ → Moves image more then_ last → Moves image (moved || more) first last
+moves_on image true true first then_ last m n = record { sized = n.sized ∙ m.sized; stays = λ e. absurd (cc); falls = λ _. omega (arith, m.falls refl, n.falls refl) }
+moves_on image true false first then_ last m n = record { sized = n.sized ∙ m.sized; stays = λ e. absurd (cc); falls = λ _. (let e = ap (table_height image) (n.stays refl) in omega (arith, m.falls refl, e)) }
+moves_on image false true first then_ last m n = record { sized = n.sized ∙ m.sized; stays = λ e. absurd (cc); falls = λ _. (let e = ap (table_height image) (m.stays refl) in omega (arith, n.falls refl, e)) }
+moves_on image false false first then_ last m n = record { sized = n.sized ∙ m.sized; stays = λ _. n.stays refl ∙ m.stays refl; falls = λ e. absurd (cc) }

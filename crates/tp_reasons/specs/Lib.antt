@@ -4,4 +4,4 @@ pub mod CostsTold
 pub mod Told
 pub use Rattle.tp_check.specs.Passes
 pub use Rattle.tp_state.specs.After
-pub use Rattle.tp_check.specs.NearRefusal
+pub use Rattle.tp_check.specs.Tables

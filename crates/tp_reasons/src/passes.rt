@@ -1,65 +1,61 @@
-//! The passes up to the first refusal, the last of them over whole tables.
+//! The passes over whole tables, up to the first refusal.
 
-ghost use Rattle.std.specs.Prelude.{◌≡◌, ◌++◌, length, None, Err, IfOk, OnOk, OnErr, All};
+ghost use Rattle.std.specs.Prelude.{◌≡◌, ◌++◌, length, None, Ok, Err, IfOk, OnOk, OnErr, All};
 ghost use Rattle.tp_flow.specs.NestKept.{KeepsNest};
 ghost use Rattle.tp_flow.specs.NestRanges.{ranges};
 ghost use Rattle.tp_state.specs.Conditions.{HasGoodLoops};
 ghost use Rattle.tp_state.specs.declared.fault.StateFault.TheVariants.{Refused};
-ghost use Rattle.tp_check.specs.Tables.{asked, table_of, HasPlacedStates};
+ghost use Rattle.tp_check.specs.Tables.{Table, asked, table_of, HasPlacedStates};
 ghost use Rattle.tp_check.specs.Passes.{edges_in, edges_of, go_along, IsVerdict};
 ghost use Rattle.tp_check.specs.UnderWay.{MayBeTaken};
-ghost use Rattle.tp_check.specs.Rising.{Gives};
-ghost use Rattle.tp_check.specs.NearRefusal.{RefusesNothing, IfFound, EndsWith};
-ghost use Rattle.tp_reasons.specs.FirstRefusals.{IsFirstRefusal, EndsAs};
+ghost use Rattle.tp_check.specs.Rising.{Gives, Moves};
+ghost use Rattle.tp_reasons.specs.FirstRefusals.{IfFound, IsFirstRefusal, EndsAs};
 
 use crate::refusal::{EdgeRefusal, FirstRefusal};
 use std::alloc::{AllocError, Global};
-use tp_check::{KeptStates, NearRefusal, PassesEnd, near_refusal};
+use tp_check::{enter, first_states, places_of, state_at};
 use tp_decode::{Instr, Listing, Placed};
 use tp_flow::{Edge, Nest, edges};
 use tp_image::Image;
-use tp_state::{StateFault, after};
+use tp_state::{State, StateFault, after};
 
 /// An instruction, and an edge that its rule is asked on.
 type Asked = (Placed, Edge);
 
-/// What the verifier's passes over a code whose flow has passed come to: their first refusal with what is known then, or their
-/// table; or none, where 2^64 - 1 passes come to neither. All passes but the last two before a refusal carry one state, as the
-/// verifier's own do; those two are made over a whole table, with a state for each address of the code.
+/// The first refusal of the passes over a code whose flow has passed, with what is known then; none where a pass changes nothing, and
+/// the table is the verdict. The passes are the definition's, over a state for each address. They take longer than
+/// `tp_check::check_states`: some tenths of a second for a code whose author wants to be refused late.
 pub fn first_refusal(
     alloc: Global,
     image: &Image,
     listing: &Listing,
     nest: &Nest,
-) -> Result<Option<PassesEnd<FirstRefusal>>, AllocError>
+) -> Result<Option<FirstRefusal>, AllocError>
     requires kept { KeepsNest image.now.loops image.now.workspace listing.now }
     requires nest { nest.now ≡ ranges image.now.loops }
-    ensures first { IfFound result (EndsWith image.now listing.now (IsFirstRefusal image.now listing.now)) }
-    ensures verdict { IfFound result (EndsWith image.now listing.now
-        (λ r. IsVerdict image.now listing.now (Err (Refused r.refusal.code r.refusal.place)))) }
-    ensures placed { IfFound result
-        (EndsWith image.now listing.now (λ r. HasPlacedStates image.now (table_of r.table))) }
-    ensures none { IfOk result (λ found. found ≡ None → RefusesNothing image.now listing.now) }
+    ensures first { IfFound result (IsFirstRefusal image.now listing.now) }
+    ensures verdict { IfFound result
+        (λ r. IsVerdict image.now listing.now (Err (Refused r.refusal.code r.refusal.place))) }
+    ensures placed { IfFound result (λ r. HasPlacedStates image.now (table_of r.table.items)) }
+    ensures none { IfOk result
+        (λ found. found ≡ None → (table : Table) × IsVerdict image.now listing.now (Ok table)) }
 {
-    let near = match near_refusal(alloc, image, listing, nest)? {
-        None => return Ok(None),
-        Some(PassesEnd::Settled) => return Ok(Some(PassesEnd::Settled)),
-        Some(PassesEnd::Refused(near)) => near,
-    };
-    let NearRefusal {
-        passes: made,
-        states,
-    } = near;
     let asked = edges_of_code(alloc, listing)?;
-    let mut table = states;
-    for passes in made..u64::MAX {
-        if let Some(refusal) = pass(alloc, image, nest, &asked, &mut table)? {
-            return Ok(Some(PassesEnd::Refused(FirstRefusal {
-                passes,
-                refusal,
-                table,
-            })));
+    let mut table = first_states(alloc, image, places_of(listing))?;
+    let mut passes = 0u64;
+    let mut is_changed = true;
+    while is_changed {
+        match pass(alloc, image, nest, &asked, &mut table)? {
+            Ok(changed) => is_changed = changed,
+            Err(refusal) => {
+                return Ok(Some(FirstRefusal {
+                    passes,
+                    refusal,
+                    table,
+                }));
+            }
         }
+        passes = passes.saturating_add(1);
     }
     Ok(None)
 }
@@ -97,14 +93,14 @@ pub(crate) fn asked(instr: Instr) -> &'static [Edge]
     }
 }
 
-/// One pass: each edge in turn, up to the first that is refused.
+/// One pass: each edge in turn, up to the first that is refused. It answers whether a state has changed, or with that refusal.
 fn pass(
     alloc: Global,
     image: &Image,
     nest: &Nest,
     asked: &[Asked],
-    table: &mut KeptStates,
-) -> Result<Option<EdgeRefusal>, AllocError>
+    table: &mut [Option<State>],
+) -> Result<Result<bool, EdgeRefusal>, AllocError>
     requires good { HasGoodLoops image.now }
     requires nest { nest.now ≡ ranges image.now.loops }
     requires places { All (λ e. MayBeTaken image.now (length table.old) e.0) asked.now }
@@ -112,12 +108,14 @@ fn pass(
     ensures sized { length table.new ≡ length table.old }
     ensures placed { HasPlacedStates image.now (table_of table.new) }
     ensures ends { IfOk result (EndsAs image.now asked.now (table_of table.old) (table_of table.new)) }
+    ensures moves { IfOk result (λ ended. IfOk ended (λ moved. Moves image.now moved table.old table.new)) }
 {
+    let mut is_changed = false;
     for (instruction, edge) in asked {
         match take(alloc, image, nest, *instruction, *edge, table) {
-            Ok(_) => {}
+            Ok(changed) => is_changed |= changed,
             Err(StateFault::Refused { code, place }) => {
-                return Ok(Some(EdgeRefusal {
+                return Ok(Err(EdgeRefusal {
                     instruction: *instruction,
                     edge: *edge,
                     code,
@@ -127,7 +125,7 @@ fn pass(
             Err(StateFault::Memory) => return Err(AllocError),
         }
     }
-    Ok(None)
+    Ok(Ok(is_changed))
 }
 
 /// An edge is taken: where a state stands before its instruction, what is known after it comes to its target. It answers whether
@@ -138,7 +136,7 @@ fn take(
     nest: &Nest,
     instruction: Placed,
     edge: Edge,
-    table: &mut KeptStates,
+    table: &mut [Option<State>],
 ) -> Result<bool, StateFault>
     requires good { HasGoodLoops image.now }
     requires nest { nest.now ≡ ranges image.now.loops }
@@ -148,15 +146,16 @@ fn take(
     ensures placed { HasPlacedStates image.now (table_of table.new) }
     ensures gives { Gives result (table_of table.new)
         (go_along image.now instruction edge (table_of table.old instruction.at) (table_of table.old)) }
+    ensures moves { IfOk result (λ moved. Moves image.now moved table.old table.new) }
     ensures stays { OnErr result (table.new ≡ table.old) }
 {
     let Placed { at, instr, next } = instruction;
-    let Some(before) = table.state_at(alloc, at)? else {
+    let Some(before) = state_at(table, at) else {
         return Ok(false);
     };
-    let outcome = after(alloc, &before, at, next, instr, edge, image, nest)?;
+    let outcome = after(alloc, before, at, next, instr, edge, image, nest)?;
     match nest.target(at, next, instr, edge) {
-        Some(to) => table.enter(alloc, image, to, &outcome, false),
+        Some(to) => enter(alloc, table, to, &outcome, false),
         None => Ok(false),
     }
 }

@@ -1,9 +1,8 @@
 //! A refusal of the passes.
 
-use tp_check::KeptStates;
 use tp_decode::Placed;
 use tp_flow::Edge;
-use tp_state::StateCode;
+use tp_state::{State, StateCode};
 
 /// A refusal: the edge on which it comes, and what is refused.
 #[derive(Clone, Copy, Debug, PartialEq, Eq)]
@@ -21,10 +20,10 @@ pub struct EdgeRefusal {
 /// The first refusal of the passes, with what is known at that moment.
 #[derive(Drop)]
 pub struct FirstRefusal {
-    /// How many passes have refused nothing before.
+    /// How many passes have refused nothing before; 2^64 - 1 where there were more.
     pub passes: u64,
     /// The edge that is refused in the next one.
     pub refusal: EdgeRefusal,
-    /// What is known before the instructions when that edge is taken: by address.
-    pub table: KeptStates,
+    /// What is known before the instructions when that edge is taken: by address, in code bytes.
+    pub table: Vec<Option<State>>,
 }

@@ -15,7 +15,7 @@ use crate::telling::TellFault;
 use crate::written::{Finding, tell_written};
 use std::alloc::Global;
 use std::io::Write;
-use tp_check::KeptStates;
+use tp_check::state_at;
 use tp_decode::{Instr, Listing, Placed};
 use tp_flow::{Edge, Nest};
 use tp_image::{Image, LoopRow};
@@ -176,7 +176,7 @@ fn tell_arrival<W: Write>(
     alloc: Global,
     image: &Image,
     nest: &Nest,
-    table: &KeptStates,
+    table: &[Option<State>],
     place: Placed,
     edge: Edge,
     to: usize,
@@ -190,10 +190,10 @@ fn tell_arrival<W: Write>(
     if nest.target(at, next, instr, edge) != Some(to) {
         return Ok(());
     }
-    let Some(state) = table.state_at(alloc, at)? else {
+    let Some(state) = state_at(table, at) else {
         return Ok(());
     };
-    match after(alloc, &state, at, next, instr, edge, image, nest) {
+    match after(alloc, state, at, next, instr, edge, image, nest) {
         Ok(outcome) => {
             let name = name_of(edge);
             write!(writer, "from     {at} by {name}: ").map_err(|_| TellFault::Write)?;
@@ -210,7 +210,7 @@ fn tell_arrivals<W: Write>(
     image: &Image,
     listing: &Listing,
     nest: &Nest,
-    table: &KeptStates,
+    table: &[Option<State>],
     to: usize,
     writer: &mut W,
 ) -> Result<(), TellFault>
@@ -230,14 +230,13 @@ fn tell_arrivals<W: Write>(
 
 /// Writes where two edges may not meet what stands there already.
 fn tell_meeting<W: Write>(
-    alloc: Global,
-    table: &KeptStates,
+    table: &[Option<State>],
     refusal: &EdgeRefusal,
     writer: &mut W,
 ) -> Result<(), TellFault> {
     let place = refusal.place;
     let at = refusal.instruction.at;
-    let Some(there) = table.state_at(alloc, place)? else {
+    let Some(there) = state_at(table, place) else {
         return Ok(());
     };
     if place == at {
@@ -265,7 +264,7 @@ pub(crate) fn tell_state<W: Write>(
 ) -> Result<(), TellFault>
     requires good { HasGoodLoops image.now }
     requires nest { nest.now ≡ ranges image.now.loops }
-    requires placed { HasPlacedStates image.now (table_of found.now.table) }
+    requires placed { HasPlacedStates image.now (table_of found.now.table.items) }
 {
     let FirstRefusal {
         passes,
@@ -278,10 +277,10 @@ pub(crate) fn tell_state<W: Write>(
     let name = name_of(refusal.edge);
     let pass = passes.saturating_add(1);
     writeln!(writer, "asked    {wanted}").map_err(|_| TellFault::Write)?;
-    if let Some(before) = table.state_at(alloc, at)? {
-        tell_known(source, &before, image, nest, at, writer)?;
+    if let Some(before) = state_at(table, at) {
+        tell_known(source, before, image, nest, at, writer)?;
         if refusal.code == StateCode::S5 {
-            tell_loop(image, nest, refusal, &before, writer)?;
+            tell_loop(image, nest, refusal, before, writer)?;
         }
     }
     let finding = Finding {
@@ -292,7 +291,7 @@ pub(crate) fn tell_state<W: Write>(
         found,
     };
     tell_written(alloc, finding, writer)?;
-    tell_meeting(alloc, table, refusal, writer)?;
+    tell_meeting(table, refusal, writer)?;
     tell_arrivals(alloc, image, listing, nest, table, at, writer)?;
     writeln!(
         writer,

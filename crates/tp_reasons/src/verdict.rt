@@ -14,7 +14,6 @@ use crate::telling::TellFault;
 use std::alloc::Global;
 use std::io::Write;
 use tp_accept::{Refusal, RefusalCode, accept};
-use tp_check::PassesEnd;
 use tp_decode::{DecodeFault, Listing, decode};
 use tp_flow::check_flow;
 use tp_image::{Image, ImageFault, read_image};
@@ -130,9 +129,7 @@ fn tell_passes<W: Write>(
         return Ok(());
     };
     match first_refusal(alloc, image, listing, &nest)? {
-        Some(PassesEnd::Refused(found)) => {
-            tell_state(alloc, image, listing, &nest, source, &found, writer)
-        }
-        _ => Ok(()),
+        Some(found) => tell_state(alloc, image, listing, &nest, source, &found, writer),
+        None => Ok(()),
     }
 }

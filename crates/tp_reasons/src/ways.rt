@@ -3,6 +3,7 @@
 use crate::passes::edges_of_code;
 use crate::refusal::FirstRefusal;
 use std::alloc::{AllocError, Global};
+use tp_check::state_at;
 use tp_decode::{Listing, Placed};
 use tp_flow::{Edge, Nest};
 
@@ -28,7 +29,7 @@ pub(crate) fn ways_of(
         if found.passes == 0 && *from == refused.instruction && *edge == refused.edge {
             return Ok(ways);
         }
-        if found.table.has(from.at) {
+        if state_at(&found.table, from.at).is_some() {
             if let Some(to) = nest.target(from.at, from.next, from.instr, *edge) {
                 ways.push(Way {
                     from: *from,

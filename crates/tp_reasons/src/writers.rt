@@ -4,7 +4,7 @@ use crate::known::KnownRegister;
 use crate::ways::Way;
 use std::alloc::{AllocError, Global};
 use std::fmt;
-use tp_check::KeptStates;
+use tp_check::state_at;
 use tp_decode::{Instr, Placed};
 use tp_flow::{Edge, Nest};
 use tp_image::Image;
@@ -175,14 +175,14 @@ pub(crate) fn passages_of(
     alloc: Global,
     image: &Image,
     nest: &Nest,
-    table: &KeptStates,
+    table: &[Option<State>],
     ways: &[Way],
     word: usize,
 ) -> Result<Vec<Passage>, AllocError> {
     let mut passages = Vec::with_capacity(alloc, ways.len())?;
     for way in ways {
-        let wrote = match table.state_at(alloc, way.from.at)? {
-            Some(state) => written_by(image, nest, way.from, way.edge, &state, word),
+        let wrote = match state_at(table, way.from.at) {
+            Some(state) => written_by(image, nest, way.from, way.edge, state, word),
             None => None,
         };
         passages.push(Passage { way: *way, wrote })?;

@@ -8,6 +8,7 @@ use crate::ways::{Way, ways_of};
 use crate::writers::{Passage, Wrote, passages_of, same_before, written_by};
 use std::alloc::Global;
 use std::io::Write;
+use tp_check::state_at;
 use tp_decode::{Instr, Listing, Placed};
 use tp_flow::Nest;
 use tp_image::Image;
@@ -96,8 +97,8 @@ fn tell_register<W: Write>(
         instr,
         ..
     } = origin;
-    let read = match (instr, finding.found.table.state_at(alloc, from)?) {
-        (Instr::Ldl(n), Some(state)) => local_word(&state, n),
+    let read = match (instr, state_at(&finding.found.table, from)) {
+        (Instr::Ldl(n), Some(state)) => local_word(state, n),
         _ => None,
     };
     let Some(word) = read else {
@@ -191,20 +192,20 @@ pub(crate) fn tell_written<W: Write>(
 ) -> Result<(), TellFault> {
     let refusal = &finding.found.refusal;
     let at = refusal.instruction.at;
-    let Some(state) = finding.found.table.state_at(alloc, at)? else {
+    let Some(state) = state_at(&finding.found.table, at) else {
         return Ok(());
     };
     let ways = ways_of(alloc, finding.listing, finding.nest, finding.found)?;
     match (refusal.code, refusal.instruction.instr) {
-        (StateCode::S2, instr) => match wrong_register(instr, &state) {
+        (StateCode::S2, instr) => match wrong_register(instr, state) {
             Some(register) => tell_register(alloc, finding, &ways, register, output),
             None => Ok(()),
         },
-        (StateCode::S4, Instr::Ldl(n)) => match local_word(&state, n) {
+        (StateCode::S4, Instr::Ldl(n)) => match local_word(state, n) {
             Some(word) => tell_writers(alloc, finding, &ways, word, at, output),
             None => Ok(()),
         },
-        (StateCode::S5, _) => tell_block(alloc, finding, &ways, &state, output),
+        (StateCode::S5, _) => tell_block(alloc, finding, &ways, state, output),
         _ => Ok(()),
     }
 }

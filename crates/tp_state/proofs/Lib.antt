@@ -9,13 +9,11 @@ pub mod PlaneJoins
 pub mod PlaneValues
 pub mod SeenLemmas
 pub mod NoLoops
-pub mod StoredLemmas
 pub mod AgreeLemmas
 pub mod JoinLemmas
 pub mod OrderLemmas
 pub mod CellOrder
 pub mod StateOrder
-pub mod Alike
 pub mod FitsAbove
 pub mod EntryFits
 pub mod LiveCells

@@ -1,11 +1,7 @@
 -- Values that are compared, one after another.
-use Rattle.std.proofs.Common.{◌≡◌, ◌⊎◌, inl, inr, ℕ, ◌+◌, ◌-◌, ◌*◌, ◌^◌, ◌<◌, ◌≤◌, ◌==◌, nat_eq, Bool, true, false, not, ◌||◌, List, length, take, drop, get_or, bit_or, refl, sym, ap, ◌∙◌, arith}
-use Rattle.std.proofs.lemmas.Bool.{cases_lt, cases_eq}
-use Rattle.std.proofs.lemmas.Bool.Decides.{nat_tests, Decides-eqb}
-use Rattle.std.proofs.lemmas.List.{ext_get_or, get_or-drop, length-drop, take_all}
-use Rattle.std.proofs.lemmas.Slice.Eq.{slice_eq-Decides}
-use Rattle.std.specs.Bool.{Decides}
-use Rattle.std.specs.Cmp.Lexicographic.{pointwise}
+use Rattle.std.proofs.Common.{◌≡◌, ◌⊎◌, inl, inr, ℕ, ◌+◌, ◌^◌, ◌<◌, ◌≤◌, ◌==◌, Bool, true, false, not, ◌||◌, List, get_or, bit_or, refl, sym, ap, ◌∙◌, arith}
+use Rattle.std.proofs.lemmas.Bool.{cases_eq}
+use Rattle.std.proofs.lemmas.Bool.Decides.{nat_tests}
 use Rattle.tp_state.specs.Planes.{is_set}
 use Rattle.tp_state.proofs.PlaneBits.{set-or, set_one_same, set_one_other}
 
@@ -49,47 +45,3 @@ differ_more values others bits j h apart = record { told = λ k lt. told k lt (c
         let differ : not (get_or values k 0 == get_or others k 0) ≡ true = grind (arith, nat_tests) in
         ap (λ i. is_set (bit_or bits (2 ^ j)) i) here ∙ or_one_same bits j ∙ sym differ
     told k lt (inr other) = or_one_other bits j k other ∙ h.told k (omega (arith, lt, other))
-
--- ---- values that are told to be the same or not
-
-pub none_told : (n : ℕ) → not (n == 0) ≡ false → n ≡ 0
-none_told n e = grind (arith, nat_tests)
-
-pub some_told : (n : ℕ) → not (n == 0) ≡ true → 0 < n
-some_told n e = grind (arith, nat_tests)
-
-pub alike_at : (values others : List ℕ) (j : ℕ) → not (get_or values j 0 == get_or others j 0) ≡ false → get_or values j 0 ≡ get_or others j 0
-alike_at values others j e = grind (arith, nat_tests)
-
-pub apart_at : (values others : List ℕ) (j : ℕ) → not (get_or values j 0 == get_or others j 0) ≡ true → get_or values j 0 ≡ get_or others j 0 → ⊥
-apart_at values others j e same = grind (arith, nat_tests)
-
--- the first k are the same, and those from there on
-same_at : (values others : List ℕ) (k i : ℕ) → (i < k → get_or values i 0 ≡ get_or others i 0) → (k ≤ i → get_or (drop k values) (i - k) 0 ≡ get_or (drop k others) (i - k) 0) → get_or values i 0 ≡ get_or others i 0
-same_at values others k i below from = by_place (cases_lt i k)
-  where
-    by_place : (i < k) ⊎ (k ≤ i) → get_or values i 0 ≡ get_or others i 0
-    by_place (inl lt) = below lt
-    by_place (inr ge) =
-        let back : k + (i - k) ≡ i = omega (arith, ge) in
-        ap (λ n. get_or values n 0) (sym back) ∙ sym (get_or-drop k values (i - k) 0) ∙ from ge ∙ get_or-drop k others (i - k) 0 ∙ ap (λ n. get_or others n 0) back
-
--- the rest of a list from k on, as a part of a slice is
-abbrev rest_from : ℕ → List ℕ → List ℕ
-rest_from k values = take (length values - k) (drop k values)
-
-rest_is : (k : ℕ) (values : List ℕ) → rest_from k values ≡ drop k values
-rest_is k values = take_all (length values - k) (drop k values) (omega (arith, length-drop k values))
-
-pub same_more : (values others : List ℕ) (w : ℕ) → ((i : ℕ) → i < 64 * w → get_or values i 0 ≡ get_or others i 0) → ((j : ℕ) → j < 64 → get_or (take (length values - 64 * w) (drop (64 * w) values)) j 0 ≡ get_or (take (length others - 64 * w) (drop (64 * w) others)) j 0) → (i : ℕ) → i < 64 * (w + 1) → get_or values i 0 ≡ get_or others i 0
-same_more values others w before more i lt = same_at values others (64 * w) i (before i) from
-  where
-    from : 64 * w ≤ i → get_or (drop (64 * w) values) (i - 64 * w) 0 ≡ get_or (drop (64 * w) others) (i - 64 * w) 0
-    from ge = ap (λ l. get_or l (i - 64 * w) 0) (sym (rest_is (64 * w) values)) ∙ more (i - 64 * w) (omega (arith, lt, ge)) ∙ ap (λ l. get_or l (i - 64 * w) 0) (rest_is (64 * w) others)
-
-pub same_rest : (values others : List ℕ) (k : ℕ) (r : Bool) → length others ≡ length values → ((i : ℕ) → i < k → get_or values i 0 ≡ get_or others i 0) → r ≡ pointwise nat_eq (take (length values - k) (drop k values)) (take (length others - k) (drop k others)) → Decides r (values ≡ others)
-same_rest values others k r long before is =
-    let rest = slice_eq-Decides Decides-eqb (rest_from k values) (rest_from k others) r is in (
-      λ e. ext_get_or 0 values others (sym long) (λ i _. same_at values others k i (before i) (λ _. ap (λ l. get_or l (i - k) 0) (sym (rest_is k values) ∙ rest.0 e ∙ rest_is k others))),
-      λ same. rest.1 (ap (rest_from k) same),
-    )

@@ -13,7 +13,6 @@ pub mod Fits
 pub mod GoesOn
 pub mod Order
 pub mod Entry
-pub mod Stored
 pub mod StateCodes
 pub use Rattle.tp_flow.specs.Edges
 pub use Rattle.tp_flow.specs.AroundKept

@@ -1,7 +1,6 @@
 //! What is known of the words of a workspace.
 
 ghost use Rattle.std.specs.Prelude.{◌≡◌, ◌+◌, ◌≤◌, ◌<◌, length, map, replicate, take, drop, slice_set, min, IsTrue, IfOk, ◌++◌, ◌-◌, true, false};
-ghost use Rattle.std.specs.Bool.{Decides};
 ghost use Rattle.tp_state.specs.CellRules.{cell_at, cells_from, with_cells, are_free, are_defined, blurred, copied};
 ghost use Rattle.tp_state.specs.Rules.{are_apart};
 ghost use Rattle.tp_state.specs.Order.{joined_cells, TellsChange, AreBelow, OneIsNotBelow, AgreeOnValues};
@@ -10,10 +9,9 @@ ghost use Rattle.tp_state.specs.Entry.{first_cells};
 
 use crate::cell::Cell;
 use crate::planes::{
-    Bits, Kept, Planes, WORDS, all_defined, all_free, blur_all, copied_planes,
-    join_agreeing_planes, join_planes, planes_below, put_all, put_one, set_planes, whole_planes,
+    Bits, Kept, Planes, WORDS, all_defined, all_free, blur_all, copied_planes, join_planes,
+    planes_below, put_all, put_one, set_planes, whole_planes,
 };
-use crate::values::are_same;
 use std::alloc::{AllocError, Global};
 use std::marker::Model;
 use tp_image::Image;
@@ -115,7 +113,7 @@ impl Cells {
     }
 
     /// It takes the value of cells that say as much or less: a value that means something there stands here already.
-    pub(crate) fn rise_to(&mut self, others: &Cells)
+    pub(crate) fn raise_to(&mut self, others: &Cells)
         requires sized { length others.now ≡ length self.old }
         requires below { AreBelow self.old others.now }
         ensures { self.new ≡ others.now }
@@ -123,43 +121,11 @@ impl Cells {
         set_planes(&mut self.planes, &others.planes);
     }
 
-    /// The cells that planes and values tell of.
-    pub(crate) fn of_words(
-        alloc: Global,
-        values: &[u32],
-        planes: &Planes,
-    ) -> Result<Cells, AllocError>
-        requires { IsWhole values.now planes.now.items }
-        ensures { IfOk result (λ cells. cells ≡ seen values.now planes.now.items) }
-    {
-        let values = Vec::from_slice(alloc, values)?;
-        let planes = copied_planes(planes);
-        Ok(Cells { values, planes })
-    }
-
-    /// It takes the value of cells that planes and values tell of, of as many words.
-    pub(crate) fn set_to_words(&mut self, values: &[u32], planes: &Planes)
-        requires whole { IsWhole values.now planes.now.items }
-        requires sized { length values.now ≡ length self.old }
-        ensures { self.new ≡ seen values.now planes.now.items }
-    {
-        set_words(&mut self.values, &mut self.planes, values, planes);
-    }
-
-    /// The same of cells that say as much or less: a value that means something there stands here already.
-    pub(crate) fn rise_to_words(&mut self, values: &[u32], planes: &Planes)
-        requires whole { IsWhole values.now planes.now.items }
-        requires sized { length values.now ≡ length self.old }
-        requires below { AreBelow self.old (seen values.now planes.now.items) }
-        ensures { self.new ≡ seen values.now planes.now.items }
-    {
-        let _ = values;
-        set_planes(&mut self.planes, planes);
-    }
-
-    /// What holds of both, word by word. It answers whether anything changed.
-    pub(crate) fn join(&mut self, others: &Cells) -> bool
-        requires { length others.now ≡ length self.old }
+    /// What holds of both, word by word. Where words that have a value in both are known to have the same, no value is looked
+    /// at. It answers whether anything changed.
+    pub(crate) fn join(&mut self, others: &Cells, agree: bool) -> bool
+        requires sized { length others.now ≡ length self.old }
+        requires agree { agree ≡ true → AgreeOnValues self.old others.now }
         ensures value { self.new ≡ joined_cells self.old others.now }
         ensures changed { TellsChange result self.old self.new }
     {
@@ -168,22 +134,7 @@ impl Cells {
             &mut self.planes,
             &others.values,
             &others.planes,
-        )
-    }
-
-    /// What holds of both, word by word, where words that have a value in both have the same. It answers whether anything
-    /// changed.
-    pub(crate) fn join_agreeing(&mut self, others: &Cells) -> bool
-        requires sized { length others.now ≡ length self.old }
-        requires agree { AgreeOnValues self.old others.now }
-        ensures value { self.new ≡ joined_cells self.old others.now }
-        ensures changed { TellsChange result self.old self.new }
-    {
-        join_agreeing_words(
-            &self.values,
-            &mut self.planes,
-            &others.values,
-            &others.planes,
+            agree,
         )
     }
 
@@ -298,56 +249,26 @@ fn first_values(alloc: Global, initial: &[u32], words: usize) -> Result<Vec<u32>
     Ok(values)
 }
 
-/// Whether words are kept alike. Then they are the same, and the converse does not hold, since some values mean nothing.
-#[inline(always)]
-fn are_kept_alike(values: &[u32], planes: &[Bits], other_values: &[u32], others: &[Bits]) -> bool
-    requires { length other_values.now ≡ length values.now }
-    ensures { Decides result ((planes.now ≡ others.now) × (values.now ≡ other_values.now)) }
-{
-    planes == others && are_same(values, other_values)
-}
-
-/// What holds of both, word by word. It answers whether anything changed. Most that meet are alike, so this is asked first.
-#[tactic(auto, using(crate::proofs::SeenLemmas::length_seen))]
-pub(crate) fn join_words(
-    values: &[u32],
-    planes: &mut [Bits],
-    other_values: &[u32],
-    others: &[Bits],
-) -> bool
-    requires whole { IsWhole values.now planes.old }
-    requires others { IsWhole other_values.now others.now }
-    requires long { length (seen other_values.now others.now) ≡ length (seen values.now planes.old) }
-    ensures whole { IsWhole values.now planes.new }
-    ensures value { seen values.now planes.new ≡
-        joined_cells (seen values.now planes.old) (seen other_values.now others.now) }
-    ensures changed { TellsChange result (seen values.now planes.old) (seen values.now planes.new) }
-{
-    if are_kept_alike(values, planes, other_values, others) {
-        return false;
-    }
-    join_planes(planes, others, values, other_values)
-}
-
-/// What holds of both, word by word, where words that have a value in both have the same: no value is looked at. It
+/// What holds of both, word by word. Where words that have a value in both are known to have the same, no value is looked at. It
 /// answers whether anything changed.
 #[tactic(auto, using(crate::proofs::SeenLemmas::length_seen))]
-pub(crate) fn join_agreeing_words(
+fn join_words(
     values: &[u32],
     planes: &mut [Bits],
     other_values: &[u32],
     others: &[Bits],
+    agree: bool,
 ) -> bool
     requires whole { IsWhole values.now planes.old }
     requires others { IsWhole other_values.now others.now }
     requires long { length (seen other_values.now others.now) ≡ length (seen values.now planes.old) }
-    requires agree { AgreeOnValues (seen values.now planes.old) (seen other_values.now others.now) }
+    requires agree { agree ≡ true → AgreeOnValues (seen values.now planes.old) (seen other_values.now others.now) }
     ensures whole { IsWhole values.now planes.new }
     ensures value { seen values.now planes.new ≡
         joined_cells (seen values.now planes.old) (seen other_values.now others.now) }
     ensures changed { TellsChange result (seen values.now planes.old) (seen values.now planes.new) }
 {
-    join_agreeing_planes(planes, others)
+    join_planes(planes, others, values, other_values, agree)
 }
 
 /// Whether each word says as much as the other's of the same number or more.
@@ -359,9 +280,6 @@ fn words_below(values: &[u32], planes: &[Bits], other_values: &[u32], others: &[
     ensures yes { result ≡ true → AreBelow (seen values.now planes.now) (seen other_values.now others.now) }
     ensures no { result ≡ false → OneIsNotBelow (seen values.now planes.now) (seen other_values.now others.now) }
 {
-    if are_kept_alike(values, planes, other_values, others) {
-        return true;
-    }
     planes_below(planes, others, values, other_values)
 }
 

@@ -15,8 +15,6 @@ mod planes;
 mod ranges;
 mod rules;
 mod state;
-mod states;
-mod stored;
 mod values;
 
 pub use cell::Cell;
@@ -25,4 +23,3 @@ pub use fault::{StateCode, StateFault};
 pub use kind::Kind;
 pub use outcome::after;
 pub use state::State;
-pub use states::States;

@@ -344,41 +344,31 @@ pub(crate) fn set_planes(planes: &mut [Bits], others: &[Bits])
     planes.copy_from_slice(others);
 }
 
-/// What holds of both, word by word. It answers whether anything changed.
+/// What holds of both, word by word. Where words that have a value in both are known to have the same, no value is looked at. It
+/// answers whether anything changed.
 pub(crate) fn join_planes(
     planes: &mut [Bits],
     others: &[Bits],
     values: &[u32],
     other_values: &[u32],
+    agree: bool,
 ) -> bool
     requires planes { length others.now ≡ length planes.old }
     requires values { length other_values.now ≡ length values.now }
     requires whole { IsWhole values.now planes.old }
+    requires agree { agree ≡ true → Agree values.now other_values.now planes.old others.now }
     ensures joined { TakesJoins values.now other_values.now planes.old others.now planes.new }
     ensures stays { result ≡ false → planes.new ≡ planes.old }
     ensures moves { result ≡ true → OneChanges values.now planes.old planes.new }
 {
     let mut moved = 0;
     for w in 0..planes.len() {
-        let differ = differing(values, other_values, w, planes[w].closed(others[w]));
+        let differ = if agree {
+            0
+        } else {
+            differing(values, other_values, w, planes[w].closed(others[w]))
+        };
         moved |= join_bits(&mut planes[w], others[w], differ);
-    }
-    moved != 0
-}
-
-/// What holds of both, word by word, where words that have a value in both have the same: no value is looked at. It
-/// answers whether anything changed.
-pub(crate) fn join_agreeing_planes(planes: &mut [Bits], others: &[Bits]) -> bool
-    requires { length others.now ≡ length planes.old }
-    ensures joined { (values other_values : List ℕ) → Agree values other_values planes.old others.now →
-        TakesJoins values other_values planes.old others.now planes.new }
-    ensures stays { result ≡ false → planes.new ≡ planes.old }
-    ensures moves { result ≡ true → (values other_values : List ℕ) → Agree values other_values planes.old others.now →
-        OneChanges values planes.old planes.new }
-{
-    let mut moved = 0;
-    for w in 0..planes.len() {
-        moved |= join_bits(&mut planes[w], others[w], 0);
     }
     moved != 0
 }

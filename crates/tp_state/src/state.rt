@@ -3,7 +3,7 @@
 ghost use Rattle.std.specs.Prelude.{◌≡◌, ◌≤◌, ◌<◌, length, IfOk, OnErr, true, false};
 ghost use Rattle.tp_state.specs.Answer.{answered};
 ghost use Rattle.tp_state.specs.Conditions.{KeepsPlace, IsPlaced};
-ghost use Rattle.tp_state.specs.Order.{IsBelow, join, join_kinds, meeting, TellsChange};
+ghost use Rattle.tp_state.specs.Order.{AgreeOnValues, IsBelow, join, join_kinds, meeting, TellsChange};
 ghost use Rattle.tp_state.specs.Entry.{entry};
 ghost use Rattle.tp_state.specs.Rules.{push, pop, pop_two, set_areg, give, no_registers, one_number, two_numbers, local, below_wptr, given_way, descheduled};
 ghost use Rattle.tp_state.specs.CellRules.{are_free};
@@ -82,14 +82,14 @@ impl State {
 
     /// It takes the value of a state that says as much or less. It takes no memory, and no word's value is copied: a word
     /// that has a value there has it here.
-    pub fn rise_to(&mut self, other: &State)
+    pub fn raise_to(&mut self, other: &State)
         requires { IsBelow self.old other.now }
         ensures { self.new ≡ other.now }
     {
         self.a = other.a;
         self.b = other.b;
         self.c = other.c;
-        self.cells.rise_to(&other.cells);
+        self.cells.raise_to(&other.cells);
     }
 
     /// A law: the ends of its registers' ranges are words.
@@ -117,18 +117,17 @@ impl State {
         if self.phase != other.phase {
             return Err(StateCode::S9);
         }
-        Ok(self.join_known(other))
+        Ok(self.join_known(other, false))
     }
 
     /// What holds of both states, where some state is below both: the state itself takes it. They meet, and a word that has
     /// a value in both has one, so no values are compared. It answers whether anything changed. It takes no memory.
-    pub fn join_agreeing(&mut self, other: &State) -> bool
+    pub fn join_compatible(&mut self, other: &State) -> bool
         requires { (t : State) × IsBelow t self.old × IsBelow t other.now }
         ensures value { self.new ≡ join self.old other.now }
         ensures changed { TellsChange result self.old self.new }
     {
-        let cells = self.cells.join_agreeing(&other.cells);
-        self.join_registers(other) || cells
+        self.join_known(other, true)
     }
 
     /// Whether the state says as much as the other or more.
@@ -145,13 +144,15 @@ impl State {
             && self.cells.are_below(&other.cells)
     }
 
-    /// What holds of both, of registers and words.
-    fn join_known(&mut self, other: &State) -> bool
-        requires { length other.now.cells ≡ length self.old.cells }
+    /// What holds of both, of registers and words. Where words that have a value in both are known to have the same, no value
+    /// is looked at.
+    fn join_known(&mut self, other: &State, agree: bool) -> bool
+        requires sized { length other.now.cells ≡ length self.old.cells }
+        requires agree { agree ≡ true → AgreeOnValues self.old.cells other.now.cells }
         ensures value { self.new ≡ join self.old other.now }
         ensures changed { TellsChange result self.old self.new }
     {
-        let cells = self.cells.join(&other.cells);
+        let cells = self.cells.join(&other.cells, agree);
         self.join_registers(other) || cells
     }
 

@@ -1,37 +1,10 @@
 //! The values that are kept of words, one beside another.
 
 ghost use Rattle.std.specs.Prelude.{◌≡◌, ℕ, ◌+◌, ◌*◌, ◌<◌, ◌≤◌, ◌==◌, true, false, not, length, slice_index_or};
-ghost use Rattle.std.specs.Bool.{Decides};
 ghost use Rattle.tp_state.specs.Planes.{is_set, differ_at};
 
 use crate::planes::{WORDS, one};
 use std::simd::prelude::*;
-
-/// Whether all values are the same.
-#[inline(never)]
-pub(crate) fn are_same(values: &[u32], others: &[u32]) -> bool
-    requires { length others.now ≡ length values.now }
-    ensures { Decides result (values.now ≡ others.now) }
-{
-    let whole = values.len() / WORDS;
-    for w in 0..whole {
-        if word_differs(&values[WORDS * w..], &others[WORDS * w..]) {
-            return false;
-        }
-    }
-    values[WORDS * whole..] == others[WORDS * whole..]
-}
-
-/// Whether any of the first 64 values differ.
-fn word_differs(values: &[u32], others: &[u32]) -> bool
-    requires values { 64 ≤ length values.now }
-    requires others { 64 ≤ length others.now }
-    ensures yes { result ≡ true → (j : ℕ) × (j < 64)
-        × ¬ (slice_index_or values.now j 0 ≡ slice_index_or others.now j 0) }
-    ensures no { result ≡ false → (j : ℕ) → j < 64 → slice_index_or values.now j 0 ≡ slice_index_or others.now j 0 }
-{
-    differing_word(values, others) != 0
-}
 
 /// Which values differ, of those that word w of a plane tells of; of those whose bits are set in a mask nothing is told.
 pub(crate) fn differing(values: &[u32], others: &[u32], w: usize, closed: u64) -> u64

@@ -1,32 +1,63 @@
-use Rattle.std.proofs.Common.{length, ◌∙◌, subst, arith}
+use Rattle.std.proofs.Common.{◌≡◌, length, Ok, Err, sym, ap, ◌∙◌, subst}
+use Rattle.std.specs.Prelude.{IfOk}
+use Rattle.tp_check.specs.Rising.{Moves}
+use Rattle.tp_check.specs.Passes.{edges_in}
 use Rattle.tp_check.specs.Tables.{table_of}
-use Rattle.tp_check.proofs.LastQuiet.{all_counted}
 use Rattle.tp_reasons.specs.FirstRefusals.{EndsAs}
-use Rattle.tp_reasons.proofs.Passing.{taken_there, one_more, is_first, is_verdict}
+use Rattle.tp_reasons.proofs.Passing.{taken_there, none_made, one_more, is_first, is_verdict, is_settled, stays_so, fewer_left, left_there}
 use Rattle.tp_reasons.proofs.passes.first_refusal.Goals as goal
 
 pub pass-requires-clause-places : goal.pass-requires-clause-places
 pass-requires-clause-places c =
-    taken_there c.args.image.now c.args.listing.now (length c.loop-passes.table) c.requires.kept c.loop-passes.invariant.inside c.deref.result.now (c.deref.ensures.value ∙ c.in_ok-asked.ensures)
+    rw c.deref_mut.ensures.value
+    (taken_there c.args.image.now c.args.listing.now (length c.loop-is_changed.table.items) c.requires.kept c.loop-is_changed.invariant.inside c.deref.result.now (c.deref.ensures.value ∙ c.in_ok-asked.ensures))
 
-pub returns-in-Some-clause-first : goal.returns-in-Some-clause-first
-returns-in-Some-clause-first c =
-    is_first c.args.image.now c.args.listing.now c.deref.result.now (table_of c.loop-passes.table) _ (c.deref.ensures.value ∙ c.in_ok-asked.ensures) c.loop-passes.invariant.before
-    (subst (EndsAs c.args.image.now c.deref.result.now (table_of c.loop-passes.table) (table_of c.pass.new.table)) c.in-Some.is c.in_ok-refusal.ensures.ends)
+pub pass-requires-clause-placed : goal.pass-requires-clause-placed
+pass-requires-clause-placed c = rw c.deref_mut.ensures.value c.loop-is_changed.invariant.placed
 
-pub returns-in-Some-clause-verdict : goal.returns-in-Some-clause-verdict
-returns-in-Some-clause-verdict c = is_verdict c.args.image.now c.args.listing.now _ (returns-in-Some-clause-first c)
-
-pub loop-passes-preserved : goal.loop-passes-preserved
-loop-passes-preserved c = record {
-  inside = λ at starts. rw c.in_ok-refusal.ensures.sized (c.loop-passes.invariant.inside at starts);
-  placed = c.in_ok-refusal.ensures.placed;
-  before =
-      one_more c.args.image.now c.args.listing.now c.loop-passes.passes c.deref.result.now (table_of c.loop-passes.table) (table_of c.pass.new.table) (c.deref.ensures.value ∙ c.in_ok-asked.ensures) c.loop-passes.invariant.before
-      (subst (EndsAs c.args.image.now c.deref.result.now (table_of c.loop-passes.table) (table_of c.pass.new.table)) c.in_default.is c.in_ok-refusal.ensures.ends);
+pub loop-is_changed-init : goal.loop-is_changed-init
+loop-is_changed-init c = record {
+  inside = λ at starts. rw c.in_ok-table.ensures.sized (c.places_of.ensures.all at starts);
+  placed = c.in_ok-table.ensures.placed;
+  before = none_made c.args.image.now c.args.listing.now (table_of c.in_ok-table.table.items) c.in_ok-table.ensures.value;
+  stays = λ e. absurd (cc);
 }
 
+pub loop-is_changed-preserved : goal.loop-is_changed-preserved
+loop-is_changed-preserved c =
+    rw (left_there c.loop-is_changed.table.items c.pass.new.table c.loop-is_changed.table.len (sym (ap length c.deref_mut.ensures.value) ∙ c.deref_mut.ensures.len) (c.in_ok-changed.ensures.sized ∙ ap length c.deref_mut.ensures.value))
+    (record {
+      inside = λ at starts. rw (c.in_ok-changed.ensures.sized ∙ ap length c.deref_mut.ensures.value) (c.loop-is_changed.invariant.inside at starts);
+      placed = c.in_ok-changed.ensures.placed;
+      before = one_more c.args.image.now c.args.listing.now c.loop-is_changed.passes c.saturating_add-passes.result c.deref.result.now (table_of c.loop-is_changed.table.items) (table_of c.pass.new.table) c.saturating_add-passes.ensures all c.loop-is_changed.invariant.before ends;
+      stays = λ e. stays_so c.args.image.now c.args.listing.now c.deref.result.now c.loop-is_changed.table.items c.pass.new.table all (moves.stays e) ends;
+    })
+  where
+    all : c.deref.result.now ≡ edges_in c.args.listing.now
+    all = c.deref.ensures.value ∙ c.in_ok-asked.ensures
+
+    ends : EndsAs c.args.image.now c.deref.result.now (table_of c.loop-is_changed.table.items) (table_of c.pass.new.table) (Ok c.in-Ok.changed)
+    ends = subst (λ items. EndsAs c.args.image.now c.deref.result.now (table_of items) (table_of c.pass.new.table) (Ok c.in-Ok.changed)) c.deref_mut.ensures.value (subst (EndsAs c.args.image.now c.deref.result.now (table_of c.deref_mut.result.now) (table_of c.pass.new.table)) c.in-Ok.is c.in_ok-changed.ensures.ends)
+
+    moves : Moves c.args.image.now c.in-Ok.changed c.loop-is_changed.table.items c.pass.new.table
+    moves = subst (λ items. Moves c.args.image.now c.in-Ok.changed items c.pass.new.table) c.deref_mut.ensures.value (subst (λ r. IfOk r (λ moved. Moves c.args.image.now moved c.deref_mut.result.now c.pass.new.table)) c.in-Ok.is c.in_ok-changed.ensures.moves)
+
+pub loop-is_changed-smaller : goal.loop-is_changed-smaller
+loop-is_changed-smaller c =
+    fewer_left c.args.image.now c.loop-is_changed.is_changed c.in-Ok.changed c.loop-is_changed.table.items c.pass.new.table _ c.loop-is_changed-test.true (left_there c.loop-is_changed.table.items c.pass.new.table c.loop-is_changed.table.len (sym (ap length c.deref_mut.ensures.value) ∙ c.deref_mut.ensures.len) (c.in_ok-changed.ensures.sized ∙ ap length c.deref_mut.ensures.value))
+    (subst (λ items. Moves c.args.image.now c.in-Ok.changed items c.pass.new.table) c.deref_mut.ensures.value (subst (λ r. IfOk r (λ moved. Moves c.args.image.now moved c.deref_mut.result.now c.pass.new.table)) c.in-Ok.is c.in_ok-changed.ensures.moves))
+
+pub returns-in-Err-clause-first : goal.returns-in-Err-clause-first
+returns-in-Err-clause-first c =
+    is_first c.args.image.now c.args.listing.now c.deref.result.now (table_of c.loop-is_changed.table.items) _ (c.deref.ensures.value ∙ c.in_ok-asked.ensures) c.loop-is_changed.invariant.before
+    (rw (left_there c.loop-is_changed.table.items c.pass.new.table c.loop-is_changed.table.len (sym (ap length c.deref_mut.ensures.value) ∙ c.deref_mut.ensures.len) (c.in_ok-changed.ensures.sized ∙ ap length c.deref_mut.ensures.value))
+    (subst (λ items. EndsAs c.args.image.now c.deref.result.now (table_of items) (table_of c.pass.new.table) (Err c.in-Err.refusal)) c.deref_mut.ensures.value (subst (EndsAs c.args.image.now c.deref.result.now (table_of c.deref_mut.result.now) (table_of c.pass.new.table)) c.in-Err.is c.in_ok-changed.ensures.ends)))
+
+pub returns-in-Err-clause-verdict : goal.returns-in-Err-clause-verdict
+returns-in-Err-clause-verdict c = is_verdict c.args.image.now c.args.listing.now _ (returns-in-Err-clause-first c)
+
+pub returns-in-Err-clause-placed : goal.returns-in-Err-clause-placed
+returns-in-Err-clause-placed c = rw (left_there c.loop-is_changed.table.items c.pass.new.table c.loop-is_changed.table.len (sym (ap length c.deref_mut.ensures.value) ∙ c.deref_mut.ensures.len) (c.in_ok-changed.ensures.sized ∙ ap length c.deref_mut.ensures.value)) c.in_ok-changed.ensures.placed
+
 pub returns-clause-none : goal.returns-clause-none
-returns-clause-none c none =
-    let before = c.loop-passes.invariant.before in
-    all_counted c.args.image.now c.args.listing.now c.loop-passes.passes before.table (omega (arith, c.loop-passes-test.false)) before.comes
+returns-clause-none c _ = is_settled c.args.image.now c.args.listing.now c.loop-is_changed.passes (table_of c.loop-is_changed.table.items) c.loop-is_changed.invariant.before (c.loop-is_changed.invariant.stays c.loop-is_changed-test.false)

@@ -1,6 +1,6 @@
-use Rattle.std.proofs.Common.{◌<◌, length, ◌∙◌, arith}
+use Rattle.std.proofs.Common.{◌<◌, length, arith}
 use Rattle.tp_check.specs.Tables.{table_of}
-use Rattle.tp_reasons.proofs.Passing.{one_on, refused_in, read_any, is_refused}
+use Rattle.tp_reasons.proofs.Passing.{one_on, refused_in, read_any, is_refused, moves_on}
 use Rattle.tp_reasons.proofs.passes.pass.Goals as goal
 
 pub returns-in-Err-Refused-clause-ends : goal.returns-in-Err-Refused-clause-ends
@@ -12,8 +12,8 @@ returns-in-Err-Refused-clause-ends c =
 
 pub loop-instruction-preserved : goal.loop-instruction-preserved
 loop-instruction-preserved c = record {
-  sized = c.in-Ok.ensures.sized ∙ c.loop-instruction.invariant.sized;
   placed = c.in-Ok.ensures.placed;
+  moves = moves_on c.args.image.now c.loop-instruction.is_changed c.in-Ok.changed c.args.table.now c.loop-instruction.table c.take.new.table c.loop-instruction.invariant.moves c.in-Ok.ensures.moves;
   comes = one_on c.args.image.now c.args.asked.now c.loop-instruction.instruction-index _ (table_of c.args.table.now) (table_of c.loop-instruction.table) (table_of c.take.new.table) inside (read_any c.args.asked.now c.loop-instruction.instruction-index _ inside) c.loop-instruction.invariant.comes c.in-Ok.ensures.gives;
 }
   where

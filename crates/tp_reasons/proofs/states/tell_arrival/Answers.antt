@@ -1,5 +1,4 @@
-use Rattle.std.proofs.Common.{sym, ◌∙◌}
 use Rattle.tp_reasons.proofs.states.tell_arrival.Goals as goal
 
 pub after-requires-clause-placed : goal.after-requires-clause-placed
-after-requires-clause-placed g c = c.requires.placed c.args.place.at c.in-Some.state (sym c.in_ok-state.ensures ∙ c.in-Some.is)
+after-requires-clause-placed g c = c.requires.placed c.args.place.at c.in-Some.state.now c.in-Some.ensures.some

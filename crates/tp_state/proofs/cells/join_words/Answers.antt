@@ -1,10 +1,12 @@
 use Rattle.std.proofs.Common.{◌≡◌, length, sym, ◌∙◌}
 use Rattle.tp_state.proofs.SeenLemmas.{length_seen, whole_joined, seen_joined, tells_seen}
-use Rattle.tp_state.proofs.Alike.{alike_joined}
+use Rattle.tp_state.proofs.AgreeLemmas.{agree_seen}
 use Rattle.tp_state.proofs.cells.join_words.Goals as goal
 
-pub returns-then-are_kept_alike-clause-value : goal.returns-then-are_kept_alike-clause-value
-returns-then-are_kept_alike-clause-value c = alike_joined c.args.values.now c.args.other_values.now c.args.planes.now c.args.others.now (c.are_kept_alike.ensures.0 c.if-are_kept_alike.true)
+pub join_planes-requires-clause-agree : goal.join_planes-requires-clause-agree
+join_planes-requires-clause-agree c e =
+    let long : length c.args.other_values.now ≡ length c.args.values.now = sym (length_seen c.args.other_values.now c.args.others.now) ∙ c.requires.long ∙ length_seen c.args.values.now c.args.planes.now in
+    agree_seen c.args.values.now c.args.other_values.now c.args.planes.now c.args.others.now c.requires.whole long (λ i. (c.type_inv.values i).fits) (λ i. (c.type_inv.other_values i).fits) (c.requires.agree e)
 
 pub returns-clause-whole : goal.returns-clause-whole
 returns-clause-whole c =

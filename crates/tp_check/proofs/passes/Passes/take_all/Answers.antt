@@ -13,7 +13,7 @@ use Rattle.tp_check.proofs.passes.Passes.take_all.Goals.{in-Some+in_ok-take+then
 pub loop-i-init : goal.loop-i-init
 loop-i-init c = record {
   gives = λ begun before. none_come c.args.image.now c.args.listing.now (joins_at c.args.ways.now) c.args.self.now begun before;
-  moves = moves_none c.args.image.now c.args.self.now.slots;
+  moves = moves_none c.args.image.now c.args.self.now.states.items;
 }
 
 pub take-requires-clause-place : goal.take-requires-clause-place
@@ -52,7 +52,7 @@ loop-i-preserved c =
             come_on c.args.image.now c.args.listing.now (joins_at c.args.ways.now) c.loop-i.i w.in-Some.place (sym w.in-Some.ensures) c.args.self.now c.loop-i.self begun on c.requires.kept.spelled w.take.new.self w.in_ok-take.field-0
             (w.in_ok-take.ensures.gives c.args.listing.now on.whole (stands_in c.args.listing.now c.loop-i.i w.in-Some.place c.requires.kept.spelled (sym w.in-Some.ensures)) c.requires.join
             (here_before c.args.image.now c.args.listing.now (joins_at c.args.ways.now) c.loop-i.i w.in-Some.place (sym w.in-Some.ensures) c.args.self.now c.loop-i.self begun on)));
-        moves = moves_more c.args.image.now c.args.self.now.slots c.loop-i.self.slots w.take.new.self.slots c.loop-i.moved c.loop-i.invariant.moves (subst (λ b. Moves c.args.image.now b c.loop-i.self.slots w.take.new.self.slots) w.if-branch.true w.in_ok-take.ensures.moves);
+        moves = moves_more c.args.image.now c.args.self.now.states.items c.loop-i.self.states.items w.take.new.self.states.items c.loop-i.moved c.loop-i.invariant.moves (subst (λ b. Moves c.args.image.now b c.loop-i.self.states.items w.take.new.self.states.items) w.if-branch.true w.in_ok-take.ensures.moves);
       }))
       | in-Some+in_ok-take+else-branch w ↦ (rw (w.self-is, w.moved-is) (record {
         gives = λ begun before. (
@@ -60,11 +60,11 @@ loop-i-preserved c =
             come_on c.args.image.now c.args.listing.now (joins_at c.args.ways.now) c.loop-i.i w.in-Some.place (sym w.in-Some.ensures) c.args.self.now c.loop-i.self begun on c.requires.kept.spelled w.take.new.self w.in_ok-take.field-0
             (w.in_ok-take.ensures.gives c.args.listing.now on.whole (stands_in c.args.listing.now c.loop-i.i w.in-Some.place c.requires.kept.spelled (sym w.in-Some.ensures)) c.requires.join
             (here_before c.args.image.now c.args.listing.now (joins_at c.args.ways.now) c.loop-i.i w.in-Some.place (sym w.in-Some.ensures) c.args.self.now c.loop-i.self begun on)));
-        moves = moves_no_more c.args.image.now c.args.self.now.slots c.loop-i.self.slots w.take.new.self.slots c.loop-i.moved c.loop-i.invariant.moves (subst (λ b. Moves c.args.image.now b c.loop-i.self.slots w.take.new.self.slots) w.if-branch.false w.in_ok-take.ensures.moves);
+        moves = moves_no_more c.args.image.now c.args.self.now.states.items c.loop-i.self.states.items w.take.new.self.states.items c.loop-i.moved c.loop-i.invariant.moves (subst (λ b. Moves c.args.image.now b c.loop-i.self.states.items w.take.new.self.states.items) w.if-branch.false w.in_ok-take.ensures.moves);
       }))
       | in_default w ↦ absurd (no_instruction c.args.listing.now c.loop-i.i (let e = c.len-i-end.ensures in let f = c.loop-i-test.true in omega (arith, e, f)) (sym w.in_default.ensures))
     ]
 
 pub returns-clause-gives : goal.returns-clause-gives
 returns-clause-gives c begun before =
-    come_all c.args.image.now c.args.listing.now (joins_at c.args.ways.now) c.args.self.now c.loop-i.self _ c.loop-i.i begun (let e = c.len-i-end.ensures in let f = c.loop-i-test.false in omega (arith, e, f)) (c.loop-i.invariant.gives begun before) refl refl refl refl refl refl c.loop-i.moved
+    come_all c.args.image.now c.args.listing.now (joins_at c.args.ways.now) c.args.self.now c.loop-i.self _ c.loop-i.i begun (let e = c.len-i-end.ensures in let f = c.loop-i-test.false in omega (arith, e, f)) (c.loop-i.invariant.gives begun before) refl refl refl refl refl c.loop-i.moved

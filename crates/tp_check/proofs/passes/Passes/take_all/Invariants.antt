@@ -8,5 +8,5 @@ use Rattle.tp_check.proofs.passes.Passes.take_all.Given as goal
 abbrev pub invariant-loop-i : goal.invariant-loop-i
 invariant-loop-i l = record {
   gives : (begun : Table) → IsBefore l.image l.listing (joins_at l.ways) l.initial.self 0 begun → Comes l.image l.listing (joins_at l.ways) l.initial.self l.self l.i begun;
-  moves : Moves l.image l.moved l.initial.self.slots l.self.slots;
+  moves : Moves l.image l.moved l.initial.self.states.items l.self.states.items;
 }
