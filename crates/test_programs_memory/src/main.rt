@@ -21,7 +21,7 @@ fn main(rt: HostRuntime) -> io::Result<()> {
     let text = bytes.get(..count).unwrap_or(&[]);
     spend_all_but(rt.alloc(), number_in(text));
     let tally = if text.first() == Some(&b't') {
-        tools::all(rt.alloc())
+        tools::all(&rt, rt.alloc())
     } else {
         daemon::all(&rt, rt.alloc())
     };

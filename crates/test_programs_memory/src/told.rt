@@ -38,7 +38,7 @@ pub struct Case<'a> {
 }
 
 /// The words of a command line are these at most.
-pub const CASES: [Case<'_>; 4] = [
+pub const CASES: [Case<'_>; 5] = [
     Case {
         words: &["tpw", "asm", "--line", "fib"],
         input: Text::Lines(FIBONACCI_TEXT),
@@ -55,6 +55,12 @@ pub const CASES: [Case<'_>; 4] = [
         words: &["tpw", "step", "--packet", "29000000", "--from", "12"],
         input: Text::Digits("", INCREMENT),
         told: Text::Lines(INCREMENT_STEPS),
+        status: 0,
+    },
+    Case {
+        words: &["tpw", "run", "--words", "10", "--members", "1"],
+        input: Text::Digits("", FIBONACCI),
+        told: Text::Lines("0  flag 0  575 of 1056  55\npackets 1, lost 0, steps 575 to 575 of 1056\n"),
         status: 0,
     },
     Case {

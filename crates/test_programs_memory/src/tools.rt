@@ -2,31 +2,45 @@
 
 use crate::told::{CASES, Case};
 use std::alloc::Global;
+use std::io::Eprint;
 use std::process::ExitCode;
+use std::rt::Files;
+use std::sync::Wait;
+use std::thread::Threads;
+use std::time::Clock;
 use tp_samples::answers::{Answer, Tally, same_if};
 use tp_samples::page::Page;
 use tp_samples::streams::Words;
-use tp_workbench::run;
+use tp_workbench::{Terminal, run};
 
-/// What a command answers, and how much it has written. After Memory that is how its text begins, and its fault is told.
-fn answer(alloc: Global, case: &Case<'_>) -> (Answer, usize) {
+/// What a command answers, and how much it has written. After Memory, and where a thread was refused for it, that is how its text
+/// begins, and its fault is told.
+fn answer<T>(rt: &T, alloc: Global, case: &Case<'_>) -> (Answer, usize)
+where
+    T: Files + Threads + Wait + Clock + Eprint + Sync,
+{
     let input = case.input.page();
     let mut input = input.written();
     let mut page = Page::new();
     let mut errors = Page::new();
+    let mut terminal = Terminal {
+        errors: &mut errors,
+        is_terminal: false,
+    };
     let status = run(
+        rt,
         &Words(case.words),
         alloc,
         &mut input,
         &mut page,
-        &mut errors,
+        &mut terminal,
     );
     let (written, fault) = (page.written(), errors.written());
     let told = case.told.page();
     let told = told.written();
     let answer = if fault.is_empty() {
         same_if(status == ExitCode::from(case.status) && written == told)
-    } else if fault == b"tpw: memory\n".as_slice()
+    } else if (fault == b"tpw: memory\n".as_slice() || fault == b"tpw: thread\n".as_slice())
         && status == ExitCode::from(1)
         && told.starts_with(written)
     {
@@ -38,10 +52,13 @@ fn answer(alloc: Global, case: &Case<'_>) -> (Answer, usize) {
 }
 
 /// Makes every call, and counts the answers.
-pub fn all(alloc: Global) -> Tally {
+pub fn all<T>(rt: &T, alloc: Global) -> Tally
+where
+    T: Files + Threads + Wait + Clock + Eprint + Sync,
+{
     let mut tally = Tally::new();
     for case in &CASES {
-        let (answer, written) = answer(alloc, case);
+        let (answer, written) = answer(rt, alloc, case);
         tally.add(answer);
         tally.written = tally.written.saturating_add(written);
     }

@@ -2,17 +2,34 @@
 
 use crate::asserts::{assert_same, unwrap};
 use std::alloc::{AllocError, Global};
-use std::io::{Read, Write};
+use std::io::{Eprint, Read, Write};
 use std::process::{Abort, ExitCode};
+use std::rt::Files;
+use std::sync::Wait;
+use std::thread::Threads;
+use std::time::Clock;
 use tp_samples::streams::{Broken, Ended, Unflushed, Words};
 use tp_samples::{FIBONACCI, INCREMENT};
 use tp_stepper::{End, Place};
-use tp_workbench::{Ending, Status, TextFault, bytes_of, place_of, run};
+use tp_workbench::{Ending, Status, Terminal, TextFault, bytes_of, place_of, run};
 
 /// Runs the program on a command line, a reader and a writer.
-fn ran<R: Read, W: Write>(alloc: Global, words: &[&str], input: &mut R, output: &mut W) -> Ended {
+fn ran<T, R: Read, W: Write>(
+    rt: &T,
+    alloc: Global,
+    words: &[&str],
+    input: &mut R,
+    output: &mut W,
+) -> Ended
+where
+    T: Files + Threads + Wait + Clock + Eprint + Sync,
+{
     let mut errors = Vec::new(alloc);
-    let status = run(&Words(words), alloc, input, output, &mut errors);
+    let mut terminal = Terminal {
+        errors: &mut errors,
+        is_terminal: false,
+    };
+    let status = run(rt, &Words(words), alloc, input, output, &mut terminal);
     Ended { status, errors }
 }
 
@@ -118,7 +135,7 @@ instead  send all its bytes; see that the header counts the rows, initial words 
     for (image, words, status, told) in cases {
         let mut output = Vec::new(rt.alloc());
         let mut input = image.as_bytes();
-        let ended = ran(rt.alloc(), words, &mut input, &mut output);
+        let ended = ran(&rt, rt.alloc(), words, &mut input, &mut output);
         let written = unwrap(&rt, str::from_utf8(&output));
         assert_same(&rt, &written, &told);
         assert_same(&rt, &ended.status, &ExitCode::from(status));
@@ -266,7 +283,7 @@ fn texts_and_images(rt: HostRuntime) {
     for (input, words, told) in cases {
         let mut output = Vec::new(rt.alloc());
         let mut input = input.as_bytes();
-        let ended = ran(rt.alloc(), words, &mut input, &mut output);
+        let ended = ran(&rt, rt.alloc(), words, &mut input, &mut output);
         let written = unwrap(&rt, str::from_utf8(&output));
         assert_same(&rt, &written, &told);
         assert_same(&rt, &ended.status, &ExitCode::SUCCESS);
@@ -304,7 +321,7 @@ fn refusals(rt: HostRuntime) {
             "zz",
             ["tpw", "step"].as_slice(),
             1,
-            "tpw: standard input: no hexadecimal digit in column 1\n",
+            "tpw: standard input:1:1: no hexadecimal digit\n",
         ),
         (
             "zz",
@@ -313,10 +330,22 @@ fn refusals(rt: HostRuntime) {
             "tpw: standard input:1:1: unknown instruction\n",
         ),
         (
+            "54505732\n1\rx",
+            ["tpw", "step"].as_slice(),
+            1,
+            "tpw: standard input:2:3: no hexadecimal digit\n",
+        ),
+        (
+            "",
+            ["tpw", "asm", "no/such/file.tps"].as_slice(),
+            1,
+            "no/such/file.tps: No such file or directory (os error 2)\n",
+        ),
+        (
             "5450573",
             ["tpw", "step"].as_slice(),
             1,
-            "tpw: standard input: the second digit of a byte is missing in column 8\n",
+            "tpw: standard input:1:8: the second digit of a byte is missing\n",
         ),
         (
             "54505732",
@@ -406,11 +435,128 @@ fn refusals(rt: HostRuntime) {
     for (input, words, status, told) in cases {
         let mut output = Vec::new(rt.alloc());
         let mut input = input.as_bytes();
-        let ended = ran(rt.alloc(), words, &mut input, &mut output);
+        let ended = ran(&rt, rt.alloc(), words, &mut input, &mut output);
         let errors = unwrap(&rt, str::from_utf8(&ended.errors));
         assert!(rt; errors.starts_with(told), "{errors}");
         assert_eq!(rt; ended.status, ExitCode::from(status), "{told}");
         assert!(rt; output.is_empty());
+    }
+}
+
+/// Sends 65 traces of a word, one more than is kept.
+const LOSES: &str = "packet 1\nresult 1\nlocal n\nreceive n\nfor i = 0 for 65\ntrace n\nend i\nsend n\nstopp\n";
+
+/// What becomes of packets that are run: lines, bytes alone, losses, and what ends a run before it begins.
+#[test]
+fn runs_packets(rt: HostRuntime) {
+    let increment = capitals(&rt, rt.alloc(), INCREMENT);
+    let fibonacci = capitals(&rt, rt.alloc(), FIBONACCI);
+    let cases = [
+        (
+            fibonacci.as_str(),
+            ["tpw", "run", "--words", "10", "--words", "0x2F", "--members", "2"].as_slice(),
+            0,
+            "\
+0  flag 0  575 of 1056  55
+1  flag 0  1056 of 1056  -1323752223
+packets 2, lost 0, steps 575 to 1056 of 1056
+",
+            "",
+        ),
+        (
+            fibonacci.as_str(),
+            ["tpw", "run", "--words=03000000", "--trace", "--hex"].as_slice(),
+            0,
+            "\
+0  flag 0  484 of 1056  02000000
+  trace 000000000100000001000000
+packets 1, lost 0, steps 484 to 484 of 1056
+",
+            "",
+        ),
+        (
+            increment.as_str(),
+            ["tpw", "run", "--words", "-1", "--words", "2147483647"].as_slice(),
+            0,
+            "\
+0  flag 0  16 of 16  0
+1  flag 1  16 of 16  -2147483648
+packets 2, lost 0, steps 16 to 16 of 16
+",
+            "",
+        ),
+        (
+            increment.as_str(),
+            ["tpw", "run", "--raw", "--words", "0x3534330a", "--words", "#0a343332"].as_slice(),
+            0,
+            "\u{b}345334\n",
+            "",
+        ),
+        (
+            LOSES,
+            ["tpw", "run", "--words", "1"].as_slice(),
+            1,
+            "0  LOST  its trace has more than 256 bytes\npackets 1, lost 1, steps at most 668\n",
+            "",
+        ),
+        (
+            LOSES,
+            ["tpw", "run", "--words", "1", "--raw"].as_slice(),
+            1,
+            "",
+            "packets 1, lost 1, steps at most 668\n",
+        ),
+        (
+            STUCK,
+            ["tpw", "run", "--words", "1"].as_slice(),
+            1,
+            "",
+            "\
+NO J5 1
+refused  control goes on behind the last instruction
+         0 41 ldc 1
+>        1 f5 add
+instead  end the code by stopp
+",
+        ),
+        (
+            increment.as_str(),
+            ["tpw", "run", "--words", "1 2"].as_slice(),
+            2,
+            "",
+            "error: invalid value for '--words <WORDS>': 1:1: a line of 1 words is wanted: numbers, or all in hexadecimal as they are sent\n",
+        ),
+        (
+            increment.as_str(),
+            ["tpw", "run", "--words", " 4294967296"].as_slice(),
+            2,
+            "",
+            "error: invalid value for '--words <WORDS>': 1:2: a number is wanted: decimal, #2A or 0x2A, of 32 bits\n",
+        ),
+        (
+            increment.as_str(),
+            ["tpw", "run"].as_slice(),
+            2,
+            "",
+            "error: no packets are given, by --words or --packets\n",
+        ),
+        (
+            increment.as_str(),
+            ["tpw", "run", "--packets", "no/such/file"].as_slice(),
+            1,
+            "",
+            "no/such/file: No such file or directory (os error 2)\n",
+        ),
+    ];
+    for (input, words, status, told, said) in cases {
+        let mut output = Vec::new(rt.alloc());
+        let mut input = input.as_bytes();
+        let ended = ran(&rt, rt.alloc(), words, &mut input, &mut output);
+        let written = unwrap(&rt, str::from_utf8(&output));
+        let errors = unwrap(&rt, str::from_utf8(&ended.errors));
+        assert_same(&rt, &written, &told);
+        assert_same(&rt, &errors, &said);
+        assert_same(&rt, &ended.status, &ExitCode::from(status));
     }
 }
 
@@ -423,6 +569,7 @@ Usage: tpw <COMMAND>
 Commands:
   asm   Makes an image of a text
   dis   Makes a text of an image
+  run   Runs packets on a worker, and writes each result
   step  Runs an image an instruction at a time, accepted by the verifier or not
   why   Judges an image as the verifier does, and tells why it is refused
   help  Print this message or the help of the given subcommand(s)
@@ -436,7 +583,10 @@ Options:
 const STEP_HELP: &str = "\
 Runs an image an instruction at a time, accepted by the verifier or not
 
-Usage: tpw step [OPTIONS]
+Usage: tpw step [OPTIONS] [FILE]
+
+Arguments:
+  [FILE]  Read in place of standard input
 
 Options:
       --packet <HEX>   The packet, as hexadecimal; an empty one where none is given
@@ -444,9 +594,9 @@ Options:
       --until <PLACE>  Where the run is left
   -h, --help           Print help
 
-Reads an image as hexadecimal on standard input: one line; line ends, and white space at the ends, are passed over.
+Reads an image as hexadecimal: one line; line ends, and white space at the ends, are passed over.
 A PLACE is an address, as 36 or 0x24, or a count of steps, as +100.
-Status 0: the worker stopped, or was left at --until. Status 1: it is stuck, or does not end, or standard input is no image.
+Status 0: the worker stopped, or was left at --until. Status 1: it is stuck, or does not end, or what is read is no image.
 docs/WORKERS.md reads a run.
 ";
 
@@ -454,13 +604,16 @@ docs/WORKERS.md reads a run.
 const WHY_HELP: &str = "\
 Judges an image as the verifier does, and tells why it is refused
 
-Usage: tpw why
+Usage: tpw why [FILE]
+
+Arguments:
+  [FILE]  Read in place of standard input
 
 Options:
   -h, --help  Print help
 
-Reads an image as hexadecimal on standard input, one line, or a worker as assembly text.
-Status 0: the image is accepted. Status 1: it is refused, or standard input says none.
+Reads an image as hexadecimal, one line, or a worker as assembly text.
+Status 0: the image is accepted. Status 1: it is refused, or what is read says none.
 docs/VERIFIER.md lists every refusal.
 ";
 
@@ -479,7 +632,7 @@ fn help_and_version(rt: HostRuntime) {
     ];
     for (words, answer) in cases {
         let mut output = Vec::new(rt.alloc());
-        let ended = ran(rt.alloc(), words, &mut Broken, &mut output);
+        let ended = ran(&rt, rt.alloc(), words, &mut Broken, &mut output);
         let written = unwrap(&rt, str::from_utf8(&output));
         assert_same(&rt, &written, &answer);
         assert_same(&rt, &ended.status, &ExitCode::SUCCESS);
@@ -490,10 +643,10 @@ fn help_and_version(rt: HostRuntime) {
 #[test]
 fn tells_a_failed_read(rt: HostRuntime) {
     let mut output = Vec::new(rt.alloc());
-    let ended = ran(rt.alloc(), &["tpw", "step"], &mut Broken, &mut output);
+    let ended = ran(&rt, rt.alloc(), &["tpw", "step"], &mut Broken, &mut output);
     assert_same(&rt, &ended.status, &ExitCode::from(1));
     assert!(rt; output.is_empty());
-    assert!(rt; ended.errors.as_slice() == b"tpw: read\n".as_slice());
+    assert!(rt; ended.errors.as_slice() == b"tpw: standard input: broken pipe\n".as_slice());
 }
 
 /// A run, help and the version where the output cannot be written, or not be flushed.
@@ -507,9 +660,9 @@ fn tells_a_failed_write(rt: HostRuntime) {
         ["tpw", "--version"].as_slice(),
     ] {
         let mut input = increment.as_bytes();
-        let broken = ran(rt.alloc(), words, &mut input, &mut Broken);
+        let broken = ran(&rt, rt.alloc(), words, &mut input, &mut Broken);
         let mut input = increment.as_bytes();
-        let unflushed = ran(rt.alloc(), words, &mut input, &mut Unflushed);
+        let unflushed = ran(&rt, rt.alloc(), words, &mut input, &mut Unflushed);
         for ended in [broken, unflushed] {
             assert_same(&rt, &ended.status, &ExitCode::from(1));
             assert!(rt; ended.errors.as_slice() == b"tpw: write\n".as_slice());
@@ -580,11 +733,6 @@ fn endings(rt: HostRuntime) {
         ),
         (
             Ending::from(clap::Error::from(AllocError)),
-            Status::Failed,
-            "tpw: memory\n",
-        ),
-        (
-            Ending::from(TextFault::Memory),
             Status::Failed,
             "tpw: memory\n",
         ),

@@ -1,2 +1,3 @@
+mod Positions
 mod Naming
 mod Reading

@@ -5,9 +5,10 @@ ghost use Rattle.tp_workbench.specs.Endings.{of_assembly};
 ghost use Rattle.tp_workbench.specs.Programs.{AreImageOf, IsRefusalOf};
 
 use crate::ending::{Ending, Status};
-use crate::input::text_from;
+use crate::fault::InputFault;
+use crate::input::utf8;
 use std::alloc::Global;
-use std::io::{Read, Write};
+use std::io::Write;
 use tp_assembly::{AssemblyFault, assemble};
 use tp_assembly_text::{Position, Source, read_source};
 use tp_image::write_image;
@@ -18,16 +19,17 @@ fn ending_of(fault: AssemblyFault, positions: &[Position]) -> Ending
 {
     match fault {
         AssemblyFault::Line(line, wrong) => match positions.get(line) {
-            Some(position) => Ending::Line(*position, wrong),
-            None => Ending::Assembly(fault),
+            Some(position) => Ending::Input(InputFault::Line(*position, wrong)),
+            None => Ending::Input(InputFault::Assembly(fault)),
         },
         AssemblyFault::Narrow(line) => match positions.get(line) {
-            Some(position) => Ending::Narrow(*position),
-            None => Ending::Assembly(fault),
+            Some(position) => Ending::Input(InputFault::Narrow(*position)),
+            None => Ending::Input(InputFault::Assembly(fault)),
         },
         AssemblyFault::Memory => Ending::Memory,
-        AssemblyFault::Row(_) | AssemblyFault::TooLong | AssemblyFault::Field(_) =>
-            Ending::Assembly(fault),
+        AssemblyFault::Row(_) | AssemblyFault::TooLong | AssemblyFault::Field(_) => Ending::Input(
+            InputFault::Assembly(fault),
+        ),
     }
 }
 
@@ -42,14 +44,6 @@ pub fn told<W: Write>(writer: &mut W, text: &str) -> Result<Status, Ending> {
     }
 }
 
-/// The text that bytes are.
-pub fn utf8(bytes: &[u8]) -> Result<&str, Ending> {
-    match str::from_utf8(bytes) {
-        Ok(text) => Ok(text),
-        Err(error) => Err(Ending::NotUtf8(error.valid_up_to())),
-    }
-}
-
 /// The bytes of the image of a program that a text says.
 pub fn assembled(alloc: Global, source: &Source<'_>) -> Result<Vec<u8>, Ending>
     ensures image { IfOk result (λ bytes. AreImageOf source.now.program bytes.items) }
@@ -61,15 +55,14 @@ pub fn assembled(alloc: Global, source: &Source<'_>) -> Result<Vec<u8>, Ending>
     }
 }
 
-/// Reads a text, and writes its image in hexadecimal on one line: behind `NAME IMAGE`, where a name is given.
-pub fn assemble_text<R: Read, W: Write>(
+/// Writes the image that a text says in hexadecimal on one line: behind `NAME IMAGE`, where a name is given.
+pub fn assemble_text<W: Write>(
     alloc: Global,
-    reader: &mut R,
+    text: &[u8],
     writer: &mut W,
     name: Option<&str>,
 ) -> Result<Status, Ending> {
-    let text = text_from(alloc, reader)?;
-    let source = read_source(alloc, utf8(&text)?)?;
+    let source = read_source(alloc, utf8(text)?)?;
     let image = assembled(alloc, &source)?;
     let digits = hex::encode(alloc, image.as_slice())?;
     let line = match name {

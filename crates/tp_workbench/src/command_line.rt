@@ -1,12 +1,15 @@
 //! What a command line asks for.
 
 use crate::ending::Ending;
+use crate::input::Input;
 use crate::place::place_of;
+use crate::running::Running;
 use crate::stepping::Stepping;
-use clap::{Arg, ArgAction, ArgMatches, Command, Error};
+use clap::{Arg, ArgAction, ArgMatches, Command, Error, value_parser};
 use hex::FromHexError;
 use std::alloc::Global;
 use std::convert::AsStr;
+use tp_run_text::Style;
 use tp_stepper::{Place, Span};
 
 /// What `--version` says behind the name: the version, and the kit that the proofs are made with.
@@ -27,14 +30,44 @@ const LINE: &str = "line";
 
 /// What `tpw asm --help` says below the options.
 const ASM_LINES: &str = "\
-Reads a text on standard input, and writes its image as hexadecimal on one line.
-Status 1: standard input says no worker; where and why is told.
+Reads a text, and writes its image as hexadecimal on one line.
+Status 1: the text says no worker; where and why is told, as FILE:LINE:COLUMN.
 docs/WORKERS.md shows a text.";
 
 /// What `tpw dis --help` says below the options.
 const DIS_LINES: &str = "\
-Reads an image as hexadecimal on standard input, and writes a text that asm reads as the same image.
-Status 1: standard input is no image.";
+Reads an image as hexadecimal, and writes a text that asm reads as the same image.
+Status 1: it is no image.";
+
+/// The name of the command that runs packets, and of its options.
+const RUN: &str = "run";
+
+const WORDS: &str = "words";
+
+const PACKETS: &str = "packets";
+
+const EXPECT: &str = "expect";
+
+const MEMBERS: &str = "members";
+
+const TRACE: &str = "trace";
+
+const HEX: &str = "hex";
+
+const RAW: &str = "raw";
+
+/// How many members run packets where nothing is said.
+const DEFAULT_MEMBERS: usize = 4;
+
+/// What `tpw run --help` says below the options.
+const RUN_LINES: &str = "\
+Reads a worker as assembly text, or an image as hexadecimal. Packets and results are a line each: their words as numbers,
+or one field of hexadecimal, two digits for each byte, as they are sent. For each packet it writes its number, the error
+flag, the steps of the budget, and its words; or that it was lost, and why. The last line counts them.
+Status 0: each packet has a result, the one expected. Status 1: not so, or the worker is refused, as `why` tells it.";
+
+/// The name of the argument of each command that is read in place of standard input.
+const FILE: &str = "file";
 
 /// The names of its options.
 const PACKET: &str = "packet";
@@ -45,25 +78,41 @@ const UNTIL: &str = "until";
 
 /// What `tpw step --help` says below the options.
 const STEP_LINES: &str = "\
-Reads an image as hexadecimal on standard input: one line; line ends, and white space at the ends, are passed over.
+Reads an image as hexadecimal: one line; line ends, and white space at the ends, are passed over.
 A PLACE is an address, as 36 or 0x24, or a count of steps, as +100.
-Status 0: the worker stopped, or was left at --until. Status 1: it is stuck, or does not end, or standard input is no image.
+Status 0: the worker stopped, or was left at --until. Status 1: it is stuck, or does not end, or what is read is no image.
 docs/WORKERS.md reads a run.";
 
 /// What `tpw why --help` says below the options.
 const WHY_LINES: &str = "\
-Reads an image as hexadecimal on standard input, one line, or a worker as assembly text.
-Status 0: the image is accepted. Status 1: it is refused, or standard input says none.
+Reads an image as hexadecimal, one line, or a worker as assembly text.
+Status 0: the image is accepted. Status 1: it is refused, or what is read says none.
 docs/VERIFIER.md lists every refusal.";
 
-/// What a command line asks for.
+/// What a command line asks for: a task, and where its text is read.
+#[derive(Drop)]
+pub struct Asked {
+    pub task: Task,
+    pub input: Input,
+}
+
+/// What is to be done with a text.
 #[derive(Drop)]
 pub enum Task {
+    Run(Running),
     Step(Stepping),
     Why,
     /// An image of a text, behind a name where one is given.
     Assemble(Option<String>),
     Disassemble,
+}
+
+/// What a command reads in place of standard input.
+fn file_argument<'a>(alloc: Global) -> Arg<'a> {
+    Arg::new(alloc, FILE)
+        .value_name("FILE")
+        .action(ArgAction::Set)
+        .help("Read in place of standard input")
 }
 
 /// An option that takes a place.
@@ -85,17 +134,84 @@ fn step_command<'a>(alloc: Global) -> Result<Command<'a>, Error> {
     let command = Command::new(alloc, STEP)
         .about("Runs an image an instruction at a time, accepted by the verifier or not")
         .after_help(STEP_LINES)
+        .arg(file_argument(alloc))?
         .arg(packet)?
         .arg(place_argument(alloc, FROM, "The first instruction that is told"))?
         .arg(place_argument(alloc, UNTIL, "Where the run is left"))?;
     Ok(command)
 }
 
+/// An option that takes a text.
+fn text_argument<'a>(
+    alloc: Global,
+    name: &'static str,
+    value: &'static str,
+    help: &'static str,
+) -> Arg<'a> {
+    Arg::new(alloc, name)
+        .long(name)
+        .value_name(value)
+        .action(ArgAction::Set)
+        .help(help)
+}
+
+/// An option that is given or not.
+fn flag_argument<'a>(alloc: Global, name: &'static str, help: &'static str) -> Arg<'a> {
+    Arg::new(alloc, name)
+        .long(name)
+        .action(ArgAction::SetTrue)
+        .value_parser(value_parser!(bool))
+        .help(help)
+}
+
+/// `run`, as the command line has it.
+fn run_command<'a>(alloc: Global) -> Result<Command<'a>, Error> {
+    let words = Arg::new(alloc, WORDS)
+        .long(WORDS)
+        .value_name("WORDS")
+        .action(ArgAction::Append)
+        .allow_hyphen_values(true)
+        .help("A packet, as a line of FILE has it; may be given again");
+    let members = Arg::new(alloc, MEMBERS)
+        .long(MEMBERS)
+        .value_name("N")
+        .action(ArgAction::Set)
+        .value_parser(value_parser!(usize).range(1..=64))
+        .help("How many members run packets, 1 to 64; 4 where nothing is said");
+    let command = Command::new(alloc, RUN)
+        .about("Runs packets on a worker, and writes each result")
+        .after_help(RUN_LINES)
+        .arg(file_argument(alloc))?
+        .arg(words)?
+        .arg(text_argument(alloc, PACKETS, "FILE", "Packets, one a line"))?
+        .arg(text_argument(
+            alloc,
+            EXPECT,
+            "FILE",
+            "Results that are expected, one a line: what differs alone is written",
+        ))?
+        .arg(members)?
+        .arg(flag_argument(alloc, TRACE, "Follow each result with its trace"))?
+        .arg(flag_argument(
+            alloc,
+            HEX,
+            "Write results in hexadecimal, as they are sent, else as signed numbers",
+        ))?
+        .arg(flag_argument(
+            alloc,
+            RAW,
+            "Write the bytes of results alone, one behind another",
+        ))?;
+    Ok(command)
+}
+
 /// `why`, as the command line has it.
-fn why_command<'a>(alloc: Global) -> Command<'a> {
-    Command::new(alloc, WHY)
+fn why_command<'a>(alloc: Global) -> Result<Command<'a>, Error> {
+    let command = Command::new(alloc, WHY)
         .about("Judges an image as the verifier does, and tells why it is refused")
         .after_help(WHY_LINES)
+        .arg(file_argument(alloc))?;
+    Ok(command)
 }
 
 /// `asm`, as the command line has it.
@@ -108,15 +224,18 @@ fn asm_command<'a>(alloc: Global) -> Result<Command<'a>, Error> {
     let command = Command::new(alloc, ASM)
         .about("Makes an image of a text")
         .after_help(ASM_LINES)
+        .arg(file_argument(alloc))?
         .arg(line)?;
     Ok(command)
 }
 
 /// `dis`, as the command line has it.
-fn dis_command<'a>(alloc: Global) -> Command<'a> {
-    Command::new(alloc, DIS)
+fn dis_command<'a>(alloc: Global) -> Result<Command<'a>, Error> {
+    let command = Command::new(alloc, DIS)
         .about("Makes a text of an image")
         .after_help(DIS_LINES)
+        .arg(file_argument(alloc))?;
+    Ok(command)
 }
 
 /// The command line that the program knows.
@@ -127,9 +246,10 @@ fn command<'a>(alloc: Global) -> Result<Command<'a>, Error> {
         .about("Tools for those who write workers")
         .subcommand_required(true)
         .subcommand(asm_command(alloc)?)?
-        .subcommand(dis_command(alloc))?
+        .subcommand(dis_command(alloc)?)?
+        .subcommand(run_command(alloc)?)?
         .subcommand(step_command(alloc)?)?
-        .subcommand(why_command(alloc))?;
+        .subcommand(why_command(alloc)?)?;
     Ok(command)
 }
 
@@ -167,6 +287,53 @@ fn stepping(alloc: Global, matches: &ArgMatches<'_>) -> Result<Stepping, Ending>
     })
 }
 
+/// The text that an option gives, if it is given.
+fn text_given(
+    alloc: Global,
+    matches: &ArgMatches<'_>,
+    name: &'static str,
+) -> Result<Option<String>, Ending> {
+    match matches.get_str(name) {
+        Some(text) => Ok(Some(String::from_str(alloc, text)?)),
+        None => Ok(None),
+    }
+}
+
+/// The texts that an option gives, each time that it is given.
+fn texts_given(
+    alloc: Global,
+    matches: &ArgMatches<'_>,
+    name: &'static str,
+) -> Result<Vec<String>, Ending> {
+    let mut texts = Vec::new(alloc);
+    if let Some(given) = matches.get_strs(name) {
+        for text in given {
+            texts.push(String::from_str(alloc, *text)?)?;
+        }
+    }
+    Ok(texts)
+}
+
+/// What `run` is asked for.
+fn running(alloc: Global, matches: &ArgMatches<'_>) -> Result<Running, Ending> {
+    let words = texts_given(alloc, matches, WORDS)?;
+    let packets = text_given(alloc, matches, PACKETS)?;
+    if words.is_empty() && packets.is_none() {
+        return Err(Ending::NoPackets);
+    }
+    Ok(Running {
+        words,
+        packets,
+        expect: text_given(alloc, matches, EXPECT)?,
+        members: matches.get_one::<usize>(MEMBERS).unwrap_or(DEFAULT_MEMBERS),
+        style: Style {
+            hexadecimal: matches.get_flag(HEX),
+            trace: matches.get_flag(TRACE),
+        },
+        raw: matches.get_flag(RAW),
+    })
+}
+
 /// What `asm` is asked for.
 fn assembling(alloc: Global, matches: &ArgMatches<'_>) -> Result<Task, Ending> {
     match matches.get_str(LINE) {
@@ -175,20 +342,30 @@ fn assembling(alloc: Global, matches: &ArgMatches<'_>) -> Result<Task, Ending> {
     }
 }
 
+/// Where a command reads.
+fn input_of(alloc: Global, matches: &ArgMatches<'_>) -> Result<Input, Ending> {
+    match matches.get_str(FILE) {
+        Some(name) => Ok(Input::File(String::from_str(alloc, name)?)),
+        None => Ok(Input::Standard),
+    }
+}
+
 /// What words ask for, the first of which names the program.
-pub fn task_of<S: AsStr>(alloc: Global, words: &[S]) -> Result<Task, Ending> {
+pub fn asked_by<S: AsStr>(alloc: Global, words: &[S]) -> Result<Asked, Ending> {
     let matches = command(alloc)?.try_get_matches_from(words)?;
-    if let Some(found) = matches.subcommand_matches(STEP) {
-        return Ok(Task::Step(stepping(alloc, found)?));
-    }
-    if let Some(found) = matches.subcommand_matches(ASM) {
-        return assembling(alloc, found);
-    }
-    if matches.subcommand_matches(DIS).is_some() {
-        return Ok(Task::Disassemble);
-    }
-    match matches.subcommand_matches(WHY) {
-        Some(_) => Ok(Task::Why),
-        None => Err(Ending::NoCommand),
-    }
+    let Some((name, found)) = matches.subcommand() else {
+        return Err(Ending::NoCommand);
+    };
+    let task = match name {
+        RUN => Task::Run(running(alloc, found)?),
+        STEP => Task::Step(stepping(alloc, found)?),
+        ASM => assembling(alloc, found)?,
+        DIS => Task::Disassemble,
+        WHY => Task::Why,
+        _ => return Err(Ending::NoCommand),
+    };
+    Ok(Asked {
+        task,
+        input: input_of(alloc, found)?,
+    })
 }

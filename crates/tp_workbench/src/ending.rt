@@ -2,16 +2,17 @@
 
 ghost use Rattle.std.specs.Prelude.{◌≡◌};
 ghost use Rattle.tp_workbench.specs.declared.ending.Ending.TheVariants as ending;
-ghost use Rattle.tp_workbench.specs.Endings.{of_text, of_image, of_source, of_run, status_of};
+ghost use Rattle.tp_workbench.specs.Endings.{of_image, of_source, of_run, status_of};
 
-use crate::input::TextFault;
+use crate::fault::InputFault;
 use clap::error::ErrorKind;
-use std::alloc::{AllocError, AllocFailed};
+use std::alloc::{AllocError, AllocFailed, Global};
 use std::process::ExitCode;
 use thiserror::Error;
-use tp_assembly::{AssemblyFault, LineFault};
-use tp_assembly_text::{Position, SourceFault, TextFault as SourceKind};
+use tp_assembly_text::{SourceFault, TextFault as SourceKind};
 use tp_image::ImageFault;
+use tp_run_text::PacketFault;
+use tp_runs::RunFault;
 use tp_stepper::{End, TellFault};
 
 /// What the program ends with.
@@ -67,30 +68,21 @@ pub enum Ending {
     /// An option of the command line has a text that names no place.
     #[error("error: invalid value for '--{0} <PLACE>': it takes an address, as 36 or 0x24, or a count of steps, as +100\n")]
     NoPlace(&'static str),
-    /// Standard input is not hexadecimal.
-    #[error("tpw: standard input: {0}\n")]
-    Text(TextFault),
-    /// Standard input is no image.
-    #[error("tpw: standard input: no image: {0}\n")]
-    Image(ImageFault),
-    /// Standard input is no text: a byte behind so many is not UTF-8.
-    #[error("tpw: standard input: no UTF-8 behind byte {0}\n")]
-    NotUtf8(usize),
-    /// Standard input says no program.
-    #[error("tpw: standard input:{0}\n")]
-    Source(SourceFault),
-    /// A line of standard input is wrong by itself.
-    #[error("tpw: standard input:{0}: {1}\n")]
-    Line(Position, LineFault),
-    /// A line of standard input is longer than it states.
-    #[error("tpw: standard input:{0}: its operand needs a longer spelling\n")]
-    Narrow(Position),
-    /// Standard input says a program that has no image.
-    #[error("tpw: standard input: {0}\n")]
-    Assembly(AssemblyFault),
-    /// Standard input could not be read.
-    #[error("tpw: read\n")]
-    Read,
+    /// Words of the command line say no packet.
+    #[error("error: invalid value for '--words <WORDS>': {0}\n")]
+    NoWords(PacketFault),
+    /// The command line says no packets.
+    #[error("error: no packets are given, by --words or --packets\n")]
+    NoPackets,
+    /// The file of this name is none that the command takes.
+    #[error("{0}{1}\n")]
+    File(String, InputFault),
+    /// A thread could not be started.
+    #[error("tpw: thread\n")]
+    Thread,
+    /// An input is none that the command takes. The program tells which input.
+    #[error("tpw{0}\n")]
+    Input(InputFault),
     /// Standard output could not be written.
     #[error("tpw: write\n")]
     Write,
@@ -106,21 +98,26 @@ impl Ending {
     {
         match self {
             Ending::Shown(_) => Status::Done,
-            Ending::Text(_)
-            | Ending::Image(_)
-            | Ending::NotUtf8(_)
-            | Ending::Source(_)
-            | Ending::Line(_, _)
-            | Ending::Narrow(_)
-            | Ending::Assembly(_)
-            | Ending::Read
+            Ending::Input(_)
+            | Ending::File(_, _)
+            | Ending::Thread
             | Ending::Write
             | Ending::Memory => Status::Failed,
             Ending::Refused(_)
             | Ending::NotText
             | Ending::NoCommand
             | Ending::NoPacket
+            | Ending::NoWords(_)
+            | Ending::NoPackets
             | Ending::NoPlace(_) => Status::Refused,
+        }
+    }
+
+    /// The same, where a fault of an input is one of the file of a name.
+    pub fn in_file(self, alloc: Global, name: &str) -> Result<Ending, AllocError> {
+        match self {
+            Ending::Input(fault) => Ok(Ending::File(String::from_str(alloc, name)?, fault)),
+            ending => Ok(ending),
         }
     }
 }
@@ -135,13 +132,12 @@ impl From<clap::Error> for Ending {
     }
 }
 
-impl From<TextFault> for Ending {
-    ghost from_gives = { λ fault e. e ≡ of_text fault };
-
-    fn from(fault: TextFault) -> Self {
+impl From<RunFault> for Ending {
+    fn from(fault: RunFault) -> Self {
         match fault {
-            TextFault::Memory => Ending::Memory,
-            _ => Ending::Text(fault),
+            RunFault::Thread => Ending::Thread,
+            RunFault::Memory => Ending::Memory,
+            RunFault::Write => Ending::Write,
         }
     }
 }
@@ -152,7 +148,7 @@ impl From<ImageFault> for Ending {
     fn from(fault: ImageFault) -> Self {
         match fault {
             ImageFault::Memory => Ending::Memory,
-            ImageFault::Refused { .. } => Ending::Image(fault),
+            ImageFault::Refused { .. } => Ending::Input(InputFault::Image(fault)),
         }
     }
 }
@@ -163,7 +159,7 @@ impl From<SourceFault> for Ending {
     fn from(fault: SourceFault) -> Self {
         match fault.fault {
             SourceKind::Memory => Ending::Memory,
-            _ => Ending::Source(fault),
+            _ => Ending::Input(InputFault::Source(fault)),
         }
     }
 }

@@ -1,14 +1,20 @@
-//! The image on standard input, as hexadecimal.
+//! Where a command reads: standard input or a file, as text or as an image in hexadecimal.
 
 ghost use Rattle.std.specs.Prelude.{◌≡◌, ◌+◌, ◌<◌, ◌^◌, ◌⊎◌, IfOk, IfErr, length};
 ghost use Rattle.std.specs.List.{filter, prefix_len};
 ghost use Rattle.std.specs.Char.{is_ascii_hexdigit};
+ghost use Rattle.tp_workbench.specs.Endings.{of_text};
+ghost use Rattle.tp_workbench.specs.declared.input.TextFault.{TextFault};
 ghost use Rattle.tp_workbench.specs.declared.input.TextFault.TheVariants.{Memory, NotADigit};
 ghost use Rattle.tp_workbench.specs.Texts.{IsFault, Says, is_line_end, may_stand};
 
 use crate::ending::Ending;
+use crate::fault::{InputFault, position_behind};
 use std::alloc::{AllocError, AllocFailed, Global};
+use std::fmt;
+use std::fs::File;
 use std::io::{ErrorKind, Read};
+use std::rt::Files;
 use thiserror::Error;
 use tp_image::{Image, read_image};
 
@@ -88,19 +94,88 @@ pub fn bytes_of(alloc: Global, text: &[u8]) -> Result<Vec<u8>, TextFault>
     }
 }
 
+/// The bytes that a text says in hexadecimal.
+pub fn hex_bytes(alloc: Global, text: &[u8]) -> Result<Vec<u8>, Ending>
+    ensures bytes { IfOk result (λ bytes. Says text.now bytes.items) }
+    ensures fault { IfErr result (λ e. (fault : TextFault) × IsFault text.now fault × (e ≡ of_text text.now fault)) }
+{
+    match bytes_of(alloc, text) {
+        Ok(bytes) => Ok(bytes),
+        Err(TextFault::NotADigit(column)) => Err(Ending::Input(InputFault::NotADigit(
+            position_behind(text, column - 1),
+        ))),
+        Err(TextFault::HalfAByte(column)) => Err(Ending::Input(InputFault::HalfAByte(
+            position_behind(text, column - 1),
+        ))),
+        Err(TextFault::Memory) => Err(Ending::Memory),
+    }
+}
+
+/// The text that bytes are.
+pub fn utf8(bytes: &[u8]) -> Result<&str, Ending> {
+    match str::from_utf8(bytes) {
+        Ok(text) => Ok(text),
+        Err(error) => Err(Ending::Input(InputFault::NotUtf8(position_behind(
+            bytes,
+            error.valid_up_to(),
+        )))),
+    }
+}
+
+/// Where a command reads.
+#[derive(Debug, Drop)]
+pub enum Input {
+    Standard,
+    /// The file of this name.
+    File(String),
+}
+
+impl fmt::Display for Input {
+    fn fmt<W: fmt::Write>(&self, f: &mut fmt::Formatter<W>) -> fmt::Result {
+        match self {
+            Input::Standard => f.write_str("tpw: standard input"),
+            Input::File(name) => f.write_str(name.as_str()),
+        }
+    }
+}
+
 /// Reads all that there is.
-pub fn text_from<R: Read>(alloc: Global, reader: &mut R) -> Result<Vec<u8>, Ending> {
+fn read_all<R: Read>(alloc: Global, reader: &mut R) -> Result<Vec<u8>, Ending> {
     let mut text = Vec::new(alloc);
     match reader.read_to_end(&mut text) {
         Ok(_) => Ok(text),
         Err(error) if error.kind() == ErrorKind::OutOfMemory => Err(Ending::Memory),
-        Err(_) => Err(Ending::Read),
+        Err(error) => Err(Ending::Input(InputFault::Unread(error))),
     }
 }
 
-/// Reads an image, accepted by the verifier or not.
-pub fn image_from<R: Read>(alloc: Global, reader: &mut R) -> Result<Image, Ending> {
-    let text = text_from(alloc, reader)?;
-    let bytes = bytes_of(alloc, &text)?;
+/// Where inputs are read: the files, and what standard input is.
+#[derive(Drop)]
+pub struct Inputs<'a, T, R> {
+    pub files: &'a T,
+    pub standard: &'a mut R,
+}
+
+impl<T: Files, R: Read> Inputs<'_, T, R> {
+    /// Reads all of an input.
+    pub fn read(&mut self, alloc: Global, input: &Input) -> Result<Vec<u8>, Ending> {
+        match input {
+            Input::Standard => read_all(alloc, self.standard),
+            Input::File(name) => self.read_file(alloc, name.as_str()),
+        }
+    }
+
+    /// Reads all of the file of a name.
+    pub fn read_file(&mut self, alloc: Global, name: &str) -> Result<Vec<u8>, Ending> {
+        match File::open(self.files, name) {
+            Ok(mut file) => read_all(alloc, &mut file),
+            Err(error) => Err(Ending::Input(InputFault::Unread(error))),
+        }
+    }
+}
+
+/// The image that a text says in hexadecimal, accepted by the verifier or not.
+pub fn image_of(alloc: Global, text: &[u8]) -> Result<Image, Ending> {
+    let bytes = hex_bytes(alloc, text)?;
     Ok(read_image(alloc, &bytes)?)
 }

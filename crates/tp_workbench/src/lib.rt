@@ -4,16 +4,21 @@
 mod assembly;
 mod command_line;
 mod ending;
+mod fault;
 mod input;
 mod noting;
 mod place;
 mod program;
 mod refusing;
+mod running;
 mod stepping;
 mod telling;
+mod terminal;
 mod words;
 
 pub use ending::{Ending, Status};
+pub use fault::InputFault;
 pub use input::{TextFault, bytes_of};
 pub use place::place_of;
 pub use program::run;
+pub use terminal::Terminal;

@@ -1,6 +1,7 @@
 //! What an assembly text says of its code, by address and by word.
 
 use crate::ending::Ending;
+use crate::fault::InputFault;
 use std::alloc::Global;
 use tp_assembly::{AssemblyFault, Program, addresses};
 use tp_assembly_text::{Local, Position, Source, statement_of};
@@ -19,7 +20,7 @@ pub fn places_of(alloc: Global, program: &Program) -> Result<Vec<u32>, Ending> {
     match addresses(alloc, program) {
         Ok(places) => Ok(places),
         Err(AssemblyFault::Memory) => Err(Ending::Memory),
-        Err(fault) => Err(Ending::Assembly(fault)),
+        Err(fault) => Err(Ending::Input(InputFault::Assembly(fault))),
     }
 }
 

@@ -1,31 +1,44 @@
 //! The program, from its words and streams to its status.
 
 use crate::assembly::assemble_text;
-use crate::command_line::{Task, task_of};
+use crate::command_line::{Asked, Task, asked_by};
 use crate::ending::{Ending, Status};
+use crate::input::{Input, Inputs};
 use crate::refusing::why;
+use crate::running::run_worker;
 use crate::stepping::step;
 use crate::telling::tell_image;
+use crate::terminal::Terminal;
 use crate::words::words_of;
 use std::alloc::Global;
 use std::env::Env;
-use std::io::{Read, Write};
+use std::io::{Eprint, Read, Write};
 use std::process::ExitCode;
+use std::rt::Files;
+use std::sync::Wait;
+use std::thread::Threads;
+use std::time::Clock;
 
-/// Does what the words ask for.
-fn perform<R: Read, W: Write>(
-    words: &impl Env,
+/// Reads the input that is asked for, and does what is asked with its text.
+fn perform<T, R: Read, W: Write, E: Write>(
+    rt: &T,
+    inputs: &mut Inputs<'_, T, R>,
     alloc: Global,
-    reader: &mut R,
     writer: &mut W,
-) -> Result<Status, Ending> {
-    let words = words_of(words, alloc)?;
-    match task_of(alloc, &words)? {
-        Task::Step(stepping) => step(alloc, reader, writer, &stepping),
-        Task::Why => why(alloc, reader, writer),
-        Task::Assemble(Some(name)) => assemble_text(alloc, reader, writer, Some(name.as_str())),
-        Task::Assemble(None) => assemble_text(alloc, reader, writer, None),
-        Task::Disassemble => tell_image(alloc, reader, writer),
+    terminal: &mut Terminal<'_, E>,
+    asked: &Asked,
+) -> Result<Status, Ending>
+where
+    T: Files + Threads + Wait + Clock + Eprint + Sync,
+{
+    let text = inputs.read(alloc, &asked.input)?;
+    match &asked.task {
+        Task::Run(running) => run_worker(rt, alloc, inputs, &text, writer, terminal, running),
+        Task::Step(stepping) => step(alloc, &text, writer, stepping),
+        Task::Why => why(alloc, &text, writer),
+        Task::Assemble(Some(name)) => assemble_text(alloc, &text, writer, Some(name.as_str())),
+        Task::Assemble(None) => assemble_text(alloc, &text, writer, None),
+        Task::Disassemble => tell_image(alloc, &text, writer),
     }
 }
 
@@ -37,22 +50,48 @@ fn show<W: Write>(writer: &mut W, text: &clap::Error) -> Result<Status, Ending> 
     }
 }
 
-/// Does what the words ask for. Where that ends early, writes why to `errors`.
-pub fn run<R: Read, W: Write, E: Write>(
+/// What the words ask for.
+fn read_words(words: &impl Env, alloc: Global) -> Result<Asked, Ending> {
+    let words = words_of(words, alloc)?;
+    asked_by(alloc, &words)
+}
+
+/// Writes why the program ends early. A fault of the command's input is told behind its name.
+fn tell<E: Write>(errors: &mut E, input: &Input, ending: &Ending) {
+    let _ = match ending {
+        Ending::Input(fault) => write!(errors, "{input}{fault}\n"),
+        _ => write!(errors, "{ending}"),
+    };
+}
+
+/// Does what the words ask for. Where that ends early, tells why on the terminal.
+pub fn run<T, R: Read, W: Write, E: Write>(
+    rt: &T,
     words: &impl Env,
     alloc: Global,
     reader: &mut R,
     writer: &mut W,
-    errors: &mut E,
-) -> ExitCode {
-    let ended = match perform(words, alloc, reader, writer) {
-        Err(Ending::Shown(text)) => show(writer, &text),
-        ended => ended,
+    terminal: &mut Terminal<'_, E>,
+) -> ExitCode
+where
+    T: Files + Threads + Wait + Clock + Eprint + Sync,
+{
+    let mut inputs = Inputs {
+        files: rt,
+        standard: reader,
+    };
+    let (input, ended) = match read_words(words, alloc) {
+        Ok(asked) => {
+            let ended = perform(rt, &mut inputs, alloc, writer, terminal, &asked);
+            (asked.input, ended)
+        }
+        Err(Ending::Shown(text)) => (Input::Standard, show(writer, &text)),
+        Err(ending) => (Input::Standard, Err(ending)),
     };
     let status = match ended {
         Ok(status) => status,
         Err(ending) => {
-            let _ = write!(errors, "{ending}");
+            tell(terminal.errors, &input, &ending);
             ending.status()
         }
     };

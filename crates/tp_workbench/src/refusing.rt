@@ -1,11 +1,11 @@
 //! The command `why`: the verdict on an image, and why it is refused.
 
-use crate::assembly::{assembled, utf8};
+use crate::assembly::assembled;
 use crate::ending::{Ending, Status};
-use crate::input::{TextFault, bytes_of, text_from};
+use crate::input::{TextFault, bytes_of, utf8};
 use crate::noting::Notes;
 use std::alloc::Global;
-use std::io::{Read, Write};
+use std::io::Write;
 use tp_assembly_text::read_source;
 use tp_reasons::{SourceText, tell};
 
@@ -30,15 +30,22 @@ fn tell_text<W: Write>(alloc: Global, text: &[u8], writer: &mut W) -> Result<boo
     }
 }
 
-/// Reads an image or an assembly text, judges the image, and writes the verdict; of a refusal also what it means, what is known there, and
+/// The bytes of the image that a text says: in hexadecimal, or else as assembly text.
+pub fn image_bytes(alloc: Global, text: &[u8]) -> Result<Vec<u8>, Ending> {
+    match bytes_of(alloc, text) {
+        Ok(bytes) => Ok(bytes),
+        Err(TextFault::Memory) => Err(Ending::Memory),
+        Err(TextFault::NotADigit(_) | TextFault::HalfAByte(_)) => {
+            let source = read_source(alloc, utf8(text)?)?;
+            assembled(alloc, &source)
+        }
+    }
+}
+
+/// Judges the image that a text says, in hexadecimal or as assembly text, and writes the verdict; of a refusal also what it means, what is known there, and
 /// what helps. Beside the instructions of a text stand its lines and its labels.
-pub fn why<R: Read, W: Write>(
-    alloc: Global,
-    reader: &mut R,
-    writer: &mut W,
-) -> Result<Status, Ending> {
-    let text = text_from(alloc, reader)?;
-    let told = tell_text(alloc, &text, writer);
+pub fn why<W: Write>(alloc: Global, text: &[u8], writer: &mut W) -> Result<Status, Ending> {
+    let told = tell_text(alloc, text, writer);
     let flushed = writer.flush();
     let is_accepted = told?;
     match flushed {

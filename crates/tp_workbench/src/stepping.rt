@@ -1,9 +1,9 @@
 //! The command `step`: a run, an instruction at a time.
 
 use crate::ending::{Ending, Status};
-use crate::input::image_from;
+use crate::input::image_of;
 use std::alloc::Global;
-use std::io::{Read, Write};
+use std::io::Write;
 use tp_stepper::{Span, tell};
 
 /// What `step` is to tell: a packet's run, where it is told.
@@ -13,14 +13,14 @@ pub struct Stepping {
     pub span: Span,
 }
 
-/// Reads an image, runs it with the packet, and writes what is told of the run.
-pub fn step<R: Read, W: Write>(
+/// Runs the image that a text says with the packet, and writes what is told of the run.
+pub fn step<W: Write>(
     alloc: Global,
-    reader: &mut R,
+    text: &[u8],
     writer: &mut W,
     stepping: &Stepping,
 ) -> Result<Status, Ending> {
-    let image = image_from(alloc, reader)?;
+    let image = image_of(alloc, text)?;
     let told = tell(alloc, image, &stepping.packet, stepping.span, writer);
     let flushed = writer.flush();
     let end = told?;

@@ -5,10 +5,10 @@ ghost use Rattle.tp_workbench.specs.Programs.{AreTextOf};
 
 use crate::assembly::told;
 use crate::ending::{Ending, Status};
-use crate::input::{bytes_of, text_from};
+use crate::input::hex_bytes;
 use crate::noting::places_of;
 use std::alloc::Global;
-use std::io::{Read, Write};
+use std::io::Write;
 use tp_assembly::{Program, disassemble};
 use tp_assembly_text::{LineRemark, LoopRemark, Remarks, source_text};
 use tp_image::read_image;
@@ -71,14 +71,9 @@ fn text_of(alloc: Global, program: &Program, costs: Option<&Costs>) -> Result<St
     Ok(source_text(alloc, program, Some(&remarks))?)
 }
 
-/// Reads an image, and writes it as text. Of an accepted one, comments tell where its bytes go.
-pub fn tell_image<R: Read, W: Write>(
-    alloc: Global,
-    reader: &mut R,
-    writer: &mut W,
-) -> Result<Status, Ending> {
-    let text = text_from(alloc, reader)?;
-    let bytes = bytes_of(alloc, &text)?;
+/// Writes the image that a text says as assembly text. Of an accepted one, comments tell where its bytes go.
+pub fn tell_image<W: Write>(alloc: Global, text: &[u8], writer: &mut W) -> Result<Status, Ending> {
+    let bytes = hex_bytes(alloc, text)?;
     let image = read_image(alloc, &bytes)?;
     let program = disassemble(alloc, &image)?;
     let costs = costs_of(alloc, &bytes)?;

@@ -1,19 +1,35 @@
-//! `tpw`: tools for those who write workers. Text in, text out, and no files.
+//! `tpw`: tools for those who write workers. Text in, text out; a command reads a file where it is given one.
 //!
 //! `tpw step` runs an image an instruction at a time, and tells each; `tpw why` judges an image, and tells why it is refused; `tpw asm`
-//! makes an image of assembly text, and `tpw dis` a text of an image.
+//! makes an image of assembly text, and `tpw dis` a text of an image; `tpw run` runs packets on a worker, and shows their results.
 //! Status 0: the command did what it was asked for, the image is accepted, or help or the version was asked for. Status 1: the run has
-//! no end, the image is refused, standard input is no image or no program, or a read or a write failed; what failed is told on standard
-//! error behind `tpw: `. Status 2: the command line is refused.
+//! no end, the image is refused, a packet is lost or has another result than is expected, what is read is no image or no program, or a
+//! read or a write failed; what failed is told on standard error. Status 2: the command line is refused.
 #![tactic(auto)]
 
 use std::io;
+use std::io::{BufWriter, IsTerminal, Write};
 use std::process::ExitCode;
-use tp_workbench::run;
+use tp_workbench::{Terminal, run};
 
 fn main(rt: HostRuntime) -> ExitCode {
     let mut reader = rt.reader();
-    let mut writer = io::writer(&rt);
     let mut errors = rt.stderr();
-    run(&rt, rt.alloc(), &mut reader, &mut writer, &mut errors)
+    let Ok(mut writer) = BufWriter::new(rt.alloc(), io::writer(&rt)) else {
+        let _ = errors.write_all(b"tpw: memory\n");
+        return ExitCode::from(1);
+    };
+    let is_terminal = errors.is_terminal();
+    let mut terminal = Terminal {
+        errors: &mut errors,
+        is_terminal,
+    };
+    run(
+        &rt,
+        &rt,
+        rt.alloc(),
+        &mut reader,
+        &mut writer,
+        &mut terminal,
+    )
 }

@@ -1,0 +1,23 @@
+//! How results are shown.
+
+use tp_board::Packet;
+
+/// How the line of a result is written.
+#[derive(Clone, Copy, Debug, PartialEq, Eq)]
+pub struct Style {
+    /// Results in hexadecimal as they are sent, else their words as signed numbers.
+    pub hexadecimal: bool,
+    /// Whether a line with its trace follows each result.
+    pub trace: bool,
+}
+
+/// What is shown of each packet.
+#[derive(Clone, Copy)]
+pub enum Form<'e> {
+    /// A line with what became of it.
+    Lines(Style),
+    /// The bytes of its result alone; nothing of a packet that is lost.
+    Raw,
+    /// As lines, but only those whose result is another than is expected of the packet of their number.
+    Differences(Style, &'e [Packet]),
+}

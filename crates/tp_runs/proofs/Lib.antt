@@ -1,0 +1,4 @@
+mod Results
+mod Begun
+mod Written
+mod Ready

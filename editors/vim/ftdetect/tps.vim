@@ -1,0 +1,1 @@
+autocmd BufNewFile,BufRead *.tps setfiletype tps | compiler tpw
