@@ -2,25 +2,25 @@
 use Rattle.std.proofs.Common.{◌≡◌, ℕ, zero, suc, ◌+◌, ◌-◌, ◌<◌, ◌≤◌, min, List, [], ◌∷◌, ◌++◌, length, map, sym, refl, ap, ◌∙◌}
 use Rattle.std.proofs.Common.{⊎_elim, arith, length-append}
 use Rattle.std.proofs.lemmas.Bool.{cases_lt}
-use Rattle.tp_board.specs.declared.line.Turn.{Turn}
+use Rattle.tp_board.specs.declared.stream.queue.PassView.{PassView}
 use Rattle.tp_board.specs.declared.view.Counters.{Counters}
 use Rattle.tp_board.specs.declared.view.View.{View}
 use mathlib.Core.Option.{some, some-injective}
 use lib.ListN.{get_elem?}
 use Rattle.tp_board.specs.Counting.{times, once_below, AreBelow}
 use Rattle.tp_board.specs.Ledgers.{join_of_all}
-use Rattle.tp_board.specs.Lines.{joined, LeftAt, TookRest}
+use Rattle.tp_board.specs.Queues.{joined, LeftAt, TookRest}
 use Rattle.tp_board.specs.Runs.{numbers_from}
 use Rattle.tp_board.specs.Streams.{HandView, hand_seen, seen_of, Agrees, IsLeft}
 use Rattle.tp_board.specs.Views.{join_of, all_drawn}
-use Rattle.tp_board.specs.Words.{size, counters, desk_words_of}
+use Rattle.tp_board.specs.Words.{size, counters, tally_words_of}
 use Rattle.tp_board.proofs.Closing.{folded_snoc}
 use Rattle.tp_board.proofs.Counting.{times-append, once_more}
-use Rattle.tp_board.proofs.Desks.{WholeDesk}
+use Rattle.tp_board.proofs.Tallies.{WholeTally}
 use Rattle.tp_board.proofs.Steps.{Whole}
 
 -- ---- joining
-pub seen_join : (t u : Turn) (p q : View) (ns ms : List ℕ)
+pub seen_join : (t u : PassView) (p q : View) (ns ms : List ℕ)
     → join_of (seen_of t p ns) (seen_of u q ms) ≡ seen_of (joined t u) (join_of p q) (ns ++ ms)
 seen_join t u p q ns ms =
     let long = length-append t.popped u.popped in
@@ -62,21 +62,21 @@ claims_at n ended packets within last = ⊎_elim
     (cases_lt 0 ended)
 
 -- the view that has every part has all that the board's rule speaks of
-pub whole_stream : (packets members n : ℕ) (t : Turn) (p : View) (ns : List ℕ) (w : Counters) → t.packets ≡ packets → LeftAt t n
-    → WholeDesk w p → 0 < p.parts → Agrees (seen_of t p ns)
+pub whole_stream : (packets members n : ℕ) (t : PassView) (p : View) (ns : List ℕ) (w : Counters) → t.packets ≡ packets → LeftAt t n
+    → WholeTally w p → 0 < p.parts → Agrees (seen_of t p ns)
     → Whole (size packets members) (counters (n + t.ended) w.done w.lost w.stop) (seen_of t p ns)
-whole_stream packets members n t p ns w same left desk some_part agrees =
+whole_stream packets members n t p ns w same left tally some_part agrees =
     let within : n ≤ packets = (let a = left.behind in let b = left.within in omega arith) in
     let claims = claims_at n t.ended packets within (λ some_end. left.ended some_end ∙ same) in
-    let seen = desk.seen in
-    let unclaimed = desk.no_claim in
+    let seen = tally.seen in
+    let unclaimed = tally.no_claim in
     let least = seen.claimed in record {
       each_once = (λ x. left.each_once x ∙ ap (once_below x) (sym claims.0));
       drawn = left.counted ∙ sym claims.0;
       ended = claims.1;
-      done = desk.done;
-      lost = desk.lost;
-      stop = desk.stop;
+      done = tally.done;
+      lost = tally.lost;
+      stop = tally.stop;
       fits = record {
         packets = (λ _. same);
         ended = agrees.ended;
@@ -103,7 +103,7 @@ below_and_from x n (suc k) =
     omega arith
 
 -- the numbers popped, and those that the close takes out
-pub left_over : (views : List View) (t u : Turn) (n : ℕ) → LeftAt t n → AreBelow (all_drawn views) n → TookRest t u
+pub left_over : (views : List View) (t u : PassView) (n : ℕ) → LeftAt t n → AreBelow (all_drawn views) n → TookRest t u
     → IsLeft views t.pushed
 left_over views t u n before drew (left, is, below) = (
   left,
@@ -111,6 +111,6 @@ left_over views t u n before drew (left, is, below) = (
       before.each_once x in let e = ap (times x) is in let f = below x in omega arith,
 )
 
-pub desk_word_at : (ws : List ℕ) (w : Counters) (i a b : ℕ) → ws ≡ desk_words_of w → get_elem? (desk_words_of w) i ≡ some b
+pub tally_word_at : (ws : List ℕ) (w : Counters) (i a b : ℕ) → ws ≡ tally_words_of w → get_elem? (tally_words_of w) i ≡ some b
     → get_elem? ws i ≡ some a → a ≡ b
-desk_word_at ws w i a b e there here = some-injective a b (sym here ∙ ap (λ l. get_elem? l i) e ∙ there)
+tally_word_at ws w i a b e there here = some-injective a b (sym here ∙ ap (λ l. get_elem? l i) e ∙ there)

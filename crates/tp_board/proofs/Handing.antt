@@ -10,17 +10,17 @@ use Rattle.tp_board.specs.declared.answer.Claim.TheVariants as claim
 use Rattle.tp_board.specs.declared.event.Event.TheVariants as event
 use Rattle.tp_board.specs.declared.event.Reply.TheVariants as reply
 use Rattle.tp_board.specs.declared.event.Shown.TheVariants as shown
-use Rattle.tp_board.specs.declared.line.Item.TheVariants.{Number, End}
-use Rattle.tp_board.specs.declared.line.Turn.{Turn}
+use Rattle.tp_board.specs.declared.stream.queue.Item.TheVariants.{Number, End}
+use Rattle.tp_board.specs.declared.stream.queue.PassView.{PassView}
 use Rattle.tp_board.specs.declared.source.Work.{Work}
 use Rattle.tp_board.specs.declared.source.Work.TheVariants as work
 use Rattle.tp_board.specs.declared.view.View.{View}
 use Rattle.tp_board.specs.Calls.{MadeStep, made, Makes, sees_no_stop, sees_stop}
 use Rattle.tp_board.specs.Counting.{times, hand_list}
-use Rattle.tp_board.specs.Lines.{took, IsNext}
+use Rattle.tp_board.specs.Queues.{took, IsNext}
 use Rattle.tp_board.specs.Sources.{progress_of, claim_of, NextSays, IsAnswerable, HasBytes}
 use Rattle.tp_board.specs.Views.{first_of}
-use Rattle.tp_board.specs.Desks.{holding}
+use Rattle.tp_board.specs.Tallies.{holding}
 use Rattle.tp_board.specs.Steps.{with_number, with_end, after_draw, after_finish, after_abandon, after_look}
 use Rattle.tp_board.specs.Streams.{seen_of, IsHand, NextAfter, NextMakes}
 use Rattle.tp_board.proofs.Counting.{times-append}
@@ -34,7 +34,7 @@ none_of None h = refl
 none_of (Some x) h = absurd (h x refl)
 
 -- ---- a pop, after a look that found no stop
-popped_hand : (t : Turn) (p : View) (ended stop_seen : Bool) (n : ℕ) → IsHand t p None ended stop_seen → p.seen.stop ≡ 0
+popped_hand : (t : PassView) (p : View) (ended stop_seen : Bool) (n : ℕ) → IsHand t p None ended stop_seen → p.seen.stop ≡ 0
     → IsNext t (Number n) → IsHand (took t (Number n)) (after_look p shown.Stop 0) (Some n) ended stop_seen
 popped_hand t p ended stop_seen n ok none next =
     let a = ok.agrees in
@@ -57,7 +57,7 @@ popped_hand t p ended stop_seen n ok none next =
       stop_seen_is = sym none ∙ ok.stop_seen_is;
     }
 
-pub hand_popped : (t u : Turn) (p q : View) (number : Option ℕ) (ended stop_seen : Bool) (n r : ℕ) → number ≡ None
+pub hand_popped : (t u : PassView) (p q : View) (number : Option ℕ) (ended stop_seen : Bool) (n r : ℕ) → number ≡ None
     → IsHand t p number ended stop_seen → p.seen.stop ≡ 0 → r ≡ 0 → q ≡ after_look p shown.Stop r → u ≡ took t (Number n)
     → IsNext t (Number n) → IsHand u q (Some n) ended stop_seen
 hand_popped t u p q number ended stop_seen n r empty ok none was looked is next =
@@ -65,7 +65,7 @@ hand_popped t u p q number ended stop_seen n r empty ok none was looked is next 
     (subst (λ q. IsHand (took t (Number n)) q (Some n) ended stop_seen) (sym (looked ∙ ap (after_look p shown.Stop) was))
     (popped_hand t p ended stop_seen n (subst (λ m. IsHand t p m ended stop_seen) empty ok) none next))
 
-seen_number : (t : Turn) (p : View) (n : ℕ) → n < t.packets
+seen_number : (t : PassView) (p : View) (n : ℕ) → n < t.packets
     → seen_of (took t (Number n)) (after_look p shown.Stop 0) (n ∷ []) ≡ after_draw (after_look (seen_of t p []) shown.Stop 0) n
 seen_number t p n below =
     let v = after_look (seen_of t p []) shown.Stop 0 in
@@ -75,7 +75,7 @@ seen_number t p n below =
     ap (λ (k : ℕ). record (with_number v n) { steps = k }) steps
     ∙ ap (λ (b : Bool). if b then with_number v n else with_end v) (sym (lt-ltb n t.packets below))
 
-seen_end : (t : Turn) (p : View) (n : ℕ) → t.packets ≤ n
+seen_end : (t : PassView) (p : View) (n : ℕ) → t.packets ≤ n
     → seen_of (took t End) (after_look p shown.Stop 0) [] ≡ after_draw (after_look (seen_of t p []) shown.Stop 0) n
 seen_end t p n above =
     let v = after_look (seen_of t p []) shown.Stop 0 in
@@ -86,7 +86,7 @@ seen_end t p n above =
 abbrev NoStop : View → Type 0
 NoStop p = (p.seen.stop ≤ 0) × (min 1 p.stop_callers ≤ 0) × (0 ≤ 1)
 
-number_made : (t : Turn) (p : View) (ended stop_seen : Bool) (n : ℕ) → IsHand t p None ended stop_seen → t.ended ≡ 0 → NoStop p
+number_made : (t : PassView) (p : View) (ended stop_seen : Bool) (n : ℕ) → IsHand t p None ended stop_seen → t.ended ≡ 0 → NoStop p
     → IsNext t (Number n)
     → Makes (seen_of t p []) (sees_no_stop ∷ made event.Claim n (reply.Number n) ∷ [])
     (seen_of (took t (Number n)) (after_look p shown.Stop 0) (n ∷ []))
@@ -105,7 +105,7 @@ number_made t p ended stop_seen n ok going fresh next =
       ),
     )
 
-end_made : (t : Turn) (p : View) (ended stop_seen : Bool) → IsHand t p None ended stop_seen → t.ended ≡ 0 → NoStop p
+end_made : (t : PassView) (p : View) (ended stop_seen : Bool) → IsHand t p None ended stop_seen → t.ended ≡ 0 → NoStop p
     → Makes (seen_of t p []) (sees_no_stop ∷ made event.Claim t.packets reply.NoMore ∷ [])
     (seen_of (took t End) (after_look p shown.Stop 0) [])
 end_made t p ended stop_seen ok going fresh =
@@ -122,7 +122,7 @@ end_made t p ended stop_seen ok going fresh =
       ),
     )
 
-module _ (t u : Turn) (p q : View) (number : Option ℕ) (ended stop_seen : Bool) (r : ℕ) (empty : number ≡ None)
+module _ (t u : PassView) (p q : View) (number : Option ℕ) (ended stop_seen : Bool) (r : ℕ) (empty : number ≡ None)
     (ok : IsHand t p number ended stop_seen) (going : t.ended ≡ 0) (was : r ≡ 0) (looked : q ≡ after_look p shown.Stop r)
     (fresh : (p.seen.stop ≤ r) × (min 1 p.stop_callers ≤ r) × (r ≤ 1)) where
   no_stop : NoStop p
@@ -298,14 +298,14 @@ below_map f xs n m e l = omega (arith, length-map xs f)
 
 -- ---- a report
 -- a hand with a number in hand may report it
-pub has_room : (t : Turn) (p : View) (number : Option ℕ) (ended stop_seen : Bool) (n : ℕ) → number ≡ Some n
+pub has_room : (t : PassView) (p : View) (number : Option ℕ) (ended stop_seen : Bool) (n : ℕ) → number ≡ Some n
     → IsHand t p number ended stop_seen → length p.finished + length p.abandoned < 1024
 has_room t p number ended stop_seen n full ok =
     let a =
     ok.agrees.counted in let b =
     ok.few_popped in let d = ok.few_packets in let c = ap (λ m. length (hand_list m)) full in omega arith
 
-pub hand_finished : (t : Turn) (p q : View) (number : Option ℕ) (ended stop_seen : Bool) (n : ℕ) → number ≡ Some n
+pub hand_finished : (t : PassView) (p q : View) (number : Option ℕ) (ended stop_seen : Bool) (n : ℕ) → number ≡ Some n
     → q ≡ after_finish (holding p (n ∷ [])) → IsHand t p number ended stop_seen → IsHand t q None ended stop_seen
 hand_finished t p q number ended stop_seen n full is ok = subst (λ (q : View). IsHand t q None ended stop_seen) (sym is) (record {
   one_pass = ok.one_pass;
@@ -330,7 +330,7 @@ hand_finished t p q number ended stop_seen n full is ok = subst (λ (q : View). 
   stop_seen_is = ok.stop_seen_is;
 })
 
-pub hand_abandoned : (t : Turn) (p q : View) (number : Option ℕ) (ended stop_seen : Bool) (n : ℕ) → number ≡ Some n
+pub hand_abandoned : (t : PassView) (p q : View) (number : Option ℕ) (ended stop_seen : Bool) (n : ℕ) → number ≡ Some n
     → q ≡ after_abandon (holding p (n ∷ [])) → IsHand t p number ended stop_seen → IsHand t q None ended stop_seen
 hand_abandoned t p q number ended stop_seen n full is ok =
     subst (λ (q : View). IsHand t q None ended stop_seen) (sym is) (record {

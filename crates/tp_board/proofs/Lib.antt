@@ -10,8 +10,8 @@ mod Events
 mod Opening
 mod Same
 mod Schedule
-mod Turns
-mod Desks
+mod PassViews
+mod Tallies
 mod Handing
 mod Gathering
 mod Stages

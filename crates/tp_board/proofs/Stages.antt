@@ -2,13 +2,13 @@
 use Rattle.std.proofs.Common.{◌≡◌, ℕ, zero, suc, ◌+◌, ◌-◌, min, List, [], ◌∷◌, length, map, replicate, sym, refl, ap, ◌∙◌, subst, arith}
 use mathlib.Core.Option.{some, some-ne-none, some-injective}
 use lib.ListN.{get_elem?}
-use Rattle.tp_board.specs.declared.line.Item.{Item}
-use Rattle.tp_board.specs.declared.line.Item.TheVariants.{End}
-use Rattle.tp_board.specs.declared.line.Turn.{Turn}
+use Rattle.tp_board.specs.declared.stream.queue.Item.{Item}
+use Rattle.tp_board.specs.declared.stream.queue.Item.TheVariants.{End}
+use Rattle.tp_board.specs.declared.stream.queue.PassView.{PassView}
 use Rattle.tp_board.specs.declared.view.Counters.{Counters}
 use Rattle.tp_board.specs.declared.view.View.{View}
 use Rattle.tp_board.specs.Counting.{times, once_below}
-use Rattle.tp_board.specs.Lines.{line}
+use Rattle.tp_board.specs.Queues.{queue}
 use Rattle.tp_board.specs.Rule.{total, Fits}
 use Rattle.tp_board.specs.Runs.{numbers_from}
 use Rattle.tp_board.specs.Stages.{HandState, hand_seen, KeepsStream, pops, pushed, queued, QueueLaw, StreamIsBoardLaw}
@@ -40,30 +40,30 @@ map_at g (y ∷ ys) (suc id) x at = map_at g ys id x at
 
 -- the queue's rule is over these packets, since somebody has a stand
 pub sizes_told : (packets members : ℕ) (items : List Item) (words : List ℕ) (stands : List HandState)
-    → (h : KeepsStream packets members items words stands) → h.line.packets ≡ packets
-sizes_told packets members items words [] h = let a = h.line.parts in absurd (omega arith)
+    → (h : KeepsStream packets members items words stands) → h.queue.packets ≡ packets
+sizes_told packets members items words [] h = let a = h.queue.parts in absurd (omega arith)
 sizes_told packets members items words (s ∷ ss) h =
     let so = h.each 0 s refl in
     let one = so.one_pass in
-    sym ((h.line.fits 0 s.turn refl).sizes (omega arith)).0 ∙ so.packets_is
+    sym ((h.queue.fits 0 s.turn refl).sizes (omega arith)).0 ∙ so.packets_is
 
 pub pops_are : (packets members : ℕ) (items : List Item) (words : List ℕ) (stands : List HandState)
-    → (h : KeepsStream packets members items words stands) → pops stands ≡ h.line.drawn + h.line.ended
+    → (h : KeepsStream packets members items words stands) → pops stands ≡ h.queue.drawn + h.queue.ended
 pops_are packets members items words stands h =
-    let r = h.line in
-    let popped = sym (total_map (λ (t : Turn). length t.popped) (λ (s : HandState). s.turn) stands) ∙ r.counted in
-    let ended = sym (total_map (λ (t : Turn). t.ended) (λ (s : HandState). s.turn) stands) ∙ r.ended_is in
+    let r = h.queue in
+    let popped = sym (total_map (λ (t : PassView). length t.popped) (λ (s : HandState). s.turn) stands) ∙ r.counted in
+    let ended = sym (total_map (λ (t : PassView). t.ended) (λ (s : HandState). s.turn) stands) ∙ r.ended_is in
     let both = total_two (λ (s : HandState). length s.turn.popped) (λ (s : HandState). s.turn.ended) stands in
     omega arith
 
 pub stand_law : StreamIsBoardLaw
 stand_law packets members items words stands h =
-    let r = h.line in
-    let d = h.desk.2 in
-    let w : Counters = counters (pops stands) h.desk.0.done h.desk.0.lost h.desk.0.stop in
+    let r = h.queue in
+    let d = h.tally.2 in
+    let w : Counters = counters (pops stands) h.tally.0.done h.tally.0.lost h.tally.0.stop in
     let told = sizes_told packets members items words stands h in
-    let popped = sym (total_map (λ (t : Turn). length t.popped) (λ (s : HandState). s.turn) stands) ∙ r.counted in
-    let ended = sym (total_map (λ (t : Turn). t.ended) (λ (s : HandState). s.turn) stands) ∙ r.ended_is in
+    let popped = sym (total_map (λ (t : PassView). length t.popped) (λ (s : HandState). s.turn) stands) ∙ r.counted in
+    let ended = sym (total_map (λ (t : PassView). t.ended) (λ (s : HandState). s.turn) stands) ∙ r.ended_is in
     let claims =
     claims_at r.drawn r.ended packets (let a = r.behind in let b = r.within in omega arith)
     (λ some_end. let t = r.taken in let a = r.marks_last (omega arith) in let b = r.ends_last some_end in omega arith) in
@@ -90,14 +90,14 @@ stand_law packets members items words stands h =
     } in
     subst (Fits (size packets (members + 1)) w) s.2 f in (
       w,
-      ap (λ l. pops stands ∷ l) h.desk.1,
+      ap (λ l. pops stands ∷ l) h.tally.1,
       record {
         few_packets = h.in_range.2;
         few_members = (let a = h.in_range.1 in omega arith);
         parts = total_map (λ (v : View). v.parts) hand_seen stands ∙ place (λ (v : View). v.parts) ∙ d.parts;
         each_once =
             (λ x. total_map (λ (v : View). times x v.drawn) hand_seen stands
-            ∙ sym (total_map (λ (t : Turn). times x t.popped) (λ (s : HandState). s.turn) stands) ∙ r.each_once x
+            ∙ sym (total_map (λ (t : PassView). times x t.popped) (λ (s : HandState). s.turn) stands) ∙ r.each_once x
             ∙ ap (once_below x) (sym drawn));
         drawn = total_map (λ (v : View). length v.drawn) hand_seen stands ∙ popped ∙ sym drawn;
         ended = (let a = total_map (λ (v : View). v.ended) hand_seen stands in let b = ended in omega arith);
@@ -118,16 +118,16 @@ queued_marks : (marks : ℕ) → queued (replicate marks End) ≡ []
 queued_marks zero = refl
 queued_marks (suc marks) = queued_marks marks
 
-queued_line : (from count marks : ℕ) → queued (line from count marks) ≡ numbers_from from count
+queued_line : (from count marks : ℕ) → queued (queue from count marks) ≡ numbers_from from count
 queued_line from zero marks = queued_marks marks
 queued_line from (suc count) marks = ap (λ l. from ∷ l) (queued_line (from + 1) count marks)
 
 pub queue_law : QueueLaw
 queue_law packets members items words stands h =
-    let r = h.line in
+    let r = h.queue in
     let views = map hand_seen stands in
     let count : r.drawn + (r.pushed - r.drawn) ≡ pushed stands =
-    (let a = r.behind in let b = total_map (λ (t : Turn). t.pushed) (λ (s : HandState). s.turn) stands in let c =
+    (let a = r.behind in let b = total_map (λ (t : PassView). t.pushed) (λ (s : HandState). s.turn) stands in let c =
     r.pushed_is in omega arith) in
     let held : queued items ≡ numbers_from r.drawn (r.pushed - r.drawn) =
     ap queued r.in_line ∙ queued_line r.drawn (r.pushed - r.drawn) (r.marks - r.ended) in
@@ -135,7 +135,7 @@ queue_law packets members items words stands h =
     let b = ap (times x) held in
     let c = times_gathered (λ (v : View). v.drawn) x views in
     let d = total_map (λ (v : View). times x v.drawn) hand_seen stands in
-    let e = total_map (λ (t : Turn). times x t.popped) (λ (s : HandState). s.turn) stands in
+    let e = total_map (λ (t : PassView). times x t.popped) (λ (s : HandState). s.turn) stands in
     let f = r.each_once x in
     let g = below_and_from x r.drawn (r.pushed - r.drawn) in
     let k = ap (once_below x) count in

@@ -6,13 +6,13 @@ use mathlib.Core.Option.{some, some-injective}
 use lib.ListN.{get_elem?}
 use Rattle.tp_board.specs.declared.event.Event.{Event}
 use Rattle.tp_board.specs.declared.event.Event.TheVariants.{Claim, Finish, Abandon, Stop, Look}
-use Rattle.tp_board.specs.declared.line.Item.{Item}
-use Rattle.tp_board.specs.declared.line.Turn.{Turn}
+use Rattle.tp_board.specs.declared.stream.queue.Item.{Item}
+use Rattle.tp_board.specs.declared.stream.queue.PassView.{PassView}
 use Rattle.tp_board.specs.Counting.{times}
-use Rattle.tp_board.specs.Desks.{FitsDesk, DeskRule}
+use Rattle.tp_board.specs.Tallies.{FitsTally, TallyRule}
 use Rattle.tp_board.specs.Farm.{Farm, opening_farm, step}
 use Rattle.tp_board.specs.FarmOf.{farm_of, IsSame}
-use Rattle.tp_board.specs.Lines.{feeder, hand, Streamed, FitsLine}
+use Rattle.tp_board.specs.Queues.{feeder, hand, Streamed, FitsQueue}
 use Rattle.tp_board.specs.Runs.{farm_after, replies, numbers_from}
 use Rattle.tp_board.specs.Stages.{HandState, hand_seen, IsHandState, pops, IsAtWords, WordLaw}
 use Rattle.tp_board.specs.StreamRuns.{StreamStep, push, pop, at_words, Stage, stage, KeepsStage, farm_at, no_hand_state}
@@ -22,7 +22,7 @@ use Rattle.tp_board.specs.StreamRuns.{StreamOpeningLaw}
 use Rattle.tp_board.specs.Views.{newcomer, nothing_seen}
 use Rattle.tp_board.specs.Words.{size}
 use Rattle.tp_board.proofs.Counting.{none_below}
-use Rattle.tp_board.proofs.Desks.{newcomer_fits}
+use Rattle.tp_board.proofs.Tallies.{newcomer_fits}
 use Rattle.tp_board.proofs.Opening.{opening_stands_for}
 use Rattle.tp_board.proofs.Runs.{drawn_run}
 use Rattle.tp_board.proofs.Same.{same_then, same_self}
@@ -126,12 +126,12 @@ map_replicate : {X Y : Type 0} (f : X → Y) (x : X) (n : ℕ) → map f (replic
 map_replicate f x zero = refl
 map_replicate f x (suc n) = ap (λ l. f x ∷ l) (map_replicate f x n)
 
-turns_fit : (p m : ℕ) (id : ℕ) (v : Turn) → get_elem? (feeder p m 1 ∷ replicate m (hand p m)) id ≡ some v → FitsLine p m v
+turns_fit : (p m : ℕ) (id : ℕ) (v : PassView) → get_elem? (feeder p m 1 ∷ replicate m (hand p m)) id ≡ some v → FitsQueue p m v
 turns_fit p m zero v at =
-    subst (FitsLine p m) (some-injective (feeder p m 1) v at)
+    subst (FitsQueue p m) (some-injective (feeder p m 1) v at)
     (record { sizes = (λ _. (refl, refl)); fed = (λ e. absurd (omega arith)); idle = (λ e. absurd (omega arith)) })
 turns_fit p m (suc id) v at =
-    subst (FitsLine p m) (at_replicate (hand p m) v m id at)
+    subst (FitsQueue p m) (at_replicate (hand p m) v m id at)
     (record { sizes = (λ _. (refl, refl)); fed = (λ _. (refl, refl)); idle = (λ e. absurd (omega arith)) })
 
 opening_line : (p m : ℕ) → Streamed [] (feeder p m 1 ∷ replicate m (hand p m))
@@ -160,8 +160,8 @@ opening_line p m =
       fits = turns_fit p m;
     }
 
-opening_desk : (p m : ℕ) → m ≤ 64 → DeskRule (size p (m + 1)) nothing_seen (replicate (suc m) (newcomer p 1))
-opening_desk p m few =
+opening_tally : (p m : ℕ) → m ≤ 64 → TallyRule (size p (m + 1)) nothing_seen (replicate (suc m) (newcomer p 1))
+opening_tally p m few =
     let v = newcomer p 1 in record {
       few_seats = omega arith;
       no_claim = refl;
@@ -170,11 +170,11 @@ opening_desk p m few =
       lost = sym (total_same (λ u. length u.abandoned) v (suc m) refl);
       stop = sym (ap (min 1) (total_same (λ u. u.stop_callers) v (suc m) refl));
       fits =
-          (λ id u at. subst (FitsDesk (size p (m + 1)) nothing_seen) (at_replicate v u (suc m) id at)
+          (λ id u at. subst (FitsTally (size p (m + 1)) nothing_seen) (at_replicate v u (suc m) id at)
           (newcomer_fits (size p (m + 1)) nothing_seen p 1));
     }
 
-abbrev new_hand_state : ℕ → Turn → HandState
+abbrev new_hand_state : ℕ → PassView → HandState
 new_hand_state p t = record { turn = t; place = newcomer p 1; numbers = [] }
 
 stands_new : (p m : ℕ) (id : ℕ) (s : HandState) → get_elem? (opening_hand_states p m) id ≡ some s → IsHandState p s
@@ -206,14 +206,14 @@ stream_opening_law p m range =
     let all : suc m ≡ m + 1 = omega arith in (
       record {
         in_range = range;
-        line =
+        queue =
             subst (λ ts. Streamed [] (feeder p m 1 ∷ ts)) (sym (map_replicate (λ (s : HandState). s.turn) s m))
             (opening_line p m);
-        desk = (
+        tally = (
           nothing_seen,
           refl,
-          subst (λ vs. DeskRule k nothing_seen (newcomer p 1 ∷ vs))
-              (sym (map_replicate (λ (s : HandState). s.place) s m)) (opening_desk p m range.1),
+          subst (λ vs. TallyRule k nothing_seen (newcomer p 1 ∷ vs))
+              (sym (map_replicate (λ (s : HandState). s.place) s m)) (opening_tally p m range.1),
         );
         each = stands_new p m;
       },

@@ -10,12 +10,12 @@ use lib.ListN.{get_elem?}
 use Rattle.tp_board.specs.declared.event.Event.TheVariants.{Claim}
 use Rattle.tp_board.specs.declared.event.Reply.{Reply}
 use Rattle.tp_board.specs.declared.event.Reply.TheVariants as reply
-use Rattle.tp_board.specs.declared.line.Item.{Item}
-use Rattle.tp_board.specs.declared.line.Item.TheVariants.{Number, End}
-use Rattle.tp_board.specs.declared.line.Turn.{Turn}
-use Rattle.tp_board.specs.Desks.{KeepsDesk}
+use Rattle.tp_board.specs.declared.stream.queue.Item.{Item}
+use Rattle.tp_board.specs.declared.stream.queue.Item.TheVariants.{Number, End}
+use Rattle.tp_board.specs.declared.stream.queue.PassView.{PassView}
+use Rattle.tp_board.specs.Tallies.{KeepsTally}
 use Rattle.tp_board.specs.Laws.{IsEvent}
-use Rattle.tp_board.specs.Lines.{line, item_of, Streamed}
+use Rattle.tp_board.specs.Queues.{queue, item_of, Streamed}
 use Rattle.tp_board.specs.Stages.{HandState, hand_seen, IsHandState, KeepsStream, pops, after_pop, after_push, IsStreamEvent}
 use Rattle.tp_board.specs.Stages.{PopLaw, PushLaw}
 use Rattle.tp_board.specs.Steps.{MayStep, with_number, with_end, after_draw}
@@ -25,7 +25,7 @@ use Rattle.tp_board.proofs.Events.{claim_law}
 use Rattle.tp_board.proofs.Moves.{added, claimed_small}
 use Rattle.tp_board.proofs.Stages.{map_at, pops_are, sizes_told, stand_law}
 use Rattle.tp_board.proofs.Totals.{total_set, each_set}
-use Rattle.tp_board.proofs.Turns.{feeds, takes}
+use Rattle.tp_board.proofs.PassViews.{feeds, takes}
 
 pub map_set : {X Y : Type 0} (g : X → Y) (xs : List X) (id : ℕ) (x : X) → map g (set xs id x) ≡ set (map g xs) id (g x)
 map_set g [] id x = refl
@@ -60,16 +60,16 @@ push_law packets members items words stands id s h at may =
     let s' = after_push s x in
     let turns = map (λ (s : HandState). s.turn) stands in
     let pushed =
-    feeds (length items + 1) id s.turn x may refl items turns (omega arith) h.line
+    feeds (length items + 1) id s.turn x may refl items turns (omega arith) h.queue
     (map_at (λ (s : HandState). s.turn) stands id s at) in
     let joined : Streamed (items ++ x ∷ []) (map (λ (s : HandState). s.turn) (set stands id s')) =
     subst (Streamed (items ++ x ∷ [])) (sym (map_set (λ (s : HandState). s.turn) stands id s'))
-    (subst (λ (w : Turn). Streamed (items ++ x ∷ []) (set turns id w)) pushed.2 pushed.1) in
+    (subst (λ (w : PassView). Streamed (items ++ x ∷ []) (set turns id w)) pushed.2 pushed.1) in
     let places = map_same (λ (s : HandState). s.place) stands id s s' at refl in (
       record {
         in_range = h.in_range;
-        line = joined;
-        desk = subst (KeepsDesk (size packets (members + 1)) words) (sym places) h.desk;
+        queue = joined;
+        tally = subst (KeepsTally (size packets (members + 1)) words) (sym places) h.tally;
         each = each_set (IsHandState packets) stands id s' (so_put packets s x (h.each id s at)) (λ j y _ e. h.each j y e);
       },
       (let a = total_set (λ (s : HandState). length s.turn.popped + s.turn.ended) stands id s s' at in let b = popped_put s
@@ -90,12 +90,12 @@ abbrev first_of : List Item → Item
 first_of [] = End
 first_of (x ∷ xs) = x
 
-number_first : (n : ℕ) (items : List Item) (d c m : ℕ) → Number n ∷ items ≡ line d c m → (0 < c) × (n ≡ d)
+number_first : (n : ℕ) (items : List Item) (d c m : ℕ) → Number n ∷ items ≡ queue d c m → (0 < c) × (n ≡ d)
 number_first n items d zero zero e = absurd (let z : suc (length items) ≡ 0 = ap length e in omega arith)
 number_first n items d zero (suc m) e = absurd (let z : 1 ≡ 0 = ap (λ l. tag (first_of l)) e in omega arith)
 number_first n items d (suc c) m e = (omega arith, ap (λ l. number_of (first_of l)) e)
 
-end_first : (items : List Item) (d c m : ℕ) → End ∷ items ≡ line d c m → (c ≡ 0) × (0 < m)
+end_first : (items : List Item) (d c m : ℕ) → End ∷ items ≡ queue d c m → (c ≡ 0) × (0 < m)
 end_first items d zero zero e = absurd (let z : suc (length items) ≡ 0 = ap length e in omega arith)
 end_first items d zero (suc m) e = (refl, omega arith)
 end_first items d (suc c) m e = absurd (let z : 0 ≡ 1 = ap (λ l. tag (first_of l)) e in omega arith)
@@ -165,10 +165,10 @@ popped packets members x items words stands id s r h at may so one_more_pop is e
     let s' = after_pop s x in
     let turns = map (λ (s : HandState). s.turn) stands in
     let mine = (h.each id s at).one_pass in
-    let taken = takes id s.turn (omega arith) x items turns h.line (map_at (λ (s : HandState). s.turn) stands id s at) in
+    let taken = takes id s.turn (omega arith) x items turns h.queue (map_at (λ (s : HandState). s.turn) stands id s at) in
     let left : Streamed items (map (λ (s : HandState). s.turn) (set stands id s')) =
     subst (Streamed items) (sym (map_set (λ (s : HandState). s.turn) stands id s'))
-    (subst (λ (w : Turn). Streamed items (set turns id w)) taken.2.0 taken.1) in
+    (subst (λ (w : PassView). Streamed items (set turns id w)) taken.2.0 taken.1) in
     let places = map_same (λ (s : HandState). s.place) stands id s s' at refl in
     let k = size packets (members + 1) in
     let board = stand_law packets members (x ∷ items) words stands h in
@@ -181,8 +181,8 @@ popped packets members x items words stands id s r h at may so one_more_pop is e
     ap (set (map hand_seen stands) id) (sym is) ∙ sym (map_set hand_seen stands id s') in record {
       rule = record {
         in_range = h.in_range;
-        line = left;
-        desk = subst (KeepsDesk k words) (sym places) h.desk;
+        queue = left;
+        tally = subst (KeepsTally k words) (sym places) h.tally;
         each = each_set (IsHandState packets) stands id s' so (λ j y _ e. h.each j y e);
       };
       made =
@@ -194,7 +194,7 @@ popped packets members x items words stands id s r h at may so one_more_pop is e
 
 pub pop_law : PopLaw
 pop_law packets members (Number n) items words stands id s h at may =
-    let r = h.line in
+    let r = h.queue in
     let k = size packets (members + 1) in
     let so = h.each id s at in
     let told = sizes_told packets members (Number n ∷ items) words stands h in
@@ -224,7 +224,7 @@ pop_law packets members (Number n) items words stands id s h at may =
           (set (map hand_seen stands) id (after_draw (hand_seen s) (pops stands))) id Claim) answer law.1),
     )
 pop_law packets members End items words stands id s h at may =
-    let r = h.line in
+    let r = h.queue in
     let k = size packets (members + 1) in
     let so = h.each id s at in
     let told = sizes_told packets members (End ∷ items) words stands h in

@@ -7,20 +7,20 @@ use Rattle.tp_board.specs.declared.event.Event.TheVariants.{Finish, Abandon, Sto
 use Rattle.tp_board.specs.declared.event.Shown.{Shown}
 use Rattle.tp_board.specs.declared.event.Shown.TheVariants as shown
 use Rattle.tp_board.specs.declared.event.Reply.{Reply}
-use Rattle.tp_board.specs.declared.line.Item.{Item}
-use Rattle.tp_board.specs.declared.line.Turn.{Turn}
+use Rattle.tp_board.specs.declared.stream.queue.Item.{Item}
+use Rattle.tp_board.specs.declared.stream.queue.PassView.{PassView}
 use Rattle.tp_board.specs.declared.view.View.{View}
 use Rattle.tp_board.specs.Counting.{times}
-use Rattle.tp_board.specs.Desks.{KeepsDesk, holding}
+use Rattle.tp_board.specs.Tallies.{KeepsTally, holding}
 use Rattle.tp_board.specs.Laws.{IsEvent}
-use Rattle.tp_board.specs.Lines.{Streamed}
+use Rattle.tp_board.specs.Queues.{Streamed}
 use Rattle.tp_board.specs.Stages.{HandState, hand_seen, IsHandState, KeepsStream, pops, IsStreamEvent, IsAtWords, found_at}
 use Rattle.tp_board.specs.Stages.{words_with, WordLaw}
 use Rattle.tp_board.specs.Steps.{after_finish, after_abandon, after_stop, after_look}
 use Rattle.tp_board.specs.Streams.{seen_of}
 use Rattle.tp_board.specs.Words.{size}
 use Rattle.tp_board.proofs.Counting.{times-append}
-use Rattle.tp_board.proofs.Desks.{finish_keeps, abandon_keeps, stop_keeps, look_keeps}
+use Rattle.tp_board.proofs.Tallies.{finish_keeps, abandon_keeps, stop_keeps, look_keeps}
 use Rattle.tp_board.proofs.Events.{finish_law, abandon_law, stop_law, look_law}
 use Rattle.tp_board.proofs.Stages.{total_map, map_at, sizes_told, stand_law}
 use Rattle.tp_board.proofs.StreamSteps.{map_set, map_same}
@@ -35,21 +35,21 @@ room packets members items words stands id s n h at full =
     let counted = (h.each id s at).agrees.counted in
     let one = ap length full in
     let mine = le_total (λ (s : HandState). length s.turn.popped) stands id s at in
-    let all = sym (total_map (λ (t : Turn). length t.popped) (λ (s : HandState). s.turn) stands) ∙ h.line.counted in
-    let a = h.line.behind in let b = h.line.within in let c = h.in_range.2 in omega arith
+    let all = sym (total_map (λ (t : PassView). length t.popped) (λ (s : HandState). s.turn) stands) ∙ h.queue.counted in
+    let a = h.queue.behind in let b = h.queue.within in let c = h.in_range.2 in omega arith
 
 -- what every step at the words leaves, where the stand is as after the event
 worded : (packets members : ℕ) (items : List Item) (words words' : List ℕ) (stands : List HandState) (id : ℕ) (s : HandState)
     (p : View) (numbers : List ℕ) (u : View) (event : Event) (r : Reply)
     → KeepsStream packets members items words stands → get_elem? stands id ≡ some s
-    → KeepsDesk (size packets (members + 1)) words' (set (map (λ (s : HandState). s.place) stands) id p)
+    → KeepsTally (size packets (members + 1)) words' (set (map (λ (s : HandState). s.place) stands) id p)
     → IsHandState packets (record s { place = p; numbers = numbers })
     → seen_of s.turn p numbers ≡ u
     → IsEvent (size packets (members + 1)) (pops stands ∷ words) (map hand_seen stands) (pops stands ∷ words')
     (set (map hand_seen stands) id u) id event r
     → IsStreamEvent packets members words stands items words' (set stands id (record s { place = p; numbers = numbers })) id
     event r
-worded packets members items words words' stands id s p numbers u event r h at desk so seen made =
+worded packets members items words words' stands id s p numbers u event r h at tally so seen made =
     let s' : HandState = record s { place = p; numbers = numbers } in
     let k = size packets (members + 1) in
     let views : set (map hand_seen stands) id u ≡ map hand_seen (set stands id s') =
@@ -58,8 +58,8 @@ worded packets members items words words' stands id s p numbers u event r h at d
     (let a = total_set (λ (s : HandState). length s.turn.popped + s.turn.ended) stands id s s' at in omega arith) in record {
       rule = record {
         in_range = h.in_range;
-        line = subst (Streamed items) (sym (map_same (λ (s : HandState). s.turn) stands id s s' at refl)) h.line;
-        desk = subst (KeepsDesk k words') (sym (map_set (λ (s : HandState). s.place) stands id s')) desk;
+        queue = subst (Streamed items) (sym (map_same (λ (s : HandState). s.turn) stands id s s' at refl)) h.queue;
+        tally = subst (KeepsTally k words') (sym (map_set (λ (s : HandState). s.place) stands id s')) tally;
         each = each_set (IsHandState packets) stands id s' so (λ j y _ e. h.each j y e);
       };
       made =
@@ -86,13 +86,13 @@ finish_word packets members items words stands id s h at (n, full) =
     let law =
     finish_law k (pops stands ∷ words) (map hand_seen stands) id (hand_seen s)
     (stand_law packets members items words stands h, map_at hand_seen stands id s at, so.one_seat) (n, full) in
-    let desk =
-    finish_keeps k words (map (λ (s : HandState). s.place) stands) id s.place h.desk (place_at stands id s at) n so.one_seat
+    let tally =
+    finish_keeps k words (map (λ (s : HandState). s.place) stands) id s.place h.tally (place_at stands id s at) n so.one_seat
     (room packets members items words stands id s n h at full) in (
       law.0,
       worded packets members items words (words_with Finish words) stands id s p [] (after_finish (hand_seen s)) Finish _ h at
-          (subst (λ ns. KeepsDesk k (words_with Finish words)
-          (set (map (λ (s : HandState). s.place) stands) id (after_finish (holding s.place ns)))) (sym full) desk)
+          (subst (λ ns. KeepsTally k (words_with Finish words)
+          (set (map (λ (s : HandState). s.place) stands) id (after_finish (holding s.place ns)))) (sym full) tally)
           (record {
             packets_is = so.packets_is;
             one_pass = so.one_pass;
@@ -118,13 +118,13 @@ abandon_word packets members items words stands id s h at (n, full) =
     let law =
     abandon_law k (pops stands ∷ words) (map hand_seen stands) id (hand_seen s)
     (stand_law packets members items words stands h, map_at hand_seen stands id s at, so.one_seat) (n, full) in
-    let desk =
-    abandon_keeps k words (map (λ (s : HandState). s.place) stands) id s.place h.desk (place_at stands id s at) n so.one_seat
+    let tally =
+    abandon_keeps k words (map (λ (s : HandState). s.place) stands) id s.place h.tally (place_at stands id s at) n so.one_seat
     (room packets members items words stands id s n h at full) in (
       law.0,
       worded packets members items words (words_with Abandon words) stands id s p [] (after_abandon (hand_seen s)) Abandon _ h at
-          (subst (λ ns. KeepsDesk k (words_with Abandon words)
-          (set (map (λ (s : HandState). s.place) stands) id (after_abandon (holding s.place ns)))) (sym full) desk)
+          (subst (λ ns. KeepsTally k (words_with Abandon words)
+          (set (map (λ (s : HandState). s.place) stands) id (after_abandon (holding s.place ns)))) (sym full) tally)
           (record {
             packets_is = so.packets_is;
             one_pass = so.one_pass;
@@ -168,7 +168,7 @@ stop_word packets members items words stands id s h at may =
       law.0,
       worded packets members items words (words_with Stop words) stands id s (after_stop s.place) s.numbers
           (after_stop (hand_seen s)) Stop _ h at
-          (stop_keeps k words (map (λ (s : HandState). s.place) stands) id s.place h.desk (place_at stands id s at) so.one_seat)
+          (stop_keeps k words (map (λ (s : HandState). s.place) stands) id s.place h.tally (place_at stands id s at) so.one_seat)
           (so_kept packets s (after_stop s.place) refl refl refl so)
           (ap (λ (m : ℕ). record (after_stop (hand_seen s)) { steps = m })
           (one_step (length s.turn.popped) s.turn.ended s.place.steps))
@@ -212,7 +212,7 @@ look_word shown.Done kept packets members items words stands id s h at may =
       worded packets members items words (words_with (Look shown.Done) words) stands id s
           (after_look s.place shown.Done (found_at (Look shown.Done) words)) s.numbers
           (after_look (hand_seen s) shown.Done (found_at (Look shown.Done) words)) (Look shown.Done) _ h at
-          (look_keeps k words (map (λ (s : HandState). s.place) stands) id s.place h.desk
+          (look_keeps k words (map (λ (s : HandState). s.place) stands) id s.place h.tally
           (place_at stands id s at) shown.Done kept)
           (sees packets members items words stands id s h at shown.Done)
           (looked packets members items words stands id s h at shown.Done (found_at (Look shown.Done) words))
@@ -227,7 +227,7 @@ look_word shown.Lost kept packets members items words stands id s h at may =
       worded packets members items words (words_with (Look shown.Lost) words) stands id s
           (after_look s.place shown.Lost (found_at (Look shown.Lost) words)) s.numbers
           (after_look (hand_seen s) shown.Lost (found_at (Look shown.Lost) words)) (Look shown.Lost) _ h at
-          (look_keeps k words (map (λ (s : HandState). s.place) stands) id s.place h.desk
+          (look_keeps k words (map (λ (s : HandState). s.place) stands) id s.place h.tally
           (place_at stands id s at) shown.Lost kept)
           (sees packets members items words stands id s h at shown.Lost)
           (looked packets members items words stands id s h at shown.Lost (found_at (Look shown.Lost) words))
@@ -242,7 +242,7 @@ look_word shown.Stop kept packets members items words stands id s h at may =
       worded packets members items words (words_with (Look shown.Stop) words) stands id s
           (after_look s.place shown.Stop (found_at (Look shown.Stop) words)) s.numbers
           (after_look (hand_seen s) shown.Stop (found_at (Look shown.Stop) words)) (Look shown.Stop) _ h at
-          (look_keeps k words (map (λ (s : HandState). s.place) stands) id s.place h.desk
+          (look_keeps k words (map (λ (s : HandState). s.place) stands) id s.place h.tally
           (place_at stands id s at) shown.Stop kept)
           (sees packets members items words stands id s h at shown.Stop)
           (looked packets members items words stands id s h at shown.Stop (found_at (Look shown.Stop) words))

@@ -17,8 +17,8 @@ pub mod Boards
 pub mod Calls
 pub mod Ledgers
 pub mod Sources
-pub mod Lines
-pub mod Desks
+pub mod Queues
+pub mod Tallies
 pub mod Streams
 pub mod Stages
 pub mod StreamRuns

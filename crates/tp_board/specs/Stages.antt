@@ -7,25 +7,25 @@ use Rattle.tp_board.specs.declared.event.Event.TheVariants.{Claim, Finish, Aband
 use Rattle.tp_board.specs.declared.event.Shown.TheVariants.{Claimed}
 use Rattle.tp_board.specs.declared.event.Reply.{Reply}
 use Rattle.tp_board.specs.declared.event.Reply.TheVariants as reply
-use Rattle.tp_board.specs.declared.line.Item.{Item}
-use Rattle.tp_board.specs.declared.line.Item.TheVariants.{Number, End}
-use Rattle.tp_board.specs.declared.line.Turn.{Turn}
+use Rattle.tp_board.specs.declared.stream.queue.Item.{Item}
+use Rattle.tp_board.specs.declared.stream.queue.Item.TheVariants.{Number, End}
+use Rattle.tp_board.specs.declared.stream.queue.PassView.{PassView}
 use Rattle.tp_board.specs.declared.view.View.{View}
 use Rattle.tp_board.specs.Counting.{AreBelow}
-use Rattle.tp_board.specs.Desks.{KeepsDesk, holding}
+use Rattle.tp_board.specs.Tallies.{KeepsTally, holding}
 use Rattle.tp_board.specs.Freshness.{IsFresh}
 use Rattle.tp_board.specs.Laws.{IsEvent}
-use Rattle.tp_board.specs.Lines.{Streamed, MayPut, item_of, put, took}
+use Rattle.tp_board.specs.Queues.{Streamed, MayPut, item_of, put, took}
 use Rattle.tp_board.specs.Openings.{InRange}
 use Rattle.tp_board.specs.Rule.{total, KeepsRule}
 use Rattle.tp_board.specs.Steps.{row_of, MayStep}
 use Rattle.tp_board.specs.Streams.{seen_of, Agrees}
 use Rattle.tp_board.specs.Views.{all_drawn}
-use Rattle.tp_board.specs.Words.{size, place_of, desk_place_of}
+use Rattle.tp_board.specs.Words.{size, place_of, tally_place_of}
 
 -- what one member, or the feeder, knows of queue and words, with the numbers in hand
 pub record HandState : Type 0 where
-  pub turn : Turn
+  pub turn : PassView
   pub place : View
   pub numbers : List ℕ
 
@@ -41,8 +41,8 @@ pub record IsHandState (packets : ℕ) (s : HandState) : Type 0 where
 -- the queue and the words keep their rules, and each stand joins the two
 pub record KeepsStream (packets members : ℕ) (items : List Item) (words : List ℕ) (stands : List HandState) : Type 0 where
   pub in_range : InRange packets members
-  pub line : Streamed items (map (λ s. s.turn) stands)
-  pub desk : KeepsDesk (size packets (members + 1)) words (map (λ s. s.place) stands)
+  pub queue : Streamed items (map (λ s. s.turn) stands)
+  pub tally : KeepsTally (size packets (members + 1)) words (map (λ s. s.place) stands)
   pub each : (id : ℕ) (s : HandState) → get_elem? stands id ≡ some s → IsHandState packets s
 
 -- how many pops there were
@@ -129,11 +129,11 @@ IsAtWords event = 0 < place_of (row_of event).word
 
 -- what its word is
 abbrev pub found_at : Event → List ℕ → ℕ
-found_at event words = slice_index words (desk_place_of (row_of event).word)
+found_at event words = slice_index words (tally_place_of (row_of event).word)
 
 -- the three words after it
 abbrev pub words_with : Event → List ℕ → List ℕ
-words_with event words = slice_set words (desk_place_of (row_of event).word) ((row_of event).change (found_at event words))
+words_with event words = slice_set words (tally_place_of (row_of event).word) ((row_of event).change (found_at event words))
 
 -- what the seat at the words takes the step with: a report is of the number in hand, which the seat
 -- does not know

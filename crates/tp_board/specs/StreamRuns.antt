@@ -3,10 +3,10 @@ use Rattle.std.specs.Prelude.{◌≡◌, ℕ, ◌+◌, List, [], ◌∷◌, ◌+
 use Rattle.tp_board.specs.declared.event.Event.{Event}
 use Rattle.tp_board.specs.declared.event.Event.TheVariants.{Claim}
 use Rattle.tp_board.specs.declared.event.Reply.{Reply}
-use Rattle.tp_board.specs.declared.line.Item.{Item}
+use Rattle.tp_board.specs.declared.stream.queue.Item.{Item}
 use Rattle.tp_board.specs.Farm.{Farm, opening_farm}
 use Rattle.tp_board.specs.FarmOf.{farm_of, IsSame}
-use Rattle.tp_board.specs.Lines.{MayPut, item_of, feeder, hand, nobody}
+use Rattle.tp_board.specs.Queues.{MayPut, item_of, feeder, hand, nobody}
 use Rattle.tp_board.specs.Openings.{InRange}
 use Rattle.tp_board.specs.Runs.{farm_after, replies, DrawsInOrder}
 use Rattle.tp_board.specs.Stages.{HandState, hand_seen, KeepsStream, pops, after_pop, after_push, pop_reply, IsAtWords, found_at}

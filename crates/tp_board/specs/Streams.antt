@@ -8,28 +8,28 @@ use Rattle.tp_board.specs.declared.answer.Claim.{Claim}
 use Rattle.tp_board.specs.declared.answer.Claim.TheVariants as claim
 use Rattle.tp_board.specs.declared.event.Event.TheVariants as event
 use Rattle.tp_board.specs.declared.event.Reply.TheVariants as reply
-use Rattle.tp_board.specs.declared.line.Item.{Item}
-use Rattle.tp_board.specs.declared.line.Turn.{Turn}
+use Rattle.tp_board.specs.declared.stream.queue.Item.{Item}
+use Rattle.tp_board.specs.declared.stream.queue.PassView.{PassView}
 use Rattle.tp_board.specs.declared.rule.Size.{Size}
-use Rattle.tp_board.specs.declared.stream_hand.Fed.{Fed}
-use Rattle.tp_board.specs.declared.stream_hand.Fed.TheVariants as fed
+use Rattle.tp_board.specs.declared.stream.hand.Fed.{Fed}
+use Rattle.tp_board.specs.declared.stream.hand.Fed.TheVariants as fed
 use Rattle.tp_board.specs.declared.view.View.{View}
 use Rattle.tp_board.specs.Calls.{MadeStep, made, Makes, sees_no_stop, sees_stop}
 use Rattle.tp_board.specs.Counting.{times, hand_list, AreBelow}
 use Rattle.tp_board.specs.Limits.{most_packets, most_members}
-use Rattle.tp_board.specs.Lines.{hand, feeder, item_of, put, MayPut, Waits}
+use Rattle.tp_board.specs.Queues.{hand, feeder, item_of, put, MayPut, Waits}
 use Rattle.tp_board.specs.Openings.{InRange}
 use Rattle.tp_board.specs.Sources.{Progress, progress_of}
 use Rattle.tp_board.specs.Views.{newcomer, all_drawn}
 use Rattle.tp_board.specs.Words.{size}
 
 -- what a pass at the queue knows
-abbrev pub turn_of : Pass Item Turn → Turn
+abbrev pub turn_of : Pass Item PassView → PassView
 turn_of p = view p
 
 -- what a pass at the queue, a seat at the three words and what is in hand are together: a view as the
 -- board's seats have. A pop is a draw, or the learning of the end
-abbrev pub seen_of : Turn → View → List ℕ → View
+abbrev pub seen_of : PassView → View → List ℕ → View
 seen_of t p numbers = record p {
   packets = t.packets;
   steps = length t.popped + t.ended + p.steps;
@@ -40,33 +40,33 @@ seen_of t p numbers = record p {
 
 -- a stream, by its queue, the table of its words, its packets' bytes and how many members it has
 pub record StreamView : Type 0 where
-  pub line : TableId
-  pub desk : TableId
+  pub queue : TableId
+  pub tally : TableId
   pub packets : List (List ℕ)
   pub members : ℕ
 
 -- a member's hand: what its pass and its seat know, and the number in hand
 pub record HandView : Type 0 where
-  pub line : TableId
-  pub desk : TableId
-  pub turn : Turn
+  pub queue : TableId
+  pub tally : TableId
+  pub turn : PassView
   pub place : View
   pub number : Option ℕ
 
 pub record FeederView : Type 0 where
-  pub line : TableId
-  pub desk : TableId
-  pub turn : Turn
+  pub queue : TableId
+  pub tally : TableId
+  pub turn : PassView
   pub place : View
 
 abbrev pub stream_of : TableId → TableId → List (List ℕ) → ℕ → StreamView
-stream_of line desk packets members = record { line = line; desk = desk; packets = packets; members = members }
+stream_of queue tally packets members = record { queue = queue; tally = tally; packets = packets; members = members }
 
-abbrev pub hand_of_parts : TableId → TableId → Turn → View → Option ℕ → HandView
-hand_of_parts line desk turn place number = record { line = line; desk = desk; turn = turn; place = place; number = number }
+abbrev pub hand_of_parts : TableId → TableId → PassView → View → Option ℕ → HandView
+hand_of_parts queue tally turn place number = record { queue = queue; tally = tally; turn = turn; place = place; number = number }
 
-abbrev pub feeder_of_parts : TableId → TableId → Turn → View → FeederView
-feeder_of_parts line desk turn place = record { line = line; desk = desk; turn = turn; place = place }
+abbrev pub feeder_of_parts : TableId → TableId → PassView → View → FeederView
+feeder_of_parts queue tally turn place = record { queue = queue; tally = tally; turn = turn; place = place }
 
 abbrev pub hand_seen : HandView → View
 hand_seen h = seen_of h.turn h.place (hand_list h.number)
@@ -84,26 +84,26 @@ all_seen hands f = map hand_seen hands ++ feeder_seen f ∷ []
 
 -- a hand and the feeder that have made no step
 abbrev pub fresh_hand : TableId → TableId → ℕ → ℕ → HandView
-fresh_hand line desk packets members = hand_of_parts line desk (hand packets members) (newcomer packets 1) None
+fresh_hand queue tally packets members = hand_of_parts queue tally (hand packets members) (newcomer packets 1) None
 
 abbrev pub new_hand_of : StreamView → HandView
-new_hand_of q = fresh_hand q.line q.desk (length q.packets) q.members
+new_hand_of q = fresh_hand q.queue q.tally (length q.packets) q.members
 
 abbrev pub new_feeder_of : StreamView → FeederView
-new_feeder_of q = feeder_of_parts q.line q.desk (feeder (length q.packets) q.members 1) (newcomer (length q.packets) 1)
+new_feeder_of q = feeder_of_parts q.queue q.tally (feeder (length q.packets) q.members 1) (newcomer (length q.packets) 1)
 
 abbrev pub IsHandOf : StreamView → HandView → Type 0
-IsHandOf q h = (h.line ≡ q.line) × (h.desk ≡ q.desk) × (h.turn.packets ≡ length q.packets) × (h.turn.members ≡ q.members)
+IsHandOf q h = (h.queue ≡ q.queue) × (h.tally ≡ q.tally) × (h.turn.packets ≡ length q.packets) × (h.turn.members ≡ q.members)
 
 abbrev pub IsFeederOf : StreamView → FeederView → Type 0
-IsFeederOf q f = (f.line ≡ q.line) × (f.desk ≡ q.desk) × (f.turn.packets ≡ length q.packets) × (f.turn.members ≡ q.members)
+IsFeederOf q f = (f.queue ≡ q.queue) × (f.tally ≡ q.tally) × (f.turn.packets ≡ length q.packets) × (f.turn.members ≡ q.members)
 
 -- ---- what the types keep
 -- of a stream: its table has three words and was told how many seats there are, and its queue has
 -- room for 32 items
-pub record IsStream (desk : TableId) (key : Size) (capacity packets members : ℕ) : Type 0 where
-  pub words : desk.words ≡ 3
-  pub slots : desk.slots ≡ 0
+pub record IsStream (tally : TableId) (key : Size) (capacity packets members : ℕ) : Type 0 where
+  pub words : tally.words ≡ 3
+  pub slots : tally.slots ≡ 0
   pub told : key ≡ size packets (members + 1)
   pub room : capacity ≡ 32
   pub in_range : InRange packets members
@@ -117,7 +117,7 @@ pub record Agrees (v : View) : Type 0 where
 
 -- of a hand: the numbers that its pass popped are, each once, those that its seat finished and
 -- abandoned and the one in hand
-pub record IsHand (t : Turn) (p : View) (number : Option ℕ) (ended stop_seen : Bool) : Type 0 where
+pub record IsHand (t : PassView) (p : View) (number : Option ℕ) (ended stop_seen : Bool) : Type 0 where
   pub one_pass : t.parts ≡ 1
   pub one_seat : p.parts ≡ 1
   pub feeds : t.feeds ≡ 0
@@ -131,7 +131,7 @@ pub record IsHand (t : Turn) (p : View) (number : Option ℕ) (ended stop_seen :
   pub stop_seen_is : p.seen.stop ≡ (if stop_seen then 1 else 0)
 
 -- of the feeder: what it keeps beside its pass is what that pushed, and it has popped nothing
-pub record IsFeeder (t : Turn) (p : View) (pushed marks : ℕ) : Type 0 where
+pub record IsFeeder (t : PassView) (p : View) (pushed marks : ℕ) : Type 0 where
   pub one_pass : t.parts ≡ 1
   pub one_seat : p.parts ≡ 1
   pub feeds : t.feeds ≡ 1
@@ -170,7 +170,7 @@ abbrev pub NextMakes : View → Claim → View → Type 0
 NextMakes v claimed w = (tries : ℕ) × NextAfter (replicate tries sees_no_stop) v claimed w
 
 -- all packets are pushed, and all end marks
-abbrev pub IsAllPushed : Turn → Type 0
+abbrev pub IsAllPushed : PassView → Type 0
 IsAllPushed t = (t.pushed ≡ t.packets) × (t.marks ≡ t.members)
 
 -- a load of the stop mark, which was 0, and nothing at the queue

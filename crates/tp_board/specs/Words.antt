@@ -17,8 +17,8 @@ abbrev pub words_of : Counters → List ℕ
 words_of w = w.claimed ∷ w.done ∷ w.lost ∷ w.stop ∷ []
 
 -- those of a stream, whose numbers come from its queue
-abbrev pub desk_words_of : Counters → List ℕ
-desk_words_of w = w.done ∷ w.lost ∷ w.stop ∷ []
+abbrev pub tally_words_of : Counters → List ℕ
+tally_words_of w = w.done ∷ w.lost ∷ w.stop ∷ []
 
 -- where each of the words stands
 abbrev pub place_of : Shown → ℕ
@@ -28,8 +28,8 @@ place_of shown.Lost = 2
 place_of shown.Stop = 3
 
 -- where each stands in a stream, whose words lack the first
-abbrev pub desk_place_of : Shown → ℕ
-desk_place_of what = place_of what - 1
+abbrev pub tally_place_of : Shown → ℕ
+tally_place_of what = place_of what - 1
 
 abbrev pub word_of : Shown → List ℕ → ℕ
 word_of what words = slice_index words (place_of what)

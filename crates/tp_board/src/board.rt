@@ -9,13 +9,18 @@ ghost use Rattle.tp_board.specs.Calls.{IsEmptyHanded, StopSays, LookSays};
 ghost use Rattle.tp_board.specs.Ledgers.{Balances, join_of_all};
 ghost use Rattle.tp_board.specs.Openings.{InRange, Opens};
 
+mod seat;
+mod source;
+
+pub use seat::Seat;
+pub use source::BoardSource;
+
 use crate::answer::{BoardFault, Claim, Ledger, MAX_MEMBERS, MAX_PACKETS};
 use crate::event::Shown;
 use crate::rule::{
     Abandon, BoardRule, Draw, Finish, Halt, LookClaimed, LookDone, LookLost, LookStop, OneSeat,
     Size,
 };
-use crate::seat::Seat;
 use crate::view::View;
 use atomic_table::Table;
 use std::alloc::Global;
@@ -219,7 +224,7 @@ impl Board {
         let lost = closed.word(LOST);
         let stop = closed.word(STOP);
         closed.free();
-        Ok(tally(packets, claimed, done, lost, stop))
+        Ok(ledger(packets, claimed, done, lost, stop))
     }
 
     // All seats in one.
@@ -275,7 +280,7 @@ fn seated(token: atomic_table::Seat<(), View>, packets: u32) -> Seat
 }
 
 // The ledger that the four words give.
-fn tally(packets: u32, claimed: u64, done: u64, lost: u64, stop: u64) -> Ledger
+fn ledger(packets: u32, claimed: u64, done: u64, lost: u64, stop: u64) -> Ledger
     requires { done + lost ≤ min claimed packets }
     ensures drawn { result.drawn ≡ min claimed packets }
     ensures done { result.done ≡ done }

@@ -7,26 +7,17 @@
 
 mod answer;
 mod board;
-mod board_source;
-mod desk;
 mod event;
 mod farm_core;
 pub mod laws;
-mod line;
 mod rule;
-mod seat;
 mod source;
 mod stream;
-mod stream_hand;
 mod view;
-mod waiting;
 
 pub use answer::{BoardFault, Claim, Ledger, MAX_MEMBERS, MAX_PACKETS};
-pub use board::{Board, CloseFault};
-pub use board_source::BoardSource;
+pub use board::{Board, BoardSource, CloseFault, Seat};
 pub use event::{Event, Reply, Shown};
 pub use farm_core::Core;
-pub use seat::Seat;
 pub use source::{Packet, Work, WorkSource};
-pub use stream::{StreamCloseFault, StreamQueue};
-pub use stream_hand::{Fed, Feeder, StreamHand, StreamLedger};
+pub use stream::{Fed, Feeder, StreamCloseFault, StreamHand, StreamLedger, StreamQueue};

@@ -8,7 +8,7 @@ ghost use Rattle.tp_board.specs.Calls.{Makes, sees_no_stop, sees_stop, FinishSay
 ghost use Rattle.tp_board.specs.Ledgers.{Balances, join_of_all};
 ghost use Rattle.tp_board.specs.Counting.{hand_list};
 ghost use Rattle.tp_board.specs.Limits.{most_packets};
-ghost use Rattle.tp_board.specs.Lines.{hand, feeder, item_of, put, MayPut, Waits};
+ghost use Rattle.tp_board.specs.Queues.{hand, feeder, item_of, put, MayPut, Waits};
 ghost use Rattle.crossbeam_queue.specs.Fifo.{Held};
 ghost use Rattle.tp_board.specs.Openings.{InRange};
 ghost use Rattle.tp_board.specs.Sources.{NextSays, claim_of};
@@ -17,15 +17,21 @@ ghost use Rattle.tp_board.specs.Streams.{hand_progress, feeder_seen, all_seen};
 ghost use Rattle.tp_board.specs.Streams.{IsStream, IsHandOf, IsFeederOf, new_hand_of, new_feeder_of};
 ghost use Rattle.tp_board.specs.Streams.{NextAfter, NextMakes, IsAllPushed, FeedSays, IsLeft, Agrees};
 
+mod hand;
+mod queue;
+mod tally;
+mod waiting;
+
+pub use hand::{Fed, Feeder, StreamHand, StreamLedger};
+
 use crate::answer::{BoardFault, Claim, Ledger, MAX_MEMBERS, MAX_PACKETS};
-use crate::desk::{
-    DONE, Desk, LOST, STOP, Token, another_seat, join_seats, look_stop, open_desk, report_done,
+use crate::stream::tally::{
+    DONE, Tally, LOST, STOP, Token, another_seat, join_seats, look_stop, open_tally, report_done,
     report_lost, set_stop,
 };
-use crate::line::{Item, Line, Place, drained, feed, join, new_hand, opened, take};
+use crate::stream::queue::{Item, Queue, QueuePass, drained, feed, join, new_hand, opened, take};
 use crate::source::{Packet, Work, WorkSource, with_bytes};
-use crate::stream_hand::{Fed, Feeder, StreamHand, StreamLedger};
-use crate::waiting::Waiting;
+use crate::stream::waiting::Waiting;
 use std::alloc::Global;
 use std::marker::Model;
 use std::sync::Wait;
@@ -39,8 +45,8 @@ use std::sync::Wait;
 pub struct StreamQueue<'p> {
     packets: &'p [Packet],
     members: u32,
-    line: Line,
-    desk: Desk,
+    queue: Queue,
+    tally: Tally,
     waiting: Waiting,
 }
 
@@ -48,10 +54,10 @@ impl<'p> Model for StreamQueue<'p> {
     ghost Value = { StreamView };
 
     ghost view = { λ s.
-        stream_of s.line.table.shared.table_id s.desk.shared.table_id (map (λ p. p.items) s.packets.now) s.members };
+        stream_of s.queue.table.shared.table_id s.tally.shared.table_id (map (λ p. p.items) s.packets.now) s.members };
 
     ghost invariant = { λ s.
-        IsStream s.desk.shared.table_id s.desk.shared.key (ruled_capacity s.line) (length s.packets.now) s.members };
+        IsStream s.tally.shared.table_id s.tally.shared.key (ruled_capacity s.queue) (length s.packets.now) s.members };
 }
 
 /// A4: a hand of the stream is missing. All is handed back as it was.
@@ -72,7 +78,7 @@ impl<'p> StreamQueue<'p> {
     ) -> Result<(StreamQueue<'p>, Feeder, Vec<StreamHand>), BoardFault>
         ensures in_range { OnOk result (InRange (length packets.now) members) }
         ensures stream { IfOk result
-            (λ r. r.0 ≡ stream_of r.0.line r.0.desk (map (λ p. p.items) packets.entry.now) members) }
+            (λ r. r.0 ≡ stream_of r.0.queue r.0.tally (map (λ p. p.items) packets.entry.now) members) }
         ensures feeder { IfOk result (λ r. r.1 ≡ new_feeder_of r.0) }
         ensures hands { IfOk result (λ r. r.2.items ≡ replicate members (new_hand_of r.0)) }
         ensures own { IfOk result (λ r. IsFeederOf r.0 r.1 × All (IsHandOf r.0) r.2.items) }
@@ -86,12 +92,12 @@ impl<'p> StreamQueue<'p> {
         }
         let count = packets.len() as u32;
         let mut hands = Vec::with_capacity(alloc, members as usize)?;
-        let (line, mut pass, first) = opened(alloc, count, members)?;
-        let (desk, mut token) = open_desk(alloc, count, members + 1)?;
-        let seat = another_seat(&desk, &mut token, count, members + 1);
+        let (queue, mut pass, first) = opened(alloc, count, members)?;
+        let (tally, mut token) = open_tally(alloc, count, members + 1)?;
+        let seat = another_seat(&tally, &mut token, count, members + 1);
         hands.push_reserved(handed(first, seat, count, members));
         deal_hands(
-            &line, &desk, &mut pass, &mut token, count, members, &mut hands,
+            &queue, &tally, &mut pass, &mut token, count, members, &mut hands,
         );
         let feeder = Feeder {
             pass,
@@ -102,8 +108,8 @@ impl<'p> StreamQueue<'p> {
         let stream = StreamQueue {
             packets,
             members,
-            line,
-            desk,
+            queue,
+            tally,
             waiting: Waiting::new(),
         };
         Ok((stream, feeder, hands))
@@ -137,7 +143,7 @@ impl<'p> StreamQueue<'p> {
         ensures set { result ≡ true → Makes (feeder_seen feeder.old) (sees_stop ∷ []) (feeder_seen feeder.new) }
         ensures clear { result ≡ false → Makes (feeder_seen feeder.old) (sees_no_stop ∷ []) (feeder_seen feeder.new) }
     {
-        look_stop(&self.desk, &mut feeder.token) != 0
+        look_stop(&self.tally, &mut feeder.token) != 0
     }
 
     // The next item, where not all is pushed.
@@ -164,7 +170,7 @@ impl<'p> StreamQueue<'p> {
         ensures pushed { result ≡ true → feeder.new.turn ≡ put feeder.old.turn item }
         ensures full { result ≡ false → (feeder.new.turn ≡ feeder.old.turn) × Held 32 (Waits feeder.old.turn) }
     {
-        if !feed(rt, &self.line, &mut feeder.pass, item) {
+        if !feed(rt, &self.queue, &mut feeder.pass, item) {
             return false;
         }
         match item {
@@ -188,7 +194,7 @@ impl<'p> StreamQueue<'p> {
         ensures says { StopSays (feeder_seen feeder.old) (feeder_seen feeder.new) }
         ensures turn { feeder.new.turn ≡ feeder.old.turn }
     {
-        set_stop(&self.desk, &mut feeder.token);
+        set_stop(&self.tally, &mut feeder.token);
         self.waiting.wake_all();
     }
 
@@ -231,11 +237,11 @@ impl<'p> StreamQueue<'p> {
             (hand.new.number ≡ None) × Makes (hand_seen hand.old) (sees_no_stop ∷ []) (hand_seen hand.new) }
         ensures some { IfSome result (λ claimed. NextAfter [] (hand_seen hand.old) claimed (hand_seen hand.new)) }
     {
-        if look_stop(&self.desk, &mut hand.token) != 0 {
+        if look_stop(&self.tally, &mut hand.token) != 0 {
             hand.stop_seen = true;
             return Some(Claim::Stopped);
         }
-        let item = take(rt, &self.line, &mut hand.pass)?;
+        let item = take(rt, &self.queue, &mut hand.pass)?;
         self.waiting.popped(item);
         match item {
             Item::Number(number) => {
@@ -277,31 +283,31 @@ impl<'p> StreamQueue<'p> {
         }
         let pushed = feeder.pushed;
         let (mut pass, token) = self.gather(feeder, hands);
-        let drawn = drained(rt, &self.line, &mut pass, pushed);
+        let drawn = drained(rt, &self.queue, &mut pass, pushed);
         let StreamQueue {
             packets: _,
             members: _,
-            line: _,
-            desk,
+            queue: _,
+            tally,
             waiting: _,
         } = self;
-        let closed = desk.close_with(token);
+        let closed = tally.close_with(token);
         let done = closed.word(DONE);
         let lost = closed.word(LOST);
         let stop = closed.word(STOP);
         closed.free();
         Ok(StreamLedger {
             pushed,
-            ledger: tally(drawn, done, lost, stop),
+            ledger: ledger(drawn, done, lost, stop),
         })
     }
 
     // All passes in one, and all seats in one.
-    fn gather(&self, feeder: Feeder, mut rest: Vec<StreamHand>) -> (Place, Token)
+    fn gather(&self, feeder: Feeder, mut rest: Vec<StreamHand>) -> (QueuePass, Token)
         requires feeder { IsFeederOf self.now feeder }
         requires rest { All (IsHandOf self.now) rest.items }
-        ensures own { (result.0.table_id ≡ self.now.line) × (result.0.me.1 ≡ [])
-            × (result.1.table_id ≡ self.now.desk) × (result.1.me.1 ≡ []) }
+        ensures own { (result.0.table_id ≡ self.now.queue) × (result.0.me.1 ≡ [])
+            × (result.1.table_id ≡ self.now.tally) × (result.1.me.1 ≡ []) }
         ensures view { (numbers : List ℕ) ×
             (seen_of (view result.0) result.1.me.0 numbers ≡
             join_of_all (feeder_seen feeder) (map hand_seen rest.items)) }
@@ -315,15 +321,15 @@ impl<'p> StreamQueue<'p> {
         let mut pass = feeder.pass;
         let mut token = feeder.token;
         while let Some(next) = rest.pop() {
-            join(&self.line, &mut pass, next.pass);
-            join_seats(&self.desk, &mut token, next.token);
+            join(&self.queue, &mut pass, next.pass);
+            join_seats(&self.tally, &mut token, next.token);
         }
         (pass, token)
     }
 }
 
 // The ledger that the queue and the three words give.
-fn tally(drawn: u32, done: u64, lost: u64, stop: u64) -> Ledger
+fn ledger(drawn: u32, done: u64, lost: u64, stop: u64) -> Ledger
     requires { done + lost ≤ drawn }
     ensures drawn { result.drawn ≡ drawn }
     ensures done { result.done ≡ done }
@@ -342,35 +348,35 @@ fn tally(drawn: u32, done: u64, lost: u64, stop: u64) -> Ledger
 
 // A hand for each member behind the first, cut from the pass and the seat that feed.
 fn deal_hands(
-    line: &Line,
-    desk: &Desk,
-    pass: &mut Place,
+    queue: &Queue,
+    tally: &Tally,
+    pass: &mut QueuePass,
     token: &mut Token,
     packets: u32,
     members: u32,
     hands: &mut Vec<StreamHand>,
 )
-    requires queue { IsPassOf line.now pass.old × (view pass.old ≡ feeder packets members members) }
-    requires desk { (token.old.table_id ≡ desk.now.shared.table_id) × (desk.now.shared.table_id.words ≡ 3) }
+    requires queue { IsPassOf queue.now pass.old × (view pass.old ≡ feeder packets members members) }
+    requires tally { (token.old.table_id ≡ tally.now.shared.table_id) × (tally.now.shared.table_id.words ≡ 3) }
     requires seats { token.old.me ≡ (newcomer packets members, []) }
     requires sizes { InRange packets members }
     requires first { hands.old.items ≡
-        fresh_hand line.now.table.shared.table_id desk.now.shared.table_id packets members ∷ [] }
+        fresh_hand queue.now.table.shared.table_id tally.now.shared.table_id packets members ∷ [] }
     requires room { members ≤ vec_capacity hands.old }
-    ensures pass { IsPassOf line.now pass.new × (view pass.new ≡ feeder packets members 1) }
+    ensures pass { IsPassOf queue.now pass.new × (view pass.new ≡ feeder packets members 1) }
     ensures token { (token.new.table_id ≡ token.old.table_id) × (token.new.me ≡ (newcomer packets 1, [])) }
     ensures hands { hands.new.items ≡
-        replicate members (fresh_hand line.now.table.shared.table_id desk.now.shared.table_id packets members) }
+        replicate members (fresh_hand queue.now.table.shared.table_id tally.now.shared.table_id packets members) }
 {
     for made in 1..members {
-        let other = new_hand(line, pass);
-        let seat = another_seat(desk, token, packets, members + 1 - made);
+        let other = new_hand(queue, pass);
+        let seat = another_seat(tally, token, packets, members + 1 - made);
         hands.push_reserved(handed(other, seat, packets, members));
     }
 }
 
 // The hand of one member, which has made no step.
-fn handed(pass: Place, token: Token, packets: u32, members: u32) -> StreamHand
+fn handed(pass: QueuePass, token: Token, packets: u32, members: u32) -> StreamHand
     requires pass { (view pass ≡ hand packets members) × (pass.me.1 ≡ []) }
     requires token { token.me ≡ (newcomer packets 1, []) }
     requires few { packets ≤ most_packets }
@@ -422,7 +428,7 @@ impl<'p> WorkSource for StreamQueue<'p> {
         let Some(number) = hand.number else {
             return Err(BoardFault::EmptyHand);
         };
-        report_done(&self.desk, &mut hand.token, number);
+        report_done(&self.tally, &mut hand.token, number);
         hand.number = None;
         Ok(number)
     }
@@ -440,7 +446,7 @@ impl<'p> WorkSource for StreamQueue<'p> {
         let Some(number) = hand.number else {
             return Err(BoardFault::EmptyHand);
         };
-        report_lost(&self.desk, &mut hand.token, number);
+        report_lost(&self.tally, &mut hand.token, number);
         hand.number = None;
         Ok(number)
     }
@@ -452,7 +458,7 @@ impl<'p> WorkSource for StreamQueue<'p> {
         ensures called { hand_progress hand.new ≡ record (hand_progress hand.old) { stop_called = true } }
         ensures steps { StopSays (hand_seen hand.old) (hand_seen hand.new) }
     {
-        set_stop(&self.desk, &mut hand.token);
+        set_stop(&self.tally, &mut hand.token);
         self.waiting.wake_all();
     }
 }

@@ -10,8 +10,8 @@ use Rattle.tp_board.proofs.Steps.{Whole}
 use Rattle.tp_board.proofs.board.Board.close.Goals as goal
 
 -- the words at the end, and what the rule says of them
-pub tally-requires : goal.tally-requires
-tally-requires c =
+pub ledger-requires : goal.ledger-requires
+ledger-requires c =
     let most = c.if-len-self.false in
     let parts = c.gather-token.ensures.parts in
     let less = ap length c.in-Some.ensures.items in
@@ -65,16 +65,16 @@ returns-clause-ledger c =
     let done = word_at _ h.0 1 _ _ h.1 refl c.word-done.ensures in
     let lost = word_at _ h.0 2 _ _ h.1 refl c.word-lost.ensures in
     let stop = word_at _ h.0 3 _ _ h.1 refl c.word-stop.ensures in
-    let t = c.tally.ensures in
+    let t = c.ledger.ensures in
     let v = c.in-Some.first.view in
     let us = views_of c.pop.new.self.items in
     let whole : Whole (size c.self.inside.packets c.self.inside.members) h.0 (join_of_all v us) =
     subst (λ (k : Size). Whole k h.0 (join_of_all v us)) key
     (subst (λ (u : View). Whole c.self.inside.table.shared.key h.0 u) (ap (λ m. m.0) c.gather-token.ensures.view) h.2) in
-    subst (λ (p : ℕ). Balances p (views_of c.args.seats.items) c.tally.result) (ap (λ b. b.packets) c.self.view_is)
-    (subst (λ (vs : List View). Balances c.self.inside.packets vs c.tally.result)
+    subst (λ (p : ℕ). Balances p (views_of c.args.seats.items) c.ledger.result) (ap (λ b. b.packets) c.self.view_is)
+    (subst (λ (vs : List View). Balances c.self.inside.packets vs c.ledger.result)
     (sym (views_pop c.args.seats.items c.pop.new.self.items c.in-Some.first items))
-    (accounts c.self.inside.packets c.self.inside.members h.0 v us c.tally.result whole
+    (accounts c.self.inside.packets c.self.inside.members h.0 v us c.ledger.result whole
     (t.drawn ∙ ap (λ (n : ℕ). min n c.self.inside.packets) claimed)
     (t.done ∙ done)
     (t.lost ∙ lost)

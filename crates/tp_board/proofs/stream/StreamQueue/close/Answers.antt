@@ -6,8 +6,8 @@ use Rattle.tp_board.specs.Streams.{StreamView, FeederView, Agrees, IsLeft, all_s
 use Rattle.tp_board.specs.Views.{all_drawn}
 use Rattle.tp_board.specs.Words.{size, counters}
 use Rattle.tp_board.proofs.Closing.{accounts}
-use Rattle.tp_board.proofs.Desks.{closes}
-use Rattle.tp_board.proofs.Gathering.{desk_word_at, drawn_at, left_over, whole_stream}
+use Rattle.tp_board.proofs.Tallies.{closes}
+use Rattle.tp_board.proofs.Gathering.{tally_word_at, drawn_at, left_over, whole_stream}
 use Rattle.tp_board.proofs.Steps.{Whole}
 use Rattle.tp_board.proofs.stream.StreamQueue.close.Goals as goal
 
@@ -19,19 +19,19 @@ drained-drawn-requires-clause-parts g c =
     let is = ap (λ (q : StreamView). q.members) c.self.view_is in
     omega arith
 
-pub tally-requires : goal.tally-requires
-tally-requires g c =
+pub ledger-requires : goal.ledger-requires
+ledger-requires g c =
     let most = c.if-len-self.false in
     let t = c.gather-pass.ensures in
     let parts = t.parts.1 in
     let key = c.self.invariant.told in
-    let all : c.self.inside.desk.shared.key.members ≤ c.gather-pass.result.1.me.0.parts =
+    let all : c.self.inside.tally.shared.key.members ≤ c.gather-pass.result.1.me.0.parts =
     (let m = ap (λ k. k.members) key in omega arith) in
     let f = c.close_with-closed.ensures.values.2 in
     let h =
-    closes (Unit {0}) c.self.inside.desk.shared.key c.gather-pass.result.1.id c.gather-pass.result.1.me.0 _ f.0 all f.1 f.2 in
-    let done = desk_word_at _ h.0 0 _ _ h.1 refl c.word-done.ensures in
-    let lost = desk_word_at _ h.0 1 _ _ h.1 refl c.word-lost.ensures in
+    closes (Unit {0}) c.self.inside.tally.shared.key c.gather-pass.result.1.id c.gather-pass.result.1.me.0 _ f.0 all f.1 f.2 in
+    let done = tally_word_at _ h.0 0 _ _ h.1 refl c.word-done.ensures in
+    let lost = tally_word_at _ h.0 1 _ _ h.1 refl c.word-lost.ensures in
     let agrees = subst Agrees (sym t.view.1) t.agrees in
     let counted = agrees.counted in
     let drawn = c.drained-drawn.ensures.before.counted in
@@ -46,7 +46,7 @@ returns-clause-all g c =
     let key = ap (λ k. k.members) c.self.invariant.told in
     let f = c.close_with-closed.ensures.values.2 in
     let h =
-    closes (Unit {0}) c.self.inside.desk.shared.key c.gather-pass.result.1.id c.gather-pass.result.1.me.0 _ f.0
+    closes (Unit {0}) c.self.inside.tally.shared.key c.gather-pass.result.1.id c.gather-pass.result.1.me.0 _ f.0
     (omega arith) f.1 f.2 in
     let every = h.3 in
     let members = ap (λ (q : StreamView). q.members) c.self.view_is in
@@ -60,11 +60,11 @@ returns-clause-ledger g c =
     let key = ap (λ k. k.members) c.self.invariant.told in
     let f = c.close_with-closed.ensures.values.2 in
     let h =
-    closes (Unit {0}) c.self.inside.desk.shared.key c.gather-pass.result.1.id c.gather-pass.result.1.me.0 _ f.0
+    closes (Unit {0}) c.self.inside.tally.shared.key c.gather-pass.result.1.id c.gather-pass.result.1.me.0 _ f.0
     (omega arith) f.1 f.2 in
-    let done = desk_word_at _ h.0 0 _ _ h.1 refl c.word-done.ensures in
-    let lost = desk_word_at _ h.0 1 _ _ h.1 refl c.word-lost.ensures in
-    let stop = desk_word_at _ h.0 2 _ _ h.1 refl c.word-stop.ensures in
+    let done = tally_word_at _ h.0 0 _ _ h.1 refl c.word-done.ensures in
+    let lost = tally_word_at _ h.0 1 _ _ h.1 refl c.word-lost.ensures in
+    let stop = tally_word_at _ h.0 2 _ _ h.1 refl c.word-stop.ensures in
     let left = c.drained-drawn.ensures.before in
     let n = c.drained-drawn.result in
     let packets = length c.args.self.packets in
@@ -80,8 +80,8 @@ returns-clause-ledger g c =
     t.view.1
     (whole_stream packets c.args.self.members n turn c.gather-pass.result.1.me.0 t.view.0 h.0 sizes left h.2 (omega arith)
     (subst Agrees (sym t.view.1) t.agrees)) in
-    let e = c.tally.ensures in
-    accounts packets c.args.self.members (counters (n + turn.ended) h.0.done h.0.lost h.0.stop) v us c.tally.result whole
+    let e = c.ledger.ensures in
+    accounts packets c.args.self.members (counters (n + turn.ended) h.0.done h.0.lost h.0.stop) v us c.ledger.result whole
     (e.drawn ∙ drawn_at n turn.ended packets within (λ some_end. left.ended some_end ∙ sizes))
     (e.done ∙ done)
     (e.lost ∙ lost)
@@ -94,7 +94,7 @@ returns-clause-left g c =
     let t = c.gather-pass.ensures in
     let n = c.drained-drawn.result in
     let turn = view c.gather-pass.result.0 in
-    let e = c.tally.ensures in
+    let e = c.ledger.ensures in
     let pushed : turn.pushed ≡ c.feeder.inside.pushed =
     t.sizes.2 ∙ ap (λ (f : FeederView). f.turn.pushed) (sym c.feeder.view_is) ∙ c.feeder.invariant.0.pushed_is in
     let drew = (returns-clause-ledger g c).drew in

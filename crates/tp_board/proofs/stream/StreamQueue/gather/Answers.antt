@@ -1,10 +1,10 @@
 use Rattle.std.proofs.Common.{◌≡◌, ◌∷◌, [], ◌++◌, length, Some, sym, ap, ◌∙◌, subst, arith, length-append}
 use Rattle.std.proofs.lemmas.List.Elements.{All-pop}
 use Rattle.crossbeam_queue.specs.Passes.{view}
-use Rattle.tp_board.specs.declared.line.Turn.{Turn}
+use Rattle.tp_board.specs.declared.stream.queue.PassView.{PassView}
 use Rattle.tp_board.specs.declared.view.View.{View}
 use Rattle.tp_board.specs.Counting.{hand_list}
-use Rattle.tp_board.specs.Lines.{joined}
+use Rattle.tp_board.specs.Queues.{joined}
 use Rattle.tp_board.specs.Views.{join_of}
 use Rattle.tp_board.specs.Streams.{HandView, IsHandOf, Agrees, hand_seen, seen_of}
 use Rattle.tp_board.proofs.Gathering.{seen_join, agrees_join, gathered_hand}
@@ -28,14 +28,14 @@ loop-next-preserved c =
     let ms = hand_list c.next.inside.number in
     let me = ap (λ m. m.0) s.me in
     let both : seen_of (view c.join.new.pass) c.join_seats.new.token.me.0 (ns ++ ms) ≡ join_of (seen_of t p ns) (seen_of u q ms) =
-    ap (λ (z : Turn). seen_of z c.join_seats.new.token.me.0 (ns ++ ms)) j.1
+    ap (λ (z : PassView). seen_of z c.join_seats.new.token.me.0 (ns ++ ms)) j.1
     ∙ ap (λ (z : View). seen_of (joined t u) z (ns ++ ms)) me ∙ sym (seen_join t u p q ns ms) in
-    let pass_parts = ap (λ (z : Turn). z.parts) j.1 in
+    let pass_parts = ap (λ (z : PassView). z.parts) j.1 in
     let seat_parts = ap (λ (z : View). z.parts) me in
     let one_pass = ok.one_pass in
     let one_seat = ok.one_seat in
     let nothing = ok.pushed in
-    let fed = ap (λ (z : Turn). z.pushed) j.1 in
+    let fed = ap (λ (z : PassView). z.pushed) j.1 in
     let some0 = i.some_part.0 in
     let some1 = i.some_part.1 in
     let sum0 = i.parts.0 in
@@ -45,7 +45,7 @@ loop-next-preserved c =
       token = (s.own ∙ i.token.0, ap (λ m. m.1) s.me ∙ i.token.1);
       some_part = (omega arith, omega arith);
       parts = (omega arith, omega arith);
-      sizes = (ap (λ (z : Turn). z.packets) j.1 ∙ i.sizes.0, ap (λ (z : Turn). z.members) j.1 ∙ i.sizes.1, omega arith);
+      sizes = (ap (λ (z : PassView). z.packets) j.1 ∙ i.sizes.0, ap (λ (z : PassView). z.members) j.1 ∙ i.sizes.1, omega arith);
       seen = (
         ns ++ ms,
         subst Agrees (sym both) (agrees_join (seen_of t p ns) (seen_of u q ms) i.seen.1 ok.agrees),

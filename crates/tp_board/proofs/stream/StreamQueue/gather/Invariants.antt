@@ -6,8 +6,8 @@ use Rattle.tp_board.proofs.stream.StreamQueue.gather.Given as goal
 
 abbrev pub invariant-loop-next : goal.invariant-loop-next
 invariant-loop-next l = record {
-  pass : (l.pass.table_id ≡ l.self.line) × (l.pass.me.1 ≡ []);
-  token : (l.token.table_id ≡ l.self.desk) × (l.token.me.1 ≡ []);
+  pass : (l.pass.table_id ≡ l.self.queue) × (l.pass.me.1 ≡ []);
+  token : (l.token.table_id ≡ l.self.tally) × (l.token.me.1 ≡ []);
   some_part : (0 < (view l.pass).parts) × (0 < l.token.me.0.parts);
   parts : ((view l.pass).parts + length l.rest.items ≡ length l.fn.rest.items + 1)
       × (l.token.me.0.parts + length l.rest.items ≡ length l.fn.rest.items + 1);

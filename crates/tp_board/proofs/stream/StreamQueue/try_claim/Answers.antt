@@ -1,9 +1,9 @@
 use Rattle.std.proofs.Common.{◌≡◌, ℕ, ◌<◌, ◌∷◌, [], length, refl, inr, sym, ap, ◌∙◌, subst, arith}
 use Rattle.crossbeam_queue.specs.Passes.{view}
-use Rattle.tp_board.specs.declared.line.Item.{Item}
+use Rattle.tp_board.specs.declared.stream.queue.Item.{Item}
 use Rattle.tp_board.specs.declared.answer.Claim.TheVariants as claim
 use Rattle.tp_board.specs.Counting.{hand_list}
-use Rattle.tp_board.specs.Lines.{Took}
+use Rattle.tp_board.specs.Queues.{Took}
 use Rattle.tp_board.specs.Streams.{HandView, hand_seen, seen_of, NextAfter}
 use Rattle.tp_board.proofs.Handing.{hand_popped, says_number, says_end}
 use Rattle.tp_board.proofs.stream.StreamQueue.try_claim.Goals as goal

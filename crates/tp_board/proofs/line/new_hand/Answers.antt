@@ -1,5 +1,0 @@
-use Rattle.tp_board.proofs.Turns.{forks}
-use Rattle.tp_board.proofs.line.new_hand.Goals as goal
-
-pub another-requires-clause-rule : goal.another-requires-clause-rule
-another-requires-clause-rule c = forks _ _ c.requires.parts.0 c.requires.parts.1
