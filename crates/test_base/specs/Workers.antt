@@ -14,7 +14,9 @@ increment = record {
   result = 1;
   loops = [];
   initial = [];
-  code = 0x10 ∷ 0x24 ∷ 0xF2 ∷ 0x54 ∷ 0x44 ∷ 0xF7 ∷ 0x70 ∷ 0x81 ∷ 0xD0 ∷ 0x10 ∷ 0x24 ∷ 0xF2 ∷ 0x44 ∷ 0xFB ∷ 0x21 ∷ 0xF5 ∷ [];
+  code =
+      0x10 ∷ 0x24 ∷ 0xF2 ∷ 0x54 ∷ 0x44 ∷ 0xF7 ∷ 0x70 ∷ 0x81 ∷ 0xD0 ∷ 0x10 ∷ 0x24 ∷ 0xF2 ∷ 0x44 ∷ 0xFB ∷ 0x21 ∷ 0xF5
+      ∷ [];
 }
 
 -- the word 1, and the word 2 that the worker makes of it
@@ -26,4 +28,13 @@ two = 2 ∷ 0 ∷ 0 ∷ 0 ∷ []
 
 -- the result of the packet 1
 abbrev pub incremented : (batch number : ℕ) → DoneValue
-incremented batch number = record { batch = batch; packet = number; result = two; error = false; steps = 16; trace = []; image = increment; bytes = one }
+incremented batch number = record {
+  batch = batch;
+  packet = number;
+  result = two;
+  error = false;
+  steps = 16;
+  trace = [];
+  image = increment;
+  bytes = one;
+}

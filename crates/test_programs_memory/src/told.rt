@@ -60,7 +60,9 @@ pub const CASES: [Case<'_>; 5] = [
     Case {
         words: &["tpw", "run", "--words", "10", "--members", "1"],
         input: Text::Digits("", FIBONACCI),
-        told: Text::Lines("0  flag 0  575 of 1056  55\npackets 1, lost 0, steps 575 to 575 of 1056\n"),
+        told: Text::Lines(
+            "0  flag 0  575 of 1056  55\npackets 1, lost 0, steps 575 to 575 of 1056\n",
+        ),
         status: 0,
     },
     Case {

@@ -444,7 +444,8 @@ fn refusals(rt: HostRuntime) {
 }
 
 /// Sends 65 traces of a word, one more than is kept.
-const LOSES: &str = "packet 1\nresult 1\nlocal n\nreceive n\nfor i = 0 for 65\ntrace n\nend i\nsend n\nstopp\n";
+const LOSES: &str =
+    "packet 1\nresult 1\nlocal n\nreceive n\nfor i = 0 for 65\ntrace n\nend i\nsend n\nstopp\n";
 
 /// What becomes of packets that are run: lines, bytes alone, losses, and what ends a run before it begins.
 #[test]
@@ -454,7 +455,17 @@ fn runs_packets(rt: HostRuntime) {
     let cases = [
         (
             fibonacci.as_str(),
-            ["tpw", "run", "--words", "10", "--words", "0x2F", "--members", "2"].as_slice(),
+            [
+                "tpw",
+                "run",
+                "--words",
+                "10",
+                "--words",
+                "0x2F",
+                "--members",
+                "2",
+            ]
+            .as_slice(),
             0,
             "\
 0  flag 0  575 of 1056  55
@@ -487,7 +498,16 @@ packets 2, lost 0, steps 16 to 16 of 16
         ),
         (
             increment.as_str(),
-            ["tpw", "run", "--raw", "--words", "0x3534330a", "--words", "#0a343332"].as_slice(),
+            [
+                "tpw",
+                "run",
+                "--raw",
+                "--words",
+                "0x3534330a",
+                "--words",
+                "#0a343332",
+            ]
+            .as_slice(),
             0,
             "\u{b}345334\n",
             "",

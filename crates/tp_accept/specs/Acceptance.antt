@@ -8,8 +8,8 @@ use Rattle.tp_check.specs.EdgesRespect.{EveryEdgeRespects}
 use Rattle.tp_accept.specs.Limits.{most_budget}
 use Rattle.tp_accept.specs.Bound.{bound}
 
--- An image is acceptable, with a budget: its code is cut into instructions, no rule of flow is broken, every edge respects
--- some table, and the budget is the bound and within the limit.
+-- An image is acceptable, with a budget: its code is cut into instructions, no rule of flow is broken, every edge
+-- respects some table, and the budget is the bound and within the limit.
 pub record IsAcceptable (image : ImageValue) (budget : ℕ) : Type 0 where
   pub in_range : InRange image
   pub cuts : List Cut

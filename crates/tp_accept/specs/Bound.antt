@@ -60,7 +60,8 @@ with_instruction rows code costs at cut = with_cost costs at (cost_of rows code 
 -- the costs of instructions, the first of which stands at an address: from the last to the first
 abbrev pub costs_from : List LoopRow → List Cut → ℕ → List Cut → Costs
 costs_from rows code at [] = λ to. nothing
-costs_from rows code at (cut ∷ cuts) = with_instruction rows code (costs_from rows code (at + length cut.bytes) cuts) at cut
+costs_from rows code at (cut ∷ cuts) =
+    with_instruction rows code (costs_from rows code (at + length cut.bytes) cuts) at cut
 
 -- the costs of a code with loops
 abbrev pub costs_of : List LoopRow → List Cut → Costs

@@ -16,5 +16,7 @@ abbrev pub entered_at : List LoopRow → ℕ → ℕ → Option LoopRow
 entered_at rows at to = find (λ row. (row.head == to) && not (contains (range_of row) at)) rows
 
 pub record AreCosts (rows : List LoopRow) (code : List Cut) (L : ℕ → ℕ) (V : ℕ → ℕ → ℕ) : Type 0 where
-  pub each : (at : ℕ) (cut : Cut) → cut_at code at ≡ Some cut → L at ≡ left_of (seen_from L V at) (length cut.bytes) (at + length cut.bytes) cut.instr
-  pub seen : (at to : ℕ) → at < to → IsTrue (is_start code to) → V at to ≡ whole_of code (seen_from L V at) (L to) (entered_at rows at to)
+  pub each : (at : ℕ) (cut : Cut) → cut_at code at ≡ Some cut
+      → L at ≡ left_of (seen_from L V at) (length cut.bytes) (at + length cut.bytes) cut.instr
+  pub seen : (at to : ℕ) → at < to → IsTrue (is_start code to)
+      → V at to ≡ whole_of code (seen_from L V at) (L to) (entered_at rows at to)

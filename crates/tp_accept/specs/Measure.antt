@@ -26,14 +26,18 @@ measure rows code at executed counts =
     let costs = costs_of rows code in
     (costs at).left - executed + sum_by (λ row. turns_left code costs row (counts row)) (loops_at rows at)
 
--- the count of a loop around the place where an edge goes: a loop that is entered has all its turns, and a way back takes one
+-- the count of a loop around the place where an edge goes: a loop that is entered has all its turns, and a way back
+-- takes one
 abbrev pub count_after : ℕ → Edge → LoopRow → ℕ → ℕ
 count_after at edge row count =
-    if contains (range_of row) at then (if is_edge edge Back && (row.lend == at) then count - 1 else count) else row.count
+    if contains (range_of row) at
+    then (if is_edge edge Back && (row.lend == at) then count - 1 else count)
+    else row.count
 
 abbrev pub AreCountsAfter : List LoopRow → ℕ → Edge → ℕ → Counts → Counts → Type 0
 AreCountsAfter rows at edge to counts later =
-    (row : LoopRow) → Contains rows row → IsTrue (contains (range_of row) to) → later row ≡ count_after at edge row (counts row)
+    (row : LoopRow) → Contains rows row → IsTrue (contains (range_of row) to)
+    → later row ≡ count_after at edge row (counts row)
 
 -- a way back is taken only where turns are left
 abbrev pub HasTurns : List LoopRow → ℕ → Counts → Type 0

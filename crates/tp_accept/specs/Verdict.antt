@@ -1,5 +1,5 @@
--- The verdict on a text: that it may be run, or the first refusal. The text is judged as an image, then the image's code by
--- its cutting, its flow, its states and its bound.
+-- The verdict on a text: that it may be run, or the first refusal. The text is judged as an image, then the image's
+-- code by its cutting, its flow, its states and its bound.
 use Rattle.std.specs.Prelude.{◌≡◌, ℕ, nat_lt, if◌then◌else◌, List, length, Option, Some, None, Result, Ok, Err}
 use Rattle.tp_image.specs.Image.{ImageValue}
 use Rattle.tp_image.specs.declared.fault.ImageFault.{ImageFault}

@@ -10,5 +10,8 @@ use Rattle.tp_accept.specs.Measure.{Counts, AreCountsAfter, HasTurns}
 
 -- from an address on, with these counts, over one or more instructions, of so many bytes in all
 pub data Walk (rows : List LoopRow) (code : List Cut) : ℕ → Counts → ℕ → Type 0 where
-  Ends : (at : ℕ) (counts : Counts) (cut : Cut) → cut_at code at ≡ Some cut → Walk rows code at counts (length cut.bytes)
-  Goes : (at to n : ℕ) (edge : Edge) (counts later : Counts) (e : IsEdge (ranges rows) code at edge to) → (edge ≡ Back → HasTurns rows at counts) → AreCountsAfter rows at edge to counts later → Walk rows code to later n → Walk rows code at counts (length e.cut.bytes + n)
+  Ends : (at : ℕ) (counts : Counts) (cut : Cut) → cut_at code at ≡ Some cut
+      → Walk rows code at counts (length cut.bytes)
+  Goes : (at to n : ℕ) (edge : Edge) (counts later : Counts) (e : IsEdge (ranges rows) code at edge to)
+      → (edge ≡ Back → HasTurns rows at counts) → AreCountsAfter rows at edge to counts later
+      → Walk rows code to later n → Walk rows code at counts (length e.cut.bytes + n)

@@ -64,7 +64,8 @@ answer_by (Refuses code place) = Refused (Image code place)
 
 -- the session opens with the image and no packet, in the place of the one of its name if that is open
 abbrev pub after_verdict : (name : List ℕ) → Verdict → List Session → List Session
-after_verdict name (Accepts image budget) before = with_session record { name = name; image = image; packets = [] } before
+after_verdict name (Accepts image budget) before =
+    with_session record { name = name; image = image; packets = [] } before
 after_verdict name (Refuses code place) before = before
 
 module _ (Judges : List ℕ → Verdict → Type 0) where
@@ -75,7 +76,8 @@ module _ (Judges : List ℕ → Verdict → Type 0) where
 
   abbrev pub IsAfterImage : (full : Bool) → (name text : List ℕ) → (before after : List Session) → Type 0
   IsAfterImage true name text before after = after ≡ before
-  IsAfterImage false name text before after = (verdict : Verdict) × Judges text verdict × (after ≡ after_verdict name verdict before)
+  IsAfterImage false name text before after =
+      (verdict : Verdict) × Judges text verdict × (after ≡ after_verdict name verdict before)
 
 -- ---- <name> RUN, RUN *
 
@@ -86,7 +88,8 @@ module _ (ComesTo : ImageValue → List ℕ → Option RunResult → Type 0) whe
 
   abbrev pub IsAnswerToRun : Option Session → Answer → Type 0
   IsAnswerToRun None answer = answer ≡ Refused P2
-  IsAnswerToRun (Some s) answer = (outcomes : List (Option RunResult)) × AreOutcomes s outcomes × (answer ≡ Ran outcomes)
+  IsAnswerToRun (Some s) answer =
+      (outcomes : List (Option RunResult)) × AreOutcomes s outcomes × (answer ≡ Ran outcomes)
 
   -- a session's name, and what its packets come to
   abbrev pub IsRun : Session → List ℕ × List (Option RunResult) → Type 0

@@ -33,7 +33,8 @@ with_session new (s ∷ sessions) = if is_of new.name s then new ∷ sessions el
 -- with the session of a name, if it is open, changed
 abbrev pub with_changed : (Session → Session) → List ℕ → List Session → List Session
 with_changed change name [] = []
-with_changed change name (s ∷ sessions) = if is_of name s then change s ∷ sessions else s ∷ with_changed change name sessions
+with_changed change name (s ∷ sessions) =
+    if is_of name s then change s ∷ sessions else s ∷ with_changed change name sessions
 
 -- without the session of a name; the others keep their order
 abbrev pub without_session : List ℕ → List Session → List Session

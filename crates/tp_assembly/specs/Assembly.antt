@@ -50,7 +50,8 @@ said program loops code = record {
 
 -- what a program says, where its lines are so many bytes long
 abbrev pub assembled : Program → List ℕ → ImageValue
-assembled program lengths = said program (map (row_of (addresses_from 0 lengths)) program.loops.items) (code_of lengths program.lines.items)
+assembled program lengths =
+    said program (map (row_of (addresses_from 0 lengths)) program.loops.items) (code_of lengths program.lines.items)
 
 -- no label is wrong
 pub record HasPlaces (program : Program) : Type 0 where
@@ -104,12 +105,14 @@ pub record IsAssembly (program : Program) (image : ImageValue) : Type 0 where
 
 -- a program has no image, for this reason and for none before it
 abbrev pub IsRefused : Program → AssemblyFault → Type 0
-IsRefused program (LineRefused number fault) = first_fault (length program.lines.items) 0 program.lines.items ≡ Some (LineRefused number fault)
+IsRefused program (LineRefused number fault) =
+    first_fault (length program.lines.items) 0 program.lines.items ≡ Some (LineRefused number fault)
 IsRefused program (Row number) =
     AreSound program.lines.items × (first_row (length program.lines.items) 0 program.loops.items ≡ Some (Row number))
 IsRefused program TooLong = HasPlaces program × IsLong program.lines.items (most_code program.version)
 IsRefused program (Narrow number) =
     (lengths : List ℕ) × HasLayout program lengths × (first_narrow 0 program.lines.items lengths ≡ Some (Narrow number))
 IsRefused program (Field code) =
-    (lengths : List ℕ) × HasLengths program lengths × (field_refusal (header_of (assembled program lengths)) ≡ Some code)
+    (lengths : List ℕ) × HasLengths program lengths
+    × (field_refusal (header_of (assembled program lengths)) ≡ Some code)
 IsRefused program NoMemory = Unit {0}

@@ -32,7 +32,8 @@ line_fault count number (Spelled operation bytes) =
 abbrev pub first_fault : ℕ → ℕ → List Line → Option AssemblyFault
 first_fault count number [] = None
 first_fault count number (line ∷ lines) =
-    option_or (option_map (λ fault. LineRefused number fault) (line_fault count number line)) (first_fault count (number + 1) lines)
+    option_or (option_map (λ fault. LineRefused number fault) (line_fault count number line))
+    (first_fault count (number + 1) lines)
 
 -- no line has a fault
 abbrev pub AreSound : List Line → Type 0
@@ -49,7 +50,8 @@ is_row_behind count row = is_behind count row.head || is_behind count row.lend
 -- the first loop with such a place
 abbrev pub first_row : ℕ → ℕ → List Loop → Option AssemblyFault
 first_row count number [] = None
-first_row count number (row ∷ rows) = if is_row_behind count row then Some (Row number) else first_row count (number + 1) rows
+first_row count number (row ∷ rows) =
+    if is_row_behind count row then Some (Row number) else first_row count (number + 1) rows
 
 -- as many bytes as are stated
 abbrev pub is_stated : Line → ℕ → Bool

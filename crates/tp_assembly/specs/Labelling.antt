@@ -19,7 +19,8 @@ use Rattle.tp_assembly.specs.Telling.{IsTold}
 -- the place that lies so many bytes behind another
 abbrev pub place_ahead : List ℕ → ℕ → ℤ → Option ℕ
 place_ahead addresses from (pos bytes) =
-    option_map (λ k. from + k) (position (λ address. address == slice_index addresses from + bytes) (drop from addresses))
+    option_map (λ k. from + k)
+    (position (λ address. address == slice_index addresses from + bytes) (drop from addresses))
 place_ahead addresses from (negsuc bytes) = None
 
 -- a jump to a place, if there is one
@@ -29,7 +30,8 @@ to_place jump plain (Some place) = jump place
 
 -- an operation with a place for the distance of a jump
 abbrev pub placed : List ℕ → ℕ → Operation → Operation
-placed addresses line (Plain (Jump bytes)) = to_place JumpTo (Plain (Jump bytes)) (place_ahead addresses (line + 1) bytes)
+placed addresses line (Plain (Jump bytes)) =
+    to_place JumpTo (Plain (Jump bytes)) (place_ahead addresses (line + 1) bytes)
 placed addresses line (Plain (Cj bytes)) = to_place CjTo (Plain (Cj bytes)) (place_ahead addresses (line + 1) bytes)
 placed addresses line operation = operation
 
@@ -40,7 +42,8 @@ labelled addresses number (Spelled operation bytes) = Spelled (placed addresses 
 -- lines with places, the first of which has a number
 abbrev pub labelled_from : List ℕ → ℕ → List Line → List Line
 labelled_from addresses number [] = []
-labelled_from addresses number (line ∷ lines) = labelled addresses number line ∷ labelled_from addresses (number + 1) lines
+labelled_from addresses number (line ∷ lines) =
+    labelled addresses number line ∷ labelled_from addresses (number + 1) lines
 
 -- the place that has an address, or else that address
 abbrev pub spot_from : ℕ → Option ℕ → Spot
@@ -59,7 +62,8 @@ loop_of addresses row = record {
   start = row.start;
 }
 
--- a program's lines are those of the image's code, and its loops those of the image's rows, with places for addresses that have one
+-- a program's lines are those of the image's code, and its loops those of the image's rows, with places for addresses
+-- that have one
 pub record IsDisassembly (image : ImageValue) (program : Program) : Type 0 where
   pub told : List Line
   pub lengths : List ℕ

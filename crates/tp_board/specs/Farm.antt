@@ -54,11 +54,13 @@ claim_step s member None =
 
 abbrev pub finish_step : Farm → ℕ → Option ℕ → Step
 finish_step s member None = (Empty, s)
-finish_step s member (Some n) = (Number n, farm s.packets s.drawn (hands_with s member None) (s.done ++ n ∷ []) s.lost s.stop)
+finish_step s member (Some n) =
+    (Number n, farm s.packets s.drawn (hands_with s member None) (s.done ++ n ∷ []) s.lost s.stop)
 
 abbrev pub abandon_step : Farm → ℕ → Option ℕ → Step
 abandon_step s member None = (Empty, s)
-abandon_step s member (Some n) = (Number n, farm s.packets s.drawn (hands_with s member None) s.done (s.lost ++ n ∷ []) s.stop)
+abandon_step s member (Some n) =
+    (Number n, farm s.packets s.drawn (hands_with s member None) s.done (s.lost ++ n ∷ []) s.stop)
 
 -- one event of one member
 abbrev pub step : Farm → ℕ → Event → Step

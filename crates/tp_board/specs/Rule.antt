@@ -32,10 +32,10 @@ pub record Fits (k : Size) (w : Counters) (v : View) : Type 0 where
   pub seen : AtMost v.seen w
   pub idle : v.parts ≡ 0 → (v.drawn ≡ []) × (v.stop_callers ≡ 0)
 
--- of the words and all views, of the most members at most and a feeder: all drawn numbers are those below the lesser of `claimed` and
--- packets, each once; `claimed` also counts the views that learnt the end, which exist only where
--- it is above packets; `done` and `lost` count the numbers finished and abandoned; `stop` is 1
--- where some view called stop, and else 0
+-- of the words and all views, of the most members at most and a feeder: all drawn numbers are those below the lesser of
+-- `claimed` and packets, each once; `claimed` also counts the views that learnt the end, which exist only where it is
+-- above packets; `done` and `lost` count the numbers finished and abandoned; `stop` is 1 where some view called stop,
+-- and else 0
 pub record Rule (k : Size) (w : Counters) (views : List View) : Type 0 where
   pub few_packets : k.packets ≤ most_packets
   pub few_members : k.members ≤ most_members + 1

@@ -45,7 +45,8 @@ pub record IsRun (k : Size) (words : List ℕ) (views : List View) (events : Lis
   pub rule : KeepsRule k words' views'
   pub farm : IsSame (farm_of k words' views') (farm_after (farm_of k words views) events)
   pub answered : board_replies words views events ≡ replies (farm_of k words views) events
-  pub in_order : DrawsInOrder (farm_of k words views) events (board_replies words views events) (farm_of k words' views')
+  pub in_order : DrawsInOrder (farm_of k words views) events (board_replies words views events)
+      (farm_of k words' views')
 
 -- whatever words and views the rule allows, every schedule of the seats' steps is a run of the farm
 abbrev pub ScheduleLaw : Type 0

@@ -39,7 +39,8 @@ pub record IsHandState (packets : ℕ) (s : HandState) : Type 0 where
   pub agrees : Agrees (hand_seen s)
 
 -- the queue and the words keep their rules, and each stand joins the two
-pub record KeepsStream (packets members : ℕ) (items : List Item) (words : List ℕ) (stands : List HandState) : Type 0 where
+pub record KeepsStream (packets members : ℕ) (items : List Item) (words : List ℕ)
+    (stands : List HandState) : Type 0 where
   pub in_range : InRange packets members
   pub queue : Streamed items (map (λ s. s.turn) stands)
   pub tally : KeepsTally (size packets (members + 1)) words (map (λ s. s.place) stands)
@@ -90,7 +91,8 @@ after_push s x = record s { turn = put s.turn x }
 -- the stream that a step leaves keeps its rules, and the board that it stands for is what this event
 -- makes of the board before, with this reply
 pub record IsStreamEvent (packets members : ℕ) (words : List ℕ) (stands : List HandState)
-    (items' : List Item) (words' : List ℕ) (stands' : List HandState) (id : ℕ) (event : Event) (reply : Reply) : Type 0 where
+    (items' : List Item) (words' : List ℕ) (stands' : List HandState) (id : ℕ) (event : Event)
+    (reply : Reply) : Type 0 where
   pub rule : KeepsStream packets members items' words' stands'
   pub made : IsEvent (size packets (members + 1)) (pops stands ∷ words) (map hand_seen stands)
       (pops stands' ∷ words') (map hand_seen stands') id event reply
@@ -103,12 +105,14 @@ pop_reply End = reply.NoMore
 
 abbrev pub PopLaw : Type 0
 PopLaw =
-    (packets members : ℕ) (x : Item) (items : List Item) (words : List ℕ) (stands : List HandState) (id : ℕ) (s : HandState)
+    (packets members : ℕ) (x : Item) (items : List Item) (words : List ℕ) (stands : List HandState) (id : ℕ)
+    (s : HandState)
     → KeepsStream packets members (x ∷ items) words stands
     → get_elem? stands id ≡ some s
     → MayStep Claim (hand_seen s)
     → IsFresh (hand_seen s) Claimed (pops stands)
-    × IsStreamEvent packets members words stands items words (slice_set stands id (after_pop s x)) id Claim (pop_reply x)
+    × IsStreamEvent packets members words stands items words (slice_set stands id (after_pop s x)) id Claim
+    (pop_reply x)
 
 -- a push of the next item leaves the board as it was
 abbrev pub PushLaw : Type 0
@@ -133,7 +137,8 @@ found_at event words = slice_index words (tally_place_of (row_of event).word)
 
 -- the three words after it
 abbrev pub words_with : Event → List ℕ → List ℕ
-words_with event words = slice_set words (tally_place_of (row_of event).word) ((row_of event).change (found_at event words))
+words_with event words =
+    slice_set words (tally_place_of (row_of event).word) ((row_of event).change (found_at event words))
 
 -- what the seat at the words takes the step with: a report is of the number in hand, which the seat
 -- does not know

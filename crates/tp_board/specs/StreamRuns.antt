@@ -116,7 +116,8 @@ pub record IsStreamRun (packets members : ℕ) (g : Stage) (steps : List (ℕ ×
   pub rule : KeepsStage packets members h
   pub farm : IsSame (farm_at packets members h) (farm_after (farm_at packets members g) (events_of steps))
   pub answered : stream_replies g steps ≡ replies (farm_at packets members g) (events_of steps)
-  pub in_order : DrawsInOrder (farm_at packets members g) (events_of steps) (stream_replies g steps) (farm_at packets members h)
+  pub in_order : DrawsInOrder (farm_at packets members g) (events_of steps) (stream_replies g steps)
+      (farm_at packets members h)
 
 -- whatever queue and words their rules allow, every list of steps is a run of the core
 abbrev pub StreamScheduleLaw : Type 0

@@ -63,7 +63,8 @@ abbrev pub stream_of : TableId → TableId → List (List ℕ) → ℕ → Strea
 stream_of queue tally packets members = record { queue = queue; tally = tally; packets = packets; members = members }
 
 abbrev pub hand_of_parts : TableId → TableId → PassView → View → Option ℕ → HandView
-hand_of_parts queue tally turn place number = record { queue = queue; tally = tally; turn = turn; place = place; number = number }
+hand_of_parts queue tally turn place number =
+    record { queue = queue; tally = tally; turn = turn; place = place; number = number }
 
 abbrev pub feeder_of_parts : TableId → TableId → PassView → View → FeederView
 feeder_of_parts queue tally turn place = record { queue = queue; tally = tally; turn = turn; place = place }
@@ -90,13 +91,16 @@ abbrev pub new_hand_of : StreamView → HandView
 new_hand_of q = fresh_hand q.queue q.tally (length q.packets) q.members
 
 abbrev pub new_feeder_of : StreamView → FeederView
-new_feeder_of q = feeder_of_parts q.queue q.tally (feeder (length q.packets) q.members 1) (newcomer (length q.packets) 1)
+new_feeder_of q =
+    feeder_of_parts q.queue q.tally (feeder (length q.packets) q.members 1) (newcomer (length q.packets) 1)
 
 abbrev pub IsHandOf : StreamView → HandView → Type 0
-IsHandOf q h = (h.queue ≡ q.queue) × (h.tally ≡ q.tally) × (h.turn.packets ≡ length q.packets) × (h.turn.members ≡ q.members)
+IsHandOf q h =
+    (h.queue ≡ q.queue) × (h.tally ≡ q.tally) × (h.turn.packets ≡ length q.packets) × (h.turn.members ≡ q.members)
 
 abbrev pub IsFeederOf : StreamView → FeederView → Type 0
-IsFeederOf q f = (f.queue ≡ q.queue) × (f.tally ≡ q.tally) × (f.turn.packets ≡ length q.packets) × (f.turn.members ≡ q.members)
+IsFeederOf q f =
+    (f.queue ≡ q.queue) × (f.tally ≡ q.tally) × (f.turn.packets ≡ length q.packets) × (f.turn.members ≡ q.members)
 
 -- ---- what the types keep
 -- of a stream: its table has three words and was told how many seats there are, and its queue has

@@ -12,9 +12,6 @@ ghost use Rattle.tp_board.specs.Openings.{InRange, Opens};
 mod seat;
 mod source;
 
-pub use seat::Seat;
-pub use source::BoardSource;
-
 use crate::answer::{BoardFault, Claim, Ledger, MAX_MEMBERS, MAX_PACKETS};
 use crate::event::Shown;
 use crate::rule::{
@@ -23,6 +20,8 @@ use crate::rule::{
 };
 use crate::view::View;
 use atomic_table::Table;
+pub use seat::Seat;
+pub use source::BoardSource;
 use std::alloc::Global;
 use std::marker::Model;
 

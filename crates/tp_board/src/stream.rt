@@ -22,16 +22,15 @@ mod queue;
 mod tally;
 mod waiting;
 
-pub use hand::{Fed, Feeder, StreamHand, StreamLedger};
-
 use crate::answer::{BoardFault, Claim, Ledger, MAX_MEMBERS, MAX_PACKETS};
+use crate::source::{Packet, Work, WorkSource, with_bytes};
+use crate::stream::queue::{Item, Queue, QueuePass, drained, feed, join, new_hand, opened, take};
 use crate::stream::tally::{
-    DONE, Tally, LOST, STOP, Token, another_seat, join_seats, look_stop, open_tally, report_done,
+    DONE, LOST, STOP, Tally, Token, another_seat, join_seats, look_stop, open_tally, report_done,
     report_lost, set_stop,
 };
-use crate::stream::queue::{Item, Queue, QueuePass, drained, feed, join, new_hand, opened, take};
-use crate::source::{Packet, Work, WorkSource, with_bytes};
 use crate::stream::waiting::Waiting;
+pub use hand::{Fed, Feeder, StreamHand, StreamLedger};
 use std::alloc::Global;
 use std::marker::Model;
 use std::sync::Wait;

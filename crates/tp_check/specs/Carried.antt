@@ -67,7 +67,8 @@ IsAmong es e = (i : ℕ) × (slice_get es i ≡ Some e)
 
 -- Among some edges, each address that does not join is the target of one at most, and no edge leads from it to itself.
 pub record IsLone (image : ImageValue) (joins : ℕ → Bool) (IsEdge : Placed × Edge → Type 0) : Type 0 where
-  pub one : (e f : Placed × Edge) (to : ℕ) → IsEdge e → IsEdge f → joins to ≡ false → target_of image e ≡ Some to → target_of image f ≡ Some to → e ≡ f
+  pub one : (e f : Placed × Edge) (to : ℕ) → IsEdge e → IsEdge f → joins to ≡ false → target_of image e ≡ Some to
+      → target_of image f ≡ Some to → e ≡ f
   pub on : (e : Placed × Edge) (to : ℕ) → IsEdge e → joins to ≡ false → target_of image e ≡ Some to → to ≢ e.0.at
 
 -- ---- passes with one state carried
@@ -84,12 +85,13 @@ carried image cuts joins (suc n) = carried image cuts joins n >>= carried_pass i
 
 -- The states of a table at some addresses, by rising address; none at another.
 pub record AreStatesOf (keeps : ℕ → Bool) (table : Table) (states : List (ℕ × State)) : Type 0 where
-  pub rising : (i j : ℕ) (a b : ℕ × State) → i < j → slice_get states i ≡ Some a → slice_get states j ≡ Some b → a.0 < b.0
+  pub rising : (i j : ℕ) (a b : ℕ × State) → i < j → slice_get states i ≡ Some a → slice_get states j ≡ Some b
+      → a.0 < b.0
   pub each : (i : ℕ) (a : ℕ × State) → slice_get states i ≡ Some a → IsTrue (keeps a.0) × (table a.0 ≡ Some a.1)
   pub all : (at : ℕ) (s : State) → IsTrue (keeps at) → table at ≡ Some s → (i : ℕ) × (slice_get states i ≡ Some (at, s))
 
--- At the addresses that are kept these are the states of the verdict's table, which has one at each address to which a way
--- leads.
+-- At the addresses that are kept these are the states of the verdict's table, which has one at each address to which a
+-- way leads.
 pub record IsTableOf (image : ImageValue) (cuts : List Cut) (states : List (ℕ × State)) : Type 0 where
   pub whole : Table
   pub verdict : IsVerdict image cuts (Ok whole)

@@ -19,7 +19,8 @@ pub record HasAbove (table : Table) (at : ℕ) (s : State) : Type 0 where
   pub below : IsBelow s state
 
 -- from a state at an address nothing is refused on an edge, and the target has a state above what is known after it
-pub record Respects (image : ImageValue) (table : Table) (at next : ℕ) (instr : Instr) (s : State) (edge : Edge) : Type 0 where
+pub record Respects (image : ImageValue) (table : Table) (at next : ℕ) (instr : Instr) (s : State)
+    (edge : Edge) : Type 0 where
   pub outcome : State
   pub goes_on : after image at next instr edge s ≡ Ok outcome
   pub enters : (to : ℕ) → target (ranges image.loops) at next instr edge ≡ Some to → HasAbove table to outcome
@@ -27,7 +28,8 @@ pub record Respects (image : ImageValue) (table : Table) (at next : ℕ) (instr 
 -- each edge of the instruction at an address respects the table, from the address's state, if it has one
 abbrev pub RespectsFrom : ImageValue → List Cut → Table → ℕ → Type 0
 RespectsFrom image cuts table at =
-    (cut : Cut) (s : State) → cut_at cuts at ≡ Some cut → table at ≡ Some s → All (Respects image table at (at + length cut.bytes) cut.instr s) (asked cut.instr)
+    (cut : Cut) (s : State) → cut_at cuts at ≡ Some cut → table at ≡ Some s
+    → All (Respects image table at (at + length cut.bytes) cut.instr s) (asked cut.instr)
 
 -- Every edge respects a table:
 pub record EveryEdgeRespects (image : ImageValue) (cuts : List Cut) (table : Table) : Type 0 where

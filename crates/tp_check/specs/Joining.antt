@@ -56,7 +56,8 @@ abbrev pub Tells : ImageValue → List Cut → List (Placed × Edge) → ℕ →
 Tells image cuts rest at way.Joined = is_kept image cuts at ≡ true
 Tells image cuts rest at way.Unreached = IsInner image at × (reached image cuts at ≡ leading image at rest)
 Tells image cuts rest at way.Jump = IsInner image at × (reached image cuts at ≡ suc (leading image at rest))
-Tells image cuts rest at way.Fall = IsInner image at × (reached image cuts at ≡ suc (leading image at rest)) × HasFall image cuts at
+Tells image cuts rest at way.Fall =
+    IsInner image at × (reached image cuts at ≡ suc (leading image at rest)) × HasFall image cuts at
 
 abbrev pub TellWays : ImageValue → List Cut → List (Placed × Edge) → List Way → Type 0
 TellWays image cuts rest ways = (at : ℕ) → Tells image cuts rest at (way_at ways at)

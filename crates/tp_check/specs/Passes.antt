@@ -77,8 +77,8 @@ abbrev pub passes : ImageValue → List Cut → ℕ → Result Table StateFault
 passes image cuts zero = Ok (first_table image)
 passes image cuts (suc n) = passes image cuts n >>= pass image cuts
 
--- The verdict of the passes is what some number of them comes to and one more leaves as it is: a refusal, or a table that
--- a pass does not change.
+-- The verdict of the passes is what some number of them comes to and one more leaves as it is: a refusal, or a table
+-- that a pass does not change.
 pub record IsVerdict (image : ImageValue) (cuts : List Cut) (verdict : Result Table StateFault) : Type 0 where
   pub number : ℕ
   pub comes : passes image cuts number ≡ verdict

@@ -7,8 +7,8 @@ use Rattle.tp_state.specs.declared.state.State.{State}
 use Rattle.tp_state.specs.Sound.{IsSound}
 use Rattle.tp_state.specs.Live.{LiveWordsAre}
 
--- A state before an instruction is sound: it is one of the image's worker, and the ranges of its registers are in order. Its
--- live control words are those of the loops around the instruction.
+-- A state before an instruction is sound: it is one of the image's worker, and the ranges of its registers are in
+-- order. Its live control words are those of the loops around the instruction.
 pub record IsStateAt (image : ImageValue) (at : ℕ) (s : State) : Type 0 where
   pub sound : IsSound image s
   pub live : LiveWordsAre image.loops (is_around (ranges image.loops) at) s.cells

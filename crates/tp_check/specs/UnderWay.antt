@@ -27,7 +27,8 @@ use Rattle.tp_check.specs.Rising.{HasPlaces, height, table_height}
 
 -- ---- what a table keeps
 
--- a state before an instruction is one of the image's worker, and its live control words are those of the loops around it
+-- a state before an instruction is one of the image's worker, and its live control words are those of the loops around
+-- it
 pub record IsPlacedAt (image : ImageValue) (at : ℕ) (s : State) : Type 0 where
   pub placed : IsPlaced image s
   pub live : LiveWordsAre image.loops (is_around (ranges image.loops) at) s.cells
@@ -40,8 +41,10 @@ pub record HasGrown (image : ImageValue) (table : Table) : Type 0 where
 -- an instruction's place among so many addresses
 pub record MayBeTaken (image : ImageValue) (places : ℕ) (place : Placed) : Type 0 where
   pub inside : place.at < places
-  pub targets : (edge : Edge) (to : ℕ) → target (ranges image.loops) place.at place.next place.instr edge ≡ Some to → to < places
-  pub elsewhere : (edge : Edge) (to : ℕ) → target (ranges image.loops) place.at place.next place.instr edge ≡ Some to → to ≢ place.at
+  pub targets : (edge : Edge) (to : ℕ) → target (ranges image.loops) place.at place.next place.instr edge ≡ Some to
+      → to < places
+  pub elsewhere : (edge : Edge) (to : ℕ) → target (ranges image.loops) place.at place.next place.instr edge ≡ Some to
+      → to ≢ place.at
   pub around : KeepsAround image.loops image.workspace place.at place.next place.instr
 
 -- ---- where edges join
@@ -50,22 +53,26 @@ pub record MayBeTaken (image : ImageValue) (places : ℕ) (place : Placed) : Typ
 abbrev pub is_in : List Bool → ℕ → Bool
 is_in flags at = slice_index_or flags at false
 
--- Edges join at these addresses: at each that is kept, and at each target of one edge alone but the next instruction, to
--- which control falls.
+-- Edges join at these addresses: at each that is kept, and at each target of one edge alone but the next instruction,
+-- to which control falls.
 pub record AreJoins (image : ImageValue) (cuts : List Cut) (joins : ℕ → Bool) : Type 0 where
   pub wide : AreWide image cuts joins
   pub lone : IsLone image joins (IsAmong (edges_in cuts))
-  pub falls : (e : Placed × Edge) (to : ℕ) → IsAmong (edges_in cuts) e → joins to ≡ false → target_of image e ≡ Some to → to ≡ e.0.next
+  pub falls : (e : Placed × Edge) (to : ℕ) → IsAmong (edges_in cuts) e → joins to ≡ false → target_of image e ≡ Some to
+      → to ≡ e.0.next
 
 -- ---- what need not be taken again
 
--- Nothing is refused on an edge; where its target joins, the state there is above what is known after it, and elsewhere it
--- is what is known after it.
-pub record Settles (image : ImageValue) (joins : ℕ → Bool) (table : Table) (at next : ℕ) (instr : Instr) (s : State) (edge : Edge) : Type 0 where
+-- Nothing is refused on an edge; where its target joins, the state there is above what is known after it, and elsewhere
+-- it is what is known after it.
+pub record Settles (image : ImageValue) (joins : ℕ → Bool) (table : Table) (at next : ℕ) (instr : Instr) (s : State)
+    (edge : Edge) : Type 0 where
   pub outcome : State
   pub goes_on : after image at next instr edge s ≡ Ok outcome
-  pub meets : (to : ℕ) → target (ranges image.loops) at next instr edge ≡ Some to → joins to ≡ true → HasAbove table to outcome
-  pub sets : (to : ℕ) → target (ranges image.loops) at next instr edge ≡ Some to → joins to ≡ false → table to ≡ Some outcome
+  pub meets : (to : ℕ) → target (ranges image.loops) at next instr edge ≡ Some to → joins to ≡ true
+      → HasAbove table to outcome
+  pub sets : (to : ℕ) → target (ranges image.loops) at next instr edge ≡ Some to → joins to ≡ false
+      → table to ≡ Some outcome
 
 -- an edge that was taken has settled, unless its address is marked
 abbrev pub IsTaken : ImageValue → (ℕ → Bool) → (ℕ → Bool) → Table → (at next : ℕ) → Instr → Edge → Type 0
@@ -76,19 +83,21 @@ abbrev pub TakenAt : ImageValue → (ℕ → Bool) → (ℕ → Bool) → Table 
 TakenAt image joins marks table at cut =
     All (IsTaken image joins marks table at (at + length cut.bytes) cut.instr) (asked cut.instr)
 
--- From one of its edges on, an instruction's edges were taken before from a state below the one that stands at its address
--- now, and they have settled.
-pub record WasTaken (image : ImageValue) (joins : ℕ → Bool) (table : Table) (at next : ℕ) (instr : Instr) (done : ℕ) : Type 0 where
+-- From one of its edges on, an instruction's edges were taken before from a state below the one that stands at its
+-- address now, and they have settled.
+pub record WasTaken (image : ImageValue) (joins : ℕ → Bool) (table : Table) (at next : ℕ) (instr : Instr)
+    (done : ℕ) : Type 0 where
   pub before : State
   pub sound : IsSound image before
   pub above : HasAbove table at before
-  pub each : (k : ℕ) (d : Edge) → done ≤ k → k < length (asked instr) → Settles image joins table at next instr before (slice_index_or (asked instr) k d)
+  pub each : (k : ℕ) (d : Edge) → done ≤ k → k < length (asked instr)
+      → Settles image joins table at next instr before (slice_index_or (asked instr) k d)
 
 abbrev pub WasTakenAt : ImageValue → (ℕ → Bool) → Table → ℕ → Cut → Type 0
 WasTakenAt image joins table at cut = WasTaken image joins table at (at + length cut.bytes) cut.instr 0
 
--- what is marked: where edges join, what has changed since its edges were last taken; and the address to which a state is
--- carried
+-- what is marked: where edges join, what has changed since its edges were last taken; and the address to which a state
+-- is carried
 abbrev pub marks : (ℕ → Bool) → Passes → ℕ → (ℕ → Bool)
 marks joins p ahead at = if joins at then is_in p.changed.items at else (at == ahead) && p.is_carried
 
@@ -109,38 +118,52 @@ pub record HasCome (joins : ℕ → Bool) (table : Table) (to : ℕ) (s : State)
   pub alone : joins to ≡ false → table to ≡ Some s
 
 -- before the instruction at an address
-pub record IsBefore (image : ImageValue) (cuts : List Cut) (joins : ℕ → Bool) (p : Passes) (at : ℕ) (whole : Table) : Type 0 where
+pub record IsBefore (image : ImageValue) (cuts : List Cut) (joins : ℕ → Bool) (p : Passes) (at : ℕ)
+    (whole : Table) : Type 0 where
   pub way : IsUnderWay image joins p whole
   pub here : p.is_carried ≡ true → HasCome joins whole at p.carried
   pub taken : (x : ℕ) (cut : Cut) → cut_at cuts x ≡ Some cut → TakenAt image joins (marks joins p at) whole x cut
-  pub again : joins at ≡ false → p.is_carried ≡ true → p.is_again ≡ true → (cut : Cut) → cut_at cuts at ≡ Some cut → WasTakenAt image joins whole at cut
-  pub early : (x : ℕ) (cut : Cut) → joins x ≡ true → is_in p.taken.items x ≡ true → cut_at cuts x ≡ Some cut → WasTakenAt image joins whole x cut
+  pub again : joins at ≡ false → p.is_carried ≡ true → p.is_again ≡ true → (cut : Cut) → cut_at cuts at ≡ Some cut
+      → WasTakenAt image joins whole at cut
+  pub early : (x : ℕ) (cut : Cut) → joins x ≡ true → is_in p.taken.items x ≡ true → cut_at cuts x ≡ Some cut
+      → WasTakenAt image joins whole x cut
 
 -- where edges join, marks alone
 abbrev pub flags : (ℕ → Bool) → Passes → (ℕ → Bool)
 flags joins p at = if joins at then is_in p.changed.items at else false
 
 -- before an instruction whose state, if it is to be taken, is carried now
-pub record IsReady (image : ImageValue) (cuts : List Cut) (joins : ℕ → Bool) (p : Passes) (at : ℕ) (whole : Table) : Type 0 where
+pub record IsReady (image : ImageValue) (cuts : List Cut) (joins : ℕ → Bool) (p : Passes) (at : ℕ)
+    (whole : Table) : Type 0 where
   pub way : IsUnderWay image joins p whole
   pub here : p.is_carried ≡ true → whole at ≡ Some p.carried
   pub others : (x : ℕ) (cut : Cut) → x ≢ at → cut_at cuts x ≡ Some cut → TakenAt image joins (flags joins p) whole x cut
-  pub own : p.is_carried ≡ false → (cut : Cut) → cut_at cuts at ≡ Some cut → (k : ℕ) (d : Edge) → k < length (asked cut.instr) → (s : State) → whole at ≡ Some s → Settles image joins whole at (at + length cut.bytes) cut.instr s (slice_index_or (asked cut.instr) k d)
+  pub own : p.is_carried ≡ false → (cut : Cut) → cut_at cuts at ≡ Some cut → (k : ℕ) (d : Edge)
+      → k < length (asked cut.instr) → (s : State) → whole at ≡ Some s
+      → Settles image joins whole at (at + length cut.bytes) cut.instr s (slice_index_or (asked cut.instr) k d)
   pub quiet : joins at ≡ true → p.is_carried ≡ true → is_in p.changed.items at ≡ false
-  pub again : p.is_carried ≡ true → p.is_again ≡ true → (cut : Cut) → cut_at cuts at ≡ Some cut → WasTakenAt image joins whole at cut
-  pub early : (x : ℕ) (cut : Cut) → (x ≡ at → p.is_carried ≡ false) → joins x ≡ true → is_in p.taken.items x ≡ true → cut_at cuts x ≡ Some cut → WasTakenAt image joins whole x cut
+  pub again : p.is_carried ≡ true → p.is_again ≡ true → (cut : Cut) → cut_at cuts at ≡ Some cut
+      → WasTakenAt image joins whole at cut
+  pub early : (x : ℕ) (cut : Cut) → (x ≡ at → p.is_carried ≡ false) → joins x ≡ true → is_in p.taken.items x ≡ true
+      → cut_at cuts x ≡ Some cut → WasTakenAt image joins whole x cut
 
 -- between two edges of an instruction, so many of which have been taken
-pub record IsAmidst (image : ImageValue) (cuts : List Cut) (joins : ℕ → Bool) (p : Passes) (place : Placed) (done : ℕ) (whole : Table) : Type 0 where
+pub record IsAmidst (image : ImageValue) (cuts : List Cut) (joins : ℕ → Bool) (p : Passes) (place : Placed) (done : ℕ)
+    (whole : Table) : Type 0 where
   pub way : IsUnderWay image joins p whole
-  pub others : (x : ℕ) (cut : Cut) → x ≢ place.at → cut_at cuts x ≡ Some cut → TakenAt image joins (marks joins p place.next) whole x cut
-  pub own : (k : ℕ) (d : Edge) → k < done → IsTaken image joins (marks joins p place.next) whole place.at place.next place.instr (slice_index_or (asked place.instr) k d)
+  pub others : (x : ℕ) (cut : Cut) → x ≢ place.at → cut_at cuts x ≡ Some cut
+      → TakenAt image joins (marks joins p place.next) whole x cut
+  pub own : (k : ℕ) (d : Edge) → k < done
+      → IsTaken image joins (marks joins p place.next) whole place.at place.next place.instr
+      (slice_index_or (asked place.instr) k d)
   pub stands : (s : State) × (whole place.at ≡ Some s)
   pub quiet : joins place.at ≡ true → is_in p.changed.items place.at ≡ false
   -- the edges that are left, and those of the next instruction, if a state is carried there
   pub again : p.is_again ≡ true → WasTaken image joins whole place.at place.next place.instr done
-  pub ahead : joins place.next ≡ false → p.is_carried ≡ true → p.is_again ≡ true → (cut : Cut) → cut_at cuts place.next ≡ Some cut → WasTakenAt image joins whole place.next cut
-  pub early : (x : ℕ) (cut : Cut) → x ≢ place.at → joins x ≡ true → is_in p.taken.items x ≡ true → cut_at cuts x ≡ Some cut → WasTakenAt image joins whole x cut
+  pub ahead : joins place.next ≡ false → p.is_carried ≡ true → p.is_again ≡ true → (cut : Cut)
+      → cut_at cuts place.next ≡ Some cut → WasTakenAt image joins whole place.next cut
+  pub early : (x : ℕ) (cut : Cut) → x ≢ place.at → joins x ≡ true → is_in p.taken.items x ≡ true
+      → cut_at cuts x ≡ Some cut → WasTakenAt image joins whole x cut
 
 -- a step's answer is the definition's, or a want of memory; and of the table that it comes to, this holds
 abbrev pub Carries : {X : Type 0} → Result X StateFault → Result Table StateFault → (Table → Type 0) → Type 0
@@ -149,8 +172,10 @@ Carries (Err (Refused code place)) wanted P = wanted ≡ Err (Refused code place
 Carries (Err Memory) wanted P = Unit {0}
 
 -- these edges are taken from a whole table on, and then the passes are before the instruction at an address
-abbrev pub TakesEdges : {X : Type 0} → ImageValue → List Cut → (ℕ → Bool) → List (Placed × Edge) → Table → Result X StateFault → Passes → ℕ → Type 0
-TakesEdges image cuts joins edges whole result p at = Carries result (over image joins edges whole) (IsBefore image cuts joins p at)
+abbrev pub TakesEdges : {X : Type 0} → ImageValue → List Cut → (ℕ → Bool) → List (Placed × Edge) → Table
+    → Result X StateFault → Passes → ℕ → Type 0
+TakesEdges image cuts joins edges whole result p at =
+    Carries result (over image joins edges whole) (IsBefore image cuts joins p at)
 
 -- an instruction of a code, in its place
 pub record StandsIn (cuts : List Cut) (place : Placed) : Type 0 where
@@ -187,14 +212,16 @@ pub record IsBegun (image : ImageValue) (joins : ℕ → Bool) (p : Passes) (pla
   pub rests : p.is_carried ≡ false
 
 -- an edge of it
-pub record IsOnEdge (image : ImageValue) (joins : ℕ → Bool) (p : Passes) (place : Placed) (edge : Edge) (done : ℕ) : Type 0 where
+pub record IsOnEdge (image : ImageValue) (joins : ℕ → Bool) (p : Passes) (place : Placed) (edge : Edge)
+    (done : ℕ) : Type 0 where
   pub amid : AreAmidst image joins p place done
   pub here : amid.whole place.at ≡ Some p.carried
   pub number : IsNumberOf place.instr edge done
 
--- An edge of an instruction was taken: what was carried has become what is known after it, which has come to its target, and
--- elsewhere a state only rises, where edges join.
-pub record IsAfterEdge (image : ImageValue) (cuts : List Cut) (joins : ℕ → Bool) (old new : Passes) (place : Placed) (edge : Edge) (done : ℕ) (whole table : Table) : Type 0 where
+-- An edge of an instruction was taken: what was carried has become what is known after it, which has come to its
+-- target, and elsewhere a state only rises, where edges join.
+pub record IsAfterEdge (image : ImageValue) (cuts : List Cut) (joins : ℕ → Bool) (old new : Passes) (place : Placed)
+    (edge : Edge) (done : ℕ) (whole table : Table) : Type 0 where
   pub amidst : IsAmidst image cuts joins new place (done + 1) table
   pub comes : (to : ℕ) → target_of image (place, edge) ≡ Some to → HasCome joins table to new.carried
   pub here : table place.at ≡ whole place.at
@@ -227,11 +254,12 @@ pub record IsAfter (image : ImageValue) (cuts : List Cut) (joins : ℕ → Bool)
 -- none has, over a code whose instructions stand at so many addresses
 abbrev pub IsBeginning : ImageValue → ℕ → Passes → Type 0
 IsBeginning image places p =
-    (cuts : List Cut) (joins : ℕ → Bool) → HasPlaces cuts places → KeepsNest image.loops image.workspace cuts → AreJoins image cuts joins
+    (cuts : List Cut) (joins : ℕ → Bool) → HasPlaces cuts places → KeepsNest image.loops image.workspace cuts
+    → AreJoins image cuts joins
     → IsAfter image cuts joins p 0
 
--- Whether a pass leaves edges to be taken is told: where it does, fewer changes are left; and where it does not, it has changed no
--- state that is kept, or has left no address marked.
+-- Whether a pass leaves edges to be taken is told: where it does, fewer changes are left; and where it does not, it has
+-- changed no state that is kept, or has left no address marked.
 pub record Leaves (image : ImageValue) (is_left : Bool) (old new : Passes) : Type 0 where
   pub sized : length new.states.items ≡ length old.states.items
   pub falls : is_left ≡ true → table_height image new.states.items < table_height image old.states.items
@@ -240,7 +268,8 @@ pub record Leaves (image : ImageValue) (is_left : Bool) (old new : Passes) : Typ
 -- ---- when they are done
 
 -- The passes have come to a table that one more leaves as it is: where edges join, these are its states.
-pub record IsSettled (image : ImageValue) (cuts : List Cut) (joins : ℕ → Bool) (slots : List (Option State)) : Type 0 where
+pub record IsSettled (image : ImageValue) (cuts : List Cut) (joins : ℕ → Bool)
+    (slots : List (Option State)) : Type 0 where
   pub few : length slots ≤ 2 ^ 32
   pub whole : Table
   pub verdict : IsVerdict image cuts (Ok whole)
@@ -270,8 +299,8 @@ pub record SameButStates (old new : Passes) : Type 0 where
   pub is_again : new.is_again ≡ old.is_again
   pub taken : new.taken.items ≡ old.taken.items
 
--- the state that is kept at an address is carried, if it was marked and there is one: its edges are taken, again where they
--- were before; it is not marked any more
+-- the state that is kept at an address is carried, if it was marked and there is one: its edges are taken, again where
+-- they were before; it is not marked any more
 pub record IsStarted (at : ℕ) (old new : Passes) : Type 0 where
   pub states : new.states.items ≡ old.states.items
   pub changed : new.changed.items ≡ slice_set old.changed.items at false
@@ -279,4 +308,5 @@ pub record IsStarted (at : ℕ) (old new : Passes) : Type 0 where
   pub again : new.is_carried ≡ true → new.is_again ≡ is_in old.taken.items at
   pub takes : new.is_carried ≡ true → new.taken.items ≡ slice_set old.taken.items at true
   pub rests : new.is_carried ≡ false → new.taken.items ≡ old.taken.items
-  pub no : new.is_carried ≡ false → (new.carried ≡ old.carried) × ((is_in old.changed.items at ≡ false) ⊎ (table_of old.states.items at ≡ None))
+  pub no : new.is_carried ≡ false → (new.carried ≡ old.carried)
+      × ((is_in old.changed.items at ≡ false) ⊎ (table_of old.states.items at ≡ None))

@@ -43,7 +43,8 @@ pub record LostBySome (batch : JobValue) (members : List Devices) (i : ℕ) (fau
   pub cause : MayLose batch.image packet devices fault.link fault.code
 
 -- What became of a batch whose members had these devices before, and have these after:
-pub record IsBatch (batch : JobValue) (open_for_good : Bool) (before after : List Devices) (entries : List Entry) : Type 0 where
+pub record IsBatch (batch : JobValue) (open_for_good : Bool) (before after : List Devices)
+    (entries : List Entry) : Type 0 where
   -- each packet is as many bytes as the image states
   pub packets : AreWhole batch
   -- each result is what the run of its packet alone gives, and there is one entry for each packet
@@ -51,7 +52,8 @@ pub record IsBatch (batch : JobValue) (open_for_good : Bool) (before after : Lis
   -- the links come back in the order given, each device with its room, openness and whether it can fail
   pub settings : AllZip SameSettings before after
   -- as many entries tell of a failure of a link as its devices have failed in all
-  pub failures : (which : Link) → failures_at which after ≡ failures_at which before + sum_by (tells_failure which) entries
+  pub failures : (which : Link)
+      → failures_at which after ≡ failures_at which before + sum_by (tells_failure which) entries
   -- each loss by a device has its cause
   pub losses : (i : ℕ) (fault : LinkFault) → slice_get entries i ≡ Some (entry.Lost (cause.Link fault))
       → LostBySome batch before i fault
@@ -61,4 +63,5 @@ pub record IsBatch (batch : JobValue) (open_for_good : Bool) (before after : Lis
 -- what became of the work of members that had these links before
 abbrev pub IsBatchOver : {D : Type 0} → (D → DeviceState) → Work → (before : List (Links D)) → Batch D → Type 0
 IsBatchOver state work before b =
-    IsBatch work.batch work.open_for_good (map (devices_of state) before) (map (devices_of state) b.links.items) b.collected
+    IsBatch work.batch work.open_for_good (map (devices_of state) before) (map (devices_of state) b.links.items)
+    b.collected

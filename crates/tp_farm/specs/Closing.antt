@@ -17,8 +17,8 @@ all_abandoned (p ∷ ps) = p.abandoned ++ all_abandoned ps
 abbrev pub put_down : ℕ → List Progress → ℕ
 put_down x hands = times x (all_finished hands) + times x (all_abandoned hands)
 
--- what a hand has learnt is so: it took no more packets than were drawn, where it learnt the end all are drawn, and where it
--- saw the stop there was one
+-- what a hand has learnt is so: it took no more packets than were drawn, where it learnt the end all are drawn, and
+-- where it saw the stop there was one
 pub record IsBorneOut (packets : ℕ) (l : Ledger) (p : Progress) : Type 0 where
   pub taken : length p.taken ≤ l.drawn
   pub ended : p.ended ≡ true → l.drawn ≡ packets

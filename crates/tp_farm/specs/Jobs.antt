@@ -6,7 +6,8 @@ use Rattle.tp_farm.specs.declared.job.Job.{Job}
 
 -- what contracts see of a job
 abbrev pub value_of_job : Job → JobValue
-value_of_job job = record { number = job.batch; image = job.image.now.image; packets = map (λ p. p.items) job.packets.now }
+value_of_job job =
+    record { number = job.batch; image = job.image.now.image; packets = map (λ p. p.items) job.packets.now }
 
 -- each packet is as many bytes as the image states
 abbrev pub AreWhole : JobValue → Type 0

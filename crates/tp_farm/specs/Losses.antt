@@ -14,16 +14,16 @@ use Rattle.tp_collect.specs.DoneValue.{most_trace}
 abbrev pub TracesMore : ImageValue → (packet : List ℕ) → (room : ℕ) → Type 0
 TracesMore image packet room = TracesMoreThan (min most_trace room) image packet
 
--- a device's refusal has a cause: it can fail (how often devices failed is told by their counts of faults); it is closed; it
--- lacks room. It never holds fewer bytes than are asked for.
+-- a device's refusal has a cause: it can fail (how often devices failed is told by their counts of faults); it is
+-- closed; it lacks room. It never holds fewer bytes than are asked for.
 abbrev pub HasCause : DeviceState → (lacks_room : Type 0) → DeviceFault → Type 0
 HasCause device lacks_room Failed = device.fallible ≡ true
 HasCause device lacks_room Closed = device.opened ≡ false
 HasCause device lacks_room Full = lacks_room
 HasCause device lacks_room Short = ⊥
 
--- a member's devices lose a packet: the source may have too little room for it, the sink for the result, the trace for what
--- the worker sends on link 1
+-- a member's devices lose a packet: the source may have too little room for it, the sink for the result, the trace for
+-- what the worker sends on link 1
 abbrev pub MayLose : ImageValue → List ℕ → Devices → Link → DeviceFault → Type 0
 MayLose image packet devices Source code = HasCause devices.source (devices.source.room < 4 * image.packet) code
 MayLose image packet devices Sink code = HasCause devices.sink (devices.sink.room < 4 * image.result) code

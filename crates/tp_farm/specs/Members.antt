@@ -42,8 +42,8 @@ lost_numbers [] = []
 lost_numbers (filed.Done done ∷ more) = lost_numbers more
 lost_numbers (filed.Lost number fault ∷ more) = number ∷ lost_numbers more
 
--- A member's accounts: its devices keep their settings and have failed as often as what it files says; what it files is of
--- the batch; and what it finished and abandoned at its source is what it files as done and as lost.
+-- A member's accounts: its devices keep their settings and have failed as often as what it files says; what it files is
+-- of the batch; and what it finished and abandoned at its source is what it files as done and as lost.
 pub record KeepsAccounts (batch : JobValue) (before now : Devices) (p : Progress) (these : List Filed) : Type 0 where
   pub settings : SameSettings before now
   pub rises : Rises before now (λ which. sum_by (filed_failed which) these)

@@ -20,8 +20,8 @@ abbrev pub GivesRun : Run → Entry → Type 0
 GivesRun run (entry.Done done) = run_of_done done ≡ run
 GivesRun run (entry.Lost cause) = Unit {0}
 
--- The run of packet i alone ends by stopp within the budget, with a result of the stated length, and no state on its way is
--- stuck. The packet has an entry; where that is a result, it is what this run gives.
+-- The run of packet i alone ends by stopp within the budget, with a result of the stated length, and no state on its
+-- way is stuck. The packet has an entry; where that is a result, it is what this run gives.
 pub record IsPromised (batch : JobValue) (budget : ℕ) (entries : List Entry) (i : ℕ) (packet : List ℕ) : Type 0 where
   pub ends : EndsWithin batch.image budget packet
   pub entry : Entry
@@ -50,7 +50,8 @@ pub record TakeAll (image : ImageValue) (devices : Devices) : Type 0 where
 -- what a run comes to: its result, or where its trace is longer than it may be, a loss for want of room in the trace
 abbrev pub ComesTo : Run → Entry → Type 0
 ComesTo run (entry.Done done) = (run_of_done done ≡ run) × (length run.trace ≤ most_trace)
-ComesTo run (entry.Lost (cause.Link fault)) = (fault ≡ record { link = Trace; code = Full }) × (most_trace < length run.trace)
+ComesTo run (entry.Lost (cause.Link fault)) =
+    (fault ≡ record { link = Trace; code = Full }) × (most_trace < length run.trace)
 ComesTo run (entry.Lost cause.Stopped) = ⊥
 
 -- packet i comes to what its run alone comes to

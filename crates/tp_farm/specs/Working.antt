@@ -26,12 +26,13 @@ pub record IsFresh {H : Type 0} (own : H → Type 0) (progress : H → Progress)
   pub is_own : own hand
   pub none : progress hand ≡ no_progress
 
--- a member that had these devices has done its work: its hand is one of the source's, its accounts are in order, and it has
--- ended as it says
+-- a member that had these devices has done its work: its hand is one of the source's, its accounts are in order, and it
+-- has ended as it says
 pub record HasWorked {H D : Type 0} (state : D → DeviceState) (own : H → Type 0) (progress : H → Progress) (work : Work)
     (before : Links D) (r : Returned H D) : Type 0 where
   pub is_own : own r.hand
-  pub accounts : KeepsAccounts work.batch (devices_of state before) (devices_of state r.links) (progress r.hand) r.filed.items
+  pub accounts : KeepsAccounts work.batch (devices_of state before) (devices_of state r.links) (progress r.hand)
+      r.filed.items
   pub ends : EndsBy work.batch work.open_for_good (progress r.hand) r.end
 
 -- so have members, each with its own devices
@@ -40,18 +41,21 @@ abbrev pub HaveWorked : {H D : Type 0} → (D → DeviceState) → (H → Type 0
 HaveWorked state own progress work before rs = AllZip (HasWorked state own progress work) before rs
 
 -- the work is that which members share, and the hand is one of the shared's source
-abbrev pub HasWorkedOn : {G S H D : Type 0} → (D → DeviceState) → (S → H → Type 0) → (H → Progress) → (G → Bool) → Shared G S
+abbrev pub HasWorkedOn : {G S H D : Type 0} → (D → DeviceState) → (S → H → Type 0) → (H → Progress) → (G → Bool)
+    → Shared G S
     → Links D → Returned H D → Type 0
 HasWorkedOn state own progress open_for_good shared before r =
     HasWorked state (own shared.source.now) progress (work_of open_for_good shared) before r
 
-abbrev pub HaveWorkedOn : {G S H D : Type 0} → (D → DeviceState) → (S → H → Type 0) → (H → Progress) → (G → Bool) → Shared G S
+abbrev pub HaveWorkedOn : {G S H D : Type 0} → (D → DeviceState) → (S → H → Type 0) → (H → Progress) → (G → Bool)
+    → Shared G S
     → List (Links D) → List (Returned H D) → Type 0
 HaveWorkedOn state own progress open_for_good shared before rs =
     AllZip (HasWorkedOn state own progress open_for_good shared) before rs
 
 -- members have done their work on a batch of so many packets, of which nothing is filed in the collector yet
-pub record HaveToSettle {H D : Type 0} (state : D → DeviceState) (own : H → Type 0) (progress : H → Progress) (packets : ℕ)
+pub record HaveToSettle {H D : Type 0} (state : D → DeviceState) (own : H → Type 0) (progress : H
+    → Progress) (packets : ℕ)
     (work : Work) (before : List (Links D)) (rs : List (Returned H D)) (c : Collection) : Type 0 where
   pub worked : HaveWorked state own progress work before rs
   pub sized : packets ≡ length work.batch.packets

@@ -22,7 +22,10 @@ pub record KeepsAround (rows : List LoopRow) (workspace : ℕ) (at next : ℕ) (
   pub begins : IsOutside (ranges rows) 0
   -- each edge goes somewhere
   pub targets : (edge : Edge) → IsTrue (has_edge instr edge) → IsSome (target (ranges rows) at next instr edge)
-  -- the loops around its target are those around its source, without the one that it leaves, with the one that it enters
-  pub moves : (edge : Edge) (to : ℕ) → target (ranges rows) at next instr edge ≡ Some to → (l : ℕ) → is_around (ranges rows) to l ≡ around_after (ranges rows) at edge to l
+  -- the loops around its target are those around its source, without the one that it leaves, with the one that it
+  -- enters
+  pub moves : (edge : Edge) (to : ℕ) → target (ranges rows) at next instr edge ≡ Some to → (l : ℕ)
+      → is_around (ranges rows) to l ≡ around_after (ranges rows) at edge to l
   -- a lend ends a loop that is around it
-  pub ends : (l : ℕ) (row : LoopRow) → number_ended_at (ranges rows) at ≡ Some l → slice_get rows l ≡ Some row → EndsOwnLoop rows at next l row
+  pub ends : (l : ℕ) (row : LoopRow) → number_ended_at (ranges rows) at ≡ Some l → slice_get rows l ≡ Some row
+      → EndsOwnLoop rows at next l row

@@ -12,7 +12,8 @@ use Rattle.tp_flow.specs.JumpRules.{broken_rule}
 
 -- the least number of a bad row
 abbrev pub bad_row : ImageValue → List Cut → Option ℕ
-bad_row image cuts = option_map (λ row. row.0) (find (λ row. is_bad_row image cuts row.0 row.1) (enumerate_from 0 image.loops))
+bad_row image cuts =
+    option_map (λ row. row.0) (find (λ row. is_bad_row image cuts row.0 row.1) (enumerate_from 0 image.loops))
 
 -- J6: the place is the row's number
 abbrev pub row_fault : ImageValue → List Cut → Option FlowFault
@@ -20,7 +21,8 @@ row_fault image cuts = option_map (λ i. record { code = J6; place = i }) (bad_r
 
 -- the fault of an instruction: the place is its address
 abbrev pub fault_of : ImageValue → List Cut → Placed → Option FlowFault
-fault_of image cuts placed = option_map (λ code. record { code = code; place = placed.at }) (broken_rule image cuts placed)
+fault_of image cuts placed =
+    option_map (λ code. record { code = code; place = placed.at }) (broken_rule image cuts placed)
 
 -- the faults of instructions, by rising address
 abbrev pub instruction_faults : ImageValue → List Cut → List FlowFault

@@ -78,7 +78,8 @@ rules_on_jump image cuts at next (Some n) = jump_rules image cuts at next n
 -- the rules on an instruction that stands at an address, in their order
 abbrev pub rules_on : ImageValue → List Cut → ℕ → ℕ → Instr → List Rule
 rules_on image cuts at next instr =
-    (rule (names_no_loop (ranges image.loops) at instr) J7 ∷ []) ++ rules_on_jump image cuts at next (jump_operand instr)
+    (rule (names_no_loop (ranges image.loops) at instr) J7 ∷ [])
+    ++ rules_on_jump image cuts at next (jump_operand instr)
     ++ (rule (runs_off image.code next instr) J5 ∷ [])
 
 -- the first rule that an instruction breaks

@@ -39,7 +39,8 @@ HasOwnLends rows = AllPairs (λ row other. row.lend ≢ other.lend) rows
 -- of two loops that overlap one lies within the other
 abbrev pub IsNested : List LoopRange → Type 0
 IsNested nest =
-    (range other : LoopRange) → Contains nest range → Contains nest other → IsTrue (overlaps range other) → IsTrue (lies_within range other) ⊎ IsTrue (lies_within other range)
+    (range other : LoopRange) → Contains nest range → Contains nest other → IsTrue (overlaps range other)
+    → IsTrue (lies_within range other) ⊎ IsTrue (lies_within other range)
 
 -- how many loops contain an address
 abbrev pub depth_at : List LoopRange → ℕ → ℕ
@@ -60,7 +61,8 @@ pub record IsEdge (nest : List LoopRange) (cuts : List Cut) (at : ℕ) (edge : E
 -- each edge that an instruction has goes somewhere
 abbrev pub HasTargets : List LoopRange → List Cut → Type 0
 HasTargets nest cuts =
-    (at : ℕ) (cut : Cut) (edge : Edge) → cut_at cuts at ≡ Some cut → IsTrue (has_edge cut.instr edge) → IsSome (target nest at (at + length cut.bytes) cut.instr edge)
+    (at : ℕ) (cut : Cut) (edge : Edge) → cut_at cuts at ≡ Some cut → IsTrue (has_edge cut.instr edge)
+    → IsSome (target nest at (at + length cut.bytes) cut.instr edge)
 
 -- to an instruction
 abbrev pub GoesToStarts : List LoopRange → List Cut → Type 0
@@ -68,17 +70,20 @@ GoesToStarts nest cuts = (at to : ℕ) (edge : Edge) → IsEdge nest cuts at edg
 
 -- each edge but Back goes forward, over the whole instruction
 abbrev pub GoesForward : List LoopRange → List Cut → Type 0
-GoesForward nest cuts = (at to : ℕ) (edge : Edge) (e : IsEdge nest cuts at edge to) → edge ≢ Back → at + length e.cut.bytes ≤ to
+GoesForward nest cuts =
+    (at to : ℕ) (edge : Edge) (e : IsEdge nest cuts at edge to) → edge ≢ Back → at + length e.cut.bytes ≤ to
 
 -- an edge from outside a loop to an address in it goes to the head
 abbrev pub EntersAtHeads : List LoopRange → List Cut → Type 0
 EntersAtHeads nest cuts =
-    (at to : ℕ) (edge : Edge) (range : LoopRange) → IsEdge nest cuts at edge to → Contains nest range → ¬ IsTrue (contains range at) → IsTrue (contains range to) → to ≡ range.head
+    (at to : ℕ) (edge : Edge) (range : LoopRange) → IsEdge nest cuts at edge to → Contains nest range
+    → ¬ IsTrue (contains range at) → IsTrue (contains range to) → to ≡ range.head
 
 -- an edge from an address in a loop to one outside it comes from the lend
 abbrev pub LeavesAtLends : List LoopRange → List Cut → Type 0
 LeavesAtLends nest cuts =
-    (at to : ℕ) (edge : Edge) (range : LoopRange) → IsEdge nest cuts at edge to → Contains nest range → IsTrue (contains range at) → ¬ IsTrue (contains range to) → at ≡ range.lend
+    (at to : ℕ) (edge : Edge) (range : LoopRange) → IsEdge nest cuts at edge to → Contains nest range
+    → IsTrue (contains range at) → ¬ IsTrue (contains range to) → at ≡ range.lend
 
 -- The loops of these rows, in a workspace of so many words, are a nest in the code, and its edges keep to them.
 pub record KeepsNest (rows : List LoopRow) (workspace : ℕ) (cuts : List Cut) : Type 0 where

@@ -72,13 +72,15 @@ lies_too_deep others range = nat_le most_depth (count_by (λ other. lies_within 
 
 abbrev pub is_bad_alone : ImageValue → List Cut → LoopRow → Bool
 is_bad_alone image cuts row =
-    has_no_start cuts row || begins_the_code row || has_no_body row || has_no_lend cuts row || has_no_block image row || turns_badly row
+    has_no_start cuts row || begins_the_code row || has_no_body row || has_no_lend cuts row || has_no_block image row
+    || turns_badly row
     || counts_too_far row
 
 -- row i is bad among the rows of a nest
 abbrev pub is_bad_among : List LoopRange → ℕ → LoopRange → Bool
 is_bad_among nest i range =
-    crosses_earlier (take i nest) range || shares_with_earlier (take i nest) range || lies_too_deep (take i nest ++ drop (i + 1) nest) range
+    crosses_earlier (take i nest) range || shares_with_earlier (take i nest) range
+    || lies_too_deep (take i nest ++ drop (i + 1) nest) range
 
 -- row i of an image is bad
 abbrev pub is_bad_row : ImageValue → List Cut → ℕ → LoopRow → Bool

@@ -28,11 +28,14 @@ initial_count Two n = half_word n
 
 abbrev pub header_text : Header → List ℕ
 header_text h =
-    magic h.version ++ half_word h.code ++ half_word h.workspace ++ half_word h.start ++ half_word h.packet ++ half_word h.result ++ half_word h.loops
+    magic h.version ++ half_word h.code ++ half_word h.workspace ++ half_word h.start ++ half_word h.packet
+    ++ half_word h.result ++ half_word h.loops
     ++ initial_count h.version h.initial
 
 abbrev pub row_text : LoopRow → List ℕ
-row_text row = half_word row.head ++ half_word row.lend ++ half_word row.control ++ half_word row.count ++ word (cast_unsigned w32 row.start)
+row_text row =
+    half_word row.head ++ half_word row.lend ++ half_word row.control ++ half_word row.count
+    ++ word (cast_unsigned w32 row.start)
 
 -- what an image's header says
 abbrev pub header_of : ImageValue → Header

@@ -7,6 +7,7 @@ use Rattle.tp_prefix.specs.Spelling.{IsSpelling, IsCutOff, IsTooLong}
 
 -- bytes that stand at an address begin with this spelling, or with none for this reason
 abbrev pub Reads : List ℕ → ℕ → Result Spelled PrefixFault → Type 0
-Reads bytes at (Ok s) = (at ≤ s.next) × (s.next ≤ at + length bytes) × IsSpelling (take (s.next - at) bytes) s.function s.operand
+Reads bytes at (Ok s) =
+    (at ≤ s.next) × (s.next ≤ at + length bytes) × IsSpelling (take (s.next - at) bytes) s.function s.operand
 Reads bytes at (Err (D1 place)) = (place ≡ at) × IsCutOff bytes
 Reads bytes at (Err (D2 place)) = (place ≡ at) × IsTooLong bytes

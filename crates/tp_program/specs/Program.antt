@@ -30,7 +30,8 @@ told_of (Ok _) = []
 told_of (Err fault) = fault_text fault
 
 -- what is served for the input is written; a fault is told, as far as that can be written
-pub record HasServed (trace : Bool) (input : List ℕ) (left old new told told' : Option (List ℕ)) (status : ℕ) : Type 0 where
+pub record HasServed (trace : Bool) (input : List ℕ) (left old new told told' : Option (List ℕ))
+    (status : ℕ) : Type 0 where
   pub result : Result (Unit {0}) ServeFault
   pub serves : Serves trace input left old new result
   pub status_is : status ≡ status_of result
@@ -52,7 +53,8 @@ IsStatusBy kinds status = ((kind : ErrorKind) × IsAmong kind kinds × (status �
 
 -- from streams whose bytes are known or not, as they were and as they are left
 pub record Performs (words : List Text) (begun left old new told told' : Option (List ℕ)) (status : ℕ) : Type 0 where
-  pub serves : fault_of farmd words ≡ [] → IfSome begun (λ input. HasServed (asks_traces words) input left old new told told' status)
+  pub serves : fault_of farmd words ≡ []
+      → IfSome begun (λ input. HasServed (asks_traces words) input left old new told told' status)
   pub other : fault_of farmd words ≢ [] → IsStatusBy (fault_of farmd words) status × (left ≡ begun)
   pub refused : status ≡ 2 → new ≡ old
 

@@ -1,4 +1,5 @@
--- Where the bytes of an image that may be run go, as it is told: the budget, the cost of each loop, and costs by address.
+-- Where the bytes of an image that may be run go, as it is told: the budget, the cost of each loop, and costs by
+-- address.
 use Rattle.std.specs.Prelude.{◌≡◌, ℕ, ◌<◌, List, length, map, get_or, slice_get, Option, Some, None}
 use Rattle.std.specs.Option.{option_map}
 use Rattle.tp_image.specs.Image.{ImageValue}
@@ -17,7 +18,8 @@ abbrev pub cost_at : List LoopRow → List Cut → ℕ → Option Counted
 cost_at rows code at = option_map (λ cut. counted (costs_of rows code at)) (cut_at code at)
 
 -- for each byte of a code
-pub record AreByAddress (rows : List LoopRow) (code : List Cut) (bytes : ℕ) (items : List (Option Counted)) : Type 0 where
+pub record AreByAddress (rows : List LoopRow) (code : List Cut) (bytes : ℕ)
+    (items : List (Option Counted)) : Type 0 where
   pub long : length items ≡ bytes
   pub each : (at : ℕ) → at < bytes → get_or items at None ≡ cost_at rows code at
 

@@ -10,16 +10,18 @@ use Rattle.tp_check.specs.Passes.{go_along, along_edges, edges_in, passes}
 use Rattle.tp_reasons.specs.declared.refusal.EdgeRefusal.{EdgeRefusal}
 use Rattle.tp_reasons.specs.declared.refusal.FirstRefusal.{FirstRefusal}
 
--- Of these edges, taken in turn from a table, this is the first that is refused: those before it refuse nothing and come to the
--- table `there`, from which it is refused.
-pub record IsRefusedAmong (image : ImageValue) (edges : List (Placed × Edge)) (table there : Table) (r : EdgeRefusal) : Type 0 where
+-- Of these edges, taken in turn from a table, this is the first that is refused: those before it refuse nothing and
+-- come to the table `there`, from which it is refused.
+pub record IsRefusedAmong (image : ImageValue) (edges : List (Placed × Edge)) (table there : Table)
+    (r : EdgeRefusal) : Type 0 where
   pub earlier : List (Placed × Edge)
   pub later : List (Placed × Edge)
   pub split : edges ≡ earlier ++ (r.instruction, r.edge) ∷ later
   pub comes : along_edges image earlier table ≡ Ok there
   pub refused : go_along image r.instruction r.edge (there r.instruction.at) there ≡ Err (Refused r.code r.place)
 
--- So many passes refuse nothing, and this is the first edge that the next one refuses; the states are those that it has met.
+-- So many passes refuse nothing, and this is the first edge that the next one refuses; the states are those that it has
+-- met.
 pub record IsFirstRefusal (image : ImageValue) (cuts : List Cut) (r : FirstRefusal) : Type 0 where
   pub number : ℕ
   pub counted : r.passes ≡ min number (2 ^ 64 - 1)

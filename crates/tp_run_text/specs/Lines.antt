@@ -49,7 +49,8 @@ trace_text style trace = if style.trace then codes "\n  trace" ++ message_text s
 -- a result: its number, the error flag, the steps of the budget, its words
 abbrev pub head_text : (budget number : ℕ) → Bool → ℕ → List ℕ
 head_text budget number error steps =
-    decimal number ++ codes "  flag " ++ decimal (flag error) ++ codes "  " ++ decimal steps ++ codes " of " ++ decimal budget ++ codes " "
+    decimal number ++ codes "  flag " ++ decimal (flag error) ++ codes "  " ++ decimal steps ++ codes " of "
+    ++ decimal budget ++ codes " "
 
 abbrev pub done_text : Style → (budget number : ℕ) → DoneValue → List ℕ
 done_text style budget number done =
@@ -89,10 +90,12 @@ entry_text (Differences style expected) budget number e =
 
 -- another result was expected of the packet of a number
 abbrev pub is_other : Form → (number : ℕ) → Entry → Bool
-is_other (Differences style expected) number e = not (is_expected e (option_map (λ p. p.items) (slice_get expected.now number)))
+is_other (Differences style expected) number e =
+    not (is_expected e (option_map (λ p. p.items) (slice_get expected.now number)))
 is_other form number e = false
 
 -- of packets, the first of which has a number
 abbrev pub entries_text : Form → (budget number : ℕ) → List Entry → List ℕ
 entries_text form budget number [] = []
-entries_text form budget number (e ∷ entries) = entry_text form budget number e ++ entries_text form budget (number + 1) entries
+entries_text form budget number (e ∷ entries) =
+    entry_text form budget number e ++ entries_text form budget (number + 1) entries

@@ -16,8 +16,8 @@ use Rattle.tp_run_text.specs.declared.tally.Tally.{Tally}
 use Rattle.tp_run_text.specs.Lines.{entries_text}
 use Rattle.tp_run_text.specs.Tallies.{nothing_counted, with_entries}
 
--- A packet's run alone ends by stopp within the budget. What became of the packet is that run's result, or a loss where its trace is
--- longer than it may be.
+-- A packet's run alone ends by stopp within the budget. What became of the packet is that run's result, or a loss where
+-- its trace is longer than it may be.
 pub record IsResultOf (image : ImageValue) (budget : ℕ) (packet : List ℕ) (entry : Entry) : Type 0 where
   pub ends : EndsWithin image budget packet
   pub comes : ComesTo ends.run entry
@@ -33,7 +33,8 @@ pub record AreReady {D : Type 0} (state : D → DeviceState) (image : ImageValue
   pub take : All (TakeAll image) (map (devices_of state) links)
 
 -- Packets were run: what is shown of their results, in order of number from 0, is written, and they are counted.
-pub record HasRun (image : Accepted) (form : Form) (packets : List (List ℕ)) (before after : Option (List ℕ)) (tally : Tally) : Type 0 where
+pub record HasRun (image : Accepted) (form : Form) (packets : List (List ℕ)) (before after : Option (List ℕ))
+    (tally : Tally) : Type 0 where
   pub entries : List Entry
   pub results : AreResults image.image image.budget packets entries
   pub shown : Appends before after (entries_text form image.budget 0 entries)

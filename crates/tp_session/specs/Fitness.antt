@@ -7,7 +7,8 @@ use Rattle.tp_board.specs.Limits.{most_members}
 use Rattle.tp_collect.specs.DoneValue.{most_trace}
 use Rattle.tp_farm.specs.Promised.{Takes}
 
--- A member's three devices are open and cannot fail, with room for the longest trace; no packet and no result is longer.
+-- A member's three devices are open and cannot fail, with room for the longest trace; no packet and no result is
+-- longer.
 pub record AreFitOf (devices : Devices) : Type 0 where
   pub source : Takes most_trace devices.source
   pub sink : Takes most_trace devices.sink

@@ -1,6 +1,7 @@
 -- The protocol: what is told for the lines of an input.
 --
--- The verdict on an image and what a packet comes to are parameters. `Served` has what is told by the rules of the product.
+-- The verdict on an image and what a packet comes to are parameters. `Served` has what is told by the rules of the
+-- product.
 use Rattle.std.specs.Prelude.{◌≡◌, ℕ, ◌+◌, ◌-◌, ◌^◌, min, nat_lt, Bool, true, false, List, [], ◌∷◌, ◌++◌, length, Option, None}
 use Rattle.tp_image.specs.Image.{ImageValue}
 use Rattle.tp_answers.specs.Results.{RunResult}
@@ -41,7 +42,8 @@ module _ (Judges : List ℕ → Verdict → Type 0) (ComesTo : ImageValue → Li
   AreAnswers trace number before [] told after = (told ≡ []) × (after ≡ before)
   AreAnswers trace number before (line ∷ lines) told after =
       (answer : Answer) × (between : List Session) × (rest : List ℕ) × IsAnswered line before answer between
-      × AreAnswers trace (next_number number) between lines rest after × (told ≡ answer_text trace number answer ++ rest)
+      × AreAnswers trace (next_number number) between lines rest after
+      × (told ≡ answer_text trace number answer ++ rest)
 
   -- what is told for the first lines of an input: before them no session is open
   abbrev pub AreTold : Bool → List Line → List ℕ → Type 0

@@ -54,8 +54,8 @@ pub record ServesRead (trace : Bool) (input : List ℕ) (left old new : Option (
   pub read : Consumes (Some input) left taken
   pub answers : AreWritten trace (ended_lines taken) old new
 
--- the answers to the whole lines before the byte at which a growth or a thread was refused are: one of those that were read
--- last, or the end of the input
+-- the answers to the whole lines before the byte at which a growth or a thread was refused are: one of those that were
+-- read last, or the end of the input
 pub record ServesBefore (trace : Bool) (input : List ℕ) (left old new : Option (List ℕ)) : Type 0 where
   pub taken : List ℕ
   pub read : Consumes (Some input) left taken
@@ -76,4 +76,5 @@ Serves trace input left old new (Err Write) = ServesSome trace input old new
 -- functions that give the verifier's verdict on each text, and what each packet comes to
 pub record AreRuled (verdict : List ℕ → Verdict) (outcome : ImageValue → List ℕ → Option RunResult) : Type 0 where
   pub verdicts : (text : List ℕ) (v : Verdict) → IsVerdict text v → v ≡ verdict text
-  pub outcomes : (image : ImageValue) (packet : List ℕ) (o : Option RunResult) → IsOutcome image packet o → o ≡ outcome image packet
+  pub outcomes : (image : ImageValue) (packet : List ℕ) (o : Option RunResult) → IsOutcome image packet o
+      → o ≡ outcome image packet

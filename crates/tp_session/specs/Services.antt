@@ -39,13 +39,15 @@ AnswersRequest asked before answer after =
 
 -- so is what a text asks for
 abbrev pub AnswersText : List ℕ → List Session → Answer → List Session → Type 0
-AnswersText text before answer after = (asked : Option Asked) × AsksFor text asked × AnswersRequest asked before answer after
+AnswersText text before answer after =
+    (asked : Option Asked) × AsksFor text asked × AnswersRequest asked before answer after
 
 -- and what a line asks for
 abbrev pub AnswersLine : Line → List Session → Answer → List Session → Type 0
 AnswersLine line before answer after = IsAnswered IsVerdict IsOutcome line before answer after
 
--- a text that was not written whole: nothing of it where memory was wanted, some of its first bytes where the writer failed
+-- a text that was not written whole: nothing of it where memory was wanted, some of its first bytes where the writer
+-- failed
 abbrev pub IsSentInPart : (old new : Option (List ℕ)) → List ℕ → ServeFault → Type 0
 IsSentInPart old new text Memory = Appends old new []
 IsSentInPart old new text Write = (n : ℕ) × Appends old new (take n text)

@@ -29,7 +29,8 @@ unfoldable pub entering : List LoopRow → Option ℕ → State → Result State
 entering rows None t = Ok t
 entering rows (Some l) t = do
   row ← found S5 (slice_get rows l)
-  unless S5 (is_known row.start (cell_at t.cells row.control) && is_known (pos row.count) (cell_at t.cells (row.control + 1)))
+  unless S5
+      (is_known row.start (cell_at t.cells row.control) && is_known (pos row.count) (cell_at t.cells (row.control + 1)))
   Ok (with_block row (Index l) (Count l) t)
 
 -- the loop that an edge of an instruction enters
@@ -43,7 +44,8 @@ after image at next instr edge t = do
   t ← rule image at next instr edge t
   entering image.loops (entered_at image at next instr edge) t
 
--- the edges that an instruction's rule is asked on: its own, and of stopp, which has none and is asked all the same, Next
+-- the edges that an instruction's rule is asked on: its own, and of stopp, which has none and is asked all the same,
+-- Next
 abbrev pub asked : Instr → List Edge
 asked Stopp = Next ∷ []
 asked instr = edges instr

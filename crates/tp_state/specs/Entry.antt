@@ -10,7 +10,8 @@ use Rattle.tp_state.specs.declared.state.State.{State}
 -- the workspace begins with the image's words, and its other words are 0
 abbrev pub first_cells : ImageValue → List Cell
 first_cells image =
-    map (λ word. Known (signed word)) image.initial ++ replicate (image.workspace - length image.initial) (Known (pos 0))
+    map (λ word. Known (signed word)) image.initial
+    ++ replicate (image.workspace - length image.initial) (Known (pos 0))
 
 abbrev pub entry : ImageValue → State
 entry image = record {

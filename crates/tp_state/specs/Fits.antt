@@ -33,7 +33,8 @@ abbrev pub KindFits : ImageValue → Kind → Option ℕ → Type 0
 KindFits image kind.Undef r = Unit {0}
 KindFits image (kind.Int low high) r = (v : ℕ) × (r ≡ Some v) × InRange low high v
 KindFits image (kind.Ptr p q) r = (x : ℕ) × (r ≡ Some (word_address x)) × (p ≤ x) × (x ≤ q) × (x < image.workspace)
-KindFits image (kind.BytePtr p q) r = (x : ℕ) × (r ≡ Some (mem_start + x)) × (p ≤ x) × (x ≤ q) × (x < 4 * image.workspace)
+KindFits image (kind.BytePtr p q) r =
+    (x : ℕ) × (r ≡ Some (mem_start + x)) × (p ≤ x) × (x ≤ q) × (x < 4 * image.workspace)
 
 pub record RegistersFit (image : ImageValue) (t : State) (s : Machine) : Type 0 where
   pub a : KindFits image t.a s.areg
@@ -46,8 +47,10 @@ abbrev pub CellFits : List LoopRow → Cell → Option ℕ → Type 0
 CellFits rows cell.Undef r = Unit {0}
 CellFits rows cell.Any r = (v : ℕ) × (r ≡ Some v) × (v < 2 ^ 32)
 CellFits rows (cell.Known n) r = (v : ℕ) × (r ≡ Some v) × InRange n n v
-CellFits rows (cell.Index l) r = (row : LoopRow) × (slice_get rows l ≡ Some row) × (v : ℕ) × (r ≡ Some v) × InRange row.start (last_index row) v
-CellFits rows (cell.Count l) r = (row : LoopRow) × (slice_get rows l ≡ Some row) × (v : ℕ) × (r ≡ Some v) × InRange (pos 1) (pos row.count) v
+CellFits rows (cell.Index l) r =
+    (row : LoopRow) × (slice_get rows l ≡ Some row) × (v : ℕ) × (r ≡ Some v) × InRange row.start (last_index row) v
+CellFits rows (cell.Count l) r =
+    (row : LoopRow) × (slice_get rows l ≡ Some row) × (v : ℕ) × (r ≡ Some v) × InRange (pos 1) (pos row.count) v
 
 -- each word of the workspace fits its cell
 pub record WordsFit (rows : List LoopRow) (workspace : ℕ) (cells : List Cell) (m : Memory) : Type 0 where
@@ -101,7 +104,8 @@ pub record FitsAmong (image : ImageValue) (around : ℕ → Bool) (at : ℕ) (t 
   pub packet : HasPacket image s
   pub loops : LoopsFit image.loops around t.cells s.memory
 
--- The machine's state fits what is known at an address: it is running, Iptr, Wptr and the phase agree, registers, words and
--- bytes fit, the packet that it waits for is there, and the live control words are those of the loops around the address.
+-- The machine's state fits what is known at an address: it is running, Iptr, Wptr and the phase agree, registers, words
+-- and bytes fit, the packet that it waits for is there, and the live control words are those of the loops around the
+-- address.
 abbrev pub Fits : ImageValue → (at : ℕ) → State → Machine → Type 0
 Fits image at t s = FitsAmong image (is_around (ranges image.loops) at) at t s

@@ -30,16 +30,20 @@ turns_in m row = unwrap_or (word_at m (word_address (row.control + 1))) 0
 -- the turns of a loop around the target of an edge: a loop that is entered has all its turns, and a way back takes one
 abbrev pub turns_after : ℕ → Edge → LoopRow → ℕ → ℕ
 turns_after at edge row turns =
-    if contains (range_of row) at then (if is_edge edge Back && (row.lend == at) then turns - 1 else turns) else row.count
+    if contains (range_of row) at
+    then (if is_edge edge Back && (row.lend == at) then turns - 1 else turns)
+    else row.count
 
 -- the turns of the loops around an edge's target, from those before it
 abbrev pub AreTurnsAfter : List LoopRow → (at : ℕ) → Edge → (to : ℕ) → Memory → Memory → Type 0
 AreTurnsAfter rows at edge to m later =
-    (row : LoopRow) → Contains rows row → IsTrue (contains (range_of row) to) → turns_in later row ≡ turns_after at edge row (turns_in m row)
+    (row : LoopRow) → Contains rows row → IsTrue (contains (range_of row) to)
+    → turns_in later row ≡ turns_after at edge row (turns_in m row)
 
 -- the loop that ends at an address goes back where it has more turns to make, and else it is left
 abbrev pub FollowsTurns : List LoopRow → (at : ℕ) → Memory → Edge → Type 0
-FollowsTurns rows at m edge = (row : LoopRow) → Contains rows row → row.lend ≡ at → edge ≡ (if nat_lt 1 (turns_in m row) then Back else Out)
+FollowsTurns rows at m edge =
+    (row : LoopRow) → Contains rows row → row.lend ≡ at → edge ≡ (if nat_lt 1 (turns_in m row) then Back else Out)
 
 -- ---- where it goes
 

@@ -18,7 +18,8 @@ pub record NamesLoop (cells : List Cell) (l : ℕ) (row : LoopRow) : Type 0 wher
 
 -- each live control word is in the block of one of some loops
 abbrev pub AreInBlocks : List LoopRow → (around : ℕ → Bool) → List Cell → Type 0
-AreInBlocks rows around cells = (x : ℕ) → is_free (cell_at cells x) ≡ false → (l : ℕ) × (around l ≡ true) × IsInBlock rows x l
+AreInBlocks rows around cells =
+    (x : ℕ) → is_free (cell_at cells x) ≡ false → (l : ℕ) × (around l ≡ true) × IsInBlock rows x l
 
 -- The live control words are those of the blocks of some loops.
 pub record LiveWordsAre (rows : List LoopRow) (around : ℕ → Bool) (cells : List Cell) : Type 0 where

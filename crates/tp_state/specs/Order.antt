@@ -60,7 +60,9 @@ OneIsNotBelow cells others = (i : ℕ) × (cell_below (cell_at cells i) (cell_at
 
 -- words that have a value in both have the same
 abbrev pub AgreeOnValues : List Cell → List Cell → Type 0
-AgreeOnValues cells others = (i : ℕ) → has_value (cell_at cells i) ≡ true → has_value (cell_at others i) ≡ true → cell_at cells i ≡ cell_at others i
+AgreeOnValues cells others =
+    (i : ℕ) → has_value (cell_at cells i) ≡ true → has_value (cell_at others i) ≡ true
+    → cell_at cells i ≡ cell_at others i
 
 -- two cells of one word are live control words alike, or none of them is one: else nothing is above both
 abbrev pub cells_agree : Cell → Cell → Bool

@@ -83,7 +83,8 @@ cell_in values planes x = bits_cell (slice_index_or planes (x / 64) no_bits) (x 
 unfoldable pub seen : List ℕ → List Bits → List Cell
 seen values planes = map (cell_in values planes) (range_with_len 0 (length values))
 
--- the planes have a bit for each word, and no word more of bits than it takes; behind the workspace their words are undefined
+-- the planes have a bit for each word, and no word more of bits than it takes; behind the workspace their words are
+-- undefined
 pub record IsWhole (values : List ℕ) (planes : List Bits) : Type 0 where
   pub few : length values < 2 ^ 32
   pub enough : length values ≤ 64 * length planes
@@ -93,17 +94,20 @@ pub record IsWhole (values : List ℕ) (planes : List Bits) : Type 0 where
 
 -- so many words are known, with the values that they have; and behind these nothing is
 abbrev pub AreKnown : ℕ → List Bits → Type 0
-AreKnown words planes = (values : List ℕ) (i : ℕ) → i < words → cell_in values planes i ≡ cell_of false false (slice_index_or values i 0)
+AreKnown words planes =
+    (values : List ℕ) (i : ℕ) → i < words → cell_in values planes i ≡ cell_of false false (slice_index_or values i 0)
 
 abbrev pub ArePadded : ℕ → List Bits → Type 0
-ArePadded words planes = (values : List ℕ) (i : ℕ) → words ≤ i → i < 64 * length planes → cell_in values planes i ≡ Undef
+ArePadded words planes =
+    (values : List ℕ) (i : ℕ) → words ≤ i → i < 64 * length planes → cell_in values planes i ≡ Undef
 
 -- whatever the values are, each word from x to an end is such; or one of them is not
 abbrev pub EachIs : (Cell → Bool) → List Bits → (x end : ℕ) → Type 0
 EachIs test planes x end = (values : List ℕ) (i : ℕ) → x ≤ i → i < end → test (cell_in values planes i) ≡ true
 
 abbrev pub OneIsNot : (Cell → Bool) → List Bits → (x end : ℕ) → Type 0
-OneIsNot test planes x end = (values : List ℕ) → (i : ℕ) × (x ≤ i) × (i < end) × (test (cell_in values planes i) ≡ false)
+OneIsNot test planes x end =
+    (values : List ℕ) → (i : ℕ) × (x ≤ i) × (i < end) × (test (cell_in values planes i) ≡ false)
 
 -- what is known of some word has changed
 abbrev pub OneChanges : List ℕ → (old new : List Bits) → Type 0
@@ -127,7 +131,8 @@ pub record ChangesPlanes (values : List ℕ) (old new : List Bits) (f : ℕ → 
 pub record Agree (values other_values : List ℕ) (planes others : List Bits) : Type 0 where
   pub words : (i : ℕ) → slice_index_or values i 0 < 2 ^ 32
   pub other_words : (i : ℕ) → slice_index_or other_values i 0 < 2 ^ 32
-  pub alike : (i : ℕ) → i < 64 * length planes → has_value (cell_in values planes i) ≡ true → has_value (cell_in other_values others i) ≡ true → cell_in values planes i ≡ cell_in other_values others i
+  pub alike : (i : ℕ) → i < 64 * length planes → has_value (cell_in values planes i) ≡ true
+      → has_value (cell_in other_values others i) ≡ true → cell_in values planes i ≡ cell_in other_values others i
 
 -- these words of two planes' words differ in a bit
 abbrev pub Moves : Bits → Bits → Type 0

@@ -1,8 +1,8 @@
 -- The rules of the verifier: what is known after each instruction, a clause for each, in the order of their codes.
 --
 -- A clause speaks of the instruction that stands at an address, where next follows it, on an edge that it has. Where
--- several refusals hold, S11 comes first, then the lowest number; for in and out the order is S1, S2, S8, S7, S9, S3, S4,
--- S5. The effects of the instructions stand in tp_step/specs/Effects.antt, in the same order.
+-- several refusals hold, S11 comes first, then the lowest number; for in and out the order is S1, S2, S8, S7, S9, S3,
+-- S4, S5. The effects of the instructions stand in tp_step/specs/Effects.antt, in the same order.
 --
 -- Sums of a word's number and an operand are whole numbers, never wrapped.
 use Rattle.std.specs.Prelude.{◌≡◌, ℕ, ◌+◌, ◌-◌, ◌*◌, ◌/◌, ◌%◌, ◌^◌, ◌==◌, Bool, ◌&&◌, ◌||◌, not, nat_le, nat_lt, if◌then◌else◌, ℤ, pos, negsuc, ◌+ℤ◌, ◌-ℤ◌, ◌*ℤ◌, int_le, int_lt, int_div, List, map, replicate, slice_get, slice_set, Option, Result, Ok, Err}
@@ -254,7 +254,8 @@ moved n x y t = do
 
 -- both words of a loop's block
 abbrev pub with_block : LoopRow → Cell → Cell → State → State
-with_block row index count t = record t { cells = slice_set (slice_set t.cells row.control index) (row.control + 1) count }
+with_block row index count t =
+    record t { cells = slice_set (slice_set t.cells row.control index) (row.control + 1) count }
 
 -- the loop whose lend stands at an address
 unfoldable pub row_ended_at : ImageValue → ℕ → Option LoopRow
@@ -494,7 +495,8 @@ rule image at next Mul edge t = do
 
 -- it answers as the instruction's rule does, wherever the instruction stands and on each of its edges
 abbrev pub FollowsRule : {A : Type 0} → ImageValue → Instr → Result A StateCode → (old new : State) → Type 0
-FollowsRule image instr answer old new = (at next : ℕ) (edge : Edge) → answered answer new ≡ rule image at next instr edge old
+FollowsRule image instr answer old new =
+    (at next : ℕ) (edge : Edge) → answered answer new ≡ rule image at next instr edge old
 
 -- and in each image
 abbrev pub FollowsEachRule : {A : Type 0} → Instr → Result A StateCode → (old new : State) → Type 0

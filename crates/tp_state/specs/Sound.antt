@@ -42,8 +42,8 @@ IsSoundCell rows (cell.Index l) = HasRow rows l
 IsSoundCell rows (cell.Count l) = HasRow rows l
 IsSoundCell rows c = Unit {0}
 
--- a sound state: one of the image's worker, whose ranges are in order, whose numbers are words, and whose live loops have
--- rows
+-- a sound state: one of the image's worker, whose ranges are in order, whose numbers are words, and whose live loops
+-- have rows
 pub record IsSound (image : ImageValue) (s : State) : Type 0 where
   pub placed : IsPlaced image s
   pub a : IsSoundKind s.a

@@ -12,8 +12,8 @@ pub record Ends (last all : List ℕ) : Type 0 where
   pub taken : List ℕ
   pub is : all ≡ taken ++ last
 
--- Nothing is taken back: the error flag stays set once it is set; what was sent on either link stays, and more comes behind
--- it; bytes are taken from the front of those to come alone; and the worker goes from phase to phase.
+-- Nothing is taken back: the error flag stays set once it is set; what was sent on either link stays, and more comes
+-- behind it; bytes are taken from the front of those to come alone; and the worker goes from phase to phase.
 pub record TakesNothingBack (before after : State) : Type 0 where
   pub flag : before.error ≡ true → after.error ≡ true
   pub sent : Begins before.sent after.sent

@@ -44,7 +44,8 @@ pub record StuckFrom (image : ImageValue) (s : State) (before after : Devices) :
   pub stuck : IsStuck image state
 
 -- or to one whose step is refused by a device
-pub record RefusedFrom (image : ImageValue) (s : State) (before : Devices) (fault : LinkFault) (after : Devices) : Type 0 where
+pub record RefusedFrom (image : ImageValue) (s : State) (before : Devices) (fault : LinkFault)
+    (after : Devices) : Type 0 where
   pub count : ℕ
   pub within : IsBeforeLastByte image s count
   pub state : State
@@ -54,8 +55,10 @@ pub record RefusedFrom (image : ImageValue) (s : State) (before : Devices) (faul
   pub step : step image state ≡ Some next
   pub refused : RefusedAt fault.link fault.code state next now after
 
--- What becomes of a worker by its next instruction, whatever came and went before. None: it had stopped, and nothing moves.
-abbrev pub Came : ImageValue → (old new : Messages → State) → (phase later : Phase) → (now after : Devices) → Option Turn → Type 0
+-- What becomes of a worker by its next instruction, whatever came and went before. None: it had stopped, and nothing
+-- moves.
+abbrev pub Came : ImageValue → (old new : Messages → State) → (phase later : Phase) → (now after : Devices)
+    → Option Turn → Type 0
 Came image old new phase later now after None =
     (phase ≡ Stopped) × (later ≡ phase) × (after ≡ now) × ((p : Messages) → new p ≡ old p)
 Came image old new phase later now after (Some turn.Made) =
@@ -64,4 +67,5 @@ Came image old new phase later now after (Some turn.Made) =
 Came image old new phase later now after (Some turn.Stuck) =
     (before : Devices) (p : Messages) → HasExchanged image before phase p now → StuckFrom image (old p) before after
 Came image old new phase later now after (Some (turn.Refused fault)) =
-    (before : Devices) (p : Messages) → HasExchanged image before phase p now → RefusedFrom image (old p) before fault after
+    (before : Devices) (p : Messages) → HasExchanged image before phase p now
+    → RefusedFrom image (old p) before fault after

@@ -53,7 +53,8 @@ Made f old new true = (p : Messages) → f (old p) ≡ Some (new p)
 Made f old new false = (p : Messages) → f (old p) ≡ None
 
 -- what came and went since the devices were as before, in this phase
-pub record HasExchanged (image : ImageValue) (before : Devices) (phase : Phase) (p : Messages) (now : Devices) : Type 0 where
+pub record HasExchanged (image : ImageValue) (before : Devices) (phase : Phase) (p : Messages)
+    (now : Devices) : Type 0 where
   pub phase_is : p.phase ≡ phase
   pub to_come : phase ≡ BeforePacket → p.to_come ≡ packet_of image before.source
   pub source : Gave before.source (4 * image.packet - length p.to_come) now.source
@@ -61,7 +62,8 @@ pub record HasExchanged (image : ImageValue) (before : Devices) (phase : Phase) 
   pub trace : Took before.trace p.traced now.trace
 
 -- f leads on, with the bytes that the devices took and gave; or leads nowhere; or is refused by a device
-abbrev pub Turned : ImageValue → (State → Option State) → (old new : Messages → State) → (phase later : Phase) → (now after : Devices) → Turn → Type 0
+abbrev pub Turned : ImageValue → (State → Option State) → (old new : Messages → State) → (phase later : Phase)
+    → (now after : Devices) → Turn → Type 0
 Turned image f old new phase later now after turn.Made =
     (before : Devices) (p : Messages) → HasExchanged image before phase p now →
     (q : Messages) × (f (old p) ≡ Some (new q)) × HasExchanged image before later q after

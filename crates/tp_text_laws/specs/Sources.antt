@@ -38,8 +38,8 @@ abbrev pub written_lines : Option Remarks → ℕ → List Line → List Written
 written_lines remarks number [] = []
 written_lines remarks number (line ∷ more) = written_line remarks number line ∷ written_lines remarks (number + 1) more
 
--- at these positions of a text stand the words that ask for these lines, in their order, each on a line below the one before; the
--- first line of a text is line 1
+-- at these positions of a text stand the words that ask for these lines, in their order, each on a line below the one
+-- before; the first line of a text is line 1
 abbrev pub ArePositions : List (List ℕ) → ℕ → List Position → List WrittenLine → Type 0
 ArePositions text above [] [] = Unit {0}
 ArePositions text above [] (line ∷ more) = ⊥
@@ -48,8 +48,8 @@ ArePositions text above (p ∷ positions) (line ∷ more) =
     (above < p.line) × (slice_get text (p.line - 1) ≡ Some line.text) × (p.column ≡ line.column)
     × ArePositions text p.line positions more
 
--- a source is that of a program's text: the program, for each of its lines where the word stands that asks for it, the labels, and
--- no names of local words
+-- a source is that of a program's text: the program, for each of its lines where the word stands that asks for it, the
+-- labels, and no names of local words
 pub record IsSource (p : ProgramSaid) (remarks : Option Remarks) (source : SourceSaid) : Type 0 where
   pub program : source.program ≡ p
   pub positions : ArePositions (lines (text_of p remarks)) 0 source.positions (written_lines remarks 0 p.lines)

@@ -4,7 +4,8 @@ use Rattle.tp_assembly_text.specs.declared.words.Position.{Position}
 
 -- behind a byte: a line feed ends its line
 abbrev pub behind : Position → ℕ → Position
-behind p b = if b == 10 then record { line = p.line + 1; column = 1 } else record { line = p.line; column = p.column + 1 }
+behind p b =
+    if b == 10 then record { line = p.line + 1; column = 1 } else record { line = p.line; column = p.column + 1 }
 
 abbrev pub behind_all : Position → List ℕ → Position
 behind_all p [] = p

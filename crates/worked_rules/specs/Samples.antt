@@ -28,7 +28,8 @@ one n = ints n n
 abbrev pub any : Kind
 any = Int (negsuc (2 ^ 31 - 1)) (pos (2 ^ 31 - 1))
 
--- the channels of link 0's input, on which the packet comes, of link 0's output, for the result, and of link 1's, for traces
+-- the channels of link 0's input, on which the packet comes, of link 0's output, for the result, and of link 1's, for
+-- traces
 abbrev pub packet_channel : Kind
 packet_channel = Int (minus 2147483632) (minus 2147483632)
 
@@ -38,8 +39,8 @@ result_channel = Int (minus 2147483648) (minus 2147483648)
 abbrev pub trace_channel : Kind
 trace_channel = Int (minus 2147483644) (minus 2147483644)
 
--- An image of 12 words. Loop 0 goes from 10 to 40, with its block in words 8 and 9: 3 turns from 5 on. Loop 1 lies within
--- it, from 20 to 30, with its block in words 10 and 11: 2 turns from 1 on.
+-- An image of 12 words. Loop 0 goes from 10 to 40, with its block in words 8 and 9: 3 turns from 5 on. Loop 1 lies
+-- within it, from 20 to 30, with its block in words 10 and 11: 2 turns from 1 on.
 abbrev pub image_of : Version → (packet result : ℕ) → ImageValue
 image_of version packet result = record {
   version = version;
@@ -47,7 +48,9 @@ image_of version packet result = record {
   start = 7;
   packet = packet;
   result = result;
-  loops = record { head = 10; lend = 40; control = 8; count = 3; start = pos 5 } ∷ record { head = 20; lend = 30; control = 10; count = 2; start = pos 1 } ∷ [];
+  loops =
+      record { head = 10; lend = 40; control = 8; count = 3; start = pos 5 }
+      ∷ record { head = 20; lend = 30; control = 10; count = 2; start = pos 1 } ∷ [];
   initial = [];
   code = [];
 }
@@ -96,7 +99,8 @@ worker version workspace = record (image_of version 1 1) { workspace = workspace
 
 -- after the packet was taken to word 8, of so many words more
 abbrev pub words_taken : ℕ → List Cell
-words_taken more = replicate 3 (cell.Known (pos 0)) ++ (replicate 5 cell.Undef ++ (cell.Any ∷ replicate more (cell.Known (pos 0))))
+words_taken more =
+    replicate 3 (cell.Known (pos 0)) ++ (replicate 5 cell.Undef ++ (cell.Any ∷ replicate more (cell.Known (pos 0))))
 
 abbrev pub taken : Kind → Kind → Kind → (more : ℕ) → State
 taken a b c more = record { wptr = 8; a = a; b = b; c = c; phase = 1; cells = words_taken more }

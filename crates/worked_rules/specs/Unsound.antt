@@ -5,8 +5,8 @@ use Rattle.tp_state.specs.declared.state.State.{State}
 use Rattle.tp_state.specs.Order.{IsBelow}
 use Rattle.worked_rules.specs.Samples.{next_of}
 
--- a state is below another, and nothing is refused after the other; but something is refused after the first, or what is
--- known after it is not below
+-- a state is below another, and nothing is refused after the other; but something is refused after the first, or what
+-- is known after it is not below
 pub record BreaksTheOrder (instr : Instr) (s t : State) : Type 0 where
   pub below : IsBelow s t
   pub outcome : State

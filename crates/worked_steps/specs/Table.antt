@@ -9,4 +9,9 @@ use Rattle.worked_steps.specs.declared.table.Sample.{Sample}
 abbrev pub Says : ImageValue → Sample → Type 0
 Says image sample =
     (text image ≡ sample.image.now)
-    × RunsAlone image sample.packet record { result = sample.result_bytes; error = sample.error; steps = sample.steps; trace = sample.trace.now }
+    × RunsAlone image sample.packet record {
+      result = sample.result_bytes;
+      error = sample.error;
+      steps = sample.steps;
+      trace = sample.trace.now;
+    }

@@ -3,8 +3,8 @@ ghost use Rattle.std.specs.Prelude.{◌≡◌, []};
 ghost use Rattle.tp_board.specs.Streams.{HandView, FeederView, turn_of, hand_of_parts, feeder_of_parts, IsHand, IsFeeder};
 
 use crate::answer::Ledger;
-use crate::stream::tally::Token;
 use crate::stream::queue::QueuePass;
+use crate::stream::tally::Token;
 use std::marker::Model;
 
 /// The answer to a try to feed.

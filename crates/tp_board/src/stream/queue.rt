@@ -146,7 +146,11 @@ pub type Queue = RuledArrayQueue<Item, PassView, InOrder>;
 pub type QueuePass = Pass<Item, PassView>;
 
 /// A queue for so many packets and members, with the pass that feeds and the first of the hands.
-pub fn opened(alloc: Global, packets: u32, members: u32) -> Result<(Queue, QueuePass, QueuePass), AllocError>
+pub fn opened(
+    alloc: Global,
+    packets: u32,
+    members: u32,
+) -> Result<(Queue, QueuePass, QueuePass), AllocError>
     requires { 0 < members }
     ensures own { IfOk result (λ q. IsPassOf q.0 q.1 × IsPassOf q.0 q.2 × (ruled_capacity q.0 ≡ 32)) }
     ensures feeder { IfOk result (λ q. view q.1 ≡ feeder packets members members) }

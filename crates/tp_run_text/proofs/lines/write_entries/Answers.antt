@@ -14,5 +14,5 @@ loop-i-preserved c =
     slice_get-get_or entries i e c.loop-i-test.true ∙ ap Some (sym c.index-entries-i.is) in
     c.in_ok-write_entry.ensures ∙ ap (λ bytes. bytes ++ entry_text form c.args.budget (c.args.number + i) e) c.loop-i.invariant
     ∙ append_assoc c.args.out.now.items (entries_text form c.args.budget c.args.number (take i entries))
-        (entry_text form c.args.budget (c.args.number + i) e)
+    (entry_text form c.args.budget (c.args.number + i) e)
     ∙ ap (λ bytes. c.args.out.now.items ++ bytes) (sym (shown_more form c.args.budget c.args.number entries i e there))

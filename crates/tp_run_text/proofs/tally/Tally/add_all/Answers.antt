@@ -17,6 +17,6 @@ loop-i-preserved c =
     let done = ap (λ t. t.done) c.add.ensures in
     let lost = ap (λ t. t.lost) c.add.ensures in (
       c.add.ensures ∙ ap (λ t. with_entry form t (n + i) e) c.loop-i.invariant.0
-      ∙ sym (counted_more form c.args.self.now n entries i e there),
+          ∙ sym (counted_more form c.args.self.now n entries i e there),
       omega (arith, counted, done, lost, c.loop-i.invariant.1),
     )
