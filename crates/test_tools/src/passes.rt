@@ -106,7 +106,11 @@ fn refuses_in_each_of_many_passes(rt: HostRuntime) {
     for words in 1..21 {
         let image = moving(&rt, rt.alloc(), words);
         let found = found(&rt, &image).expect(&rt, "a refusal");
-        assert_eq!(rt; found.passes + 1, u64::from(words), "{words} words");
+        assert_eq!(rt;
+            found.passes.checked_add(1),
+            Some(u64::from(words)),
+            "{words} words"
+        );
         let head = state_at(&found.table, usize::from(HEAD)).expect(
             &rt,
             "a state at the loop's head",
