@@ -302,7 +302,7 @@ fn answers_help_and_version(rt: HostRuntime) {
     let cases = [
         ("farmd", "--help", HELP),
         ("tp_farmd.by-rattle", "--help", HELP),
-        ("farmd", "--version", "farmd 0.1 (rattle-kit-13f)\n"),
+        ("farmd", "--version", "farmd 0.1 (unreleased, rattle-kit-13f)\n"),
     ];
     for (name, word, answer) in cases {
         let mut output = Vec::new(rt.alloc());

@@ -10,8 +10,8 @@ use clap::{Arg, ArgAction, Command, Error, value_parser};
 use std::alloc::Global;
 use std::convert::AsStr;
 
-/// What `--version` says behind the name: the version, and the kit that the proofs are made with.
-const VERSION: &str = "0.1 (rattle-kit-13f)";
+/// What `--version` says behind the name: the version, the commit where a package is built, and the kit that the proofs are made with.
+const VERSION: &str = "0.1 (unreleased, rattle-kit-13f)";
 
 /// What `--help` says below the options.
 const LINES: &str = "\

@@ -12,8 +12,8 @@ use std::convert::AsStr;
 use tp_run_text::Style;
 use tp_stepper::{Place, Span};
 
-/// What `--version` says behind the name: the version, and the kit that the proofs are made with.
-const VERSION: &str = "0.1 (rattle-kit-13f)";
+/// What `--version` says behind the name: the version, the commit where a package is built, and the kit that the proofs are made with.
+const VERSION: &str = "0.1 (unreleased, rattle-kit-13f)";
 
 /// The name of the command that tells a run.
 const STEP: &str = "step";
