@@ -70,7 +70,7 @@ fn tested_with(accepted: &Accepted) -> Tested<'_> {
     }
 }
 
-/// Prints what the rounds of a worker come to on both machines, and in the plain function that makes its turns.
+/// Prints the cost of a worker's rounds on both machines, and in the plain function that makes its turns.
 fn told<R: Runtime<A = Global>>(
     rt: &R,
     worker: &Worker,
@@ -97,7 +97,7 @@ fn count_of(worker: &Worker, is_timed: bool) -> u32 {
     if is_timed { worker.rounds } else { 1 }
 }
 
-/// Prints what the rounds of a worker come to on one machine.
+/// Prints the cost of a worker's rounds on one machine.
 fn told_of<R: Runtime<A = Global>, M: Runs>(
     rt: &R,
     worker: &Worker,
@@ -119,7 +119,7 @@ fn told_of<R: Runtime<A = Global>, M: Runs>(
     Ok(())
 }
 
-/// The same turns by a plain function: the word that it leaves. Where its words stand is read from the image, so that no compiler
+/// The same turns by a plain function: the word that it leaves. The places of its words are read from the image, so that no compiler
 /// knows it.
 fn plain_rounds((outer, inner): (u32, u32), accepted: &Accepted, count: u32) -> u32 {
     let sum = accepted.result_bytes() % 8;

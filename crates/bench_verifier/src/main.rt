@@ -44,7 +44,7 @@ fn all_in_small<R: Runtime<A = Global>>(rt: &R) -> Result<()> {
     accept::measure(rt)
 }
 
-/// Measures what a word names of an image whose bytes are told in hexadecimal.
+/// Measures what a word names of an image given in hexadecimal.
 fn measure_image<R: Runtime<A = Global>>(
     rt: &R,
     word: &str,

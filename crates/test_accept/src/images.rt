@@ -1,6 +1,6 @@
 //! Images and codes, by what they do.
 
-/// The code of `SUM_TO_TEN`: instructions start at 0, 1, 3 to 18, 20, 21, 23, 24 and 25; the lend stands at 18.
+/// The code of `SUM_TO_TEN`: instructions start at 0, 1, 3 to 18, 20, 21, 23, 24 and 25; the lend is at 18.
 pub(crate) const SUM_CODE: &[u8] = b"\
     \x10\x24\xF2\x54\x44\xF7\x40\xD1\x40\xD2\x4A\xD3\x71\x72\xF5\xD1\x12\x48\x22\xF1\
     \x11\x24\xF2\x44\xFB\x21\xF5";

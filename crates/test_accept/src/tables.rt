@@ -20,7 +20,7 @@ use tp_image::Image;
 use tp_samples::*;
 use tp_state::{Cell, Kind, State, StateCode, StateFault, after};
 
-/// What the passes come to.
+/// What the passes answer.
 fn verdict(rt: &(impl Abort + AllocGlobal), bytes: &[u8]) -> Result<Table, StateFault> {
     let (image, listing) = read(rt, bytes);
     let nest = check_flow(&image, &listing).expect(rt, "a nest");
@@ -122,7 +122,7 @@ fn keeps_states_where_edges_join(rt: HostRuntime) {
     assert_same(&rt, &table.kept(), &901);
 }
 
-/// They stand by rising address.
+/// They are in order of address.
 #[test]
 fn tables_rise(rt: HostRuntime) {
     let jumps = many_jumps(&rt, rt.alloc(), NINE_HUNDRED, 900);
@@ -209,7 +209,7 @@ fn knows_the_registers_along_a_loop(rt: HostRuntime) {
     }
 }
 
-/// These registers are known at an address; and behind the loop, what stands in the workspace.
+/// These registers are known at an address; and behind the loop, the cells of the workspace.
 fn assert_known(rt: &impl Abort, state: &State, at: usize, registers: Registers) {
     assert_same(rt, &(state.wptr, state.phase, state.a, state.b), &registers);
     for (word, cell) in LEFT_BY_THE_LOOP {
@@ -219,10 +219,10 @@ fn assert_known(rt: &impl Abort, state: &State, at: usize, registers: Registers)
     }
 }
 
-/// What stands in the workspace behind the loop, up to the end.
+/// The cells of the workspace behind the loop, up to the end.
 const LEFT_BY_THE_LOOP: [(usize, Cell); 3] = [(9, Cell::Any), (10, Cell::Undef), (11, Cell::Undef)];
 
-/// What stands in the workspace at the head.
+/// The cells of the workspace at the head.
 const CELLS_AT_THE_HEAD: [(usize, Cell); 6] = [
     (2, Cell::Known(0)),
     (3, Cell::Undef),

@@ -129,7 +129,7 @@ fn a_filed_number_is_refused(rt: HostRuntime) {
     assert_same(&rt, &cause_of(&entries[2]), &Some(LostCause::Link(REFUSED)));
 }
 
-/// Another batch is told first, then a number that no packet has.
+/// Another batch is the first refusal, then a number that no packet has.
 #[test]
 fn refusals_in_their_order(rt: HostRuntime) {
     let image = worker(&rt);

@@ -51,7 +51,7 @@ fn a_listing_finds_its_instructions(rt: HostRuntime) {
     assert_same(&rt, &Instr::of(9, 0), &None);
 }
 
-/// The instructions ldc 1, mint and stl 0 stand at 0, 2 and 4, and none elsewhere.
+/// The instructions ldc 1, mint and stl 0 are at 0, 2 and 4, and none is elsewhere.
 fn assert_found(rt: &impl Abort, listing: &Listing) {
     assert!(rt; listing.starts() == [0, 2, 4].as_slice());
     let found = [

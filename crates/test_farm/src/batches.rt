@@ -1,4 +1,4 @@
-//! Batches to run, and what they come to.
+//! Batches to run, and what they answer.
 
 use crate::asserts::unwrap;
 use std::alloc::Global;
@@ -139,7 +139,7 @@ pub(crate) fn run_on<R: Abort + Threads + Wait + Sync, D: LinkDevice + Send, G: 
     batch_on(rt, alloc, image, words, links, gate).collected
 }
 
-/// What is told of these packets where one member runs them.
+/// The entries of these packets where one member runs them.
 pub(crate) fn told_by_one<R: Abort + Threads + Wait + Sync, D: LinkDevice + Send, G: Gate>(
     rt: &R,
     alloc: Global,

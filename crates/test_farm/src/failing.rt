@@ -18,7 +18,7 @@ const DONE: Told = Told::Done {
     steps: 16,
 };
 
-/// Whether that is told of two packets of 1, where a device fails in one of its calls, and all media have ended.
+/// Whether these are the entries of two packets of 1, where a device fails in one of its calls, and all media have ended.
 fn fails_as<R: Abort + Threads + Wait + Sync>(
     rt: &R,
     alloc: Global,
@@ -53,7 +53,7 @@ fn each_call_of_a_device_fails_in_turn(rt: HostRuntime) {
     }
 }
 
-/// What is told of a packet of 10 that is traced, where devices fail in these calls.
+/// The entry of a packet of 10 that is traced, where devices fail in these calls.
 fn traced<R: Abort + Threads + Wait + Sync>(rt: &R, alloc: Global, calls: [u64; 3]) -> Vec<Told> {
     let mut media = unwrap(rt, Media::new(alloc, ROOM));
     let links = failing(&mut media, calls);
@@ -103,7 +103,7 @@ fn call_of(link: Link, call: u64) -> [u64; 3] {
     }
 }
 
-/// Whether that is told of two packets of 1, where the link's device holds 600 bytes and fails in this call, and all
+/// Whether these are the entries of two packets of 1, where the link's device holds 600 bytes and fails in this call, and all
 /// are empty after it.
 fn empties_as<R: Abort + Threads + Wait + Sync>(
     rt: &R,
@@ -147,7 +147,7 @@ fn a_device_fails_while_it_is_emptied(rt: HostRuntime) {
     }
 }
 
-/// How a device stands before a batch.
+/// The state of a device before a batch.
 #[derive(Clone, Copy)]
 enum Start {
     Open,
@@ -168,7 +168,7 @@ fn bring<D: LinkDevice>(rt: &impl Abort, device: &mut D, start: Start) {
     }
 }
 
-/// What is told of a packet of 1, where the devices stand so before.
+/// The entry of a packet of 1, where the devices begin in these states.
 fn told_from<R: Abort + Threads + Wait + Sync>(
     rt: &R,
     alloc: Global,
@@ -221,7 +221,7 @@ fn close<D: LinkDevice>(links: &mut Links<D>, link: Link) {
     }
 }
 
-/// What is told of packets of these words where the link is closed at the start.
+/// The entries of packets of these words where the link is closed at the start.
 fn told_where_closed<R: Abort + Threads + Wait + Sync>(
     rt: &R,
     alloc: Global,
@@ -253,7 +253,7 @@ fn a_closed_trace_is_not_called(rt: HostRuntime) {
     }
 }
 
-/// What is told of a packet of 1 where the media have these rooms.
+/// The entry of a packet of 1 where the media have these rooms.
 fn told_in_rooms<R: Abort + Threads + Wait + Sync>(
     rt: &R,
     alloc: Global,

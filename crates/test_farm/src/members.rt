@@ -26,7 +26,7 @@ fn increments_by_one<R: Abort + Threads + Wait + Sync>(
     run_on(rt, alloc, INCREMENT, words, links, &OpenGate)
 }
 
-/// Each entry tells its word plus one.
+/// Each entry has its packet's word plus one.
 fn are_one_more(rt: &impl Abort, alloc: Global, words: &[u32], collected: &Collected) -> bool {
     let all = all_told(rt, alloc, collected);
     for (one, word) in all.iter().zip(words.iter()) {
@@ -37,7 +37,7 @@ fn are_one_more(rt: &impl Abort, alloc: Global, words: &[u32], collected: &Colle
     all.len() == words.len()
 }
 
-/// 1,024 packets by 1, 3 and 64 members come to the same.
+/// 1,024 packets have the same results by 1, 3 and 64 members.
 #[test]
 fn members_make_no_difference(rt: HostRuntime) {
     let words = count_up(&rt, rt.alloc(), 1024);

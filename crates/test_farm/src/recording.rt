@@ -1,4 +1,4 @@
-//! What a gate is told: a member's own number, and its packet's.
+//! The calls of a gate: a member's own number, and its packet's.
 
 use crate::asserts::{assert_same, unwrap};
 use crate::batches::{ROOM, count_up, failing, increments_by, told_by_one};
@@ -86,7 +86,7 @@ fn heard_of_one<R: Abort + Threads + Wait + Sync>(
     gate.into_heard()
 }
 
-/// A packet that is lost is told as one that is done.
+/// A gate hears of a lost packet as of one that is done.
 #[test]
 fn a_gate_is_told_of_one_member(rt: HostRuntime) {
     let wanted = [
@@ -155,7 +155,7 @@ fn turns_of(heard: &[Heard]) -> Option<usize> {
     None
 }
 
-/// Members of the numbers 0, 1, 2 .. ask and no others, and each of them tells of its own packets.
+/// Members of the numbers 0, 1, 2 .. ask and no others, and each of them reports its own packets.
 #[test]
 fn a_gate_is_told_of_each_member(rt: HostRuntime) {
     for members in [1u32, 3, 64] {

@@ -47,7 +47,7 @@ impl Gate for Closing {
     fn finished(&self, _member: u32, _number: u32) {}
 }
 
-/// What is told of three packets of 1 by one member.
+/// The entries of three packets of 1 by one member.
 fn told_of_three<R: Abort + Threads + Wait + Sync>(
     rt: &R,
     alloc: Global,
@@ -135,7 +135,7 @@ fn a_full_queue_ends_with_its_members(rt: HostRuntime) {
     assert_same(&rt, &done_before(&rt, rt.alloc(), 1, 40), &Some(39));
 }
 
-/// How many packets this is told of.
+/// How many packets have this entry.
 fn count_of(all: &[Told], wanted: Told) -> usize {
     let mut count = 0usize;
     for one in all {

@@ -1,5 +1,5 @@
 //! Members that end early or lose their packets, at counts of packets about the 32 places of the queue that hands them out:
-//! each batch comes to its end, with an entry for each packet.
+//! each batch ends, with an entry for each packet.
 
 use crate::asserts::unwrap;
 use crate::batches::{ROOM, Told, all_told, count_up, increments_by, one_more, run_on};
@@ -17,7 +17,7 @@ const MEMBERS: [usize; 3] = [1, 2, 64];
 
 const COUNTS: [u32; 5] = [1, 31, 32, 33, 1024];
 
-/// How many packets are done with their word plus one: 1, or 0 where the packet is told as that; none where it is told as neither.
+/// How many packets are done with their word plus one: 1, or 0 where the packet has that other entry; none where it has neither.
 fn done_or(one: Told, word: u32, other: Told) -> Option<usize> {
     if one == one_more(word) {
         Some(1)
@@ -28,7 +28,7 @@ fn done_or(one: Told, word: u32, other: Told) -> Option<usize> {
     }
 }
 
-/// How many packets are done, each with its word plus one, where all others are told as that; none where they are not.
+/// How many packets are done, each with its word plus one, where all others have that other entry; none where they have not.
 fn done_beside(all: &[Told], words: &[u32], other: Told) -> Option<usize> {
     if all.len() != words.len() {
         return None;

@@ -46,7 +46,7 @@ fn a_trace_is_kept(rt: HostRuntime) {
     }
 }
 
-/// What is told of two packets that are traced 65 times, in a trace with this room.
+/// The entries of two packets that are traced 65 times, in a trace with this room.
 fn told_of_long_traces<R: Abort + Threads + Wait + Sync>(
     rt: &R,
     alloc: Global,

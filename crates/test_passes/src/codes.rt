@@ -12,7 +12,7 @@ const LAST_STEP: usize = 20;
 /// How many variables a code has.
 const VARIABLES: u8 = 6;
 
-/// Workspaces have so many words: one word of bits tells of the first, and of the other two do.
+/// Workspaces have so many words: one word of bits has the cells of the first, and two have those of the other.
 const SMALL: u16 = 20;
 
 const LARGE: u16 = 80;
@@ -233,7 +233,7 @@ impl Writer {
         self.store()
     }
 
-    /// A variable takes the word that stands as many words behind another as a third has.
+    /// A variable takes the word as many words behind another as a third has.
     fn look_up(&mut self) -> Result<(), AllocError> {
         self.load()?;
         let n = self.variable();

@@ -1,4 +1,4 @@
-//! What the passes over whole tables come to, beside the answer of `check_states`.
+//! The answer of the passes over whole tables, beside that of `check_states`.
 
 ghost use Rattle.std.specs.Prelude.{◌≡◌};
 ghost use Rattle.tp_flow.specs.NestRanges.{ranges};
@@ -76,7 +76,7 @@ impl Counts {
     }
 }
 
-/// What the passes over whole tables come to, and how many were made.
+/// The answer of the passes over whole tables, and how many were made.
 #[derive(Drop)]
 struct Found {
     table: Whole,

@@ -34,7 +34,7 @@ const BLOCKS: u8 = 6;
 /// The first value of Wptr.
 const START: u16 = 8;
 
-/// What stands open in a code: a jump whose target comes later, or a loop whose end does.
+/// What is open in a code: a jump whose target comes later, or a loop whose end does.
 #[derive(Clone, Copy)]
 enum Open {
     Jump(usize),
@@ -125,7 +125,7 @@ impl Draft {
         Ok(())
     }
 
-    /// What stands open so many places from the last is closed, or the last.
+    /// What is open so many places from the last is closed, or the last.
     pub(crate) fn close(&mut self, back: usize) -> Result<(), AllocError> {
         let many = self.open.len();
         let at = if back < many {
@@ -145,7 +145,7 @@ impl Draft {
         }
     }
 
-    /// All that stands open is closed, the last first.
+    /// All that is open is closed, the last first.
     pub(crate) fn close_all(&mut self) -> Result<(), AllocError> {
         for _ in 0..self.open.len() {
             self.close(0)?;
@@ -153,7 +153,7 @@ impl Draft {
         Ok(())
     }
 
-    /// The jump that stands at an address leads to what comes next.
+    /// The jump at an address leads to what comes next.
     fn lead_here(&mut self, from: usize) {
         let distance = low_byte(self.code.len().wrapping_sub(from).wrapping_sub(2));
         if let Some(byte) = self.code.get_mut(from) {

@@ -76,7 +76,7 @@ impl Whole {
         Ok(changed)
     }
 
-    /// An edge: what is known after it comes to its target.
+    /// An edge: what is known after it is joined at its target.
     fn take(
         &mut self,
         alloc: Global,
@@ -128,7 +128,7 @@ fn outcome(
     }
 }
 
-/// A state comes to an address, where another may stand already. It answers whether anything changed.
+/// Joins a state at an address, where another may be already. It answers whether anything changed.
 fn meet(
     there: &mut Option<State>,
     image: &Image,

@@ -86,7 +86,7 @@ fn tells_a_failed_read(rt: HostRuntime) {
     assert!(rt; ended.errors.as_slice() == b"farmd: read\n".as_slice());
 }
 
-/// What ends with a fault of this writer, and is told so: an answer, help and the version.
+/// What ends with a fault of this writer: an answer, help and the version.
 fn assert_tells_a_failed_write<T: Threads + Wait + Sync, W: Write>(
     rt: &T,
     alloc: Global,
@@ -178,7 +178,7 @@ impl Write for Taking {
 /// The answers to an image that adds one to its packet, to a packet and to their run: of 10, 7 and 25 bytes.
 const ANSWERS: &[u8] = b"YES 16 16\nKEPT 0\nR 0 0 16 02000000\nDONE 1\n";
 
-/// Each read and each write fails in turn: the call that fails, the first bytes of the answers that are out, and what is told.
+/// Each read and each write fails in turn: the call that fails, the first bytes of the answers that are out, and the message.
 #[test]
 fn tells_each_failed_call(rt: HostRuntime) {
     let cases = [
@@ -314,7 +314,7 @@ fn answers_help_and_version(rt: HostRuntime) {
     }
 }
 
-/// The number of members changes no answer, and the trace is told where it is asked for.
+/// The number of members changes no answer, and the trace is written where it is asked for.
 #[test]
 fn serves_as_asked(rt: HostRuntime) {
     let cases = [

@@ -40,7 +40,7 @@ const BEFORE: [usize; 11] = [0, 21, 29, 78, 86, 94, 104, 111, 118, 125, 186];
 const BEFORE_RUNS: [usize; 2] = [125, 186];
 
 /// The program `farmd` from its words to its status, and how much is written. After Memory, and where a thread was refused for
-/// it, the answers to some of the first lines are written, each of them whole, and the fault is told.
+/// it, the answers to some of the first lines are written, each of them whole, and the fault is reported.
 fn served<T: Threads + Wait + Sync>(rt: &T, alloc: Global) -> (Answer, usize) {
     let input = input();
     let mut reader = input.written();
@@ -59,7 +59,7 @@ fn served<T: Threads + Wait + Sync>(rt: &T, alloc: Global) -> (Answer, usize) {
     (answer, written.len())
 }
 
-/// A fault that is told after so much was written. A line for which a thread was refused asks for a run.
+/// A fault that is reported after so much was written. A line for which a thread was refused asks for a run.
 fn want_at(fault: &[u8], written: usize) -> Answer {
     let is_want = if fault == b"farmd: thread\n".as_slice() {
         BEFORE_RUNS.contains(&written)

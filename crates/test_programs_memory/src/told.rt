@@ -1,9 +1,9 @@
-//! What the program of those who write workers is given, and what it tells with ample memory.
+//! What the program of those who write workers reads, and what it prints with ample memory.
 
 use tp_samples::page::Page;
 use tp_samples::{FIBONACCI, INCREMENT, SUM_TO_TEN};
 
-/// A text that is given or told.
+/// A text that is read or printed.
 #[derive(Clone, Copy, Drop)]
 pub enum Text<'a> {
     /// Lines.

@@ -14,7 +14,7 @@ use tp_samples::streams::Words;
 use tp_workbench::{Terminal, run};
 
 /// What a command answers, and how much it has written. After Memory, and where a thread was refused for it, that is how its text
-/// begins, and its fault is told.
+/// begins, and its fault is reported.
 fn answer<T>(rt: &T, alloc: Global, case: &Case<'_>) -> (Answer, usize)
 where
     T: Files + Threads + Wait + Clock + Eprint + Sync,

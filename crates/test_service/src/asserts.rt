@@ -7,12 +7,12 @@ ghost use Rattle.std.specs.Prelude.{◌≡◌, Ok};
 use std::fmt::Debug;
 use std::process::Abort;
 
-/// That two values are the same; where they are not, both are told.
+/// That two values are the same; where they differ, both are printed.
 pub fn assert_same<T: Debug + PartialEq>(rt: &impl Abort, left: &T, right: &T) {
     assert_eq!(rt; left, right);
 }
 
-/// The value; where there is none, the error is told.
+/// The value; where there is none, the error is printed.
 pub fn unwrap<T: Drop, E: Debug + Drop>(rt: &impl Abort, value: Result<T, E>) -> T
     ensures { value ≡ Ok result }
 {

@@ -71,7 +71,7 @@ pub fn opened(rt: &impl Abort, alloc: Global, image: &[u8]) -> Vec<u8> {
     input
 }
 
-/// Whether this is written for an input, where no traces are told.
+/// Whether this is written for an input without traces.
 pub fn answers<T: Abort + Threads + Wait + Sync>(
     rt: &T,
     alloc: Global,

@@ -113,7 +113,7 @@ fn meeter_at<'m>(rt: &impl Abort, alloc: Global, meeting: Option<&'m Meeting>) -
     }
 }
 
-/// The links of so many members, whose sources come to the meeting.
+/// The links of so many members, whose sources meet.
 fn links_of<'m>(
     rt: &impl Abort,
     alloc: Global,

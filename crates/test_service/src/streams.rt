@@ -234,7 +234,7 @@ fn session(rt: &impl Abort, alloc: Global) -> Vec<u8> {
 const TOLD: &[u8] = b"YES 16 16\nKEPT 0\nKEPT 1\nKEPT 2\n\
     R 0 0 16 02000000\nR 1 1 16 00000080\nR 2 0 16 02000000\nDONE 3\nDONE 0\n";
 
-/// How much is told before each line, and how many bytes the lines before it have.
+/// How much is written before each line, and how many bytes the lines before it have.
 const STEPS: [(usize, usize); 7] = [
     (0, 0),
     (73, 10),

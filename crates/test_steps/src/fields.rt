@@ -6,7 +6,7 @@ use anyhow::{Context, Result, anyhow};
 use std::alloc::Global;
 use tp_tested::{Phase, WORKSPACE_BYTES};
 
-/// A workspace, and what a machine keeps behind it. None stands for an undefined byte.
+/// A workspace, and what a machine keeps behind it. None is an undefined byte.
 pub(crate) type Cells = [Option<u8>; WORKSPACE_BYTES];
 
 /// What is spelled for nothing: an empty list, an undefined register.

@@ -1,4 +1,4 @@
-//! Single steps on the machine: a state, the bytes of one instruction, and what executing them comes to.
+//! Single steps on the machine: a state, the bytes of one instruction, and the state after them.
 //!
 //! The vectors come on standard input, one a line, as README.md says. How many agree is printed, and before that the
 //! first that does not: the number of its line, its state, what it says and what came.
@@ -13,7 +13,7 @@ use anyhow::{Context, Result};
 use std::alloc::Global;
 use std::io::{BufRead, BufReader};
 
-/// What parts a vector's state from what it comes to.
+/// What parts a vector's state from the state after it.
 const MARK: &str = " > ";
 
 /// Whether what came is what a vector says. The machine does not tell where it stood when a device refused a call.
@@ -21,7 +21,7 @@ fn agrees(came: &str, wanted: &str) -> bool {
     came == wanted || came == "W" && wanted.starts_with("W ")
 }
 
-/// What a vector comes to.
+/// The outcome of a vector.
 fn came(alloc: Global, state: &str) -> Result<String> {
     let vector = vector::read(alloc, state)?;
     let ran = run::run(alloc, &vector)?;

@@ -48,7 +48,7 @@ fn held(machine: &Machine) -> Cells {
     cells
 }
 
-/// A machine that stands where the vector begins.
+/// A machine in the vector's first state.
 fn machine_at(vector: &Vector) -> Result<Machine> {
     if vector.registers.oreg % 16 != 0 {
         return Err(anyhow!("Oreg is no multiple of 16"));

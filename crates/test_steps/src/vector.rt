@@ -12,7 +12,7 @@ const FILLER: u8 = 0x4E;
 /// The start word, which no vector needs.
 const START_WORD: u16 = 5;
 
-/// What stands before the mark.
+/// The fields before the mark.
 #[derive(Drop)]
 pub(crate) struct Vector {
     pub(crate) image: Image,
@@ -84,7 +84,7 @@ fn read_registers(iptr: &str, read: &[&str]) -> Result<Registers> {
     })
 }
 
-/// Reads what stands before the mark.
+/// Reads the fields before the mark.
 pub(crate) fn read(alloc: Global, text: &str) -> Result<Vector> {
     let mut read = Vec::with_capacity(alloc, 19)?;
     for field in text.split(' ') {

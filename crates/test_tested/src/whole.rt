@@ -58,7 +58,7 @@ fn stuck_after_jump_on_the_machine(rt: HostRuntime) {
     }
 }
 
-/// A run of no step, after which the machine stands at the start of an image.
+/// A run of no step, after which the machine is at the start of an image.
 fn start(rt: &(impl Abort + AllocGlobal), machine: &mut Machine, image: &[u8]) {
     let task = Task {
         image,

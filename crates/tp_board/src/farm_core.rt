@@ -10,7 +10,7 @@ use std::marker::Model;
 
 /// The farm of one thread: which numbers are drawn, and where each of them is.
 ///
-/// To a contract it is a state of the farm core, in which each number drawn so far stands once, in
+/// To a contract it is a state of the farm core, in which each number drawn so far is once, in
 /// a hand, among those done or among those lost.
 #[derive(Drop)]
 pub struct Core {

@@ -1,8 +1,8 @@
-//! The rule of a board's table, and what each kind of step tells the seat that makes it.
+//! The rule of a board's table, and what the seat that makes a step learns from it.
 use crate::view::View;
 use atomic_table::{Join, Play, Split, TableRule};
 
-/// What the rule of a board is told once.
+/// What the rule of a board learns once.
 #[derive(Clone, Copy)]
 pub struct Size {
     pub packets: u64,

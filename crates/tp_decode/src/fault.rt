@@ -12,7 +12,7 @@ use std::fmt;
 pub enum DecodeCode {
     /// The code ends after 1 to 7 prefixes.
     D1,
-    /// Eight prefixes stand there.
+    /// Eight prefixes are there.
     D2,
     /// A function or an operation that is not in the table.
     D3,

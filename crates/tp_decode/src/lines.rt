@@ -25,7 +25,7 @@ impl fmt::Display for Instr {
     }
 }
 
-/// The line of an instruction that stands at an address.
+/// The line of the instruction at an address.
 pub(crate) fn line(alloc: Global, at: u32, piece: &Piece) -> Result<String, AllocError>
     ensures { IfOk result (λ text. string_bytes text ≡ line at (cut_of piece.now)) }
 {

@@ -87,7 +87,7 @@ impl Listing {
         })
     }
 
-    /// The number of the instruction that stands at an address, counted from 0; none inside a spelling or past the end.
+    /// The number of the instruction at an address, counted from 0; none inside a spelling or past the end.
     pub fn index_of(&self, addr: usize) -> Option<usize>
         ensures { result ≡ index_from 0 self.now addr }
     {
@@ -95,7 +95,7 @@ impl Listing {
         Some(usize::from(number))
     }
 
-    /// What stands at an address, with its place.
+    /// What is at an address, with its place.
     #[tactic(auto, using(crate::proofs::NumberLemmas::place_by_number))]
     fn placed(&self, addr: usize) -> Option<Placed>
         ensures { result ≡ option_map (λ cut. record { at = addr; instr = cut.instr; next = addr + length cut.bytes })
@@ -104,14 +104,14 @@ impl Listing {
         self.index_of(addr).and_then(|i| self.get(i))
     }
 
-    /// The instruction that stands at an address; none inside a spelling or past the end.
+    /// The instruction at an address; none inside a spelling or past the end.
     pub fn at(&self, addr: usize) -> Option<Instr>
         ensures { result ≡ option_map (λ cut. cut.instr) (cut_at self.now addr) }
     {
         self.placed(addr).map(|placed| placed.instr)
     }
 
-    /// The address after the instruction that stands at an address.
+    /// The address behind the instruction at an address.
     pub fn next(&self, addr: usize) -> Option<usize>
         ensures { result ≡ option_map (λ cut. addr + length cut.bytes) (cut_at self.now addr) }
     {

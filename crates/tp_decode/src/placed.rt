@@ -1,6 +1,6 @@
 use crate::instr::Instr;
 
-/// An instruction as it stands in a code. Addresses are bytes, counted from the code's first.
+/// An instruction in its place in a code. Addresses are bytes, counted from the code's first.
 #[derive(Clone, Copy, Debug, PartialEq, Eq)]
 pub struct Placed {
     /// the address of its first byte

@@ -2,7 +2,7 @@
 
 ghost use Rattle.std.specs.Prelude.{◌≡◌, ℕ, Bool, true};
 
-/// Asked by each member before it takes a packet, and told of the packets that it has taken and handled. All members ask
+/// Asked by each member before it takes a packet, and notified of the packets that it has taken and handled. All members ask
 /// one gate, from their own threads.
 pub trait Gate: Sync {
     // It will answer true, whenever it is asked.

@@ -29,7 +29,7 @@ pub(crate) struct Shared<'j, G, S> {
     pub(crate) job: &'j Job<'j>,
     pub(crate) gate: &'j G,
     pub(crate) source: &'j S,
-    /// How many packets come to each member, where all take as many.
+    /// How many packets each member gets, where all take as many.
     pub(crate) share: usize,
 }
 

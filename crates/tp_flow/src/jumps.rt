@@ -57,7 +57,7 @@ fn broken_rule(
     None
 }
 
-/// Whether a lend stands there that no row names.
+/// Whether it is a lend that no row names.
 fn names_no_loop(nest: &Nest, at: usize, instr: Instr) -> bool
     ensures { result ≡ names_no_loop nest.now at instr }
 {

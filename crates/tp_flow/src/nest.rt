@@ -108,7 +108,7 @@ impl Nest {
         self.loops().get(row).map(|range| range.head)
     }
 
-    /// The number of the row whose lend stands at an address.
+    /// The number of the row whose lend is at an address.
     pub fn lend_row(&self, at: usize) -> Option<usize>
         ensures { result ≡ number_ended_at self.now at }
     {

@@ -104,7 +104,7 @@ impl Header {
         Ok(())
     }
 
-    /// What the bytes say where the header of an image of this version stands.
+    /// What the bytes say of the header of an image of this version.
     fn at(version: Version, bytes: &[u8]) -> Self
         requires { header_bytes version ≤ length bytes.now }
         ensures { result ≡ header_at version bytes.now }

@@ -1,4 +1,4 @@
-//! Where a header's fields stand, in bytes from the image's first, and how long its parts are.
+//! The places of a header's fields, in bytes from the image's first, and how long its parts are.
 
 /// The place of the number of code bytes.
 pub const CODE_AT: usize = 4;

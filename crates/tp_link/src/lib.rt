@@ -2,7 +2,7 @@
 //! to, behind the trait [`LinkDevice`].
 //!
 //! A [`Wire`] leads to a [`Medium`] that it borrows, a [`FaultyWire`] does the same and fails in a
-//! given call, and an [`OwnedWire`] owns its medium, so that a box of any device can hold it. A box
+//! given call, and an [`OwnedWire`] owns its medium: a box of any device can hold it. A box
 //! of a device is a device. [`Links`] are the three devices of one member.
 //!
 //! When a wire ends, in a box or out of it, its medium is closed, has its end mark, and keeps the

@@ -9,7 +9,7 @@ use std::marker::Model;
 /// What a device leads to: bytes, first in first out, up to a room in bytes.
 ///
 /// It also keeps whether the device to it is open and, as its end mark, whether that device has
-/// ended, so that both can be seen after the device.
+/// ended: both can be seen after the device.
 #[derive(Drop)]
 pub struct Medium {
     bytes: Vec<u8>,

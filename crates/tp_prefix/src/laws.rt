@@ -13,7 +13,7 @@ pub fn one_spelling()
         (a ≡ b) × (f ≡ g) × (d ≡ e) }
 {}
 
-/// The canonical spelling is read back, whatever stands before and after it.
+/// The canonical spelling is read back, whatever is before and after it.
 pub fn round_trip()
     ensures { (function : ℕ) (operand : ℤ) (before after : List ℕ) →
         function < 16 → function ≢ PFIX → function ≢ NFIX → FitsSigned w32 operand →

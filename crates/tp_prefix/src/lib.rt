@@ -14,7 +14,7 @@ pub use encoding::encode;
 pub use reading::read_one;
 pub use spelled::{PrefixFault, Spelled};
 
-/// The function pfix, as it stands in the high four bits of a byte.
+/// The function pfix, in the high four bits of a byte.
 pub const PFIX: u8 = 2;
 
 /// The function nfix.

@@ -6,7 +6,7 @@ ghost use Rattle.tp_prefix.specs.declared.spelled.Spelled.{Spelled};
 use crate::spelled::{PrefixFault, Spelled};
 use crate::{MAX_SPELLING, NFIX, PFIX};
 
-/// The spelling that stands in a code at an address. It may be longer than the canonical one.
+/// The spelling in a code at an address. It may be longer than the canonical one.
 pub fn read_one(code: &[u8], at: usize) -> Result<Spelled, PrefixFault>
     requires { at < length code.now }
     ensures found { IfOk result (λ s. IsSpelledAt code.now at s) }
@@ -18,7 +18,7 @@ pub fn read_one(code: &[u8], at: usize) -> Result<Spelled, PrefixFault>
     read_front(&code[at..], at)
 }
 
-/// The spelling at the front of bytes that stand at an address.
+/// The spelling at the front of the bytes from an address on.
 fn read_front(bytes: &[u8], at: usize) -> Result<Spelled, PrefixFault>
     requires some { 0 < length bytes.now }
     requires fits { at + length bytes.now < 2 ^ 64 }

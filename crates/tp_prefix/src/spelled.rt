@@ -9,11 +9,11 @@ pub struct Spelled {
     pub next: usize,
 }
 
-/// Why no spelling stands at an address, which each variant gives.
+/// Why there is no spelling at an address, which each variant gives.
 #[derive(Clone, Copy, Debug, PartialEq, Eq)]
 pub enum PrefixFault {
     /// The code ends after 1 to 7 prefixes.
     D1(usize),
-    /// Eight prefixes stand there.
+    /// Eight prefixes are there.
     D2(usize),
 }

@@ -95,7 +95,7 @@ pub fn runs_send_first_what_was_sent()
         steps image n (start image packet) ≡ Some s → Begins s.sent run.result × Begins s.traced run.trace }
 {}
 
-/// Who writes what is a list: an instruction writes the stretches of memory that stand there for it, in the workspace, and
+/// Who writes what is a list: an instruction writes the stretches of memory that the list has for it, in the workspace, and
 /// every other byte stays as it was. A step writes what the instruction whose last byte it executes writes; a prefix writes
 /// nothing.
 pub fn instructions_write_what_is_listed()

@@ -39,7 +39,7 @@ impl Machine {
         self.resume(image, links, &mut phase, limit)
     }
 
-    /// Goes on from where the machine stands, with the worker in this phase. A debugger or a test uses it, which has set
+    /// Goes on from where the machine is, with the worker in this phase. A debugger or a test uses it, which has set
     /// the registers and the workspace; [`Machine::run_image`] is this from an image's start.
     ///
     /// What [`Machine::run_image`] says of devices, faults and the limit holds here too, counted from here. After an outcome,

@@ -63,7 +63,7 @@ pub fn program_with_an_image_may_be_written()
         AllByRecursion HasOperand program.lines.items → MayBeWritten (program_said program) }
 {}
 
-/// What is told of an image is read back from its text, with any remarks or none, and a program that says the same is
+/// The program of an image is read back from its text, with any remarks or none, and a program that says the same is
 /// assembled to that image again.
 pub fn disassembled_image_is_read_back()
     ensures { (image : ImageValue) (program : Program) (remarks : Option Remarks) →

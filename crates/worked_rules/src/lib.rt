@@ -1,5 +1,5 @@
 //! What is known after an instruction, computed on the rules: some 350 cases that were worked out by hand from the
-//! instruction table and the rules of the verifier, never by a program. Nothing stands on this crate.
+//! instruction table and the rules of the verifier, never by a program. No crate uses this one.
 //!
 //! | instructions | cases |
 //! |---|---|

@@ -1,10 +1,10 @@
-//! Runs that are computed on the step relation. Nothing stands on this crate but the tests that make the same runs on a
+//! Runs that are computed on the step relation. No crate uses this one but the tests that make the same runs on a
 //! machine (`test_tested`).
 //!
 //! A short run begins at a given state and executes a few bytes: it leads to another state, or is stuck. A whole worker
-//! runs from its start to its end. What each run comes to was worked out by hand from the instruction table
-//! (`docs/INSTRUCTIONS.md`), never by a program. All of them stand in [`table`]: the contracts say that the definitions
-//! give what stands there, and the tests compare with it a machine's answers, and every part of its state.
+//! runs from its start to its end. Each run's outcome was worked out by hand from the instruction table
+//! (`docs/INSTRUCTIONS.md`), never by a program. All of them are in [`table`]: the contracts say that the definitions
+//! give the same, and the tests compare with it a machine's answers, and every part of its state.
 //!
 //! Each row of the instruction table has a function named after it, whose runs would come out otherwise if its clause were
 //! another:

@@ -1,4 +1,4 @@
-//! Short runs, as rows of a table: what they begin from, and what they come to.
+//! Short runs, as rows of a table: what they begin from, and their outcomes.
 //!
 //! `specs/Rows.antt` says what a row means by the definitions.
 
@@ -54,7 +54,7 @@ pub enum Worker {
     TwoWordResult,
 }
 
-/// What a run comes to.
+/// The outcome of a run.
 #[derive(Clone, Copy)]
 pub enum Expected {
     /// Its code is executed byte by byte, from its first byte on, and leaves the bare state with these settings. Iptr is

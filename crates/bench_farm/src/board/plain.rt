@@ -1,5 +1,5 @@
 //! Plain atomics that make the same steps as a board: to claim, a load of `stop` and an addition to
-//! `claimed`; to finish, an addition to `done`. Nothing is proved of them, and no seat stands beside.
+//! `claimed`; to finish, an addition to `done`. Nothing is proved of them, and they have no seats.
 use crate::board::rounds::Place;
 use anyhow::Result;
 use std::alloc::Global;

@@ -5,7 +5,7 @@ ghost use Rattle.std.specs.Prelude.{◌<◌, ◌+◌};
 /// The words of a memory.
 pub const WORDS: usize = 16;
 
-/// Sums the indices of the inner loop's turns in a word. The loop's index stands at `block`, and its count after it. The
+/// Sums the indices of the inner loop's turns in a word. The loop's index is at `block`, and its count behind it. The
 /// places come as values, so that each turn reads and writes the array.
 #[inline(never)]
 pub fn turns(words: &mut [u32; WORDS], sum: usize, block: usize, outer: u32, inner: u32)

@@ -51,7 +51,7 @@ fn put_rows(bytes: &mut Vec<u8>, nest: u16) -> Result<()> {
     Ok(())
 }
 
-/// A code byte of a nest: the lends stand at its end, and the code ends by stopp.
+/// A code byte of a nest: the lends are at its end, and the code ends by stopp.
 fn code_byte(nest: u16, at: u16, fill: [u8; 8]) -> u8 {
     match at {
         2038 | 2040 | 2042 | 2044 => 0x22,

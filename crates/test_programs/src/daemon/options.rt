@@ -1,11 +1,11 @@
-//! Command lines, with the members and the trace flag that they ask for, and the kinds of error that others come to.
+//! Command lines, with the members and the trace flag that they ask for, and the kinds of error of others.
 
 use crate::asserts::assert_same;
 use clap::error::ErrorKind as Kind;
 use std::alloc::Global;
 use tp_options::options;
 
-/// The members and the trace flag that words ask for, or the kind of error that they come to. Nothing is said of it here: the
+/// The members and the trace flag that words ask for, or the kind of their error. Nothing is said of it here: the
 /// tests compare it when they run.
 fn asked(alloc: Global, words: &[&str]) -> Result<(usize, bool), Kind> {
     match options(alloc, words) {

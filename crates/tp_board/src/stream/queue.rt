@@ -39,7 +39,7 @@ pub struct PassView {
     pub ended: u64,
 }
 
-/// Names one stream by its sizes, which its first pass is told.
+/// Names one stream by its sizes, which its first pass gets.
 pub trait Sizes {
     ghost use Rattle.std.specs.Prelude.{ℕ};
 
@@ -109,7 +109,7 @@ impl Lesson<Item, PassView> for Rest {
     ghost fact = { Left };
 }
 
-/// Tells the first pass the sizes of the stream, and makes the first hand.
+/// Gives the first pass the sizes of the stream, and makes the first hand.
 pub struct FirstHand<B> {
     sizes: PhantomData<B>,
 }
