@@ -48,7 +48,7 @@ abbrev pub whole_of : List Cut → Costs → ℕ → Option LoopRow → ℕ
 whole_of code costs left None = left
 whole_of code costs left (Some row) = row.count * left + (costs (behind code row.lend)).whole
 
--- the cost of an instruction of n bytes that stands at an address, from the costs behind it
+-- the cost of an instruction of n bytes at an address, from the costs behind it
 abbrev pub cost_of : List LoopRow → List Cut → Costs → ℕ → ℕ → Instr → Cost
 cost_of rows code costs at n instr =
     let left = left_of costs n (at + n) instr in
@@ -57,7 +57,7 @@ cost_of rows code costs at n instr =
 abbrev pub with_instruction : List LoopRow → List Cut → Costs → ℕ → Cut → Costs
 with_instruction rows code costs at cut = with_cost costs at (cost_of rows code costs at (length cut.bytes) cut.instr)
 
--- the costs of instructions, the first of which stands at an address: from the last to the first
+-- the costs of instructions, the first of them at an address: from the last to the first
 abbrev pub costs_from : List LoopRow → List Cut → ℕ → List Cut → Costs
 costs_from rows code at [] = λ to. nothing
 costs_from rows code at (cut ∷ cuts) =

@@ -28,7 +28,7 @@ Answer = Result Allowed Refusal
 abbrev pub allowed : ImageValue → ℕ → Allowed
 allowed image budget = record { code_bytes = length image.code; budget = budget }
 
--- what the passes come to is a refusal, or a table; then the bound decides
+-- the passes end with a refusal, or a table; then the bound decides
 abbrev pub answer_on : ImageValue → List Cut → Result Table StateFault → Answer
 answer_on image cuts (Err fault) = Err (of_state fault)
 answer_on image cuts (Ok table) =

@@ -47,7 +47,7 @@ NewRefuses packets members EmptyHand = ⊥
 NewRefuses packets members Memory = InRange packets members
 
 -- ---- what the types keep
--- of a board: its table has four words and no slots, and was told the board's sizes
+-- of a board: its table has four words and no slots, and got the board's sizes
 pub record IsBoard (table : TableId) (key : Size) (packets members : ℕ) : Type 0 where
   pub words : table.words ≡ 4
   pub slots : table.slots ≡ 0

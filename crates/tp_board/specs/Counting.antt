@@ -1,7 +1,7 @@
--- How often a number stands in a list, and among what is in hand.
+-- How often a number is in a list, and among what is in hand.
 use Rattle.std.specs.Prelude.{◌≡◌, ℕ, ◌+◌, ◌==◌, ltb, List, [], ◌∷◌, Option, Some, None, if◌then◌else◌}
 
--- how often x stands in the list
+-- how often x is in the list
 abbrev pub times : ℕ → List ℕ → ℕ
 times x [] = 0
 times x (y ∷ ys) = (if y == x then 1 else 0) + times x ys

@@ -1,4 +1,4 @@
--- What each step tells the one that makes it.
+-- What the one that makes a step learns from it.
 use Rattle.std.specs.Prelude.{◌≡◌, ℕ}
 use Rattle.atomic_table.specs.Table.{State, Me, Step}
 use Rattle.tp_board.specs.declared.event.Event.{Event}

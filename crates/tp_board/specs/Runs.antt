@@ -22,7 +22,7 @@ abbrev pub AllMembers : ℕ → List (ℕ × Event) → Type 0
 AllMembers members [] = Unit {0}
 AllMembers members (e ∷ es) = (e.0 < members) × AllMembers members es
 
--- no more numbers are drawn than there are, and each number drawn so far stands once in a hand, in
+-- no more numbers are drawn than there are, and each number drawn so far is once in a hand, in
 -- done or in lost
 pub record Accounts (s : Farm) : Type 0 where
   pub within : s.drawn ≤ s.packets

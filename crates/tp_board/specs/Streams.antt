@@ -103,7 +103,7 @@ IsFeederOf q f =
     (f.queue ≡ q.queue) × (f.tally ≡ q.tally) × (f.turn.packets ≡ length q.packets) × (f.turn.members ≡ q.members)
 
 -- ---- what the types keep
--- of a stream: its table has three words and was told how many seats there are, and its queue has
+-- of a stream: its table has three words and got the number of seats, and its queue has
 -- room for 32 items
 pub record IsStream (tally : TableId) (key : Size) (capacity packets members : ℕ) : Type 0 where
   pub words : tally.words ≡ 3

@@ -20,14 +20,14 @@ words_of w = w.claimed ∷ w.done ∷ w.lost ∷ w.stop ∷ []
 abbrev pub tally_words_of : Counters → List ℕ
 tally_words_of w = w.done ∷ w.lost ∷ w.stop ∷ []
 
--- where each of the words stands
+-- the place of each word
 abbrev pub place_of : Shown → ℕ
 place_of shown.Claimed = 0
 place_of shown.Done = 1
 place_of shown.Lost = 2
 place_of shown.Stop = 3
 
--- where each stands in a stream, whose words lack the first
+-- and in a stream, whose words lack the first
 abbrev pub tally_place_of : Shown → ℕ
 tally_place_of what = place_of what - 1
 

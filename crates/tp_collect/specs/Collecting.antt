@@ -22,7 +22,7 @@ pub record Collection : Type 0 where
 abbrev pub collection : JobValue → List Entry → Collection
 collection batch entries = record { batch = batch; entries = entries }
 
--- what stands where nothing is filed
+-- the entry where nothing is filed
 abbrev pub vacant : Entry
 vacant = entry.Lost cause.Stopped
 
@@ -35,7 +35,7 @@ is_vacant (entry.Lost cause.Stopped) = true
 abbrev pub lost_by : LinkFault → Entry
 lost_by fault = entry.Lost (cause.Link fault)
 
--- why nothing may be filed where this stands
+-- why nothing may be filed over this entry
 abbrev pub place_fault : Option Entry → Option PutFault
 place_fault None = Some NoPacket
 place_fault (Some e) = if is_vacant e then None else Some Filed

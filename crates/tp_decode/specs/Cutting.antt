@@ -10,7 +10,7 @@ use Rattle.tp_decode.specs.declared.fault.DecodeCode.TheVariants.{D1, D2, D3}
 use Rattle.tp_decode.specs.declared.fault.DecodeFault.TheVariants.{Refused, Memory}
 use Rattle.tp_decode.specs.Table.{entry, instruction}
 
--- an instruction as it stands in a code: the bytes that spell it
+-- an instruction in a code: the bytes that spell it
 pub record Cut : Type 0 where
   pub bytes : List ℕ
   pub instr : Instr
@@ -69,7 +69,7 @@ abbrev pub picked : {A : Type 0} → Bool → (Unit {0} → A) → (Unit {0} →
 picked true one other = one tt
 picked false one other = other tt
 
--- the cutting of a code behind some prefixes, the first byte of which stands at an address
+-- the cutting of a code behind some prefixes, whose first byte is at an address
 unfoldable pub cutting_from : ℕ → List ℕ → List ℕ → Result (List Cut) DecodeFault
 cutting_from at [] [] = Ok []
 cutting_from at [] (p ∷ prefixes) = Err (Refused D1 at)
@@ -89,12 +89,12 @@ placed_from at [] = []
 placed_from at (cut ∷ cuts) =
     record { at = at; instr = cut.instr; next = at + length cut.bytes } ∷ placed_from (at + length cut.bytes) cuts
 
--- where the instructions stand, the first of them at an address
+-- the addresses of instructions, the first of them at an address
 abbrev pub starts_from : ℕ → List Cut → List ℕ
 starts_from at [] = []
 starts_from at (cut ∷ cuts) = at ∷ starts_from (at + length cut.bytes) cuts
 
--- the instruction that stands at an address
+-- the instruction at an address
 abbrev pub cut_at : List Cut → ℕ → Option Cut
 cut_at [] at = None
 cut_at (cut ∷ cuts) at =
@@ -102,7 +102,7 @@ cut_at (cut ∷ cuts) at =
     else if nat_lt at (length cut.bytes) then None
     else cut_at cuts (at - length cut.bytes)
 
--- the number of the instruction that stands at an address, where the first has a number
+-- the number of the instruction at an address, where the first has a number
 abbrev pub index_from : ℕ → List Cut → ℕ → Option ℕ
 index_from i [] at = None
 index_from i (cut ∷ cuts) at =

@@ -1,4 +1,4 @@
--- What stands at the front of a code.
+-- What is at the front of a code.
 use Rattle.std.specs.Prelude.{◌≡◌, ℕ, ◌≤◌, List, length, take}
 use Rattle.tp_prefix.specs.Spelling.{IsCutOff, IsTooLong}
 use Rattle.tp_decode.specs.declared.fault.DecodeFault.{DecodeFault}
@@ -12,7 +12,7 @@ pub record BeginsWith (code : List ℕ) (cut : Cut) : Type 0 where
   pub front : take (length cut.bytes) code ≡ cut.bytes
   pub spelled : IsSpelled cut
 
--- no instruction can be cut from the front of the code, which stands at an address
+-- no instruction can be cut from the front of the code, which is at an address
 abbrev pub Stops : List ℕ → ℕ → DecodeFault → Type 0
 Stops code at (Refused D1 place) = (place ≡ at) × IsCutOff code
 Stops code at (Refused D2 place) = (place ≡ at) × IsTooLong code

@@ -28,11 +28,11 @@ least_note cut =
 abbrev pub plain_line : ℕ → Cut → List ℕ
 plain_line at cut = decimal at ++ codes " " ++ encode_lower cut.bytes ++ codes " " ++ instruction_text cut.instr
 
--- the line of an instruction that stands at an address, without its line feed
+-- the line of the instruction at an address, without its line feed
 unfoldable pub line : ℕ → Cut → List ℕ
 line at cut = plain_line at cut ++ least_note cut
 
--- the lines of instructions, the first of which stands at an address
+-- the lines of instructions, the first of them at an address
 abbrev pub lines_from : ℕ → List Cut → List (List ℕ)
 lines_from at [] = []
 lines_from at (cut ∷ cuts) = line at cut ∷ lines_from (at + length cut.bytes) cuts

@@ -27,7 +27,7 @@ device_at Trace devices = devices.trace
 abbrev pub failures_at : Link → List Devices → ℕ
 failures_at which all = sum_by (λ devices. (device_at which devices).faults) all
 
--- 1 where an entry tells of a failure of the link's device, else 0
+-- 1 where an entry is a failure of the link's device, else 0
 abbrev pub tells_failure : Link → Entry → ℕ
 tells_failure which (entry.Done done) = 0
 tells_failure which (entry.Lost (cause.Link fault)) = failed_by which fault

@@ -14,7 +14,7 @@ use Rattle.tp_collect.specs.DoneValue.{most_trace}
 abbrev pub TracesMore : ImageValue → (packet : List ℕ) → (room : ℕ) → Type 0
 TracesMore image packet room = TracesMoreThan (min most_trace room) image packet
 
--- a device's refusal has a cause: it can fail (how often devices failed is told by their counts of faults); it is
+-- a device's refusal has a cause: it can fail (their counts of faults say how often devices failed); it is
 -- closed; it lacks room. It never holds fewer bytes than are asked for.
 abbrev pub HasCause : DeviceState → (lacks_room : Type 0) → DeviceFault → Type 0
 HasCause device lacks_room Failed = device.fallible ≡ true

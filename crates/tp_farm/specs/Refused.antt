@@ -19,7 +19,7 @@ job_fault members batch =
     else if nat_lt most_packets (length batch.packets) then Some Packets
     else option_map Length (first_other batch)
 
--- what stands where none of these holds
+-- the entry where none of these holds
 pub record Begins (members : ℕ) (batch : JobValue) : Type 0 where
   pub some : 0 < members
   pub few : members ≤ most_members

@@ -1,4 +1,4 @@
--- How the loops around an address change along the edges of the instruction that stands there.
+-- How the loops around an address change along the edges of the instruction there.
 use Rattle.std.specs.Prelude.{◌≡◌, ℕ, List, All, IsTrue, true, Some, IsSome, slice_get}
 use Rattle.tp_image.specs.declared.image.LoopRow.{LoopRow}
 use Rattle.tp_decode.specs.declared.instr.Instr.{Instr}
@@ -10,12 +10,12 @@ use Rattle.tp_flow.specs.Edges.{has_edge, target}
 use Rattle.tp_flow.specs.NestKept.{IsGood}
 use Rattle.tp_flow.specs.LoopsAround.{is_around, IsOutside, around_after}
 
--- the loop of row l, whose lend stands at an address, is around it, and another turn begins at its head
+-- the loop of row l, whose lend is at an address, is around it, and another turn begins at its head
 pub record EndsOwnLoop (rows : List LoopRow) (at next : ℕ) (l : ℕ) (row : LoopRow) : Type 0 where
   pub around : is_around (ranges rows) at l ≡ true
   pub back : target (ranges rows) at next Lend Back ≡ Some row.head
 
--- Of an instruction that stands at an address, where next follows it:
+-- Of an instruction at an address, where next follows it:
 pub record KeepsAround (rows : List LoopRow) (workspace : ℕ) (at next : ℕ) (instr : Instr) : Type 0 where
   pub good : All (IsGood workspace) rows
   -- no loop is around the first instruction

@@ -75,7 +75,7 @@ abbrev pub rules_on_jump : ImageValue → List Cut → ℕ → ℕ → Option �
 rules_on_jump image cuts at next None = []
 rules_on_jump image cuts at next (Some n) = jump_rules image cuts at next n
 
--- the rules on an instruction that stands at an address, in their order
+-- the rules on an instruction at an address, in their order
 abbrev pub rules_on : ImageValue → List Cut → ℕ → ℕ → Instr → List Rule
 rules_on image cuts at next instr =
     (rule (names_no_loop (ranges image.loops) at instr) J7 ∷ [])

@@ -29,7 +29,7 @@ crosses range other = overlaps range other && not (lies_within range other || li
 abbrev pub shares_an_end : LoopRange → LoopRange → Bool
 shares_an_end range other = (range.head == other.head) || (range.lend == other.lend)
 
--- the number of the row whose lend stands at an address
+-- the number of the row whose lend is at an address
 abbrev pub number_ended_at : List LoopRange → ℕ → Option ℕ
 number_ended_at nest at = position (λ range. range.lend == at) nest
 

@@ -22,7 +22,7 @@ abbrev pub is_lend_cut : Option Cut → Bool
 is_lend_cut None = false
 is_lend_cut (Some cut) = is_lend cut.instr
 
--- a lend stands at the address
+-- a lend is at the address
 abbrev pub is_lend_at : List Cut → ℕ → Bool
 is_lend_at cuts at = is_lend_cut (cut_at cuts at)
 
@@ -38,7 +38,7 @@ begins_the_code row = row.head == 0
 abbrev pub has_no_body : LoopRow → Bool
 has_no_body row = nat_le row.lend row.head
 
--- no lend stands at the lend
+-- no lend is at the row's lend
 abbrev pub has_no_lend : List Cut → LoopRow → Bool
 has_no_lend cuts row = not (is_lend_at cuts row.lend)
 

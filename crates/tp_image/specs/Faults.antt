@@ -29,7 +29,7 @@ abbrev pub initial_count_at : Version → List ℕ → ℕ
 initial_count_at One bytes = 0
 initial_count_at Two bytes = half_word_at bytes initial_at
 
--- what the bytes say where a header stands
+-- what the bytes of a header say
 abbrev pub header_at : Version → List ℕ → Header
 header_at version bytes = record {
   version = version;
@@ -92,7 +92,7 @@ fault_of (Some version) bytes =
 unfoldable pub first_fault : List ℕ → Option ImageFault
 first_fault bytes = fault_of (version_of bytes) bytes
 
--- The header stands at the front of the bytes, and no test fails.
+-- The header is at the front of the bytes, and no test fails.
 pub record IsWholeHeader (h : Header) (bytes : List ℕ) : Type 0 where
   pub version : version_of bytes ≡ Some h.version
   pub long : header_bytes h.version ≤ length bytes

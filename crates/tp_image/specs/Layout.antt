@@ -1,4 +1,4 @@
--- Where the fields of a header stand, in bytes from the image's first, and how long the parts of an image are.
+-- The places of a header's fields, in bytes from the image's first, and how long the parts of an image are.
 use Rattle.std.specs.Prelude.{ℕ}
 use Rattle.tp_image.specs.declared.image.Version.{Version}
 use Rattle.tp_image.specs.declared.image.Version.TheVariants.{One, Two}

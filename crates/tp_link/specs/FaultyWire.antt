@@ -36,7 +36,7 @@ can_fail p = not (nat_eq p.failing_call 0)
 abbrev pub faults_of : FaultPlan → ℕ
 faults_of p = if can_fail p then (if nat_eq p.calls p.failing_call then 1 else 0) else 0
 
--- which borrow of its medium the wire holds, so that its end is seen in what was borrowed
+-- which borrow of its medium the wire holds: its end is seen in what was borrowed
 abbrev pub loan_of : FaultyWire → GName
 loan_of w = w.medium.ghost_name
 

@@ -4,7 +4,7 @@ use Rattle.tp_link.specs.Device.{DeviceState}
 use Rattle.tp_link.specs.Medium.{MediumState, faultless_device}
 use Rattle.tp_link.specs.declared.wire.Wire.{Wire}
 
--- which borrow of its medium the wire holds, so that its end is seen in what was borrowed
+-- which borrow of its medium the wire holds: its end is seen in what was borrowed
 abbrev pub loan_of : Wire → GName
 loan_of w = w.medium.ghost_name
 

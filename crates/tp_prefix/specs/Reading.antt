@@ -5,7 +5,7 @@ use Rattle.tp_prefix.specs.declared.spelled.PrefixFault.{PrefixFault}
 use Rattle.tp_prefix.specs.declared.spelled.PrefixFault.TheVariants.{D1, D2}
 use Rattle.tp_prefix.specs.Spelling.{IsSpelling, IsCutOff, IsTooLong}
 
--- bytes that stand at an address begin with this spelling, or with none for this reason
+-- the bytes from an address on begin with this spelling, or with none for this reason
 abbrev pub Reads : List ℕ → ℕ → Result Spelled PrefixFault → Type 0
 Reads bytes at (Ok s) =
     (at ≤ s.next) × (s.next ≤ at + length bytes) × IsSpelling (take (s.next - at) bytes) s.function s.operand

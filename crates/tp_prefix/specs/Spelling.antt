@@ -44,7 +44,7 @@ pub record IsSpelling (bytes : List ℕ) (function : ℕ) (operand : ℤ) : Type
   pub short : length bytes ≤ 8
   pub spells : spelled 0 bytes ≡ Some (function, operand)
 
--- the spelling that stands in a code at an address, up to the next
+-- the spelling in a code at an address, up to the next
 pub record IsSpelledAt (code : List ℕ) (at : ℕ) (s : Spelled) : Type 0 where
   pub forward : at ≤ s.next
   pub within : s.next ≤ length code

@@ -1,4 +1,4 @@
--- Words: a word is a number below 2 ^ 32, which reads unsigned as it stands.
+-- Words: a word is a number below 2 ^ 32, which reads unsigned as it is.
 use Rattle.std.specs.Prelude.{ℕ, ◌-◌, ◌%◌, ◌^◌, ℤ, pos, negsuc}
 use Rattle.std.specs.Int.{w32, cast_signed}
 

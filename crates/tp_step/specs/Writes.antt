@@ -20,7 +20,7 @@ pub record Stretch : Type 0 where
 abbrev pub stretch : ℕ → ℕ → Stretch
 stretch from bytes = record { from = from; bytes = bytes }
 
--- what the number in a register stands for; nothing where it is undefined
+-- the number in a register; nothing where it is undefined
 abbrev pub where_defined : Option ℕ → (ℕ → List Stretch) → List Stretch
 where_defined register there = option_map_or there register []
 

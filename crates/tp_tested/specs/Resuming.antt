@@ -1,4 +1,4 @@
--- A run that goes on from where a machine stands.
+-- A run that goes on from where a machine is.
 use Rattle.std.specs.Prelude.{◌≡◌, ℕ, [], Some, Result, Ok, Err}
 use Rattle.tp_image.specs.Image.{ImageValue}
 use Rattle.tp_link.specs.Device.{DeviceState}
@@ -35,7 +35,7 @@ HasReachedBy image first limit before after m phase (Err (fault.Stuck address)) 
 HasReachedBy image first limit before after m phase (Err fault.Limit) =
     HasReached image first before limit m phase after
 
--- what the answer says, and where the machine stands
+-- what the answer says, and where the machine is
 abbrev pub Resumed : ImageValue → State → (limit : ℕ) → (before after : Devices) → Machine → Phase
     → Result Outcome RunFault → Type 0
 Resumed image first limit before after m phase answer =

@@ -1,4 +1,4 @@
--- Which programs may be written so that they are read back.
+-- Which programs are read back when they are written.
 use Rattle.std.specs.Prelude.{ℕ, ◌≤◌, ◌<◌, ◌^◌, length, Option, Some, None, FitsSigned}
 use Rattle.std.specs.Int.{w32}
 use Rattle.std.specs.List.{AllByRecursion}

@@ -25,7 +25,7 @@ pub record WrittenLine : Type 0 where
   pub text : List ℕ
   pub column : ℕ
 
--- an instruction's name stands behind 8 spaces, and a byte behind these and `byte `
+-- an instruction's name is behind 8 spaces, and a byte behind these and `byte `
 abbrev pub column_of : Line → ℕ
 column_of (Byte byte) = 14
 column_of (Spelled operation bytes) = 9
@@ -38,7 +38,7 @@ abbrev pub written_lines : Option Remarks → ℕ → List Line → List Written
 written_lines remarks number [] = []
 written_lines remarks number (line ∷ more) = written_line remarks number line ∷ written_lines remarks (number + 1) more
 
--- at these positions of a text stand the words that ask for these lines, in their order, each on a line below the one
+-- at these positions of a text are the words that ask for these lines, in their order, each on a line below the one
 -- before; the first line of a text is line 1
 abbrev pub ArePositions : List (List ℕ) → ℕ → List Position → List WrittenLine → Type 0
 ArePositions text above [] [] = Unit {0}
@@ -48,7 +48,7 @@ ArePositions text above (p ∷ positions) (line ∷ more) =
     (above < p.line) × (slice_get text (p.line - 1) ≡ Some line.text) × (p.column ≡ line.column)
     × ArePositions text p.line positions more
 
--- a source is that of a program's text: the program, for each of its lines where the word stands that asks for it, the
+-- a source is that of a program's text: the program, for each of its lines the position of the word that asks for it, the
 -- labels, and no names of local words
 pub record IsSource (p : ProgramSaid) (remarks : Option Remarks) (source : SourceSaid) : Type 0 where
   pub program : source.program ≡ p

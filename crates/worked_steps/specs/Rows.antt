@@ -28,7 +28,7 @@ SticksAtLast image s = IsStuckAt image (length image.code - 1) (steps image (len
 abbrev pub seen_after : ImageValue → ℕ → List ℕ → State → Option (ℤ × List (Option ℕ))
 seen_after image n numbers s = option_map (λ t. (t.iptr, words_at numbers t)) (steps image n s)
 
--- what a worker's run from a state comes to
+-- the outcome of a worker's run from a state
 abbrev pub ComesTo : ImageValue → State → Expected → Type 0
 ComesTo image s (expected.Leads to) =
     steps image (length image.code) s ≡ Some (set_all to.now (record bare { iptr = pos (length image.code) }))
@@ -39,7 +39,7 @@ ComesTo image s (expected.Shows n iptr words) =
     seen_after image n (map (λ w. w.0) words.now) s ≡ Some (iptr, map (λ w. w.1) words.now)
 ComesTo image s (expected.Ends n) = IsTheEnd image (steps image n s)
 
--- the run of a row comes to what the row says
+-- the run of a row has the row's outcome
 abbrev pub IsSo : Row → Type 0
 IsSo row = ComesTo (image_of row.worker row.code.now) (set_all row.from.now bare) row.expected
 
