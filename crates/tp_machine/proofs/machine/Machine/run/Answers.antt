@@ -24,9 +24,10 @@ go-answer-requires-clause-promise g c =
     let before = devices_of g.D.LinkDevice.state c.args.links.now in
     ends c.args.accepted.now.image c.args.accepted.now.budget before (rw c.budget-budget.ensures.value at c.budget-budget.ensures.ends) c.held-held.ensures.bytes
 
-pub returns-clause-alone : goal.returns-clause-alone
-returns-clause-alone g c = answered_alone c.args.accepted.now.image c.args.accepted.now.budget _ _ c.go-answer.result.1 c.go-answer.ensures
+pub returns-clause-answered : goal.returns-clause-answered
+returns-clause-answered g c = answered_alone c.args.accepted.now.image c.args.accepted.now.budget _ _ c.go-answer.result.1 c.go-answer.ensures
 
 pub returns-clause-promise : goal.returns-clause-promise
 returns-clause-promise g c =
-    keeps_promise c.args.accepted.now.image c.args.accepted.now.budget _ _ c.go-answer.result.1 (rw c.budget-budget.ensures.value at c.budget-budget.ensures.ends) c.held-held.ensures.bytes c.go-answer.ensures
+    keeps_promise c.args.accepted.now.image c.args.accepted.now.budget _ _ c.go-answer.result.1 (rw c.budget-budget.ensures.value at c.budget-budget.ensures.ends) c.held-held.ensures.bytes
+    (answered_alone c.args.accepted.now.image c.args.accepted.now.budget _ _ c.go-answer.result.1 c.go-answer.ensures)
