@@ -5,7 +5,8 @@ use crate::vector::Vector;
 use anyhow::{Result, anyhow};
 use std::alloc::Global;
 use tp_link::{LinkDevice, Links, Medium, Wire};
-use tp_machine::{MEM_START, Outcome};
+use tp_machine::Outcome;
+use tp_step::profile::MEM_START;
 use tp_tested::{Machine, Phase, Registers, RunFault, WORKSPACE_BYTES};
 
 /// The room of each medium.

@@ -1,7 +1,7 @@
 //! A machine that is set as a row says.
 
 use std::process::Abort;
-use tp_machine::MEM_START;
+use tp_step::profile::MEM_START;
 use tp_tested::{Machine, Phase, Registers};
 use worked_steps::rows::Setting;
 

@@ -9,8 +9,8 @@ use std::alloc::Global;
 use std::process::Abort;
 use tp_image::{Image, read_image};
 use tp_link::{EndedMedium, LinkDevice, Links, Medium, OwnedWire, Wire};
-use tp_machine::MEM_START;
 use tp_samples::{INCREMENT, MOVES_A_WORD, READS_AFTER_JUMP, TRACES_ITS_PACKET};
+use tp_step::profile::MEM_START;
 use tp_tested::{Machine, Registers, RunFault};
 use worked_steps::table::{Sample, samples};
 

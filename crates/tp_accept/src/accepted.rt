@@ -8,9 +8,7 @@ ghost use Rattle.tp_accept.specs.Acceptance.{IsAcceptable};
 ghost use Rattle.tp_accept.specs.Ending.{NeverGoesWrong};
 
 use tp_image::Image;
-
-/// The bytes of a word.
-const WORD_BYTES: usize = 4;
+use tp_image::layout::WORD_BYTES;
 
 /// An image that may be run, with its budget. [`accept`](crate::accept) alone makes one.
 #[derive(Debug, Drop)]

@@ -5,11 +5,8 @@ ghost use Rattle.tp_decode.specs.Table.{entry};
 ghost use Rattle.tp_decode.specs.Lines.{shortest};
 
 use arrayvec::ArrayVec;
-use tp_decode::Instr;
+use tp_decode::{Instr, OPR};
 use tp_prefix::encode;
-
-/// The function opr, whose operand is the code of an operation.
-const OPR: u8 = 0xf;
 
 /// A function and its operand.
 #[derive(Clone, Copy)]

@@ -13,9 +13,7 @@ use crate::fault::{SourceFault, TextFault};
 use crate::words::{Position, Word};
 use std::alloc::{AllocError, Global};
 use tp_assembly::{Line, Loop, Operation, Program, Spot};
-
-/// The least workspace, in words, where a text says none.
-const LEAST_WORKSPACE: u32 = 8;
+use tp_image::limits::LEAST_WORKSPACE;
 
 /// A label of a text, and the place where it stands.
 #[derive(Clone, Copy, Debug, PartialEq, Eq)]

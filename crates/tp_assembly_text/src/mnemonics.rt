@@ -5,10 +5,7 @@ ghost use Rattle.tp_decode.specs.Table.{entry};
 ghost use Rattle.tp_assembly_text.specs.Names.{function_by_name, function_named, operation_named, is_left_out};
 
 use crate::words::Word;
-use tp_decode::Instr;
-
-/// The function of operations.
-const OPR: u8 = 0xf;
+use tp_decode::{Instr, OPR};
 
 /// The instructions with an operand of their own, at the operand 0.
 const FUNCTIONS: [Instr; 12] = [

@@ -30,5 +30,5 @@ pub const HEADER_BYTES_2: usize = 18;
 /// The bytes of a loop row.
 pub const ROW_BYTES: usize = 12;
 
-/// The bytes of an initial word.
+/// The bytes of a word.
 pub const WORD_BYTES: usize = 4;

@@ -23,5 +23,4 @@ mod turn;
 mod words;
 
 pub use machine::Machine;
-pub use memory::MEM_START;
 pub use outcome::Outcome;

@@ -5,8 +5,7 @@ ghost use Rattle.std.specs.Int.{w32, to_le_bytes};
 ghost use Rattle.tp_step.specs.State.{mem_start};
 ghost use Rattle.tp_machine.specs.Bytes.{word_in, put};
 
-/// The address of workspace word 0 (IMS T414 data sheet, memory map: MemStart).
-pub const MEM_START: u32 = 0x8000_0048;
+use tp_step::profile::MEM_START;
 
 /// The word at an address.
 #[inline(always)]

@@ -10,11 +10,10 @@ ghost use Rattle.tp_machine.specs.Bytes.{put};
 ghost use Rattle.tp_machine.specs.Representation.{HasEffect, Simulates};
 ghost use Rattle.tp_machine.specs.Turning.{CanTurn, Turned};
 
-use crate::memory::MEM_START;
 use crate::registers::Registers;
 use crate::turn::Turn;
 use tp_link::{DeviceFault, Link, LinkDevice, LinkFault, Links};
-use tp_step::profile::LINK0_OUTPUT;
+use tp_step::profile::{LINK0_OUTPUT, MEM_START};
 
 /// Receives n bytes into the workspace, from an address on.
 fn receive<D: LinkDevice>(

@@ -7,8 +7,9 @@ ghost use Rattle.tp_step.specs.State.{mem_start};
 ghost use Rattle.tp_step.specs.Runs.{first_words};
 ghost use Rattle.tp_machine.specs.Representation.{Holds};
 
-use crate::memory::{MEM_START, store};
+use crate::memory::store;
 use tp_image::Image;
+use tp_step::profile::MEM_START;
 
 /// The first value of a workspace word: an initial word of the image, or 0.
 fn first_word(image: &Image, i: u32) -> u32

@@ -5,6 +5,9 @@ ghost use Rattle.tp_step.specs.Effects.{has_move};
 
 use tp_image::Image;
 
+/// The address of workspace word 0 (IMS T414 data sheet, memory map: MemStart).
+pub const MEM_START: u32 = 0x8000_0048;
+
 /// The channel that a result is sent on: link 0's output (IMS T414 data sheet, memory map).
 pub const LINK0_OUTPUT: u32 = 0x8000_0000;
 

@@ -14,8 +14,8 @@ use std::io::Write;
 use thiserror::Error;
 use tp_image::Image;
 use tp_link::{LinkDevice, LinkFault, Links};
-use tp_machine::MEM_START;
 use tp_media::Media;
+use tp_step::profile::MEM_START;
 use tp_tested::{Registers, Turn};
 
 /// The longest packet, result or trace message, in bytes.

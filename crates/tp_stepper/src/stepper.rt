@@ -12,7 +12,7 @@ ghost use Rattle.tp_stepper.specs.Stepping.{Came};
 use crate::prefixes::prefixes_at;
 use tp_image::Image;
 use tp_link::{LinkDevice, Links};
-use tp_machine::MEM_START;
+use tp_step::profile::MEM_START;
 use tp_tested::{Machine, Phase, Registers, Turn};
 
 /// A packet's run of an image, accepted or not, which goes on by an instruction at a time.

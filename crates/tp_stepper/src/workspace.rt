@@ -4,7 +4,7 @@ use crate::stepper::Stepper;
 use crate::value::Value;
 use std::alloc::{AllocError, Global};
 use std::fmt;
-use tp_machine::MEM_START;
+use tp_step::profile::MEM_START;
 
 /// The most words of a workspace.
 const WORDS: u32 = 512;
