@@ -111,21 +111,21 @@ module _ (image : ImageValue) (range : InRange image) (good : All (IsGood image.
   sound_after s v loads sound is = subst (λ r. IfOk r (IsSound image)) is (after_sound image range good at next instr edge s loads sound)
 
 -- with one edge more taken, fewer are left
-pub fewer : (image : ImageValue) (joins : ℕ → Bool) (table : Table) (at next : ℕ) (instr : Instr) (done : ℕ) → WasTaken image joins table at next instr done → WasTaken image joins table at next instr (done + 1)
-fewer image joins table at next instr done w = record { before = w.before; sound = w.sound; above = w.above; each = λ k d le lt. w.each k d (omega (arith, le)) lt }
+pub fewer : (image : ImageValue) (is_join : ℕ → Bool) (table : Table) (at next : ℕ) (instr : Instr) (done : ℕ) → WasTaken image is_join table at next instr done → WasTaken image is_join table at next instr (done + 1)
+fewer image is_join table at next instr done w = record { before = w.before; sound = w.sound; above = w.above; each = λ k d le lt. w.each k d (omega (arith, le)) lt }
 
 -- ---- a state comes where edges join
 
-module _ (image : ImageValue) (joins : ℕ → Bool) (table : Table) (to : ℕ) (v : State) (grown : HasGrown image table) (fits : IsPlacedAt image to v) (new : Table) (e : Entered table to v new) where
-  settles_joined : joins to ≡ true → (at next : ℕ) (instr : Instr) (t : State) (way : Edge) → Settles image joins table at next instr t way → Settles image joins new at next instr t way
+module _ (image : ImageValue) (is_join : ℕ → Bool) (table : Table) (to : ℕ) (v : State) (grown : HasGrown image table) (fits : IsPlacedAt image to v) (new : Table) (e : Entered table to v new) where
+  settles_joined : is_join to ≡ true → (at next : ℕ) (instr : Instr) (t : State) (way : Edge) → Settles image is_join table at next instr t way → Settles image is_join new at next instr t way
   settles_joined is_joined at next instr t way r = record {
     outcome = r.outcome;
     goes_on = r.goes_on;
     meets = λ x leads is. rises image table to v grown fits new e x r.outcome (r.meets x leads is);
-    sets = λ x leads alone. elsewhere table to v new x e (differ joins x to alone is_joined) ∙ r.sets x leads alone;
+    sets = λ x leads alone. elsewhere table to v new x e (differ is_join x to alone is_joined) ∙ r.sets x leads alone;
   }
 
-  pub was_joined : joins to ≡ true → (at next : ℕ) (instr : Instr) (done : ℕ) → WasTaken image joins table at next instr done → WasTaken image joins new at next instr done
+  pub was_joined : is_join to ≡ true → (at next : ℕ) (instr : Instr) (done : ℕ) → WasTaken image is_join table at next instr done → WasTaken image is_join new at next instr done
   was_joined is_joined at next instr done w = record {
     before = w.before;
     sound = w.sound;
@@ -147,13 +147,13 @@ module _ (image : ImageValue) (joins : ℕ → Bool) (table : Table) (to : ℕ) 
 
 -- ---- a state comes where one edge alone leads
 
-module _ (image : ImageValue) (cuts : List Cut) (joins : ℕ → Bool) (join : AreJoins image cuts joins) (p : Placed) (edge : Edge) (one : IsAmong (edges_in cuts) (p, edge)) (table : Table) (to : ℕ) (v : State)
-    (leads : target_of image (p, edge) ≡ Some to) (is_alone : joins to ≡ false) where
-  settles_alone : (q : Placed) (way : Edge) → IsAmong (edges_in cuts) (q, way) → (◌≡◌ {A = Placed × Edge} (p, edge) (q, way) → ⊥) → (t : State) → Settles image joins table q.at q.next q.instr t way → Settles image joins (with_state to v table) q.at q.next q.instr t way
+module _ (image : ImageValue) (cuts : List Cut) (is_join : ℕ → Bool) (join : AreJoins image cuts is_join) (p : Placed) (edge : Edge) (one : IsAmong (edges_in cuts) (p, edge)) (table : Table) (to : ℕ) (v : State)
+    (leads : target_of image (p, edge) ≡ Some to) (is_alone : is_join to ≡ false) where
+  settles_alone : (q : Placed) (way : Edge) → IsAmong (edges_in cuts) (q, way) → (◌≡◌ {A = Placed × Edge} (p, edge) (q, way) → ⊥) → (t : State) → Settles image is_join table q.at q.next q.instr t way → Settles image is_join (with_state to v table) q.at q.next q.instr t way
   settles_alone q way is_one other t r = record {
     outcome = r.outcome;
     goes_on = r.goes_on;
-    meets = λ x goes is. let above = r.meets x goes is in record { state = above.state; there = with_elsewhere to v table x (differ_too joins x to is is_alone) ∙ above.there; below = above.below };
+    meets = λ x goes is. let above = r.meets x goes is in record { state = above.state; there = with_elsewhere to v table x (differ_too is_join x to is is_alone) ∙ above.there; below = above.below };
     sets = λ x goes alone. with_elsewhere to v table x (λ same. other (join.lone.one (p, edge) (q, way) to one is_one is_alone leads (goes ∙ ap Some same))) ∙ r.sets x goes alone;
   }
 
@@ -161,16 +161,16 @@ module _ (image : ImageValue) (cuts : List Cut) (joins : ℕ → Bool) (join : A
   elsewhere_still at s other above = record { state = above.state; there = with_elsewhere to v table at other ∙ above.there; below = above.below }
 
   each_still : (x : ℕ) (cut : Cut) → x ≢ p.at → cut_at cuts x ≡ Some cut → (t : State) (k : ℕ) (d : Edge) → k < length (asked cut.instr)
-      → Settles image joins table x (x + length cut.bytes) cut.instr t (slice_index_or (asked cut.instr) k d) → Settles image joins (with_state to v table) x (x + length cut.bytes) cut.instr t (slice_index_or (asked cut.instr) k d)
+      → Settles image is_join table x (x + length cut.bytes) cut.instr t (slice_index_or (asked cut.instr) k d) → Settles image is_join (with_state to v table) x (x + length cut.bytes) cut.instr t (slice_index_or (asked cut.instr) k d)
   each_still x cut other stands t k d lt r =
       settles_alone (placed_cut x cut) (slice_index_or (asked cut.instr) k d) (among cuts x cut stands k d lt) (λ same. other (sym (ap (λ (e : Placed × Edge). e.0.at) same))) t r
 
   -- at another instruction
-  pub was_elsewhere : (x : ℕ) (cut : Cut) → x ≢ p.at → x ≢ to → cut_at cuts x ≡ Some cut → WasTakenAt image joins table x cut → WasTakenAt image joins (with_state to v table) x cut
+  pub was_elsewhere : (x : ℕ) (cut : Cut) → x ≢ p.at → x ≢ to → cut_at cuts x ≡ Some cut → WasTakenAt image is_join table x cut → WasTakenAt image is_join (with_state to v table) x cut
   was_elsewhere x cut other off stands w = record { before = w.before; sound = w.sound; above = elsewhere_still x w.before off w.above; each = λ k d le lt. each_still x cut other stands w.before k d lt (w.each k d le lt) }
 
   -- at the target
-  pub was_there : (cut : Cut) → to ≢ p.at → cut_at cuts to ≡ Some cut → ((u : State) → table to ≡ Some u → IsBelow u v) → WasTakenAt image joins table to cut → WasTakenAt image joins (with_state to v table) to cut
+  pub was_there : (cut : Cut) → to ≢ p.at → cut_at cuts to ≡ Some cut → ((u : State) → table to ≡ Some u → IsBelow u v) → WasTakenAt image is_join table to cut → WasTakenAt image is_join (with_state to v table) to cut
   was_there cut other stands rose w = record {
     before = w.before;
     sound = w.sound;
@@ -181,7 +181,7 @@ module _ (image : ImageValue) (cuts : List Cut) (joins : ℕ → Bool) (join : A
   -- at the same instruction, of the edges that are left
   pub was_own : (done : ℕ) → done < length (asked p.instr) → slice_index_or (asked p.instr) done edge ≡ edge → p.at ≢ to
       → ((k : ℕ) (d : Edge) → k < length (asked p.instr) → IsAmong (edges_in cuts) (p, slice_index_or (asked p.instr) k d))
-      → WasTaken image joins table p.at p.next p.instr done → WasTaken image joins (with_state to v table) p.at p.next p.instr (done + 1)
+      → WasTaken image is_join table p.at p.next p.instr done → WasTaken image is_join (with_state to v table) p.at p.next p.instr (done + 1)
   was_own done inside is off own w = record {
     before = w.before;
     sound = w.sound;

@@ -20,7 +20,7 @@ mod Settling
 mod Again
 mod Stepping
 mod Turning
-mod Ways
+mod HandedOn
 mod Two
 mod Verdict
 mod Counting

@@ -55,115 +55,115 @@ is_in flags at = slice_index_or flags at false
 
 -- Edges join at these addresses: at each that is kept, and at each target of one edge alone but the next instruction,
 -- to which control falls.
-pub record AreJoins (image : ImageValue) (cuts : List Cut) (joins : ℕ → Bool) : Type 0 where
-  pub wide : AreWide image cuts joins
-  pub lone : IsLone image joins (IsAmong (edges_in cuts))
-  pub falls : (e : Placed × Edge) (to : ℕ) → IsAmong (edges_in cuts) e → joins to ≡ false → target_of image e ≡ Some to
+pub record AreJoins (image : ImageValue) (cuts : List Cut) (is_join : ℕ → Bool) : Type 0 where
+  pub wide : AreWide image cuts is_join
+  pub lone : IsLone image is_join (IsAmong (edges_in cuts))
+  pub falls : (e : Placed × Edge) (to : ℕ) → IsAmong (edges_in cuts) e → is_join to ≡ false → target_of image e ≡ Some to
       → to ≡ e.0.next
 
 -- ---- what need not be taken again
 
--- Nothing is refused on an edge; where its target joins, the state there is above what is known after it, and elsewhere
+-- Nothing is refused on an edge; where its target is a join, the state there is above what is known after it, and elsewhere
 -- it is what is known after it.
-pub record Settles (image : ImageValue) (joins : ℕ → Bool) (table : Table) (at next : ℕ) (instr : Instr) (s : State)
+pub record Settles (image : ImageValue) (is_join : ℕ → Bool) (table : Table) (at next : ℕ) (instr : Instr) (s : State)
     (edge : Edge) : Type 0 where
   pub outcome : State
   pub goes_on : after image at next instr edge s ≡ Ok outcome
-  pub meets : (to : ℕ) → target (ranges image.loops) at next instr edge ≡ Some to → joins to ≡ true
+  pub meets : (to : ℕ) → target (ranges image.loops) at next instr edge ≡ Some to → is_join to ≡ true
       → HasAbove table to outcome
-  pub sets : (to : ℕ) → target (ranges image.loops) at next instr edge ≡ Some to → joins to ≡ false
+  pub sets : (to : ℕ) → target (ranges image.loops) at next instr edge ≡ Some to → is_join to ≡ false
       → table to ≡ Some outcome
 
 -- an edge that was taken has settled, unless its address is marked
 abbrev pub IsTaken : ImageValue → (ℕ → Bool) → (ℕ → Bool) → Table → (at next : ℕ) → Instr → Edge → Type 0
-IsTaken image joins marks table at next instr edge =
-    marks at ≡ false → (s : State) → table at ≡ Some s → Settles image joins table at next instr s edge
+IsTaken image is_join marks table at next instr edge =
+    marks at ≡ false → (s : State) → table at ≡ Some s → Settles image is_join table at next instr s edge
 
 abbrev pub TakenAt : ImageValue → (ℕ → Bool) → (ℕ → Bool) → Table → ℕ → Cut → Type 0
-TakenAt image joins marks table at cut =
-    All (IsTaken image joins marks table at (at + length cut.bytes) cut.instr) (asked cut.instr)
+TakenAt image is_join marks table at cut =
+    All (IsTaken image is_join marks table at (at + length cut.bytes) cut.instr) (asked cut.instr)
 
 -- From one of its edges on, an instruction's edges were taken before from a state below the one that stands at its
 -- address now, and they have settled.
-pub record WasTaken (image : ImageValue) (joins : ℕ → Bool) (table : Table) (at next : ℕ) (instr : Instr)
+pub record WasTaken (image : ImageValue) (is_join : ℕ → Bool) (table : Table) (at next : ℕ) (instr : Instr)
     (done : ℕ) : Type 0 where
   pub before : State
   pub sound : IsSound image before
   pub above : HasAbove table at before
   pub each : (k : ℕ) (d : Edge) → done ≤ k → k < length (asked instr)
-      → Settles image joins table at next instr before (slice_index_or (asked instr) k d)
+      → Settles image is_join table at next instr before (slice_index_or (asked instr) k d)
 
 abbrev pub WasTakenAt : ImageValue → (ℕ → Bool) → Table → ℕ → Cut → Type 0
-WasTakenAt image joins table at cut = WasTaken image joins table at (at + length cut.bytes) cut.instr 0
+WasTakenAt image is_join table at cut = WasTaken image is_join table at (at + length cut.bytes) cut.instr 0
 
 -- what is marked: where edges join, what has changed since its edges were last taken; and the address to which a state
 -- is carried
 abbrev pub marks : (ℕ → Bool) → Passes → ℕ → (ℕ → Bool)
-marks joins p ahead at = if joins at then is_in p.changed.items at else (at == ahead) && p.is_carried
+marks is_join p ahead at = if is_join at then is_in p.changed.items at else (at == ahead) && p.is_carried
 
 -- ---- under way
 
 -- Where edges join the passes keep the states of a whole table.
-pub record IsUnderWay (image : ImageValue) (joins : ℕ → Bool) (p : Passes) (whole : Table) : Type 0 where
+pub record IsUnderWay (image : ImageValue) (is_join : ℕ → Bool) (p : Passes) (whole : Table) : Type 0 where
   pub flags : length p.changed.items ≡ length p.states.items
   pub takes : length p.taken.items ≡ length p.states.items
   pub carried : IsPlaced image p.carried
-  pub states : (at : ℕ) → joins at ≡ true → whole at ≡ table_of p.states.items at
+  pub states : (at : ℕ) → is_join at ≡ true → whole at ≡ table_of p.states.items at
   pub grown : HasGrown image whole
   pub sound : (at : ℕ) (s : State) → whole at ≡ Some s → IsSound image s
 
 -- A state that came to an address is below the one that stands there; where it alone leads there, it is that one.
-pub record HasCome (joins : ℕ → Bool) (table : Table) (to : ℕ) (s : State) : Type 0 where
-  pub joined : joins to ≡ true → HasAbove table to s
-  pub alone : joins to ≡ false → table to ≡ Some s
+pub record HasCome (is_join : ℕ → Bool) (table : Table) (to : ℕ) (s : State) : Type 0 where
+  pub joined : is_join to ≡ true → HasAbove table to s
+  pub alone : is_join to ≡ false → table to ≡ Some s
 
 -- before the instruction at an address
-pub record IsBefore (image : ImageValue) (cuts : List Cut) (joins : ℕ → Bool) (p : Passes) (at : ℕ)
+pub record IsBefore (image : ImageValue) (cuts : List Cut) (is_join : ℕ → Bool) (p : Passes) (at : ℕ)
     (whole : Table) : Type 0 where
-  pub way : IsUnderWay image joins p whole
-  pub here : p.is_carried ≡ true → HasCome joins whole at p.carried
-  pub taken : (x : ℕ) (cut : Cut) → cut_at cuts x ≡ Some cut → TakenAt image joins (marks joins p at) whole x cut
-  pub again : joins at ≡ false → p.is_carried ≡ true → p.is_again ≡ true → (cut : Cut) → cut_at cuts at ≡ Some cut
-      → WasTakenAt image joins whole at cut
-  pub early : (x : ℕ) (cut : Cut) → joins x ≡ true → is_in p.taken.items x ≡ true → cut_at cuts x ≡ Some cut
-      → WasTakenAt image joins whole x cut
+  pub way : IsUnderWay image is_join p whole
+  pub here : p.is_carried ≡ true → HasCome is_join whole at p.carried
+  pub taken : (x : ℕ) (cut : Cut) → cut_at cuts x ≡ Some cut → TakenAt image is_join (marks is_join p at) whole x cut
+  pub again : is_join at ≡ false → p.is_carried ≡ true → p.is_again ≡ true → (cut : Cut) → cut_at cuts at ≡ Some cut
+      → WasTakenAt image is_join whole at cut
+  pub early : (x : ℕ) (cut : Cut) → is_join x ≡ true → is_in p.taken.items x ≡ true → cut_at cuts x ≡ Some cut
+      → WasTakenAt image is_join whole x cut
 
 -- where edges join, marks alone
 abbrev pub flags : (ℕ → Bool) → Passes → (ℕ → Bool)
-flags joins p at = if joins at then is_in p.changed.items at else false
+flags is_join p at = if is_join at then is_in p.changed.items at else false
 
 -- before an instruction whose state, if it is to be taken, is carried now
-pub record IsReady (image : ImageValue) (cuts : List Cut) (joins : ℕ → Bool) (p : Passes) (at : ℕ)
+pub record IsReady (image : ImageValue) (cuts : List Cut) (is_join : ℕ → Bool) (p : Passes) (at : ℕ)
     (whole : Table) : Type 0 where
-  pub way : IsUnderWay image joins p whole
+  pub way : IsUnderWay image is_join p whole
   pub here : p.is_carried ≡ true → whole at ≡ Some p.carried
-  pub others : (x : ℕ) (cut : Cut) → x ≢ at → cut_at cuts x ≡ Some cut → TakenAt image joins (flags joins p) whole x cut
+  pub others : (x : ℕ) (cut : Cut) → x ≢ at → cut_at cuts x ≡ Some cut → TakenAt image is_join (flags is_join p) whole x cut
   pub own : p.is_carried ≡ false → (cut : Cut) → cut_at cuts at ≡ Some cut → (k : ℕ) (d : Edge)
       → k < length (asked cut.instr) → (s : State) → whole at ≡ Some s
-      → Settles image joins whole at (at + length cut.bytes) cut.instr s (slice_index_or (asked cut.instr) k d)
-  pub quiet : joins at ≡ true → p.is_carried ≡ true → is_in p.changed.items at ≡ false
+      → Settles image is_join whole at (at + length cut.bytes) cut.instr s (slice_index_or (asked cut.instr) k d)
+  pub quiet : is_join at ≡ true → p.is_carried ≡ true → is_in p.changed.items at ≡ false
   pub again : p.is_carried ≡ true → p.is_again ≡ true → (cut : Cut) → cut_at cuts at ≡ Some cut
-      → WasTakenAt image joins whole at cut
-  pub early : (x : ℕ) (cut : Cut) → (x ≡ at → p.is_carried ≡ false) → joins x ≡ true → is_in p.taken.items x ≡ true
-      → cut_at cuts x ≡ Some cut → WasTakenAt image joins whole x cut
+      → WasTakenAt image is_join whole at cut
+  pub early : (x : ℕ) (cut : Cut) → (x ≡ at → p.is_carried ≡ false) → is_join x ≡ true → is_in p.taken.items x ≡ true
+      → cut_at cuts x ≡ Some cut → WasTakenAt image is_join whole x cut
 
 -- between two edges of an instruction, so many of which have been taken
-pub record IsAmidst (image : ImageValue) (cuts : List Cut) (joins : ℕ → Bool) (p : Passes) (place : Placed) (done : ℕ)
+pub record IsAmidst (image : ImageValue) (cuts : List Cut) (is_join : ℕ → Bool) (p : Passes) (place : Placed) (done : ℕ)
     (whole : Table) : Type 0 where
-  pub way : IsUnderWay image joins p whole
+  pub way : IsUnderWay image is_join p whole
   pub others : (x : ℕ) (cut : Cut) → x ≢ place.at → cut_at cuts x ≡ Some cut
-      → TakenAt image joins (marks joins p place.next) whole x cut
+      → TakenAt image is_join (marks is_join p place.next) whole x cut
   pub own : (k : ℕ) (d : Edge) → k < done
-      → IsTaken image joins (marks joins p place.next) whole place.at place.next place.instr
+      → IsTaken image is_join (marks is_join p place.next) whole place.at place.next place.instr
       (slice_index_or (asked place.instr) k d)
   pub stands : (s : State) × (whole place.at ≡ Some s)
-  pub quiet : joins place.at ≡ true → is_in p.changed.items place.at ≡ false
+  pub quiet : is_join place.at ≡ true → is_in p.changed.items place.at ≡ false
   -- the edges that are left, and those of the next instruction, if a state is carried there
-  pub again : p.is_again ≡ true → WasTaken image joins whole place.at place.next place.instr done
-  pub ahead : joins place.next ≡ false → p.is_carried ≡ true → p.is_again ≡ true → (cut : Cut)
-      → cut_at cuts place.next ≡ Some cut → WasTakenAt image joins whole place.next cut
-  pub early : (x : ℕ) (cut : Cut) → x ≢ place.at → joins x ≡ true → is_in p.taken.items x ≡ true
-      → cut_at cuts x ≡ Some cut → WasTakenAt image joins whole x cut
+  pub again : p.is_again ≡ true → WasTaken image is_join whole place.at place.next place.instr done
+  pub ahead : is_join place.next ≡ false → p.is_carried ≡ true → p.is_again ≡ true → (cut : Cut)
+      → cut_at cuts place.next ≡ Some cut → WasTakenAt image is_join whole place.next cut
+  pub early : (x : ℕ) (cut : Cut) → x ≢ place.at → is_join x ≡ true → is_in p.taken.items x ≡ true
+      → cut_at cuts x ≡ Some cut → WasTakenAt image is_join whole x cut
 
 -- a step's answer is the definition's, or a want of memory; and of the table that it comes to, this holds
 abbrev pub Carries : {X : Type 0} → Result X StateFault → Result Table StateFault → (Table → Type 0) → Type 0
@@ -174,8 +174,8 @@ Carries (Err Memory) wanted P = Unit {0}
 -- these edges are taken from a whole table on, and then the passes are before the instruction at an address
 abbrev pub TakesEdges : {X : Type 0} → ImageValue → List Cut → (ℕ → Bool) → List (Placed × Edge) → Table
     → Result X StateFault → Passes → ℕ → Type 0
-TakesEdges image cuts joins edges whole result p at =
-    Carries result (over image joins edges whole) (IsBefore image cuts joins p at)
+TakesEdges image cuts is_join edges whole result p at =
+    Carries result (over image is_join edges whole) (IsBefore image cuts is_join p at)
 
 -- an instruction of a code, in its place
 pub record StandsIn (cuts : List Cut) (place : Placed) : Type 0 where
@@ -197,36 +197,36 @@ pub record IsNumberOf (instr : Instr) (edge : Edge) (number : ℕ) : Type 0 wher
   pub is : slice_index_or (asked instr) number edge ≡ edge
 
 -- an instruction of a code, with a whole table between two of its edges
-pub record AreAmidst (image : ImageValue) (joins : ℕ → Bool) (p : Passes) (place : Placed) (done : ℕ) : Type 0 where
+pub record AreAmidst (image : ImageValue) (is_join : ℕ → Bool) (p : Passes) (place : Placed) (done : ℕ) : Type 0 where
   pub cuts : List Cut
   pub number : ℕ
   pub stands : slice_get (placed_from 0 cuts) number ≡ Some place
-  pub join : AreJoins image cuts joins
+  pub join : AreJoins image cuts is_join
   pub whole : Table
-  pub amidst : IsAmidst image cuts joins p place done whole
+  pub amidst : IsAmidst image cuts is_join p place done whole
 
 -- an instruction is about to be taken from the state that is carried
-pub record IsBegun (image : ImageValue) (joins : ℕ → Bool) (p : Passes) (place : Placed) : Type 0 where
-  pub amid : AreAmidst image joins p place 0
+pub record IsBegun (image : ImageValue) (is_join : ℕ → Bool) (p : Passes) (place : Placed) : Type 0 where
+  pub amid : AreAmidst image is_join p place 0
   pub here : amid.whole place.at ≡ Some p.carried
   pub rests : p.is_carried ≡ false
 
 -- an edge of it
-pub record IsOnEdge (image : ImageValue) (joins : ℕ → Bool) (p : Passes) (place : Placed) (edge : Edge)
+pub record IsOnEdge (image : ImageValue) (is_join : ℕ → Bool) (p : Passes) (place : Placed) (edge : Edge)
     (done : ℕ) : Type 0 where
-  pub amid : AreAmidst image joins p place done
+  pub amid : AreAmidst image is_join p place done
   pub here : amid.whole place.at ≡ Some p.carried
   pub number : IsNumberOf place.instr edge done
 
 -- An edge of an instruction was taken: what was carried has become what is known after it, which has come to its
 -- target, and elsewhere a state only rises, where edges join.
-pub record IsAfterEdge (image : ImageValue) (cuts : List Cut) (joins : ℕ → Bool) (old new : Passes) (place : Placed)
+pub record IsAfterEdge (image : ImageValue) (cuts : List Cut) (is_join : ℕ → Bool) (old new : Passes) (place : Placed)
     (edge : Edge) (done : ℕ) (whole table : Table) : Type 0 where
-  pub amidst : IsAmidst image cuts joins new place (done + 1) table
-  pub comes : (to : ℕ) → target_of image (place, edge) ≡ Some to → HasCome joins table to new.carried
+  pub amidst : IsAmidst image cuts is_join new place (done + 1) table
+  pub comes : (to : ℕ) → target_of image (place, edge) ≡ Some to → HasCome is_join table to new.carried
   pub here : table place.at ≡ whole place.at
-  pub rises : (x : ℕ) (s : State) → joins x ≡ true → HasAbove whole x s → HasAbove table x s
-  pub stays : (x : ℕ) → joins x ≡ false → target_of image (place, edge) ≢ Some x → table x ≡ whole x
+  pub rises : (x : ℕ) (s : State) → is_join x ≡ true → HasAbove whole x s → HasAbove table x s
+  pub stays : (x : ℕ) → is_join x ≡ false → target_of image (place, edge) ≢ Some x → table x ≡ whole x
   pub goes : target_of image (place, edge) ≡ Some place.next → new.is_carried ≡ true
   pub rests : target_of image (place, edge) ≢ Some place.next → new.is_carried ≡ old.is_carried
 
@@ -243,20 +243,20 @@ pub record IsLedOn (to there : ℕ) (old new : Passes) : Type 0 where
 -- ---- between two passes
 
 -- so many passes have been made
-pub record IsAfter (image : ImageValue) (cuts : List Cut) (joins : ℕ → Bool) (p : Passes) (number : ℕ) : Type 0 where
+pub record IsAfter (image : ImageValue) (cuts : List Cut) (is_join : ℕ → Bool) (p : Passes) (number : ℕ) : Type 0 where
   pub places : HasPlaces cuts (length p.states.items)
   pub few : length p.states.items ≤ 2 ^ 32
   pub rests : p.is_carried ≡ false
   pub whole : Table
-  pub before : IsBefore image cuts joins p 0 whole
+  pub before : IsBefore image cuts is_join p 0 whole
   pub comes : passes image cuts number ≡ Ok whole
 
 -- none has, over a code whose instructions stand at so many addresses
 abbrev pub IsBeginning : ImageValue → ℕ → Passes → Type 0
 IsBeginning image places p =
-    (cuts : List Cut) (joins : ℕ → Bool) → HasPlaces cuts places → KeepsNest image.loops image.workspace cuts
-    → AreJoins image cuts joins
-    → IsAfter image cuts joins p 0
+    (cuts : List Cut) (is_join : ℕ → Bool) → HasPlaces cuts places → KeepsNest image.loops image.workspace cuts
+    → AreJoins image cuts is_join
+    → IsAfter image cuts is_join p 0
 
 -- Whether a pass leaves edges to be taken is told: where it does, fewer changes are left; and where it does not, it has
 -- changed no state that is kept, or has left no address marked.
@@ -268,12 +268,12 @@ pub record Leaves (image : ImageValue) (is_left : Bool) (old new : Passes) : Typ
 -- ---- when they are done
 
 -- The passes have come to a table that one more leaves as it is: where edges join, these are its states.
-pub record IsSettled (image : ImageValue) (cuts : List Cut) (joins : ℕ → Bool)
+pub record IsSettled (image : ImageValue) (cuts : List Cut) (is_join : ℕ → Bool)
     (slots : List (Option State)) : Type 0 where
   pub few : length slots ≤ 2 ^ 32
   pub whole : Table
   pub verdict : IsVerdict image cuts (Ok whole)
-  pub there : (at : ℕ) → joins at ≡ true → whole at ≡ table_of slots at
+  pub there : (at : ℕ) → is_join at ≡ true → whole at ≡ table_of slots at
 
 -- ---- what a step of the passes does
 
