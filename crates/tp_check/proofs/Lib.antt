@@ -17,6 +17,7 @@ mod CarriedPasses
 mod Staying
 pub mod Respected
 mod Settling
+mod Waiting
 mod Again
 mod Stepping
 mod Turning

@@ -42,7 +42,7 @@ use Rattle.tp_check.proofs.Trails.{placed_ok}
 
 -- ---- lists
 
-among_either : (xs ys : List (Placed × Edge)) (e : Placed × Edge) → IsAmong (xs ++ ys) e → IsAmong xs e ⊎ IsAmong ys e
+pub among_either : (xs ys : List (Placed × Edge)) (e : Placed × Edge) → IsAmong (xs ++ ys) e → IsAmong xs e ⊎ IsAmong ys e
 among_either [] ys e (i, is) = inr (i, is)
 among_either (x ∷ xs) ys e (zero, is) = inl (0, is)
 among_either (x ∷ xs) ys e (suc i, is) = by_way (among_either xs ys e (i, is))
@@ -73,7 +73,7 @@ count_two p (z ∷ xs) (suc i) (suc j) x y is also holds too lt =
 
 -- ---- edges in their order
 
-ways_at : (p : Placed) (ways : List Edge) (e : Placed × Edge) → IsAmong (edges_from p ways) e → e.0 ≡ p
+pub ways_at : (p : Placed) (ways : List Edge) (e : Placed × Edge) → IsAmong (edges_from p ways) e → e.0 ≡ p
 ways_at p [] e (i, is) = absurd cc
 ways_at p (w ∷ ways) e (zero, is) = let same : (p, w) ≡ e = same_Some (p, w) e is in ap (λ (f : Placed × Edge). f.0) (sym same)
 ways_at p (w ∷ ways) e (suc i, is) = ways_at p ways e (i, is)

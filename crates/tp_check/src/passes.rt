@@ -11,13 +11,13 @@ ghost use Rattle.tp_flow.specs.RowRules.{is_start};
 ghost use Rattle.tp_image.specs.Image.{ImageValue, InRange};
 ghost use Rattle.tp_state.specs.Order.{IsBelow};
 ghost use Rattle.tp_state.specs.declared.fault.StateFault.TheVariants as fault;
-ghost use Rattle.tp_check.specs.Tables.{Table as WholeTable, table_of, asked};
+ghost use Rattle.tp_check.specs.Tables.{table_of, asked};
 ghost use Rattle.tp_check.specs.EdgesRespect.{HasNoTable};
 ghost use Rattle.tp_check.specs.Passes.{enter, edges_of, edges_in, IsVerdict, IsRefusalOf};
 ghost use Rattle.tp_check.specs.Carried.{over, IsTableOf};
 ghost use Rattle.tp_check.specs.StatesThere.{AreStatesThere};
 ghost use Rattle.tp_check.specs.Joining.{is_join_at, is_kept_at};
-ghost use Rattle.tp_check.specs.UnderWay.{is_in, IsBeginning, Leaves, AreJoins, MayBeTaken, StandsIn, IsBefore, Carries, TakesEdges, marked, SameButStates, IsStarted, KeepsSound, IsBegun, IsOnEdge, IsAfterEdge, IsLedOn, IsSettled};
+ghost use Rattle.tp_check.specs.UnderWay.{is_in, IsBeginning, Leaves, AreJoins, AreLeft, IsApart, HasWhole, MayBeTaken, StandsIn, IsBefore, Carries, TakesEdges, marked, SameButStates, IsStarted, KeepsSound, IsAfterEdge, IsLedOn, IsSettled};
 ghost use Rattle.tp_check.specs.Rising.{HasPlaces, Gives, Moves, CameBefore};
 
 use crate::predecessors::Predecessors;
@@ -145,9 +145,9 @@ impl Passes {
         requires join { AreJoins image.now listing.now (is_join_at predecessors.now) }
         requires places { HasPlaces listing.now (length self.old.states.items) }
         requires rests { self.old.is_carried ≡ false }
-        requires way { (whole : WholeTable) × IsBefore image.now listing.now (is_join_at predecessors.now) self.old 0 whole }
-        ensures gives { (whole : WholeTable) → IsBefore image.now listing.now (is_join_at predecessors.now) self.old 0 whole →
-            TakesEdges image.now listing.now (is_join_at predecessors.now) (edges_in listing.now) whole result self.new 0 }
+        requires way { HasWhole image.now listing.now (is_join_at predecessors.now) self.old 0 }
+        ensures gives { TakesEdges image.now listing.now (is_join_at predecessors.now) (edges_in listing.now)
+            self.old 0 result self.new 0 }
         ensures rests { OnOk result (self.new.is_carried ≡ false) }
         ensures leaves { IfOk result (λ is_left. Leaves image.now is_left self.old self.new) }
     {
@@ -174,9 +174,9 @@ impl Passes {
         requires join { AreJoins image.now listing.now (is_join_at predecessors.now) }
         requires places { HasPlaces listing.now (length self.old.states.items) }
         requires rests { self.old.is_carried ≡ false }
-        requires way { (whole : WholeTable) × IsBefore image.now listing.now (is_join_at predecessors.now) self.old 0 whole }
-        ensures gives { (whole : WholeTable) → IsBefore image.now listing.now (is_join_at predecessors.now) self.old 0 whole →
-            TakesEdges image.now listing.now (is_join_at predecessors.now) (edges_in listing.now) whole result self.new 0 }
+        requires way { HasWhole image.now listing.now (is_join_at predecessors.now) self.old 0 }
+        ensures gives { TakesEdges image.now listing.now (is_join_at predecessors.now) (edges_in listing.now)
+            self.old 0 result self.new 0 }
         ensures rests { OnOk result (self.new.is_carried ≡ false) }
         ensures moves { IfOk result (λ moved. Moves image.now moved self.old.states.items self.new.states.items) }
     {
@@ -206,11 +206,10 @@ impl Passes {
         requires place { MayBeTaken image.now (length self.old.states.items) place }
         requires sound { KeepsSound image.now place }
         requires way { (cuts : List Cut) × StandsIn cuts place × AreJoins image.now cuts (is_join_at predecessors.now) ×
-            (whole : WholeTable) × IsBefore image.now cuts (is_join_at predecessors.now) self.old place.at whole }
-        ensures gives { (cuts : List Cut) (whole : WholeTable) → StandsIn cuts place →
-            AreJoins image.now cuts (is_join_at predecessors.now) →
-            IsBefore image.now cuts (is_join_at predecessors.now) self.old place.at whole →
-            TakesEdges image.now cuts (is_join_at predecessors.now) (edges_of place) whole result self.new place.next }
+            HasWhole image.now cuts (is_join_at predecessors.now) self.old place.at }
+        ensures gives { (cuts : List Cut) → StandsIn cuts place → AreJoins image.now cuts (is_join_at predecessors.now) →
+            TakesEdges image.now cuts (is_join_at predecessors.now) (edges_of place) self.old place.at
+            result self.new place.next }
         ensures moves { IfOk result (λ moved. Moves image.now moved self.old.states.items self.new.states.items) }
     {
         self.start(predecessors, place.at);
@@ -264,10 +263,11 @@ impl Passes {
         requires nest { nest.now ≡ ranges image.now.loops }
         requires place { MayBeTaken image.now (length self.old.states.items) place }
         requires sound { KeepsSound image.now place }
-        requires way { IsBegun image.now (is_join_at predecessors.now) self.old place }
-        ensures gives { (way : IsBegun image.now (is_join_at predecessors.now) self.old place) → StandsIn way.amid.cuts place →
-            TakesEdges image.now way.amid.cuts (is_join_at predecessors.now)
-            (edges_of place) way.amid.whole result self.new place.next }
+        requires rests { self.old.is_carried ≡ false }
+        requires way { AreLeft image.now (is_join_at predecessors.now) self.old place (asked place.instr) }
+        ensures gives { (way : AreLeft image.now (is_join_at predecessors.now) self.old place (asked place.instr)) →
+            Carries result (over image.now (is_join_at predecessors.now) (edges_of place) way.whole)
+            (IsBefore image.now way.cuts (is_join_at predecessors.now) self.new place.next) }
         ensures moves { IfOk result (λ moved. Moves image.now moved self.old.states.items self.new.states.items) }
     {
         match asked(place.instr) {
@@ -293,10 +293,11 @@ impl Passes {
         requires place { MayBeTaken image.now (length self.old.states.items) place }
         requires sound { KeepsSound image.now place }
         requires edges { asked place.instr ≡ first ∷ last ∷ [] }
-        requires way { IsBegun image.now (is_join_at predecessors.now) self.old place }
-        ensures gives { (way : IsBegun image.now (is_join_at predecessors.now) self.old place) → StandsIn way.amid.cuts place →
-            TakesEdges image.now way.amid.cuts (is_join_at predecessors.now)
-            (edges_of place) way.amid.whole result self.new place.next }
+        requires rests { self.old.is_carried ≡ false }
+        requires way { AreLeft image.now (is_join_at predecessors.now) self.old place (asked place.instr) }
+        ensures gives { (way : AreLeft image.now (is_join_at predecessors.now) self.old place (asked place.instr)) →
+            Carries result (over image.now (is_join_at predecessors.now) (edges_of place) way.whole)
+            (IsBefore image.now way.cuts (is_join_at predecessors.now) self.new place.next) }
         ensures moves { IfOk result (λ moved. Moves image.now moved self.old.states.items self.new.states.items) }
     {
         let mut other = self.carried.copy_of(alloc)?;
@@ -323,10 +324,12 @@ impl Passes {
         requires nest { nest.now ≡ ranges image.now.loops }
         requires place { MayBeTaken image.now (length self.old.states.items) place }
         requires sound { KeepsSound image.now place }
-        requires way { (done : ℕ) × IsOnEdge image.now (is_join_at predecessors.now) self.old place edge done }
-        ensures gives { (done : ℕ) (way : IsOnEdge image.now (is_join_at predecessors.now) self.old place edge done) →
-            Carries result (over image.now (is_join_at predecessors.now) ((place, edge) ∷ []) way.amid.whole)
-            (IsAfterEdge image.now way.amid.cuts (is_join_at predecessors.now) self.old self.new place edge done way.amid.whole) }
+        requires way { (later : List AnEdge) × IsApart edge later ×
+            AreLeft image.now (is_join_at predecessors.now) self.old place (edge ∷ later) }
+        ensures gives { (later : List AnEdge) → IsApart edge later →
+            (way : AreLeft image.now (is_join_at predecessors.now) self.old place (edge ∷ later)) →
+            Carries result (over image.now (is_join_at predecessors.now) ((place, edge) ∷ []) way.whole)
+            (IsAfterEdge image.now way.cuts (is_join_at predecessors.now) self.old self.new place edge later way.whole) }
         ensures moves { IfOk result (λ moved. Moves image.now moved self.old.states.items self.new.states.items) }
     {
         let Placed { at, instr, next } = place;

@@ -31,8 +31,7 @@ take-requires-clause-way c =
       c.args.listing.now,
       stands_in c.args.listing.now c.loop-i.i c.in-Some.place c.requires.kept.spelled (sym c.in-Some.ensures),
       c.requires.join,
-      on.whole,
-      here_before c.args.image.now c.args.listing.now (is_join_at c.args.predecessors.now) c.loop-i.i c.in-Some.place (sym c.in-Some.ensures) c.args.self.now c.loop-i.self c.requires.way.0 on,
+      (on.whole, here_before c.args.image.now c.args.listing.now (is_join_at c.args.predecessors.now) c.loop-i.i c.in-Some.place (sym c.in-Some.ensures) c.args.self.now c.loop-i.self c.requires.way.0 on),
     )
 
 pub returns-in_err-take-clause-gives : goal.returns-in_err-take-clause-gives
@@ -40,7 +39,7 @@ returns-in_err-take-clause-gives c begun before =
     let on = c.loop-i.invariant.gives begun before in
     carried_on c.from_residual.result c.in_err-take.field-0.0 _ (λ _. Unit {0}) _ c.from_residual.ensures.1
     (stop_there c.args.image.now c.args.listing.now (is_join_at c.args.predecessors.now) c.loop-i.i c.in-Some.place (sym c.in-Some.ensures) c.args.self.now c.loop-i.self begun on c.in_err-take.field-0.0 _ (λ _. Unit {0})
-    (c.in_err-take.ensures.gives c.args.listing.now on.whole (stands_in c.args.listing.now c.loop-i.i c.in-Some.place c.requires.kept.spelled (sym c.in-Some.ensures)) c.requires.join
+    (c.in_err-take.ensures.gives c.args.listing.now (stands_in c.args.listing.now c.loop-i.i c.in-Some.place c.requires.kept.spelled (sym c.in-Some.ensures)) c.requires.join on.whole
     (here_before c.args.image.now c.args.listing.now (is_join_at c.args.predecessors.now) c.loop-i.i c.in-Some.place (sym c.in-Some.ensures) c.args.self.now c.loop-i.self begun on)))
 
 pub loop-i-preserved : goal.loop-i-preserved
@@ -50,7 +49,7 @@ loop-i-preserved c =
         gives = λ begun before. (
             let on = c.loop-i.invariant.gives begun before in
             come_on c.args.image.now c.args.listing.now (is_join_at c.args.predecessors.now) c.loop-i.i w.in-Some.place (sym w.in-Some.ensures) c.args.self.now c.loop-i.self begun on c.requires.kept.spelled w.take.new.self w.in_ok-take.field-0
-            (w.in_ok-take.ensures.gives c.args.listing.now on.whole (stands_in c.args.listing.now c.loop-i.i w.in-Some.place c.requires.kept.spelled (sym w.in-Some.ensures)) c.requires.join
+            (w.in_ok-take.ensures.gives c.args.listing.now (stands_in c.args.listing.now c.loop-i.i w.in-Some.place c.requires.kept.spelled (sym w.in-Some.ensures)) c.requires.join on.whole
             (here_before c.args.image.now c.args.listing.now (is_join_at c.args.predecessors.now) c.loop-i.i w.in-Some.place (sym w.in-Some.ensures) c.args.self.now c.loop-i.self begun on)));
         moves = moves_more c.args.image.now c.args.self.now.states.items c.loop-i.self.states.items w.take.new.self.states.items c.loop-i.moved c.loop-i.invariant.moves (subst (λ b. Moves c.args.image.now b c.loop-i.self.states.items w.take.new.self.states.items) w.if-branch.true w.in_ok-take.ensures.moves);
       }))
@@ -58,7 +57,7 @@ loop-i-preserved c =
         gives = λ begun before. (
             let on = c.loop-i.invariant.gives begun before in
             come_on c.args.image.now c.args.listing.now (is_join_at c.args.predecessors.now) c.loop-i.i w.in-Some.place (sym w.in-Some.ensures) c.args.self.now c.loop-i.self begun on c.requires.kept.spelled w.take.new.self w.in_ok-take.field-0
-            (w.in_ok-take.ensures.gives c.args.listing.now on.whole (stands_in c.args.listing.now c.loop-i.i w.in-Some.place c.requires.kept.spelled (sym w.in-Some.ensures)) c.requires.join
+            (w.in_ok-take.ensures.gives c.args.listing.now (stands_in c.args.listing.now c.loop-i.i w.in-Some.place c.requires.kept.spelled (sym w.in-Some.ensures)) c.requires.join on.whole
             (here_before c.args.image.now c.args.listing.now (is_join_at c.args.predecessors.now) c.loop-i.i w.in-Some.place (sym w.in-Some.ensures) c.args.self.now c.loop-i.self begun on)));
         moves = moves_no_more c.args.image.now c.args.self.now.states.items c.loop-i.self.states.items w.take.new.self.states.items c.loop-i.moved c.loop-i.invariant.moves (subst (λ b. Moves c.args.image.now b c.loop-i.self.states.items w.take.new.self.states.items) w.if-branch.false w.in_ok-take.ensures.moves);
       }))
