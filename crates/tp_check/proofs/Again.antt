@@ -1,13 +1,10 @@
--- What was known at an instruction when its edges were taken before.
-use Rattle.std.proofs.Common.{◌≡◌, ◌≢◌, ℕ, ◌+◌, ◌<◌, ◌⊎◌, inl, inr, Bool, true, false, List, [], ◌∷◌, length, get_or, slice_index_or, Option, Some, None, Result, Ok, Err, refl, sym, ap, ◌∙◌, subst, arith}
+-- An instruction's edges, and what is known after them.
+use Rattle.std.proofs.Common.{◌≡◌, ◌≢◌, ℕ, ◌<◌, ◌⊎◌, inl, inr, List, [], ◌∷◌, length, get_or, Option, Some, None, Result, Ok, Err, refl, sym, ap, ◌∙◌, subst, arith}
 use Rattle.std.specs.Prelude.{All, IfOk}
 use Rattle.std.proofs.lemmas.Bool.{cases_eq}
 use Rattle.std.proofs.lemmas.Option.{same_Some}
 use Rattle.tp_decode.specs.declared.instr.Instr.{Instr}
 use Rattle.tp_decode.specs.declared.instr.Instr.TheVariants.{Jump, Ldlp, Ldnl, Ldc, Ldnlp, Ldl, Adc, Cj, Ajw, Eqc, Stl, Stnl, Rev, Lb, Bsub, Diff, Add, Input, Prod, Gt, Wsub, Output, Sub, Seterr, Csub0, Stopp, Rem, Lend, Div, BitNot, BitXor, Sb, Shr, Shl, Mint, BitAnd, MoveBytes, BitOr, Sum, Mul}
-use Rattle.tp_decode.specs.declared.placed.Placed.{Placed}
-use Rattle.tp_decode.specs.Cutting.{Cut, cut_at}
-use Rattle.tp_decode.proofs.NumberLemmas.{placed as placed_cut}
 use Rattle.tp_flow.specs.declared.edge.Edge.{Edge}
 use Rattle.tp_flow.specs.declared.edge.Edge.TheVariants.{Next, Taken, Back, Out}
 use Rattle.tp_flow.specs.NestKept.{IsGood}
@@ -17,17 +14,12 @@ use Rattle.tp_state.specs.declared.fault.StateCode.{StateCode}
 use Rattle.tp_state.specs.After.{after}
 use Rattle.tp_state.specs.Order.{IsBelow}
 use Rattle.tp_state.specs.Sound.{IsSound, LoadsWord}
-use Rattle.tp_state.proofs.StateOrder.{is_below-trans}
 use Rattle.tp_rules.proofs.Follows.{Follows}
 use Rattle.tp_rules.proofs.Rules.{after_follows, after_sound}
 use Rattle.tp_rules.proofs.SoundJoins.{join_sound}
 use Rattle.tp_check.specs.Tables.{Table, with_state, asked}
-use Rattle.tp_check.specs.EdgesRespect.{HasAbove}
-use Rattle.tp_check.specs.Passes.{edges_in}
-use Rattle.tp_check.specs.Carried.{target_of, IsAmong}
-use Rattle.tp_check.specs.UnderWay.{IsPlacedAt, HasGrown, AreJoins, Settles, WasTaken, WasTakenAt}
-use Rattle.tp_check.proofs.Entering.{Becomes, Entered, elsewhere, there, rises}
-use Rattle.tp_check.proofs.Settling.{among, differ, differ_too, with_there, with_elsewhere}
+use Rattle.tp_check.proofs.Entering.{Becomes, Entered, elsewhere, there}
+use Rattle.tp_check.proofs.Settling.{with_there, with_elsewhere}
 
 -- ---- an instruction's edges
 
@@ -110,32 +102,11 @@ module _ (image : ImageValue) (range : InRange image) (good : All (IsGood image.
   pub sound_after : (s v : State) → LoadsWord instr → IsSound image s → after image at next instr edge s ≡ Ok v → IsSound image v
   sound_after s v loads sound is = subst (λ r. IfOk r (IsSound image)) is (after_sound image range good at next instr edge s loads sound)
 
--- with one edge more taken, fewer are left
-pub fewer : (image : ImageValue) (joins : ℕ → Bool) (table : Table) (at next : ℕ) (instr : Instr) (done : ℕ) → WasTaken image joins table at next instr done → WasTaken image joins table at next instr (done + 1)
-fewer image joins table at next instr done w = record { before = w.before; sound = w.sound; above = w.above; each = λ k d le lt. w.each k d (omega (arith, le)) lt }
+-- ---- a table that takes a sound state stays sound
 
--- ---- a state comes where edges join
-
-module _ (image : ImageValue) (joins : ℕ → Bool) (table : Table) (to : ℕ) (v : State) (grown : HasGrown image table) (fits : IsPlacedAt image to v) (new : Table) (e : Entered table to v new) where
-  settles_joined : joins to ≡ true → (at next : ℕ) (instr : Instr) (t : State) (way : Edge) → Settles image joins table at next instr t way → Settles image joins new at next instr t way
-  settles_joined is_joined at next instr t way r = record {
-    outcome = r.outcome;
-    goes_on = r.goes_on;
-    meets = λ x leads is. rises image table to v grown fits new e x r.outcome (r.meets x leads is);
-    sets = λ x leads alone. elsewhere table to v new x e (differ joins x to alone is_joined) ∙ r.sets x leads alone;
-  }
-
-  pub was_joined : joins to ≡ true → (at next : ℕ) (instr : Instr) (done : ℕ) → WasTaken image joins table at next instr done → WasTaken image joins new at next instr done
-  was_joined is_joined at next instr done w = record {
-    before = w.before;
-    sound = w.sound;
-    above = rises image table to v grown fits new e at w.before w.above;
-    each = λ k d le lt. settles_joined is_joined at next instr w.before (slice_index_or (asked instr) k d) (w.each k d le lt);
-  }
-
-  -- the table stays sound
-  pub sound_joined : ((at : ℕ) (s : State) → table at ≡ Some s → IsSound image s) → IsSound image v → (at : ℕ) (s : State) → new at ≡ Some s → IsSound image s
-  sound_joined sound also at s is = by_place (cases_eq at to)
+module _ (image : ImageValue) (table : Table) (to : ℕ) (v : State) where
+  pub sound_joined : (new : Table) (e : Entered table to v new) → ((at : ℕ) (s : State) → table at ≡ Some s → IsSound image s) → IsSound image v → (at : ℕ) (s : State) → new at ≡ Some s → IsSound image s
+  sound_joined new e sound also at s is = by_place (cases_eq at to)
     where
       by_state : (o : Option State) → table to ≡ o → Becomes o v e.state → IsSound image e.state
       by_state None stood same = subst (IsSound image) (sym same) also
@@ -145,51 +116,6 @@ module _ (image : ImageValue) (joins : ℕ → Bool) (table : Table) (to : ℕ) 
       by_place (inl same) = subst (IsSound image) (same_Some _ _ (sym (there table to v new e) ∙ sym (ap new same) ∙ is)) (by_state (table to) refl e.becomes)
       by_place (inr other) = sound at s (sym (elsewhere table to v new at e other) ∙ is)
 
--- ---- a state comes where one edge alone leads
-
-module _ (image : ImageValue) (cuts : List Cut) (joins : ℕ → Bool) (join : AreJoins image cuts joins) (p : Placed) (edge : Edge) (one : IsAmong (edges_in cuts) (p, edge)) (table : Table) (to : ℕ) (v : State)
-    (leads : target_of image (p, edge) ≡ Some to) (is_alone : joins to ≡ false) where
-  settles_alone : (q : Placed) (way : Edge) → IsAmong (edges_in cuts) (q, way) → (◌≡◌ {A = Placed × Edge} (p, edge) (q, way) → ⊥) → (t : State) → Settles image joins table q.at q.next q.instr t way → Settles image joins (with_state to v table) q.at q.next q.instr t way
-  settles_alone q way is_one other t r = record {
-    outcome = r.outcome;
-    goes_on = r.goes_on;
-    meets = λ x goes is. let above = r.meets x goes is in record { state = above.state; there = with_elsewhere to v table x (differ_too joins x to is is_alone) ∙ above.there; below = above.below };
-    sets = λ x goes alone. with_elsewhere to v table x (λ same. other (join.lone.one (p, edge) (q, way) to one is_one is_alone leads (goes ∙ ap Some same))) ∙ r.sets x goes alone;
-  }
-
-  elsewhere_still : (at : ℕ) (s : State) → at ≢ to → HasAbove table at s → HasAbove (with_state to v table) at s
-  elsewhere_still at s other above = record { state = above.state; there = with_elsewhere to v table at other ∙ above.there; below = above.below }
-
-  each_still : (x : ℕ) (cut : Cut) → x ≢ p.at → cut_at cuts x ≡ Some cut → (t : State) (k : ℕ) (d : Edge) → k < length (asked cut.instr)
-      → Settles image joins table x (x + length cut.bytes) cut.instr t (slice_index_or (asked cut.instr) k d) → Settles image joins (with_state to v table) x (x + length cut.bytes) cut.instr t (slice_index_or (asked cut.instr) k d)
-  each_still x cut other stands t k d lt r =
-      settles_alone (placed_cut x cut) (slice_index_or (asked cut.instr) k d) (among cuts x cut stands k d lt) (λ same. other (sym (ap (λ (e : Placed × Edge). e.0.at) same))) t r
-
-  -- at another instruction
-  pub was_elsewhere : (x : ℕ) (cut : Cut) → x ≢ p.at → x ≢ to → cut_at cuts x ≡ Some cut → WasTakenAt image joins table x cut → WasTakenAt image joins (with_state to v table) x cut
-  was_elsewhere x cut other off stands w = record { before = w.before; sound = w.sound; above = elsewhere_still x w.before off w.above; each = λ k d le lt. each_still x cut other stands w.before k d lt (w.each k d le lt) }
-
-  -- at the target
-  pub was_there : (cut : Cut) → to ≢ p.at → cut_at cuts to ≡ Some cut → ((u : State) → table to ≡ Some u → IsBelow u v) → WasTakenAt image joins table to cut → WasTakenAt image joins (with_state to v table) to cut
-  was_there cut other stands rose w = record {
-    before = w.before;
-    sound = w.sound;
-    above = record { state = v; there = with_there to v table; below = is_below-trans w.before w.above.state v w.above.below (rose w.above.state w.above.there) };
-    each = λ k d le lt. each_still to cut other stands w.before k d lt (w.each k d le lt);
-  }
-
-  -- at the same instruction, of the edges that are left
-  pub was_own : (done : ℕ) → done < length (asked p.instr) → slice_index_or (asked p.instr) done edge ≡ edge → p.at ≢ to
-      → ((k : ℕ) (d : Edge) → k < length (asked p.instr) → IsAmong (edges_in cuts) (p, slice_index_or (asked p.instr) k d))
-      → WasTaken image joins table p.at p.next p.instr done → WasTaken image joins (with_state to v table) p.at p.next p.instr (done + 1)
-  was_own done inside is off own w = record {
-    before = w.before;
-    sound = w.sound;
-    above = elsewhere_still p.at w.before off w.above;
-    each = λ k d le lt. settles_alone p (slice_index_or (asked p.instr) k d) (own k d lt) (λ same. asked_apart p.instr done k edge d inside lt (λ e. absurd (omega (arith, le, e))) (is ∙ ap (λ (e : Placed × Edge). e.1) same)) w.before (w.each k d (omega (arith, le)) lt);
-  }
-
-  -- the table stays sound
   pub sound_alone : ((at : ℕ) (s : State) → table at ≡ Some s → IsSound image s) → IsSound image v → (at : ℕ) (s : State) → with_state to v table at ≡ Some s → IsSound image s
   sound_alone sound also at s is = by_place (cases_eq at to)
     where

@@ -20,9 +20,9 @@ use Rattle.tp_check.proofs.Nests.{IsOne, lone, edges_lead_on, are_states, or_lef
 use Rattle.tp_check.proofs.Trails.{Trails, edge_by_edge}
 use Rattle.tp_check.proofs.Carrying.{carried_pass as pass_carried}
 
-module _ (image : ImageValue) (cuts : List Cut) (range : InRange image) (spelled : AllByRecursion IsSpelled cuts) (kept : KeepsNest image.loops image.workspace cuts) (joins : ℕ → Bool) (wide : AreWide image cuts joins) where
+module _ (image : ImageValue) (cuts : List Cut) (range : InRange image) (spelled : AllByRecursion IsSpelled cuts) (kept : KeepsNest image.loops image.workspace cuts) (is_join : ℕ → Bool) (wide : AreWide image cuts is_join) where
   abbrev pub Good : Table → Type 0
-  Good table = Trails image range.rows kept.good joins (IsOne image cuts kept joins wide) (IsStateAt image) (lone image cuts kept joins wide) (are_states image cuts kept joins wide range spelled) table
+  Good table = Trails image range.rows kept.good is_join (IsOne image cuts kept is_join wide) (IsStateAt image) (lone image cuts kept is_join wide) (are_states image cuts kept is_join wide range spelled) table
 
   entry_stands : IsStateAt image 0 (entry image)
   entry_stands = record { sound = entry_sound image range; live = none_live image kept.begins }
@@ -37,24 +37,24 @@ module _ (image : ImageValue) (cuts : List Cut) (range : InRange image) (spelled
           rw (here, ← same) entry_stands
       stand_at at s false e is = absurd cc
 
-      no_trail : (to : ℕ) (t : State) → joins to ≡ false → (b : Bool) → (to == 0) ≡ b → (if b then Some (entry image) else None) ≡ Some t → ⊥
+      no_trail : (to : ℕ) (t : State) → is_join to ≡ false → (b : Bool) → (to == 0) ≡ b → (if b then Some (entry image) else None) ≡ Some t → ⊥
       no_trail to t lone_to true e is = let no = or_left (to == 0) (is_head image to) (nat_le 2 (reached image cuts to)) (wide to lone_to) in let never : true ≡ false = sym e ∙ no in cc
       no_trail to t lone_to false e is = cc
 
-  pub one_pass : (table : Table) → Good table → (pass image cuts table ≡ carried_pass image cuts joins table) × IfOk (pass image cuts table) Good
+  pub one_pass : (table : Table) → Good table → (pass image cuts table ≡ carried_pass image cuts is_join table) × IfOk (pass image cuts table) Good
   one_pass table good = (
-    pass_carried image range.rows kept.good joins (IsOne image cuts kept joins wide) (IsStateAt image) (lone image cuts kept joins wide) (are_states image cuts kept joins wide range spelled) (edges_in cuts) (λ i e is. (i, is)) (λ e among. among) (edges_lead_on image cuts kept joins wide) table good,
+    pass_carried image range.rows kept.good is_join (IsOne image cuts kept is_join wide) (IsStateAt image) (lone image cuts kept is_join wide) (are_states image cuts kept is_join wide range spelled) (edges_in cuts) (λ i e is. (i, is)) (λ e among. among) (edges_lead_on image cuts kept is_join wide) table good,
     subst (λ r. IfOk r Good) (sym edges.0) edges.1,
   )
     where
-      edges : (along_edges image (edges_in cuts) table ≡ over image joins (edges_in cuts) table) × IfOk (over image joins (edges_in cuts) table) Good
-      edges = edge_by_edge image range.rows kept.good joins (IsOne image cuts kept joins wide) (IsStateAt image) (lone image cuts kept joins wide) (are_states image cuts kept joins wide range spelled) (edges_in cuts) (λ i e is. (i, is)) table good
+      edges : (along_edges image (edges_in cuts) table ≡ over image is_join (edges_in cuts) table) × IfOk (over image is_join (edges_in cuts) table) Good
+      edges = edge_by_edge image range.rows kept.good is_join (IsOne image cuts kept is_join wide) (IsStateAt image) (lone image cuts kept is_join wide) (are_states image cuts kept is_join wide range spelled) (edges_in cuts) (λ i e is. (i, is)) table good
 
-  pub all_passes : (n : ℕ) → (passes image cuts n ≡ carried image cuts joins n) × IfOk (passes image cuts n) Good
+  pub all_passes : (n : ℕ) → (passes image cuts n ≡ carried image cuts is_join n) × IfOk (passes image cuts n) Good
   all_passes zero = (refl, first_good)
-  all_passes (suc n) = let before = all_passes n in in_turn (passes image cuts n) (carried image cuts joins n) before.0 before.1
+  all_passes (suc n) = let before = all_passes n in in_turn (passes image cuts n) (carried image cuts is_join n) before.0 before.1
     where
-      in_turn : (r q : Result Table StateFault) → r ≡ q → IfOk r Good → ((r >>= pass image cuts) ≡ (q >>= carried_pass image cuts joins)) × IfOk (r >>= pass image cuts) Good
+      in_turn : (r q : Result Table StateFault) → r ≡ q → IfOk r Good → ((r >>= pass image cuts) ≡ (q >>= carried_pass image cuts is_join)) × IfOk (r >>= pass image cuts) Good
       in_turn (Ok table) q same good = let one = one_pass table good in (rw (← same) one.0, one.1)
       in_turn (Err e) q same good = (rw (← same) refl, tt)
 
@@ -66,17 +66,17 @@ module _ (image : ImageValue) (cuts : List Cut) (range : InRange image) (spelled
       by_answer (Err f) e good = cc
 
   -- a pass that leaves what stands where edges join has come to the verdict: the whole table of that pass
-  pub ends : (n : ℕ) (table new : Table) → carried image cuts joins n ≡ Ok table → carried_pass image cuts joins table ≡ Ok new → only_joins joins new ≡ only_joins joins table → IsVerdict image cuts (Ok new)
+  pub ends : (n : ℕ) (table new : Table) → carried image cuts is_join n ≡ Ok table → carried_pass image cuts is_join table ≡ Ok new → only_joins is_join new ≡ only_joins is_join table → IsVerdict image cuts (Ok new)
   ends n table new comes gives stays =
       let first : passes image cuts n ≡ Ok table = (all_passes n).0 ∙ comes in
       let next : passes image cuts (suc n) ≡ Ok new = ap (λ r. r >>= pass image cuts) first ∙ (one_pass table (good_after n table first)).0 ∙ gives in
       record {
         number = suc n;
         comes = next;
-        stays = (one_pass new (good_after (suc n) new next)).0 ∙ ap (over image joins (edges_in cuts)) stays ∙ gives;
+        stays = (one_pass new (good_after (suc n) new next)).0 ∙ ap (over image is_join (edges_in cuts)) stays ∙ gives;
       }
 
-  pub refuses : (n : ℕ) (table : Table) (fault : StateFault) → carried image cuts joins n ≡ Ok table → carried_pass image cuts joins table ≡ Err fault → IsVerdict image cuts (Err fault)
+  pub refuses : (n : ℕ) (table : Table) (fault : StateFault) → carried image cuts is_join n ≡ Ok table → carried_pass image cuts is_join table ≡ Err fault → IsVerdict image cuts (Err fault)
   refuses n table fault comes gives =
       let first : passes image cuts n ≡ Ok table = (all_passes n).0 ∙ comes in
       record { number = suc n; comes = ap (λ r. r >>= pass image cuts) first ∙ (one_pass table (good_after n table first)).0 ∙ gives; stays = refl }

@@ -24,14 +24,14 @@ enter_at : (to : ℕ) (t : State) (table : Table) → enter (Some to) t table �
 unfolding enter
 enter_at to t table = refl
 
-module _ (image : ImageValue) (are : All IsRow image.loops) (good : All (IsGood image.workspace) image.loops) (joins : ℕ → Bool)
-    (IsEdge : Placed × Edge → Type 0) (MayOccur : ℕ → State → Type 0) (lone : IsLone image joins IsEdge) (states : AreStates image IsEdge MayOccur) where
+module _ (image : ImageValue) (are : All IsRow image.loops) (good : All (IsGood image.workspace) image.loops) (is_join : ℕ → Bool)
+    (IsEdge : Placed × Edge → Type 0) (MayOccur : ℕ → State → Type 0) (lone : IsLone image is_join IsEdge) (states : AreStates image IsEdge MayOccur) where
   abbrev HasTrails : Table → Type 0
-  HasTrails table = Trails image are good joins IsEdge MayOccur lone states table
+  HasTrails table = Trails image are good is_join IsEdge MayOccur lone states table
 
   -- two tables differ at most where an edge that is still to be taken leads, and only where edges do not join
   abbrev Awaits : List (Placed × Edge) → Table → ℕ → Type 0
-  Awaits rest other at = (joins at ≡ false) × (other at ≡ None) × ((e : Placed × Edge) × IsAmong rest e × IsEdge e × (target_of image e ≡ Some at))
+  Awaits rest other at = (is_join at ≡ false) × (other at ≡ None) × ((e : Placed × Edge) × IsAmong rest e × IsEdge e × (target_of image e ≡ Some at))
 
   abbrev Agree : List (Placed × Edge) → Table → Table → Type 0
   Agree rest table other = (at : ℕ) → (table at ≡ other at) ⊎ Awaits rest other at
@@ -42,7 +42,7 @@ module _ (image : ImageValue) (are : All IsRow image.loops) (good : All (IsGood 
   AgreeOk rest (Ok table) (Err f) = ⊥
   AgreeOk rest (Err e) (Ok other) = ⊥
 
-  joined_alike : (rest : List (Placed × Edge)) (table other : Table) → Agree rest table other → (to : ℕ) → joins to ≡ true → table to ≡ other to
+  joined_alike : (rest : List (Placed × Edge)) (table other : Table) → Agree rest table other → (to : ℕ) → is_join to ≡ true → table to ≡ other to
   joined_alike rest table other h to joined = by_way (h to)
     where
       by_way : (table to ≡ other to) ⊎ Awaits rest other to → table to ≡ other to
@@ -64,7 +64,7 @@ module _ (image : ImageValue) (are : All IsRow image.loops) (good : All (IsGood 
   set_alike : (f : Placed × Edge) (more : List (Placed × Edge)) (table other : Table) → Agree (f ∷ more) table other → (to : ℕ) → target_of image f ≡ Some to → (v : State) → Agree more (with_state to v table) (with_state to v other)
   set_alike f more table other h to goes v at = by_test (at == to) refl
     where
-      by_test : (b : Bool) → (at == to) ≡ b → ((if b then Some v else table at) ≡ (if b then Some v else other at)) ⊎ ((joins at ≡ false) × ((if b then Some v else other at) ≡ None) × ((e : Placed × Edge) × IsAmong more e × IsEdge e × (target_of image e ≡ Some at)))
+      by_test : (b : Bool) → (at == to) ≡ b → ((if b then Some v else table at) ≡ (if b then Some v else other at)) ⊎ ((is_join at ≡ false) × ((if b then Some v else other at) ≡ None) × ((e : Placed × Edge) × IsAmong more e × IsEdge e × (target_of image e ≡ Some at)))
       by_test true same = inl refl
       by_test false differ = later f more table other h at (λ is. not_there (same_Some to at (sym goes ∙ is)))
         where
@@ -73,21 +73,21 @@ module _ (image : ImageValue) (are : All IsRow image.loops) (good : All (IsGood 
 
   -- one edge
   step : (f : Placed × Edge) (more : List (Placed × Edge)) → IsEdge f → (table other : Table) → HasTrails table → Agree (f ∷ more) table other → table f.0.at ≡ other f.0.at
-      → AgreeOk more (go_over image joins f (table f.0.at) table) (go_over image joins f (other f.0.at) other)
+      → AgreeOk more (go_over image is_join f (table f.0.at) table) (go_over image is_join f (other f.0.at) other)
   step f more is_f table other kept h alike = rw (← alike) (by_state (table f.0.at) refl)
     where
       -- nothing is known before the edge, so nothing is known at a lone target
       none_before : table f.0.at ≡ None → (at : ℕ) → (table at ≡ other at) ⊎ Awaits more other at
       none_before none at = by_way (h at)
         where
-          by_known : (o : Option State) → table at ≡ o → joins at ≡ false → other at ≡ None → target_of image f ≡ Some at → table at ≡ other at
+          by_known : (o : Option State) → table at ≡ o → is_join at ≡ false → other at ≡ None → target_of image f ≡ Some at → table at ≡ other at
           by_known None is lone_at empty goes = is ∙ sym empty
           by_known (Some y) is lone_at empty goes =
               let trail = kept.trail at y lone_at is in
               let same : trail.edge ≡ f = lone.one trail.edge f at trail.is is_f lone_at trail.goes goes in
               absurd (let no : None ≡ Some trail.now = sym none ∙ ap (λ (g : Placed × Edge). table g.0.at) (sym same) ∙ trail.there in cc)
 
-          by_place : (e : Placed × Edge) (i : ℕ) → slice_get (f ∷ more) i ≡ Some e → joins at ≡ false → other at ≡ None → IsEdge e → target_of image e ≡ Some at → (table at ≡ other at) ⊎ Awaits more other at
+          by_place : (e : Placed × Edge) (i : ℕ) → slice_get (f ∷ more) i ≡ Some e → is_join at ≡ false → other at ≡ None → IsEdge e → target_of image e ≡ Some at → (table at ≡ other at) ⊎ Awaits more other at
           by_place e zero is lone_at empty is_e goes = let same : f ≡ e = same_Some f e is in inl (by_known (table at) refl lone_at empty (ap (target_of image) same ∙ goes))
           by_place e (suc i) is lone_at empty is_e goes = inr (lone_at, empty, (e, (i, is), is_e, goes))
 
@@ -99,41 +99,41 @@ module _ (image : ImageValue) (are : All IsRow image.loops) (good : All (IsGood 
       entered to goes (Ok v) = set_alike f more table other h to goes v
       entered to goes (Err e) = refl
 
-      by_target : (t : State) (o : Option ℕ) → target_of image f ≡ o → AgreeOk more (arrive joins o t table) (arrive joins o t other)
+      by_target : (t : State) (o : Option ℕ) → target_of image f ≡ o → AgreeOk more (arrive is_join o t table) (arrive is_join o t other)
       by_target t None goes = λ at. later f more table other h at (λ is. let no : None ≡ Some at = sym goes ∙ is in cc)
-      by_target t (Some to) goes = by_test (joins to) refl
+      by_target t (Some to) goes = by_test (is_join to) refl
         where
-          by_test : (b : Bool) → joins to ≡ b → AgreeOk more (if b then enter (Some to) t table else Ok (with_state to t table)) (if b then enter (Some to) t other else Ok (with_state to t other))
+          by_test : (b : Bool) → is_join to ≡ b → AgreeOk more (if b then enter (Some to) t table else Ok (with_state to t table)) (if b then enter (Some to) t other else Ok (with_state to t other))
           by_test true joined = rw (enter_at to t table, enter_at to t other, ← joined_alike (f ∷ more) table other h to joined) (entered to goes (with_place to (meeting_if_any (table to) t)))
           by_test false lone_to = set_alike f more table other h to goes t
 
-      by_outcome : (r : Result State StateFault) → AgreeOk more (r >>= λ t. arrive joins (target_of image f) t table) (r >>= λ t. arrive joins (target_of image f) t other)
+      by_outcome : (r : Result State StateFault) → AgreeOk more (r >>= λ t. arrive is_join (target_of image f) t table) (r >>= λ t. arrive is_join (target_of image f) t other)
       by_outcome (Ok t) = by_target t (target_of image f) refl
       by_outcome (Err e) = refl
 
-      by_state : (o : Option State) → table f.0.at ≡ o → AgreeOk more (go_over image joins f o table) (go_over image joins f o other)
+      by_state : (o : Option State) → table f.0.at ≡ o → AgreeOk more (go_over image is_join f o table) (go_over image is_join f o other)
       by_state None none = none_before none
       by_state (Some s) there = by_outcome (outcome_of image f s)
 
   -- what is known before an edge is alike: no edge that is still to be taken leads there, but to where edges join
-  source_alike : (f : Placed × Edge) (more : List (Placed × Edge)) (table other : Table) → Agree (f ∷ more) table other → ((e : Placed × Edge) → IsAmong (f ∷ more) e → joins f.0.at ≡ false → target_of image e ≢ Some f.0.at) → table f.0.at ≡ other f.0.at
+  source_alike : (f : Placed × Edge) (more : List (Placed × Edge)) (table other : Table) → Agree (f ∷ more) table other → ((e : Placed × Edge) → IsAmong (f ∷ more) e → is_join f.0.at ≡ false → target_of image e ≢ Some f.0.at) → table f.0.at ≡ other f.0.at
   source_alike f more table other h on = by_way (h f.0.at)
     where
       by_way : (table f.0.at ≡ other f.0.at) ⊎ Awaits (f ∷ more) other f.0.at → table f.0.at ≡ other f.0.at
       by_way (inl same) = same
       by_way (inr (lone_at, none, (e, among, is_e, goes))) = absurd (on e among lone_at goes)
 
-  pub over_alike : (es : List (Placed × Edge)) → ((i : ℕ) (e : Placed × Edge) → slice_get es i ≡ Some e → IsEdge e) → LeadsOn image joins es → (table other : Table) → HasTrails table → Agree es table other
-      → AgreeOk [] (over image joins es table) (over image joins es other)
+  pub over_alike : (es : List (Placed × Edge)) → ((i : ℕ) (e : Placed × Edge) → slice_get es i ≡ Some e → IsEdge e) → LeadsOn image is_join es → (table other : Table) → HasTrails table → Agree es table other
+      → AgreeOk [] (over image is_join es table) (over image is_join es other)
   over_alike [] edges on table other kept h = h
   over_alike (f ∷ more) edges on table other kept h =
-      in_turn (go_over image joins f (table f.0.at) table) (go_over image joins f (other f.0.at) other)
-      (one_edge image are good joins IsEdge MayOccur lone states f (edges 0 f refl) table kept).1
+      in_turn (go_over image is_join f (table f.0.at) table) (go_over image is_join f (other f.0.at) other)
+      (one_edge image are good is_join IsEdge MayOccur lone states f (edges 0 f refl) table kept).1
       (step f more (edges 0 f refl) table other kept h (source_alike f more table other h on.0))
       (λ t o kept h. over_alike more (λ i e is. edges (suc i) e is) on.1 t o kept h)
     where
-      in_turn : (r q : Result Table StateFault) → IfOk r HasTrails → AgreeOk more r q → ((t o : Table) → HasTrails t → Agree more t o → AgreeOk [] (over image joins more t) (over image joins more o))
-          → AgreeOk [] (r >>= over image joins more) (q >>= over image joins more)
+      in_turn : (r q : Result Table StateFault) → IfOk r HasTrails → AgreeOk more r q → ((t o : Table) → HasTrails t → Agree more t o → AgreeOk [] (over image is_join more t) (over image is_join more o))
+          → AgreeOk [] (r >>= over image is_join more) (q >>= over image is_join more)
       in_turn (Ok t) (Ok o) kept h go = go t o kept h
       in_turn (Err e) (Err f) kept h go = h
       in_turn (Ok t) (Err f) kept h go = absurd h
@@ -141,10 +141,10 @@ module _ (image : ImageValue) (are : All IsRow image.loops) (good : All (IsGood 
 
   -- A pass over a table comes to what the pass with carried outcomes comes to, from what stands where edges join: the
   -- same refusal, or the same whole table.
-  pub carried_pass : (es : List (Placed × Edge)) → ((i : ℕ) (e : Placed × Edge) → slice_get es i ≡ Some e → IsEdge e) → ((e : Placed × Edge) → IsEdge e → IsAmong es e) → LeadsOn image joins es → (table : Table) → HasTrails table
-      → along_edges image es table ≡ over image joins es (only_joins joins table)
+  pub carried_pass : (es : List (Placed × Edge)) → ((i : ℕ) (e : Placed × Edge) → slice_get es i ≡ Some e → IsEdge e) → ((e : Placed × Edge) → IsEdge e → IsAmong es e) → LeadsOn image is_join es → (table : Table) → HasTrails table
+      → along_edges image es table ≡ over image is_join es (only_joins is_join table)
   carried_pass es edges all on table kept =
-      (edge_by_edge image are good joins IsEdge MayOccur lone states es edges table kept).0 ∙ alike (over image joins es table) (over image joins es (only_joins joins table)) (over_alike es edges on table (only_joins joins table) kept first)
+      (edge_by_edge image are good is_join IsEdge MayOccur lone states es edges table kept).0 ∙ alike (over image is_join es table) (over image is_join es (only_joins is_join table)) (over_alike es edges on table (only_joins is_join table) kept first)
     where
       alike : (r q : Result Table StateFault) → AgreeOk [] r q → r ≡ q
       alike (Ok t) (Ok o) h = ap Ok (fun_ext λ at. at_end t o at (h at))
@@ -156,10 +156,10 @@ module _ (image : ImageValue) (are : All IsRow image.loops) (good : All (IsGood 
       alike (Ok t) (Err f) h = absurd h
       alike (Err e) (Ok o) h = absurd h
 
-      first : Agree es table (only_joins joins table)
-      first at = by_test (joins at) refl (table at) refl
+      first : Agree es table (only_joins is_join table)
+      first at = by_test (is_join at) refl (table at) refl
         where
-          by_test : (b : Bool) → joins at ≡ b → (o : Option State) → table at ≡ o → (table at ≡ (if b then table at else None)) ⊎ ((joins at ≡ false) × ((if b then table at else None) ≡ None) × ((e : Placed × Edge) × IsAmong es e × IsEdge e × (target_of image e ≡ Some at)))
+          by_test : (b : Bool) → is_join at ≡ b → (o : Option State) → table at ≡ o → (table at ≡ (if b then table at else None)) ⊎ ((is_join at ≡ false) × ((if b then table at else None) ≡ None) × ((e : Placed × Edge) × IsAmong es e × IsEdge e × (target_of image e ≡ Some at)))
           by_test true joined o is = inl refl
           by_test false lone_at None is = inl is
           by_test false lone_at (Some y) is = let trail = kept.trail at y lone_at is in inr (lone_at, refl, (trail.edge, all trail.edge trail.is, trail.is, trail.goes))

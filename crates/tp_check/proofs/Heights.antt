@@ -18,8 +18,12 @@ use Rattle.tp_state.specs.Order.{join_kinds, join_cells, joined_cells, join, mee
 use Rattle.tp_state.specs.declared.fault.StateCode.{StateCode}
 use Rattle.tp_state.specs.declared.fault.StateCode.TheVariants.{S6, S9}
 use Rattle.tp_state.specs.Answer.{◌>>◌, unless, answered}
-use Rattle.tp_check.specs.UnderWay.{MovesState}
 use Rattle.tp_check.specs.Rising.{size, kind_height, cell_height, state_height, height, table_height}
+
+-- an answer tells whether an address's state has changed, and where it has, fewer changes are left
+pub record MovesState (image : ImageValue) (moved : Bool) (old new : Option State) : Type 0 where
+  pub stays : moved ≡ false → new ≡ old
+  pub falls : moved ≡ true → height image new < height image old
 
 -- it stays, or fewer changes are left
 abbrev pub Sinks : {X : Type 0} → (X → ℕ) → X → X → Type 0

@@ -17,10 +17,11 @@ mod CarriedPasses
 mod Staying
 pub mod Respected
 mod Settling
+mod Waiting
 mod Again
 mod Stepping
 mod Turning
-mod Ways
+mod HandedOn
 mod Two
 mod Verdict
 mod Counting

@@ -20,6 +20,6 @@ pub record AreStates (image : ImageValue) (IsEdge : Placed × Edge → Type 0) (
 
 -- no edge leads back, or to its own instruction, but to where edges join
 abbrev pub LeadsOn : ImageValue → (ℕ → Bool) → List (Placed × Edge) → Type 0
-LeadsOn image joins [] = Unit {0}
-LeadsOn image joins (f ∷ more) =
-    ((e : Placed × Edge) → IsAmong (f ∷ more) e → joins f.0.at ≡ false → target_of image e ≢ Some f.0.at) × LeadsOn image joins more
+LeadsOn image is_join [] = Unit {0}
+LeadsOn image is_join (f ∷ more) =
+    ((e : Placed × Edge) → IsAmong (f ∷ more) e → is_join f.0.at ≡ false → target_of image e ≢ Some f.0.at) × LeadsOn image is_join more

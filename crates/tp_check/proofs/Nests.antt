@@ -42,7 +42,7 @@ use Rattle.tp_check.proofs.Trails.{placed_ok}
 
 -- ---- lists
 
-among_either : (xs ys : List (Placed × Edge)) (e : Placed × Edge) → IsAmong (xs ++ ys) e → IsAmong xs e ⊎ IsAmong ys e
+pub among_either : (xs ys : List (Placed × Edge)) (e : Placed × Edge) → IsAmong (xs ++ ys) e → IsAmong xs e ⊎ IsAmong ys e
 among_either [] ys e (i, is) = inr (i, is)
 among_either (x ∷ xs) ys e (zero, is) = inl (0, is)
 among_either (x ∷ xs) ys e (suc i, is) = by_way (among_either xs ys e (i, is))
@@ -73,7 +73,7 @@ count_two p (z ∷ xs) (suc i) (suc j) x y is also holds too lt =
 
 -- ---- edges in their order
 
-ways_at : (p : Placed) (ways : List Edge) (e : Placed × Edge) → IsAmong (edges_from p ways) e → e.0 ≡ p
+pub ways_at : (p : Placed) (ways : List Edge) (e : Placed × Edge) → IsAmong (edges_from p ways) e → e.0 ≡ p
 ways_at p [] e (i, is) = absurd cc
 ways_at p (w ∷ ways) e (zero, is) = let same : (p, w) ≡ e = same_Some (p, w) e is in ap (λ (f : Placed × Edge). f.0) (sym same)
 ways_at p (w ∷ ways) e (suc i, is) = ways_at p ways e (i, is)
@@ -163,7 +163,7 @@ is_back Taken = inr (λ e. cc)
 is_back Back = inl refl
 is_back Out = inr (λ e. cc)
 
-module _ (image : ImageValue) (cuts : List Cut) (kept : KeepsNest image.loops image.workspace cuts) (joins : ℕ → Bool) (wide : AreWide image cuts joins) where
+module _ (image : ImageValue) (cuts : List Cut) (kept : KeepsNest image.loops image.workspace cuts) (is_join : ℕ → Bool) (wide : AreWide image cuts is_join) where
   abbrev pub IsOne : Placed × Edge → Type 0
   IsOne e = IsAmong (edges_in cuts) e
 
@@ -171,7 +171,7 @@ module _ (image : ImageValue) (cuts : List Cut) (kept : KeepsNest image.loops im
   stands e among = let place = among_placed (placed_from 0 cuts) e among in stands_at cuts place.0 e.0 kept.spelled place.1
 
   -- an edge to where edges do not join goes forward
-  forward : (e : Placed × Edge) (to : ℕ) → IsOne e → joins to ≡ false → target_of image e ≡ Some to → e.0.at < to
+  forward : (e : Placed × Edge) (to : ℕ) → IsOne e → is_join to ≡ false → target_of image e ≡ Some to → e.0.at < to
   forward e to among lone goes = by_edge (is_back e.1)
     where
       it : IsInItsPlace cuts e.0
@@ -191,7 +191,7 @@ module _ (image : ImageValue) (cuts : List Cut) (kept : KeepsNest image.loops im
           omega (arith, up, some)
 
   -- those that lead there are one
-  one : (e f : Placed × Edge) (to : ℕ) → IsOne e → IsOne f → joins to ≡ false → target_of image e ≡ Some to → target_of image f ≡ Some to → e ≡ f
+  one : (e f : Placed × Edge) (to : ℕ) → IsOne e → IsOne f → is_join to ≡ false → target_of image e ≡ Some to → target_of image f ≡ Some to → e ≡ f
   one e f to (i, is) (j, also) lone goes leads = by_number (cases_eq i j) (cases_lt i j)
     where
       here : (g : Placed × Edge) → target_of image g ≡ Some to → leads_to to (target_of image g) ≡ true
@@ -216,18 +216,18 @@ module _ (image : ImageValue) (cuts : List Cut) (kept : KeepsNest image.loops im
           differ : (i j : ℕ) → j ≤ i → (i ≡ j → ⊥) → j < i
           differ i j le other = omega arith
 
-  pub lone : IsLone image joins IsOne
+  pub lone : IsLone image is_join IsOne
   lone = record { one = one; on = λ e to among lone_to goes same. let up = forward e to among lone_to goes in omega (arith, same, up) }
 
-  leads_on : (es : List (Placed × Edge)) → ((e : Placed × Edge) → IsAmong es e → IsOne e) → Rises es → LeadsOn image joins es
+  leads_on : (es : List (Placed × Edge)) → ((e : Placed × Edge) → IsAmong es e → IsOne e) → Rises es → LeadsOn image is_join es
   unfolding Rises
   leads_on [] all rises = tt
   leads_on (f ∷ more) all rises = (ahead, leads_on more (λ e among. all e (suc among.0, among.1)) rises.1)
     where
-      ahead : (e : Placed × Edge) → IsAmong (f ∷ more) e → joins f.0.at ≡ false → target_of image e ≢ Some f.0.at
+      ahead : (e : Placed × Edge) → IsAmong (f ∷ more) e → is_join f.0.at ≡ false → target_of image e ≢ Some f.0.at
       ahead e among lone_to goes = let up = forward e f.0.at (all e among) lone_to goes in let low = rises.0 e among in omega (arith, up, low)
 
-  pub edges_lead_on : LeadsOn image joins (edges_in cuts)
+  pub edges_lead_on : LeadsOn image is_join (edges_in cuts)
   edges_lead_on = leads_on (edges_in cuts) (λ e among. among) (rises_all 0 cuts)
 
   -- ---- states

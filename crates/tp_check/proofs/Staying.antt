@@ -57,10 +57,10 @@ under_with to v table above at s is = by_test (at == to) refl
         record { state = v; there = rw e refl; below = above s (ap table (sym here) ∙ is) }
     by_test false e = record { state = s; there = rw e is; below = is_below-self s }
 
-module _ (image : ImageValue) (are : All IsRow image.loops) (good : All (IsGood image.workspace) image.loops) (joins : ℕ → Bool)
-    (IsEdge : Placed × Edge → Type 0) (MayOccur : ℕ → State → Type 0) (lone : IsLone image joins IsEdge) (states : AreStates image IsEdge MayOccur) where
+module _ (image : ImageValue) (are : All IsRow image.loops) (good : All (IsGood image.workspace) image.loops) (is_join : ℕ → Bool)
+    (IsEdge : Placed × Edge → Type 0) (MayOccur : ℕ → State → Type 0) (lone : IsLone image is_join IsEdge) (states : AreStates image IsEdge MayOccur) where
   abbrev HasTrails : Table → Type 0
-  HasTrails table = Trails image are good joins IsEdge MayOccur lone states table
+  HasTrails table = Trails image are good is_join IsEdge MayOccur lone states table
 
   -- where a state comes to an address, what stood there is below what stands there then, and so is the state
   arrived : (to : ℕ) (t : State) (table new : Table) → HasTrails table → MayOccur to t → enter (Some to) t table ≡ Ok new → IsUnder table new × HasAbove new to t
@@ -76,7 +76,7 @@ module _ (image : ImageValue) (are : All IsRow image.loops) (good : All (IsGood 
       by_meeting : (x : State) → table to ≡ Some x → (r : Result State StateCode) → meeting x t ≡ r → (with_place to r >>= λ v. Ok (with_state to v table)) ≡ Ok new → IsUnder table new × HasAbove new to t
       by_meeting x stood (Err c) m is = cc
       by_meeting x stood (Ok v) m is =
-          let made = met_is image are good joins IsEdge MayOccur lone states x t v m in
+          let made = met_is image are good is_join IsEdge MayOccur lone states x t v m in
           let may = states.meet to x t (kept.stand to x stood) stands made.0 made.1 in
           by_table v (same_Ok _ _ is)
           (λ u stood_u. subst (λ z. IsBelow z v) (same_Some x u (sym stood ∙ stood_u)) (subst (IsBelow x) (sym made.2) (is_below-join_left x t may)))
@@ -114,7 +114,7 @@ module _ (image : ImageValue) (are : All IsRow image.loops) (good : All (IsGood 
       by_state (Some s) there is = by_outcome s there (outcome_of image e s) refl is
 
   kept_on : (e : Placed × Edge) → IsEdge e → (table new : Table) → HasTrails table → go_along image e.0 e.1 (table e.0.at) table ≡ Ok new → HasTrails new
-  kept_on e is_e table new kept is = let one = one_edge image are good joins IsEdge MayOccur lone states e is_e table kept in by_answer _ (sym one.0 ∙ is) one.1
+  kept_on e is_e table new kept is = let one = one_edge image are good is_join IsEdge MayOccur lone states e is_e table kept in by_answer _ (sym one.0 ∙ is) one.1
     where
       by_answer : (r : Result Table StateFault) → r ≡ Ok new → IfOk r HasTrails → HasTrails new
       by_answer (Ok t) e h = let same : t ≡ new = cc in subst HasTrails same h

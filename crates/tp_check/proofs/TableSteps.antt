@@ -15,9 +15,14 @@ use Rattle.tp_state.specs.Answer.{◌>>=◌}
 use Rattle.tp_state.specs.Entry.{entry}
 use Rattle.tp_check.specs.Tables.{table_of, with_state, no_states}
 use Rattle.tp_check.specs.Passes.{enter, first_table, with_place, meeting_if_any}
-use Rattle.tp_check.specs.UnderWay.{GivesState, MovesState}
 use Rattle.tp_check.specs.Rising.{Gives, Moves, height}
-use Rattle.tp_check.proofs.Heights.{table_sinks}
+use Rattle.tp_check.proofs.Heights.{MovesState, table_sinks}
+
+-- an answer is the definition's where a state comes to an address, or a want of memory
+abbrev pub GivesState : {X : Type 0} → Result X StateFault → Option State → Result State StateFault → Type 0
+GivesState (Ok x) new wanted = (t : State) × (new ≡ Some t) × (wanted ≡ Ok t)
+GivesState (Err (Refused code place)) new wanted = wanted ≡ Err (Refused code place)
+GivesState (Err Memory) new wanted = Unit {0}
 
 -- ---- reading
 

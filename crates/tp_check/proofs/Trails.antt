@@ -38,8 +38,8 @@ enter_none : (t : State) (table : Table) → enter None t table ≡ Ok table
 unfolding enter
 enter_none t table = refl
 
-module _ (image : ImageValue) (are : All IsRow image.loops) (good : All (IsGood image.workspace) image.loops) (joins : ℕ → Bool)
-    (IsEdge : Placed × Edge → Type 0) (MayOccur : ℕ → State → Type 0) (lone : IsLone image joins IsEdge) (states : AreStates image IsEdge MayOccur) where
+module _ (image : ImageValue) (are : All IsRow image.loops) (good : All (IsGood image.workspace) image.loops) (is_join : ℕ → Bool)
+    (IsEdge : Placed × Edge → Type 0) (MayOccur : ℕ → State → Type 0) (lone : IsLone image is_join IsEdge) (states : AreStates image IsEdge MayOccur) where
   -- outcomes rise with what is known before
   pub rises : (e : Placed × Edge) (s t u v : State) → IsSound image s → IsBelow s t → outcome_of image e s ≡ Ok u → outcome_of image e t ≡ Ok v → IsBelow u v
   rises e s t u v sound below was is =
@@ -64,11 +64,11 @@ module _ (image : ImageValue) (are : All IsRow image.loops) (good : All (IsGood 
 
   pub record Trails (table : Table) : Type 0 where
     pub stand : (at : ℕ) (s : State) → table at ≡ Some s → MayOccur at s
-    pub trail : (to : ℕ) (t : State) → joins to ≡ false → table to ≡ Some t → HasTrail table to t
+    pub trail : (to : ℕ) (t : State) → is_join to ≡ false → table to ≡ Some t → HasTrail table to t
 
   -- a state takes an address, where it is above what stood there
   takes : (to : ℕ) (v : State) (table : Table) → Trails table → MayOccur to v → ((u : State) → table to ≡ Some u → IsBelow u v)
-      → (joins to ≡ false → HasTrail (with_state to v table) to v) → Trails (with_state to v table)
+      → (is_join to ≡ false → HasTrail (with_state to v table) to v) → Trails (with_state to v table)
   takes to v table h stands above trail = record { stand = λ at s is. stand_at at s (at == to) refl is; trail = λ at s lone is. trail_at at s lone (at == to) refl is }
     where
       stand_at : (at : ℕ) (s : State) (b : Bool) → (at == to) ≡ b → (if b then Some v else table at) ≡ Some s → MayOccur at s
@@ -83,18 +83,18 @@ module _ (image : ImageValue) (are : All IsRow image.loops) (good : All (IsGood 
       still x now true e is = let here : x ≡ to = (Decides-eqb x to).0 e in (v, refl, above now (ap table (sym here) ∙ is))
       still x now false e is = (now, is, is_below-self now)
 
-      trail_at : (at : ℕ) (s : State) → joins at ≡ false → (b : Bool) → (at == to) ≡ b → (if b then Some v else table at) ≡ Some s → HasTrail (with_state to v table) at s
+      trail_at : (at : ℕ) (s : State) → is_join at ≡ false → (b : Bool) → (at == to) ≡ b → (if b then Some v else table at) ≡ Some s → HasTrail (with_state to v table) at s
       trail_at at s lone_at true e is =
           let here : at ≡ to = (Decides-eqb at to).0 e in
           let same : v ≡ s = cc in
-          rw (here, ← same) (trail (ap joins (sym here) ∙ lone_at))
+          rw (here, ← same) (trail (ap is_join (sym here) ∙ lone_at))
       trail_at at s lone_at false e is =
           let t = h.trail at s lone_at is in
           let after_it = still t.edge.0.at t.now (t.edge.0.at == to) refl t.there in
           record { edge = t.edge; is = t.is; goes = t.goes; now = after_it.0; there = after_it.1; old = t.old; stood = t.stood; below = is_below-trans t.old t.now after_it.0 t.below after_it.2; gave = t.gave }
 
   -- the outcome that takes a lone target is above what stood there
-  above_old : (e : Placed × Edge) → IsEdge e → (to : ℕ) → target_of image e ≡ Some to → joins to ≡ false → (table : Table) → Trails table → (s t : State) → table e.0.at ≡ Some s → outcome_of image e s ≡ Ok t
+  above_old : (e : Placed × Edge) → IsEdge e → (to : ℕ) → target_of image e ≡ Some to → is_join to ≡ false → (table : Table) → Trails table → (s t : State) → table e.0.at ≡ Some s → outcome_of image e s ≡ Ok t
       → (u : State) → table to ≡ Some u → IsBelow u t
   above_old e is_e to goes lone_to table h s t there gives u stood =
       let trail = h.trail to u lone_to stood in
@@ -119,7 +119,7 @@ module _ (image : ImageValue) (are : All IsRow image.loops) (good : All (IsGood 
 
   module _ (e : Placed × Edge) (is_e : IsEdge e) (table : Table) (h : Trails table) (s : State) (there : table e.0.at ≡ Some s) (t : State) (gives : outcome_of image e s ≡ Ok t) where
     -- the state before the edge stays, since the edge does not lead to it
-    source_stays : (to : ℕ) (v : State) → joins to ≡ false → target_of image e ≡ Some to → with_state to v table e.0.at ≡ Some s
+    source_stays : (to : ℕ) (v : State) → is_join to ≡ false → target_of image e ≡ Some to → with_state to v table e.0.at ≡ Some s
     source_stays to v lone_to goes = by_test (e.0.at == to) refl
       where
         by_test : (b : Bool) → (e.0.at == to) ≡ b → (if b then Some v else table e.0.at) ≡ Some s
@@ -130,7 +130,7 @@ module _ (image : ImageValue) (are : All IsRow image.loops) (good : All (IsGood 
     stands_there to goes = states.after e s t to is_e (h.stand e.0.at s there) goes gives
 
     -- at a lone target the outcome takes the place of what was known: nothing is refused there
-    lone_target : (to : ℕ) → target_of image e ≡ Some to → joins to ≡ false → (enter (Some to) t table ≡ Ok (with_state to t table)) × Trails (with_state to t table)
+    lone_target : (to : ℕ) → target_of image e ≡ Some to → is_join to ≡ false → (enter (Some to) t table ≡ Ok (with_state to t table)) × Trails (with_state to t table)
     unfolding enter
     lone_target to goes lone_to = (by_state (table to) refl, takes to t table h (stands_there to goes) above (λ _. trail))
       where
@@ -148,11 +148,11 @@ module _ (image : ImageValue) (are : All IsRow image.loops) (good : All (IsGood 
             rw (meet u t t below (is_below-self t), join-above u t below may) refl
 
     -- where edges join, what stands there rises
-    joined_target : (to : ℕ) → target_of image e ≡ Some to → joins to ≡ true → IfOk (enter (Some to) t table) Trails
+    joined_target : (to : ℕ) → target_of image e ≡ Some to → is_join to ≡ true → IfOk (enter (Some to) t table) Trails
     unfolding enter
     joined_target to goes joined = by_state (table to) refl
       where
-        no_trail : (v : State) → joins to ≡ false → HasTrail (with_state to v table) to v
+        no_trail : (v : State) → is_join to ≡ false → HasTrail (with_state to v table) to v
         no_trail v lone_to = absurd (let no : true ≡ false = sym joined ∙ lone_to in cc)
 
         by_meeting : (x : State) → table to ≡ Some x → (r : Result State StateCode) → meeting x t ≡ r → IfOk (with_place to r >>= λ v. Ok (with_state to v table)) Trails
@@ -167,37 +167,37 @@ module _ (image : ImageValue) (are : All IsRow image.loops) (good : All (IsGood 
         by_state None stood = takes to t table h (stands_there to goes) (λ u stood_u. absurd (let no : None ≡ Some u = sym stood ∙ stood_u in cc)) (no_trail t)
         by_state (Some x) stood = by_meeting x stood (meeting x t) refl
 
-    pub arrives : (o : Option ℕ) → target_of image e ≡ o → (enter o t table ≡ arrive joins o t table) × IfOk (arrive joins o t table) Trails
+    pub arrives : (o : Option ℕ) → target_of image e ≡ o → (enter o t table ≡ arrive is_join o t table) × IfOk (arrive is_join o t table) Trails
     arrives None goes = (enter_none t table, h)
-    arrives (Some to) goes = by_test (joins to) refl
+    arrives (Some to) goes = by_test (is_join to) refl
       where
-        by_test : (b : Bool) → joins to ≡ b → (enter (Some to) t table ≡ (if b then enter (Some to) t table else Ok (with_state to t table))) × IfOk (if b then enter (Some to) t table else Ok (with_state to t table)) Trails
+        by_test : (b : Bool) → is_join to ≡ b → (enter (Some to) t table ≡ (if b then enter (Some to) t table else Ok (with_state to t table))) × IfOk (if b then enter (Some to) t table else Ok (with_state to t table)) Trails
         by_test true joined = (refl, joined_target to goes joined)
         by_test false lone_to = lone_target to goes lone_to
 
   -- an edge does the same whichever way
-  pub one_edge : (e : Placed × Edge) → IsEdge e → (table : Table) → Trails table → (go_along image e.0 e.1 (table e.0.at) table ≡ go_over image joins e (table e.0.at) table) × IfOk (go_over image joins e (table e.0.at) table) Trails
+  pub one_edge : (e : Placed × Edge) → IsEdge e → (table : Table) → Trails table → (go_along image e.0 e.1 (table e.0.at) table ≡ go_over image is_join e (table e.0.at) table) × IfOk (go_over image is_join e (table e.0.at) table) Trails
   unfolding go_along
   one_edge e is_e table h = by_state (table e.0.at) refl
     where
       by_outcome : (s : State) → table e.0.at ≡ Some s → (r : Result State StateFault) → outcome_of image e s ≡ r
-          → ((r >>= λ t. enter (target_of image e) t table) ≡ (r >>= λ t. arrive joins (target_of image e) t table)) × IfOk (r >>= λ t. arrive joins (target_of image e) t table) Trails
+          → ((r >>= λ t. enter (target_of image e) t table) ≡ (r >>= λ t. arrive is_join (target_of image e) t table)) × IfOk (r >>= λ t. arrive is_join (target_of image e) t table) Trails
       by_outcome s there (Ok t) gives = arrives e is_e table h s there t gives (target_of image e) refl
       by_outcome s there (Err f) gives = (refl, tt)
 
-      by_state : (o : Option State) → table e.0.at ≡ o → (go_along image e.0 e.1 o table ≡ go_over image joins e o table) × IfOk (go_over image joins e o table) Trails
+      by_state : (o : Option State) → table e.0.at ≡ o → (go_along image e.0 e.1 o table ≡ go_over image is_join e o table) × IfOk (go_over image is_join e o table) Trails
       by_state None there = (refl, h)
       by_state (Some s) there = by_outcome s there (outcome_of image e s) refl
 
   -- ---- a pass
 
-  pub edge_by_edge : (es : List (Placed × Edge)) → ((i : ℕ) (e : Placed × Edge) → slice_get es i ≡ Some e → IsEdge e) → (table : Table) → Trails table → (along_edges image es table ≡ over image joins es table) × IfOk (over image joins es table) Trails
+  pub edge_by_edge : (es : List (Placed × Edge)) → ((i : ℕ) (e : Placed × Edge) → slice_get es i ≡ Some e → IsEdge e) → (table : Table) → Trails table → (along_edges image es table ≡ over image is_join es table) × IfOk (over image is_join es table) Trails
   edge_by_edge [] edges table h = (refl, h)
   edge_by_edge (e ∷ more) edges table h =
       let first = one_edge e (edges 0 e refl) table h in
-      in_turn (go_along image e.0 e.1 (table e.0.at) table) (go_over image joins e (table e.0.at) table) first.0 first.1 (edge_by_edge more (λ i f is. edges (suc i) f is))
+      in_turn (go_along image e.0 e.1 (table e.0.at) table) (go_over image is_join e (table e.0.at) table) first.0 first.1 (edge_by_edge more (λ i f is. edges (suc i) f is))
     where
-      in_turn : (r q : Result Table StateFault) → r ≡ q → IfOk q Trails → ((t : Table) → Trails t → (along_edges image more t ≡ over image joins more t) × IfOk (over image joins more t) Trails)
-          → ((r >>= along_edges image more) ≡ (q >>= over image joins more)) × IfOk (q >>= over image joins more) Trails
+      in_turn : (r q : Result Table StateFault) → r ≡ q → IfOk q Trails → ((t : Table) → Trails t → (along_edges image more t ≡ over image is_join more t) × IfOk (over image is_join more t) Trails)
+          → ((r >>= along_edges image more) ≡ (q >>= over image is_join more)) × IfOk (q >>= over image is_join more) Trails
       in_turn r (Ok t) same trails go = let rest = go t trails in (rw same rest.0, rest.1)
       in_turn r (Err f) same trails go = (rw same refl, tt)

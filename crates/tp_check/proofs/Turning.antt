@@ -1,11 +1,9 @@
--- An instruction's turn in a pass.
-use Rattle.std.proofs.Common.{◌≡◌, ◌≢◌, ℕ, suc, ◌+◌, ◌<◌, ◌⊎◌, inl, inr, ◌==◌, ◌&&◌, if◌then◌else◌, Bool, true, false, List, [], ◌∷◌, length, slice_index_or, Option, Some, None, Result, Ok, Err, refl, sym, ap, ◌∙◌, subst, rules, arith, length-set, get_or-set_same, get_or-set_other}
+-- An instruction's turn in a pass begins, or it is passed by.
+use Rattle.std.proofs.Common.{◌≡◌, ◌≢◌, ℕ, suc, ◌<◌, ◌⊎◌, inl, inr, Bool, true, false, List, [], ◌∷◌, length, Option, Some, None, Result, Ok, Err, refl, sym, ap, ◌∙◌, subst, rules, length-set, get_or-set_other}
 use Rattle.std.specs.Prelude.{IfSome}
 use Rattle.std.proofs.lemmas.Bool.{cases_eq}
-use Rattle.std.proofs.lemmas.Option.{same_Some}
-use Rattle.tp_decode.specs.declared.instr.Instr.{Instr}
 use Rattle.tp_decode.specs.declared.placed.Placed.{Placed}
-use Rattle.tp_decode.specs.Cutting.{Cut, cut_at}
+use Rattle.tp_decode.specs.Cutting.{Cut}
 use Rattle.tp_flow.specs.declared.edge.Edge.{Edge}
 use Rattle.tp_image.specs.Image.{ImageValue}
 use Rattle.tp_state.specs.declared.state.State.{State}
@@ -13,240 +11,243 @@ use Rattle.tp_state.specs.declared.fault.StateFault.{StateFault}
 use Rattle.tp_state.specs.Answer.{◌>>=◌}
 use Rattle.tp_state.specs.Conditions.{IsPlaced}
 use Rattle.tp_state.specs.Order.{IsBelow}
-use Rattle.tp_state.proofs.StateOrder.{is_below-self}
 use Rattle.tp_check.specs.declared.passes.Passes.{Passes}
 use Rattle.tp_check.specs.Tables.{Table, table_of, asked}
-use Rattle.tp_check.specs.Passes.{edges_from, edges_of}
-use Rattle.tp_check.specs.Carried.{target_of, over, go_over}
-use Rattle.tp_check.specs.UnderWay.{is_in, AreJoins, Settles, IsTaken, TakenAt, WasTaken, WasTakenAt, marks, flags, HasCome, IsBegun, IsUnderWay, IsBefore, IsReady, IsAmidst, StandsIn, Carries, IsStarted}
+use Rattle.tp_check.specs.Passes.{edges_of, edges_in}
+use Rattle.tp_check.specs.Carried.{target_of, over, go_over, IsAmong}
+use Rattle.tp_check.specs.UnderWay.{is_in, AreJoins, AreLeft, IsDone, IsPropagated, WasTaken, waits, repeats, Waits, KeepsWhole, IsUnderWay, IsBefore, StandsIn, Carries, IsStarted}
 use Rattle.tp_check.proofs.Entering.{enters_below, same_there}
+use Rattle.tp_check.proofs.Nests.{ways_at}
 use Rattle.tp_check.proofs.Settling.{over_none, over_nowhere, over_joined, over_alone}
-use Rattle.tp_check.proofs.Stepping.{not_both, and_false}
+use Rattle.tp_check.proofs.Waiting.{waiting, marked_waits, repeating, taken_repeats, carried_repeats}
 
--- ---- edges after edges
+-- ---- edges that change nothing
 
-pub over_one : (image : ImageValue) (joins : ℕ → Bool) (e : Placed × Edge) (more : List (Placed × Edge)) (table : Table) → over image joins (e ∷ more) table ≡ (over image joins (e ∷ []) table >>= over image joins more)
-over_one image joins e more table = in_turn (go_over image joins e (table e.0.at) table)
+pub over_one : (image : ImageValue) (is_join : ℕ → Bool) (e : Placed × Edge) (more : List (Placed × Edge)) (table : Table) → over image is_join (e ∷ more) table ≡ (over image is_join (e ∷ []) table >>= over image is_join more)
+over_one image is_join e more table = in_turn (go_over image is_join e (table e.0.at) table)
   where
-    in_turn : (r : Result Table StateFault) → (r >>= over image joins more) ≡ ((r >>= over image joins []) >>= over image joins more)
+    in_turn : (r : Result Table StateFault) → (r >>= over image is_join more) ≡ ((r >>= over image is_join []) >>= over image is_join more)
     in_turn (Ok t) = refl
     in_turn (Err f) = refl
 
+module _ (image : ImageValue) (is_join : ℕ → Bool) (table : Table) where
+  -- an edge that is done changes nothing
+  pub edge_stays : (p : Placed) (edge : Edge) → IsDone image is_join table (p, edge) → over image is_join ((p, edge) ∷ []) table ≡ Ok table
+  edge_stays p edge done = by_state (table p.at) refl
+    where
+      by_join : (s : State) (here : table p.at ≡ Some s) (r : IsPropagated image is_join table (p, edge) s) (to : ℕ) → target_of image (p, edge) ≡ Some to → (b : Bool) → is_join to ≡ b → over image is_join ((p, edge) ∷ []) table ≡ Ok table
+      by_join s here r to leads true e = over_joined image is_join p edge table s here r.outcome r.goes_on to leads e ∙ enters_below table to r.outcome ((r.comes to leads).joined e)
+      by_join s here r to leads false e = over_alone image is_join p edge table s here r.outcome r.goes_on to leads e ∙ ap Ok (same_there table to r.outcome ((r.comes to leads).alone e))
+
+      by_target : (s : State) (here : table p.at ≡ Some s) (r : IsPropagated image is_join table (p, edge) s) (o : Option ℕ) → target_of image (p, edge) ≡ o → over image is_join ((p, edge) ∷ []) table ≡ Ok table
+      by_target s here r None leads = over_nowhere image is_join p edge table s here r.outcome r.goes_on leads
+      by_target s here r (Some to) leads = by_join s here r to leads (is_join to) refl
+
+      by_state : (o : Option State) → table p.at ≡ o → over image is_join ((p, edge) ∷ []) table ≡ Ok table
+      by_state None e = over_none image is_join p edge table e
+      by_state (Some s) e = by_target s e (done s e) (target_of image (p, edge)) refl
+
+  pub edges_stay : (es : List (Placed × Edge)) → ((e : Placed × Edge) → IsAmong es e → IsDone image is_join table e) → over image is_join es table ≡ Ok table
+  edges_stay [] done = refl
+  edges_stay (e ∷ es) done =
+      over_one image is_join e es table ∙ ap (λ r. r >>= over image is_join es) (edge_stays e.0 e.1 (done e (0, refl))) ∙ edges_stay es (λ f among. done f (suc among.0, among.1))
+
 -- ---- the turn begins
 
-no_flag : (joins : ℕ → Bool) (p : Passes) (at x : ℕ) → x ≢ at → flags joins p x ≡ false → marks joins p at x ≡ false
-no_flag joins p at x other is = by_join (joins x) refl
-  where
-    by_join : (b : Bool) → joins x ≡ b → marks joins p at x ≡ false
-    by_join true e = ap (λ c. if c then is_in p.changed.items x else (x == at) && p.is_carried) e ∙ sym (ap (λ c. if c then is_in p.changed.items x else false) e) ∙ is
-    by_join false e = ap (λ c. if c then is_in p.changed.items x else (x == at) && p.is_carried) e ∙ not_both x at p.is_carried other
+-- before an instruction whose state, if it is to be taken, is carried now
+pub record IsReady (image : ImageValue) (is_join : ℕ → Bool) (old mid : Passes) (at : ℕ) (whole : Table) : Type 0 where
+  pub keeps : KeepsWhole image is_join mid whole
+  pub here : mid.is_carried ≡ true → whole at ≡ Some mid.carried
+  pub marks : (x : ℕ) → x ≢ at → is_in mid.changed.items x ≡ is_in old.changed.items x
+  pub takes : (x : ℕ) → x ≢ at → is_in mid.taken.items x ≡ is_in old.taken.items x
+  pub again : mid.is_carried ≡ true → mid.is_again ≡ true → repeats is_join old at at ≡ true
+  pub quiet : mid.is_carried ≡ false → waits is_join old at at ≡ true → whole at ≡ None
+  pub rests : mid.is_carried ≡ false → mid.taken.items ≡ old.taken.items
 
-module _ (image : ImageValue) (cuts : List Cut) (joins : ℕ → Bool) (old mid : Passes) (at : ℕ) (whole : Table) (before : IsBefore image cuts joins old at whole) (inside : at < length old.states.items) where
-  ready_joined : joins at ≡ true → IsStarted at old mid → IsReady image cuts joins mid at whole
+module _ (image : ImageValue) (cuts : List Cut) (is_join : ℕ → Bool) (old mid : Passes) (at : ℕ) (whole : Table) (before : IsBefore image cuts is_join old at whole) (inside : at < length old.states.items) where
+  ready_joined : is_join at ≡ true → IsStarted at old mid → IsReady image is_join old mid at whole
   ready_joined is st = record {
-    way = record {
-      flags = ap length st.changed ∙ length-set old.changed.items at false ∙ before.way.flags ∙ ap length (sym st.states);
-      takes = long mid.is_carried refl ∙ before.way.takes ∙ ap length (sym st.states);
+    keeps = record {
+      flags = ap length st.changed ∙ length-set old.changed.items at false ∙ before.way.keeps.flags ∙ ap length (sym st.states);
+      takes = long mid.is_carried refl ∙ before.way.keeps.takes ∙ ap length (sym st.states);
       carried = by_flag mid.is_carried refl;
-      states = λ x sure. before.way.states x sure ∙ ap (λ states. table_of states x) (sym st.states);
-      grown = before.way.grown;
-      sound = before.way.sound;
+      states = λ x sure. before.way.keeps.states x sure ∙ ap (λ items. table_of items x) (sym st.states);
+      grown = before.way.keeps.grown;
+      sound = before.way.keeps.sound;
     };
     here = here;
-    others = λ x cut other stands k d lt mark. before.taken x cut stands k d lt (by_join x other (joins x) refl mark);
-    own = λ rests cut stands k d lt s stood. at_own (st.no rests).1 cut stands k d lt s stood;
-    quiet = λ _ on. ap (λ items. is_in items at) st.changed ∙ get_or-set_same old.changed.items at false false (omega (arith, inside, before.way.flags));
-    again = λ on sure cut stands. before.early at cut is (sym (st.again on) ∙ sure) stands;
-    early = λ x cut allows joined on stands. before.early x cut joined (was_taken x allows mid.is_carried refl ∙ on) stands;
+    marks = λ x other. ap (λ items. is_in items x) st.changed ∙ get_or-set_other old.changed.items at x false false other;
+    takes = λ x other. was_taken x other mid.is_carried refl;
+    again = λ on sure. taken_repeats is_join old at at is (sym (st.again on) ∙ sure);
+    quiet = λ rests on. by_reason on (st.no rests).1;
+    rests = st.rests;
   }
     where
       long : (b : Bool) → mid.is_carried ≡ b → length mid.taken.items ≡ length old.taken.items
       long true e = ap length (st.takes e) ∙ length-set old.taken.items at true
       long false e = ap length (st.rests e)
 
-      was_taken : (x : ℕ) → (x ≡ at → mid.is_carried ≡ false) → (b : Bool) → mid.is_carried ≡ b → is_in old.taken.items x ≡ is_in mid.taken.items x
-      was_taken x allows true e = sym (ap (λ items. is_in items x) (st.takes e) ∙ get_or-set_other old.taken.items at x true false (λ same. absurd (let no : true ≡ false = sym e ∙ allows same in cc)))
-      was_taken x allows false e = sym (ap (λ items. is_in items x) (st.rests e))
+      was_taken : (x : ℕ) → x ≢ at → (b : Bool) → mid.is_carried ≡ b → is_in mid.taken.items x ≡ is_in old.taken.items x
+      was_taken x other true e = ap (λ items. is_in items x) (st.takes e) ∙ get_or-set_other old.taken.items at x true false other
+      was_taken x other false e = ap (λ items. is_in items x) (st.rests e)
 
       here : mid.is_carried ≡ true → whole at ≡ Some mid.carried
-      here on = before.way.states at is ∙ st.yes on
+      here on = before.way.keeps.states at is ∙ st.yes on
 
       by_flag : (b : Bool) → mid.is_carried ≡ b → IsPlaced image mid.carried
-      by_flag true e = (before.way.grown.states at mid.carried (here e)).placed
-      by_flag false e = rw (st.no e).0 before.way.carried
+      by_flag true e = (before.way.keeps.grown.states at mid.carried (here e)).placed
+      by_flag false e = rw (st.no e).0 before.way.keeps.carried
 
-      by_join : (x : ℕ) → x ≢ at → (b : Bool) → joins x ≡ b → flags joins mid x ≡ false → marks joins old at x ≡ false
-      by_join x other true e mark =
-          ap (λ c. if c then is_in old.changed.items x else (x == at) && old.is_carried) e ∙ sym (get_or-set_other old.changed.items at x false false other) ∙ sym (ap (λ items. is_in items x) st.changed)
-          ∙ sym (ap (λ c. if c then is_in mid.changed.items x else false) e) ∙ mark
-      by_join x other false e mark = ap (λ c. if c then is_in old.changed.items x else (x == at) && old.is_carried) e ∙ not_both x at old.is_carried other
+      by_waits : is_in old.changed.items at ≡ false → ((is_join at ≡ true) × (is_in old.changed.items at ≡ true)) ⊎ ((is_join at ≡ false) × (at ≡ at) × (old.is_carried ≡ true)) → whole at ≡ None
+      by_waits off (inl (joins, on)) = absurd (let no : true ≡ false = sym on ∙ off in cc)
+      by_waits off (inr (alone, same, on)) = absurd (let no : true ≡ false = sym is ∙ alone in cc)
 
-      at_own : (is_in old.changed.items at ≡ false) ⊎ (table_of old.states.items at ≡ None) → (cut : Cut) → cut_at cuts at ≡ Some cut → (k : ℕ) (d : Edge) → k < length (asked cut.instr) → (s : State) → whole at ≡ Some s
-          → Settles image joins whole at (at + length cut.bytes) cut.instr s (slice_index_or (asked cut.instr) k d)
-      at_own (inl rests) cut stands k d lt s stood = before.taken at cut stands k d lt (ap (λ c. if c then is_in old.changed.items at else (at == at) && old.is_carried) is ∙ rests) s stood
-      at_own (inr none) cut stands k d lt s stood = absurd (let no : None ≡ Some s = sym none ∙ sym (before.way.states at is) ∙ stood in cc)
+      by_reason : waits is_join old at at ≡ true → (is_in old.changed.items at ≡ false) ⊎ (table_of old.states.items at ≡ None) → whole at ≡ None
+      by_reason on (inl off) = by_waits off (waiting is_join old at at on)
+      by_reason on (inr none) = before.way.keeps.states at is ∙ none
 
-  ready_alone : joins at ≡ false → IsReady image cuts joins old at whole
+  ready_alone : is_join at ≡ false → IsReady image is_join old old at whole
   ready_alone alone = record {
-    way = before.way;
+    keeps = before.way.keeps;
     here = λ sure. (before.here sure).alone alone;
-    others = λ x cut other stands k d lt mark. before.taken x cut stands k d lt (no_flag joins old at x other mark);
-    own = λ rests cut stands k d lt. before.taken at cut stands k d lt (ap (λ c. if c then is_in old.changed.items at else (at == at) && old.is_carried) alone ∙ and_false (at == at) old.is_carried rests);
-    quiet = λ is. absurd (let no : true ≡ false = sym is ∙ alone in cc);
-    again = before.again alone;
-    early = λ x cut allows. before.early x cut;
+    marks = λ x _. refl;
+    takes = λ x _. refl;
+    again = λ on sure. carried_repeats is_join old at at alone refl on sure;
+    quiet = λ rests on. by_waits rests (waiting is_join old at at on);
+    rests = λ _. refl;
   }
-
-  pub ready : (joins at ≡ true → IsStarted at old mid) → (joins at ≡ false → mid ≡ old) → IsReady image cuts joins mid at whole
-  ready started other = by_join (joins at) refl
     where
-      by_join : (b : Bool) → joins at ≡ b → IsReady image cuts joins mid at whole
+      by_waits : old.is_carried ≡ false → ((is_join at ≡ true) × (is_in old.changed.items at ≡ true)) ⊎ ((is_join at ≡ false) × (at ≡ at) × (old.is_carried ≡ true)) → whole at ≡ None
+      by_waits rests (inl (joins, on)) = absurd (let no : true ≡ false = sym joins ∙ alone in cc)
+      by_waits rests (inr (also, same, on)) = absurd (let no : true ≡ false = sym on ∙ rests in cc)
+
+  pub ready : (is_join at ≡ true → IsStarted at old mid) → (is_join at ≡ false → mid ≡ old) → IsReady image is_join old mid at whole
+  ready started other = by_join (is_join at) refl
+    where
+      by_join : (b : Bool) → is_join at ≡ b → IsReady image is_join old mid at whole
       by_join true e = ready_joined e (started e)
-      by_join false e = subst (λ p. IsReady image cuts joins p at whole) (sym (other e)) (ready_alone e)
+      by_join false e = subst (λ p. IsReady image is_join old p at whole) (sym (other e)) (ready_alone e)
 
 -- a state that is carried to where edges join is below the one that is kept there
-pub rises_to : (image : ImageValue) (cuts : List Cut) (joins : ℕ → Bool) (p : Passes) (at : ℕ) (whole : Table) → IsBefore image cuts joins p at whole → joins at ≡ true → p.is_carried ≡ true → IfSome (table_of p.states.items at) (IsBelow p.carried)
-rises_to image cuts joins p at whole before is on =
+pub rises_to : (image : ImageValue) (cuts : List Cut) (is_join : ℕ → Bool) (p : Passes) (at : ℕ) (whole : Table) → IsBefore image cuts is_join p at whole → is_join at ≡ true → p.is_carried ≡ true → IfSome (table_of p.states.items at) (IsBelow p.carried)
+rises_to image cuts is_join p at whole before is on =
     let above = (before.here on).joined is in
-    subst (λ o. IfSome o (IsBelow p.carried)) (sym above.there ∙ before.way.states at is) above.below
+    subst (λ o. IfSome o (IsBelow p.carried)) (sym above.there ∙ before.way.keeps.states at is) above.below
 
--- what a state that is kept and the one that is carried have as many words of
-pub as_long : (image : ImageValue) (joins : ℕ → Bool) (p : Passes) (whole : Table) → IsUnderWay image joins p whole → (at : ℕ) → joins at ≡ true → IfSome (table_of p.states.items at) (λ s. length s.cells ≡ length p.carried.cells)
-as_long image joins p whole way at is = by_state (table_of p.states.items at) refl
+-- a state that is kept has as many words as the one that is carried
+pub as_long : (image : ImageValue) (is_join : ℕ → Bool) (p : Passes) (whole : Table) → KeepsWhole image is_join p whole → (at : ℕ) → is_join at ≡ true → IfSome (table_of p.states.items at) (λ s. length s.cells ≡ length p.carried.cells)
+as_long image is_join p whole keeps at is = by_state (table_of p.states.items at) refl
   where
     by_state : (o : Option State) → table_of p.states.items at ≡ o → IfSome o (λ s. length s.cells ≡ length p.carried.cells)
     by_state None e = search rules
-    by_state (Some s) e = (way.grown.states at s (way.states at is ∙ e)).placed.sized ∙ sym way.carried.sized
+    by_state (Some s) e = (keeps.grown.states at s (keeps.states at is ∙ e)).placed.sized ∙ sym keeps.carried.sized
 
--- ---- nothing is carried
+module _ (image : ImageValue) (cuts : List Cut) (is_join : ℕ → Bool) (old mid : Passes) (place : Placed) (stands : StandsIn cuts place) (whole : Table) (before : IsBefore image cuts is_join old place.at whole) (now : IsReady image is_join old mid place.at whole) where
+  source : (e : Placed × Edge) → IsAmong (edges_of place) e → e.0.at ≡ place.at
+  source e among = ap (λ (p : Placed). p.at) (ways_at place (asked place.instr) e among)
 
-module _ (image : ImageValue) (joins : ℕ → Bool) (p : Placed) (table : Table) where
-  -- an edge that has settled changes nothing
-  pub edge_stays : (edge : Edge) → ((s : State) → table p.at ≡ Some s → Settles image joins table p.at p.next p.instr s edge) → over image joins ((p, edge) ∷ []) table ≡ Ok table
-  edge_stays edge each = by_state (table p.at) refl
+  none_left : (e : Placed × Edge) → IsAmong [] e → ⊥
+  none_left e (i, is) = cc
+
+  was : (e : Placed × Edge) → IsAmong (edges_in cuts) e → repeats is_join old place.at e.0.at ≡ true → WasTaken image is_join whole e
+  was e among is = by_old (before.way.again e among is)
     where
-      by_join : (s : State) (here : table p.at ≡ Some s) (r : Settles image joins table p.at p.next p.instr s edge) (to : ℕ) → target_of image (p, edge) ≡ Some to → (b : Bool) → joins to ≡ b → over image joins ((p, edge) ∷ []) table ≡ Ok table
-      by_join s here r to leads true e = over_joined image joins p edge table s here r.outcome r.goes_on to leads e ∙ enters_below table to r.outcome (r.meets to leads e)
-      by_join s here r to leads false e = over_alone image joins p edge table s here r.outcome r.goes_on to leads e ∙ ap Ok (same_there table to r.outcome (r.sets to leads e))
+      by_old : IsAmong [] e ⊎ WasTaken image is_join whole e → WasTaken image is_join whole e
+      by_old (inl left) = absurd (none_left e left)
+      by_old (inr taken) = taken
 
-      by_target : (s : State) (here : table p.at ≡ Some s) (r : Settles image joins table p.at p.next p.instr s edge) (o : Option ℕ) → target_of image (p, edge) ≡ o → over image joins ((p, edge) ∷ []) table ≡ Ok table
-      by_target s here r None leads = over_nowhere image joins p edge table s here r.outcome r.goes_on leads
-      by_target s here r (Some to) leads = by_join s here r to leads (joins to) refl
+  -- ---- nothing is carried
 
-      by_state : (o : Option State) → table p.at ≡ o → over image joins ((p, edge) ∷ []) table ≡ Ok table
-      by_state None e = over_none image joins p edge table e
-      by_state (Some s) e = by_target s e (each s e) (target_of image (p, edge)) refl
+  module _ (rests : mid.is_carried ≡ false) where
+    -- an edge still waits, at another address, or is done
+    still : (e : Placed × Edge) → IsAmong (edges_in cuts) e → ((e.0.at ≢ place.at) × (is_join e.0.at ≡ true) × (is_in mid.changed.items e.0.at ≡ true)) ⊎ IsDone image is_join whole e
+    still e among = by_old (before.way.each e among)
+      where
+        nothing : e.0.at ≡ place.at → waits is_join old place.at e.0.at ≡ true → IsDone image is_join whole e
+        nothing same on s there =
+            let none : whole e.0.at ≡ None = ap whole same ∙ now.quiet rests (sym (ap (waits is_join old place.at) same) ∙ on) in
+            absurd (let no : None ≡ Some s = sym none ∙ there in cc)
 
-  pub ways_stay : (ways : List Edge) → ((k : ℕ) (d : Edge) → k < length ways → over image joins ((p, slice_index_or ways k d) ∷ []) table ≡ Ok table) → over image joins (edges_from p ways) table ≡ Ok table
-  ways_stay [] each = refl
-  ways_stay (w ∷ ways) each =
-      over_one image joins (p, w) (edges_from p ways) table ∙ ap (λ r. r >>= over image joins (edges_from p ways)) (each 0 w (omega arith)) ∙ ways_stay ways (λ k d lt. each (suc k) d (omega (arith, lt)))
+        by_case : e.0.at ≢ place.at → ((is_join e.0.at ≡ true) × (is_in old.changed.items e.0.at ≡ true)) ⊎ ((is_join e.0.at ≡ false) × (e.0.at ≡ place.at) × (old.is_carried ≡ true))
+            → ((e.0.at ≢ place.at) × (is_join e.0.at ≡ true) × (is_in mid.changed.items e.0.at ≡ true)) ⊎ IsDone image is_join whole e
+        by_case other (inl (joins, on)) = inl (other, joins, now.marks e.0.at other ∙ on)
+        by_case other (inr (alone, same, on)) = absurd (other same)
 
-module _ (image : ImageValue) (cuts : List Cut) (joins : ℕ → Bool) (mid : Passes) (place : Placed) (stands : StandsIn cuts place) (whole : Table) (now : IsReady image cuts joins mid place.at whole) where
-  -- in its place, of an instruction that is there
-  here_is : (P : ℕ → Cut → Type 0) → ((cut : Cut) → cut_at cuts place.at ≡ Some cut → P place.at cut) → (x : ℕ) (cut : Cut) → x ≡ place.at → cut_at cuts x ≡ Some cut → P x cut
-  here_is P go x cut same there = subst (λ y. P y cut) (sym same) (go cut (sym (ap (cut_at cuts) same) ∙ there))
+        by_place : waits is_join old place.at e.0.at ≡ true → (e.0.at ≡ place.at) ⊎ (e.0.at ≡ place.at → ⊥) → ((e.0.at ≢ place.at) × (is_join e.0.at ≡ true) × (is_in mid.changed.items e.0.at ≡ true)) ⊎ IsDone image is_join whole e
+        by_place on (inl same) = inr (nothing same on)
+        by_place on (inr other) = by_case other (waiting is_join old place.at e.0.at on)
 
-  own_quiet : mid.is_carried ≡ false → (k : ℕ) (d : Edge) → k < length (asked place.instr) → (s : State) → whole place.at ≡ Some s → Settles image joins whole place.at place.next place.instr s (slice_index_or (asked place.instr) k d)
-  own_quiet rests = rw (stands.next, stands.instr) (λ k d lt s is. now.own rests stands.cut stands.there k d lt s is)
+        by_old : Waits is_join old [] place.at e ⊎ IsDone image is_join whole e → ((e.0.at ≢ place.at) × (is_join e.0.at ≡ true) × (is_in mid.changed.items e.0.at ≡ true)) ⊎ IsDone image is_join whole e
+        by_old (inl (inl left)) = absurd (none_left e left)
+        by_old (inl (inr on)) = by_place on (cases_eq e.0.at place.at)
+        by_old (inr done) = inr done
 
-  pub waits : mid.is_carried ≡ false → Carries {X = Bool} (Ok false) (over image joins (edges_of place) whole) (IsBefore image cuts joins mid place.next)
-  waits rests = (
-    whole,
-    ways_stay image joins place whole (asked place.instr) (λ k d lt. edge_stays image joins place whole (slice_index_or (asked place.instr) k d) (own_quiet rests k d lt)),
-    record {
-      way = now.way;
-      here = λ sure. absurd (let no : false ≡ true = sym rests ∙ sure in cc);
-      taken = λ x cut there. at_place x cut there (cases_eq x place.at);
-      again = λ _ sure. absurd (let no : false ≡ true = sym rests ∙ sure in cc);
-      early = λ x cut. now.early x cut (λ _. rests);
-    },
-  )
-    where
-      quiet : (x : ℕ) → marks joins mid place.next x ≡ false → flags joins mid x ≡ false
-      quiet x is = by_join (joins x) refl
-        where
-          by_join : (b : Bool) → joins x ≡ b → flags joins mid x ≡ false
-          by_join true e = ap (λ c. if c then is_in mid.changed.items x else false) e ∙ sym (ap (λ c. if c then is_in mid.changed.items x else (x == place.next) && mid.is_carried) e) ∙ is
-          by_join false e = ap (λ c. if c then is_in mid.changed.items x else false) e
+    own_done : (e : Placed × Edge) → IsAmong (edges_of place) e → e.0.at ≡ place.at → IsDone image is_join whole e
+    own_done e among same = by_case (still e (stands.all e among))
+      where
+        by_case : ((e.0.at ≢ place.at) × (is_join e.0.at ≡ true) × (is_in mid.changed.items e.0.at ≡ true)) ⊎ IsDone image is_join whole e → IsDone image is_join whole e
+        by_case (inl (other, joins, on)) = absurd (other same)
+        by_case (inr done) = done
 
-      at_place : (x : ℕ) (cut : Cut) → cut_at cuts x ≡ Some cut → (x ≡ place.at) ⊎ (x ≡ place.at → ⊥) → TakenAt image joins (marks joins mid place.next) whole x cut
-      at_place x cut there (inl same) = here_is (λ y c. TakenAt image joins (marks joins mid place.next) whole y c) (λ c is k d lt m s stood. now.own rests c is k d lt s stood) x cut same there
-      at_place x cut there (inr other) = λ k d lt m. now.others x cut other there k d lt (quiet x m)
+    pub passed_by : Carries {X = Bool} (Ok false) (over image is_join (edges_of place) whole) (IsBefore image cuts is_join mid place.next)
+    passed_by = (
+      whole,
+      edges_stay image is_join whole (edges_of place) (λ e among. own_done e among (source e among)),
+      record {
+        way = record {
+          keeps = now.keeps;
+          each = λ e among. each e (still e among);
+          again = λ e among is. inr (was e among (by_case e (repeating is_join mid place.next e.0.at is)));
+          left_again = λ _ e left. absurd (none_left e left);
+        };
+        here = λ sure. absurd (let no : false ≡ true = sym rests ∙ sure in cc);
+      },
+    )
+      where
+        each : (e : Placed × Edge) → ((e.0.at ≢ place.at) × (is_join e.0.at ≡ true) × (is_in mid.changed.items e.0.at ≡ true)) ⊎ IsDone image is_join whole e → Waits is_join mid [] place.next e ⊎ IsDone image is_join whole e
+        each e (inl (other, joins, on)) = inl (inr (marked_waits is_join mid place.next e.0.at joins on))
+        each e (inr done) = inr done
+
+        by_case : (e : Placed × Edge) → ((is_join e.0.at ≡ true) × (is_in mid.taken.items e.0.at ≡ true)) ⊎ ((is_join e.0.at ≡ false) × (e.0.at ≡ place.next) × (mid.is_carried ≡ true) × (mid.is_again ≡ true)) → repeats is_join old place.at e.0.at ≡ true
+        by_case e (inl (joins, taken)) = taken_repeats is_join old place.at e.0.at joins (sym (ap (λ items. is_in items e.0.at) (now.rests rests)) ∙ taken)
+        by_case e (inr (alone, same, on, again)) = absurd (let no : true ≡ false = sym on ∙ rests in cc)
 
   -- ---- a state is carried
 
-  pub begun : (new : Passes) → new.states.items ≡ mid.states.items → new.changed.items ≡ mid.changed.items → new.carried ≡ mid.carried → new.taken.items ≡ mid.taken.items → new.is_again ≡ mid.is_again → new.is_carried ≡ false → mid.is_carried ≡ true → IsAmidst image cuts joins new place 0 whole
-  begun new slots changed carried takes is_again rests on = record {
-    way = record {
-      flags = ap length changed ∙ now.way.flags ∙ ap length (sym slots);
-      takes = ap length takes ∙ now.way.takes ∙ ap length (sym slots);
-      carried = rw carried now.way.carried;
-      states = λ x is. now.way.states x is ∙ ap (λ states. table_of states x) (sym slots);
-      grown = now.way.grown;
-      sound = now.way.sound;
-    };
-    others = λ x cut other there k d lt m. now.others x cut other there k d lt (quiet x (joins x) refl m);
-    own = λ k d lt. absurd (omega (arith, lt));
-    stands = (mid.carried, now.here on);
-    quiet = λ is. ap (λ items. is_in items place.at) changed ∙ now.quiet is on;
-    again = λ sure. own_again (sym is_again ∙ sure);
-    ahead = λ _ sure. absurd (let no : false ≡ true = sym rests ∙ sure in cc);
-    early = λ x cut other is sure. now.early x cut (λ same. absurd (other same)) is (sym (ap (λ items. is_in items x) takes) ∙ sure);
-  }
-    where
-      own_again : mid.is_again ≡ true → WasTaken image joins whole place.at place.next place.instr 0
-      own_again sure = rw (stands.next, stands.instr) (now.again on sure stands.cut stands.there)
-
-      quiet : (x : ℕ) (b : Bool) → joins x ≡ b → marks joins new place.next x ≡ false → flags joins mid x ≡ false
-      quiet x true e m = ap (λ c. if c then is_in mid.changed.items x else false) e ∙ sym (ap (λ items. is_in items x) changed) ∙ sym (ap (λ c. if c then is_in new.changed.items x else (x == place.next) && new.is_carried) e) ∙ m
-      quiet x false e m = ap (λ c. if c then is_in mid.changed.items x else false) e
-
-  abbrev pub begins : (new : Passes) → new.states.items ≡ mid.states.items → new.changed.items ≡ mid.changed.items → new.carried ≡ mid.carried → new.taken.items ≡ mid.taken.items → new.is_again ≡ mid.is_again → new.is_carried ≡ false → mid.is_carried ≡ true → AreJoins image cuts joins → IsBegun image joins new place
-  begins new slots changed carried takes is_again rests on join = record {
-    amid = record { cuts = cuts; number = stands.number; stands = stands.is; join = join; whole = whole; amidst = begun new slots changed carried takes is_again rests on };
-    here = now.here on ∙ ap Some (sym carried);
-    rests = rests;
-  }
-
--- ---- the turn ends
-
-in_place : (P : ℕ → Instr → Type 0) (next other : ℕ) (instr also : Instr) → next ≡ other → instr ≡ also → P next instr → P other also
-in_place P next other instr also same too holds = subst (P other) too (subst (λ n. P n instr) same holds)
-
-pub turned : (image : ImageValue) (cuts : List Cut) (joins : ℕ → Bool) (last : Passes) (place : Placed) (stands : StandsIn cuts place) (whole : Table) → IsAmidst image cuts joins last place (length (asked place.instr)) whole
-    → (last.is_carried ≡ true → HasCome joins whole place.next last.carried) → IsBefore image cuts joins last place.next whole
-turned image cuts joins last place stands whole now comes = record {
-  way = now.way;
-  here = comes;
-  taken = λ x cut there. at_place x cut there (cases_eq x place.at);
-  again = now.ahead;
-  early = λ x cut is on there. early_at x cut is on there (cases_eq x place.at);
-}
-  where
-    own_early : joins place.at ≡ true → WasTaken image joins whole place.at place.next place.instr 0
-    own_early is = record {
-      before = now.stands.0;
-      sound = now.way.sound place.at now.stands.0 now.stands.1;
-      above = record { state = now.stands.0; there = now.stands.1; below = is_below-self now.stands.0 };
-      each = λ k d le lt. now.own k d lt (ap (λ c. if c then is_in last.changed.items place.at else (place.at == place.next) && last.is_carried) is ∙ now.quiet is) now.stands.0 now.stands.1;
+  module _ (new : Passes) (states : new.states.items ≡ mid.states.items) (changed : new.changed.items ≡ mid.changed.items) (carried : new.carried ≡ mid.carried) (takes : new.taken.items ≡ mid.taken.items) (is_again : new.is_again ≡ mid.is_again) (rests : new.is_carried ≡ false) (on : mid.is_carried ≡ true) where
+    pub begun : IsUnderWay image cuts is_join new (edges_of place) place.next whole
+    begun = record {
+      keeps = record {
+        flags = ap length changed ∙ now.keeps.flags ∙ ap length (sym states);
+        takes = ap length takes ∙ now.keeps.takes ∙ ap length (sym states);
+        carried = rw carried now.keeps.carried;
+        states = λ x is. now.keeps.states x is ∙ ap (λ items. table_of items x) (sym states);
+        grown = now.keeps.grown;
+        sound = now.keeps.sound;
+      };
+      each = λ e among. by_old e among (before.way.each e among);
+      again = λ e among is. by_repeat e among (cases_eq e.0.at place.at) (repeating is_join new place.next e.0.at is);
+      left_again = λ sure e among. was e (stands.all e among) (ap (repeats is_join old place.at) (source e among) ∙ now.again on (sym is_again ∙ sure));
     }
+      where
+        by_case : (e : Placed × Edge) → IsAmong (edges_in cuts) e → e.0.at ≢ place.at → ((is_join e.0.at ≡ true) × (is_in old.changed.items e.0.at ≡ true)) ⊎ ((is_join e.0.at ≡ false) × (e.0.at ≡ place.at) × (old.is_carried ≡ true)) → Waits is_join new (edges_of place) place.next e
+        by_case e among other (inl (joins, on_flag)) = inr (marked_waits is_join new place.next e.0.at joins (ap (λ items. is_in items e.0.at) changed ∙ now.marks e.0.at other ∙ on_flag))
+        by_case e among other (inr (alone, same, carried)) = absurd (other same)
 
-    early_at : (x : ℕ) (cut : Cut) → joins x ≡ true → is_in last.taken.items x ≡ true → cut_at cuts x ≡ Some cut → (x ≡ place.at) ⊎ (x ≡ place.at → ⊥) → WasTakenAt image joins whole x cut
-    early_at x cut is on there (inl same) =
-        subst (λ y. WasTakenAt image joins whole y cut) (sym same)
-        (subst (λ c. WasTakenAt image joins whole place.at c) (same_Some stands.cut cut (sym stands.there ∙ sym (ap (cut_at cuts) same) ∙ there))
-        (in_place (λ next instr. WasTaken image joins whole place.at next instr 0) place.next (place.at + length stands.cut.bytes) place.instr stands.cut.instr stands.next stands.instr (own_early (sym (ap joins same) ∙ is))))
-    early_at x cut is on there (inr other) = now.early x cut other is on there
+        by_place : (e : Placed × Edge) → IsAmong (edges_in cuts) e → waits is_join old place.at e.0.at ≡ true → (e.0.at ≡ place.at) ⊎ (e.0.at ≡ place.at → ⊥) → Waits is_join new (edges_of place) place.next e
+        by_place e among is (inl same) = inl (stands.only e among same)
+        by_place e among is (inr other) = by_case e among other (waiting is_join old place.at e.0.at is)
 
-    now_own : (k : ℕ) (d : Edge) → k < length (asked place.instr) → IsTaken image joins (marks joins last place.next) whole place.at place.next place.instr (slice_index_or (asked place.instr) k d)
-    now_own k d lt m = now.own k d lt m
+        by_old : (e : Placed × Edge) → IsAmong (edges_in cuts) e → Waits is_join old [] place.at e ⊎ IsDone image is_join whole e → Waits is_join new (edges_of place) place.next e ⊎ IsDone image is_join whole e
+        by_old e among (inl (inl left)) = absurd (none_left e left)
+        by_old e among (inl (inr is)) = inl (by_place e among is (cases_eq e.0.at place.at))
+        by_old e among (inr done) = inr done
 
-    own : (cut : Cut) → cut_at cuts place.at ≡ Some cut → TakenAt image joins (marks joins last place.next) whole place.at cut
-    own cut there =
-        subst (λ c. TakenAt image joins (marks joins last place.next) whole place.at c) (same_Some stands.cut cut (sym stands.there ∙ there))
-        (in_place (λ next instr. (k : ℕ) (d : Edge) → k < length (asked instr) → IsTaken image joins (marks joins last place.next) whole place.at next instr (slice_index_or (asked instr) k d)) place.next (place.at + length stands.cut.bytes) place.instr stands.cut.instr stands.next stands.instr now_own)
+        by_repeat : (e : Placed × Edge) → IsAmong (edges_in cuts) e → (e.0.at ≡ place.at) ⊎ (e.0.at ≡ place.at → ⊥)
+            → ((is_join e.0.at ≡ true) × (is_in new.taken.items e.0.at ≡ true)) ⊎ ((is_join e.0.at ≡ false) × (e.0.at ≡ place.next) × (new.is_carried ≡ true) × (new.is_again ≡ true)) → IsAmong (edges_of place) e ⊎ WasTaken image is_join whole e
+        by_repeat e among (inl same) is = inl (stands.only e among same)
+        by_repeat e among (inr other) (inl (joins, taken)) = inr (was e among (taken_repeats is_join old place.at e.0.at joins (sym (now.takes e.0.at other) ∙ sym (ap (λ items. is_in items e.0.at) takes) ∙ taken)))
+        by_repeat e among (inr other) (inr (alone, same, sure, again)) = absurd (let no : true ≡ false = sym sure ∙ rests in cc)
 
-    at_place : (x : ℕ) (cut : Cut) → cut_at cuts x ≡ Some cut → (x ≡ place.at) ⊎ (x ≡ place.at → ⊥) → TakenAt image joins (marks joins last place.next) whole x cut
-    at_place x cut there (inl same) = subst (λ y. TakenAt image joins (marks joins last place.next) whole y cut) (sym same) (own cut (sym (ap (cut_at cuts) same) ∙ there))
-    at_place x cut there (inr other) = λ k d lt m. now.others x cut other there k d lt m
+    abbrev pub begins : AreJoins image cuts is_join → AreLeft image is_join new place (asked place.instr)
+    begins join = record { cuts = cuts; join = join; among = stands.all; whole = whole; way = begun; here = now.here on ∙ ap Some (sym carried) }

@@ -25,20 +25,20 @@ outcome_of image e s = with_place e.0.at (after image e.0.at e.0.next e.0.instr 
 
 -- a state comes to an address: it joins what is known there, or takes its place
 abbrev pub arrive : (ℕ → Bool) → Option ℕ → State → Table → Result Table StateFault
-arrive joins None s table = Ok table
-arrive joins (Some to) s table = if joins to then enter (Some to) s table else Ok (with_state to s table)
+arrive is_join None s table = Ok table
+arrive is_join (Some to) s table = if is_join to then enter (Some to) s table else Ok (with_state to s table)
 
 abbrev pub go_over : ImageValue → (ℕ → Bool) → Placed × Edge → Option State → Table → Result Table StateFault
-go_over image joins e None table = Ok table
-go_over image joins e (Some s) table = outcome_of image e s >>= λ t. arrive joins (target_of image e) t table
+go_over image is_join e None table = Ok table
+go_over image is_join e (Some s) table = outcome_of image e s >>= λ t. arrive is_join (target_of image e) t table
 
 abbrev pub over : ImageValue → (ℕ → Bool) → List (Placed × Edge) → Table → Result Table StateFault
-over image joins [] table = Ok table
-over image joins (e ∷ more) table = go_over image joins e (table e.0.at) table >>= over image joins more
+over image is_join [] table = Ok table
+over image is_join (e ∷ more) table = go_over image is_join e (table e.0.at) table >>= over image is_join more
 
 -- what stands where edges join, and nothing elsewhere
 abbrev pub only_joins : (ℕ → Bool) → Table → Table
-only_joins joins table at = if joins at then table at else None
+only_joins is_join table at = if is_join at then table at else None
 
 -- ---- the addresses that join
 
@@ -59,27 +59,27 @@ is_kept image cuts at = (at == 0) || is_head image at || nat_le 2 (reached image
 
 -- the addresses that join are those, or more
 abbrev pub AreWide : ImageValue → List Cut → (ℕ → Bool) → Type 0
-AreWide image cuts joins = (at : ℕ) → joins at ≡ false → is_kept image cuts at ≡ false
+AreWide image cuts is_join = (at : ℕ) → is_join at ≡ false → is_kept image cuts at ≡ false
 
 -- an edge is one of some
 abbrev pub IsAmong : List (Placed × Edge) → Placed × Edge → Type 0
 IsAmong es e = (i : ℕ) × (slice_get es i ≡ Some e)
 
 -- Among some edges, each address that does not join is the target of one at most, and no edge leads from it to itself.
-pub record IsLone (image : ImageValue) (joins : ℕ → Bool) (IsEdge : Placed × Edge → Type 0) : Type 0 where
-  pub one : (e f : Placed × Edge) (to : ℕ) → IsEdge e → IsEdge f → joins to ≡ false → target_of image e ≡ Some to
+pub record IsLone (image : ImageValue) (is_join : ℕ → Bool) (IsEdge : Placed × Edge → Type 0) : Type 0 where
+  pub one : (e f : Placed × Edge) (to : ℕ) → IsEdge e → IsEdge f → is_join to ≡ false → target_of image e ≡ Some to
       → target_of image f ≡ Some to → e ≡ f
-  pub on : (e : Placed × Edge) (to : ℕ) → IsEdge e → joins to ≡ false → target_of image e ≡ Some to → to ≢ e.0.at
+  pub on : (e : Placed × Edge) (to : ℕ) → IsEdge e → is_join to ≡ false → target_of image e ≡ Some to → to ≢ e.0.at
 
 -- ---- passes with one state carried
 
 -- a pass from what stands where edges join; it tells the whole table
 abbrev pub carried_pass : ImageValue → List Cut → (ℕ → Bool) → Table → Result Table StateFault
-carried_pass image cuts joins table = over image joins (edges_in cuts) (only_joins joins table)
+carried_pass image cuts is_join table = over image is_join (edges_in cuts) (only_joins is_join table)
 
 abbrev pub carried : ImageValue → List Cut → (ℕ → Bool) → ℕ → Result Table StateFault
-carried image cuts joins zero = Ok (first_table image)
-carried image cuts joins (suc n) = carried image cuts joins n >>= carried_pass image cuts joins
+carried image cuts is_join zero = Ok (first_table image)
+carried image cuts is_join (suc n) = carried image cuts is_join n >>= carried_pass image cuts is_join
 
 -- ---- what is kept of a table
 

@@ -5,35 +5,35 @@ use Rattle.tp_decode.specs.declared.placed.Placed.{Placed}
 use Rattle.tp_decode.specs.Cutting.{Cut}
 use Rattle.tp_flow.specs.declared.edge.Edge.{Edge}
 use Rattle.tp_image.specs.Image.{ImageValue}
-use Rattle.tp_check.specs.declared.way.Way.{Way}
-use Rattle.tp_check.specs.declared.way.Way.TheVariants as way
+use Rattle.tp_check.specs.declared.predecessors.Predecessor.{Predecessor}
+use Rattle.tp_check.specs.declared.predecessors.Predecessor.TheVariants as predecessor
 use Rattle.tp_check.specs.Passes.{edges_in}
 use Rattle.tp_check.specs.Carried.{IsAmong, target_of, leads_to, reached, is_head, is_kept}
 
-abbrev pub way_at : List Way → ℕ → Way
-way_at ways at = slice_index_or ways at way.Unreached
+abbrev pub predecessor_at : List Predecessor → ℕ → Predecessor
+predecessor_at predecessors at = slice_index_or predecessors at predecessor.Unreached
 
 -- whether a state is kept at an address while the passes are made
-abbrev pub joins : Way → Bool
-joins way.Jump = true
-joins way.Joined = true
-joins w = false
+abbrev pub is_join : Predecessor → Bool
+is_join predecessor.Jump = true
+is_join predecessor.Joined = true
+is_join w = false
 
 -- and in the table
-abbrev pub keeps : Way → Bool
-keeps way.Joined = true
-keeps w = false
+abbrev pub is_joined : Predecessor → Bool
+is_joined predecessor.Joined = true
+is_joined w = false
 
-abbrev pub joins_at : List Way → ℕ → Bool
-joins_at ways at = joins (way_at ways at)
+abbrev pub is_join_at : List Predecessor → ℕ → Bool
+is_join_at predecessors at = is_join (predecessor_at predecessors at)
 
-abbrev pub keeps_at : List Way → ℕ → Bool
-keeps_at ways at = keeps (way_at ways at)
+abbrev pub is_kept_at : List Predecessor → ℕ → Bool
+is_kept_at predecessors at = is_joined (predecessor_at predecessors at)
 
 -- one edge more leads to an address
-abbrev pub with_edge : Bool → Way → Way
-with_edge falls way.Unreached = if falls then way.Fall else way.Jump
-with_edge falls w = way.Joined
+abbrev pub with_edge : Bool → Predecessor → Predecessor
+with_edge falls predecessor.Unreached = if falls then predecessor.FallThrough else predecessor.Jump
+with_edge falls w = predecessor.Joined
 
 -- neither the first address nor a loop's head
 pub record IsInner (image : ImageValue) (at : ℕ) : Type 0 where
@@ -45,19 +45,19 @@ abbrev pub leading : ImageValue → ℕ → List (Placed × Edge) → ℕ
 leading image at es = count_by (λ e. leads_to at (target_of image e)) es
 
 -- an edge of a code by which control falls to an address
-pub record HasFall (image : ImageValue) (cuts : List Cut) (at : ℕ) : Type 0 where
+pub record HasFallThrough (image : ImageValue) (cuts : List Cut) (at : ℕ) : Type 0 where
   pub edge : Placed × Edge
   pub is : IsAmong (edges_in cuts) edge
   pub leads : target_of image edge ≡ Some at
   pub falls : at ≡ edge.0.next
 
 -- what is known of an address where these edges have still to be counted
-abbrev pub Tells : ImageValue → List Cut → List (Placed × Edge) → ℕ → Way → Type 0
-Tells image cuts rest at way.Joined = is_kept image cuts at ≡ true
-Tells image cuts rest at way.Unreached = IsInner image at × (reached image cuts at ≡ leading image at rest)
-Tells image cuts rest at way.Jump = IsInner image at × (reached image cuts at ≡ suc (leading image at rest))
-Tells image cuts rest at way.Fall =
-    IsInner image at × (reached image cuts at ≡ suc (leading image at rest)) × HasFall image cuts at
+abbrev pub Tells : ImageValue → List Cut → List (Placed × Edge) → ℕ → Predecessor → Type 0
+Tells image cuts rest at predecessor.Joined = is_kept image cuts at ≡ true
+Tells image cuts rest at predecessor.Unreached = IsInner image at × (reached image cuts at ≡ leading image at rest)
+Tells image cuts rest at predecessor.Jump = IsInner image at × (reached image cuts at ≡ suc (leading image at rest))
+Tells image cuts rest at predecessor.FallThrough =
+    IsInner image at × (reached image cuts at ≡ suc (leading image at rest)) × HasFallThrough image cuts at
 
-abbrev pub TellWays : ImageValue → List Cut → List (Placed × Edge) → List Way → Type 0
-TellWays image cuts rest ways = (at : ℕ) → Tells image cuts rest at (way_at ways at)
+abbrev pub TellPredecessors : ImageValue → List Cut → List (Placed × Edge) → List Predecessor → Type 0
+TellPredecessors image cuts rest predecessors = (at : ℕ) → Tells image cuts rest at (predecessor_at predecessors at)

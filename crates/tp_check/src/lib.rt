@@ -6,9 +6,9 @@
 
 pub mod laws;
 mod passes;
+mod predecessors;
 mod states;
 mod table;
-mod way;
 
 pub use passes::{check_states, places_of};
 pub use states::{enter, first_states, state_at};

@@ -9,21 +9,20 @@ ghost use Rattle.tp_flow.specs.NestRanges.{ranges};
 ghost use Rattle.tp_flow.specs.NestKept.{KeepsNest};
 ghost use Rattle.tp_flow.specs.RowRules.{is_start};
 ghost use Rattle.tp_image.specs.Image.{ImageValue, InRange};
-ghost use Rattle.tp_state.specs.Conditions.{IsPlaced};
 ghost use Rattle.tp_state.specs.Order.{IsBelow};
 ghost use Rattle.tp_state.specs.declared.fault.StateFault.TheVariants as fault;
-ghost use Rattle.tp_check.specs.Tables.{Table as WholeTable, table_of, asked};
+ghost use Rattle.tp_check.specs.Tables.{table_of, asked};
 ghost use Rattle.tp_check.specs.EdgesRespect.{HasNoTable};
 ghost use Rattle.tp_check.specs.Passes.{enter, edges_of, edges_in, IsVerdict, IsRefusalOf};
 ghost use Rattle.tp_check.specs.Carried.{over, IsTableOf};
 ghost use Rattle.tp_check.specs.StatesThere.{AreStatesThere};
-ghost use Rattle.tp_check.specs.Joining.{joins_at, keeps_at};
-ghost use Rattle.tp_check.specs.UnderWay.{is_in, IsBeginning, Leaves, AreJoins, MayBeTaken, StandsIn, IsBefore, Carries, TakesEdges, marked, SameButStates, IsStarted, KeepsSound, IsBegun, IsOnEdge, IsAfterEdge, IsLedOn, IsSettled};
+ghost use Rattle.tp_check.specs.Joining.{is_join_at, is_kept_at};
+ghost use Rattle.tp_check.specs.UnderWay.{is_in, IsBeginning, Leaves, AreJoins, AreLeft, IsApart, HasWhole, MayBeTaken, StandsIn, IsBefore, Carries, TakesEdges, marked, SameButStates, IsStarted, KeepsSound, IsAfterEdge, IsLedOn, IsSettled};
 ghost use Rattle.tp_check.specs.Rising.{HasPlaces, Gives, Moves, CameBefore};
 
+use crate::predecessors::Predecessors;
 use crate::states::{enter, first_states, read_into};
 use crate::table::Table;
-use crate::way::Ways;
 use std::alloc::{AllocError, Global};
 use std::mem;
 use tp_decode::{Instr, Listing, Placed};
@@ -49,9 +48,9 @@ pub fn check_states(
     ensures exact { IfErr result (λ e. e ≢ fault.Memory → HasNoTable image.now listing.now) }
 {
     let places = places_of(listing);
-    let ways = Ways::of(alloc, image, listing, nest, places)?;
-    let states = settle(alloc, image, listing, nest, places, &ways)?;
-    Ok(Table::of(alloc, states, &ways)?)
+    let predecessors = Predecessors::of(alloc, image, listing, nest, places)?;
+    let states = settle(alloc, image, listing, nest, places, &predecessors)?;
+    Ok(Table::of(alloc, states, &predecessors)?)
 }
 
 /// The states where edges join, when a pass leaves no edge to be taken; or the first refusal.
@@ -61,15 +60,15 @@ fn settle(
     listing: &Listing,
     nest: &Nest,
     places: usize,
-    ways: &Ways,
+    predecessors: &Predecessors,
 ) -> Result<Vec<Option<State>>, StateFault>
     requires kept { KeepsNest image.now.loops image.now.workspace listing.now }
     requires nest { nest.now ≡ ranges image.now.loops }
-    requires join { AreJoins image.now listing.now (joins_at ways.now) }
+    requires join { AreJoins image.now listing.now (is_join_at predecessors.now) }
     requires some { 0 < places }
     requires few { places ≤ 2 ^ 32 }
     requires all { HasPlaces listing.now places }
-    ensures settled { IfOk result (λ states. IsSettled image.now listing.now (joins_at ways.now) states.items) }
+    ensures settled { IfOk result (λ states. IsSettled image.now listing.now (is_join_at predecessors.now) states.items) }
     ensures refused { IfErr result (IsRefusalOf image.now listing.now) }
     ensures exact { IfErr result (λ e. e ≢ fault.Memory → HasNoTable image.now listing.now) }
     // This is known of every image, and of every listing.
@@ -80,7 +79,7 @@ fn settle(
     let mut passes = Passes::begin(alloc, image, places)?;
     let mut is_left = true;
     while is_left {
-        is_left = passes.pass(alloc, image, listing, nest, ways)?;
+        is_left = passes.pass(alloc, image, listing, nest, predecessors)?;
     }
     Ok(passes.states)
 }
@@ -137,22 +136,22 @@ impl Passes {
         image: &Image,
         listing: &Listing,
         nest: &Nest,
-        ways: &Ways,
+        predecessors: &Predecessors,
     ) -> Result<bool, StateFault>
         requires range { InRange image.now }
         requires kept { KeepsNest image.now.loops image.now.workspace listing.now }
         requires spelled { AllByRecursion IsSpelled listing.now }
         requires nest { nest.now ≡ ranges image.now.loops }
-        requires join { AreJoins image.now listing.now (joins_at ways.now) }
+        requires join { AreJoins image.now listing.now (is_join_at predecessors.now) }
         requires places { HasPlaces listing.now (length self.old.states.items) }
         requires rests { self.old.is_carried ≡ false }
-        requires way { (whole : WholeTable) × IsBefore image.now listing.now (joins_at ways.now) self.old 0 whole }
-        ensures gives { (whole : WholeTable) → IsBefore image.now listing.now (joins_at ways.now) self.old 0 whole →
-            TakesEdges image.now listing.now (joins_at ways.now) (edges_in listing.now) whole result self.new 0 }
+        requires way { HasWhole image.now listing.now (is_join_at predecessors.now) self.old 0 }
+        ensures gives { TakesEdges image.now listing.now (is_join_at predecessors.now) (edges_in listing.now)
+            self.old 0 result self.new 0 }
         ensures rests { OnOk result (self.new.is_carried ≡ false) }
         ensures leaves { IfOk result (λ is_left. Leaves image.now is_left self.old self.new) }
     {
-        if self.take_all(alloc, image, listing, nest, ways)? {
+        if self.take_all(alloc, image, listing, nest, predecessors)? {
             Ok(is_any(&self.changed))
         } else {
             Ok(false)
@@ -166,25 +165,25 @@ impl Passes {
         image: &Image,
         listing: &Listing,
         nest: &Nest,
-        ways: &Ways,
+        predecessors: &Predecessors,
     ) -> Result<bool, StateFault>
         requires range { InRange image.now }
         requires kept { KeepsNest image.now.loops image.now.workspace listing.now }
         requires spelled { AllByRecursion IsSpelled listing.now }
         requires nest { nest.now ≡ ranges image.now.loops }
-        requires join { AreJoins image.now listing.now (joins_at ways.now) }
+        requires join { AreJoins image.now listing.now (is_join_at predecessors.now) }
         requires places { HasPlaces listing.now (length self.old.states.items) }
         requires rests { self.old.is_carried ≡ false }
-        requires way { (whole : WholeTable) × IsBefore image.now listing.now (joins_at ways.now) self.old 0 whole }
-        ensures gives { (whole : WholeTable) → IsBefore image.now listing.now (joins_at ways.now) self.old 0 whole →
-            TakesEdges image.now listing.now (joins_at ways.now) (edges_in listing.now) whole result self.new 0 }
+        requires way { HasWhole image.now listing.now (is_join_at predecessors.now) self.old 0 }
+        ensures gives { TakesEdges image.now listing.now (is_join_at predecessors.now) (edges_in listing.now)
+            self.old 0 result self.new 0 }
         ensures rests { OnOk result (self.new.is_carried ≡ false) }
         ensures moves { IfOk result (λ moved. Moves image.now moved self.old.states.items self.new.states.items) }
     {
         let mut moved = false;
         for i in 0..listing.len() {
             if let Some(place) = listing.get(i) {
-                if self.take(alloc, image, nest, ways, place)? {
+                if self.take(alloc, image, nest, predecessors, place)? {
                     moved = true;
                 }
             }
@@ -200,43 +199,42 @@ impl Passes {
         alloc: Global,
         image: &Image,
         nest: &Nest,
-        ways: &Ways,
+        predecessors: &Predecessors,
         place: Placed,
     ) -> Result<bool, StateFault>
         requires nest { nest.now ≡ ranges image.now.loops }
         requires place { MayBeTaken image.now (length self.old.states.items) place }
         requires sound { KeepsSound image.now place }
-        requires way { (cuts : List Cut) × StandsIn cuts place × AreJoins image.now cuts (joins_at ways.now) ×
-            (whole : WholeTable) × IsBefore image.now cuts (joins_at ways.now) self.old place.at whole }
-        ensures gives { (cuts : List Cut) (whole : WholeTable) → StandsIn cuts place →
-            AreJoins image.now cuts (joins_at ways.now) →
-            IsBefore image.now cuts (joins_at ways.now) self.old place.at whole →
-            TakesEdges image.now cuts (joins_at ways.now) (edges_of place) whole result self.new place.next }
+        requires way { (cuts : List Cut) × StandsIn cuts place × AreJoins image.now cuts (is_join_at predecessors.now) ×
+            HasWhole image.now cuts (is_join_at predecessors.now) self.old place.at }
+        ensures gives { (cuts : List Cut) → StandsIn cuts place → AreJoins image.now cuts (is_join_at predecessors.now) →
+            TakesEdges image.now cuts (is_join_at predecessors.now) (edges_of place) self.old place.at
+            result self.new place.next }
         ensures moves { IfOk result (λ moved. Moves image.now moved self.old.states.items self.new.states.items) }
     {
-        self.start(ways, place.at);
+        self.start(predecessors, place.at);
         if !self.is_carried {
             return Ok(false);
         }
         self.is_carried = false;
-        self.take_edges(alloc, image, nest, ways, place)
+        self.take_edges(alloc, image, nest, predecessors, place)
     }
 
     /// Where edges join, the state that is kept is carried from here on, if it has changed since it last was. One that is
     /// carried here is below it, and rises to it.
-    fn start(&mut self, ways: &Ways, at: usize)
+    fn start(&mut self, predecessors: &Predecessors, at: usize)
         requires stands { at < length self.old.states.items }
         requires inside { at < length self.old.changed.items }
         requires takes { at < length self.old.taken.items }
-        requires sized { joins_at ways.now at ≡ true →
+        requires sized { is_join_at predecessors.now at ≡ true →
             IfSome (table_of self.old.states.items at) (λ s. length s.cells ≡ length self.old.carried.cells) }
-        requires below { joins_at ways.now at ≡ true → self.old.is_carried ≡ true →
+        requires below { is_join_at predecessors.now at ≡ true → self.old.is_carried ≡ true →
             IfSome (table_of self.old.states.items at) (IsBelow self.old.carried) }
-        ensures started { joins_at ways.now at ≡ true → IsStarted at self.old self.new }
-        ensures other { joins_at ways.now at ≡ false → self.new ≡ self.old }
+        ensures started { is_join_at predecessors.now at ≡ true → IsStarted at self.old self.new }
+        ensures other { is_join_at predecessors.now at ≡ false → self.new ≡ self.old }
         ensures states { self.new.states.items ≡ self.old.states.items }
     {
-        if !ways.joins(at) {
+        if !predecessors.is_join(at) {
             return;
         }
         let comes = self.is_carried;
@@ -259,21 +257,22 @@ impl Passes {
         alloc: Global,
         image: &Image,
         nest: &Nest,
-        ways: &Ways,
+        predecessors: &Predecessors,
         place: Placed,
     ) -> Result<bool, StateFault>
         requires nest { nest.now ≡ ranges image.now.loops }
         requires place { MayBeTaken image.now (length self.old.states.items) place }
         requires sound { KeepsSound image.now place }
-        requires way { IsBegun image.now (joins_at ways.now) self.old place }
-        ensures gives { (way : IsBegun image.now (joins_at ways.now) self.old place) → StandsIn way.amid.cuts place →
-            TakesEdges image.now way.amid.cuts (joins_at ways.now)
-            (edges_of place) way.amid.whole result self.new place.next }
+        requires rests { self.old.is_carried ≡ false }
+        requires way { AreLeft image.now (is_join_at predecessors.now) self.old place (asked place.instr) }
+        ensures gives { (way : AreLeft image.now (is_join_at predecessors.now) self.old place (asked place.instr)) →
+            Carries result (over image.now (is_join_at predecessors.now) (edges_of place) way.whole)
+            (IsBefore image.now way.cuts (is_join_at predecessors.now) self.new place.next) }
         ensures moves { IfOk result (λ moved. Moves image.now moved self.old.states.items self.new.states.items) }
     {
         match asked(place.instr) {
-            [edge] => self.take_edge(alloc, image, nest, ways, place, *edge),
-            [first, last] => self.take_two(alloc, image, nest, ways, place, *first, *last),
+            [edge] => self.take_edge(alloc, image, nest, predecessors, place, *edge),
+            [first, last] => self.take_two(alloc, image, nest, predecessors, place, *first, *last),
             _ => Ok(false),
         }
     }
@@ -285,7 +284,7 @@ impl Passes {
         alloc: Global,
         image: &Image,
         nest: &Nest,
-        ways: &Ways,
+        predecessors: &Predecessors,
         place: Placed,
         first: Edge,
         last: Edge,
@@ -294,17 +293,18 @@ impl Passes {
         requires place { MayBeTaken image.now (length self.old.states.items) place }
         requires sound { KeepsSound image.now place }
         requires edges { asked place.instr ≡ first ∷ last ∷ [] }
-        requires way { IsBegun image.now (joins_at ways.now) self.old place }
-        ensures gives { (way : IsBegun image.now (joins_at ways.now) self.old place) → StandsIn way.amid.cuts place →
-            TakesEdges image.now way.amid.cuts (joins_at ways.now)
-            (edges_of place) way.amid.whole result self.new place.next }
+        requires rests { self.old.is_carried ≡ false }
+        requires way { AreLeft image.now (is_join_at predecessors.now) self.old place (asked place.instr) }
+        ensures gives { (way : AreLeft image.now (is_join_at predecessors.now) self.old place (asked place.instr)) →
+            Carries result (over image.now (is_join_at predecessors.now) (edges_of place) way.whole)
+            (IsBefore image.now way.cuts (is_join_at predecessors.now) self.new place.next) }
         ensures moves { IfOk result (λ moved. Moves image.now moved self.old.states.items self.new.states.items) }
     {
         let mut other = self.carried.copy_of(alloc)?;
-        let moved = self.take_edge(alloc, image, nest, ways, place, first)?;
+        let moved = self.take_edge(alloc, image, nest, predecessors, place, first)?;
         let is_next = self.is_carried;
         mem::swap(&mut self.carried, &mut other);
-        let also = self.take_edge(alloc, image, nest, ways, place, last)?;
+        let also = self.take_edge(alloc, image, nest, predecessors, place, last)?;
         if is_next {
             mem::swap(&mut self.carried, &mut other);
         }
@@ -317,17 +317,19 @@ impl Passes {
         alloc: Global,
         image: &Image,
         nest: &Nest,
-        ways: &Ways,
+        predecessors: &Predecessors,
         place: Placed,
         edge: Edge,
     ) -> Result<bool, StateFault>
         requires nest { nest.now ≡ ranges image.now.loops }
         requires place { MayBeTaken image.now (length self.old.states.items) place }
         requires sound { KeepsSound image.now place }
-        requires way { (done : ℕ) × IsOnEdge image.now (joins_at ways.now) self.old place edge done }
-        ensures gives { (done : ℕ) (way : IsOnEdge image.now (joins_at ways.now) self.old place edge done) →
-            Carries result (over image.now (joins_at ways.now) ((place, edge) ∷ []) way.amid.whole)
-            (IsAfterEdge image.now way.amid.cuts (joins_at ways.now) self.old self.new place edge done way.amid.whole) }
+        requires way { (later : List AnEdge) × IsApart edge later ×
+            AreLeft image.now (is_join_at predecessors.now) self.old place (edge ∷ later) }
+        ensures gives { (later : List AnEdge) → IsApart edge later →
+            (way : AreLeft image.now (is_join_at predecessors.now) self.old place (edge ∷ later)) →
+            Carries result (over image.now (is_join_at predecessors.now) ((place, edge) ∷ []) way.whole)
+            (IsAfterEdge image.now way.cuts (is_join_at predecessors.now) self.old self.new place edge later way.whole) }
         ensures moves { IfOk result (λ moved. Moves image.now moved self.old.states.items self.new.states.items) }
     {
         let Placed { at, instr, next } = place;
@@ -337,7 +339,7 @@ impl Passes {
         match nest.target(at, next, instr, edge) {
             Some(to) => {
                 self.lead_on(to, next);
-                self.arrive(alloc, ways, to)
+                self.arrive(alloc, predecessors, to)
             }
             None => Ok(false),
         }
@@ -354,23 +356,28 @@ impl Passes {
 
     /// What is carried comes to an address: it joins what is kept there, if edges join there. It answers whether anything
     /// changed.
-    fn arrive(&mut self, alloc: Global, ways: &Ways, to: usize) -> Result<bool, StateFault>
+    fn arrive(
+        &mut self,
+        alloc: Global,
+        predecessors: &Predecessors,
+        to: usize,
+    ) -> Result<bool, StateFault>
         requires inside { to < length self.old.states.items }
         requires flags { length self.old.changed.items ≡ length self.old.states.items }
-        requires sized { joins_at ways.now to ≡ true →
+        requires sized { is_join_at predecessors.now to ≡ true →
             IfSome (table_of self.old.states.items to) (λ s. length self.old.carried.cells ≡ length s.cells) }
-        requires again { joins_at ways.now to ≡ true → self.old.is_again ≡ true →
+        requires again { is_join_at predecessors.now to ≡ true → self.old.is_again ≡ true →
             CameBefore (table_of self.old.states.items to) self.old.carried }
-        ensures joins { joins_at ways.now to ≡ true →
+        ensures is_join { is_join_at predecessors.now to ≡ true →
             Gives result (table_of self.new.states.items) (enter (Some to) self.old.carried (table_of self.old.states.items)) }
-        ensures marks { joins_at ways.now to ≡ true →
+        ensures marks { is_join_at predecessors.now to ≡ true →
             IfOk result (λ moved. self.new.changed.items ≡ marked moved to self.old.changed.items) }
         ensures rest { SameButStates self.old self.new }
-        ensures alone { joins_at ways.now to ≡ false → (result ≡ Ok false) × (self.new ≡ self.old) }
+        ensures alone { is_join_at predecessors.now to ≡ false → (result ≡ Ok false) × (self.new ≡ self.old) }
         ensures moves { (image : ImageValue) → length self.old.carried.cells ≡ image.workspace →
             IfOk result (λ moved. Moves image moved self.old.states.items self.new.states.items) }
     {
-        if !ways.joins(to) {
+        if !predecessors.is_join(to) {
             return Ok(false);
         }
         let moved = enter(alloc, &mut self.states, to, &self.carried, self.is_again)?;

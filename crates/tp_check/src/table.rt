@@ -3,9 +3,9 @@
 ghost use Rattle.std.specs.Prelude.{◌≡◌, ◌≤◌, ◌^◌, length, IfOk};
 ghost use Rattle.tp_check.specs.Tables.{table_of};
 ghost use Rattle.tp_check.specs.Carried.{AreStatesOf};
-ghost use Rattle.tp_check.specs.Joining.{keeps_at};
+ghost use Rattle.tp_check.specs.Joining.{is_kept_at};
 
-use crate::way::Ways;
+use crate::predecessors::Predecessors;
 use std::alloc::{AllocError, Global};
 use tp_state::State;
 
@@ -22,16 +22,15 @@ impl Table {
     pub(crate) fn of(
         alloc: Global,
         mut states: Vec<Option<State>>,
-        ways: &Ways,
+        predecessors: &Predecessors,
     ) -> Result<Table, AllocError>
         requires few { length states.items ≤ 2 ^ 32 }
-        ensures { IfOk result (λ table. AreStatesOf (keeps_at ways.now) (table_of states.items) table.states.items) }
+        ensures { IfOk result (λ table. AreStatesOf (is_kept_at predecessors.now) (table_of states.items) table.states.items) }
     {
         let mut kept = Vec::new(alloc);
         for at in 0..states.len() {
-            let state = states[at].take();
-            if ways.keeps(at) {
-                if let Some(state) = state {
+            if predecessors.is_kept(at) {
+                if let Some(state) = states[at].take() {
                     kept.push((at as u32, state))?;
                 }
             }

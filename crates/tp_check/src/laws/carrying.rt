@@ -15,16 +15,16 @@ ghost use Rattle.tp_check.specs.Carried.{carried, carried_pass, only_joins, AreW
 /// address, refusal or whole table; once a pass leaves the states kept as they were, its whole table is the verdict; and
 /// a pass that refuses is the verdict's refusal.
 pub fn passes_may_carry()
-    ensures same { (image : ImageValue) (cuts : List Cut) (joins : ℕ → Bool) → InRange image →
-        AllByRecursion IsSpelled cuts → KeepsNest image.loops image.workspace cuts → AreWide image cuts joins →
-        (n : ℕ) → passes image cuts n ≡ carried image cuts joins n }
-    ensures ends { (image : ImageValue) (cuts : List Cut) (joins : ℕ → Bool) → InRange image →
-        AllByRecursion IsSpelled cuts → KeepsNest image.loops image.workspace cuts → AreWide image cuts joins →
-        (n : ℕ) (table new : Table) → carried image cuts joins n ≡ Ok table →
-        carried_pass image cuts joins table ≡ Ok new → only_joins joins new ≡ only_joins joins table →
+    ensures same { (image : ImageValue) (cuts : List Cut) (is_join : ℕ → Bool) → InRange image →
+        AllByRecursion IsSpelled cuts → KeepsNest image.loops image.workspace cuts → AreWide image cuts is_join →
+        (n : ℕ) → passes image cuts n ≡ carried image cuts is_join n }
+    ensures ends { (image : ImageValue) (cuts : List Cut) (is_join : ℕ → Bool) → InRange image →
+        AllByRecursion IsSpelled cuts → KeepsNest image.loops image.workspace cuts → AreWide image cuts is_join →
+        (n : ℕ) (table new : Table) → carried image cuts is_join n ≡ Ok table →
+        carried_pass image cuts is_join table ≡ Ok new → only_joins is_join new ≡ only_joins is_join table →
         IsVerdict image cuts (Ok new) }
-    ensures refuses { (image : ImageValue) (cuts : List Cut) (joins : ℕ → Bool) → InRange image →
-        AllByRecursion IsSpelled cuts → KeepsNest image.loops image.workspace cuts → AreWide image cuts joins →
-        (n : ℕ) (table : Table) (fault : StateFault) → carried image cuts joins n ≡ Ok table →
-        carried_pass image cuts joins table ≡ Err fault → IsVerdict image cuts (Err fault) }
+    ensures refuses { (image : ImageValue) (cuts : List Cut) (is_join : ℕ → Bool) → InRange image →
+        AllByRecursion IsSpelled cuts → KeepsNest image.loops image.workspace cuts → AreWide image cuts is_join →
+        (n : ℕ) (table : Table) (fault : StateFault) → carried image cuts is_join n ≡ Ok table →
+        carried_pass image cuts is_join table ≡ Err fault → IsVerdict image cuts (Err fault) }
 {}

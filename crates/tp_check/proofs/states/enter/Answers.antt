@@ -4,7 +4,7 @@ use Rattle.std.proofs.lemmas.Option.{same_Some}
 use Rattle.tp_state.specs.Answer.{answered}
 use Rattle.tp_state.specs.Order.{IsBelow}
 use Rattle.tp_check.specs.Passes.{with_place}
-use Rattle.tp_check.specs.UnderWay.{MovesState}
+use Rattle.tp_check.proofs.Heights.{MovesState}
 use Rattle.tp_check.proofs.Heights.{HasWords, join_moves, joined_moves, first_moves}
 use Rattle.tp_check.proofs.TableSteps.{meets_agreeing, stands, comes_to, changes, refused_there}
 use Rattle.tp_check.proofs.states.enter.Goals as goal

@@ -2,21 +2,21 @@ use Rattle.std.proofs.Common.{◌≡◌, length, Some, None, Ok, refl, sym, ap, 
 use Rattle.tp_flow.specs.NestRanges.{ranges}
 use Rattle.tp_flow.specs.Edges.{target}
 use Rattle.tp_state.specs.After.{after}
-use Rattle.tp_state.specs.declared.state.State.{State}
+use Rattle.tp_check.specs.declared.passes.Passes.{Passes}
 use Rattle.tp_check.specs.Tables.{table_of}
-use Rattle.tp_check.specs.Joining.{joins_at}
+use Rattle.tp_check.specs.Joining.{is_join_at}
 use Rattle.tp_check.proofs.Taking.{left}
-use Rattle.tp_check.proofs.Stepping.{nowhere, arrived, came_led, slot_is_placed, as_many_words}
+use Rattle.tp_check.proofs.Stepping.{nowhere, arrived, came_led, kept_is_placed, as_many_words}
 use Rattle.tp_check.proofs.passes.Passes.take_edge.Goals as goal
 
 pub arrive-requires-clause-sized : goal.arrive-requires-clause-sized
 arrive-requires-clause-sized c is =
-    rw (c.lead_on.ensures.states, c.lead_on.ensures.carried)
-    (as_many_words c.args.image.now (table_of c.args.self.now.states.items c.in-Some.to) c.go_on.new.self (slot_is_placed c.args.image.now (joins_at c.args.ways.now) c.args.self.now c.requires.way.1.amid.whole c.requires.way.1.amid.amidst.way c.in-Some.to is) c.go_on.ensures.placed)
+    rw (ap (λ (p : Passes). p.states.items) c.lead_on.ensures.same, ap (λ (p : Passes). p.carried) c.lead_on.ensures.same)
+    (as_many_words c.args.image.now (table_of c.args.self.now.states.items c.in-Some.to) c.go_on.new.self (kept_is_placed c.args.image.now (is_join_at c.args.predecessors.now) c.args.self.now c.requires.way.2.whole c.requires.way.2.way.keeps c.in-Some.to is) c.go_on.ensures.placed)
 
 pub arrive-requires-clause-again : goal.arrive-requires-clause-again
 arrive-requires-clause-again c =
-    came_led c.args.image.now (joins_at c.args.ways.now) c.args.self.now c.args.place c.args.edge c.requires.way.0 c.requires.way.1.amid c.requires.way.1.here c.requires.way.1.number.inside c.requires.way.1.number.is c.requires.place c.requires.sound c.go_on.new.self goes c.go_on.ensures.placed c.in-Some.to leads
+    came_led c.args.image.now (is_join_at c.args.predecessors.now) c.args.self.now c.args.place c.args.edge c.requires.way.0 c.requires.way.1 c.requires.way.2 c.requires.place c.requires.sound c.go_on.new.self goes c.go_on.ensures.placed c.in-Some.to leads
     c.lead_on.new.self c.lead_on.new.self c.lead_on.ensures
   where
     goes : after c.args.image.now c.args.place.at c.args.place.next c.args.place.instr c.args.edge c.args.self.now.carried ≡ Ok c.go_on.new.self
@@ -26,9 +26,9 @@ arrive-requires-clause-again c =
     leads = sym (c.target.ensures ∙ ap (λ nest. target nest c.args.place.at c.args.place.next c.args.place.instr c.args.edge) c.requires.nest) ∙ c.in-Some.is
 
 pub returns-in-Some-clause-gives : goal.returns-in-Some-clause-gives
-returns-in-Some-clause-gives c done way =
-    arrived c.args.image.now (joins_at c.args.ways.now) c.args.self.now c.args.place c.args.edge done way.amid way.here way.number.inside way.number.is c.requires.place c.requires.sound c.go_on.new.self goes c.go_on.ensures.placed c.in-Some.to leads
-    c.lead_on.new.self c.arrive.new.self c.lead_on.ensures c.arrive.result c.arrive.ensures.rest c.arrive.ensures.joins c.arrive.ensures.marks c.arrive.ensures.alone (c.arrive.ensures.moves c.args.image.now (ap (λ (s : State). length s.cells) c.lead_on.ensures.carried ∙ c.go_on.ensures.placed.sized))
+returns-in-Some-clause-gives c later apart way =
+    arrived c.args.image.now (is_join_at c.args.predecessors.now) c.args.self.now c.args.place c.args.edge later apart way c.requires.place c.requires.sound c.go_on.new.self goes c.go_on.ensures.placed c.in-Some.to leads
+    c.lead_on.new.self c.arrive.new.self c.lead_on.ensures c.arrive.result c.arrive.ensures.rest c.arrive.ensures.is_join c.arrive.ensures.marks c.arrive.ensures.alone (c.arrive.ensures.moves c.args.image.now (ap (λ (p : Passes). length p.carried.cells) c.lead_on.ensures.same ∙ c.go_on.ensures.placed.sized))
   where
     goes : after c.args.image.now c.args.place.at c.args.place.next c.args.place.instr c.args.edge c.args.self.now.carried ≡ Ok c.go_on.new.self
     goes = left c.go_on.result c.in_default.field-0 c.go_on.new.self _ c.in_default.is c.go_on.ensures.value
@@ -37,8 +37,8 @@ returns-in-Some-clause-gives c done way =
     leads = sym (c.target.ensures ∙ ap (λ nest. target nest c.args.place.at c.args.place.next c.args.place.instr c.args.edge) c.requires.nest) ∙ c.in-Some.is
 
 pub returns-in-None-clause-gives : goal.returns-in-None-clause-gives
-returns-in-None-clause-gives c done way =
-    nowhere c.args.image.now (joins_at c.args.ways.now) c.args.self.now c.args.place c.args.edge done way.amid way.here way.number.inside way.number.is c.requires.place c.requires.sound c.go_on.new.self goes c.go_on.ensures.placed
+returns-in-None-clause-gives c later apart way =
+    nowhere c.args.image.now (is_join_at c.args.predecessors.now) c.args.self.now c.args.place c.args.edge later apart way c.requires.place c.requires.sound c.go_on.new.self goes c.go_on.ensures.placed
     _ refl refl (record { carried = refl; is_again = refl; taken = refl }) refl leads
   where
     goes : after c.args.image.now c.args.place.at c.args.place.next c.args.place.instr c.args.edge c.args.self.now.carried ≡ Ok c.go_on.new.self

@@ -10,7 +10,7 @@ ghost use Rattle.tp_check.specs.Passes.{edges_in, edges_of};
 ghost use Rattle.tp_check.specs.Carried.{is_kept, IsAmong};
 ghost use Rattle.tp_check.specs.UnderWay.{AreJoins, MayBeTaken};
 ghost use Rattle.tp_check.specs.Rising.{HasPlaces};
-ghost use Rattle.tp_check.specs.Joining.{joins, keeps, joins_at, keeps_at, with_edge, TellWays};
+ghost use Rattle.tp_check.specs.Joining.{is_join, is_joined, is_join_at, is_kept_at, with_edge, TellPredecessors};
 
 use crate::passes::asked;
 use std::alloc::{AllocError, Global};
@@ -21,46 +21,46 @@ use tp_image::Image;
 
 /// How control comes to an address.
 #[derive(Clone, Copy, PartialEq, Eq)]
-pub(crate) enum Way {
+pub(crate) enum Predecessor {
     /// By no edge.
     Unreached,
     /// By one edge alone, from the instruction before it.
-    Fall,
+    FallThrough,
     /// By one edge alone, which is a jump.
     Jump,
     /// By two edges or more; or it is the first address, or a loop's head.
     Joined,
 }
 
-impl Way {
+impl Predecessor {
     /// With one edge more.
-    fn with_edge(self, falls: bool) -> Way
+    fn with_edge(self, falls: bool) -> Predecessor
         ensures { result ≡ with_edge falls self }
     {
         match self {
-            Way::Unreached if falls => Way::Fall,
-            Way::Unreached => Way::Jump,
-            _ => Way::Joined,
+            Predecessor::Unreached if falls => Predecessor::FallThrough,
+            Predecessor::Unreached => Predecessor::Jump,
+            _ => Predecessor::Joined,
         }
     }
 }
 
 /// How control comes to each address of a code.
 #[derive(Drop)]
-pub(crate) struct Ways {
-    ways: Vec<Way>,
+pub(crate) struct Predecessors {
+    predecessors: Vec<Predecessor>,
 }
 
-impl Model for Ways {
+impl Model for Predecessors {
     ghost use Rattle.std.specs.Prelude.{List};
-    ghost use Rattle.tp_check.specs.declared.way.Way.{Way};
+    ghost use Rattle.tp_check.specs.declared.predecessors.Predecessor.{Predecessor};
 
-    ghost Value = { List Way };
+    ghost Value = { List Predecessor };
 
-    ghost view = { λ w. w.ways.items };
+    ghost view = { λ w. w.predecessors.items };
 }
 
-impl Ways {
+impl Predecessors {
     /// Of a code whose flow has passed, and which has so many addresses.
     pub(crate) fn of(
         alloc: Global,
@@ -68,21 +68,21 @@ impl Ways {
         listing: &Listing,
         nest: &Nest,
         places: usize,
-    ) -> Result<Ways, AllocError>
+    ) -> Result<Predecessors, AllocError>
         requires kept { KeepsNest image.now.loops image.now.workspace listing.now }
         requires nest { nest.now ≡ ranges image.now.loops }
         requires some { 0 < places }
         requires places { HasPlaces listing.now places }
-        ensures joins { IfOk result (λ ways. AreJoins image.now listing.now (joins_at ways)) }
-        ensures keeps { IfOk result (λ ways. (at : ℕ) → keeps_at ways at ≡ is_kept image.now listing.now at) }
+        ensures is_join { IfOk result (λ predecessors. AreJoins image.now listing.now (is_join_at predecessors)) }
+        ensures is_kept { IfOk result (λ predecessors. (at : ℕ) → is_kept_at predecessors at ≡ is_kept image.now listing.now at) }
     {
-        let mut ways = Ways::beginning(alloc, image, listing, places)?;
+        let mut predecessors = Predecessors::beginning(alloc, image, listing, places)?;
         for i in 0..listing.len() {
             if let Some(place) = listing.get(i) {
-                ways.count(image, nest, place);
+                predecessors.count(image, nest, place);
             }
         }
-        Ok(ways)
+        Ok(predecessors)
     }
 
     /// Before any edge is counted.
@@ -91,19 +91,19 @@ impl Ways {
         image: &Image,
         listing: &Listing,
         places: usize,
-    ) -> Result<Ways, AllocError>
+    ) -> Result<Predecessors, AllocError>
         requires kept { KeepsNest image.now.loops image.now.workspace listing.now }
         requires some { 0 < places }
         requires places { HasPlaces listing.now places }
-        ensures sized { IfOk result (λ ways. length ways ≡ places) }
-        ensures tells { IfOk result (TellWays image.now listing.now (edges_in listing.now)) }
+        ensures sized { IfOk result (λ predecessors. length predecessors ≡ places) }
+        ensures tells { IfOk result (TellPredecessors image.now listing.now (edges_in listing.now)) }
     {
-        let mut ways = vec![in alloc; Way::Unreached; places]?;
-        ways[0] = Way::Joined;
+        let mut predecessors = vec![in alloc; Predecessor::Unreached; places]?;
+        predecessors[0] = Predecessor::Joined;
         for row in &image.loops {
-            ways[row.head as usize] = Way::Joined;
+            predecessors[row.head as usize] = Predecessor::Joined;
         }
-        Ok(Ways { ways })
+        Ok(Predecessors { predecessors })
     }
 
     /// The edges of an instruction are counted.
@@ -113,32 +113,32 @@ impl Ways {
         ensures sized { length self.new ≡ length self.old }
         ensures tells { (cuts : List Cut) (rest : List (APlace × AnEdge)) →
             ((e : APlace × AnEdge) → IsAmong (edges_of place) e → IsAmong (edges_in cuts) e) →
-            TellWays image.now cuts (edges_of place ++ rest) self.old → TellWays image.now cuts rest self.new }
+            TellPredecessors image.now cuts (edges_of place ++ rest) self.old → TellPredecessors image.now cuts rest self.new }
     {
         let edges = asked(place.instr);
         for edge in edges {
             if let Some(to) = nest.target(place.at, place.next, place.instr, *edge) {
-                self.ways[to] = self.ways[to].with_edge(to == place.next);
+                self.predecessors[to] = self.predecessors[to].with_edge(to == place.next);
             }
         }
     }
 
     /// Whether a state is kept at an address while the passes are made.
-    pub(crate) fn joins(&self, at: usize) -> bool
-        ensures { result ≡ joins_at self.now at }
+    pub(crate) fn is_join(&self, at: usize) -> bool
+        ensures { result ≡ is_join_at self.now at }
     {
-        match self.ways.get(at) {
-            Some(way) => matches!(way, Way::Jump | Way::Joined),
+        match self.predecessors.get(at) {
+            Some(way) => matches!(way, Predecessor::Jump | Predecessor::Joined),
             None => false,
         }
     }
 
     /// Whether one is kept in the table.
-    pub(crate) fn keeps(&self, at: usize) -> bool
-        ensures { result ≡ keeps_at self.now at }
+    pub(crate) fn is_kept(&self, at: usize) -> bool
+        ensures { result ≡ is_kept_at self.now at }
     {
-        match self.ways.get(at) {
-            Some(way) => matches!(way, Way::Joined),
+        match self.predecessors.get(at) {
+            Some(way) => matches!(way, Predecessor::Joined),
             None => false,
         }
     }
