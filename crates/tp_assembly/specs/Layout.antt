@@ -9,7 +9,8 @@ use Rattle.tp_assembly.specs.declared.program.Operation.TheVariants.{Plain, Jump
 use Rattle.tp_assembly.specs.declared.program.Line.{Line}
 use Rattle.tp_assembly.specs.declared.program.Line.TheVariants.{Byte, Spelled}
 
--- the addresses of the places of lines that are so many bytes long, the first of which stands at an address: one more than lines
+-- the addresses of the places of lines that are so many bytes long, the first of which stands at an address: one more
+-- than lines
 abbrev pub addresses_from : ℕ → List ℕ → List ℕ
 addresses_from at [] = at ∷ []
 addresses_from at (bytes ∷ lengths) = at ∷ addresses_from (at + bytes) lengths
@@ -32,7 +33,8 @@ filled bytes spelling = replicate (bytes - length spelling) 0x20 ++ spelling
 -- what a line is spelled as: canonically, where no more bytes are stated
 abbrev pub spelled_at : List ℕ → ℕ → Line → List ℕ
 spelled_at addresses line (Byte byte) = byte ∷ []
-spelled_at addresses line (Spelled operation bytes) = filled (unwrap_or bytes 0) (shortest (instr_at addresses line operation))
+spelled_at addresses line (Spelled operation bytes) = filled (unwrap_or bytes 0)
+    (shortest (instr_at addresses line operation))
 
 -- what lines are spelled as, the first of which has a number
 abbrev pub spelled_from : List ℕ → ℕ → List Line → List (List ℕ)

@@ -14,7 +14,8 @@ use Rattle.tp_assembly.specs.declared.program.Line.TheVariants.{Byte, Spelled}
 -- a spelling that is the shortest, or that behind pfix 0
 abbrev pub is_filled : List ℕ → List ℕ → Bool
 is_filled spelling least =
-    list_all (λ byte. byte == 0x20) (take (length spelling - length least) spelling) && bytes_eq (drop (length spelling - length least) spelling) least
+    list_all (λ byte. byte == 0x20) (take (length spelling - length least) spelling)
+        && bytes_eq (drop (length spelling - length least) spelling) least
 
 -- no length is stated of the shortest spelling
 abbrev pub stated : List ℕ → List ℕ → Option ℕ
@@ -23,7 +24,8 @@ stated spelling least = if length spelling == length least then None else Some (
 -- the lines of an instruction that is spelled so: one, or its bytes where another spelling could not be had from it
 abbrev pub told : List ℕ → Instr → List Line
 told spelling instr =
-    if is_filled spelling (shortest instr) then Spelled (Plain instr) (stated spelling (shortest instr)) ∷ [] else map Byte spelling
+    if is_filled spelling (shortest instr) then Spelled (Plain instr) (stated spelling (shortest instr)) ∷ []
+        else map Byte spelling
 
 abbrev pub told_cut : Cut → List Line
 told_cut cut = told cut.bytes cut.instr

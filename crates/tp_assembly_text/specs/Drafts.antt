@@ -20,7 +20,8 @@ use Rattle.tp_assembly_text.specs.Faults.{fault_at}
 use Rattle.tp_assembly_text.specs.Limits.{most, most_words}
 use Rattle.tp_assembly_text.specs.Words.{position_of}
 
--- the fields of a program, its lines with labels as they stand and where the word stands that asks for each, the names so far and
+-- the fields of a program, its lines with labels as they stand and where the word stands that asks for each, the names
+-- so far and
 -- the loops that have no end yet
 pub record Said : Type 0 where
   pub version : Version
@@ -106,7 +107,8 @@ label_set word d =
     else if is_full d.labels then Err (fault_at word TooMany)
     else Ok (record d { labels = d.labels ++ (record { word = word; place = length d.lines }) ∷ [] })
 
--- a loop more may stand, that a word begins: there are fewer rows, and loops that have no end yet, than an image has rows
+-- a loop more may stand, that a word begins: there are fewer rows, and loops that have no end yet, than an image has
+-- rows
 abbrev pub room_for_loop : Word → Said → Result (Unit {0}) SourceFault
 room_for_loop word d =
     if nat_le most_loops (length d.rows + length d.begun) then Err (fault_at word TooManyLoops) else Ok tt

@@ -217,7 +217,8 @@ local_instr_said words first function bytes i name = do
 unfoldable pub operand_said : List Word → Word → ℕ → Option ℕ → ℕ → Word → Result Instruction SourceFault
 operand_said words first function bytes i word =
     if not (begins_number word.text.now) && is_word first (codes "j") then label_line words first i (Jump word bytes)
-    else if not (begins_number word.text.now) && is_word first (codes "cj") then label_line words first i (Cj word bytes)
+    else if not (begins_number word.text.now) && is_word first (codes "cj")
+        then label_line words first i (Cj word bytes)
     else if is_word first (codes "ldc") && is_word_here (slice_get words i) (codes "-")
     then distance_said words first bytes i word
     else if begins_number word.text.now then number_said words first function bytes i word

@@ -13,7 +13,8 @@ are_digits radix digits = nat_lt 0 (length digits) && list_all (λ b. is_digit b
 -- the number that digits of a radix write, if it has 32 bits
 unfoldable pub digits_said : ℕ → List ℕ → Option ℕ
 digits_said radix digits =
-    if are_digits radix digits && nat_lt (digits_value radix digits) (2 ^ 32) then Some (digits_value radix digits) else None
+    if are_digits radix digits && nat_lt (digits_value radix digits) (2 ^ 32) then Some (digits_value radix digits)
+        else None
 
 -- a natural number in decimal, or in hexadecimal behind # or 0x
 unfoldable pub natural_said : List ℕ → Option ℕ

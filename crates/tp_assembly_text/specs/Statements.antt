@@ -41,7 +41,8 @@ end_said words i = nothing_at (slice_get words i)
 
 -- the one number of a statement
 unfoldable pub one_number_said : List Word → Word → ℕ → Result ℕ SourceFault
-one_number_said words first most = then_read (word_said words 1 first) (λ word. then_read (end_said words 2) (λ _. count_read most word))
+one_number_said words first most = then_read (word_said words 1 first)
+    (λ word. then_read (end_said words 2) (λ _. count_read most word))
 
 -- a word of a number, which has to be this one
 unfoldable pub expect_said : List Word → ℕ → Word → List ℕ → Result Word SourceFault

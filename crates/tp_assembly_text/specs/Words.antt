@@ -53,7 +53,8 @@ abbrev pub onto_first : ℕ → ℕ → List Token → List Token
 onto_first b column [] = []
 onto_first b column (word ∷ words) = record { text = b ∷ word.text; line = word.line; column = column } ∷ words
 
--- The words of bytes that stand at a line and a column: white space parts them, a mark is a word by itself, and plain bytes that
+-- The words of bytes that stand at a line and a column: white space parts them, a mark is a word by itself, and plain
+-- bytes that
 -- follow one another are one word.
 unfoldable pub tokens : ℕ → ℕ → List ℕ → List Token
 tokens line column [] = []

@@ -193,6 +193,7 @@ FeedSays f fed.Stopped g = Makes (feeder_seen f) (sees_stop ∷ []) (feeder_seen
 FeedSays f fed.Over g = LooksOnly f g × IsAllPushed f.turn
 
 -- ---- the close
--- the close took these numbers out of the queue; with those that the hands drew they are the numbers below `pushed`, each once
+-- the close took these numbers out of the queue; with those that the hands drew they are the numbers below `pushed`,
+-- each once
 abbrev pub IsLeft : List View → (pushed : ℕ) → Type 0
 IsLeft views pushed = (left : List ℕ) × AreBelow (all_drawn views ++ left) pushed

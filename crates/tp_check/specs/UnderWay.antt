@@ -56,7 +56,8 @@ pub record StandsIn (cuts : List Cut) (place : Placed) : Type 0 where
 pub record AreJoins (image : ImageValue) (cuts : List Cut) (is_join : ℕ → Bool) : Type 0 where
   pub wide : AreWide image cuts is_join
   pub lone : IsLone image is_join (IsAmong (edges_in cuts))
-  pub falls : (e : Placed × Edge) (to : ℕ) → IsAmong (edges_in cuts) e → is_join to ≡ false → target_of image e ≡ Some to → to ≡ e.0.next
+  pub falls : (e : Placed × Edge) (to : ℕ) → IsAmong (edges_in cuts) e → is_join to ≡ false
+      → target_of image e ≡ Some to → to ≡ e.0.next
 
 -- ---- an edge
 
@@ -66,7 +67,8 @@ pub record HasCome (is_join : ℕ → Bool) (table : Table) (to : ℕ) (s : Stat
   pub alone : is_join to ≡ false → table to ≡ Some s
 
 -- a state has been propagated along an edge: nothing is refused, and what is known after it has come to the target
-pub record IsPropagated (image : ImageValue) (is_join : ℕ → Bool) (table : Table) (e : Placed × Edge) (s : State) : Type 0 where
+pub record IsPropagated (image : ImageValue) (is_join : ℕ → Bool) (table : Table) (e : Placed × Edge)
+    (s : State) : Type 0 where
   pub outcome : State
   pub goes_on : after image e.0.at e.0.next e.0.instr e.1 s ≡ Ok outcome
   pub comes : (to : ℕ) → target_of image e ≡ Some to → HasCome is_join table to outcome
@@ -93,9 +95,11 @@ waits is_join p ahead at = if is_join at then is_in p.changed.items at else (at 
 
 -- they are said to have been taken before
 abbrev pub repeats : (ℕ → Bool) → Passes → ℕ → ℕ → Bool
-repeats is_join p ahead at = if is_join at then is_in p.taken.items at else (at == ahead) && (p.is_carried && p.is_again)
+repeats is_join p ahead at = if is_join at then is_in p.taken.items at else (at == ahead)
+    && (p.is_carried && p.is_again)
 
--- an edge waits if it is one of those that are left of the instruction being taken, or waits as all out of its address do
+-- an edge waits if it is one of those that are left of the instruction being taken, or waits as all out of its address
+-- do
 abbrev pub Waits : (ℕ → Bool) → Passes → List (Placed × Edge) → ℕ → Placed × Edge → Type 0
 Waits is_join p left ahead e = IsAmong left e ⊎ (waits is_join p ahead e.0.at ≡ true)
 
@@ -110,19 +114,24 @@ pub record KeepsWhole (image : ImageValue) (is_join : ℕ → Bool) (p : Passes)
 
 -- The invariant, where some edges are left of an instruction and the next one stands ahead: each edge waits or is done,
 -- and one that is said to have been taken before was, or is left.
-pub record IsUnderWay (image : ImageValue) (cuts : List Cut) (is_join : ℕ → Bool) (p : Passes) (left : List (Placed × Edge)) (ahead : ℕ) (whole : Table) : Type 0 where
+pub record IsUnderWay (image : ImageValue) (cuts : List Cut) (is_join : ℕ → Bool) (p : Passes)
+    (left : List (Placed × Edge)) (ahead : ℕ) (whole : Table) : Type 0 where
   pub keeps : KeepsWhole image is_join p whole
-  pub each : (e : Placed × Edge) → IsAmong (edges_in cuts) e → Waits is_join p left ahead e ⊎ IsDone image is_join whole e
-  pub again : (e : Placed × Edge) → IsAmong (edges_in cuts) e → repeats is_join p ahead e.0.at ≡ true → IsAmong left e ⊎ WasTaken image is_join whole e
+  pub each : (e : Placed × Edge) → IsAmong (edges_in cuts) e → Waits is_join p left ahead e
+      ⊎ IsDone image is_join whole e
+  pub again : (e : Placed × Edge) → IsAmong (edges_in cuts) e → repeats is_join p ahead e.0.at ≡ true → IsAmong left e
+      ⊎ WasTaken image is_join whole e
   pub left_again : p.is_again ≡ true → (e : Placed × Edge) → IsAmong left e → WasTaken image is_join whole e
 
 -- before an instruction none is left, and the state that is carried has come there
-pub record IsBefore (image : ImageValue) (cuts : List Cut) (is_join : ℕ → Bool) (p : Passes) (at : ℕ) (whole : Table) : Type 0 where
+pub record IsBefore (image : ImageValue) (cuts : List Cut) (is_join : ℕ → Bool) (p : Passes) (at : ℕ)
+    (whole : Table) : Type 0 where
   pub way : IsUnderWay image cuts is_join p [] at whole
   pub here : p.is_carried ≡ true → HasCome is_join whole at p.carried
 
 -- the state that is carried stands before an instruction, of whose edges these are left
-pub record AreLeft (image : ImageValue) (is_join : ℕ → Bool) (p : Passes) (place : Placed) (left : List Edge) : Type 0 where
+pub record AreLeft (image : ImageValue) (is_join : ℕ → Bool) (p : Passes) (place : Placed)
+    (left : List Edge) : Type 0 where
   pub cuts : List Cut
   pub join : AreJoins image cuts is_join
   pub among : (e : Placed × Edge) → IsAmong (edges_from place left) e → IsAmong (edges_in cuts) e
@@ -147,13 +156,17 @@ abbrev pub HasWhole : ImageValue → List Cut → (ℕ → Bool) → Passes → 
 HasWhole image cuts is_join p at = (whole : Table) × IsBefore image cuts is_join p at whole
 
 -- from an instruction on these edges are taken as defined, and then the passes are before the instruction at `next`
-abbrev pub TakesEdges : {X : Type 0} → ImageValue → List Cut → (ℕ → Bool) → List (Placed × Edge) → Passes → ℕ → Result X StateFault → Passes → ℕ → Type 0
+abbrev pub TakesEdges : {X : Type 0} → ImageValue → List Cut → (ℕ → Bool) → List (Placed × Edge) → Passes → ℕ
+    → Result X StateFault → Passes → ℕ → Type 0
 TakesEdges image cuts is_join edges old at result new next =
-    (whole : Table) → IsBefore image cuts is_join old at whole → Carries result (over image is_join edges whole) (IsBefore image cuts is_join new next)
+    (whole : Table) → IsBefore image cuts is_join old at whole
+        → Carries result (over image is_join edges whole) (IsBefore image cuts is_join new next)
 
--- An edge is taken: what was carried has become what is known after it, which has come to the target and is carried on if that is the
+-- An edge is taken: what was carried has become what is known after it, which has come to the target and is carried on
+-- if that is the
 -- next instruction. Where edges join states only rise, and elsewhere the target's alone is set.
-pub record IsAfterEdge (image : ImageValue) (cuts : List Cut) (is_join : ℕ → Bool) (old new : Passes) (place : Placed) (edge : Edge) (later : List Edge) (whole table : Table) : Type 0 where
+pub record IsAfterEdge (image : ImageValue) (cuts : List Cut) (is_join : ℕ → Bool) (old new : Passes) (place : Placed)
+    (edge : Edge) (later : List Edge) (whole table : Table) : Type 0 where
   pub way : IsUnderWay image cuts is_join new (edges_from place later) place.next table
   pub comes : (to : ℕ) → target_of image (place, edge) ≡ Some to → HasCome is_join table to new.carried
   pub here : table place.at ≡ whole place.at
@@ -188,7 +201,8 @@ pub record IsStarted (at : ℕ) (old new : Passes) : Type 0 where
   pub again : new.is_carried ≡ true → new.is_again ≡ is_in old.taken.items at
   pub takes : new.is_carried ≡ true → new.taken.items ≡ slice_set old.taken.items at true
   pub rests : new.is_carried ≡ false → new.taken.items ≡ old.taken.items
-  pub no : new.is_carried ≡ false → (new.carried ≡ old.carried) × ((is_in old.changed.items at ≡ false) ⊎ (table_of old.states.items at ≡ None))
+  pub no : new.is_carried ≡ false → (new.carried ≡ old.carried)
+      × ((is_in old.changed.items at ≡ false) ⊎ (table_of old.states.items at ≡ None))
 
 -- ---- between two passes
 
@@ -215,7 +229,8 @@ pub record Leaves (image : ImageValue) (is_left : Bool) (old new : Passes) : Typ
   pub ends : is_left ≡ false → (new.states.items ≡ old.states.items) ⊎ ((at : ℕ) → is_in new.changed.items at ≡ false)
 
 -- one more pass would change nothing, and where edges join these are the states of the table
-pub record IsSettled (image : ImageValue) (cuts : List Cut) (is_join : ℕ → Bool) (states : List (Option State)) : Type 0 where
+pub record IsSettled (image : ImageValue) (cuts : List Cut) (is_join : ℕ → Bool)
+    (states : List (Option State)) : Type 0 where
   pub few : length states ≤ 2 ^ 32
   pub whole : Table
   pub verdict : IsVerdict image cuts (Ok whole)
