@@ -30,13 +30,16 @@ abbrev pub HasWhole : ImageValue → List Cut → (ℕ → Bool) → Passes → 
 HasWhole image cuts is_join p at = (whole : Table) × IsBefore image cuts is_join p at whole
 
 -- from an instruction on these edges are taken as defined, and then the passes are before the instruction at `next`
-abbrev pub TakesEdges : {X : Type 0} → ImageValue → List Cut → (ℕ → Bool) → List (Placed × Edge) → Passes → ℕ → Result X StateFault → Passes → ℕ → Type 0
+abbrev pub TakesEdges : {X : Type 0} → ImageValue → List Cut → (ℕ → Bool) → List (Placed × Edge) → Passes → ℕ
+    → Result X StateFault → Passes → ℕ → Type 0
 TakesEdges image cuts is_join edges old at result new next =
-    (whole : Table) → IsBefore image cuts is_join old at whole → Carries result (over image is_join edges whole) (IsBefore image cuts is_join new next)
+    (whole : Table) → IsBefore image cuts is_join old at whole
+    → Carries result (over image is_join edges whole) (IsBefore image cuts is_join new next)
 
--- An edge is taken: what was carried has become what is known after it, which has come to the target and is carried on if that is the
--- next instruction. Where edges join states only rise, and elsewhere the target's alone is set.
-pub record IsAfterEdge (image : ImageValue) (cuts : List Cut) (is_join : ℕ → Bool) (old new : Passes) (place : Placed) (edge : Edge) (later : List Edge) (whole table : Table) : Type 0 where
+-- An edge is taken: what was carried has become what is known after it, which has come to the target, and is carried on
+-- if that is the next instruction. Where edges join states only rise, and elsewhere the target's alone is set.
+pub record IsAfterEdge (image : ImageValue) (cuts : List Cut) (is_join : ℕ → Bool) (old new : Passes)
+    (place : Placed) (edge : Edge) (later : List Edge) (whole table : Table) : Type 0 where
   pub way : IsUnderWay image cuts is_join new (edges_from place later) place.next table
   pub comes : (to : ℕ) → target_of image (place, edge) ≡ Some to → HasCome is_join table to new.carried
   pub here : table place.at ≡ whole place.at
@@ -62,8 +65,8 @@ pub record SameButStates (old new : Passes) : Type 0 where
   pub is_again : new.is_again ≡ old.is_again
   pub taken : new.taken.items ≡ old.taken.items
 
--- the state that is kept at an address is carried, if it was marked and there is one: its edges are taken, again where
--- they were before; it is not marked any more
+-- The state that is kept at an address is carried, if it was marked and there is one: its edges are taken, again where
+-- they were before. It is not marked any more.
 pub record IsStarted (at : ℕ) (old new : Passes) : Type 0 where
   pub states : new.states.items ≡ old.states.items
   pub changed : new.changed.items ≡ slice_set old.changed.items at false
@@ -71,7 +74,8 @@ pub record IsStarted (at : ℕ) (old new : Passes) : Type 0 where
   pub again : new.is_carried ≡ true → new.is_again ≡ is_in old.taken.items at
   pub takes : new.is_carried ≡ true → new.taken.items ≡ slice_set old.taken.items at true
   pub rests : new.is_carried ≡ false → new.taken.items ≡ old.taken.items
-  pub no : new.is_carried ≡ false → (new.carried ≡ old.carried) × ((is_in old.changed.items at ≡ false) ⊎ (table_of old.states.items at ≡ None))
+  pub no : new.is_carried ≡ false
+      → (new.carried ≡ old.carried) × ((is_in old.changed.items at ≡ false) ⊎ (table_of old.states.items at ≡ None))
 
 -- ---- between two passes
 
@@ -98,7 +102,8 @@ pub record Leaves (image : ImageValue) (is_left : Bool) (old new : Passes) : Typ
   pub ends : is_left ≡ false → (new.states.items ≡ old.states.items) ⊎ ((at : ℕ) → is_in new.changed.items at ≡ false)
 
 -- one more pass would change nothing, and where edges join these are the states of the table
-pub record IsSettled (image : ImageValue) (cuts : List Cut) (is_join : ℕ → Bool) (states : List (Option State)) : Type 0 where
+pub record IsSettled (image : ImageValue) (cuts : List Cut) (is_join : ℕ → Bool)
+    (states : List (Option State)) : Type 0 where
   pub few : length states ≤ 2 ^ 32
   pub whole : Table
   pub verdict : IsVerdict image cuts (Ok whole)

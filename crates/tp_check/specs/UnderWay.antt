@@ -52,7 +52,8 @@ pub record StandsIn (cuts : List Cut) (place : Placed) : Type 0 where
 pub record AreJoins (image : ImageValue) (cuts : List Cut) (is_join : ℕ → Bool) : Type 0 where
   pub wide : AreWide image cuts is_join
   pub lone : IsLone image is_join (IsAmong (edges_in cuts))
-  pub falls : (e : Placed × Edge) (to : ℕ) → IsAmong (edges_in cuts) e → is_join to ≡ false → target_of image e ≡ Some to → to ≡ e.0.next
+  pub falls : (e : Placed × Edge) (to : ℕ) → IsAmong (edges_in cuts) e → is_join to ≡ false
+      → target_of image e ≡ Some to → to ≡ e.0.next
 
 -- ---- an edge
 
@@ -62,7 +63,8 @@ pub record HasCome (is_join : ℕ → Bool) (table : Table) (to : ℕ) (s : Stat
   pub alone : is_join to ≡ false → table to ≡ Some s
 
 -- a state has been propagated along an edge: nothing is refused, and what is known after it has come to the target
-pub record IsPropagated (image : ImageValue) (is_join : ℕ → Bool) (table : Table) (e : Placed × Edge) (s : State) : Type 0 where
+pub record IsPropagated (image : ImageValue) (is_join : ℕ → Bool) (table : Table) (e : Placed × Edge)
+    (s : State) : Type 0 where
   pub outcome : State
   pub goes_on : after image e.0.at e.0.next e.0.instr e.1 s ≡ Ok outcome
   pub comes : (to : ℕ) → target_of image e ≡ Some to → HasCome is_join table to outcome
@@ -89,9 +91,10 @@ waits is_join p ahead at = if is_join at then is_in p.changed.items at else (at 
 
 -- they are said to have been taken before
 abbrev pub repeats : (ℕ → Bool) → Passes → ℕ → ℕ → Bool
-repeats is_join p ahead at = if is_join at then is_in p.taken.items at else (at == ahead) && (p.is_carried && p.is_again)
+repeats is_join p ahead at =
+    if is_join at then is_in p.taken.items at else (at == ahead) && (p.is_carried && p.is_again)
 
--- an edge waits if it is one of those that are left of the instruction being taken, or waits as all out of its address do
+-- an edge waits: it is left of the instruction being taken, or all out of its address wait
 abbrev pub Waits : (ℕ → Bool) → Passes → List (Placed × Edge) → ℕ → Placed × Edge → Type 0
 Waits is_join p left ahead e = IsAmong left e ⊎ (waits is_join p ahead e.0.at ≡ true)
 
@@ -106,19 +109,24 @@ pub record KeepsWhole (image : ImageValue) (is_join : ℕ → Bool) (p : Passes)
 
 -- The invariant, where some edges are left of an instruction and the next one stands ahead: each edge waits or is done,
 -- and one that is said to have been taken before was, or is left.
-pub record IsUnderWay (image : ImageValue) (cuts : List Cut) (is_join : ℕ → Bool) (p : Passes) (left : List (Placed × Edge)) (ahead : ℕ) (whole : Table) : Type 0 where
+pub record IsUnderWay (image : ImageValue) (cuts : List Cut) (is_join : ℕ → Bool) (p : Passes)
+    (left : List (Placed × Edge)) (ahead : ℕ) (whole : Table) : Type 0 where
   pub keeps : KeepsWhole image is_join p whole
-  pub each : (e : Placed × Edge) → IsAmong (edges_in cuts) e → Waits is_join p left ahead e ⊎ IsDone image is_join whole e
-  pub again : (e : Placed × Edge) → IsAmong (edges_in cuts) e → repeats is_join p ahead e.0.at ≡ true → IsAmong left e ⊎ WasTaken image is_join whole e
+  pub each : (e : Placed × Edge) → IsAmong (edges_in cuts) e
+      → Waits is_join p left ahead e ⊎ IsDone image is_join whole e
+  pub again : (e : Placed × Edge) → IsAmong (edges_in cuts) e → repeats is_join p ahead e.0.at ≡ true
+      → IsAmong left e ⊎ WasTaken image is_join whole e
   pub left_again : p.is_again ≡ true → (e : Placed × Edge) → IsAmong left e → WasTaken image is_join whole e
 
 -- before an instruction none is left, and the state that is carried has come there
-pub record IsBefore (image : ImageValue) (cuts : List Cut) (is_join : ℕ → Bool) (p : Passes) (at : ℕ) (whole : Table) : Type 0 where
+pub record IsBefore (image : ImageValue) (cuts : List Cut) (is_join : ℕ → Bool) (p : Passes) (at : ℕ)
+    (whole : Table) : Type 0 where
   pub way : IsUnderWay image cuts is_join p [] at whole
   pub here : p.is_carried ≡ true → HasCome is_join whole at p.carried
 
 -- the state that is carried stands before an instruction, of whose edges these are left
-pub record AreLeft (image : ImageValue) (is_join : ℕ → Bool) (p : Passes) (place : Placed) (left : List Edge) : Type 0 where
+pub record AreLeft (image : ImageValue) (is_join : ℕ → Bool) (p : Passes) (place : Placed)
+    (left : List Edge) : Type 0 where
   pub cuts : List Cut
   pub join : AreJoins image cuts is_join
   pub among : (e : Placed × Edge) → IsAmong (edges_from place left) e → IsAmong (edges_in cuts) e
