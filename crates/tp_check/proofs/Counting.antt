@@ -23,7 +23,7 @@ use Rattle.tp_check.specs.Passes.{edges_from, edges_of, edges_in}
 use Rattle.tp_check.specs.Carried.{IsAmong, target_of, leads_to, reached, is_head, is_kept}
 use Rattle.tp_check.specs.Joining.{predecessor_at, is_join, is_joined, is_join_at, is_kept_at, with_edge, IsInner, leading, Tells, TellPredecessors}
 use Rattle.tp_check.specs.UnderWay.{AreJoins}
-use Rattle.tp_check.specs.Rising.{HasPlaces}
+use Rattle.tp_check.specs.Comes.{HasPlaces}
 use Rattle.tp_check.proofs.Moving.{next_way}
 use Rattle.tp_check.proofs.Nests.{lone, count_one}
 

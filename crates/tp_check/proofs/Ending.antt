@@ -1,12 +1,12 @@
 -- The passes come to a verdict: each of them refuses, leaves the table as it is, or leaves fewer changes to be made.
-use Rattle.std.proofs.Common.{◌≡◌, ℕ, zero, suc, ◌-◌, ◌<◌, ◌⊎◌, inl, inr, ◌==◌, nat_eq, if◌then◌else◌, false, IsTrue, List, [], ◌∷◌, replicate, length, length-set, slice_get, slice_set, slice_index_or, Option, Some, None, Result, Ok, Err, refl, sym, ap, ◌∙◌, subst, arith}
-use Rattle.std.specs.Prelude.{IfOk}
+use Rattle.std.proofs.Common.{◌≡◌, ℕ, zero, suc, ◌-◌, ◌<◌, ◌⊎◌, inl, inr, ◌==◌, nat_eq, if◌then◌else◌, false, IsTrue, List, [], ◌∷◌, replicate, length, length-set, slice_get, slice_set, Option, Some, None, Result, Ok, Err, refl, sym, ap, ◌∙◌, subst, arith}
+use Rattle.std.specs.Prelude.{IfOk, IfSome}
 use Rattle.std.specs.List.{AllByRecursion, flat_map}
 use mathlib.Core.Path.{fun_ext}
 use Rattle.std.proofs.lemmas.Bool.{cases_eq}
 use Rattle.std.proofs.lemmas.Bool.Decides.{nat_tests}
 use Rattle.std.proofs.lemmas.Option.{same_Some}
-use Rattle.std.proofs.lemmas.List.{set-get_or, length-replicate}
+use Rattle.std.proofs.lemmas.List.{length-replicate}
 use Rattle.std.proofs.lemmas.List.Concat.{flat_map-cons}
 use Rattle.tp_decode.specs.declared.placed.Placed.{Placed}
 use Rattle.tp_decode.specs.Cutting.{Cut, IsSpelled, placed_from, starts_from}
@@ -20,15 +20,14 @@ use Rattle.tp_state.specs.declared.state.State.{State}
 use Rattle.tp_state.specs.declared.fault.StateCode.{StateCode}
 use Rattle.tp_state.specs.declared.fault.StateFault.{StateFault}
 use Rattle.tp_state.specs.Answer.{◌>>=◌}
-use Rattle.tp_state.specs.Order.{join}
 use Rattle.tp_state.specs.Entry.{entry}
 use Rattle.tp_state.specs.After.{after}
 use Rattle.tp_check.specs.Tables.{Table, table_of, asked}
 use Rattle.tp_check.specs.Passes.{enter, go_along, with_place, along_edges, edges_from, edges_of, pass, passes, first_table, IsVerdict}
 use Rattle.tp_check.specs.UnderWay.{IsPlacedAt, HasGrown, MayBeTaken}
-use Rattle.tp_check.specs.Rising.{state_height, table_height}
-use Rattle.tp_check.proofs.Heights.{Sinks, sound_words, state_sinks, state_light, table_sinks}
-use Rattle.tp_check.proofs.TableSteps.{table_at, table_set}
+use Rattle.tp_check.specs.Rising.{table_height}
+use Rattle.tp_check.proofs.Heights.{Sinks, sound_words}
+use Rattle.tp_check.proofs.TableSteps.{table_set, enter_sinks}
 use Rattle.tp_check.proofs.Places.{last_above, no_last, stands_at}
 use Rattle.tp_check.proofs.Entering.{Becomes, Entered, entered, elsewhere, there, grows, first_grown}
 use Rattle.tp_check.proofs.Taking.{along_none, along_some, enter_none, arrives_at}
@@ -99,18 +98,9 @@ module _ (image : ImageValue) (places : ℕ) where
               subst (IsSound image) here (sound_there (table_of states to) refl e.becomes)
           by_place (inr other) = kept.sound at t (sym (elsewhere (table_of states) to s new at e other) ∙ is)
 
-      sinks_there : (o : Option State) → table_of states to ≡ o → Becomes o s e.state → Sinks (table_height image) states (slice_set states to (Some e.state))
-      sinks_there None is same =
-          let none : slice_index_or states to None ≡ None = sym (table_at states to inside) ∙ is in
-          inr (table_sinks image states to (Some e.state) inside (rw (none, same) (state_light image s (sound_words image s sound) sound.placed.sized)))
-      sinks_there (Some u) is (wptr, phase, same) = by_sink (state_sinks u s (sound_words image s sound) (sound.placed.sized ∙ sym (kept.sound to u is).placed.sized))
-        where
-          there_is : slice_index_or states to None ≡ Some u
-          there_is = sym (table_at states to inside) ∙ is
-
-          by_sink : Sinks state_height u (join u s) → Sinks (table_height image) states (slice_set states to (Some e.state))
-          by_sink (inl stays) = inl (ap (λ o. slice_set states to o) (ap Some (same ∙ stays) ∙ sym there_is) ∙ set-get_or states to None)
-          by_sink (inr less) = inr (table_sinks image states to (Some e.state) inside (rw (there_is, same) less))
+      alike : (o : Option State) → table_of states to ≡ o → IfSome o (λ u. length s.cells ≡ length u.cells)
+      alike None is = tt
+      alike (Some u) is = sound.placed.sized ∙ sym (kept.sound to u is).placed.sized
 
       leads : Leads image places states new
       leads = record {
@@ -121,7 +111,7 @@ module _ (image : ImageValue) (places : ℕ) where
           sound = λ at t is. sound_at at t (ap (λ (table : Table). table at) made ∙ is);
           sized = length-set states to (Some e.state) ∙ kept.sized;
         };
-        sinks = sinks_there (table_of states to) refl e.becomes;
+        sinks = enter_sinks image states to s e.state inside (sound_words image s sound) sound.placed.sized (alike (table_of states to) refl) e.becomes;
       }
 
     comes : IfOk (enter (Some to) s (table_of states)) (Leads image places states)

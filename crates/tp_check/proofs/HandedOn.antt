@@ -5,7 +5,7 @@ use Rattle.tp_state.specs.declared.fault.StateFault.{StateFault}
 use Rattle.tp_state.specs.declared.fault.StateFault.TheVariants.{Refused, Memory}
 use Rattle.tp_state.specs.Answer.{◌>>=◌}
 use Rattle.tp_check.specs.Tables.{Table}
-use Rattle.tp_check.specs.UnderWay.{Carries}
+use Rattle.tp_check.specs.Steps.{Carries}
 
 -- a fault that is handed on
 pub carried_on : {X : Type 0} (r : Result X StateFault) (e : StateFault) (wanted : Result Table StateFault) (P Q : Table → Type 0) → IsErrAnd r (λ x. x ≡ e) → Carries {X = Bool} (Err e) wanted P → Carries r wanted Q

@@ -1,5 +1,5 @@
 -- Each change of a table leaves fewer changes to it.
-use Rattle.std.proofs.Common.{◌≡◌, ◌≢◌, ℕ, ◌+◌, ◌-◌, ◌*◌, ◌^◌, ◌<◌, ◌≤◌, ◌⊎◌, inl, inr, Bool, true, false, if◌then◌else◌, min, max, ℤ, pos, negsuc, ◌+ℤ◌, ◌-ℤ◌, ◌≤ℤ◌, int_le, FitsSigned, w32, List, [], ◌∷◌, length, slice_set, slice_index_or, Option, Some, None, Result, Ok, ◌==◌, refl, sym, ap, ◌∙◌, arith}
+use Rattle.std.proofs.Common.{◌≡◌, ℕ, ◌+◌, ◌-◌, ◌*◌, ◌^◌, ◌<◌, ◌≤◌, ◌⊎◌, inl, inr, Bool, true, false, if◌then◌else◌, min, max, ℤ, pos, negsuc, ◌+ℤ◌, ◌-ℤ◌, ◌≤ℤ◌, int_le, FitsSigned, w32, List, [], ◌∷◌, length, slice_set, slice_index_or, Option, None, refl, ap, arith}
 use Rattle.std.specs.Prelude.{sum_by}
 use Rattle.std.specs.Int.{int_min, int_max}
 use Rattle.std.specs.Ordering.{int_eq}
@@ -14,16 +14,8 @@ use Rattle.tp_state.specs.declared.cell.Cell.TheVariants.{Undef, Any, Known, Ind
 use Rattle.tp_state.specs.declared.state.State.{State}
 use Rattle.tp_state.specs.Kinds.{HasWordEnds}
 use Rattle.tp_state.specs.Sound.{IsRange, IsSoundKind, IsSound}
-use Rattle.tp_state.specs.Order.{join_kinds, join_cells, joined_cells, join, meeting, TellsChange}
-use Rattle.tp_state.specs.declared.fault.StateCode.{StateCode}
-use Rattle.tp_state.specs.declared.fault.StateCode.TheVariants.{S6, S9}
-use Rattle.tp_state.specs.Answer.{◌>>◌, unless, answered}
+use Rattle.tp_state.specs.Order.{join_kinds, join_cells, joined_cells, join}
 use Rattle.tp_check.specs.Rising.{size, kind_height, cell_height, state_height, height, table_height}
-
--- an answer tells whether an address's state has changed, and where it has, fewer changes are left
-pub record MovesState (image : ImageValue) (moved : Bool) (old new : Option State) : Type 0 where
-  pub stays : moved ≡ false → new ≡ old
-  pub falls : moved ≡ true → height image new < height image old
 
 -- it stays, or fewer changes are left
 abbrev pub Sinks : {X : Type 0} → (X → ℕ) → X → X → Type 0
@@ -222,36 +214,9 @@ state_light image s words long =
     let a = kind_light s.a words.a in let b = kind_light s.b words.b in let c = kind_light s.c words.c in let cells = cells_light s.cells in
     omega (arith, a, b, c, cells, long)
 
--- what a meeting comes to
-pub meets_to : (t s u : State) → Ok u ≡ meeting t s → u ≡ join t s
-meets_to t s u is = by_test (t.wptr == s.wptr) (t.phase == s.phase) is
-  where
-    by_test : (p q : Bool) → Ok u ≡ (unless S6 p >> (unless S9 q >> Ok (join t s))) → u ≡ join t s
-    by_test true true e = cc
-    by_test true false e = absurd cc
-    by_test false q e = absurd cc
-
 -- ---- tables
 
 -- where one address sinks, the table does
 pub table_sinks : (image : ImageValue) (states : List (Option State)) (i : ℕ) (new : Option State) → i < length states → height image new < height image (slice_index_or states i None) → table_height image (slice_set states i new) < table_height image states
 unfolding table_height
 table_sinks image states i new inside less = omega (arith, less, sum_by-set (height image) states i new None inside)
-
--- a state that comes to another
-pub join_moves : (image : ImageValue) (moved : Bool) (t s new : State) → HasWords s → length s.cells ≡ length t.cells → new ≡ join t s → TellsChange moved t new → MovesState image moved (Some t) (Some new)
-join_moves image moved t s new words long joined tells = record {
-  stays = λ same. ap Some (tells.stays same);
-  falls = λ differs. falls (tells.moves differs) (state_sinks t s words long);
-}
-  where
-    falls : new ≢ t → Sinks state_height t (join t s) → height image (Some new) < height image (Some t)
-    falls differs (inl same) = absurd (differs (joined ∙ same))
-    falls differs (inr less) = rw joined less
-
-pub joined_moves : (image : ImageValue) (moved : Bool) (t s new : State) (answer : Result Bool StateCode) → HasWords s → length s.cells ≡ length t.cells → answer ≡ Ok moved → answered answer new ≡ meeting t s → TellsChange moved t new → MovesState image moved (Some t) (Some new)
-joined_moves image moved t s new answer words long is value = join_moves image moved t s new words long (meets_to t s new (sym (ap (λ r. answered r new) is) ∙ value))
-
--- and the first one
-pub first_moves : (image : ImageValue) (s : State) → HasWords s → length s.cells ≡ image.workspace → MovesState image true None (Some s)
-first_moves image s words long = record { stays = λ e. absurd (cc); falls = λ _. state_light image s words long }

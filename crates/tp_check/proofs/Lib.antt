@@ -1,6 +1,6 @@
 pub mod PassLemmas
-mod Heights
-mod TableSteps
+pub mod Heights
+pub mod TableSteps
 pub mod Places
 mod Loading
 mod Entering

@@ -10,7 +10,7 @@ use Rattle.tp_state.specs.declared.state.State.{State}
 use Rattle.tp_state.specs.declared.fault.StateFault.{StateFault}
 use Rattle.tp_state.specs.declared.fault.StateFault.TheVariants.{Refused, Memory}
 use Rattle.tp_state.specs.Conditions.{IsPlaced}
-use Rattle.tp_state.specs.Order.{IsBelow}
+use Rattle.tp_state.specs.Order.{IsBelow, TellsChange}
 use Rattle.tp_state.specs.Sound.{IsSound}
 use Rattle.tp_state.proofs.StateOrder.{is_below-self, is_below-trans}
 use Rattle.tp_state.specs.After.{after}
@@ -19,10 +19,15 @@ use Rattle.tp_check.specs.Tables.{Table, table_of, with_state}
 use Rattle.tp_check.specs.EdgesRespect.{HasAbove}
 use Rattle.tp_check.specs.Passes.{enter, edges_from, edges_in}
 use Rattle.tp_check.specs.Carried.{target_of, over, is_head, IsAmong}
-use Rattle.tp_check.specs.UnderWay.{IsPlacedAt, HasGrown, MayBeTaken, is_in, IsPropagated, IsDone, WasTaken, KeepsSound, HasCome, waits, repeats, Waits, KeepsWhole, AreLeft, IsApart, IsAfterEdge, IsLedOn, SameButStates, Carries, marked}
-use Rattle.tp_check.specs.Rising.{CameBefore, Gives, Moves}
+use Rattle.tp_check.specs.UnderWay.{IsPlacedAt, HasGrown, MayBeTaken, is_in, IsPropagated, IsDone, WasTaken, KeepsSound, HasCome, waits, repeats, Waits, KeepsWhole, AreLeft, IsApart}
+use Rattle.tp_check.specs.Steps.{IsAfterEdge, IsLedOn, SameButStates, Carries, marked}
+use Rattle.tp_check.specs.Rising.{Moves}
+use Rattle.tp_check.specs.Comes.{CameBefore, Gives}
 use Rattle.tp_check.proofs.Again.{rises_after, sound_after, sound_joined, sound_alone}
 use Rattle.tp_check.proofs.Entering.{Entered, entered, elsewhere, grows, comes_below, rises}
+use Rattle.tp_check.proofs.Heights.{HasWords, sound_words}
+use Rattle.tp_check.proofs.Moving.{moves_none}
+use Rattle.tp_check.proofs.TableSteps.{enter_moves}
 use Rattle.tp_check.proofs.Taking.{arrives_at}
 use Rattle.tp_check.proofs.Nests.{ways_at, or_left}
 use Rattle.tp_check.proofs.Settling.{differ, differ_too, enters_alike, refuses_alike, with_there, with_elsewhere, over_nowhere, over_joined, over_alone}
@@ -33,6 +38,18 @@ pub record IsMoved (v : State) (old new : Passes) : Type 0 where
   pub carried : new.carried ≡ v
   pub is_again : new.is_again ≡ old.is_again
   pub taken : new.taken.items ≡ old.taken.items
+
+-- the states that are kept where edges join are those of the image's worker
+pub kept_is_placed : (image : ImageValue) (is_join : ℕ → Bool) (p : Passes) (whole : Table) → KeepsWhole image is_join p whole → (at : ℕ) → is_join at ≡ true → IfSome (table_of p.states.items at) (IsPlaced image)
+kept_is_placed image is_join p whole keeps at is = by_state (table_of p.states.items at) refl
+  where
+    by_state : (o : Option State) → table_of p.states.items at ≡ o → IfSome o (IsPlaced image)
+    by_state None e = search rules
+    by_state (Some s) e = (keeps.grown.states at s (keeps.states at is ∙ e)).placed
+
+pub as_many_words : (image : ImageValue) (o : Option State) (v : State) → IfSome o (IsPlaced image) → IsPlaced image v → IfSome o (λ s. length v.cells ≡ length s.cells)
+as_many_words image None v stands fits = tt
+as_many_words image (Some s) v stands fits = fits.sized ∙ sym stands.sized
 
 module _ (image : ImageValue) (is_join : ℕ → Bool) (old : Passes) (place : Placed) (edge : Edge) (later : List Edge) (apart : IsApart edge later) (on : AreLeft image is_join old place (edge ∷ later)) (may : MayBeTaken image (length old.states.items) place) (sure : KeepsSound image place) (v : State)
     (goes : after image place.at place.next place.instr edge old.carried ≡ Ok v) (fits : IsPlaced image v) where
@@ -465,19 +482,24 @@ module _ (image : ImageValue) (is_join : ℕ → Bool) (old : Passes) (place : P
                 subst (λ a. Carries a (over image is_join ((place, edge) ∷ []) on.whole) (IsAfterEdge image on.cuts is_join old new place edge later on.whole)) (sym stays.0)
                 (to_next is new (ap (λ (p : Passes). p.states.items) stays.1 ∙ led_states) (ap (λ (p : Passes). p.changed.items) stays.1 ∙ led_changed) moved_so (λ same. rest.is_carried ∙ led_on.next same))
 
+      -- what is told of a change tells that fewer are left
+      pub moves_led : (r : Result Bool StateFault) → (is_join to ≡ true → Gives r (table_of new.states.items) (enter (Some to) led.carried (table_of led.states.items))) → (is_join to ≡ true → IfOk r (λ moved. TellsChange moved led.states.items new.states.items)) → (is_join to ≡ false → (r ≡ Ok false) × (new ≡ led))
+          → length new.states.items ≡ length led.states.items → IfOk r (λ moved. Moves image moved led.states.items new.states.items)
+      moves_led r gives tells alone sized = by_join (is_join to) refl
+        where
+          by_answer : (r : Result Bool StateFault) → is_join to ≡ true → Gives r (table_of new.states.items) (enter (Some to) led.carried (table_of led.states.items)) → IfOk r (λ moved. TellsChange moved led.states.items new.states.items) → IfOk r (λ moved. Moves image moved led.states.items new.states.items)
+          by_answer (Ok moved) is gives tells =
+              enter_moves image moved led.states.items new.states.items to led.carried (let le = may.targets edge to leads in let same = ap length led_states in omega (arith, le, same)) sized gives tells (subst HasWords (sym led_carried) (sound_words image v sound_v)) (ap (λ (s : State). length s.cells) led_carried ∙ fits.sized)
+              (as_many_words image (table_of led.states.items to) led.carried (subst (λ items. IfSome (table_of items to) (IsPlaced image)) (sym led_states) (kept_is_placed image is_join old on.whole on.way.keeps to is)) (subst (IsPlaced image) (sym led_carried) fits))
+          by_answer (Err e) is gives tells = tt
+
+          by_join : (b : Bool) → is_join to ≡ b → IfOk r (λ moved. Moves image moved led.states.items new.states.items)
+          by_join true is = by_answer r is (gives is) (tells is)
+          by_join false is =
+              let stays = alone is in
+              subst (λ a. IfOk a (λ moved. Moves image moved led.states.items new.states.items)) (sym stays.0) (subst (λ (p : Passes). Moves image false led.states.items p.states.items) (sym stays.1) (moves_none image led.states.items))
+
       pub came_led : is_join to ≡ true → led.is_again ≡ true → CameBefore (table_of led.states.items to) led.carried
       came_led is again =
           subst (λ s. CameBefore (table_of led.states.items to) s) (sym led_carried)
           (subst (λ items. CameBefore (table_of items to) v) (sym led_states) (came_before (sym (ap (λ (p : Passes). p.is_again) led_on.same) ∙ again) to leads is))
-
--- the states that are kept where edges join are those of the image's worker
-pub kept_is_placed : (image : ImageValue) (is_join : ℕ → Bool) (p : Passes) (whole : Table) → KeepsWhole image is_join p whole → (at : ℕ) → is_join at ≡ true → IfSome (table_of p.states.items at) (IsPlaced image)
-kept_is_placed image is_join p whole keeps at is = by_state (table_of p.states.items at) refl
-  where
-    by_state : (o : Option State) → table_of p.states.items at ≡ o → IfSome o (IsPlaced image)
-    by_state None e = search rules
-    by_state (Some s) e = (keeps.grown.states at s (keeps.states at is ∙ e)).placed
-
-pub as_many_words : (image : ImageValue) (o : Option State) (v : State) → IfSome o (IsPlaced image) → IsPlaced image v → IfSome o (λ s. length v.cells ≡ length s.cells)
-as_many_words image None v stands fits = tt
-as_many_words image (Some s) v stands fits = fits.sized ∙ sym stands.sized

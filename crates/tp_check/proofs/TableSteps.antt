@@ -3,20 +3,24 @@ use Rattle.std.proofs.Common.{◌≡◌, ℕ, zero, suc, ◌<◌, ◌==◌, nat_
 use mathlib.Core.Path.{fun_ext}
 use Rattle.std.specs.Option.{option_and_then}
 use Rattle.std.proofs.lemmas.Bool.Decides.{nat_tests}
-use Rattle.std.proofs.Common.{length-set}
+use Rattle.std.specs.Prelude.{IfSome}
+use Rattle.std.proofs.Common.{length-set, get_or-set_same, inl, inr, subst}
+use Rattle.std.proofs.lemmas.Option.{same_Some}
 use Rattle.std.proofs.lemmas.List.{set-get_or, length-replicate}
 use Rattle.tp_image.specs.Image.{ImageValue}
 use Rattle.tp_state.specs.declared.state.State.{State}
 use Rattle.tp_state.specs.declared.fault.StateCode.{StateCode}
-use Rattle.tp_state.specs.Order.{IsBelow, join}
+use Rattle.tp_state.specs.Order.{IsBelow, join, TellsChange}
 use Rattle.tp_state.specs.declared.fault.StateFault.{StateFault}
 use Rattle.tp_state.specs.declared.fault.StateFault.TheVariants.{Refused, Memory}
 use Rattle.tp_state.specs.Answer.{◌>>=◌}
 use Rattle.tp_state.specs.Entry.{entry}
 use Rattle.tp_check.specs.Tables.{table_of, with_state, no_states}
 use Rattle.tp_check.specs.Passes.{enter, first_table, with_place, meeting_if_any}
-use Rattle.tp_check.specs.Rising.{Gives, Moves, height}
-use Rattle.tp_check.proofs.Heights.{MovesState, table_sinks}
+use Rattle.tp_check.specs.Rising.{Moves, state_height, table_height}
+use Rattle.tp_check.specs.Comes.{Gives}
+use Rattle.tp_check.proofs.Entering.{Becomes, Entered, entered}
+use Rattle.tp_check.proofs.Heights.{Sinks, HasWords, state_sinks, state_light, table_sinks}
 
 -- an answer is the definition's where a state comes to an address, or a want of memory
 abbrev pub GivesState : {X : Type 0} → Result X StateFault → Option State → Result State StateFault → Type 0
@@ -60,12 +64,61 @@ enter_gives states i there new s r h is given = by_answer r (with_place i (meeti
     by_answer (Err (Refused code place)) wanted e gives = ap (λ r. r >>= (λ t. Ok (with_state i t (table_of states)))) (e ∙ gives)
     by_answer (Err Memory) wanted e gives = tt
 
-pub enter_moves : (image : ImageValue) (states : List (Option State)) (i : ℕ) (there new : Option State) (moved : Bool) → i < length states → there ≡ slice_index_or states i None → MovesState image moved there new → Moves image moved states (slice_set states i new)
-enter_moves image states i there new moved h is moves = record {
-  sized = length-set states i new;
-  stays = λ same. ap (slice_set states i) (moves.stays same ∙ is) ∙ set-get_or states i None;
-  falls = λ differs. table_sinks image states i new h (subst (λ o. height image new < height image o) is (moves.falls differs));
+-- a list tells a change where an address does
+set_tells : (states : List (Option State)) (i : ℕ) (there new : Option State) (moved : Bool) → i < length states → there ≡ slice_index_or states i None → TellsChange moved there new → TellsChange moved states (slice_set states i new)
+set_tells states i there new moved h is tells = record {
+  stays = λ same. ap (slice_set states i) (tells.stays same ∙ is) ∙ set-get_or states i None;
+  moves = λ differs same. tells.moves differs (sym (get_or-set_same states i new None h) ∙ ap (λ items. slice_index_or items i None) same ∙ sym is);
 }
+
+pub some_tells : (moved : Bool) (t new : State) → TellsChange moved t new → TellsChange moved (Some t) (Some new)
+some_tells moved t new tells = record { stays = λ same. ap Some (tells.stays same); moves = λ differs same. tells.moves differs (same_Some new t same) }
+
+pub first_tells : (s : State) → TellsChange true None (Some s)
+first_tells s = record { stays = λ e. absurd cc; moves = λ e same. cc }
+
+same_lists : (xs ys : List (Option State)) → length xs ≡ length ys → ((x : ℕ) → table_of xs x ≡ table_of ys x) → xs ≡ ys
+same_lists [] [] sized each = refl
+same_lists [] (y ∷ ys) sized each = absurd (omega (arith, sized))
+same_lists (x ∷ xs) [] sized each = absurd (omega (arith, sized))
+same_lists (x ∷ xs) (y ∷ ys) sized each =
+    let first : x ≡ y = sym (table_at (x ∷ xs) 0 (omega arith)) ∙ each 0 ∙ table_at (y ∷ ys) 0 (omega arith) in
+    let others : xs ≡ ys = same_lists xs ys (omega (arith, sized)) (λ n. each (suc n)) in
+    ap (λ o. o ∷ xs) first ∙ ap (λ items. y ∷ items) others
+
+-- where a state comes to an address, the table is as before or has fewer changes left
+pub enter_sinks : (image : ImageValue) (states : List (Option State)) (to : ℕ) (s t : State) → to < length states → HasWords s → length s.cells ≡ image.workspace → IfSome (table_of states to) (λ u. length s.cells ≡ length u.cells) → Becomes (table_of states to) s t
+    → Sinks (table_height image) states (slice_set states to (Some t))
+enter_sinks image states to s t inside words long sized becomes = by_state (table_of states to) refl sized becomes
+  where
+    there_is : slice_index_or states to None ≡ table_of states to
+    there_is = sym (table_at states to inside)
+
+    by_state : (o : Option State) → table_of states to ≡ o → IfSome o (λ u. length s.cells ≡ length u.cells) → Becomes o s t → Sinks (table_height image) states (slice_set states to (Some t))
+    by_state None is alike same = inr (table_sinks image states to (Some t) inside (rw (there_is ∙ is, same) (state_light image s words long)))
+    by_state (Some u) is alike (wptr, phase, same) = by_sink (state_sinks u s words alike)
+      where
+        by_sink : Sinks state_height u (join u s) → Sinks (table_height image) states (slice_set states to (Some t))
+        by_sink (inl stays) = inl (ap (λ o. slice_set states to o) (ap Some (same ∙ stays) ∙ sym (there_is ∙ is)) ∙ set-get_or states to None)
+        by_sink (inr less) = inr (table_sinks image states to (Some t) inside (rw (there_is ∙ is, same) less))
+
+-- so a list that tells a change has fewer changes left
+pub enter_moves : (image : ImageValue) (moved : Bool) (old new : List (Option State)) (to : ℕ) (s : State) → to < length old → length new ≡ length old → enter (Some to) s (table_of old) ≡ Ok (table_of new) → TellsChange moved old new → HasWords s → length s.cells ≡ image.workspace
+    → IfSome (table_of old to) (λ u. length s.cells ≡ length u.cells) → Moves image moved old new
+enter_moves image moved old new to s inside sized gives tells words long alike = record { sized = sized; stays = tells.stays; falls = λ differs. by_sink differs (subst (Sinks (table_height image) old) (sym set) sinks) }
+  where
+    it : Entered (table_of old) to s (table_of new)
+    it = entered (table_of old) to s (table_of new) gives
+
+    set : new ≡ slice_set old to (Some it.state)
+    set = same_lists new (slice_set old to (Some it.state)) (sized ∙ sym (length-set old to (Some it.state))) (λ x. ap (λ (t : ℕ → Option State). t x) (it.is ∙ sym (table_set old to it.state inside)))
+
+    sinks : Sinks (table_height image) old (slice_set old to (Some it.state))
+    sinks = enter_sinks image old to s it.state inside words long alike it.becomes
+
+    by_sink : moved ≡ true → Sinks (table_height image) old new → table_height image new < table_height image old
+    by_sink differs (inl same) = absurd (tells.moves differs same)
+    by_sink differs (inr less) = less
 
 -- ---- a state comes to another
 
@@ -88,8 +141,8 @@ module _ (states : List (Option State)) (i : ℕ) (inside : i < length states) (
     pub comes_to : with_place i (meeting_if_any there s) ≡ Ok new → enter (Some i) s (table_of states) ≡ Ok (table_of (slice_set states i (Some new)))
     comes_to e = enter_gives states i there (Some new) s (Ok true) inside (slot_is states i d there inside is) (new, refl, e)
 
-    pub changes : (image : ImageValue) (moved : Bool) → MovesState image moved there (Some new) → Moves image moved states (slice_set states i (Some new))
-    changes image moved m = enter_moves image states i there (Some new) moved inside (slot_is states i d there inside is) m
+    pub changes : (moved : Bool) → TellsChange moved there (Some new) → TellsChange moved states (slice_set states i (Some new))
+    changes moved tells = set_tells states i there (Some new) moved inside (slot_is states i d there inside is) tells
 
   pub refused_there : (s : State) (code : StateCode) → with_place i (meeting_if_any there s) ≡ Err (Refused code i) → enter (Some i) s (table_of states) ≡ Err (Refused code i)
   refused_there s code e = enter_gives states i there there s (Err (Refused code i)) inside (slot_is states i d there inside is) e

@@ -15,7 +15,8 @@ use Rattle.tp_check.specs.declared.passes.Passes.{Passes}
 use Rattle.tp_check.specs.Tables.{Table, table_of, asked}
 use Rattle.tp_check.specs.Passes.{edges_of, edges_in}
 use Rattle.tp_check.specs.Carried.{target_of, over, go_over, IsAmong}
-use Rattle.tp_check.specs.UnderWay.{is_in, AreJoins, AreLeft, IsDone, IsPropagated, WasTaken, waits, repeats, Waits, KeepsWhole, IsUnderWay, IsBefore, StandsIn, Carries, IsStarted}
+use Rattle.tp_check.specs.UnderWay.{is_in, AreJoins, AreLeft, IsDone, IsPropagated, WasTaken, waits, repeats, Waits, KeepsWhole, IsUnderWay, IsBefore, StandsIn}
+use Rattle.tp_check.specs.Steps.{Carries, IsStarted}
 use Rattle.tp_check.proofs.Entering.{enters_below, same_there}
 use Rattle.tp_check.proofs.Nests.{ways_at}
 use Rattle.tp_check.proofs.Settling.{over_none, over_nowhere, over_joined, over_alone}

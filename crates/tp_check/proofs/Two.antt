@@ -14,7 +14,8 @@ use Rattle.tp_check.specs.declared.passes.Passes.{Passes}
 use Rattle.tp_check.specs.Tables.{Table, asked}
 use Rattle.tp_check.specs.Passes.{edges_from, edges_of, edges_in}
 use Rattle.tp_check.specs.Carried.{target_of, over, IsAmong}
-use Rattle.tp_check.specs.UnderWay.{HasCome, IsUnderWay, IsBefore, AreLeft, IsApart, IsAfterEdge, Carries}
+use Rattle.tp_check.specs.UnderWay.{HasCome, IsUnderWay, IsBefore, AreLeft, IsApart}
+use Rattle.tp_check.specs.Steps.{IsAfterEdge, Carries}
 use Rattle.tp_check.proofs.Again.{asked_apart}
 use Rattle.tp_check.proofs.HandedOn.{then_more}
 use Rattle.tp_check.proofs.Turning.{over_one}

@@ -28,8 +28,10 @@ use Rattle.tp_check.specs.Tables.{Table, table_of, asked}
 use Rattle.tp_check.specs.Passes.{edges_of, edges_in, first_table, pass, passes, IsVerdict, IsRefusalOf}
 use Rattle.tp_check.specs.Carried.{IsAmong, over, only_joins, is_kept, is_head, reached, AreStatesOf, IsTableOf}
 use Rattle.tp_check.specs.StatesThere.{AreStatesThere}
-use Rattle.tp_check.specs.UnderWay.{is_in, AreJoins, IsDone, waits, repeats, Waits, IsBefore, StandsIn, Carries, IsAfter, Leaves, IsSettled}
-use Rattle.tp_check.specs.Rising.{HasPlaces, table_height}
+use Rattle.tp_check.specs.UnderWay.{is_in, AreJoins, IsDone, waits, repeats, Waits, IsBefore, StandsIn}
+use Rattle.tp_check.specs.Steps.{Carries, IsAfter, Leaves, IsSettled}
+use Rattle.tp_check.specs.Rising.{table_height}
+use Rattle.tp_check.specs.Comes.{HasPlaces}
 use Rattle.tp_check.proofs.Places.{stands_at}
 use Rattle.tp_check.proofs.Entering.{first_grown}
 use Rattle.tp_check.proofs.Nests.{or_left}

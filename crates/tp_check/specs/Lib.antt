@@ -2,7 +2,7 @@
 pub mod Tables
 pub mod EdgesRespect
 pub mod Passes
-pub mod Rising
+pub mod Comes
 pub mod Carried
 pub mod StatesThere
 pub use Rattle.tp_state.specs.After
@@ -11,4 +11,6 @@ pub use Rattle.tp_state.specs.Entry
 pub use Rattle.tp_flow.specs.NestKept
 -- What only private steps cite.
 pub mod UnderWay
+pub mod Steps
+pub mod Rising
 pub mod Joining

@@ -1,29 +1,11 @@
--- What comes of a state that comes to an address, and how many changes are left to a table.
-use Rattle.std.specs.Prelude.{◌≡◌, ℕ, ◌+◌, ◌*◌, ◌-◌, ◌^◌, ◌<◌, Bool, true, false, ℤ, pos, negsuc, ◌+ℤ◌, ◌-ℤ◌, List, length, sum_by, Option, Some, None, Result, Ok, Err, IsTrue}
-use Rattle.tp_decode.specs.Cutting.{Cut}
-use Rattle.tp_flow.specs.RowRules.{is_start}
+-- How many changes are left to a table.
+use Rattle.std.specs.Prelude.{◌≡◌, ℕ, ◌+◌, ◌*◌, ◌-◌, ◌^◌, ◌<◌, Bool, true, false, ℤ, pos, negsuc, ◌+ℤ◌, ◌-ℤ◌, List, length, sum_by, Option, Some, None}
 use Rattle.tp_image.specs.Image.{ImageValue}
 use Rattle.tp_state.specs.declared.kind.Kind.{Kind}
 use Rattle.tp_state.specs.declared.kind.Kind.TheVariants as kind
 use Rattle.tp_state.specs.declared.cell.Cell.{Cell}
 use Rattle.tp_state.specs.declared.cell.Cell.TheVariants as cell
 use Rattle.tp_state.specs.declared.state.State.{State}
-use Rattle.tp_state.specs.declared.fault.StateFault.{StateFault}
-use Rattle.tp_state.specs.declared.fault.StateFault.TheVariants.{Refused, Memory}
-use Rattle.tp_state.specs.Order.{IsBelow}
-use Rattle.tp_check.specs.Tables.{Table}
-
--- something came to an address before that is below what comes now
-pub record CameBefore (there : Option State) (s : State) : Type 0 where
-  pub before : State
-  pub state : State
-  pub is : there ≡ Some state
-  pub rose : IsBelow before state
-  pub below : IsBelow before s
-
--- each instruction has its place
-abbrev pub HasPlaces : List Cut → ℕ → Type 0
-HasPlaces cuts places = (at : ℕ) → IsTrue (is_start cuts at) → at < places
 
 -- a whole number, or 0 in place of one below 0
 abbrev pub size : ℤ → ℕ
@@ -54,12 +36,6 @@ height image (Some s) = state_height s
 -- and to a table
 unfoldable pub table_height : ImageValue → List (Option State) → ℕ
 table_height image states = sum_by (height image) states
-
--- its answer is the definition's, or a want of memory
-abbrev pub Gives : {X : Type 0} → Result X StateFault → Table → Result Table StateFault → Type 0
-Gives (Ok x) table wanted = wanted ≡ Ok table
-Gives (Err (Refused code place)) table wanted = wanted ≡ Err (Refused code place)
-Gives (Err Memory) table wanted = Unit {0}
 
 -- it tells whether a table has changed, and where it has, fewer changes are left
 pub record Moves (image : ImageValue) (moved : Bool) (old new : List (Option State)) : Type 0 where

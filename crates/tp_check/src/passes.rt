@@ -3,22 +3,22 @@
 ghost use Rattle.std.specs.Prelude.{◌≡◌, ◌≢◌, ◌<◌, ◌≤◌, ◌+◌, ◌^◌, ◌∷◌, [], ℕ, true, false, length, List, Some, Ok, IfOk, IfErr, IfSome, OnOk};
 ghost use Rattle.std.specs.List.{AllByRecursion};
 ghost use Rattle.tp_decode.specs.Cutting.{Cut, IsSpelled};
-ghost use Rattle.tp_decode.specs.declared.instr.Instr.{Instr as AnInstr};
 ghost use Rattle.tp_flow.specs.declared.edge.Edge.{Edge as AnEdge};
 ghost use Rattle.tp_flow.specs.NestRanges.{ranges};
 ghost use Rattle.tp_flow.specs.NestKept.{KeepsNest};
-ghost use Rattle.tp_flow.specs.RowRules.{is_start};
-ghost use Rattle.tp_image.specs.Image.{ImageValue, InRange};
-ghost use Rattle.tp_state.specs.Order.{IsBelow};
+ghost use Rattle.tp_image.specs.Image.{InRange};
+ghost use Rattle.tp_state.specs.Order.{IsBelow, TellsChange};
 ghost use Rattle.tp_state.specs.declared.fault.StateFault.TheVariants as fault;
 ghost use Rattle.tp_check.specs.Tables.{table_of, asked};
 ghost use Rattle.tp_check.specs.EdgesRespect.{HasNoTable};
-ghost use Rattle.tp_check.specs.Passes.{enter, edges_of, edges_in, IsVerdict, IsRefusalOf};
+ghost use Rattle.tp_check.specs.Passes.{enter, edges_of, edges_in, IsRefusalOf};
 ghost use Rattle.tp_check.specs.Carried.{over, IsTableOf};
 ghost use Rattle.tp_check.specs.StatesThere.{AreStatesThere};
-ghost use Rattle.tp_check.specs.Joining.{is_join_at, is_kept_at};
-ghost use Rattle.tp_check.specs.UnderWay.{is_in, IsBeginning, Leaves, AreJoins, AreLeft, IsApart, HasWhole, MayBeTaken, StandsIn, IsBefore, Carries, TakesEdges, marked, SameButStates, IsStarted, KeepsSound, IsAfterEdge, IsLedOn, IsSettled};
-ghost use Rattle.tp_check.specs.Rising.{HasPlaces, Gives, Moves, CameBefore};
+ghost use Rattle.tp_check.specs.Joining.{is_join_at};
+ghost use Rattle.tp_check.specs.UnderWay.{is_in, AreJoins, AreLeft, IsApart, MayBeTaken, StandsIn, IsBefore, KeepsSound};
+ghost use Rattle.tp_check.specs.Steps.{IsBeginning, Leaves, HasWhole, Carries, TakesEdges, marked, SameButStates, IsStarted, IsAfterEdge, IsLedOn, IsSettled};
+ghost use Rattle.tp_check.specs.Rising.{Moves};
+ghost use Rattle.tp_check.specs.Comes.{HasPlaces, Gives, CameBefore};
 
 use crate::predecessors::Predecessors;
 use crate::states::{enter, first_states, read_into};
@@ -374,8 +374,9 @@ impl Passes {
             IfOk result (λ moved. self.new.changed.items ≡ marked moved to self.old.changed.items) }
         ensures rest { SameButStates self.old self.new }
         ensures alone { is_join_at predecessors.now to ≡ false → (result ≡ Ok false) × (self.new ≡ self.old) }
-        ensures moves { (image : ImageValue) → length self.old.carried.cells ≡ image.workspace →
-            IfOk result (λ moved. Moves image moved self.old.states.items self.new.states.items) }
+        ensures sized { length self.new.states.items ≡ length self.old.states.items }
+        ensures tells { is_join_at predecessors.now to ≡ true →
+            IfOk result (λ moved. TellsChange moved self.old.states.items self.new.states.items) }
     {
         if !predecessors.is_join(to) {
             return Ok(false);

@@ -9,8 +9,8 @@ ghost use Rattle.tp_flow.specs.NestKept.{KeepsNest};
 ghost use Rattle.tp_check.specs.Passes.{edges_in, edges_of};
 ghost use Rattle.tp_check.specs.Carried.{is_kept, IsAmong};
 ghost use Rattle.tp_check.specs.UnderWay.{AreJoins, MayBeTaken};
-ghost use Rattle.tp_check.specs.Rising.{HasPlaces};
-ghost use Rattle.tp_check.specs.Joining.{is_join, is_joined, is_join_at, is_kept_at, with_edge, TellPredecessors};
+ghost use Rattle.tp_check.specs.Comes.{HasPlaces};
+ghost use Rattle.tp_check.specs.Joining.{is_join, is_join_at, is_kept_at, with_edge, TellPredecessors};
 
 use crate::passes::asked;
 use std::alloc::{AllocError, Global};

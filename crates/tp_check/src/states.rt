@@ -1,11 +1,10 @@
 //! What is known before the instructions of a code, by address.
 
 ghost use Rattle.std.specs.Prelude.{◌≡◌, ◌<◌, length, replicate, true, false, Some, None, IfOk, IfSome, OnErr};
-ghost use Rattle.tp_image.specs.Image.{ImageValue};
-ghost use Rattle.tp_state.specs.Order.{IsBelow};
+ghost use Rattle.tp_state.specs.Order.{IsBelow, TellsChange};
 ghost use Rattle.tp_check.specs.Tables.{table_of, HasPlacedStates};
 ghost use Rattle.tp_check.specs.Passes.{enter, first_table};
-ghost use Rattle.tp_check.specs.Rising.{Gives, Moves, CameBefore};
+ghost use Rattle.tp_check.specs.Comes.{Gives, CameBefore};
 
 use std::alloc::{AllocError, Global};
 use tp_image::Image;
@@ -52,11 +51,10 @@ pub fn enter(
     requires sized { IfSome (table_of states.old to) (λ t. length state.now.cells ≡ length t.cells) }
     requires again { is_again ≡ true → CameBefore (table_of states.old to) state.now }
     ensures gives { Gives result (table_of states.new) (enter (Some to) state.now (table_of states.old)) }
-    ensures moves { (image : ImageValue) → length state.now.cells ≡ image.workspace →
-        IfOk result (λ moved. Moves image moved states.old states.new) }
+    ensures sized { length states.new ≡ length states.old }
+    ensures tells { IfOk result (λ moved. TellsChange moved states.old states.new) }
     ensures kept { OnErr result (states.new ≡ states.old) }
 {
-    state.has_word_ends();
     let slot = &mut states[to];
     match slot {
         Some(there) if is_again => Ok(there.join_compatible(state)),

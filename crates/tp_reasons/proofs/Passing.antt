@@ -17,7 +17,8 @@ use Rattle.tp_state.specs.declared.state.State.{State}
 use Rattle.tp_state.specs.Answer.{◌>>=◌}
 use Rattle.tp_state.specs.declared.fault.StateFault.TheVariants.{Refused}
 use Rattle.tp_state.specs.declared.fault.StateCode.{StateCode}
-use Rattle.tp_check.specs.Rising.{Gives, Moves, table_height}
+use Rattle.tp_check.specs.Rising.{Moves, table_height}
+use Rattle.tp_check.specs.Comes.{Gives}
 use Rattle.tp_state.proofs.AgreeLemmas.{written}
 use Rattle.tp_check.specs.Tables.{Table}
 use Rattle.tp_check.specs.Passes.{go_along, along_edges, first_table, pass, passes}

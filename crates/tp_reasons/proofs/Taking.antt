@@ -1,6 +1,6 @@
 -- One edge of a pass.
 use Rattle.std.proofs.Common.{◌≡◌, ℕ, ◌==◌, if◌then◌else◌, Bool, true, false, Option, Some, None, Result, Ok, Err, refl, sym, ◌∙◌, subst, rules}
-use Rattle.std.specs.Prelude.{IsErrAnd, OnErr}
+use Rattle.std.specs.Prelude.{IsErrAnd, OnErr, IfOk, IfSome, List, length, ◌<◌}
 use Rattle.std.proofs.lemmas.Option.{same_Some}
 use Rattle.tp_decode.specs.declared.placed.Placed.{Placed}
 use Rattle.tp_flow.specs.declared.edge.Edge.{Edge}
@@ -14,13 +14,16 @@ use Rattle.tp_state.specs.declared.fault.StateFault.{StateFault}
 use Rattle.tp_state.specs.declared.fault.StateFault.TheVariants.{Refused, Memory}
 use Rattle.tp_state.specs.Answer.{◌>>=◌, ◌>>◌, unless}
 use Rattle.tp_state.specs.Conditions.{IsPlaced}
-use Rattle.tp_state.specs.Order.{join, meeting}
+use Rattle.tp_state.specs.Order.{join, meeting, TellsChange}
 use Rattle.tp_state.specs.StateCodes.{IsFaultAt}
 use Rattle.tp_state.specs.After.{after}
 use Rattle.tp_state.proofs.JoinLemmas.{length-joined}
-use Rattle.tp_check.specs.Tables.{Table, with_state, HasPlacedStates}
+use Rattle.tp_check.specs.Tables.{Table, table_of, with_state, HasPlacedStates}
+use Rattle.tp_check.specs.Rising.{Moves}
+use Rattle.tp_check.proofs.Heights.{HasWords}
+use Rattle.tp_check.proofs.TableSteps.{enter_moves}
 use Rattle.tp_check.specs.Passes.{with_place, meeting_if_any, enter, go_along}
-use Rattle.tp_check.specs.Rising.{Gives}
+use Rattle.tp_check.specs.Comes.{Gives}
 
 -- ---- what an edge makes of a table
 
@@ -86,3 +89,14 @@ entered_placed image table new to u (Ok x) all comes gives kept = by_met (with_p
         let t_placed = met_placed image (table to) u t (all to) comes (placed_ok to _ t is) in
         subst (HasPlacedStates image) (let same : with_state to t table ≡ new = cc in same) (put_placed image table to t all t_placed)
     by_met (Err e) is same = absurd cc
+
+-- ---- fewer changes are left
+
+pub entered_moves : (image : ImageValue) (r : Result Bool StateFault) (old new : List (Option State)) (to : ℕ) (s : State) → to < length old → length new ≡ length old → Gives r (table_of new) (enter (Some to) s (table_of old)) → IfOk r (λ moved. TellsChange moved old new) → HasWords s → IsPlaced image s
+    → HasPlacedStates image (table_of old) → IfOk r (λ moved. Moves image moved old new)
+entered_moves image (Err e) old new to s inside sized gives tells words fits placed = tt
+entered_moves image (Ok moved) old new to s inside sized gives tells words fits placed = enter_moves image moved old new to s inside sized gives tells words fits.sized (alike (table_of old to) refl)
+  where
+    alike : (o : Option State) → table_of old to ≡ o → IfSome o (λ u. length s.cells ≡ length u.cells)
+    alike None is = tt
+    alike (Some u) is = fits.sized ∙ sym (placed to u is).sized

@@ -8,7 +8,8 @@ ghost use Rattle.tp_state.specs.declared.fault.StateFault.TheVariants.{Refused};
 ghost use Rattle.tp_check.specs.Tables.{Table, asked, table_of, HasPlacedStates};
 ghost use Rattle.tp_check.specs.Passes.{edges_in, edges_of, go_along, IsVerdict};
 ghost use Rattle.tp_check.specs.UnderWay.{MayBeTaken};
-ghost use Rattle.tp_check.specs.Rising.{Gives, Moves};
+ghost use Rattle.tp_check.specs.Rising.{Moves};
+ghost use Rattle.tp_check.specs.Comes.{Gives};
 ghost use Rattle.tp_reasons.specs.FirstRefusals.{IfFound, IsFirstRefusal, EndsAs};
 
 use crate::refusal::{EdgeRefusal, FirstRefusal};
@@ -154,6 +155,7 @@ fn take(
         return Ok(false);
     };
     let outcome = after(alloc, before, at, next, instr, edge, image, nest)?;
+    outcome.has_word_ends();
     match nest.target(at, next, instr, edge) {
         Some(to) => enter(alloc, table, to, &outcome, false),
         None => Ok(false),

@@ -3,8 +3,8 @@ use Rattle.tp_flow.specs.NestRanges.{ranges}
 use Rattle.tp_flow.specs.Edges.{target}
 use Rattle.tp_check.specs.Tables.{table_of}
 use Rattle.tp_check.specs.Passes.{enter}
-use Rattle.tp_check.specs.Rising.{Gives}
-use Rattle.tp_reasons.proofs.Taking.{none_goes, outcome_goes, refused_goes, nowhere_goes, entered_placed}
+use Rattle.tp_check.specs.Comes.{Gives}
+use Rattle.tp_reasons.proofs.Taking.{none_goes, outcome_goes, refused_goes, nowhere_goes, entered_placed, entered_moves}
 use Rattle.tp_reasons.proofs.passes.take.Goals as goal
 
 pub returns-in_default-clause-gives : goal.returns-in_default-clause-gives
@@ -35,3 +35,11 @@ returns-clause-gives c =
     sym (c.target.ensures ∙ ap (λ nest. target nest c.args.instruction.at c.args.instruction.next c.args.instruction.instr c.args.edge) c.requires.nest) ∙ c.in-None.is in
     outcome_goes c.args.image.now c.args.instruction c.args.edge (table_of c.args.table.now) _ c.in-Some.before.now c.in_ok-outcome.outcome (search rules) c.in_ok-outcome.ensures.ok
     ∙ nowhere_goes c.in_ok-outcome.outcome (table_of c.args.table.now) _ leads
+
+pub returns-in-Some-target-clause-moves : goal.returns-in-Some-target-clause-moves
+returns-in-Some-target-clause-moves c =
+    entered_moves c.args.image.now c.enter.result c.args.table.now c.enter.new.states c.in-Some-target.to c.in_ok-outcome.outcome (c.requires.places.targets c.args.edge c.in-Some-target.to leads) c.enter.ensures.sized c.enter.ensures.gives c.enter.ensures.tells
+    (record { a = c.has_word_ends.ensures.a; b = c.has_word_ends.ensures.b; c = c.has_word_ends.ensures.c }) c.in_ok-outcome.ensures.placed c.requires.placed
+  where
+    leads : target (ranges c.args.image.now.loops) c.args.instruction.at c.args.instruction.next c.args.instruction.instr c.args.edge ≡ Some c.in-Some-target.to
+    leads = sym (c.target.ensures ∙ ap (λ nest. target nest c.args.instruction.at c.args.instruction.next c.args.instruction.instr c.args.edge) c.requires.nest) ∙ c.in-Some-target.is

@@ -1,12 +1,14 @@
-use Rattle.std.proofs.Common.{◌≡◌, length, Some, None, Ok, refl, sym, ap, ◌∙◌}
+use Rattle.std.proofs.Common.{◌≡◌, Some, None, Ok, refl, sym, ap, ◌∙◌, subst}
 use Rattle.tp_flow.specs.NestRanges.{ranges}
 use Rattle.tp_flow.specs.Edges.{target}
 use Rattle.tp_state.specs.After.{after}
 use Rattle.tp_check.specs.declared.passes.Passes.{Passes}
+use Rattle.std.specs.Prelude.{IfOk}
 use Rattle.tp_check.specs.Tables.{table_of}
+use Rattle.tp_check.specs.Rising.{Moves}
 use Rattle.tp_check.specs.Joining.{is_join_at}
 use Rattle.tp_check.proofs.Taking.{left}
-use Rattle.tp_check.proofs.Stepping.{nowhere, arrived, came_led, kept_is_placed, as_many_words}
+use Rattle.tp_check.proofs.Stepping.{nowhere, arrived, moves_led, came_led, kept_is_placed, as_many_words}
 use Rattle.tp_check.proofs.passes.Passes.take_edge.Goals as goal
 
 pub arrive-requires-clause-sized : goal.arrive-requires-clause-sized
@@ -28,7 +30,20 @@ arrive-requires-clause-again c =
 pub returns-in-Some-clause-gives : goal.returns-in-Some-clause-gives
 returns-in-Some-clause-gives c later apart way =
     arrived c.args.image.now (is_join_at c.args.predecessors.now) c.args.self.now c.args.place c.args.edge later apart way c.requires.place c.requires.sound c.go_on.new.self goes c.go_on.ensures.placed c.in-Some.to leads
-    c.lead_on.new.self c.arrive.new.self c.lead_on.ensures c.arrive.result c.arrive.ensures.rest c.arrive.ensures.is_join c.arrive.ensures.marks c.arrive.ensures.alone (c.arrive.ensures.moves c.args.image.now (ap (λ (p : Passes). length p.carried.cells) c.lead_on.ensures.same ∙ c.go_on.ensures.placed.sized))
+    c.lead_on.new.self c.arrive.new.self c.lead_on.ensures c.arrive.result c.arrive.ensures.rest c.arrive.ensures.is_join c.arrive.ensures.marks c.arrive.ensures.alone (moves_led c.args.image.now (is_join_at c.args.predecessors.now) c.args.self.now c.args.place c.args.edge c.requires.way.0 c.requires.way.1 c.requires.way.2 c.requires.place c.requires.sound c.go_on.new.self goes c.go_on.ensures.placed c.in-Some.to leads
+    c.lead_on.new.self c.arrive.new.self c.lead_on.ensures c.arrive.result c.arrive.ensures.is_join c.arrive.ensures.tells c.arrive.ensures.alone c.arrive.ensures.sized)
+  where
+    goes : after c.args.image.now c.args.place.at c.args.place.next c.args.place.instr c.args.edge c.args.self.now.carried ≡ Ok c.go_on.new.self
+    goes = left c.go_on.result c.in_default.field-0 c.go_on.new.self _ c.in_default.is c.go_on.ensures.value
+
+    leads : target (ranges c.args.image.now.loops) c.args.place.at c.args.place.next c.args.place.instr c.args.edge ≡ Some c.in-Some.to
+    leads = sym (c.target.ensures ∙ ap (λ nest. target nest c.args.place.at c.args.place.next c.args.place.instr c.args.edge) c.requires.nest) ∙ c.in-Some.is
+
+pub returns-in-Some-clause-moves : goal.returns-in-Some-clause-moves
+returns-in-Some-clause-moves c =
+    subst (λ items. IfOk c.arrive.result (λ moved. Moves c.args.image.now moved items c.arrive.new.self.states.items)) (ap (λ (p : Passes). p.states.items) c.lead_on.ensures.same)
+    (moves_led c.args.image.now (is_join_at c.args.predecessors.now) c.args.self.now c.args.place c.args.edge c.requires.way.0 c.requires.way.1 c.requires.way.2 c.requires.place c.requires.sound c.go_on.new.self goes c.go_on.ensures.placed c.in-Some.to leads
+    c.lead_on.new.self c.arrive.new.self c.lead_on.ensures c.arrive.result c.arrive.ensures.is_join c.arrive.ensures.tells c.arrive.ensures.alone c.arrive.ensures.sized)
   where
     goes : after c.args.image.now c.args.place.at c.args.place.next c.args.place.instr c.args.edge c.args.self.now.carried ≡ Ok c.go_on.new.self
     goes = left c.go_on.result c.in_default.field-0 c.go_on.new.self _ c.in_default.is c.go_on.ensures.value
