@@ -108,7 +108,7 @@ fn refuses_in_each_of_many_passes(rt: HostRuntime) {
         let found = found(&rt, &image).expect(&rt, "a refusal");
         assert_eq!(rt;
             found.passes.checked_add(1),
-            Some(u64::from(words)),
+            Some(u128::from(words)),
             "{words} words"
         );
         let head = state_at(&found.table, usize::from(HEAD)).expect(

@@ -1,5 +1,5 @@
 -- The passes, one edge and one pass after another.
-use Rattle.std.proofs.Common.{◌≡◌, ℕ, zero, suc, ◌+◌, ◌-◌, ◌^◌, ◌<◌, min, ◌||◌, Bool, true, false, List, [], ◌∷◌, ◌++◌, length, Option, Some, Ok, Err, Result, refl, sym, ap, ◌∙◌, subst, arith}
+use Rattle.std.proofs.Common.{◌≡◌, ℕ, zero, suc, ◌+◌, ◌^◌, ◌<◌, ◌||◌, Bool, true, false, List, [], ◌∷◌, ◌++◌, length, Option, Some, Ok, Err, Result, refl, sym, ap, ◌∙◌, subst, arith}
 use Rattle.std.specs.List.{flat_map}
 use Rattle.std.proofs.Common.{take, drop, slice_get, slice_index_or, add-one}
 use Rattle.std.proofs.Math.Seq.{take-suc, split_at}
@@ -11,13 +11,22 @@ use Rattle.tp_decode.specs.declared.placed.Placed.{Placed}
 use Rattle.tp_decode.specs.Cutting.{Cut, placed_from}
 use Rattle.tp_decode.proofs.NumberLemmas.{length-placed}
 use Rattle.tp_flow.specs.declared.edge.Edge.{Edge}
-use Rattle.tp_image.specs.Image.{ImageValue}
+use Rattle.tp_image.specs.Image.{ImageValue, InRange}
+use Rattle.tp_image.specs.Limits.{most_workspace}
+use Rattle.tp_image.specs.declared.image.Version.{Version}
+use Rattle.tp_image.specs.declared.image.Version.TheVariants.{One, Two}
 use Rattle.tp_state.specs.declared.fault.StateFault.{StateFault}
 use Rattle.tp_state.specs.declared.state.State.{State}
 use Rattle.tp_state.specs.Answer.{◌>>=◌}
 use Rattle.tp_state.specs.declared.fault.StateFault.TheVariants.{Refused}
 use Rattle.tp_state.specs.declared.fault.StateCode.{StateCode}
-use Rattle.tp_check.specs.Rising.{Moves, table_height}
+use Rattle.std.proofs.Common.{◌≤◌, ◌*◌, if◌then◌else◌, ◌==◌, None}
+use Rattle.std.proofs.lemmas.List.Sums.{sum_by-cons}
+use Rattle.std.proofs.lemmas.Option.{same_Some}
+use Rattle.tp_state.specs.Entry.{entry}
+use Rattle.tp_check.specs.Tables.{HasPlacedStates}
+use Rattle.tp_check.proofs.Heights.{HasWords, state_light}
+use Rattle.tp_check.specs.Rising.{Moves, height, state_height, table_height}
 use Rattle.tp_check.specs.Comes.{Gives}
 use Rattle.tp_state.proofs.AgreeLemmas.{written}
 use Rattle.tp_check.specs.Tables.{Table}
@@ -104,36 +113,28 @@ refused_along image es table there r is =
     ∙ along_append image is.earlier ((r.instruction, r.edge) ∷ is.later) table there is.comes
     ∙ ap (λ q. q >>= along_edges image is.later) is.refused
 
--- Before a pass: so many have refused nothing, and these are the states of their table.
-pub record IsBefore (image : ImageValue) (cuts : List Cut) (counted : ℕ) (states : Table) : Type 0 where
-  pub number : ℕ
-  pub count : counted ≡ min number (2 ^ 64 - 1)
-  pub comes : passes image cuts number ≡ Ok states
+-- before a pass: so many have refused nothing, and these are the states of their table
+abbrev pub IsBefore : ImageValue → List Cut → ℕ → Table → Type 0
+IsBefore image cuts number states = passes image cuts number ≡ Ok states
 
 pub none_made : (image : ImageValue) (cuts : List Cut) (states : Table) → states ≡ first_table image → IsBefore image cuts 0 states
-none_made image cuts states is = record { number = 0; count = refl; comes = ap Ok (sym is) }
+none_made image cuts states is = ap Ok (sym is)
 
 -- a pass that refuses nothing comes to the table of one pass more
-pub one_more : (image : ImageValue) (cuts : List Cut) (counted next : ℕ) (es : List (Placed × Edge)) (states new : Table) → next ≡ min (counted + 1) (2 ^ 64 - 1) → es ≡ edges_in cuts → IsBefore image cuts counted states → along_edges image es states ≡ Ok new → IsBefore image cuts next new
-one_more image cuts counted next es states new more is before goes = record {
-  number = suc before.number;
-  count = omega (arith, more, before.count);
-  comes = ap (λ r. r >>= pass image cuts) before.comes ∙ sym (ap (λ xs. along_edges image xs states) is) ∙ goes;
-}
+pub one_more : (image : ImageValue) (cuts : List Cut) (number next : ℕ) (es : List (Placed × Edge)) (states new : Table) → next ≡ number + 1 → es ≡ edges_in cuts → IsBefore image cuts number states → along_edges image es states ≡ Ok new → IsBefore image cuts next new
+one_more image cuts number next es states new more is before goes = ap (passes image cuts) (more ∙ add-one number) ∙ ap (λ r. r >>= pass image cuts) before ∙ sym (ap (λ xs. along_edges image xs states) is) ∙ goes
 
 -- one that refuses an edge refuses it from the table of the passes before
 pub is_first : (image : ImageValue) (cuts : List Cut) (es : List (Placed × Edge)) (states : Table) (r : FirstRefusal) → es ≡ edges_in cuts → IsBefore image cuts r.passes states → IsRefusedAmong image es states (table_of r.table.items) r.refusal → IsFirstRefusal image cuts r
 is_first image cuts es states r is before among = record {
-  number = before.number;
-  counted = before.count;
   table = states;
-  comes = before.comes;
+  comes = before;
   among = subst (λ xs. IsRefusedAmong image xs states (table_of r.table.items) r.refusal) is among;
 }
 
 pub is_verdict : (image : ImageValue) (cuts : List Cut) (r : FirstRefusal) → IsFirstRefusal image cuts r → IsVerdict image cuts (Err (Refused r.refusal.code r.refusal.place))
 is_verdict image cuts r first = record {
-  number = suc first.number;
+  number = suc r.passes;
   comes = ap (λ q. q >>= pass image cuts) first.comes ∙ refused_along image (edges_in cuts) first.table (table_of r.table.items) r.refusal first.among;
   stays = refl;
 }
@@ -147,6 +148,36 @@ abbrev pub left_of : ImageValue → Bool → List (Option State) → ℕ
 left_of image true states = 1 + table_height image states
 left_of image false states = 0
 
+pub few_words : (image : ImageValue) → InRange image → image.workspace ≤ 512
+few_words image range = by_version image.version range.workspace.1
+  where
+    by_version : (v : Version) → image.workspace ≤ most_workspace v → image.workspace ≤ 512
+    by_version One le = omega (arith, le)
+    by_version Two le = omega (arith, le)
+
+-- they are fewer than 2^100 before the first one
+most_left : (image : ImageValue) → image.workspace ≤ 512 → (states : List (Option State)) → ((x : ℕ) (s : State) → table_of states x ≡ Some s → state_height s ≤ 2 ^ 36) → table_height image states ≤ length states * 2 ^ 36
+unfolding table_height
+most_left image small [] each = omega arith
+most_left image small (None ∷ states) each = let more = most_left image small states (λ x s is. each (suc x) s is) in rw (sum_by-cons (height image) None states) (omega (arith, more, small))
+most_left image small (Some s ∷ states) each = let more = most_left image small states (λ x s is. each (suc x) s is) in let here = each 0 s refl in rw (sum_by-cons (height image) (Some s) states) (omega (arith, more, here))
+
+pub first_left : (image : ImageValue) → image.workspace ≤ 512 → (states : List (Option State)) → length states ≤ 2 ^ 32 → table_of states ≡ first_table image → HasPlacedStates image (table_of states) → 1 + table_height image states ≤ 2 ^ 100
+first_left image small states few is placed = let most = most_left image small states light in omega (arith, most, few)
+  where
+    entry_words : HasWords (entry image)
+    entry_words = record { a = tt; b = tt; c = tt }
+
+    by_place : (x : ℕ) (s : State) → (b : Bool) → (if b then Some (entry image) else None) ≡ Some s → entry image ≡ s
+    by_place x s true e = same_Some _ _ e
+    by_place x s false e = absurd cc
+
+    light : (x : ℕ) (s : State) → table_of states x ≡ Some s → state_height s ≤ 2 ^ 36
+    light x s there =
+        let same : entry image ≡ s = by_place x s (x == 0) (sym (ap (λ (t : Table). t x) is) ∙ there) in
+        let less = state_light image s (subst HasWords same entry_words) (placed x s there).sized in
+        omega (arith, less, small)
+
 -- what a pass has left, where it was given all of a vector
 pub left_there : (items new : List (Option State)) (n : ℕ) → length items ≡ n → length new ≡ length items → take n (new ++ drop (length new) items) ≡ new
 left_there items new n whole long = written items new n (sym whole) long
@@ -156,7 +187,7 @@ fewer_left image was true old new now is same moves = rw (is, same) (omega (arit
 fewer_left image was false old new now is same moves = rw is (omega arith)
 
 pub is_settled : (image : ImageValue) (cuts : List Cut) (counted : ℕ) (states : Table) → IsBefore image cuts counted states → pass image cuts states ≡ Ok states → (table : Table) × IsVerdict image cuts (Ok table)
-is_settled image cuts counted states before stays = (states, record { number = before.number; comes = before.comes; stays = stays })
+is_settled image cuts counted states before stays = (states, record { number = counted; comes = before; stays = stays })
 
 -- a step after others
 pub moves_on : (image : ImageValue) (moved more : Bool) (first then_ last : List (Option State)) → Moves image moved first then_ → Moves image more then_ last → Moves image (moved || more) first last

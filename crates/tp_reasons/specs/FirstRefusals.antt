@@ -1,5 +1,5 @@
 -- The first refusal of the passes, with what is known before the instruction that is refused.
-use Rattle.std.specs.Prelude.{◌≡◌, ℕ, ◌-◌, ◌^◌, min, Bool, List, ◌∷◌, ◌++◌, Option, Result, Ok, Err, IfOk, IfSome}
+use Rattle.std.specs.Prelude.{◌≡◌, Bool, List, ◌∷◌, ◌++◌, Option, Result, Ok, Err, IfOk, IfSome}
 use Rattle.tp_decode.specs.declared.placed.Placed.{Placed}
 use Rattle.tp_decode.specs.Cutting.{Cut}
 use Rattle.tp_flow.specs.declared.edge.Edge.{Edge}
@@ -23,10 +23,8 @@ pub record IsRefusedAmong (image : ImageValue) (edges : List (Placed × Edge)) (
 -- So many passes refuse nothing, and this is the first edge that the next one refuses; the states are those that it has
 -- met.
 pub record IsFirstRefusal (image : ImageValue) (cuts : List Cut) (r : FirstRefusal) : Type 0 where
-  pub number : ℕ
-  pub counted : r.passes ≡ min number (2 ^ 64 - 1)
   pub table : Table
-  pub comes : passes image cuts number ≡ Ok table
+  pub comes : passes image cuts r.passes ≡ Ok table
   pub among : IsRefusedAmong image (edges_in cuts) table (table_of r.table.items) r.refusal
 
 -- of what was found, where anything was, this holds

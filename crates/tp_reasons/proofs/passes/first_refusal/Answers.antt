@@ -1,10 +1,11 @@
-use Rattle.std.proofs.Common.{◌≡◌, length, Ok, Err, sym, ap, ◌∙◌, subst}
+use Rattle.std.proofs.Common.{◌≡◌, length, Ok, Err, refl, sym, ap, ◌∙◌, subst, arith}
+use Rattle.tp_image.specs.Image.{InRange}
 use Rattle.std.specs.Prelude.{IfOk}
 use Rattle.tp_check.specs.Rising.{Moves}
 use Rattle.tp_check.specs.Passes.{edges_in}
 use Rattle.tp_check.specs.Tables.{table_of}
 use Rattle.tp_reasons.specs.FirstRefusals.{EndsAs}
-use Rattle.tp_reasons.proofs.Passing.{taken_there, none_made, one_more, is_first, is_verdict, is_settled, stays_so, fewer_left, left_there}
+use Rattle.tp_reasons.proofs.Passing.{few_words, first_left, taken_there, none_made, one_more, is_first, is_verdict, is_settled, stays_so, fewer_left, left_there}
 use Rattle.tp_reasons.proofs.passes.first_refusal.Goals as goal
 
 pub pass-requires-clause-places : goal.pass-requires-clause-places
@@ -19,6 +20,7 @@ pub loop-is_changed-init : goal.loop-is_changed-init
 loop-is_changed-init c = record {
   inside = λ at starts. rw c.in_ok-table.ensures.sized (c.places_of.ensures.all at starts);
   placed = c.in_ok-table.ensures.placed;
+  few = let least = first_left c.args.image.now (few_words c.args.image.now (subst InRange c.image.view_is c.image.invariant)) c.in_ok-table.table.items (rw c.in_ok-table.ensures.sized c.places_of.ensures.few) c.in_ok-table.ensures.value c.in_ok-table.ensures.placed in omega (arith, least);
   before = none_made c.args.image.now c.args.listing.now (table_of c.in_ok-table.table.items) c.in_ok-table.ensures.value;
   stays = λ e. absurd (cc);
 }
@@ -29,7 +31,8 @@ loop-is_changed-preserved c =
     (record {
       inside = λ at starts. rw (c.in_ok-changed.ensures.sized ∙ ap length c.deref_mut.ensures.value) (c.loop-is_changed.invariant.inside at starts);
       placed = c.in_ok-changed.ensures.placed;
-      before = one_more c.args.image.now c.args.listing.now c.loop-is_changed.passes c.saturating_add-passes.result c.deref.result.now (table_of c.loop-is_changed.table.items) (table_of c.pass.new.table) c.saturating_add-passes.ensures all c.loop-is_changed.invariant.before ends;
+      before = one_more c.args.image.now c.args.listing.now c.loop-is_changed.passes _ c.deref.result.now (table_of c.loop-is_changed.table.items) (table_of c.pass.new.table) refl all c.loop-is_changed.invariant.before ends;
+      few = let less = fewer_left c.args.image.now c.loop-is_changed.is_changed c.in-Ok.changed c.loop-is_changed.table.items c.pass.new.table c.pass.new.table c.loop-is_changed-test.true refl moves in let most = c.loop-is_changed.invariant.few in omega (arith, less, most);
       stays = λ e. stays_so c.args.image.now c.args.listing.now c.deref.result.now c.loop-is_changed.table.items c.pass.new.table all (moves.stays e) ends;
     })
   where
