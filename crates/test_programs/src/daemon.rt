@@ -3,11 +3,11 @@
 use crate::asserts::{assert_same, unwrap};
 use std::alloc::{AllocError, Global};
 use std::env::{Env, FillError};
-use std::io;
 use std::io::{ErrorKind, Read, Write};
 use std::process::{Abort, ExitCode};
 use std::sync::Wait;
 use std::thread::Threads;
+use std::{env, io};
 use tp_program::{Ending, run};
 use tp_samples::streams::{Broken, Ended, Unflushed, Words};
 use tp_samples::{INCREMENT, TRACES_ITS_PACKET};
@@ -54,7 +54,8 @@ fn ran<T: Threads + Wait + Sync, R: Read, W: Write>(
     output: &mut W,
 ) -> Ended {
     let mut errors = Vec::new(alloc);
-    let status = run(rt, &Words(words), alloc, input, output, &mut errors);
+    let words = env::args(&(Words(words), alloc));
+    let status = run(rt, words, alloc, input, output, &mut errors);
     Ended { status, errors }
 }
 
@@ -261,7 +262,7 @@ fn refuses_a_word_that_is_no_text(rt: HostRuntime) {
     let mut errors = Vec::new(rt.alloc());
     let status = run(
         &rt,
-        &NoText,
+        env::args(&(NoText, rt.alloc())),
         rt.alloc(),
         &mut Broken,
         &mut output,

@@ -1,6 +1,7 @@
 //! The program `farmd`, from its words to its status.
 
 use std::alloc::Global;
+use std::env;
 use std::process::ExitCode;
 use std::sync::Wait;
 use std::thread::Threads;
@@ -46,8 +47,8 @@ fn served<T: Threads + Wait + Sync>(rt: &T, alloc: Global) -> (Answer, usize) {
     let mut reader = input.written();
     let mut page = Page::new();
     let mut errors = Page::new();
-    let words = Words(&["farmd", "--members", "1"]);
-    let status = run(rt, &words, alloc, &mut reader, &mut page, &mut errors);
+    let words = env::args(&(Words(&["farmd", "--members", "1"]), alloc));
+    let status = run(rt, words, alloc, &mut reader, &mut page, &mut errors);
     let (written, fault) = (page.written(), errors.written());
     let answer = if fault.is_empty() {
         same_if(status == ExitCode::SUCCESS && written == OUTPUT)

@@ -20,6 +20,7 @@ mod writing;
 
 pub use fault::{SourceFault, TextFault};
 pub use finish::{Label, Local, Source};
+pub use number::signed_of;
 pub use reading::read_source;
 pub use remarks::{LineRemark, LoopRemark, Remarks};
 pub use words::{Position, statement_of};

@@ -42,7 +42,7 @@ fn natural_of(word: &[u8]) -> Option<u32>
 
 /// The word of 32 bits that a text writes, read as a signed number.
 #[tactic(auto, unfolding(crate::specs::Numbers::signed_said))]
-fn signed_of(word: &[u8]) -> Option<i32>
+pub fn signed_of(word: &[u8]) -> Option<i32>
     ensures { result ≡ signed_said word.now }
 {
     if word.starts_with(b"-") {

@@ -5,13 +5,20 @@
 //! its reason there, and status 2.
 #![tactic(auto)]
 
-use std::io;
 use std::process::ExitCode;
+use std::{env, io};
 use tp_program::run;
 
 fn main(rt: HostRuntime) -> ExitCode {
     let mut reader = rt.reader();
     let mut writer = io::writer(&rt);
     let mut errors = rt.stderr();
-    run(&rt, &rt, rt.alloc(), &mut reader, &mut writer, &mut errors)
+    run(
+        &rt,
+        env::args(&rt),
+        rt.alloc(),
+        &mut reader,
+        &mut writer,
+        &mut errors,
+    )
 }

@@ -1,5 +1,7 @@
 -- Why the program ends before the end of its input.
 use Rattle.std.specs.Prelude.{◌≡◌, ℕ}
+use Rattle.std.specs.declared.io.ErrorKind.{ErrorKind as IoKind}
+use Rattle.std.specs.declared.io.ErrorKind.TheVariants as io
 use Rattle.clap.specs.Words.{Kinds, IsAmong, kind_of}
 use Rattle.clap.specs.declared.error.Error.{Error}
 use Rattle.clap.specs.declared.error.kind.ErrorKind.{ErrorKind}
@@ -21,6 +23,11 @@ ending_by OutOfMemory error = Fault Memory
 ending_by DisplayHelp error = Shown error
 ending_by DisplayVersion error = Shown error
 ending_by kind error = Refused error
+
+-- by the kind of why no words could be had
+abbrev pub ending_without : IoKind → Ending
+ending_without io.OutOfMemory = Fault Memory
+ending_without kind = NotText
 
 -- it is for want of memory, or of one of these kinds
 abbrev pub IsEndingBy : Kinds → Ending → Type 0

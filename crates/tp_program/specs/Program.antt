@@ -1,13 +1,15 @@
 -- What the program does with its words: what it reads and writes, and its status.
-use Rattle.std.specs.Prelude.{◌≡◌, ◌≢◌, ◌⊎◌, ℕ, Bool, List, [], codes, take, Option, IfSome, Result, Ok, Err}
+use Rattle.std.specs.Prelude.{◌≡◌, ◌≢◌, ◌⊎◌, ℕ, Bool, List, [], codes, take, Option, OnOk, Result, Ok, Err}
 use Rattle.std.specs.Io.KnownBytes.{Appends}
+use Rattle.std.specs.declared.io.ErrorKind.{ErrorKind as IoKind}
+use Rattle.std.specs.declared.io.ErrorKind.TheVariants.{OutOfMemory}
 use Rattle.clap.specs.Words.{Text, Kinds, IsAmong, fault_of, matches_of, one_of}
 use Rattle.clap.specs.declared.error.kind.ErrorKind.{ErrorKind}
 use Rattle.clap.specs.declared.error.kind.ErrorKind.TheVariants.{DisplayHelp, DisplayVersion}
 use Rattle.tp_options.specs.CommandLine.{farmd, is_up}
 use Rattle.tp_session.specs.declared.fault.ServeFault.{ServeFault}
 use Rattle.tp_session.specs.declared.fault.ServeFault.TheVariants.{Read, Write, Memory, Thread}
-use Rattle.tp_session.specs.Served.{Serves}
+use Rattle.tp_session.specs.Served.{ServesAll, ServesRead, ServesBefore, ServesSome}
 
 -- ---- words that ask for options
 
@@ -29,11 +31,13 @@ abbrev pub told_of : Result (Unit {0}) ServeFault → List ℕ
 told_of (Ok _) = []
 told_of (Err fault) = fault_text fault
 
--- what is served for the input is written; a fault is told, as far as that can be written
-pub record HasServed (trace : Bool) (input : List ℕ) (left old new told told' : Option (List ℕ))
-    (status : ℕ) : Type 0 where
+-- what is served for the input is written, by how serving ends; a fault is told, as far as that can be written
+pub record HasServed (trace : Bool) (input left old new told told' : Option (List ℕ)) (status : ℕ) : Type 0 where
   pub result : Result (Unit {0}) ServeFault
-  pub serves : Serves trace input left old new result
+  pub all : OnOk result (ServesAll trace input left old new)
+  pub read : result ≡ Err Read → ServesRead trace input left old new
+  pub want : (result ≡ Err Memory) ⊎ (result ≡ Err Thread) → ServesBefore trace input left old new
+  pub write : result ≡ Err Write → ServesSome trace input old new
   pub status_is : status ≡ status_of result
   pub some : ℕ
   pub tells : Appends told told' (take some (told_of result))
@@ -52,13 +56,20 @@ IsStatusBy kinds status = ((kind : ErrorKind) × IsAmong kind kinds × (status �
 -- ---- what the words ask for is done
 
 -- from streams whose bytes are known or not, as they were and as they are left
-pub record Performs (words : List Text) (begun left old new told told' : Option (List ℕ)) (status : ℕ) : Type 0 where
-  pub serves : fault_of farmd words ≡ []
-      → IfSome begun (λ input. HasServed (asks_traces words) input left old new told told' status)
-  pub other : fault_of farmd words ≢ [] → IsStatusBy (fault_of farmd words) status × (left ≡ begun)
+pub record Performs (words : List Text) (input left old new told told' : Option (List ℕ)) (status : ℕ) : Type 0 where
+  pub serves : fault_of farmd words ≡ [] → HasServed (asks_traces words) input left old new told told' status
+  pub other : fault_of farmd words ≢ [] → IsStatusBy (fault_of farmd words) status × (left ≡ input)
   pub refused : status ≡ 2 → new ≡ old
 
--- so with some words, or none could be had: then nothing is read and nothing served
-abbrev pub PerformsSome : (begun left old new told told' : Option (List ℕ)) → (status : ℕ) → Type 0
-PerformsSome begun left old new told told' status =
-    ((words : List Text) × Performs words begun left old new told told' status) ⊎ ((left ≡ begun) × (new ≡ old))
+-- ---- no words could be had
+
+-- for want of memory, which is told as far as that can be written; else a word is no text
+abbrev pub EndsWordless : IoKind → (told told' : Option (List ℕ)) → (status : ℕ) → Type 0
+EndsWordless OutOfMemory told told' status = (some : ℕ) × Appends told told' (take some (fault_text Memory)) × (status ≡ 1)
+EndsWordless kind told told' status = status ≡ 2
+
+-- then nothing is read, and nothing is written to standard output
+pub record DoesNothing (kind : IoKind) (input left old new told told' : Option (List ℕ)) (status : ℕ) : Type 0 where
+  pub unread : left ≡ input
+  pub unwritten : new ≡ old
+  pub ends : EndsWordless kind told told' status

@@ -1,9 +1,9 @@
 //! The members of the farm.
 
-ghost use Rattle.std.specs.Prelude.{◌≡◌, ◌≤◌, All, IfOk, IfSome, length, vec_len};
+ghost use Rattle.std.specs.Prelude.{◌≡◌, ◌≤◌, ◌⊎◌, All, IfOk, OnOk, length, vec_len};
 ghost use Rattle.tp_link.specs.Wire.{device_of};
 ghost use Rattle.tp_session.specs.Fitness.{AreFit};
-ghost use Rattle.tp_session.specs.Served.{Serves};
+ghost use Rattle.tp_session.specs.Served.{ServesAll, ServesRead, ServesBefore, ServesSome};
 ghost use Rattle.tp_program.specs.Media.{HaveRoom};
 ghost use Rattle.tp_program.specs.Asked.{IsAsked};
 
@@ -47,8 +47,14 @@ fn serve_as_asked<T: Threads + Wait + Sync, D: LinkDevice + Send, R: Read, W: Wr
 ) -> Result<(), ServeFault>
     requires asked { IsAsked _asked farm }
     requires fit { AreFit D.state farm.links.items }
-    ensures { IfSome (R.remaining reader.old) (λ input.
-        Serves _asked.trace input (R.remaining reader.new) (W.contents writer.old) (W.contents writer.new) result) }
+    ensures all { OnOk result (ServesAll _asked.trace
+        (R.remaining reader.old) (R.remaining reader.new) (W.contents writer.old) (W.contents writer.new)) }
+    ensures read { result ≡ Err ServeFault.Read → ServesRead _asked.trace
+        (R.remaining reader.old) (R.remaining reader.new) (W.contents writer.old) (W.contents writer.new) }
+    ensures want { (result ≡ Err ServeFault.Memory) ⊎ (result ≡ Err ServeFault.Thread) → ServesBefore _asked.trace
+        (R.remaining reader.old) (R.remaining reader.new) (W.contents writer.old) (W.contents writer.new) }
+    ensures write { result ≡ Err ServeFault.Write → ServesSome _asked.trace
+        (R.remaining reader.old) (W.contents writer.old) (W.contents writer.new) }
 {
     serve(rt, alloc, reader, writer, farm)
 }
@@ -63,8 +69,14 @@ pub fn serve_members<T: Threads + Wait + Sync, R: Read, W: Write>(
 ) -> Result<(), ServeFault>
     requires least { 1 ≤ asked.members }
     requires most { asked.members ≤ 64 }
-    ensures { IfSome (R.remaining reader.old) (λ input.
-        Serves asked.trace input (R.remaining reader.new) (W.contents writer.old) (W.contents writer.new) result) }
+    ensures all { OnOk result (ServesAll asked.trace
+        (R.remaining reader.old) (R.remaining reader.new) (W.contents writer.old) (W.contents writer.new)) }
+    ensures read { result ≡ Err ServeFault.Read → ServesRead asked.trace
+        (R.remaining reader.old) (R.remaining reader.new) (W.contents writer.old) (W.contents writer.new) }
+    ensures want { (result ≡ Err ServeFault.Memory) ⊎ (result ≡ Err ServeFault.Thread) → ServesBefore asked.trace
+        (R.remaining reader.old) (R.remaining reader.new) (W.contents writer.old) (W.contents writer.new) }
+    ensures write { result ≡ Err ServeFault.Write → ServesSome asked.trace
+        (R.remaining reader.old) (W.contents writer.old) (W.contents writer.new) }
 {
     let mut media = media_of(alloc, asked.members)?;
     let links = boxed(alloc, &mut media)?;

@@ -1,10 +1,12 @@
 //! The program, from its words and streams to its status.
 
-ghost use Rattle.std.specs.Prelude.{◌≡◌, [], map, IfOk, IfErr};
+ghost use Rattle.std.specs.Prelude.{◌≡◌, [], map, string_bytes, IfOk, IfErr};
+ghost use Rattle.std.specs.Vec.Iter.{into_iter_items};
+ghost use Rattle.std.specs.IoError.{error_kind};
 ghost use Rattle.std.specs.Process.{exit_status};
 ghost use Rattle.clap.specs.Words.{fault_of};
 ghost use Rattle.tp_options.specs.CommandLine.{farmd, AsksFor};
-ghost use Rattle.tp_program.specs.Program.{Performs, PerformsSome};
+ghost use Rattle.tp_program.specs.Program.{Performs, DoesNothing};
 ghost use Rattle.tp_program.specs.Endings.{IsEndingBy};
 
 use crate::ending::Ending;
@@ -12,7 +14,8 @@ use crate::members::serve_members;
 use crate::words::words_of;
 use std::alloc::Global;
 use std::convert::AsStr;
-use std::env::Env;
+use std::env::Args;
+use std::io;
 use std::io::{Read, Write};
 use std::process::ExitCode;
 use std::sync::Wait;
@@ -65,22 +68,23 @@ pub fn run_words<T: Threads + Wait + Sync, S: AsStr, R: Read, W: Write, E: Write
     }
 }
 
-/// Does what the words of a command line ask for. Where that ends early, writes why to `errors`.
-///
-/// No contract says which words an environment has: what is done is what `run_words` does with the words that were had, or
-/// nothing, with status 1 or 2.
+/// Does what the words of a command line ask for, as `env::args` gives them. Where that ends early, writes why to `errors`.
 pub fn run<T: Threads + Wait + Sync, R: Read, W: Write, E: Write>(
     rt: &T,
-    environment: &impl Env,
+    words: io::Result<Args>,
     alloc: Global,
     reader: &mut R,
     writer: &mut W,
     errors: &mut E,
 ) -> ExitCode
-    ensures { PerformsSome (R.remaining reader.old) (R.remaining reader.new) (W.contents writer.old)
-        (W.contents writer.new) (E.contents errors.old) (E.contents errors.new) (exit_status result) }
+    ensures words { IfOk words (λ words. Performs (map string_bytes (into_iter_items words))
+        (R.remaining reader.old) (R.remaining reader.new) (W.contents writer.old) (W.contents writer.new)
+        (E.contents errors.old) (E.contents errors.new) (exit_status result)) }
+    ensures none { IfErr words (λ error. DoesNothing (error_kind error)
+        (R.remaining reader.old) (R.remaining reader.new) (W.contents writer.old) (W.contents writer.new)
+        (E.contents errors.old) (E.contents errors.new) (exit_status result)) }
 {
-    match words_of(environment, alloc) {
+    match words_of(words, alloc) {
         Ok(words) => run_words(rt, &words, alloc, reader, writer, errors),
         Err(ending) => ending.tell(errors),
     }

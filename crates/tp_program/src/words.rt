@@ -1,24 +1,29 @@
 //! The words of a command line.
 
+ghost use Rattle.std.specs.Prelude.{◌≡◌, IfOk, IfErr};
+ghost use Rattle.std.specs.Vec.Iter.{into_iter_items};
+ghost use Rattle.std.specs.IoError.{error_kind};
+ghost use Rattle.tp_program.specs.declared.ending.Ending.TheVariants.{Fault};
+ghost use Rattle.tp_program.specs.Endings.{ending_without};
+
 use crate::ending::Ending;
 use std::alloc::Global;
-use std::env;
-use std::env::Env;
+use std::env::Args;
+use std::io;
 use std::io::ErrorKind;
 use tp_session::ServeFault;
 
-/// The words of a command line, the first of which names the program.
-pub fn words_of<E: Env>(environment: &E, alloc: Global) -> Result<Vec<String>, Ending> {
-    let words = match env::args(&(environment, alloc)) {
-        Ok(words) => words,
-        Err(error) if error.kind() == ErrorKind::OutOfMemory => {
-            return Err(Ending::Fault(ServeFault::Memory));
-        }
-        Err(_) => return Err(Ending::NotText),
-    };
-    let mut all = Vec::new(alloc);
-    for word in words {
-        all.push(word)?;
+/// The words that were had, the first of which names the program.
+pub fn words_of(words: io::Result<Args>, alloc: Global) -> Result<Vec<String>, Ending>
+    ensures words { IfOk words (λ given. IfOk result (λ all. all.items ≡ into_iter_items given)) }
+    ensures want { IfOk words (λ given. IfErr result (λ ending. ending ≡ Fault ServeFault.Memory)) }
+    ensures none { IfErr words (λ error. result ≡ Err (ending_without (error_kind error))) }
+{
+    match words {
+        Ok(words) => Ok(words.collect(alloc)?),
+        Err(error) => Err(match error.kind() {
+            ErrorKind::OutOfMemory => Ending::Fault(ServeFault::Memory),
+            _ => Ending::NotText,
+        }),
     }
-    Ok(all)
 }

@@ -4,7 +4,6 @@
 mod fault;
 mod form;
 mod lines;
-mod number;
 mod packets;
 mod tally;
 

@@ -6,9 +6,8 @@ ghost use Rattle.std.specs.Result.{result_ok};
 ghost use Rattle.tp_run_text.specs.Packets.{hexadecimal_said, words_said, packet_said};
 
 use crate::fault::PacketFault;
-use crate::number::number_of;
 use std::alloc::{AllocError, Global};
-use tp_assembly_text::Position;
+use tp_assembly_text::{Position, signed_of};
 use tp_board::Packet;
 
 /// The bytes of a word.
@@ -69,7 +68,7 @@ fn numbers_of(fields: &[Field<'_>]) -> Result<Packet, PacketFault>
 {
     let mut packet = Packet::new();
     for field in fields {
-        let Some(number) = number_of(field.text) else {
+        let Some(number) = signed_of(field.text) else {
             return Err(PacketFault::NoNumber(field.position));
         };
         let _ = packet.try_extend_from_slice(&number.to_le_bytes());

@@ -3,6 +3,7 @@ use Rattle.std.proofs.Common.{◌≡◌, ◌≢◌, ℕ, zero, suc, ◌+◌, ◌
 use Rattle.std.proofs.Common.{◌++◌, length, take, drop, Option, None, refl, ap, sym, subst, ◌∙◌}
 use Rattle.std.proofs.Common.{arith, append_assoc, length-append}
 use Rattle.std.specs.Io.KnownBytes.{Appends}
+use Rattle.std.proofs.KnownBytes.{Appends-nil, Appends-trans}
 use Rattle.std.proofs.lemmas.Bool.Decides.{nat_tests}
 use Rattle.std.proofs.lemmas.List.{append-nil, take-append-drop, length-take}
 use Rattle.std.proofs.Math.Seq.{take-append_seam}
@@ -22,7 +23,7 @@ use Rattle.tp_session.specs.Protocol.{most_line, next_number}
 use Rattle.tp_session.specs.Served.{AreTold, AreWritten, AreWrittenBefore}
 use Rattle.tp_session.specs.Services.{StaysOn, IsWant, AnswersText, AnswersLine, IsSentInPart}
 use Rattle.tp_session.specs.Points.{Point, number_after, IsPlain, Keeps, IsAt, Fails, GoesOn}
-use Rattle.tp_session.proofs.KnownBytes.{appends_none, appends_more, appends_same, appends_front}
+use Rattle.tp_session.proofs.KnownBytes.{appends_same, appends_front}
 use Rattle.tp_session.proofs.LineLemmas.{take_all}
 use Rattle.tp_session.proofs.PointLemmas.{answers_more, number_more, with_bytes, reached_more, line_now, lines_now, text_now, with_line}
 use Rattle.tp_session.proofs.PointLemmas.{reached_line, told_ended, told_whole, lines_rest}
@@ -136,7 +137,7 @@ module _ {D : Type 0} (state : D → DeviceState) (trace : Bool) (begun now : Op
       record {
         told = s.told;
         is = told_ended trace s at.reached;
-        wrote = appends_same _ _ _ _ (append-nil s.told) (appends_more begun now now' s.told [] at.wrote nothing);
+        wrote = appends_same _ _ _ _ (append-nil s.told) (Appends-trans begun now now' s.told [] at.wrote nothing);
       }
 
   told_now : (ended : Bool) (answer : Answer) (after : List Session) → AnswersLine (line_now s ended) s.sessions answer after
@@ -153,8 +154,8 @@ module _ {D : Type 0} (state : D → DeviceState) (trace : Bool) (begun now : Op
 
     -- what was wanted was refused before anything was written
     pub fails_wanting : (e : ServeFault) → IsWant e → Fails trace input taken last begun now e
-    fails_wanting Memory want = before now (appends_none now)
-    fails_wanting Thread want = before now (appends_none now)
+    fails_wanting Memory want = before now (Appends-nil now)
+    fails_wanting Thread want = before now (Appends-nil now)
     fails_wanting Read want = absurd want
     fails_wanting Write want = absurd want
 
@@ -173,7 +174,7 @@ module _ {D : Type 0} (state : D → DeviceState) (trace : Bool) (begun now : Op
         ap (λ l. s.told ++ l) (sym (take-append-drop n here)) ∙ sym (append_assoc s.told (take n here) (drop n here)) in
         let some =
         appends_front begun now' (s.told ++ take n here) (drop n here) (s.told ++ here) all
-        (appends_more begun now now' s.told (take n here) at.wrote wrote) in (
+        (Appends-trans begun now now' s.told (take n here) at.wrote wrote) in (
           length (lines_now s ended),
           record {
             told = s.told ++ here;
@@ -201,7 +202,7 @@ module _ {D : Type 0} (state : D → DeviceState) (trace : Bool) (begun now : Op
       sessions = refl;
       trace_is = stays.trace ∙ at.trace_is;
       fit = stays.fit at.fit;
-      wrote = appends_more begun now now' s.told (text_now trace s answer) at.wrote wrote;
+      wrote = Appends-trans begun now now' s.told (text_now trace s answer) at.wrote wrote;
     };
   }
 
@@ -230,7 +231,7 @@ module _ {D : Type 0} (state : D → DeviceState) (trace : Bool) (begun now : Op
   written_last some answer after is now' wrote = record {
     told = s.told ++ text_now trace s answer;
     is = subst (λ l. AreTold trace l (s.told ++ text_now trace s answer)) (sym (lines_rest trace s at.reached some)) (told_now false answer after is);
-    wrote = appends_more begun now now' s.told (text_now trace s answer) at.wrote wrote;
+    wrote = Appends-trans begun now now' s.told (text_now trace s answer) at.wrote wrote;
   }
 
 -- ---- some bytes

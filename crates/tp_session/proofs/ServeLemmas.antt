@@ -1,107 +1,96 @@
 -- From what was taken to what is served.
-use Rattle.std.proofs.Common.{◌≡◌, ◌≤◌, arith, length-take, ℕ, Bool, List, [], ◌++◌, length, take, Option}
-use Rattle.std.proofs.Common.{Some, None, Result, Ok, Err, OnOk, IfErr, refl, ap, sym, ◌∙◌, subst, IfSome}
+use Rattle.std.proofs.Common.{◌≡◌, ◌≤◌, ◌⊎◌, inl, inr, arith, length-take, ℕ, Bool, List, [], ◌++◌, length, take, Option}
+use Rattle.std.proofs.Common.{Some, None, Result, Err, IfErr, IfSome, sym, subst}
 use Rattle.std.specs.Io.KnownBytes.{Consumes, Keeps as KeepsKnown, IsAtEnd}
 use Rattle.std.proofs.lemmas.List.{append-nil}
+use Rattle.std.proofs.KnownBytes.{Consumes-trans, Consumes-kept, Consumes-nil, Appends-nil}
 use Rattle.tp_link.specs.Device.{DeviceState}
-use Rattle.tp_requests.specs.Lines.{lines_of}
 use Rattle.tp_session.specs.declared.fault.ServeFault.{ServeFault}
 use Rattle.tp_session.specs.declared.fault.ServeFault.TheVariants.{Read, Write, Memory, Thread}
 use Rattle.tp_session.specs.declared.progress.Progress.{Progress}
 use Rattle.tp_session.specs.declared.service.Service.{Service}
 use Rattle.tp_session.specs.Fitness.{AreFit}
-use Rattle.tp_session.specs.Served.{most_read, AreWritten, AreWrittenBefore, ServesRead, Serves}
+use Rattle.tp_session.specs.Served.{most_read, AreWrittenBefore, ServesRead, ServesBefore}
 use Rattle.tp_session.specs.Points.{Point, Keeps, IsAt, Begins, Fails, GoesOn}
-use Rattle.tp_session.proofs.KnownBytes.{appends_none, consumes_more, consumes_keeps}
 use Rattle.tp_session.proofs.PointLemmas.{told_ended, start, starts}
 
 -- the input so far: where its reading stands
-pub record SoFar {D : Type 0} (state : D → DeviceState) (trace : Bool) (input : List ℕ) (left begun now : Option (List ℕ))
+pub record SoFar {D : Type 0} (state : D → DeviceState) (trace : Bool) (input left begun now : Option (List ℕ))
     (p : Progress) (service : Service D) : Type 0 where
   pub point : Point
-  pub split : Consumes (Some input) left point.taken
+  pub read : Consumes input left point.taken
   pub is : IsAt state trace begun p service now point
 
--- the input from what is left of it
-pub known_split : (input : List ℕ) (left : Option (List ℕ)) (taken : List ℕ) → Consumes (Some input) left taken → Begins input taken
-known_split input None taken h = absurd h
-known_split input (Some rest) taken h = (rest, h)
+-- what is so of each input that begins with the bytes that were taken
+pub of_each : (input left : Option (List ℕ)) (taken : List ℕ) (P : List ℕ → Type 0) → Consumes input left taken
+    → ((bytes : List ℕ) → Begins bytes taken → P bytes) → IfSome input P
+of_each None left taken P read each = tt
+of_each (Some bytes) None taken P read each = absurd read
+of_each (Some bytes) (Some rest) taken P read each = each bytes (rest, read)
 
-pub if_known : (P : List ℕ → Type 0) {Q : List ℕ → Type 0} (o : Option (List ℕ)) → IfSome o P
-    → ((input : List ℕ) → P input → Q input) → IfSome o Q
-if_known P None h f = tt
-if_known P (Some input) h f = f input h
-
-pub none_read : (a b : Option (List ℕ)) (n : ℕ) (buf : List ℕ) → n ≡ 0 → Consumes a b (take n buf) → Consumes a b []
-none_read a b n buf e h = let P : ℕ → Type 0 = λ m. Consumes a b (take m buf) in subst P e h
+-- no byte more was read
+pub still_read : (input left left' : Option (List ℕ)) (taken : List ℕ) (n : ℕ) (buf : List ℕ) → n ≡ 0 → Consumes input left taken
+    → Consumes left left' (take n buf) → Consumes input left' taken
+still_read input left left' taken n buf none read more =
+    subst (λ l. Consumes input left' l) (append-nil taken)
+    (Consumes-trans input left left' taken [] read (subst (λ m. Consumes left left' (take m buf)) none more))
 
 -- of a full buffer no more than that is read
 pub short_read : (n : ℕ) (buf : List ℕ) → length buf ≡ most_read → length (take n buf) ≤ most_read
 short_read n buf full = omega (arith, full, length-take n buf)
 
--- the end of the input
-at_the_end : (input : List ℕ) (left left' : Option (List ℕ)) (taken : List ℕ) → Consumes (Some input) left taken
-    → Consumes left left' [] → IsAtEnd left' → input ≡ taken
-at_the_end input None left' taken h k end = absurd h
-at_the_end input (Some rest) None taken h k end = absurd k
-at_the_end input (Some rest) (Some rest') taken h k end = h ∙ ap (λ l. taken ++ l) (k ∙ end) ∙ append-nil taken
-
-module _ {D : Type 0} (state : D → DeviceState) (trace : Bool) (input : List ℕ) (begun now : Option (List ℕ)) (p : Progress)
+module _ {D : Type 0} (state : D → DeviceState) (trace : Bool) (input left begun now : Option (List ℕ)) (p : Progress)
     (service : Service D) where
   -- the reader failed
-  pub serves_read : (left left' : Option (List ℕ)) → SoFar state trace input left begun now p service → KeepsKnown left left'
+  pub serves_read : (left' : Option (List ℕ)) → SoFar state trace input left begun now p service → KeepsKnown left left'
       → ServesRead trace input left' begun now
-  serves_read left left' so_far keeps = record {
+  serves_read left' so_far keeps = record {
     taken = so_far.point.taken;
-    read = consumes_keeps (Some input) left left' so_far.point.taken so_far.split keeps;
+    read = Consumes-kept input left left' so_far.point.taken so_far.read keeps;
     answers = record { told = so_far.point.told; is = told_ended trace so_far.point so_far.is.reached; wrote = so_far.is.wrote };
   }
 
   -- some bytes more were taken
-  pub so_far_more : (left left' now' : Option (List ℕ)) (q : Progress) (service' : Service D) (bytes : List ℕ)
+  pub so_far_more : (left' now' : Option (List ℕ)) (q : Progress) (service' : Service D) (bytes : List ℕ)
       (so_far : SoFar state trace input left begun now p service) → Consumes left left' bytes
       → GoesOn state trace begun q service' now' (so_far.point.taken ++ bytes)
       → SoFar state trace input left' begun now' q service'
-  so_far_more left left' now' q service' bytes so_far consumed goes = record {
+  so_far_more left' now' q service' bytes so_far consumed goes = record {
     point = goes.point;
-    split =
-        subst (λ l. Consumes (Some input) left' l) (sym goes.taken_is)
-        (consumes_more (Some input) left left' so_far.point.taken bytes so_far.split consumed);
+    read =
+        subst (λ l. Consumes input left' l) (sym goes.taken_is)
+        (Consumes-trans input left left' so_far.point.taken bytes so_far.read consumed);
     is = goes.is;
   }
 
-shorter : (trace : Bool) (taken : List ℕ) (last : ℕ) (begun now : Option (List ℕ)) → last ≤ most_read → AreWrittenBefore trace taken last begun now
-    → AreWrittenBefore trace taken most_read begun now
-shorter trace taken last begun now short it =
-    record { before = it.before; rest = it.rest; split = it.split; short = omega (arith, short, it.short); answers = it.answers }
+-- serving has failed within the last of the bytes that it took
+module _ (trace : Bool) (bytes taken : List ℕ) (last : ℕ) (begun now : Option (List ℕ)) (r : Result (Unit {0}) ServeFault)
+    (fails : IfErr r (Fails trace bytes taken last begun now)) where
+  by : (e : ServeFault) → r ≡ Err e → Fails trace bytes taken last begun now e
+  by e is = subst (λ r. IfErr r (Fails trace bytes taken last begun now)) is fails
 
--- reading or answering failed
-pub serves_err : (trace : Bool) (input taken : List ℕ) (last : ℕ) (left begun now : Option (List ℕ)) (e : ServeFault) → Consumes (Some input) left taken
-    → last ≤ most_read → Fails trace input taken last begun now e → Serves trace input left begun now (Err e)
-serves_err trace input taken last left begun now Read read short fails = absurd fails
-serves_err trace input taken last left begun now Write read short fails = fails
-serves_err trace input taken last left begun now Memory read short fails = record { taken = taken; read = read; answers = shorter trace taken last begun now short fails }
-serves_err trace input taken last left begun now Thread read short fails = record { taken = taken; read = read; answers = shorter trace taken last begun now short fails }
+  pub never_reading : (P : Type 0) → r ≡ Err Read → P
+  never_reading P is = absurd (by Read is)
 
--- the last line was answered, or not
-pub ends_by : (trace : Bool) (input taken : List ℕ) (left left' begun now : Option (List ℕ)) (r : Result (Unit {0}) ServeFault)
-    → Consumes (Some input) left taken → Consumes left left' [] → IsAtEnd left' → OnOk r (AreWritten trace (lines_of taken) begun now)
-    → IfErr r (Fails trace taken taken 0 begun now) → Serves trace input left' begun now r
-ends_by trace input taken left left' begun now (Ok u) read consumed end ok err =
-    let is : input ≡ taken = at_the_end input left left' taken read consumed end in
-    record { read = end; answers = subst (λ l. AreWritten trace (lines_of l) begun now) (sym is) ok }
-ends_by trace input taken left left' begun now (Err e) read consumed end ok err =
-    let is : input ≡ taken = at_the_end input left left' taken read consumed end in
-    let all : Consumes (Some input) left' taken = subst (λ l. Consumes (Some input) left' l) (append-nil taken) (consumes_more (Some input) left left' taken [] read consumed) in
-    serves_err trace input taken 0 left' begun now e all (omega arith) (subst (λ l. Fails trace l taken 0 begun now e) (sym is) err)
+  pub serves_before : (input left : Option (List ℕ)) → Consumes input left taken → last ≤ most_read
+      → (r ≡ Err Memory) ⊎ (r ≡ Err Thread) → ServesBefore trace input left begun now
+  serves_before input left read short want =
+      let it = elim want as (λ _. AreWrittenBefore trace taken last begun now) [ inl is ↦ by Memory is | inr is ↦ by Thread is ] in
+      record {
+        taken = taken;
+        read = read;
+        answers = record { before = it.before; rest = it.rest; split = it.split; short = omega (arith, short, it.short); answers = it.answers };
+      }
+
+  pub serves_some : r ≡ Err Write → Fails trace bytes taken last begun now Write
+  serves_some is = by Write is
 
 -- nothing was taken yet
 pub nothing_taken : {D : Type 0} (state : D → DeviceState) (trace : Bool) (left begun : Option (List ℕ)) (p : Progress)
     (service : Service D) → Keeps p 1 [] → (service.sessions ≡ []) × (service.trace ≡ trace)
-    → AreFit state service.links.items → IfSome left (λ input. SoFar state trace input left begun begun p service)
-nothing_taken state trace None begun p service keeps new fit = tt
-nothing_taken state trace (Some input) begun p service keeps new fit = record {
+    → AreFit state service.links.items → SoFar state trace left left begun begun p service
+nothing_taken state trace left begun p service keeps new fit = record {
   point = start;
-  split = refl;
-  is = record { reached = starts trace; keeps = keeps; sessions = new.0; trace_is = new.1; fit = fit; wrote = appends_none begun };
+  read = Consumes-nil left;
+  is = record { reached = starts trace; keeps = keeps; sessions = new.0; trace_is = new.1; fit = fit; wrote = Appends-nil begun };
 }

@@ -1,5 +1,5 @@
 -- Where the reading of an input stands: between two stretches of its bytes.
-use Rattle.std.specs.Prelude.{◌≡◌, ℕ, nat_lt, Bool, List, [], ◌∷◌, ◌++◌, length, take, Option}
+use Rattle.std.specs.Prelude.{◌≡◌, ℕ, nat_lt, Bool, List, [], ◌∷◌, ◌++◌, length, take, Option, Some}
 use Rattle.std.specs.List.{filter}
 use Rattle.std.specs.Io.KnownBytes.{Appends}
 use Rattle.tp_link.specs.Device.{DeviceState}
@@ -70,7 +70,7 @@ Begins input taken = (rest : List ℕ) × (input ≡ taken ++ rest)
 abbrev pub Fails : Bool → (input taken : List ℕ) → (last : ℕ) → (begun now : Option (List ℕ)) → ServeFault → Type 0
 Fails trace input taken last begun now Memory = AreWrittenBefore trace taken last begun now
 Fails trace input taken last begun now Thread = AreWrittenBefore trace taken last begun now
-Fails trace input taken last begun now Write = ServesSome trace input begun now
+Fails trace input taken last begun now Write = ServesSome trace (Some input) begun now
 Fails trace input taken last begun now Read = ⊥
 
 -- one point further, by these bytes

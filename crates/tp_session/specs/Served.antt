@@ -1,13 +1,11 @@
 -- What is written for an input.
-use Rattle.std.specs.Prelude.{◌≡◌, ℕ, ◌≤◌, Bool, List, ◌++◌, length, take, Option, Some, Result, Ok, Err}
+use Rattle.std.specs.Prelude.{◌≡◌, ℕ, ◌≤◌, Bool, List, ◌++◌, length, take, Option, IfSome}
 use Rattle.std.specs.Io.KnownBytes.{Appends, Consumes, IsAtEnd}
 use Rattle.tp_image.specs.Image.{ImageValue}
 use Rattle.tp_answers.specs.Results.{RunResult}
 use Rattle.tp_requests.specs.Lines.{Line, lines_of, ended_lines}
 use Rattle.tp_answers.specs.Answers.{Verdict}
 use Rattle.tp_answers.specs.Rules.{IsVerdict, IsOutcome}
-use Rattle.tp_session.specs.declared.fault.ServeFault.{ServeFault}
-use Rattle.tp_session.specs.declared.fault.ServeFault.TheVariants.{Read, Write, Memory, Thread}
 use Rattle.tp_session.specs.Protocol as protocol
 
 -- the most bytes that are read at a time
@@ -43,35 +41,29 @@ pub record AreWrittenBefore (trace : Bool) (taken : List ℕ) (last : ℕ) (old 
   pub short : length rest ≤ last
   pub answers : AreWritten trace (ended_lines before) old new
 
--- all is read, and what is served is written
-pub record ServesAll (trace : Bool) (input : List ℕ) (left old new : Option (List ℕ)) : Type 0 where
-  pub read : IsAtEnd left
-  pub answers : AreWritten trace (lines_of input) old new
+-- all of the input is read, and the answers to its lines are written
+pub record ServesAll (trace : Bool) (input left old new : Option (List ℕ)) : Type 0 where
+  pub taken : List ℕ
+  pub read : Consumes input left taken
+  pub end : IsAtEnd left
+  pub answers : AreWritten trace (lines_of taken) old new
 
 -- the answers to the whole lines that were read are written
-pub record ServesRead (trace : Bool) (input : List ℕ) (left old new : Option (List ℕ)) : Type 0 where
+pub record ServesRead (trace : Bool) (input left old new : Option (List ℕ)) : Type 0 where
   pub taken : List ℕ
-  pub read : Consumes (Some input) left taken
+  pub read : Consumes input left taken
   pub answers : AreWritten trace (ended_lines taken) old new
 
 -- the answers to the whole lines before the byte at which a growth or a thread was refused are: one of those that were
 -- read last, or the end of the input
-pub record ServesBefore (trace : Bool) (input : List ℕ) (left old new : Option (List ℕ)) : Type 0 where
+pub record ServesBefore (trace : Bool) (input left old new : Option (List ℕ)) : Type 0 where
   pub taken : List ℕ
-  pub read : Consumes (Some input) left taken
+  pub read : Consumes input left taken
   pub answers : AreWrittenBefore trace taken most_read old new
 
 -- some of the first bytes of the answers to the first lines are
-abbrev pub ServesSome : Bool → (input : List ℕ) → (old new : Option (List ℕ)) → Type 0
-ServesSome trace input old new = (lines : ℕ) × AreWrittenInPart trace (take lines (lines_of input)) old new
-
--- what serving has written of an input, by how it ends; what it leaves of the input
-abbrev pub Serves : Bool → (input : List ℕ) → (left old new : Option (List ℕ)) → Result (Unit {0}) ServeFault → Type 0
-Serves trace input left old new (Ok _) = ServesAll trace input left old new
-Serves trace input left old new (Err Read) = ServesRead trace input left old new
-Serves trace input left old new (Err Memory) = ServesBefore trace input left old new
-Serves trace input left old new (Err Thread) = ServesBefore trace input left old new
-Serves trace input left old new (Err Write) = ServesSome trace input old new
+abbrev pub ServesSome : Bool → (input old new : Option (List ℕ)) → Type 0
+ServesSome trace input old new = IfSome input (λ bytes. (lines : ℕ) × AreWrittenInPart trace (take lines (lines_of bytes)) old new)
 
 -- functions that give the verifier's verdict on each text, and what each packet comes to
 pub record AreRuled (verdict : List ℕ → Verdict) (outcome : ImageValue → List ℕ → Option RunResult) : Type 0 where

@@ -1,7 +1,7 @@
 //! Serving an input.
 
-ghost use Rattle.std.specs.Prelude.{IfSome};
-ghost use Rattle.tp_session.specs.Served.{Serves};
+ghost use Rattle.std.specs.Prelude.{◌≡◌, ◌⊎◌, OnOk};
+ghost use Rattle.tp_session.specs.Served.{ServesAll, ServesRead, ServesBefore, ServesSome};
 ghost use Rattle.tp_session.specs.Fitness.{AreFit};
 
 use crate::farm::Farm;
@@ -30,8 +30,14 @@ pub fn serve<T: Threads + Wait + Sync, D: LinkDevice + Send, R: Read, W: Write>(
     writer: &mut W,
     farm: Farm<D>,
 ) -> Result<(), ServeFault>
-    ensures { AreFit D.state farm.links.items → IfSome (R.remaining reader.old) (λ input.
-        Serves farm.trace input (R.remaining reader.new) (W.contents writer.old) (W.contents writer.new) result) }
+    ensures all { AreFit D.state farm.links.items → OnOk result (ServesAll farm.trace
+        (R.remaining reader.old) (R.remaining reader.new) (W.contents writer.old) (W.contents writer.new)) }
+    ensures read { AreFit D.state farm.links.items → result ≡ Err ServeFault.Read → ServesRead farm.trace
+        (R.remaining reader.old) (R.remaining reader.new) (W.contents writer.old) (W.contents writer.new) }
+    ensures want { AreFit D.state farm.links.items → (result ≡ Err ServeFault.Memory) ⊎ (result ≡ Err ServeFault.Thread) →
+        ServesBefore farm.trace (R.remaining reader.old) (R.remaining reader.new) (W.contents writer.old) (W.contents writer.new) }
+    ensures write { AreFit D.state farm.links.items → result ≡ Err ServeFault.Write → ServesSome farm.trace
+        (R.remaining reader.old) (W.contents writer.old) (W.contents writer.new) }
 {
     let mut service = Service::new(alloc, farm.links, farm.trace);
     let mut progress = begin(alloc);

@@ -1,10 +1,11 @@
 use Rattle.std.proofs.Common.{◌≡◌, ◌≤◌, ◌+◌, ◌++◌, ◌∙◌, ap, sym, subst, map, take, drop, length, arith}
 use Rattle.std.specs.Io.KnownBytes.{Appends}
+use Rattle.std.proofs.KnownBytes.{Appends-trans}
 use Rattle.std.proofs.lemmas.List.{length-map}
 use Rattle.tp_run_text.specs.Lines.{entries_text}
 use Rattle.tp_run_text.specs.Tallies.{nothing_counted, with_entries}
 use Rattle.tp_runs.proofs.Results.{as_many_results}
-use Rattle.tp_runs.proofs.Written.{appends_more, text_and, counted_and, batch_more, of_slice, long_taken, long_batch}
+use Rattle.tp_runs.proofs.Written.{text_and, counted_and, batch_more, of_slice, long_taken, long_batch}
 use Rattle.tp_runs.proofs.batches.run_packets.Goals as goal
 
 pub loop-number-preserved : goal.loop-number-preserved
@@ -32,7 +33,7 @@ loop-number-preserved g c =
     ap (λ b. entries_text form image.budget 0 entries ++ entries_text form b n more) c.budget.ensures.value
     ∙ ap (λ k. entries_text form image.budget 0 entries ++ entries_text form image.budget k more) (sym from)
     ∙ sym (text_and form image.budget 0 entries more) in
-    let shown = appends_more _ _ _ _ _ so_far.2 c.in_ok-write_batch.ensures in
+    let shown = Appends-trans _ _ _ _ _ so_far.2 c.in_ok-write_batch.ensures in
     let counted =
     c.add_all.ensures.tally ∙ ap (with_entries form c.loop-number.tally n) seen
     ∙ ap (λ t. with_entries form t n more) so_far.3 ∙ ap (λ k. with_entries form (with_entries form nothing_counted 0 entries) k more) (sym from)

@@ -1,7 +1,8 @@
 use Rattle.std.proofs.Common.{◌≡◌, ◌++◌, ◌∙◌, ap, sym, subst}
 use Rattle.std.specs.Io.KnownBytes.{Appends}
 use Rattle.tp_run_text.specs.Lines.{entries_text}
-use Rattle.tp_runs.proofs.Written.{appends_keeps, of_ok}
+use Rattle.std.proofs.KnownBytes.{Appends-kept}
+use Rattle.tp_runs.proofs.Written.{of_ok}
 use Rattle.tp_runs.proofs.batches.write_batch.Goals as goal
 
 pub returns-in-Ok : goal.returns-in-Ok
@@ -13,4 +14,4 @@ returns-in-Ok g c =
     c.deref-2.ensures.value ∙ c.in_ok-write_entries.ensures
     ∙ ap (λ l. l ++ entries_text c.args.form c.args.budget c.args.number c.deref.result.now) c.clear.ensures.items
     ∙ ap (entries_text c.args.form c.args.budget c.args.number) (c.deref.ensures.value ∙ c.collected.view_is) in
-    appends_keeps before _ _ text (subst (Appends before (g.W.Write.contents c.write_all.new.self)) shown all) c.in-Ok.ensures.bytes
+    Appends-kept before _ _ text (subst (Appends before (g.W.Write.contents c.write_all.new.self)) shown all) c.in-Ok.ensures.bytes

@@ -1,5 +1,6 @@
 use Rattle.std.proofs.Common.{◌++◌, take, drop, sym, ap, ◌∙◌}
-use Rattle.tp_session.proofs.KnownBytes.{appends_keeps, appends_front, some_more, slice_rest}
+use Rattle.std.proofs.KnownBytes.{Appends-kept}
+use Rattle.tp_session.proofs.KnownBytes.{appends_front, some_more, slice_rest}
 use Rattle.tp_session.proofs.reading.write_whole.Goals as goal
 
 pub returns-in-Ok-eq0-clause-err : goal.returns-in-Ok-eq0-clause-err
@@ -25,10 +26,10 @@ pub returns-in-Err-clause-err : goal.returns-in-Err-clause-err
 returns-in-Err-clause-err g c =
     let so_far = c.loop-rest.invariant in
     appends_front _ _ so_far.0 c.loop-rest.rest.now c.args.text.now so_far.1
-    (appends_keeps _ _ _ so_far.0 so_far.2 c.in-Err.ensures.bytes)
+    (Appends-kept _ _ _ so_far.0 so_far.2 c.in-Err.ensures.bytes)
 
 pub returns-in-Err-flush-clause-err : goal.returns-in-Err-flush-clause-err
 returns-in-Err-flush-clause-err g c =
     let so_far = c.loop-rest.invariant in
     appends_front _ _ so_far.0 c.loop-rest.rest.now c.args.text.now so_far.1
-    (appends_keeps _ _ _ so_far.0 so_far.2 c.in-Err-flush.ensures.bytes)
+    (Appends-kept _ _ _ so_far.0 so_far.2 c.in-Err-flush.ensures.bytes)

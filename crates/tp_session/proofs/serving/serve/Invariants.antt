@@ -1,4 +1,4 @@
-use Rattle.std.proofs.Common.{◌≡◌, IfSome, length}
+use Rattle.std.proofs.Common.{◌≡◌, length}
 use Rattle.tp_session.specs.Served.{most_read}
 use Rattle.tp_session.specs.Fitness.{AreFit, HasMembers, AreAsMany}
 use Rattle.tp_session.proofs.ServeLemmas.{SoFar}
@@ -12,6 +12,6 @@ invariant-loop g l = record {
   members : HasMembers l.service.links.items;
   as_many : AreAsMany l.fn.farm.links.items l.service.links.items;
   so_far : AreFit g.D.LinkDevice.state l.fn.farm.links.items
-      → IfSome (g.R.Read.remaining l.fn.reader) (λ input. SoFar g.D.LinkDevice.state l.fn.farm.trace input
-      (g.R.Read.remaining l.reader) (g.W.Write.contents l.fn.writer) (g.W.Write.contents l.writer) l.progress l.service);
+      → SoFar g.D.LinkDevice.state l.fn.farm.trace (g.R.Read.remaining l.fn.reader)
+      (g.R.Read.remaining l.reader) (g.W.Write.contents l.fn.writer) (g.W.Write.contents l.writer) l.progress l.service;
 }
