@@ -38,7 +38,7 @@ pub struct Case<'a> {
 }
 
 /// The words of a command line are these at most.
-pub const CASES: [Case<'_>; 5] = [
+pub const CASES: [Case<'_>; 7] = [
     Case {
         words: &["tpw", "asm", "--line", "fib"],
         input: Text::Lines(FIBONACCI_TEXT),
@@ -55,6 +55,18 @@ pub const CASES: [Case<'_>; 5] = [
         words: &["tpw", "step", "--packet", "29000000", "--from", "12"],
         input: Text::Digits("", INCREMENT),
         told: Text::Lines(INCREMENT_STEPS),
+        status: 0,
+    },
+    Case {
+        words: &["tpw", "list"],
+        input: Text::Digits("", INCREMENT),
+        told: Text::Lines(INCREMENT_LISTED),
+        status: 0,
+    },
+    Case {
+        words: &["tpw", "profile", "--words", "1"],
+        input: Text::Lines(LOOP),
+        told: Text::Lines(LOOP_COUNTED),
         status: 0,
     },
     Case {
@@ -125,6 +137,53 @@ trace \nflag 0
 count 16
 ";
 
+/// Each byte is executed once.
+const INCREMENT_LISTED: &str = "\
+YES 16 16
+budget   16
+    at  bytes                   left  instruction
+     0  10                        16  ldlp 0
+     1  24f2                      15  mint
+     3  54                        13  ldnlp 4
+     4  44                        12  ldc 4
+     5  f7                        11  in
+     6  70                        10  ldl 0
+     7  81                         9  adc 1
+     8  d0                         8  stl 0
+     9  10                         7  ldlp 0
+    10  24f2                       6  mint
+    12  44                         4  ldc 4
+    13  fb                         3  out
+    14  21f5                       2  stopp
+";
+
+/// A loop of three turns, each of seven bytes: three in the loop's body, four for its end.
+const LOOP: &str = "\
+local n
+receive n
+for i = 0 for 3
+ldl n
+adc 1
+stl n
+end i
+send n
+stopp
+";
+
+/// 6 steps receive, 4 begin the loop, 21 are its turns, 5 send and 2 stop.
+const LOOP_COUNTED: &str = "\
+steps 38
+ 31.5%            12  ##############################  line 7: end i
+ 15.7%             6  ###############                 line 2: receive n
+ 13.1%             5  ############                    line 8: send n
+ 10.5%             4  ##########                      line 3: for i = 0 for 3
+  7.8%             3  #######                         line 4: ldl n
+  7.8%             3  #######                         line 5: adc 1
+  7.8%             3  #######                         line 6: stl n
+  5.2%             2  #####                           line 9: stopp
+ 55.2%            21  ################                loop i (line 3), 10 to 15
+";
+
 /// Keeps the address of a word in a word.
 const KEPT_ADDRESS: &str =
     "packet 1\nresult 1\nlocal n, p\nreceive n\nldlp n\nstl p\nldl p\nldnl 0\nstl n\ndone: send n\nstopp\n";
@@ -145,7 +204,7 @@ asked    Areg is the address of a word; the word n further on is in the workspac
 known    Areg any number; Breg may be undefined; Creg may be undefined
          Wptr at word 5; phase 1, the packet is received and the result not sent
          words 0 to 4: may be undefined
-         words 5 to 6: any number
+         words 5 to 6 (n, p): any number
          word 7: 0
 why      Areg is what 8 ldl 1 read from word 6 (p)
 written  word 6 (p) by 7 stl 1: the address of word 5; a word does not keep that it is an address

@@ -4,4 +4,22 @@
 #[cfg(test)]
 mod asserts;
 #[cfg(test)]
-mod commands;
+mod help;
+#[cfg(test)]
+mod list;
+#[cfg(test)]
+mod notes;
+#[cfg(test)]
+mod packets;
+#[cfg(test)]
+mod profile;
+#[cfg(test)]
+mod program;
+#[cfg(test)]
+mod refusals;
+#[cfg(test)]
+mod step;
+#[cfg(test)]
+mod texts;
+#[cfg(test)]
+mod why;

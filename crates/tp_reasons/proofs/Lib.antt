@@ -1,3 +1,5 @@
 mod Passing
 mod Taking
 mod Costing
+pub mod LimitedCosts
+pub mod CountsFilled

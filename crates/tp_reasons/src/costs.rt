@@ -2,11 +2,12 @@
 
 ghost use Rattle.std.specs.Prelude.{◌≡◌, length, map, None, IfOk, IfSome};
 ghost use Rattle.tp_decode.specs.Cutting.{IsCutting};
-ghost use Rattle.tp_accept.specs.Capped.{counted_at, AreCounted};
+ghost use Rattle.tp_reasons.specs.Counts.{counted_at, AreCounted};
 ghost use Rattle.tp_reasons.specs.CostsTold.{loop_cost, AreByAddress, AreCostsOf, AreCostsOfText, MayNotBeRun, BeginsWithBudget};
 
+use crate::counting::counts;
 use std::alloc::{AllocError, Global};
-use tp_accept::{Accepted, Counted, Refusal, accept, costs};
+use tp_accept::{Accepted, Counted, Refusal, accept};
 use tp_decode::{DecodeFault, Listing, decode};
 use tp_image::{Image, LoopRow};
 
@@ -35,7 +36,7 @@ pub struct Costs {
 }
 
 /// The instructions of an accepted image.
-fn listing_of(alloc: Global, accepted: &Accepted) -> Result<Listing, AllocError>
+pub(crate) fn listing_of(alloc: Global, accepted: &Accepted) -> Result<Listing, AllocError>
     ensures { IfOk result (IsCutting accepted.now.image.code) }
 {
     match decode(alloc, accepted.code()) {
@@ -92,23 +93,50 @@ fn by_loop(
     Ok(all)
 }
 
+/// Where the bytes of a code go, within the limit on budgets or not.
+#[derive(Drop)]
+pub(crate) struct CodeCosts {
+    /// Of each loop, in the order of rows.
+    pub(crate) loops: Vec<LoopCost>,
+    /// By address: none where no instruction begins.
+    pub(crate) by_address: Vec<Option<Counted>>,
+}
+
+/// Where the bytes of a code go.
+pub(crate) fn costs_of_code(
+    alloc: Global,
+    image: &Image,
+    listing: &Listing,
+) -> Result<CodeCosts, AllocError>
+    requires { IsCutting image.now.code listing.now }
+    ensures loops { IfOk result
+        (λ costs. costs.loops.items ≡ map (loop_cost image.now.loops listing.now) image.now.loops) }
+    ensures by_address { IfOk result
+        (λ costs. AreByAddress image.now.loops listing.now (length image.now.code) costs.by_address.items) }
+{
+    let counted = counts(alloc, image, listing)?;
+    Ok(CodeCosts {
+        loops: by_loop(alloc, image, listing, &counted)?,
+        by_address: by_address(alloc, image, listing, &counted)?,
+    })
+}
+
 /// Where the bytes of an accepted image go.
 fn costs_of_accepted(alloc: Global, accepted: &Accepted) -> Result<Costs, AllocError>
     ensures costs { IfOk result (AreCostsOf accepted.now.image) }
     ensures budget { IfOk result (λ costs. costs.budget ≡ accepted.now.budget) }
 {
-    let image = accepted.image();
     let listing = listing_of(alloc, accepted)?;
-    let counted = costs(alloc, image, &listing)?;
+    let CodeCosts { loops, by_address } = costs_of_code(alloc, accepted.image(), &listing)?;
     Ok(Costs {
         budget: accepted.budget(),
-        loops: by_loop(alloc, image, &listing, &counted)?,
-        by_address: by_address(alloc, image, &listing, &counted)?,
+        loops,
+        by_address,
     })
 }
 
 /// Judges the bytes of an image: where its bytes go, if it is accepted. Each cost is the most instruction bytes that can be
-/// executed, counted no further than one above the greatest budget.
+/// executed, or the greatest number of 64 bits where that is less.
 pub fn costs_of(alloc: Global, text: &[u8]) -> Result<Option<Costs>, AllocError>
     ensures costs { IfOk result (λ found. IfSome found (AreCostsOfText text.now)) }
     ensures starts { IfOk result (λ found. IfSome found BeginsWithBudget) }

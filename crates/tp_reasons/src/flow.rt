@@ -114,8 +114,14 @@ pub(crate) fn tell_flow<W: Write>(
         return tell_target(listing, place, writer);
     }
     if let Some(row) = image.loops.get(place) {
+        let told = source.told_loop(place, row);
         let row = ToldRow(*row);
-        writeln!(writer, "known    row {place}: {row}").map_err(|_| TellFault::Write)?;
+        write!(writer, "known    row {place}: {row}").map_err(|_| TellFault::Write)?;
+        if source.statements.is_empty() {
+            writeln!(writer).map_err(|_| TellFault::Write)?;
+        } else {
+            writeln!(writer, "; {told}").map_err(|_| TellFault::Write)?;
+        }
     }
     let fault = fault_of_row(image, listing, place);
     writeln!(writer, "why      {fault}").map_err(|_| TellFault::Write)

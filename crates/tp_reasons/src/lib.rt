@@ -4,11 +4,14 @@
 #![tactic(auto)]
 
 mod asked;
+mod bound;
 mod costs;
+mod counting;
 mod fields;
 mod flow;
 mod known;
 mod lines;
+mod listed;
 mod meaning;
 mod origin;
 mod passes;
@@ -22,10 +25,11 @@ mod writers;
 mod written;
 
 pub use costs::{Costs, LoopCost, costs_of};
+pub use listed::list;
 pub use meaning::{Meaning, meaning_of};
 pub use passes::first_refusal;
 pub use refusal::{EdgeRefusal, FirstRefusal};
-pub use source::{Label, Named, SourceText, Statement};
+pub use source::{Label, Named, SourceText, Statement, ToldLoop};
 pub use telling::TellFault;
 pub use tp_accept::Counted;
 pub use verdict::tell;

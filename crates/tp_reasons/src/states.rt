@@ -10,7 +10,7 @@ use crate::known::{KnownPhase, KnownRegister, KnownWord};
 use crate::lines::tell_around;
 use crate::passes::asked;
 use crate::refusal::{EdgeRefusal, FirstRefusal};
-use crate::source::SourceText;
+use crate::source::{SourceText, ToldNames};
 use crate::telling::TellFault;
 use crate::written::{Finding, tell_written};
 use std::alloc::Global;
@@ -53,7 +53,12 @@ fn tell_stretch<W: Write>(
         let word = source.word(first);
         writeln!(writer, "         {word}: {known}")
     } else {
-        writeln!(writer, "         words {first} to {last}: {known}")
+        let names = ToldNames {
+            source,
+            first,
+            last,
+        };
+        writeln!(writer, "         words {first} to {last}{names}: {known}")
     };
     told.map_err(|_| TellFault::Write)
 }

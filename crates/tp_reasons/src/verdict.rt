@@ -4,6 +4,8 @@ ghost use Rattle.std.specs.Prelude.{IfOk};
 ghost use Rattle.tp_decode.specs.Cutting.{IsCutting};
 ghost use Rattle.tp_reasons.specs.Told.{IsVerdictOn};
 
+use crate::bound::tell_bound;
+use crate::costs::{CodeCosts, costs_of_code};
 use crate::fields::{tell_bytes, tell_field, tell_turns};
 use crate::flow::tell_flow;
 use crate::meaning::meaning_of;
@@ -44,7 +46,11 @@ pub fn tell<W: Write>(
 }
 
 /// Writes the line of a refusal, and what it means.
-fn tell_line<W: Write>(code: RefusalCode, place: usize, writer: &mut W) -> Result<(), TellFault> {
+pub(crate) fn tell_line<W: Write>(
+    code: RefusalCode,
+    place: usize,
+    writer: &mut W,
+) -> Result<(), TellFault> {
     let refused = meaning_of(code).refused;
     writeln!(writer, "NO {code} {place}").map_err(|_| TellFault::Write)?;
     writeln!(writer, "refused  {refused}").map_err(|_| TellFault::Write)
@@ -57,7 +63,7 @@ fn tell_instead<W: Write>(code: RefusalCode, writer: &mut W) -> Result<(), TellF
 }
 
 /// The image that bytes are, if they are one.
-fn image_of(alloc: Global, text: &[u8]) -> Result<Option<Image>, TellFault> {
+pub(crate) fn image_of(alloc: Global, text: &[u8]) -> Result<Option<Image>, TellFault> {
     match read_image(alloc, text) {
         Ok(image) => Ok(Some(image)),
         Err(ImageFault::Memory) => Err(TellFault::Memory),
@@ -66,7 +72,7 @@ fn image_of(alloc: Global, text: &[u8]) -> Result<Option<Image>, TellFault> {
 }
 
 /// Writes a refusal: its line, what it means, where it comes, and what helps.
-fn tell_refusal<W: Write>(
+pub(crate) fn tell_refusal<W: Write>(
     alloc: Global,
     text: &[u8],
     source: SourceText<'_>,
@@ -110,9 +116,35 @@ fn tell_code<W: Write>(
     match code {
         RefusalCode::Flow(code) => tell_flow(alloc, image, listing, source, code, place, writer),
         RefusalCode::State(_) => tell_passes(alloc, image, listing, source, writer),
-        RefusalCode::B1 => tell_turns(image, writer),
+        RefusalCode::B1 => {
+            tell_turns(image, writer)?;
+            tell_above(alloc, image, listing, source, writer)
+        }
         RefusalCode::Image(_) | RefusalCode::Cutting(_) => Ok(()),
     }
+}
+
+/// The bytes from the first instruction on.
+pub(crate) fn whole_of(costs: &CodeCosts) -> u64 {
+    match costs.by_address.first() {
+        Some(Some(first)) => first.whole,
+        _ => 0,
+    }
+}
+
+/// Writes the bound of a code, which is above the limit.
+fn tell_above<W: Write>(
+    alloc: Global,
+    image: &Image,
+    listing: &Listing,
+    source: SourceText<'_>,
+    writer: &mut W,
+) -> Result<(), TellFault>
+    requires { IsCutting image.now.code listing.now }
+{
+    let costs = costs_of_code(alloc, image, listing)?;
+    let bytes = whole_of(&costs);
+    tell_bound(source, image, "bound   ", bytes, &costs.loops, writer)
 }
 
 /// Writes where the passes over a code refuse it, and what is known there: they are made once more.

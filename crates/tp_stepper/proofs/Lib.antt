@@ -1,1 +1,2 @@
 mod Along
+mod Counting

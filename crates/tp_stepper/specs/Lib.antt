@@ -1,5 +1,6 @@
 -- What a reader must believe: clauses of public calls cite it.
 pub mod Places
+pub mod Profiles
 pub mod Stepping
 pub use Rattle.tp_tested.specs.Meaning
 pub use Rattle.tp_step.specs.State

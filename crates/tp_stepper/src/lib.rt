@@ -4,6 +4,7 @@
 #![tactic(auto)]
 
 mod prefixes;
+mod profile;
 mod reason;
 mod run;
 mod span;
@@ -11,6 +12,7 @@ mod stepper;
 mod value;
 mod workspace;
 
+pub use profile::{Profile, RunEnd, count_run};
 pub use reason::Reason;
 pub use run::{End, TellFault, tell};
 pub use span::{Place, Span};

@@ -25,7 +25,7 @@ const ROOM: usize = 256;
 const WORD_BYTES: i32 = 4;
 
 /// The most instructions that are run.
-const MOST_INSTRUCTIONS: u64 = 16_777_216;
+pub(crate) const MOST_INSTRUCTIONS: u64 = 16_777_216;
 
 /// How a run was left.
 #[derive(Clone, Copy, Debug, PartialEq, Eq)]

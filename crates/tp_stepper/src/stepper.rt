@@ -44,6 +44,21 @@ impl Stepper {
         }
     }
 
+    /// The start of a packet's run of the same image.
+    pub fn restart(&mut self)
+        ensures starts { (packet : List ℕ) → state_of self.new.machine record {
+          phase = self.new.phase;
+          to_come = packet;
+          sent = [];
+          traced = [];
+        } ≡ start self.new.image packet }
+        ensures phase { self.new.phase ≡ BeforePacket }
+        ensures image { self.new.image ≡ self.old.image }
+    {
+        self.machine.start(&self.image);
+        self.phase = Phase::BeforePacket;
+    }
+
     /// Goes on by one instruction: its prefixes and the byte behind them, a step each. None where the worker had stopped.
     ///
     /// Where there is no step, or a device refuses its call, the run has ended, and the machine is left between two states.

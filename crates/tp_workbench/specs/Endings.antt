@@ -64,6 +64,7 @@ status_of (ending.Shown error) = status.Done
 status_of (ending.Refused error) = status.Refused
 status_of ending.NotText = status.Refused
 status_of ending.NoCommand = status.Refused
+status_of ending.NoName = status.Refused
 status_of ending.NoPacket = status.Refused
 status_of (ending.NoPlace name) = status.Refused
 status_of (ending.NoWords fault) = status.Refused

@@ -6,6 +6,7 @@ ghost use Rattle.tp_workbench.specs.Programs.{AreImageOf, IsRefusalOf};
 
 use crate::ending::{Ending, Status};
 use crate::fault::InputFault;
+use crate::fielding::assembled_text;
 use crate::input::utf8;
 use std::alloc::Global;
 use std::io::Write;
@@ -62,8 +63,9 @@ pub fn assemble_text<W: Write>(
     writer: &mut W,
     name: Option<&str>,
 ) -> Result<Status, Ending> {
-    let source = read_source(alloc, utf8(text)?)?;
-    let image = assembled(alloc, &source)?;
+    let text = utf8(text)?;
+    let source = read_source(alloc, text)?;
+    let image = assembled_text(alloc, text, &source)?;
     let digits = hex::encode(alloc, image.as_slice())?;
     let line = match name {
         Some(name) => format!(in alloc; "{name} IMAGE {digits}\n")?,

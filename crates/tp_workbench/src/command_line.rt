@@ -1,16 +1,16 @@
 //! What a command line asks for.
 
+use crate::asking::Asking;
 use crate::ending::Ending;
 use crate::input::Input;
-use crate::place::place_of;
+use crate::refusing::Telling;
 use crate::running::Running;
-use crate::stepping::Stepping;
+use crate::stepping::{FROM, Stepping, UNTIL};
 use clap::{Arg, ArgAction, ArgMatches, Command, Error, value_parser};
 use hex::FromHexError;
 use std::alloc::Global;
 use std::convert::AsStr;
 use tp_run_text::Style;
-use tp_stepper::{Place, Span};
 
 /// What `--version` says behind the name: the version, the commit where a package is built, and the kit that the proofs are made with.
 const VERSION: &str = "0.1 (unreleased, rattle-kit-13f)";
@@ -20,6 +20,13 @@ const STEP: &str = "step";
 
 /// The name of the command that tells why an image is refused.
 const WHY: &str = "why";
+
+/// The name of the command that counts where steps go.
+const PROFILE: &str = "profile";
+
+/// The name of the command that lists a code with its costs.
+const LIST: &str = "list";
+
 /// The names of those that make an image of a text, and a text of an image.
 const ASM: &str = "asm";
 
@@ -69,17 +76,13 @@ Status 0: each packet has a result, the one expected. Status 1: not so, or the w
 /// The name of the argument of each command that is read in place of standard input.
 const FILE: &str = "file";
 
-/// The names of its options.
+/// The name of an option of `step`.
 const PACKET: &str = "packet";
-
-const FROM: &str = "from";
-
-const UNTIL: &str = "until";
 
 /// What `tpw step --help` says below the options.
 const STEP_LINES: &str = "\
-Reads an image as hexadecimal: one line; line ends, and white space at the ends, are passed over.
-A PLACE is an address, as 36 or 0x24, or a count of steps, as +100.
+Reads an image as hexadecimal, one line, or a worker as assembly text.
+A PLACE is an address, as 36 or 0x24, or a count of steps, as +100; in a text also a label, or a line, as line:37.
 Status 0: the worker stopped, or was left at --until. Status 1: it is stuck, or does not end, or what is read is no image.
 docs/WORKERS.md reads a run.";
 
@@ -88,6 +91,20 @@ const WHY_LINES: &str = "\
 Reads an image as hexadecimal, one line, or a worker as assembly text.
 Status 0: the image is accepted. Status 1: it is refused, or what is read says none.
 docs/VERIFIER.md lists every refusal.";
+
+/// What `tpw list --help` says below the options.
+const LIST_LINES: &str = "\
+Reads an image as hexadecimal, one line, or a worker as assembly text. It writes the verdict; the bound on the instruction
+bytes of a run, and the bytes of a turn of each loop; and each instruction: its address, its bytes, the most bytes that are
+executed from there to the end of the loop around it, or of the run, and the line of the text that says it.
+Status 0: the image is accepted. Status 1: it is refused, or what is read says none.";
+
+/// What `tpw profile --help` says below the options.
+const PROFILE_LINES: &str = "\
+Reads a worker as assembly text, or an image as hexadecimal, accepted by the verifier or not, and runs packets on it. It
+writes how many steps they made, each an instruction byte; the share of each line of the text, or of each instruction of an
+image, the most first; and the share of each loop.
+Status 0: each worker stopped. Status 1: not so, or what is read says no worker.";
 
 /// What a command line asks for: a task, and where its text is read.
 #[derive(Drop)]
@@ -100,8 +117,10 @@ pub struct Asked {
 #[derive(Drop)]
 pub enum Task {
     Run(Running),
+    Profile(Asking),
     Step(Stepping),
-    Why,
+    /// The verdict on an image.
+    Judge(Telling),
     /// An image of a text, behind a name where one is given.
     Assemble(Option<String>),
     Disassemble,
@@ -164,14 +183,29 @@ fn flag_argument<'a>(alloc: Global, name: &'static str, help: &'static str) -> A
         .help(help)
 }
 
-/// `run`, as the command line has it.
-fn run_command<'a>(alloc: Global) -> Result<Command<'a>, Error> {
-    let words = Arg::new(alloc, WORDS)
+/// The option that says a packet.
+fn words_argument<'a>(alloc: Global) -> Arg<'a> {
+    Arg::new(alloc, WORDS)
         .long(WORDS)
         .value_name("WORDS")
         .action(ArgAction::Append)
         .allow_hyphen_values(true)
-        .help("A packet, as a line of FILE has it; may be given again");
+        .help("A packet, as a line of FILE has it; may be given again")
+}
+
+/// `profile`, as the command line has it.
+fn profile_command<'a>(alloc: Global) -> Result<Command<'a>, Error> {
+    let command = Command::new(alloc, PROFILE)
+        .about("Runs packets on a worker, and writes where their steps go")
+        .after_help(PROFILE_LINES)
+        .arg(file_argument(alloc))?
+        .arg(words_argument(alloc))?
+        .arg(text_argument(alloc, PACKETS, "FILE", "Packets, one a line"))?;
+    Ok(command)
+}
+
+/// `run`, as the command line has it.
+fn run_command<'a>(alloc: Global) -> Result<Command<'a>, Error> {
     let members = Arg::new(alloc, MEMBERS)
         .long(MEMBERS)
         .value_name("N")
@@ -182,7 +216,7 @@ fn run_command<'a>(alloc: Global) -> Result<Command<'a>, Error> {
         .about("Runs packets on a worker, and writes each result")
         .after_help(RUN_LINES)
         .arg(file_argument(alloc))?
-        .arg(words)?
+        .arg(words_argument(alloc))?
         .arg(text_argument(alloc, PACKETS, "FILE", "Packets, one a line"))?
         .arg(text_argument(
             alloc,
@@ -205,6 +239,15 @@ fn run_command<'a>(alloc: Global) -> Result<Command<'a>, Error> {
     Ok(command)
 }
 
+/// `list`, as the command line has it.
+fn list_command<'a>(alloc: Global) -> Result<Command<'a>, Error> {
+    let command = Command::new(alloc, LIST)
+        .about("Lists a worker's instructions with what each costs")
+        .after_help(LIST_LINES)
+        .arg(file_argument(alloc))?;
+    Ok(command)
+}
+
 /// `why`, as the command line has it.
 fn why_command<'a>(alloc: Global) -> Result<Command<'a>, Error> {
     let command = Command::new(alloc, WHY)
@@ -220,7 +263,7 @@ fn asm_command<'a>(alloc: Global) -> Result<Command<'a>, Error> {
         .long(LINE)
         .value_name("NAME")
         .action(ArgAction::Set)
-        .help("Writes `NAME IMAGE` before the image, ready for farmd");
+        .help("Writes `NAME IMAGE` before the image, ready for farmd: 1 to 16 of a to z, 0 to 9");
     let command = Command::new(alloc, ASM)
         .about("Makes an image of a text")
         .after_help(ASM_LINES)
@@ -247,6 +290,8 @@ fn command<'a>(alloc: Global) -> Result<Command<'a>, Error> {
         .subcommand_required(true)
         .subcommand(asm_command(alloc)?)?
         .subcommand(dis_command(alloc)?)?
+        .subcommand(list_command(alloc)?)?
+        .subcommand(profile_command(alloc)?)?
         .subcommand(run_command(alloc)?)?
         .subcommand(step_command(alloc)?)?
         .subcommand(why_command(alloc)?)?;
@@ -265,25 +310,13 @@ fn packet_of(alloc: Global, matches: &ArgMatches<'_>) -> Result<Vec<u8>, Ending>
     }
 }
 
-/// The place that an option gives, if it is given.
-fn place_given(matches: &ArgMatches<'_>, name: &'static str) -> Result<Option<Place>, Ending> {
-    let Some(text) = matches.get_str(name) else {
-        return Ok(None);
-    };
-    match place_of(text) {
-        Some(place) => Ok(Some(place)),
-        None => Err(Ending::NoPlace(name)),
-    }
-}
-
 /// What `step` is asked for.
 fn stepping(alloc: Global, matches: &ArgMatches<'_>) -> Result<Stepping, Ending> {
     let packet = packet_of(alloc, matches)?;
-    let from = place_given(matches, FROM)?;
-    let until = place_given(matches, UNTIL)?;
     Ok(Stepping {
         packet,
-        span: Span { from, until },
+        from: text_given(alloc, matches, FROM)?,
+        until: text_given(alloc, matches, UNTIL)?,
     })
 }
 
@@ -314,16 +347,20 @@ fn texts_given(
     Ok(texts)
 }
 
-/// What `run` is asked for.
-fn running(alloc: Global, matches: &ArgMatches<'_>) -> Result<Running, Ending> {
+/// The packets that are asked for.
+fn asking(alloc: Global, matches: &ArgMatches<'_>) -> Result<Asking, Ending> {
     let words = texts_given(alloc, matches, WORDS)?;
-    let packets = text_given(alloc, matches, PACKETS)?;
-    if words.is_empty() && packets.is_none() {
+    let file = text_given(alloc, matches, PACKETS)?;
+    if words.is_empty() && file.is_none() {
         return Err(Ending::NoPackets);
     }
+    Ok(Asking { words, file })
+}
+
+/// What `run` is asked for.
+fn running(alloc: Global, matches: &ArgMatches<'_>) -> Result<Running, Ending> {
     Ok(Running {
-        words,
-        packets,
+        asking: asking(alloc, matches)?,
         expect: text_given(alloc, matches, EXPECT)?,
         members: matches.get_one::<usize>(MEMBERS).unwrap_or(DEFAULT_MEMBERS),
         style: Style {
@@ -334,9 +371,22 @@ fn running(alloc: Global, matches: &ArgMatches<'_>) -> Result<Running, Ending> {
     })
 }
 
+/// The longest name of a session.
+const NAME_BYTES: usize = 16;
+
+/// Whether farmd takes a name: 1 to 16 letters in lower case and digits.
+fn is_name(name: &str) -> bool {
+    let is_short = !name.is_empty() && name.len() <= NAME_BYTES;
+    is_short
+        && name
+            .bytes()
+            .all(|byte| byte.is_ascii_lowercase() || byte.is_ascii_digit())
+}
+
 /// What `asm` is asked for.
 fn assembling(alloc: Global, matches: &ArgMatches<'_>) -> Result<Task, Ending> {
     match matches.get_str(LINE) {
+        Some(name) if !is_name(name) => Err(Ending::NoName),
         Some(name) => Ok(Task::Assemble(Some(String::from_str(alloc, name)?))),
         None => Ok(Task::Assemble(None)),
     }
@@ -357,11 +407,13 @@ pub fn asked_by<S: AsStr>(alloc: Global, words: &[S]) -> Result<Asked, Ending> {
         return Err(Ending::NoCommand);
     };
     let task = match name {
+        PROFILE => Task::Profile(asking(alloc, found)?),
         RUN => Task::Run(running(alloc, found)?),
         STEP => Task::Step(stepping(alloc, found)?),
         ASM => assembling(alloc, found)?,
         DIS => Task::Disassemble,
-        WHY => Task::Why,
+        LIST => Task::Judge(Telling::List),
+        WHY => Task::Judge(Telling::Why),
         _ => return Err(Ending::NoCommand),
     };
     Ok(Asked {

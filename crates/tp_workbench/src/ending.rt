@@ -65,8 +65,11 @@ pub enum Ending {
     /// The packet of the command line is not hexadecimal.
     #[error("error: invalid value for '--packet <HEX>': it takes hexadecimal digits, an even number\n")]
     NoPacket,
+    /// The name of the command line is none that farmd takes.
+    #[error("error: invalid value for '--line <NAME>': it takes 1 to 16 letters a to z and digits\n")]
+    NoName,
     /// An option of the command line has a text that names no place.
-    #[error("error: invalid value for '--{0} <PLACE>': it takes an address, as 36 or 0x24, or a count of steps, as +100\n")]
+    #[error("error: invalid value for '--{0} <PLACE>': it takes an address, as 36 or 0x24, or a count of steps, as +100; in a text a label, or a line, as line:37\n")]
     NoPlace(&'static str),
     /// Words of the command line say no packet.
     #[error("error: invalid value for '--words <WORDS>': {0}\n")]
@@ -106,6 +109,7 @@ impl Ending {
             Ending::Refused(_)
             | Ending::NotText
             | Ending::NoCommand
+            | Ending::NoName
             | Ending::NoPacket
             | Ending::NoWords(_)
             | Ending::NoPackets

@@ -38,6 +38,9 @@ pub enum InputFault {
     /// A line is longer than it states.
     #[error(":{0}: its operand needs a longer spelling")]
     Narrow(Position),
+    /// The statement here says a field of the image out of its range.
+    #[error(":{0}: {1}")]
+    Field(Position, &'static str),
     /// It says a program that has no image.
     #[error(": {0}")]
     Assembly(AssemblyFault),

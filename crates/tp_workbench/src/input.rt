@@ -16,7 +16,6 @@ use std::fs::File;
 use std::io::{ErrorKind, Read};
 use std::rt::Files;
 use thiserror::Error;
-use tp_image::{Image, read_image};
 
 /// Why a text says no bytes. A column is a byte's number in the text, counted from 1.
 #[derive(Clone, Copy, Debug, PartialEq, Eq, Error)]
@@ -172,10 +171,4 @@ impl<T: Files, R: Read> Inputs<'_, T, R> {
             Err(error) => Err(Ending::Input(InputFault::Unread(error))),
         }
     }
-}
-
-/// The image that a text says in hexadecimal, accepted by the verifier or not.
-pub fn image_of(alloc: Global, text: &[u8]) -> Result<Image, Ending> {
-    let bytes = hex_bytes(alloc, text)?;
-    Ok(read_image(alloc, &bytes)?)
 }

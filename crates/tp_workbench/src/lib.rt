@@ -1,19 +1,24 @@
 //! What the program `tpw` is made of, all but the naming of its streams: its words, its commands, its statuses and texts.
 #![tactic(auto)]
 
+mod asking;
 mod assembly;
 mod command_line;
 mod ending;
 mod fault;
+mod fielding;
 mod input;
 mod noting;
 mod place;
+mod profiling;
 mod program;
 mod refusing;
 mod running;
+mod shares;
 mod stepping;
 mod telling;
 mod terminal;
+mod traps;
 mod words;
 
 pub use ending::{Ending, Status};

@@ -4,11 +4,13 @@ use crate::assembly::assemble_text;
 use crate::command_line::{Asked, Task, asked_by};
 use crate::ending::{Ending, Status};
 use crate::input::{Input, Inputs};
-use crate::refusing::why;
+use crate::profiling::profile_worker;
+use crate::refusing::judge;
 use crate::running::run_worker;
 use crate::stepping::step;
 use crate::telling::tell_image;
 use crate::terminal::Terminal;
+use crate::traps::note_traps;
 use crate::words::words_of;
 use std::alloc::Global;
 use std::env::Env;
@@ -33,9 +35,16 @@ where
 {
     let text = inputs.read(alloc, &asked.input)?;
     match &asked.task {
+        Task::Run(_) | Task::Profile(_) | Task::Judge(_) | Task::Assemble(_) => {
+            note_traps(alloc, terminal.errors, &asked.input, &text)?;
+        }
+        Task::Step(_) | Task::Disassemble => {}
+    }
+    match &asked.task {
+        Task::Profile(asking) => profile_worker(alloc, inputs, &text, writer, terminal, asking),
         Task::Run(running) => run_worker(rt, alloc, inputs, &text, writer, terminal, running),
-        Task::Step(stepping) => step(alloc, &text, writer, stepping),
-        Task::Why => why(alloc, &text, writer),
+        Task::Step(stepping) => step(alloc, &text, writer, terminal.errors, stepping),
+        Task::Judge(telling) => judge(alloc, &text, *telling, writer),
         Task::Assemble(Some(name)) => assemble_text(alloc, &text, writer, Some(name.as_str())),
         Task::Assemble(None) => assemble_text(alloc, &text, writer, None),
         Task::Disassemble => tell_image(alloc, &text, writer),

@@ -1,11 +1,11 @@
 //! The command `run`: packets on an accepted worker.
 
-ghost use Rattle.std.specs.Prelude.{◌≡◌, ◌≤◌, ◌*◌, All, IfOk, OnOk, length};
+ghost use Rattle.std.specs.Prelude.{◌≡◌, ◌≤◌, ◌*◌, All, length};
 
+use crate::asking::{Asking, packets_in};
 use crate::ending::{Ending, Status};
-use crate::fault::InputFault;
-use crate::input::{Inputs, utf8};
-use crate::refusing::{image_bytes, why};
+use crate::input::Inputs;
+use crate::refusing::{Telling, image_bytes, judge};
 use crate::terminal::Terminal;
 use std::alloc::Global;
 use std::io::{Eprint, Read, Write};
@@ -15,7 +15,7 @@ use std::thread::Threads;
 use std::time::Clock;
 use tp_accept::{Accepted, Refusal, accept};
 use tp_board::Packet;
-use tp_run_text::{Form, PacketFault, StepRange, Style, Tally, fields_of, packet_of, packets_of};
+use tp_run_text::{Form, StepRange, Style, Tally};
 use tp_runs::{Progress, run_on_members};
 
 /// The most members.
@@ -24,9 +24,7 @@ const MAX_MEMBERS: usize = 64;
 /// What `run` is to run, and how it is shown.
 #[derive(Drop)]
 pub struct Running {
-    /// Packets as words: those of the command line, each a line, and the name of a file of more.
-    pub words: Vec<String>,
-    pub packets: Option<String>,
+    pub asking: Asking,
     /// The name of a file of the results that are expected.
     pub expect: Option<String>,
     pub members: usize,
@@ -45,110 +43,21 @@ impl Running {
     }
 }
 
-/// A fault of a packet that the command line says.
-fn in_words(fault: PacketFault) -> Ending {
-    match fault {
-        PacketFault::Memory => Ending::Memory,
-        _ => Ending::NoWords(fault),
-    }
-}
-
-/// Appends the packet of so many bytes that words of the command line say.
-fn push_said(
-    alloc: Global,
-    packets: &mut Vec<Packet>,
-    words: &str,
-    bytes: usize,
-) -> Result<(), Ending>
-    requires most { bytes ≤ 256 }
-    requires bytes { All (λ p. length p.items ≡ bytes) packets.old.items }
-    ensures { OnOk result (All (λ p. length p.items ≡ bytes) packets.new.items) }
-{
-    let fields = fields_of(alloc, words.as_bytes(), 1)?;
-    match packet_of(&fields, bytes) {
-        Ok(packet) => {
-            packets.push(packet)?;
-            Ok(())
-        }
-        Err(fault) => Err(in_words(fault)),
-    }
-}
-
-/// The packets of so many bytes that words of the command line say.
-fn packets_said(alloc: Global, words: &[String], bytes: usize) -> Result<Vec<Packet>, Ending>
-    requires { bytes ≤ 256 }
-    ensures { IfOk result (λ packets. All (λ p. length p.items ≡ bytes) packets.items) }
-{
-    let mut packets = Vec::new(alloc);
-    for line in words {
-        push_said(alloc, &mut packets, line.as_str(), bytes)?;
-    }
-    Ok(packets)
-}
-
-/// The messages of so many bytes that a file says, a message a line. A fault of the file does not tell its name.
-fn messages_in<T: Files, R: Read>(
-    alloc: Global,
-    inputs: &mut Inputs<'_, T, R>,
-    name: &str,
-    bytes: usize,
-) -> Result<Vec<Packet>, Ending>
-    requires { bytes ≤ 256 }
-    ensures { IfOk result (λ packets. All (λ p. length p.items ≡ bytes) packets.items) }
-{
-    let text = inputs.read_file(alloc, name)?;
-    match packets_of(alloc, utf8(&text)?, bytes) {
-        Ok(packets) => Ok(packets),
-        Err(PacketFault::Memory) => Err(Ending::Memory),
-        Err(fault) => Err(Ending::Input(InputFault::Packets(fault))),
-    }
-}
-
-/// The messages of so many bytes that a file says, a message a line.
-fn packets_in<T: Files, R: Read>(
-    alloc: Global,
-    inputs: &mut Inputs<'_, T, R>,
-    name: &str,
-    bytes: usize,
-) -> Result<Vec<Packet>, Ending>
-    requires { bytes ≤ 256 }
-    ensures { IfOk result (λ packets. All (λ p. length p.items ≡ bytes) packets.items) }
-{
-    match messages_in(alloc, inputs, name, bytes) {
-        Ok(packets) => Ok(packets),
-        Err(ending) => Err(ending.in_file(alloc, name)?),
-    }
-}
-
-/// The packets that are asked for: those of the command line, then those of the file.
-fn packets_asked<T: Files, R: Read>(
-    alloc: Global,
-    inputs: &mut Inputs<'_, T, R>,
-    asked: &Running,
-    bytes: usize,
-) -> Result<Vec<Packet>, Ending>
-    requires { bytes ≤ 256 }
-    ensures { IfOk result (λ packets. All (λ p. length p.items ≡ bytes) packets.items) }
-{
-    let mut packets = packets_said(alloc, &asked.words, bytes)?;
-    if let Some(name) = &asked.packets {
-        let mut more = packets_in(alloc, inputs, name.as_str(), bytes)?;
-        packets.append(&mut more)?;
-    }
-    Ok(packets)
-}
-
 /// The results that are expected, where they are asked for.
-fn results_expected<T: Files, R: Read>(
+fn results_expected<T: Files, R: Read, E: Write>(
     alloc: Global,
     inputs: &mut Inputs<'_, T, R>,
+    errors: &mut E,
     asked: &Running,
     bytes: usize,
 ) -> Result<Option<Vec<Packet>>, Ending>
     requires { bytes ≤ 256 }
 {
     match &asked.expect {
-        Some(name) => Ok(Some(packets_in(alloc, inputs, name.as_str(), bytes)?)),
+        Some(name) => {
+            let results = packets_in(alloc, inputs, errors, name.as_str(), bytes)?;
+            Ok(Some(results))
+        }
         None => Ok(None),
     }
 }
@@ -164,7 +73,7 @@ fn worker<E: Write>(
         Ok(accepted) => Ok(Some(accepted)),
         Err(Refusal::Memory) => Err(Ending::Memory),
         Err(Refusal::Refused { .. }) => {
-            why(alloc, text, errors)?;
+            judge(alloc, text, Telling::Why, errors)?;
             Ok(None)
         }
     }
@@ -241,8 +150,11 @@ where
     let Some(image) = worker(alloc, text, terminal.errors)? else {
         return Ok(Status::Failed);
     };
-    let packets = packets_asked(alloc, inputs, asked, image.packet_bytes())?;
-    let expected = results_expected(alloc, inputs, asked, image.result_bytes())?;
+    let errors = &mut *terminal.errors;
+    let packets = asked
+        .asking
+        .packets(alloc, inputs, errors, image.packet_bytes())?;
+    let expected = results_expected(alloc, inputs, errors, asked, image.result_bytes())?;
     let members = asked.members;
     match &expected {
         Some(expected) => {

@@ -1,0 +1,134 @@
+//! `tpw run`.
+
+use crate::program::{STUCK, capitals, check};
+use tp_samples::{FIBONACCI, INCREMENT};
+
+/// Sends 65 traces of a word, one more than is kept.
+const LOSES: &str =
+    "packet 1\nresult 1\nlocal n\nreceive n\nfor i = 0 for 65\ntrace n\nend i\nsend n\nstopp\n";
+
+/// What becomes of packets that are run: lines, bytes alone, losses, and what ends a run before it begins.
+#[test]
+fn runs_packets(rt: HostRuntime) {
+    let increment = capitals(&rt, rt.alloc(), INCREMENT);
+    let fibonacci = capitals(&rt, rt.alloc(), FIBONACCI);
+    let cases = [
+        (
+            fibonacci.as_str(),
+            [
+                "tpw",
+                "run",
+                "--words",
+                "10",
+                "--words",
+                "0x2F",
+                "--members",
+                "2",
+            ]
+            .as_slice(),
+            0,
+            "\
+0  flag 0  575 of 1056  55
+1  flag 0  1056 of 1056  -1323752223
+packets 2, lost 0, steps 575 to 1056 of 1056
+",
+            "",
+        ),
+        (
+            fibonacci.as_str(),
+            ["tpw", "run", "--words=03000000", "--trace", "--hex"].as_slice(),
+            0,
+            "\
+0  flag 0  484 of 1056  02000000
+  trace 000000000100000001000000
+packets 1, lost 0, steps 484 to 484 of 1056
+",
+            "",
+        ),
+        (
+            increment.as_str(),
+            ["tpw", "run", "--words", "-1", "--words", "2147483647"].as_slice(),
+            0,
+            "\
+0  flag 0  16 of 16  0
+1  flag 1  16 of 16  -2147483648
+packets 2, lost 0, steps 16 to 16 of 16
+",
+            "",
+        ),
+        (
+            increment.as_str(),
+            [
+                "tpw",
+                "run",
+                "--raw",
+                "--words",
+                "0x3534330a",
+                "--words",
+                "#0a343332",
+            ]
+            .as_slice(),
+            0,
+            "\u{b}345334\n",
+            "",
+        ),
+        (
+            LOSES,
+            ["tpw", "run", "--words", "1"].as_slice(),
+            1,
+            "0  LOST  its trace has more than 256 bytes\npackets 1, lost 1, steps at most 668\n",
+            "",
+        ),
+        (
+            LOSES,
+            ["tpw", "run", "--words", "1", "--raw"].as_slice(),
+            1,
+            "",
+            "packets 1, lost 1, steps at most 668\n",
+        ),
+        (
+            STUCK,
+            ["tpw", "run", "--words", "1"].as_slice(),
+            1,
+            "",
+            "\
+NO J5 1
+refused  control goes on behind the last instruction
+         0 41 ldc 1
+>        1 f5 add
+instead  end the code by stopp
+",
+        ),
+        (
+            increment.as_str(),
+            ["tpw", "run", "--words", "1 2"].as_slice(),
+            2,
+            "",
+            "error: invalid value for '--words <WORDS>': 1:1: a line of 1 words is wanted: numbers, or all in hexadecimal as they are sent\n",
+        ),
+        (
+            increment.as_str(),
+            ["tpw", "run", "--words", " 4294967296"].as_slice(),
+            2,
+            "",
+            "error: invalid value for '--words <WORDS>': 1:2: a number is wanted: decimal, #2A or 0x2A, of 32 bits\n",
+        ),
+        (
+            increment.as_str(),
+            ["tpw", "run"].as_slice(),
+            2,
+            "",
+            "error: no packets are given, by --words or --packets\n",
+        ),
+        (
+            increment.as_str(),
+            ["tpw", "run", "--packets", "no/such/file"].as_slice(),
+            1,
+            "",
+            "no/such/file: No such file or directory (os error 2)\n",
+        ),
+    ];
+    for case in cases {
+        check(&rt, rt.alloc(), case);
+    }
+}

@@ -1,0 +1,67 @@
+//! The program run on words and streams, as the tests of its commands do.
+
+use crate::asserts::{assert_same, unwrap};
+use std::alloc::Global;
+use std::io::{Eprint, Read, Write};
+use std::process::{Abort, ExitCode};
+use std::rt::Files;
+use std::sync::Wait;
+use std::thread::Threads;
+use std::time::Clock;
+use tp_samples::streams::{Ended, Words};
+use tp_workbench::{Terminal, run};
+
+/// Runs the program on a command line, a reader and a writer.
+pub fn ran<T, R: Read, W: Write>(
+    rt: &T,
+    alloc: Global,
+    words: &[&str],
+    input: &mut R,
+    output: &mut W,
+) -> Ended
+where
+    T: Files + Threads + Wait + Clock + Eprint + Sync,
+{
+    let mut errors = Vec::new(alloc);
+    let mut terminal = Terminal {
+        errors: &mut errors,
+        is_terminal: false,
+    };
+    let status = run(rt, &Words(words), alloc, input, output, &mut terminal);
+    Ended { status, errors }
+}
+
+/// An image's digits on a line, in capitals.
+pub fn capitals(rt: &impl Abort, alloc: Global, image: &[u8]) -> String {
+    let mut line = unwrap(rt, hex::encode_upper(alloc, image));
+    unwrap(rt, line.push_str("\n"));
+    line
+}
+
+/// A text and an image's digits on a line, in small letters.
+pub fn small_letters(rt: &impl Abort, alloc: Global, before: &str, image: &[u8]) -> String {
+    let digits = unwrap(rt, hex::encode(alloc, image));
+    unwrap(rt, format!(in alloc; "{before}{digits}\n"))
+}
+
+/// ldc 1, add.
+pub const STUCK: &str = "5450573102000C00080001000100000041F5";
+
+/// What is asked of the program: an input and words. What it is to end with: a status, what it writes, and what on standard error.
+pub type Case<'a> = (&'a str, &'a [&'a str], u8, &'a str, &'a str);
+
+/// Runs the program, and finds that it ends as it is to.
+pub fn check<T>(rt: &T, alloc: Global, case: Case<'_>)
+where
+    T: Files + Threads + Wait + Clock + Eprint + Sync + Abort,
+{
+    let (input, words, status, told, said) = case;
+    let mut output = Vec::new(alloc);
+    let mut input = input.as_bytes();
+    let ended = ran(rt, alloc, words, &mut input, &mut output);
+    let written = unwrap(rt, str::from_utf8(&output));
+    let errors = unwrap(rt, str::from_utf8(&ended.errors));
+    assert_same(rt, &written, &told);
+    assert_same(rt, &errors, &said);
+    assert_same(rt, &ended.status, &ExitCode::from(status));
+}

@@ -1,0 +1,242 @@
+//! What ends the program early.
+
+use crate::asserts::{assert_same, unwrap};
+use crate::program::{capitals, ran};
+use std::alloc::AllocError;
+use std::process::ExitCode;
+use tp_samples::INCREMENT;
+use tp_samples::streams::{Broken, Unflushed};
+use tp_stepper::End;
+use tp_workbench::{Ending, Status, TextFault, bytes_of};
+
+/// One loop more than a worker has.
+const SEVENTEEN_LOOPS: &str = "\
+for a = 0 for 2
+for b = 0 for 2
+for c = 0 for 2
+for d = 0 for 2
+for e = 0 for 2
+for f = 0 for 2
+for g = 0 for 2
+for h = 0 for 2
+for i = 0 for 2
+for j = 0 for 2
+for k = 0 for 2
+for l = 0 for 2
+for m = 0 for 2
+for n = 0 for 2
+for o = 0 for 2
+for p = 0 for 2
+for q = 0 for 2
+";
+
+/// What ends early: nothing is written but why.
+#[test]
+fn refusals(rt: HostRuntime) {
+    let increment = capitals(&rt, rt.alloc(), INCREMENT);
+    let cases = [
+        (
+            "zz",
+            ["tpw", "dis"].as_slice(),
+            1,
+            "tpw: standard input:1:1: no hexadecimal digit\n",
+        ),
+        (
+            "zz",
+            ["tpw", "why"].as_slice(),
+            1,
+            "tpw: standard input:1:1: unknown instruction\n",
+        ),
+        (
+            "54505732\n1\rx",
+            ["tpw", "dis"].as_slice(),
+            1,
+            "tpw: standard input:2:3: no hexadecimal digit\n",
+        ),
+        (
+            "",
+            ["tpw", "asm", "no/such/file.tps"].as_slice(),
+            1,
+            "no/such/file.tps: No such file or directory (os error 2)\n",
+        ),
+        (
+            "5450573",
+            ["tpw", "dis"].as_slice(),
+            1,
+            "tpw: standard input:1:8: the second digit of a byte is missing\n",
+        ),
+        (
+            "54505732",
+            ["tpw", "step"].as_slice(),
+            1,
+            "tpw: standard input: no image: F2 at byte 4\n",
+        ),
+        (
+            "mint\n  frob\n",
+            ["tpw", "asm"].as_slice(),
+            1,
+            "tpw: standard input:2:3: unknown instruction\n",
+        ),
+        (
+            "mint\n\nback: mint\n cj back\n",
+            ["tpw", "asm"].as_slice(),
+            1,
+            "tpw: standard input:4:2: its label lies before it; jumps go forward alone\n",
+        ),
+        (
+            "ldc/1 16\n",
+            ["tpw", "asm"].as_slice(),
+            1,
+            "tpw: standard input:1:1: its operand needs a longer spelling\n",
+        ),
+        (
+            SEVENTEEN_LOOPS,
+            ["tpw", "asm"].as_slice(),
+            1,
+            "tpw: standard input:17:1: a worker has at most 16 loops\n",
+        ),
+        (
+            "local n[2]\n        ldl n + 9\n",
+            ["tpw", "asm"].as_slice(),
+            1,
+            "tpw: standard input:2:15: the local of this name has fewer words\n",
+        ),
+        (
+            "local n, buf[4]\nworkspace 9\nstopp",
+            ["tpw", "asm"].as_slice(),
+            1,
+            "tpw: standard input:1:10: the workspace that is stated has no room for this local\n",
+        ),
+        (
+            "workspace 7\nstopp",
+            ["tpw", "asm"].as_slice(),
+            1,
+            "tpw: standard input:1:1: workspace: 8 to 256 words, those below the start word and the locals counted; version 2 has 512 words\n",
+        ),
+        (
+            "54505732",
+            ["tpw", "dis"].as_slice(),
+            1,
+            "tpw: standard input: no image: F2 at byte 4\n",
+        ),
+        (
+            increment.as_str(),
+            ["tpw", "step", "--packet", "290"].as_slice(),
+            2,
+            "error: invalid value for '--packet <HEX>': it takes hexadecimal digits, an even number\n",
+        ),
+        (
+            increment.as_str(),
+            ["tpw", "step", "--until", "-1"].as_slice(),
+            2,
+            "error: unexpected argument '-1' found\n",
+        ),
+        (
+            increment.as_str(),
+            ["tpw", "step", "--until", "start"].as_slice(),
+            2,
+            "error: invalid value for '--until <PLACE>': it takes an address, as 36 or 0x24, or a count of steps, as +100; in a text a label, or a line, as line:37\n",
+        ),
+        (
+            increment.as_str(),
+            ["tpw"].as_slice(),
+            2,
+            "error: 'tpw' requires a subcommand but one was not provided\n",
+        ),
+        (
+            increment.as_str(),
+            ["tpw", "walk"].as_slice(),
+            2,
+            "error: unrecognized subcommand 'walk'\n",
+        ),
+    ];
+    for (input, words, status, told) in cases {
+        let mut output = Vec::new(rt.alloc());
+        let mut input = input.as_bytes();
+        let ended = ran(&rt, rt.alloc(), words, &mut input, &mut output);
+        let errors = unwrap(&rt, str::from_utf8(&ended.errors));
+        assert!(rt; errors.starts_with(told), "{errors}");
+        assert_eq!(rt; ended.status, ExitCode::from(status), "{told}");
+        assert!(rt; output.is_empty());
+    }
+}
+
+#[test]
+fn tells_a_failed_read(rt: HostRuntime) {
+    let mut output = Vec::new(rt.alloc());
+    let ended = ran(&rt, rt.alloc(), &["tpw", "step"], &mut Broken, &mut output);
+    assert_same(&rt, &ended.status, &ExitCode::from(1));
+    assert!(rt; output.is_empty());
+    assert!(rt; ended.errors.as_slice() == b"tpw: standard input: broken pipe\n".as_slice());
+}
+
+/// A run, help and the version where the output cannot be written, or not be flushed.
+#[test]
+fn tells_a_failed_write(rt: HostRuntime) {
+    let increment = capitals(&rt, rt.alloc(), INCREMENT);
+    for words in [
+        ["tpw", "step"].as_slice(),
+        ["tpw", "why"].as_slice(),
+        ["tpw", "list"].as_slice(),
+        ["tpw", "--help"].as_slice(),
+        ["tpw", "--version"].as_slice(),
+    ] {
+        let mut input = increment.as_bytes();
+        let broken = ran(&rt, rt.alloc(), words, &mut input, &mut Broken);
+        let mut input = increment.as_bytes();
+        let unflushed = ran(&rt, rt.alloc(), words, &mut input, &mut Unflushed);
+        for ended in [broken, unflushed] {
+            assert_same(&rt, &ended.status, &ExitCode::from(1));
+            assert!(rt; ended.errors.as_slice() == b"tpw: write\n".as_slice());
+        }
+    }
+}
+
+/// Which texts say which bytes, and where others have their first fault.
+#[test]
+fn texts(rt: HostRuntime) {
+    let cases = [
+        ("", Ok([].as_slice())),
+        ("54 ", Ok([0x54].as_slice())),
+        (" \t54\n5\r\n0aF\r\n", Ok([0x54, 0x50, 0xAF].as_slice())),
+        ("54 50", Err(TextFault::NotADigit(3))),
+        ("  5g4", Err(TextFault::NotADigit(4))),
+        ("0x54", Err(TextFault::NotADigit(2))),
+        ("545\n", Err(TextFault::HalfAByte(4))),
+    ];
+    for (text, said) in cases {
+        match (bytes_of(rt.alloc(), text.as_bytes()), said) {
+            (Ok(bytes), Ok(wanted)) => assert!(rt; bytes.as_slice() == wanted, "{text}"),
+            (Err(fault), Err(wanted)) => assert_eq!(rt; fault, wanted, "{text}"),
+            _ => assert!(rt; false, "{text}"),
+        }
+    }
+}
+
+/// The status of each end of a run that is not run here, and what is told where memory is missing or a word is no text.
+#[test]
+fn endings(rt: HostRuntime) {
+    assert_same(&rt, &Status::from(End::Unended), &Status::Failed);
+    let endings = [
+        (
+            Ending::NotText,
+            Status::Refused,
+            "error: a word of the command line is not UTF-8\n",
+        ),
+        (
+            Ending::NoCommand,
+            Status::Refused,
+            "error: no command is given\n",
+        ),
+        (
+            Ending::from(clap::Error::from(AllocError)),
+            Status::Failed,
+            "tpw: memory\n",
+        ),
+    ];
+    for (ending, status, text) in &endings {
+        assert_same(&rt, &ending.status(), &*status);
+        let told = unwrap(&rt, format!(in rt.alloc(); "{ending}"));
+        assert_same(&rt, &told.as_str(), &*text);
+    }
+}

@@ -1,0 +1,50 @@
+//! What is told of a bound: the most bytes of a run, and those of a turn of each loop.
+
+use crate::costs::LoopCost;
+use crate::source::SourceText;
+use crate::telling::TellFault;
+use std::fmt;
+use std::io::Write;
+use tp_image::Image;
+
+/// A count of bytes; the greatest number of 64 bits stands for each that is not below it.
+#[derive(Clone, Copy)]
+struct Bytes(u64);
+
+impl fmt::Display for Bytes {
+    fn fmt<W: fmt::Write>(&self, f: &mut fmt::Formatter<W>) -> fmt::Result {
+        let bytes = self.0;
+        if bytes == u64::MAX {
+            write!(f, "{bytes} or more")
+        } else {
+            write!(f, "{bytes}")
+        }
+    }
+}
+
+/// Writes the most bytes of a run behind a name of eight columns, and those of a turn of each loop, the last
+/// row's first: of a text, outer loops before inner ones.
+pub(crate) fn tell_bound<W: Write>(
+    source: SourceText<'_>,
+    image: &Image,
+    name: &str,
+    bytes: u64,
+    loops: &[LoopCost],
+    writer: &mut W,
+) -> Result<(), TellFault> {
+    let all = Bytes(bytes);
+    write!(writer, "{name} {all}").map_err(|_| TellFault::Write)?;
+    let mut between = ":";
+    for number in (0..image.loops.len()).rev() {
+        if let (Some(row), Some(cost)) = (image.loops.get(number), loops.get(number)) {
+            let turn = Bytes(cost.turn);
+            let turns = cost.turns;
+            let told = source.told_loop(number, row);
+            write!(writer, "{between} {turn} a turn of {told}, {turns} turns").map_err(
+                |_| TellFault::Write,
+            )?;
+            between = "\n        ";
+        }
+    }
+    writeln!(writer).map_err(|_| TellFault::Write)
+}
