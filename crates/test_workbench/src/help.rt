@@ -107,7 +107,7 @@ fn help_and_version(rt: HostRuntime) {
     let cases = [
         (
             ["tpw", "--version"].as_slice(),
-            "tpw 0.1 (rattle-kit-13f)\n",
+            "tpw 0.1 (unreleased, rattle-kit-13f)\n",
         ),
         (["tpw", "--help"].as_slice(), HELP),
         // Whatever the file is called.

@@ -8,10 +8,8 @@ use std::alloc::Global;
 use std::io::Write;
 use tp_decode::{Instr, Listing};
 use tp_flow::FlowCode;
+use tp_flow::limits::MOST_TURNS;
 use tp_image::{Image, LoopRow};
-
-/// The most turns of a loop.
-const MOST_TURNS: u32 = 10_000;
 
 /// Whether a row's range has an address.
 fn has(row: &LoopRow, at: u32) -> bool {

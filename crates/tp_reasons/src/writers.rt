@@ -9,10 +9,7 @@ use tp_decode::{Instr, Placed};
 use tp_flow::{Edge, Nest};
 use tp_image::Image;
 use tp_state::{Kind, State};
-use tp_step::profile::FRAME_WORDS;
-
-/// The bytes of a word.
-const WORD_BYTES: u32 = 4;
+use tp_step::profile::{FRAME_WORDS, WORD_BYTES};
 
 /// What an instruction has done to a word.
 #[derive(Clone, Copy, Debug, PartialEq, Eq)]

@@ -9,12 +9,10 @@ use crate::fault::PacketFault;
 use std::alloc::{AllocError, Global};
 use tp_assembly_text::{Position, signed_of};
 use tp_board::Packet;
+use tp_collect::limits::MESSAGE_BYTES;
 
 /// The bytes of a word.
 const WORD_BYTES: usize = 4;
-
-/// The most bytes of a message.
-const MESSAGE_BYTES: usize = 256;
 
 /// What stands between white space, and where it begins.
 #[derive(Clone, Copy)]

@@ -3,7 +3,10 @@
 ghost use Rattle.std.specs.Prelude.{◌≡◌};
 ghost use Rattle.tp_step.specs.Effects.{has_move};
 
-use tp_image::Image;
+use tp_image::{Image, layout};
+
+/// The bytes of a word.
+pub const WORD_BYTES: u32 = layout::WORD_BYTES as u32;
 
 /// The address of workspace word 0 (IMS T414 data sheet, memory map: MemStart).
 pub const MEM_START: u32 = 0x8000_0048;

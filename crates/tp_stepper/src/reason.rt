@@ -7,12 +7,9 @@ use tp_decode::Instr;
 use tp_image::Image;
 use tp_prefix::read_one;
 use tp_step::profile::{
-    FRAME_WORDS, LINK0_INPUT, LINK0_OUTPUT, LINK1_OUTPUT, MOVE_BYTES, TRACE_BYTES,
+    FRAME_WORDS, LINK0_INPUT, LINK0_OUTPUT, LINK1_OUTPUT, MOVE_BYTES, TRACE_BYTES, WORD_BYTES,
 };
 use tp_tested::{Phase, Registers};
-
-/// The bytes of a word.
-const WORD_BYTES: u32 = 4;
 
 /// The bytes below Wptr that are undefined where a worker may give way.
 const BELOW: u32 = FRAME_WORDS * WORD_BYTES;

@@ -15,14 +15,14 @@ use thiserror::Error;
 use tp_image::Image;
 use tp_link::{LinkDevice, LinkFault, Links};
 use tp_media::Media;
-use tp_step::profile::MEM_START;
+use tp_step::profile::{self, MEM_START};
 use tp_tested::{Registers, Turn};
 
 /// The longest packet, result or trace message, in bytes.
 const ROOM: usize = 256;
 
-/// The bytes of a word.
-const WORD_BYTES: i32 = 4;
+/// The bytes of a word, signed.
+const WORD_BYTES: i32 = profile::WORD_BYTES as i32;
 
 /// The most instructions that are run.
 pub(crate) const MOST_INSTRUCTIONS: u64 = 16_777_216;

@@ -4,13 +4,10 @@ use crate::stepper::Stepper;
 use crate::value::Value;
 use std::alloc::{AllocError, Global};
 use std::fmt;
-use tp_step::profile::MEM_START;
+use tp_step::profile::{MEM_START, WORD_BYTES};
 
 /// The most words of a workspace.
 const WORDS: u32 = 512;
-
-/// The bytes of a word.
-const WORD_BYTES: u32 = 4;
 
 /// The words of a workspace, as they stood once.
 #[derive(Drop)]
