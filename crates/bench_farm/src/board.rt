@@ -13,7 +13,7 @@ use std::alloc::Global;
 use std::rt::Runtime;
 use std::thread::Threads;
 use std::time::Instant;
-use tp_samples::took::Took;
+use test_samples::took::Took;
 
 const QUICK_BOARDS: u32 = 4;
 

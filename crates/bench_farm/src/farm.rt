@@ -11,12 +11,12 @@ use std::rt::Runtime;
 use std::sync::Wait;
 use std::thread::Threads;
 use std::time::Instant;
+use test_samples::took::Took;
 use tp_accept::{Accepted, accept};
 use tp_board::Packet;
 use tp_collect::{Collected, Entry};
 use tp_farm::{Job, OpenGate, run_batch};
 use tp_link::{Links, Medium, OwnedWire};
-use tp_samples::took::Took;
 use workers::Worker;
 
 const TIMED_PACKETS: u32 = 1024;

@@ -12,8 +12,8 @@ use rounds::{Plain, Run, Runs, Tested, rounds};
 use std::alloc::Global;
 use std::rt::Runtime;
 use std::time::Instant;
+use test_samples::took::Took;
 use tp_accept::{Accepted, accept};
-use tp_samples::took::Took;
 use workers::{WORKERS, Worker};
 
 /// How often each is timed, in turn with the others.
@@ -65,7 +65,7 @@ fn machine_with(accepted: &Accepted) -> Plain<'_> {
 /// The tested machine, with an image.
 fn tested_with(accepted: &Accepted) -> Tested<'_> {
     Tested {
-        machine: tp_tested::Machine::new(),
+        machine: tpw_machine::Machine::new(),
         image: accepted.image(),
     }
 }

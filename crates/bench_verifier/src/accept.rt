@@ -7,11 +7,11 @@ use anyhow::{Result, anyhow};
 use std::alloc::Global;
 use std::rt::Runtime;
 use std::time::Instant;
+use test_samples::INCREMENT;
+use test_samples::took::Took;
 use tp_accept::accept;
 use tp_decode::decode;
 use tp_image::{Image, read_image};
-use tp_samples::INCREMENT;
-use tp_samples::took::Took;
 
 /// In small: the increment, once.
 pub(crate) fn measure<R: Runtime<A = Global>>(rt: &R) -> Result<()> {

@@ -10,12 +10,12 @@ use std::alloc::Global;
 use std::fmt;
 use std::rt::Runtime;
 use std::time::Instant;
+use test_samples::INCREMENT;
+use test_samples::took::Took;
 use tp_check::check_states;
 use tp_decode::{Listing, decode};
 use tp_flow::check_flow;
 use tp_image::{Image, read_image};
-use tp_samples::INCREMENT;
-use tp_samples::took::Took;
 use tp_state::StateFault;
 
 /// How often check_flow is made where it is timed: it is quick.

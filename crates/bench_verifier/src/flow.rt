@@ -12,10 +12,10 @@ use sample::{EVERY_JUMP, MIXED};
 use std::alloc::Global;
 use std::rt::Runtime;
 use std::time::Instant;
+use test_samples::took::Took;
 use tp_decode::{Listing, decode};
 use tp_flow::check_flow;
 use tp_image::{Image, read_image};
-use tp_samples::took::Took;
 
 const TIMED_ROUNDS: u32 = 2000;
 

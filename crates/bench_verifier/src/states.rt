@@ -12,11 +12,11 @@ use anyhow::{Result, anyhow, bail};
 use std::alloc::Global;
 use std::rt::Runtime;
 use std::time::Instant;
+use test_samples::took::Took;
+use test_samples::{INCREMENT, LARGEST_WORKSPACE};
 use tp_decode::{Instr, Listing, decode};
 use tp_flow::{Edge, Nest, check_flow};
 use tp_image::{Image, read_image};
-use tp_samples::took::Took;
-use tp_samples::{INCREMENT, LARGEST_WORKSPACE};
 use tp_state::State;
 
 const FEW_ROUNDS: u32 = 1_000;

@@ -4,8 +4,8 @@ use crate::asserts::{assert_same, unwrap};
 use crate::texts::*;
 use std::alloc::Global;
 use std::process::Abort;
+use test_samples::*;
 use tp_accept::{Accepted, Refusal, accept};
-use tp_samples::*;
 
 /// That a text, which a row of a table has, is answered so.
 fn assert_answered(rt: &impl Abort, alloc: Global, text: &[u8], expected: &str, row: usize) {

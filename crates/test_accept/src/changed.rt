@@ -4,9 +4,9 @@ use crate::asserts::{assert_same, unwrap};
 use crate::machine::media::run_packet;
 use crate::texts::changed;
 use std::process::Abort;
+use test_samples::INCREMENT;
 use tp_accept::{Accepted, accept};
 use tp_machine::Machine;
-use tp_samples::INCREMENT;
 
 /// Whether a packet's run on an accepted image ends within its budget; its result has its length.
 fn ends_within(

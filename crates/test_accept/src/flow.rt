@@ -5,9 +5,9 @@ use crate::images::*;
 use crate::reading::read;
 use std::alloc::Global;
 use std::process::Abort;
+use test_samples::*;
 use tp_decode::Instr;
 use tp_flow::{Edge, FlowCode, FlowFault, LoopRange, Nest, check_flow, edges};
-use tp_samples::*;
 
 /// Head, lend, control word, count and start.
 type Fields = (u16, u16, u16, u16, i32);

@@ -2,8 +2,7 @@
 
 use crate::asserts::{assert_same, unwrap};
 use std::process::Abort;
-use tp_link::{LinkDevice, Links};
-use tp_media::{Media, boxed, media_of};
+use tp_link::{LinkDevice, Links, Media, boxed, media_of};
 
 #[test]
 fn each_wire_has_its_room(rt: HostRuntime) {

@@ -8,10 +8,10 @@ use crate::asserts::assert_same;
 use crate::images::*;
 use crate::reading::read;
 use std::process::Abort;
+use test_samples::*;
 use tp_decode::{Instr, Listing};
 use tp_flow::{Edge, Nest, check_flow, edges};
 use tp_image::{Image, read_image};
-use tp_samples::*;
 use tp_state::{Cell, Cells, Kind, State, StateCode, StateFault, after};
 
 /// The refusal of the first instruction that is refused, from the first on, along first edges.

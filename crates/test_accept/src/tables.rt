@@ -13,11 +13,11 @@ use crate::states::refused;
 use crate::texts::{NINE_HUNDRED, many_jumps};
 use std::alloc::Global;
 use std::process::Abort;
+use test_samples::*;
 use tp_check::{Table, check_states};
 use tp_decode::{Instr, Listing};
 use tp_flow::{Edge, Nest, check_flow};
 use tp_image::Image;
-use tp_samples::*;
 use tp_state::{Cell, Kind, State, StateCode, StateFault, after};
 
 /// What the passes answer.

@@ -3,8 +3,8 @@
 use crate::asserts::unwrap;
 use std::alloc::Global;
 use std::process::Abort;
+use test_samples::INCREMENT;
 use tp_accept::accept;
-use tp_samples::INCREMENT;
 
 /// The bytes of a version 1 header.
 const HEADER_BYTES: usize = 16;

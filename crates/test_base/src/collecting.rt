@@ -6,11 +6,11 @@ ghost use Rattle.test_base.specs.Workers.{increment, incremented, one};
 use crate::asserts::assert_same;
 use arrayvec::ArrayVec;
 use std::process::Abort;
+use test_samples::INCREMENT;
 use tp_collect::limits::MESSAGE_BYTES;
 use tp_collect::{Collector, Done, Entry, LostCause, PutFault};
 use tp_image::{Image, read_image};
 use tp_link::{DeviceFault, Link, LinkFault};
-use tp_samples::INCREMENT;
 
 type Message = ArrayVec<u8, MESSAGE_BYTES>;
 

@@ -3,8 +3,8 @@
 use crate::asserts::{assert_same, unwrap};
 use std::alloc::Global;
 use std::process::Abort;
+use test_samples::*;
 use tp_image::{Image, ImageCode, ImageFault, LoopRow, read_image, upgrade, write_image};
-use tp_samples::*;
 
 // The calls, with nothing said of what they answer: the tests compare it when they run.
 

@@ -5,13 +5,14 @@ use std::alloc::Global;
 use std::process::Abort;
 use std::sync::Wait;
 use std::thread::Threads;
+use test_samples::INCREMENT;
 use tp_accept::accept;
 use tp_board::Packet;
 use tp_collect::{Collected, Done, Entry, LostCause};
 use tp_farm::{Batch, FarmFault, Gate, Job, run_batch};
-use tp_link::{DeviceFault, FaultyWire, Link, LinkDevice, LinkFault, Links};
-use tp_media::{Media, boxed, media_of};
-use tp_samples::INCREMENT;
+use tp_link::{
+    DeviceFault, FaultyWire, Link, LinkDevice, LinkFault, Links, Media, boxed, media_of,
+};
 
 /// The number of the batches here.
 pub(crate) const BATCH: u64 = 7;

@@ -6,10 +6,9 @@ use std::alloc::Global;
 use std::process::Abort;
 use std::sync::Wait;
 use std::thread::Threads;
+use test_samples::*;
 use tp_farm::OpenGate;
-use tp_link::{DeviceFault, Link, LinkDevice, Links};
-use tp_media::Media;
-use tp_samples::*;
+use tp_link::{DeviceFault, Link, LinkDevice, Links, Media};
 
 /// A packet of 1 is done.
 const DONE: Told = Told::Done {

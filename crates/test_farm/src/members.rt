@@ -9,11 +9,10 @@ use std::process::Abort;
 use std::sync::Wait;
 use std::sync::atomic::{AtomicU64, Ordering};
 use std::thread::{self, Threads};
+use test_samples::*;
 use tp_collect::Collected;
 use tp_farm::{Gate, OpenGate};
-use tp_link::{EndedMedium, LinkDevice, Links, Medium, OwnedWire};
-use tp_media::Media;
-use tp_samples::*;
+use tp_link::{EndedMedium, LinkDevice, Links, Media, Medium, OwnedWire};
 
 /// The increments of these words by one member, over faulty wires that never fail.
 fn increments_by_one<R: Abort + Threads + Wait + Sync>(

@@ -6,9 +6,9 @@ use std::alloc::Global;
 use std::process::Abort;
 use std::sync::{Mutex, Wait};
 use std::thread::Threads;
+use test_samples::*;
 use tp_farm::Gate;
-use tp_media::Media;
-use tp_samples::*;
+use tp_link::Media;
 
 /// What a gate hears of the member of a number.
 #[derive(Clone, Copy, PartialEq, Eq)]

@@ -6,10 +6,10 @@ use std::alloc::Global;
 use std::process::Abort;
 use std::sync::Wait;
 use std::thread::Threads;
+use test_samples::*;
 use tp_board::Packet;
 use tp_farm::{FarmFault, OpenGate};
-use tp_media::{Media, boxed, media_of};
-use tp_samples::*;
+use tp_link::{Media, boxed, media_of};
 
 /// What a batch of the increment over these media is refused with, if it is.
 fn fault_over<R: Abort + Threads + Wait + Sync>(

@@ -6,10 +6,9 @@ use std::alloc::Global;
 use std::process::Abort;
 use std::sync::Wait;
 use std::thread::Threads;
+use test_samples::INCREMENT;
 use tp_farm::OpenGate;
-use tp_link::LinkDevice;
-use tp_media::{Media, boxed, media_of};
-use tp_samples::INCREMENT;
+use tp_link::{LinkDevice, Media, boxed, media_of};
 
 /// Sends the number of each of the links that come back into their devices: once into the source, twice into the sink, and three times
 /// into the trace.

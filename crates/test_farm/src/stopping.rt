@@ -9,10 +9,9 @@ use std::process::Abort;
 use std::sync::Wait;
 use std::sync::atomic::{AtomicU64, Ordering};
 use std::thread::{self, Threads};
+use test_samples::*;
 use tp_farm::Gate;
-use tp_link::{LinkDevice, Links};
-use tp_media::{Media, boxed, media_of};
-use tp_samples::*;
+use tp_link::{LinkDevice, Links, Media, boxed, media_of};
 
 /// Lets members go on until it is asked for the time that is given.
 #[derive(Drop)]

@@ -8,10 +8,9 @@ use std::alloc::Global;
 use std::process::Abort;
 use std::sync::Wait;
 use std::thread::Threads;
+use test_samples::*;
 use tp_farm::OpenGate;
-use tp_link::{DeviceFault, Link, LinkDevice};
-use tp_media::{boxed, media_of};
-use tp_samples::*;
+use tp_link::{DeviceFault, Link, LinkDevice, boxed, media_of};
 
 const MEMBERS: [usize; 3] = [1, 2, 64];
 

@@ -6,11 +6,10 @@ use std::alloc::Global;
 use std::process::Abort;
 use std::sync::Wait;
 use std::thread::Threads;
+use test_samples::*;
 use tp_collect::{Collected, Done, Entry};
 use tp_farm::OpenGate;
-use tp_link::{DeviceFault, Link};
-use tp_media::Media;
-use tp_samples::*;
+use tp_link::{DeviceFault, Link, Media};
 
 /// What becomes of packets of two words by one member.
 fn both<R: Abort + Threads + Wait + Sync>(

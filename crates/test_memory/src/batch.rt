@@ -4,13 +4,13 @@ use arrayvec::ArrayVec;
 use std::alloc::{AllocError, Global};
 use std::sync::Wait;
 use std::thread::Threads;
+use test_samples::INCREMENT;
+use test_samples::answers::{Answer, same_if};
 use tp_accept::{Accepted, Refusal, accept};
 use tp_board::Packet;
 use tp_collect::{Collected, Entry};
 use tp_farm::{FarmFault, Job, OpenGate, run_batch};
-use tp_media::{boxed, media_of};
-use tp_samples::INCREMENT;
-use tp_samples::answers::{Answer, same_if};
+use tp_link::{boxed, media_of};
 
 /// The room of each medium in bytes.
 const ROOM: usize = 16;

@@ -5,6 +5,8 @@ use arrayvec::ArrayVec;
 use std::alloc::Global;
 use std::sync::Wait;
 use std::thread::Threads;
+use test_samples::answers::{Answer, Tally, same_if};
+use test_samples::{INCREMENT, STORES_BY_TWO_WAYS};
 use tp_accept::{Refusal, accept};
 use tp_board::{Board, BoardFault, Core, Event, Reply};
 use tp_check::check_states;
@@ -13,8 +15,6 @@ use tp_decode::{DecodeFault, Instr, Listing, decode};
 use tp_flow::check_flow;
 use tp_image::{Image, ImageFault, read_image, upgrade, write_image};
 use tp_link::{LinkDevice, Medium, OwnedWire, Wire};
-use tp_samples::answers::{Answer, Tally, same_if};
-use tp_samples::{INCREMENT, STORES_BY_TWO_WAYS};
 use tp_state::{Cell, StateFault};
 
 /// Makes every call, and counts the answers.

@@ -11,7 +11,7 @@ mod calls;
 
 use std::io;
 use std::io::Read;
-use tp_samples::answers::{number_in, spend_all_but};
+use test_samples::answers::{number_in, spend_all_but};
 
 fn main(rt: HostRuntime) -> io::Result<()> {
     let mut bytes = [0; 8];

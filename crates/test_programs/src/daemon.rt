@@ -8,9 +8,9 @@ use std::process::{Abort, ExitCode};
 use std::sync::Wait;
 use std::thread::Threads;
 use std::{env, io};
+use test_samples::streams::{Broken, Ended, Unflushed, Words};
+use test_samples::{INCREMENT, TRACES_ITS_PACKET};
 use tp_program::{Ending, run};
-use tp_samples::streams::{Broken, Ended, Unflushed, Words};
-use tp_samples::{INCREMENT, TRACES_ITS_PACKET};
 use tp_session::ServeFault;
 
 mod options;
@@ -303,7 +303,11 @@ fn answers_help_and_version(rt: HostRuntime) {
     let cases = [
         ("farmd", "--help", HELP),
         ("tp_farmd.by-rattle", "--help", HELP),
-        ("farmd", "--version", "farmd 0.1 (unreleased, rattle-kit-13f)\n"),
+        (
+            "farmd",
+            "--version",
+            "farmd 0.1 (unreleased, rattle-kit-13f)\n",
+        ),
     ];
     for (name, word, answer) in cases {
         let mut output = Vec::new(rt.alloc());

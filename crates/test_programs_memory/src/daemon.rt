@@ -5,11 +5,11 @@ use std::env;
 use std::process::ExitCode;
 use std::sync::Wait;
 use std::thread::Threads;
+use test_samples::INCREMENT;
+use test_samples::answers::{Answer, Tally, same_if};
+use test_samples::page::Page;
+use test_samples::streams::Words;
 use tp_program::run;
-use tp_samples::INCREMENT;
-use tp_samples::answers::{Answer, Tally, same_if};
-use tp_samples::page::Page;
-use tp_samples::streams::Words;
 
 /// Serves once, and counts the answer.
 pub fn all<R: Threads + Wait + Sync>(rt: &R, alloc: Global) -> Tally {

@@ -13,7 +13,7 @@ mod tools;
 
 use std::io;
 use std::io::Read;
-use tp_samples::answers::{number_in, spend_all_but};
+use test_samples::answers::{number_in, spend_all_but};
 
 /// Of the allocations up to the one that is refused, as many as `spend_all_but` spends at most.
 const HALF: u64 = 1000;

@@ -1,7 +1,7 @@
 //! What the program of those who write workers reads, and what it prints with ample memory.
 
-use tp_samples::page::Page;
-use tp_samples::{FIBONACCI, INCREMENT, SUM_TO_TEN};
+use test_samples::page::Page;
+use test_samples::{FIBONACCI, INCREMENT, SUM_TO_TEN};
 
 /// A text that is read or printed.
 #[derive(Clone, Copy, Drop)]

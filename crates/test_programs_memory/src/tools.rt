@@ -8,10 +8,10 @@ use std::rt::Files;
 use std::sync::Wait;
 use std::thread::Threads;
 use std::time::Clock;
-use tp_samples::answers::{Answer, Tally, same_if};
-use tp_samples::page::Page;
-use tp_samples::streams::Words;
-use tp_workbench::{Terminal, run};
+use test_samples::answers::{Answer, Tally, same_if};
+use test_samples::page::Page;
+use test_samples::streams::Words;
+use tpw_commands::{Terminal, run};
 
 /// What a command answers, and how much it has written. After Memory, and where a thread was refused for it, that is how its text
 /// begins, and its fault is reported.

@@ -1,6 +1,6 @@
 //! Images, packets and what is answered, worked out by hand.
 
-use tp_samples::*;
+use test_samples::*;
 
 /// An image, packets that are run on it, and all that is answered.
 pub struct Case {

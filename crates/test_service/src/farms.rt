@@ -6,7 +6,7 @@ use std::io::{Read, Write};
 use std::process::Abort;
 use std::sync::Wait;
 use std::thread::Threads;
-use tp_media::{boxed, media_of};
+use tp_link::{boxed, media_of};
 use tp_session::{Farm, ServeFault, serve};
 
 /// The room of each medium in bytes.

@@ -6,7 +6,7 @@ use crate::listings::{long_line, long_listing};
 use crate::streams::{flushes_of, read_fails_as};
 use std::alloc::Global;
 use std::process::Abort;
-use tp_samples::INCREMENT;
+use test_samples::INCREMENT;
 
 /// The longest answer to a listing is flushed once.
 #[test]

@@ -7,8 +7,8 @@ use std::process::Abort;
 use std::sync::Wait;
 use std::sync::atomic::{AtomicU64, Ordering};
 use std::thread::{self, Threads};
+use test_samples::INCREMENT;
 use tp_link::{DeviceFault, LinkDevice, Links, Medium, OwnedWire};
-use tp_samples::INCREMENT;
 use tp_session::{Farm, serve};
 
 /// How many turns a member is held for, at most.

@@ -5,7 +5,7 @@ use crate::cases::{Case, RUNS, VERDICTS};
 use crate::farms::{answers, opened, push_line, served};
 use std::alloc::Global;
 use std::process::Abort;
-use tp_samples::INCREMENT;
+use test_samples::INCREMENT;
 
 /// The lines that open a session, give it packets and run them.
 fn lines_of(rt: &impl Abort, alloc: Global, case: &Case) -> Vec<u8> {

@@ -4,7 +4,7 @@ use crate::asserts::unwrap;
 use crate::farms::{answers, opened, push_image, push_line, served};
 use std::alloc::Global;
 use std::process::Abort;
-use tp_samples::INCREMENT;
+use test_samples::INCREMENT;
 
 /// A line of an input.
 enum Line {

@@ -8,7 +8,7 @@ use std::io::{ErrorKind, Read, Write};
 use std::process::Abort;
 use std::sync::Wait;
 use std::thread::Threads;
-use tp_samples::INCREMENT;
+use test_samples::INCREMENT;
 use tp_session::ServeFault;
 
 /// Gives one byte a call, and fails in call number `failing`, counted from 1; never where that is 0.

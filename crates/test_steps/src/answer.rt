@@ -8,7 +8,7 @@ use std::alloc::Global;
 use std::fmt::Write;
 use tp_link::{DeviceFault, Link, LinkFault};
 use tp_machine::Outcome;
-use tp_tested::{Phase, Registers, RunFault};
+use tpw_machine::{Phase, Registers, RunFault};
 
 /// A packet that is not whole.
 const SHORT: LinkFault = LinkFault {

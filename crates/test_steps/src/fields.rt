@@ -4,7 +4,7 @@ ghost use Rattle.std.specs.Prelude.{◌<◌, IfSome};
 
 use anyhow::{Context, Result, anyhow};
 use std::alloc::Global;
-use tp_tested::{Phase, WORKSPACE_BYTES};
+use tpw_machine::{Phase, WORKSPACE_BYTES};
 
 /// A workspace, and what a machine keeps behind it. None is an undefined byte.
 pub(crate) type Cells = [Option<u8>; WORKSPACE_BYTES];

@@ -7,7 +7,7 @@ use std::alloc::Global;
 use tp_link::{LinkDevice, Links, Medium, Wire};
 use tp_machine::Outcome;
 use tp_step::profile::MEM_START;
-use tp_tested::{Machine, Phase, Registers, RunFault, WORKSPACE_BYTES};
+use tpw_machine::{Machine, Phase, Registers, RunFault, WORKSPACE_BYTES};
 
 /// The room of each medium.
 const ROOM: usize = 265;

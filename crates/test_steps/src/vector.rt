@@ -4,7 +4,7 @@ use crate::fields::{self, Cells};
 use anyhow::{Context, Result, anyhow};
 use std::alloc::Global;
 use tp_image::{Image, read_image};
-use tp_tested::{Phase, Registers};
+use tpw_machine::{Phase, Registers};
 
 /// Each code byte that no vector says.
 const FILLER: u8 = 0x4E;

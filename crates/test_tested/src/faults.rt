@@ -7,7 +7,7 @@ use std::alloc::Global;
 use std::process::Abort;
 use tp_image::{Image, read_image};
 use tp_link::{DeviceFault, FaultyWire, Link, LinkDevice, LinkFault, Links};
-use tp_tested::{Machine, RunFault};
+use tpw_machine::{Machine, RunFault};
 use worked_steps::table::INCREMENT;
 
 /// The increment of a packet, within a limit.

@@ -2,7 +2,7 @@
 
 use std::process::Abort;
 use tp_step::profile::MEM_START;
-use tp_tested::{Machine, Phase, Registers};
+use tpw_machine::{Machine, Phase, Registers};
 use worked_steps::rows::Setting;
 
 /// The words of a machine's workspace.

@@ -7,7 +7,7 @@ use std::process::Abort;
 use tp_image::read_image;
 use tp_link::LinkDevice;
 use tp_machine::Outcome;
-use tp_tested::{Machine, RunFault};
+use tpw_machine::{Machine, RunFault};
 
 /// What a run answers.
 pub(crate) type Answer = Result<Outcome, RunFault>;

@@ -7,11 +7,11 @@ use crate::media::{Media, make_media, wires};
 use crate::runs::{Answer, Left, Task, assert_run, ended, run};
 use std::alloc::Global;
 use std::process::Abort;
+use test_samples::{INCREMENT, MOVES_A_WORD, READS_AFTER_JUMP, TRACES_ITS_PACKET};
 use tp_image::{Image, read_image};
 use tp_link::{EndedMedium, LinkDevice, Links, Medium, OwnedWire, Wire};
-use tp_samples::{INCREMENT, MOVES_A_WORD, READS_AFTER_JUMP, TRACES_ITS_PACKET};
 use tp_step::profile::MEM_START;
-use tp_tested::{Machine, Registers, RunFault};
+use tpw_machine::{Machine, Registers, RunFault};
 use worked_steps::table::{Sample, samples};
 
 /// A sample's run answers and leaves what the sample says.

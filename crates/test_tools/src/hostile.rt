@@ -3,7 +3,7 @@
 use crate::asserts::unwrap;
 use std::alloc::Global;
 use std::process::Abort;
-use tp_reasons::{SourceText, tell};
+use tpw_why::{SourceText, tell};
 
 /// How many words the worker's loop moves on by one place.
 const MOVED: u16 = 464;

@@ -5,13 +5,13 @@ ghost use Rattle.std.specs.Prelude.{◌<◌, ◌≤◌};
 use crate::asserts::{assert_same, unwrap};
 use std::alloc::Global;
 use std::process::Abort;
+use test_samples::*;
 use tp_check::state_at;
 use tp_decode::decode;
 use tp_flow::check_flow;
 use tp_image::read_image;
-use tp_reasons::{FirstRefusal, first_refusal};
-use tp_samples::*;
 use tp_state::Cell;
+use tpw_why::{FirstRefusal, first_refusal};
 
 /// What the passes over an image's code refuse first.
 fn found(rt: &(impl Abort + AllocGlobal), bytes: &[u8]) -> Option<FirstRefusal> {
@@ -100,7 +100,7 @@ fn moving(rt: &impl Abort, alloc: Global, words: u8) -> Vec<u8>
     image
 }
 
-/// The pass that refuses has the number of the last word that is written: it knows no longer what stands there.
+/// The pass that refuses has the number of the last word that is written: it knows no longer what is there.
 #[test]
 fn refuses_in_each_of_many_passes(rt: HostRuntime) {
     for words in 1..21 {

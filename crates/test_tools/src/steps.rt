@@ -1,4 +1,4 @@
-//! Runs told line by line: lines worked out by hand, what runs end in, and each reason for which a worker is stuck.
+//! Runs printed line by line: lines worked out by hand, what runs end in, and each reason for which a worker is stuck.
 
 mod lines;
 mod reasons;

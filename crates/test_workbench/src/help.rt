@@ -3,7 +3,7 @@
 use crate::asserts::{assert_same, unwrap};
 use crate::program::ran;
 use std::process::ExitCode;
-use tp_samples::streams::Broken;
+use test_samples::streams::Broken;
 
 /// All that `--help` says.
 const HELP: &str = "\

@@ -1,7 +1,7 @@
 //! `tpw list`.
 
 use crate::program::{STUCK, capitals, check};
-use tp_samples::INCREMENT;
+use test_samples::INCREMENT;
 
 /// A loop in a loop, more than a run may have.
 const TOO_LONG: &str = "\

@@ -1,7 +1,7 @@
 //! Notes on what may be meant otherwise, and faults of fields.
 
 use crate::program::{capitals, check};
-use tp_samples::INCREMENT;
+use test_samples::INCREMENT;
 
 /// A worker with each trap of a text.
 const TRAPS: &str = "\

@@ -1,7 +1,7 @@
 //! `tpw run`.
 
 use crate::program::{STUCK, capitals, check};
-use tp_samples::{FIBONACCI, INCREMENT};
+use test_samples::{FIBONACCI, INCREMENT};
 
 /// Sends 65 traces of a word, one more than is kept.
 const LOSES: &str =

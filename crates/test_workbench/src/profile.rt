@@ -1,7 +1,7 @@
 //! `tpw profile`.
 
 use crate::program::{STUCK, capitals, check};
-use tp_samples::INCREMENT;
+use test_samples::INCREMENT;
 
 /// Two packets, each of 16 steps, by the address of the instruction.
 const INCREMENT_COUNTED: &str = "\

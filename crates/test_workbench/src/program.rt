@@ -8,8 +8,8 @@ use std::rt::Files;
 use std::sync::Wait;
 use std::thread::Threads;
 use std::time::Clock;
-use tp_samples::streams::{Ended, Words};
-use tp_workbench::{Terminal, run};
+use test_samples::streams::{Ended, Words};
+use tpw_commands::{Terminal, run};
 
 /// Runs the program on a command line, a reader and a writer.
 pub fn ran<T, R: Read, W: Write>(

@@ -4,10 +4,10 @@ use crate::asserts::{assert_same, unwrap};
 use crate::program::{capitals, ran};
 use std::alloc::AllocError;
 use std::process::ExitCode;
-use tp_samples::INCREMENT;
-use tp_samples::streams::{Broken, Unflushed};
-use tp_stepper::End;
-use tp_workbench::{Ending, Status, TextFault, bytes_of};
+use test_samples::INCREMENT;
+use test_samples::streams::{Broken, Unflushed};
+use tpw_commands::{Ending, Status, TextFault, bytes_of};
+use tpw_step::End;
 
 /// One loop more than a worker has.
 const SEVENTEEN_LOOPS: &str = "\
@@ -213,7 +213,7 @@ fn texts(rt: HostRuntime) {
     }
 }
 
-/// The status of each end of a run that is not run here, and what is told where memory is missing or a word is no text.
+/// The status of each end of a run that is not run here, and its message where memory is missing or a word is no text.
 #[test]
 fn endings(rt: HostRuntime) {
     assert_same(&rt, &Status::from(End::Unended), &Status::Failed);

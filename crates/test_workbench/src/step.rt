@@ -1,9 +1,9 @@
 //! `tpw step`.
 
 use crate::program::{STUCK, capitals, check};
-use tp_samples::INCREMENT;
-use tp_stepper::Place;
-use tp_workbench::place_of;
+use test_samples::INCREMENT;
+use tpw_commands::place_of;
+use tpw_step::Place;
 
 /// A text with a label.
 const LABELLED: &str = "local n\nreceive n\nldl n\nadc 1\nstl n\ndone: send n\nstopp\n";
@@ -18,7 +18,7 @@ result \ntrace \nflag 0
 count 9
 ";
 
-/// How runs are told, and the statuses that they end with.
+/// How runs are printed, and the statuses that they end with.
 #[test]
 fn runs(rt: HostRuntime) {
     let increment = capitals(&rt, rt.alloc(), INCREMENT);

@@ -1,7 +1,7 @@
 //! `tpw asm` and `tpw dis`.
 
 use crate::program::{STUCK, capitals, check, small_letters};
-use tp_samples::{FIBONACCI, INCREMENT};
+use test_samples::{FIBONACCI, INCREMENT};
 
 /// Increment as text, with its locals by number.
 const INCREMENT_TEXT: &str = "\
@@ -24,7 +24,7 @@ result 1
         stopp
 ";
 
-/// What INCREMENT is told as: 16 bytes, each executed once.
+/// The text of INCREMENT: 16 bytes, each executed once.
 const INCREMENT_TOLD: &str = "\
 ; at most 16 instruction bytes
 ; behind an instruction: its address, and the bytes from it to the end of the loop around it, or of the run
@@ -47,7 +47,7 @@ result 1
         stopp  ; 14: 2
 ";
 
-/// What FIBONACCI is told as: a turn of its loop has at most 22 bytes, 18 of them where it sends a trace.
+/// The text of FIBONACCI: a turn of its loop has at most 22 bytes, 18 of them where it sends a trace.
 const FIBONACCI_TOLD: &str = "\
 ; at most 1056 instruction bytes
 ; loop 15 to 35: 47 turns of 22, 1034 in all
@@ -98,7 +98,7 @@ L30:
         stopp  ; 42: 2
 ";
 
-/// ldc 1, add: refused, so that no costs are told.
+/// ldc 1, add: refused: no costs are printed.
 const STUCK_TOLD: &str = "\
 workspace 12
 start 8

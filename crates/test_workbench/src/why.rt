@@ -1,7 +1,7 @@
 //! `tpw why`.
 
 use crate::program::{STUCK, capitals, check};
-use tp_samples::INCREMENT;
+use test_samples::INCREMENT;
 
 /// Verdicts, and the statuses that they end with.
 #[test]

@@ -31,7 +31,7 @@ impl LineFault {
     ghost use Rattle.std.specs.Prelude.{◌≡◌};
     ghost use Rattle.tp_answers.specs.Texts.{fault_place};
 
-    /// The place that is told of it: where it has none of its own, the number of the line.
+    /// Its place: where it has none of its own, the number of the line.
     pub(crate) fn place(&self, number: u64) -> u64
         ensures { result ≡ fault_place number self.now }
     {

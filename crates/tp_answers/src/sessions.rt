@@ -81,7 +81,7 @@ impl Sessions {
         Ok(())
     }
 
-    /// Opens a session, behind all others, or replaces the one that stands at the place of its name.
+    /// Opens a session, behind all others, or replaces the one of its name.
     pub(crate) fn set(
         &mut self,
         place: Option<usize>,

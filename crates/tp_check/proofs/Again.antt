@@ -14,9 +14,9 @@ use Rattle.tp_state.specs.declared.fault.StateCode.{StateCode}
 use Rattle.tp_state.specs.After.{after}
 use Rattle.tp_state.specs.Order.{IsBelow}
 use Rattle.tp_state.specs.Sound.{IsSound, LoadsWord}
-use Rattle.tp_rules.proofs.Follows.{Follows}
-use Rattle.tp_rules.proofs.Rules.{after_follows, after_sound}
-use Rattle.tp_rules.proofs.SoundJoins.{join_sound}
+use Rattle.tp_rule_laws.proofs.Follows.{Follows}
+use Rattle.tp_rule_laws.proofs.Rules.{after_follows, after_sound}
+use Rattle.tp_rule_laws.proofs.SoundJoins.{join_sound}
 use Rattle.tp_check.specs.Tables.{Table, with_state, asked}
 use Rattle.tp_check.proofs.Entering.{Becomes, Entered, elsewhere, there}
 use Rattle.tp_check.proofs.Settling.{with_there, with_elsewhere}

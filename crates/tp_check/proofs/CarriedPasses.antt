@@ -15,7 +15,7 @@ use Rattle.tp_check.specs.Tables.{Table}
 use Rattle.tp_check.specs.Passes.{along_edges, edges_in, pass, passes, first_table, IsVerdict}
 use Rattle.tp_check.specs.Carried.{over, only_joins, is_head, reached, AreWide, carried, carried_pass}
 use Rattle.tp_check.proofs.Lone.{IsStateAt}
-use Rattle.tp_rules.proofs.SoundJoins.{entry_sound}
+use Rattle.tp_rule_laws.proofs.SoundJoins.{entry_sound}
 use Rattle.tp_check.proofs.Nests.{IsOne, lone, edges_lead_on, are_states, or_left}
 use Rattle.tp_check.proofs.Trails.{Trails, edge_by_edge}
 use Rattle.tp_check.proofs.Carrying.{carried_pass as pass_carried}

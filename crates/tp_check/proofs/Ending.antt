@@ -34,8 +34,8 @@ use Rattle.tp_check.proofs.Taking.{along_none, along_some, enter_none, arrives_a
 use Rattle.tp_check.proofs.Moving.{along_append}
 use Rattle.tp_check.proofs.Passing.{may_be_taken}
 use Rattle.tp_check.proofs.Loading.{loads_word}
-use Rattle.tp_rules.proofs.Rules.{after_sound}
-use Rattle.tp_rules.proofs.SoundJoins.{entry_sound, join_sound}
+use Rattle.tp_rule_laws.proofs.Rules.{after_sound}
+use Rattle.tp_rule_laws.proofs.SoundJoins.{entry_sound, join_sound}
 use Rattle.tp_state.specs.Sound.{IsSound, LoadsWord}
 
 -- ---- tables in a list, whose states are sound

@@ -27,10 +27,10 @@ use Rattle.tp_state.specs.Order.{IsBelow, meeting}
 use Rattle.tp_state.proofs.StateOrder.{is_below-trans, is_below-least}
 use Rattle.tp_state.specs.Conditions.{HasGoodLoops}
 use Rattle.tp_state.specs.Sound.{IsSound, LoadsWord}
-use Rattle.tp_rules.proofs.Follows.{Follows}
+use Rattle.tp_rule_laws.proofs.Follows.{Follows}
 use Rattle.tp_check.proofs.Places.{stands_at}
-use Rattle.tp_rules.proofs.Rules.{after_follows, after_sound}
-use Rattle.tp_rules.proofs.SoundJoins.{entry_sound, join_sound}
+use Rattle.tp_rule_laws.proofs.Rules.{after_follows, after_sound}
+use Rattle.tp_rule_laws.proofs.SoundJoins.{entry_sound, join_sound}
 use Rattle.tp_check.proofs.Loading.{loads_word}
 
 -- ---- one edge

@@ -35,8 +35,8 @@ use Rattle.tp_check.specs.Carried.{target_of, outcome_of, leads_to, reached, is_
 use Rattle.tp_check.proofs.Lone.{IsLone, AreStates, IsAmong, LeadsOn, IsStateAt}
 use Rattle.tp_flow.proofs.FlowSpelled.{some_bytes}
 use Rattle.tp_check.proofs.Places.{place_from, IsInItsPlace, stands_at}
-use Rattle.tp_rules.proofs.Rules.{after_sound}
-use Rattle.tp_rules.proofs.SoundJoins.{join_sound}
+use Rattle.tp_rule_laws.proofs.Rules.{after_sound}
+use Rattle.tp_rule_laws.proofs.SoundJoins.{join_sound}
 use Rattle.tp_check.proofs.Loading.{loads_word}
 use Rattle.tp_check.proofs.Trails.{placed_ok}
 

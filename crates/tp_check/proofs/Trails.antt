@@ -19,10 +19,10 @@ use Rattle.tp_state.proofs.Passing.{same_Ok}
 use Rattle.tp_check.specs.Tables.{Table, with_state}
 use Rattle.tp_check.specs.Passes.{with_place, meeting_if_any, enter, go_along, along_edges}
 use Rattle.tp_state.specs.Sound.{IsSound}
-use Rattle.tp_rules.proofs.Follows.{Follows}
+use Rattle.tp_rule_laws.proofs.Follows.{Follows}
 use Rattle.tp_check.specs.Carried.{target_of, outcome_of, arrive, go_over, over}
 use Rattle.tp_check.proofs.Lone.{IsLone, AreStates}
-use Rattle.tp_rules.proofs.Rules.{after_follows}
+use Rattle.tp_rule_laws.proofs.Rules.{after_follows}
 use Rattle.tp_check.proofs.Least.{meet}
 
 -- a join with what is above is that

@@ -44,7 +44,7 @@ use Rattle.tp_check.proofs.Turning.{edges_stay}
 use Rattle.tp_check.proofs.Waiting.{waiting, marked_waits, repeating, taken_repeats}
 use Rattle.tp_check.proofs.HandedOn.{then_more}
 use Rattle.tp_check.proofs.Respected.{stands_there}
-use Rattle.tp_rules.proofs.SoundJoins.{entry_sound}
+use Rattle.tp_rule_laws.proofs.SoundJoins.{entry_sound}
 
 -- ---- instructions in their order
 

@@ -1,6 +1,6 @@
 //! The verifier's table: what is known before each instruction of a worker's code.
 //!
-//! The definitions stand in `specs/`: tables, the tables that every edge respects, and the passes that find one.
+//! The definitions are in `specs/`: tables, the tables that every edge respects, and the passes that find one.
 //! The laws are the contracts of the functions of [`laws`].
 #![tactic(auto)]
 

@@ -30,7 +30,7 @@ use tp_flow::{Edge, Nest, edges};
 use tp_image::Image;
 use tp_state::{State, StateFault};
 
-/// The table that the passes come to, of an image whose flow has passed and of its code's listing: the states of the verdict's
+/// The table of the passes, of an image whose flow has passed and of its code's listing: the states of the verdict's
 /// table at the first address, at those that two edges reach, and at loops' heads. Refused is the first refusal of the
 /// passes, and then no table exists that every edge respects; Memory is that a growth was refused.
 pub fn check_states(
@@ -278,7 +278,7 @@ impl Passes {
     }
 
     /// Two edges are taken, each from the state that is carried: the second from a copy. Of what comes of both, that is carried on
-    /// which comes to the next instruction.
+    /// which goes on to the next instruction.
     fn take_two(
         &mut self,
         alloc: Global,
@@ -311,7 +311,7 @@ impl Passes {
         Ok(moved || also)
     }
 
-    /// An edge is taken: what is carried becomes what is known after it, and comes to its target.
+    /// An edge is taken: what is carried becomes what is known after it, and arrives at its target.
     fn take_edge(
         &mut self,
         alloc: Global,
@@ -345,7 +345,7 @@ impl Passes {
         }
     }
 
-    /// What is carried is carried on, if it comes to the next instruction.
+    /// What is carried is carried on, if it goes on to the next instruction.
     fn lead_on(&mut self, to: usize, next: usize)
         ensures { IsLedOn to next self.old self.new }
     {
@@ -354,7 +354,7 @@ impl Passes {
         }
     }
 
-    /// What is carried comes to an address: it joins what is kept there, if edges join there. It answers whether anything
+    /// What is carried arrives at an address: it joins what is kept there, if edges join there. It answers whether anything
     /// changed.
     fn arrive(
         &mut self,

@@ -19,7 +19,7 @@ use tp_decode::{Listing, Placed};
 use tp_flow::Nest;
 use tp_image::Image;
 
-/// How control comes to an address.
+/// How control reaches an address.
 #[derive(Clone, Copy, PartialEq, Eq)]
 pub(crate) enum Predecessor {
     /// By no edge.
@@ -45,7 +45,7 @@ impl Predecessor {
     }
 }
 
-/// How control comes to each address of a code.
+/// How control reaches each address of a code.
 #[derive(Drop)]
 pub(crate) struct Predecessors {
     predecessors: Vec<Predecessor>,

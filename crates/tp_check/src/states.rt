@@ -37,7 +37,7 @@ fn no_states(alloc: Global, places: usize) -> Result<Vec<Option<State>>, AllocEr
     Ok(states)
 }
 
-/// A state comes to an address: what holds of it and of the state there stands there from then on. It answers whether that is
+/// A state arrives at an address: what holds of it and of the state there is kept there from then on. It answers whether that is
 /// another state than before. S6 and S9 are refused at the address. Where the state comes again, after one below it, no values
 /// of words are compared.
 pub fn enter(

@@ -120,8 +120,8 @@ module _ (batch : JobValue) (budget : ℕ) (never : ending.NeverGoesWrong batch.
         both : true ≡ false → ⊥
         both e = cc
 
-  pub goes_well : GoesWell batch budget entries
-  goes_well i packet at =
+  pub keeps_promise : GoesWell batch budget entries
+  keeps_promise i packet at =
       record {
         ends = ends i packet at;
         entry = entry_of i packet at;

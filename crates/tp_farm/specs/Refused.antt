@@ -27,7 +27,7 @@ pub record Begins (members : ℕ) (batch : JobValue) : Type 0 where
   pub whole : AreWhole batch
 
 -- why a batch that has begun gives nothing: what it runs on refused a thread (G4) or memory
-abbrev pub IsFromOutside : FarmFault → Type 0
-IsFromOutside Thread = Unit {0}
-IsFromOutside Memory = Unit {0}
-IsFromOutside fault = ⊥
+abbrev pub IsEnvironmental : FarmFault → Type 0
+IsEnvironmental Thread = Unit {0}
+IsEnvironmental Memory = Unit {0}
+IsEnvironmental fault = ⊥

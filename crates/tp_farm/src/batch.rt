@@ -9,7 +9,7 @@ ghost use Rattle.tp_farm.specs.Feeding.{HasOnlyFed};
 ghost use Rattle.tp_farm.specs.Jobs.{value_of_job, AreWhole};
 ghost use Rattle.tp_farm.specs.Working.{HaveToSettle};
 ghost use Rattle.tp_farm.specs.Works.{Work, work_on};
-ghost use Rattle.tp_farm.specs.Refused.{job_fault, Begins, IsFromOutside};
+ghost use Rattle.tp_farm.specs.Refused.{job_fault, Begins, IsEnvironmental};
 ghost use Rattle.tp_farm.specs.Gathering.{nothing_filed};
 ghost use Rattle.tp_farm.specs.Batches.{IsBatchOver};
 ghost use Rattle.tp_farm.specs.Promised.{GoesWell};
@@ -77,7 +77,7 @@ fn begin<'j>(alloc: Global, job: &'j Job<'j>, members: usize) -> Result<Collecto
     ensures begins { OnOk result (job_fault members (value_of_job job.now) ≡ None) }
     ensures begun { OnOk result (Begins members (value_of_job job.now)) }
     ensures refused { IfSome (job_fault members (value_of_job job.now)) (λ fault. result ≡ Err fault) }
-    ensures err { job_fault members (value_of_job job.now) ≡ None → IfErr result IsFromOutside }
+    ensures err { job_fault members (value_of_job job.now) ≡ None → IfErr result IsEnvironmental }
 {
     if let Some(fault) = job_fault(job, members) {
         return Err(fault);
@@ -147,7 +147,7 @@ fn settle<R: Wait, D: LinkDevice>(
     ensures batch { (work : Work) (before : List (Links D)) →
         HaveToSettle D.state (IsHandOf stream.entry) hand_progress (length stream.entry.packets) work before
         returned.items collector.entry → IfOk result (IsBatchOver D.state work before) }
-    ensures err { IfErr result IsFromOutside }
+    ensures err { IfErr result IsEnvironmental }
 {
     take_hands(returned, &mut room.hands, &mut room.kept)?;
     let _ledger = close_stream(rt, stream, feeder, room.hands);
@@ -174,9 +174,9 @@ pub fn run_batch<'j, R: Threads + Wait + Sync, D: LinkDevice + Send, G: Gate>(
     gate: &'j G,
 ) -> Result<Batch<D>, FarmFault>
     ensures batch { IfOk result (IsBatchOver D.state (work_on G.open_for_good job.now gate.now) links.items) }
-    ensures goes_well { IfOk result (λ b. GoesWell (value_of_job job.now) job.now.image.now.budget b.collected) }
+    ensures keeps_promise { IfOk result (λ b. GoesWell (value_of_job job.now) job.now.image.now.budget b.collected) }
     ensures refused { IfSome (job_fault (length links.items) (value_of_job job.now)) (λ fault. result ≡ Err fault) }
-    ensures err { job_fault (length links.items) (value_of_job job.now) ≡ None → IfErr result IsFromOutside }
+    ensures err { job_fault (length links.items) (value_of_job job.now) ≡ None → IfErr result IsEnvironmental }
 {
     let collector = match begin(alloc, job, links.len()) {
         Ok(collector) => collector,
@@ -197,7 +197,7 @@ fn run_begun<'j, R: Threads + Wait + Sync, D: LinkDevice + Send, G: Gate>(
     requires begins { Begins (vec_len links) (value_of_job job.now) }
     requires collector { collector ≡ nothing_filed (value_of_job job.now) }
     ensures batch { IfOk result (IsBatchOver D.state (work_on G.open_for_good job.now gate.now) links.items) }
-    ensures err { IfErr result IsFromOutside }
+    ensures err { IfErr result IsEnvironmental }
 {
     let members = links.len();
     let room = Reserved::for_members(alloc, members)?;

@@ -4,7 +4,7 @@ ghost use Rattle.std.specs.Prelude.{◌≡◌, ◌≤◌, ◌+◌, ◌++◌, Non
 ghost use Rattle.std.specs.Prelude.{vec_len, vec_capacity};
 ghost use Rattle.tp_collect.specs.Collected.{JobValue};
 ghost use Rattle.tp_collect.specs.Collecting.{vacant};
-ghost use Rattle.tp_farm.specs.Refused.{IsFromOutside};
+ghost use Rattle.tp_farm.specs.Refused.{IsEnvironmental};
 ghost use Rattle.tp_farm.specs.Gathering.{number_of, entry_of, IsOfBatch, filed_in, FindVacant, fault_of_end};
 ghost use Rattle.tp_farm.specs.MemberResults.{member_results, filed_by};
 
@@ -42,7 +42,7 @@ pub(crate) fn take_hands<H: Drop, D: LinkDevice>(
     ensures hands { OnOk result (hands.new.items ≡ hands.old.items ++ map (λ r. r.hand) returned.items) }
     ensures kept { OnOk result (kept.new.items ≡ kept.old.items ++ map member_results returned.items) }
     ensures well { OnOk result (All (λ r. fault_of_end r.end ≡ None) returned.items) }
-    ensures err { IfErr result IsFromOutside }
+    ensures err { IfErr result IsEnvironmental }
 {
     for one in returned {
         if let Some(fault) = fault_of_end(one.end) {

@@ -94,7 +94,7 @@ fn file_packet<W: WorkSource, D: LinkDevice, G: Gate>(
 }
 
 /// Takes the next packet and files what became of it, or ends.
-fn take_turn<W: WorkSource, D: LinkDevice, G: Gate>(
+fn take_packet<W: WorkSource, D: LinkDevice, G: Gate>(
     rt: &impl Wait,
     job: &Job<'_>,
     gate: &G,
@@ -161,7 +161,7 @@ pub(crate) fn work<W: WorkSource, D: LinkDevice, G: Gate>(
         return End::Memory;
     }
     for _ in 0..job.packets.len() + 1 {
-        if let Some(end) = take_turn(rt, job, gate, source, member) {
+        if let Some(end) = take_packet(rt, job, gate, source, member) {
             return end;
         }
     }

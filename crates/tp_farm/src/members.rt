@@ -4,7 +4,7 @@ ghost use Rattle.std.specs.Prelude.{◌≡◌, ◌≤◌, ◌+◌, ◌++◌, ◌
 ghost use Rattle.std.specs.List.{AllZip};
 ghost use Rattle.tp_board.specs.Streams.{IsHandOf, IsFeederOf, hand_progress};
 ghost use Rattle.tp_farm.specs.Feeding.{HasOnlyFed, HasEnded};
-ghost use Rattle.tp_farm.specs.Refused.{IsFromOutside};
+ghost use Rattle.tp_farm.specs.Refused.{IsEnvironmental};
 ghost use Rattle.tp_farm.specs.Working.{IsSet, IsFresh, HasWorkedOn, HaveWorkedOn};
 
 use crate::fault::FarmFault;
@@ -150,7 +150,7 @@ where
     ensures joined { IfOk result (λ rs. (started.entry.all_started ≡ true) × AllZip
         (λ h r. HasWorkedOn D.state S.is_own S.progress G.open_for_good h.promise.shared.now h.promise.before.value r)
         started.entry.handles.items rs.items) }
-    ensures err { IfErr result IsFromOutside }
+    ensures err { IfErr result IsEnvironmental }
 {
     match join_promised(rt, started.handles) {
         Ok(returned) => {
@@ -189,7 +189,7 @@ fn start_feed_and_join<'s, 'e, R: Threads + Wait + Sync, D: LinkDevice + Send + 
     ensures worked { IfOk result (λ r.
         HaveWorkedOn D.state IsHandOf hand_progress G.open_for_good shared.now all.items r.0.items) }
     ensures feeder { IfOk result (λ r. IsFeederOf shared.now.source.now r.1 × HasOnlyFed r.1) }
-    ensures err { IfErr result IsFromOutside }
+    ensures err { IfErr result IsEnvironmental }
 {
     let started = start_all(rt, scope, alloc, shared, hands, all)?;
     if started.all_started {
@@ -220,7 +220,7 @@ pub(crate) fn run_members<R: Threads + Wait + Sync, D: LinkDevice + Send, G: Gat
     ensures worked { IfOk result (λ r.
         HaveWorkedOn D.state IsHandOf hand_progress G.open_for_good shared.now all.items r.0.items) }
     ensures feeder { IfOk result (λ r. IsFeederOf shared.now.source.now r.1 × HasOnlyFed r.1) }
-    ensures err { IfErr result IsFromOutside }
+    ensures err { IfErr result IsEnvironmental }
 {
     thread::scope(
         thread::scope_env(),
@@ -235,7 +235,7 @@ pub(crate) fn run_members<R: Threads + Wait + Sync, D: LinkDevice + Send, G: Gat
             ensures worked { IfOk result (λ r.
                 HaveWorkedOn D.state IsHandOf hand_progress G.open_for_good shared.entry.now all.items r.0.items) }
             ensures feeder { IfOk result (λ r. IsFeederOf shared.entry.now.source.now r.1 × HasOnlyFed r.1) }
-            ensures err { IfErr result IsFromOutside }
+            ensures err { IfErr result IsEnvironmental }
         { start_feed_and_join(rt, scope, alloc, shared, feeder, hands, all) },
     )
 }

@@ -6,3 +6,4 @@ pub mod Links
 pub mod Medium
 pub mod OwnedWire
 pub mod Wire
+pub mod Wired

@@ -8,6 +8,9 @@
 //! When a wire ends, in a box or out of it, its medium is closed, has its end mark, and keeps the
 //! bytes that were held. The contracts of a [`Wire`] and a [`FaultyWire`] say so to whoever lent
 //! them the medium. They do not reach through the end of a box.
+//!
+//! The three media of a member are its [`Media`], lent to its wires by [`Media::wires`] or in boxes by [`boxed`](fn@boxed). They can be
+//! looked at again once the wires have ended.
 #![tactic(auto)]
 
 mod boxed;
@@ -15,7 +18,9 @@ mod device;
 mod faulty;
 pub mod laws;
 mod links;
+mod media;
 mod medium;
+mod members;
 mod owned;
 mod trait_object;
 mod wire;
@@ -23,6 +28,8 @@ mod wire;
 pub use device::{DeviceFault, LinkDevice};
 pub use faulty::FaultyWire;
 pub use links::{Link, LinkFault, Links};
+pub use media::Media;
 pub use medium::Medium;
+pub use members::{boxed, media_of};
 pub use owned::{EndedMedium, OwnedWire};
 pub use wire::Wire;

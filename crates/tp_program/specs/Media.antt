@@ -1,6 +1,6 @@
 -- The media of a member's devices.
 use Rattle.std.specs.Prelude.{◌≤◌}
-use Rattle.tp_media.specs.declared.media.Media.{Media}
+use Rattle.tp_link.specs.declared.media.Media.{Media}
 use Rattle.tp_collect.specs.DoneValue.{most_trace}
 
 -- each has room for the longest trace; no packet and no result is longer

@@ -25,11 +25,11 @@ pub enum Ending {
     Refused(clap::Error),
     /// A word of the command line is not UTF-8.
     NotText,
-    /// Serving ended with a fault, or what it stands on could not be had.
+    /// Serving ended with a fault, or what it needs could not be had.
     Fault(ServeFault),
 }
 
-/// What is told of a fault.
+/// The text of a fault.
 fn fault_text(fault: ServeFault) -> &'static [u8]
     ensures { result.now ≡ fault_text fault }
 {

@@ -12,8 +12,7 @@ use std::io::{Read, Write};
 use std::sync::Wait;
 use std::thread::Threads;
 use tp_collect::limits::MESSAGE_BYTES;
-use tp_link::{LinkDevice, Links, Wire};
-use tp_media::Media;
+use tp_link::{LinkDevice, Links, Media, Wire};
 use tp_options::Options;
 use tp_session::{Farm, ServeFault, serve};
 
@@ -22,7 +21,7 @@ fn media_of(alloc: Global, members: usize) -> Result<Vec<Media>, AllocError>
     ensures count { IfOk result (λ media. vec_len media ≡ members) }
     ensures room { IfOk result (λ media. All HaveRoom media.items) }
 {
-    let media = tp_media::media_of(alloc, members, MESSAGE_BYTES)?;
+    let media = tp_link::media_of(alloc, members, MESSAGE_BYTES)?;
     Ok(media)
 }
 
@@ -32,7 +31,7 @@ fn boxed(alloc: Global, media: &mut [Media]) -> Result<Vec<Links<Box<Wire<'_>>>>
     ensures count { IfOk result (λ links. vec_len links ≡ length media.old) }
     ensures fit { IfOk result (λ links. AreFit (λ b. device_of b.value) links.items) }
 {
-    let links = tp_media::boxed(alloc, media)?;
+    let links = tp_link::boxed(alloc, media)?;
     Ok(links)
 }
 

@@ -63,7 +63,7 @@ fn of_name<'a>(
     }
 }
 
-/// What a line asks for, by what stands before and behind its first space.
+/// What a line asks for, by what is before and behind its first space.
 fn of_parts<'a>(
     alloc: Global,
     first: &[u8],

@@ -6,7 +6,7 @@ ghost use Rattle.std.specs.Option.{option_map};
 ghost use Rattle.hex.specs.Hex.{is_hex_digit};
 ghost use Rattle.tp_requests.specs.Fields.{hex_bytes};
 
-/// The bytes that a field spells in hexadecimal, as the digits stand in the line.
+/// The bytes that a field spells in hexadecimal, as the digits are in the line.
 #[derive(Drop)]
 pub struct Spelled<'a> {
     digits: &'a [u8],

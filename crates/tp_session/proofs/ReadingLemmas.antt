@@ -21,7 +21,7 @@ use Rattle.tp_session.specs.declared.progress.Progress.{Progress}
 use Rattle.tp_session.specs.declared.service.Service.{Service}
 use Rattle.tp_session.specs.Protocol.{most_line, next_number}
 use Rattle.tp_session.specs.Served.{AreTold, AreWritten, AreWrittenBefore}
-use Rattle.tp_session.specs.Services.{StaysOn, IsWant, AnswersText, AnswersLine, IsSentInPart}
+use Rattle.tp_session.specs.Services.{StaysOn, IsResourceFault, AnswersText, AnswersLine, IsSentInPart}
 use Rattle.tp_session.specs.Points.{Point, number_after, IsPlain, Keeps, IsAt, Fails, GoesOn}
 use Rattle.tp_session.proofs.KnownBytes.{appends_same, appends_front}
 use Rattle.tp_session.proofs.LineLemmas.{take_all}
@@ -153,7 +153,7 @@ module _ {D : Type 0} (state : D → DeviceState) (trace : Bool) (begun now : Op
         record { before = s.taken; rest = rest; split = split; short = short; answers = written now' nothing }
 
     -- what was wanted was refused before anything was written
-    pub fails_wanting : (e : ServeFault) → IsWant e → Fails trace input taken last begun now e
+    pub fails_wanting : (e : ServeFault) → IsResourceFault e → Fails trace input taken last begun now e
     fails_wanting Memory want = before now (Appends-nil now)
     fails_wanting Thread want = before now (Appends-nil now)
     fails_wanting Read want = absurd want

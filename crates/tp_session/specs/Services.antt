@@ -22,10 +22,10 @@ pub record StaysOn {D : Type 0} (state : D → DeviceState) (before after : Serv
   pub trace : after.trace ≡ before.trace
 
 -- a growth or a thread was refused
-abbrev pub IsWant : ServeFault → Type 0
-IsWant Memory = Unit {0}
-IsWant Thread = Unit {0}
-IsWant fault = ⊥
+abbrev pub IsResourceFault : ServeFault → Type 0
+IsResourceFault Memory = Unit {0}
+IsResourceFault Thread = Unit {0}
+IsResourceFault fault = ⊥
 
 -- a code that is to be listed has no more bytes than may be
 abbrev pub IsListable : Asked → Type 0

@@ -5,7 +5,7 @@ ghost use Rattle.tp_board.specs.Limits.{most_members};
 
 use tp_link::Links;
 
-/// The links of 1 to 64 members that run packets, and whether the traces of packets are told.
+/// The links of 1 to 64 members that run packets, and whether traces are written.
 #[derive(Drop)]
 pub struct Farm<D> {
     pub(crate) links: Vec<Links<D>>,

@@ -14,7 +14,7 @@ ghost use Rattle.tp_session.specs.Protocol as protocol;
 use tp_accept::laws::exact::acceptable_images_alone_may_be_run;
 use tp_accept::laws::one_text_has_one_answer;
 
-/// What is served for an input is a function of the input, and of whether traces are told.
+/// What is served for an input is a function of the input, and of whether traces are written.
 pub fn one_input_has_one_answer()
     ensures { (trace : Bool) (input told told' : List ℕ) → IsServed trace input told → IsServed trace input told' →
         told ≡ told' }
@@ -33,7 +33,7 @@ pub fn what_is_served_follows_the_protocol()
 {}
 
 /// The headline, read off what is written: each result that is served is that of a run which ends within the budget that `YES`
-/// told for its image, and no state on the run's way is stuck.
+/// answered for its image, and no state on the run's way is stuck.
 pub fn results_are_in_time()
     ensures { (trace : Bool) (input told : List ℕ) → IsServed trace input told →
         protocol.AreTold IsVerdict IsOutcomeInTime trace (lines_of input) told }

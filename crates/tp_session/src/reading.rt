@@ -5,7 +5,7 @@ ghost use Rattle.std.specs.Io.KnownBytes.{Appends};
 ghost use Rattle.tp_requests.specs.Lines.{lines_of, without_return};
 ghost use Rattle.tp_answers.specs.Texts.{answer_text};
 ghost use Rattle.tp_session.specs.Fitness.{AreFit, HasMembers, AreAsMany};
-ghost use Rattle.tp_session.specs.Services.{StaysOn, IsWant, AnswersLine, IsSentInPart};
+ghost use Rattle.tp_session.specs.Services.{StaysOn, IsResourceFault, AnswersLine, IsSentInPart};
 ghost use Rattle.tp_session.specs.Served.{AreWritten};
 ghost use Rattle.tp_session.specs.Points.{Keeps, AtEachPoint, GoesOn, Begins, Fails};
 
@@ -57,7 +57,7 @@ fn answer<R: Threads + Wait + Sync, D: LinkDevice + Send>(
         Keeps progress.now number line → IfOk result (λ answer.
         AnswersLine record { bytes = line; ended = ended } service.old.sessions answer service.new.sessions) }
     ensures stays { OnOk result (StaysOn D.state service.old service.new) }
-    ensures want { IfErr result IsWant }
+    ensures want { IfErr result IsResourceFault }
 {
     if progress.long {
         return Ok(Answer::Refused(LineFault::E1));

@@ -4,14 +4,14 @@ ghost use Rattle.std.specs.Prelude.{◌≡◌, ◌≤◌, ℕ, IfOk, IfErr, OnOk
 ghost use Rattle.std.specs.List.{AllZip};
 ghost use Rattle.tp_board.specs.Limits.{most_members};
 ghost use Rattle.tp_farm.specs.Jobs.{value_of_job};
-ghost use Rattle.tp_farm.specs.Refused.{job_fault, IsFromOutside};
+ghost use Rattle.tp_farm.specs.Refused.{job_fault, IsEnvironmental};
 ghost use Rattle.tp_answers.specs.Sessions.{Session};
 ghost use Rattle.tp_answers.specs.Rules.{IsOutcome};
 ghost use Rattle.tp_answers.specs.Answers.{AreOutcomes};
 ghost use Rattle.tp_answers.specs.Outcomes.{outcome_of};
 ghost use Rattle.tp_answers.specs.OpenSessions.{session_of};
 ghost use Rattle.tp_session.specs.Fitness.{AreFit, HasMembers, AreAsMany};
-ghost use Rattle.tp_session.specs.Services.{IsWant};
+ghost use Rattle.tp_session.specs.Services.{IsResourceFault};
 
 use crate::fault::ServeFault;
 use std::alloc::Global;
@@ -23,12 +23,12 @@ use tp_collect::Collected;
 use tp_farm::{FarmFault, Job, OpenGate, run_batch};
 use tp_link::{LinkDevice, Links};
 
-/// Why a batch that has begun gives nothing, as serving tells it.
+/// Why a batch that has begun gives nothing, as a fault of serving.
 fn fault_of(fault: FarmFault) -> ServeFault
-    requires { IsFromOutside fault }
+    requires { IsEnvironmental fault }
     ensures thread { fault ≡ FarmFault.Thread → result ≡ ServeFault.Thread }
     ensures memory { fault ≡ FarmFault.Memory → result ≡ ServeFault.Memory }
-    ensures want { IsWant result }
+    ensures want { IsResourceFault result }
 {
     match fault {
         FarmFault::Thread => ServeFault::Thread,
@@ -50,7 +50,7 @@ fn run_packets<R: Threads + Wait + Sync, D: LinkDevice + Send>(
         AllZip (IsOutcome (value_of_job job.now).image) (value_of_job job.now).packets (map outcome_of entries)) }
     ensures members { OnOk result (AreAsMany links.old.items links.new.items) }
     ensures fit { AreFit D.state links.old.items → OnOk result (AreFit D.state links.new.items) }
-    ensures want { IfErr result IsWant }
+    ensures want { IfErr result IsResourceFault }
 {
     let lent = mem::replace(links, Vec::new(alloc));
     match run_batch(rt, alloc, job, lent, &OpenGate) {
@@ -76,7 +76,7 @@ fn run_on_enough<R: Threads + Wait + Sync, D: LinkDevice + Send>(
         AllZip (IsOutcome (value_of_job job.now).image) (value_of_job job.now).packets (map outcome_of entries)) }
     ensures members { OnOk result (AreAsMany links.old.items links.new.items) }
     ensures fit { AreFit D.state links.old.items → OnOk result (AreFit D.state links.new.items) }
-    ensures want { IfErr result IsWant }
+    ensures want { IfErr result IsResourceFault }
 {
     let enough = job.packets.len().max(1).min(links.len());
     let mut resting = links.split_off(enough)?;
@@ -98,7 +98,7 @@ pub(crate) fn run_session<R: Threads + Wait + Sync, D: LinkDevice + Send>(
         IfOk result (AreOutcomes IsOutcome s) }
     ensures members { OnOk result (AreAsMany links.old.items links.new.items) }
     ensures fit { AreFit D.state links.old.items → OnOk result (AreFit D.state links.new.items) }
-    ensures want { IfErr result IsWant }
+    ensures want { IfErr result IsResourceFault }
 {
     let job = Job {
         batch,

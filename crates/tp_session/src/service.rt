@@ -7,7 +7,7 @@ ghost use Rattle.tp_answers.specs.Rules.{IsOutcome};
 ghost use Rattle.tp_answers.specs.Answers.{AreOutcomes, IsAnswerToRun, IsAnswerToRunAll};
 ghost use Rattle.tp_session.specs.Protocol.{most_line};
 ghost use Rattle.tp_session.specs.Fitness.{AreFit, HasMembers};
-ghost use Rattle.tp_session.specs.Services.{StaysOn, IsWant, IsListable, AnswersRequest, AnswersText};
+ghost use Rattle.tp_session.specs.Services.{StaysOn, IsResourceFault, IsListable, AnswersRequest, AnswersText};
 
 use crate::fault::ServeFault;
 use crate::running::run_session;
@@ -61,7 +61,7 @@ impl<D: LinkDevice + Send> Service<D> {
         ensures sessions { (s : Session) → slice_get self.old.sessions index ≡ Some s →
             OnOk result (self.new.sessions ≡ slice_set self.old.sessions index (without_packets s)) }
         ensures stays { OnOk result (StaysOn D.state self.old self.new) }
-        ensures want { IfErr result IsWant }
+        ensures want { IfErr result IsResourceFault }
     {
         let batch = self.batches;
         let session = self.sessions.at_mut(index);
@@ -84,7 +84,7 @@ impl<D: LinkDevice + Send> Service<D> {
         ensures sessions { OnOk result
             (self.new.sessions ≡ with_changed without_packets name.now.items self.old.sessions) }
         ensures stays { OnOk result (StaysOn D.state self.old self.new) }
-        ensures want { IfErr result IsWant }
+        ensures want { IfErr result IsResourceFault }
     {
         match self.sessions.find(name) {
             Some(index) => Ok(Answer::Ran(self.run_at(rt, alloc, index)?)),
@@ -103,7 +103,7 @@ impl<D: LinkDevice + Send> Service<D> {
             IfOk result (IsAnswerToRunAll IsOutcome self.old.sessions) }
         ensures sessions { OnOk result (self.new.sessions ≡ map without_packets self.old.sessions) }
         ensures stays { OnOk result (StaysOn D.state self.old self.new) }
-        ensures want { IfErr result IsWant }
+        ensures want { IfErr result IsResourceFault }
     {
         let mut all = AllOutcomes::new(alloc);
         for index in 0..self.sessions.len() {
@@ -128,7 +128,7 @@ impl<D: LinkDevice + Send> Service<D> {
         ensures answer { AreFit D.state self.old.links.items → IfOk result (λ answer.
             AnswersRequest (Some (asked request.entry)) self.old.sessions answer self.new.sessions) }
         ensures stays { OnOk result (StaysOn D.state self.old self.new) }
-        ensures want { IfErr result IsWant }
+        ensures want { IfErr result IsResourceFault }
     {
         match request {
             Request::List(code) => Ok(list(alloc, &code)?),
@@ -153,7 +153,7 @@ impl<D: LinkDevice + Send> Service<D> {
         ensures answer { AreFit D.state self.old.links.items → IfOk result (λ answer.
             AnswersText line.now self.old.sessions answer self.new.sessions) }
         ensures stays { OnOk result (StaysOn D.state self.old self.new) }
-        ensures want { IfErr result IsWant }
+        ensures want { IfErr result IsResourceFault }
     {
         match read_request(alloc, line)? {
             Some(request) => self.answer(rt, alloc, request),

@@ -18,8 +18,8 @@ use tp_image::Image;
 
 /// What is known of each workspace word, by its number: a contract sees the list of these.
 ///
-/// Two bits of each word say which cell it is, in planes, so that 64 words are joined or compared at once. Beside them
-/// stands a value for each word, which means something only where a word is known or a live control word.
+/// Two bits of each word say which cell it is, in planes: 64 words are joined or compared at once. Beside them
+/// is a value for each word, which means something only where a word is known or a live control word.
 #[derive(Drop)]
 pub struct Cells {
     pub(crate) values: Vec<u32>,
@@ -112,7 +112,7 @@ impl Cells {
         );
     }
 
-    /// It takes the value of cells that say as much or less: a value that means something there stands here already.
+    /// It takes the value of cells that say as much or less: a value that means something there is here already.
     pub(crate) fn raise_to(&mut self, others: &Cells)
         requires sized { length others.now ≡ length self.old }
         requires below { AreBelow self.old others.now }

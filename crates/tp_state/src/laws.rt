@@ -14,7 +14,7 @@ pub mod going;
 pub mod live;
 pub mod order;
 
-/// Control goes along edges. Where no rule of flow is broken at an instruction, and Iptr stands behind it, its effect
+/// Control goes along edges. Where no rule of flow is broken at an instruction, and Iptr is behind it, its effect
 /// leads to the target of one of its edges or stops; a lend's, where Areg is the distance back to the head of its loop.
 pub fn control_goes_along_edges()
     ensures { (image : ImageValue) (at next : ℕ) (instr : Instr) (s t : State) →

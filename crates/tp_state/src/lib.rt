@@ -1,6 +1,6 @@
 //! Abstract states: what the verifier knows of a worker before an instruction, and what comes after it.
 //!
-//! The definitions stand in `specs/`: what is known of registers and words, the rules of the instructions, and what fits.
+//! The definitions are in `specs/`: what is known of registers and words, the rules of the instructions, and what fits.
 //! The laws are the contracts of the functions of [`laws`].
 #![tactic(auto)]
 

@@ -13,7 +13,7 @@ use tp_decode::Instr;
 use tp_flow::{Edge, Nest};
 use tp_image::Image;
 
-/// What is known after the instruction that stands at an address, where the next one stands behind it, on an edge that it
+/// What is known after the instruction at an address, where the next one is behind it, on an edge that it
 /// has; stopp, which has none, is asked with Next and gives the state back. The refusal's place is the instruction's
 /// address. [`State::go_on`] is the same in place.
 pub fn after(

@@ -11,7 +11,7 @@ use crate::cell::Cell;
 use crate::values::differing;
 use arrayvec::ArrayVec;
 
-/// How many words a word of a plane tells of.
+/// How many words a word of a plane has.
 pub(crate) const WORDS: usize = 64;
 
 /// How many words a plane has at most: a workspace has no more than 512 words.
@@ -20,7 +20,7 @@ pub(crate) const PLANES: usize = 8;
 /// The two planes of a workspace.
 pub(crate) type Planes = ArrayVec<Bits, PLANES>;
 
-/// The first of the values that tell a loop's count, and not its index.
+/// The first of the values that mean a loop's count, and not its index.
 const COUNTS: u32 = 256;
 
 /// Two bits of each of 64 words: Known has 00, Any 10, Undef 11, and a live control word 01. So a join is an OR, and the
@@ -100,7 +100,7 @@ fn low(k: usize) -> u64
     if k == WORDS { u64::MAX } else { one(k) - 1 }
 }
 
-/// Of the words that word w of a plane tells of, those from x to an end.
+/// Of the words of word w of a plane, those from x to an end.
 fn within(w: usize, x: usize, end: usize) -> u64
     requires order { x ≤ end }
     requires place { w < 2 ^ 32 }
@@ -158,7 +158,7 @@ impl Bits {
         }
     }
 
-    /// What holds of both, where it is told which values differ.
+    /// What holds of both, given which values differ.
     fn joined(self, other: Bits, differ: u64) -> Bits
         ensures { result ≡ joined_bits differ self other }
     {
@@ -175,7 +175,7 @@ impl Bits {
         self.first | other.first
     }
 
-    /// The words of which it does not say as much as the other or more, where it is told which values differ.
+    /// The words of which it does not say as much as the other or more, given which values differ.
     fn failing(self, other: Bits, differ: u64) -> u64
         ensures { result ≡ failing_bits differ self other }
     {
@@ -258,7 +258,7 @@ fn close_planes(planes: &mut [Bits], words: usize)
     put_all(planes, words, end, Kept::of(Cell::Undef));
 }
 
-/// What holds of both, where it is told which values differ. It answers with a bit for each word that has changed.
+/// What holds of both, given which values differ. It answers with a bit for each word that has changed.
 fn join_bits(bits: &mut Bits, other: Bits, differ: u64) -> u64
     ensures value { bits.new ≡ joined_bits differ bits.old other }
     ensures stays { result ≡ 0 → bits.new ≡ bits.old }

@@ -300,7 +300,7 @@ pub(crate) fn join_kind(kind: &mut Kind, other: Kind) -> bool
     join_unlike(kind, other)
 }
 
-/// The same where they are not alike, which is rare: it is not inlined, so that the test before it is.
+/// The same where they are not alike, which is rare: it is not inlined, which lets the test before it be.
 #[inline(never)]
 fn join_unlike(kind: &mut Kind, other: Kind) -> bool
     ensures value { kind.new ≡ join_kinds kind.old other }

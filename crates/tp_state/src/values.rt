@@ -6,7 +6,7 @@ ghost use Rattle.tp_state.specs.Planes.{is_set, differ_at};
 use crate::planes::{WORDS, one};
 use std::simd::prelude::*;
 
-/// Which values differ, of those that word w of a plane tells of; of those whose bits are set in a mask nothing is told.
+/// Which values differ, of the words of word w of a plane; of those whose bits are set in a mask nothing is said.
 pub(crate) fn differing(values: &[u32], others: &[u32], w: usize, closed: u64) -> u64
     requires same { length others.now ≡ length values.now }
     requires some { 64 * w < length values.now }
@@ -36,7 +36,7 @@ fn differing_word(values: &[u32], others: &[u32]) -> u64
         .to_bitmask()
 }
 
-/// Which values differ, of fewer than 64. It is not inlined, so that the loops over whole words stay small.
+/// Which values differ, of fewer than 64. It is not inlined, which keeps the loops over whole words small.
 #[inline(never)]
 fn differing_few(values: &[u32], others: &[u32]) -> u64
     requires same { length others.now ≡ length values.now }

@@ -10,7 +10,7 @@
 use std::io;
 use std::io::{BufWriter, IsTerminal, Write};
 use std::process::ExitCode;
-use tp_workbench::{Terminal, run};
+use tpw_commands::{Terminal, run};
 
 fn main(rt: HostRuntime) -> ExitCode {
     let mut reader = rt.reader();

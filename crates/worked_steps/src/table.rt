@@ -10,7 +10,7 @@ ghost use Rattle.worked_steps.specs.Table.{Says};
 
 use crate::rows::Group;
 use crate::{arithmetic, bits, bytes, comparisons, control, locals, messages, moves, prefixes};
-pub use tp_samples::{
+pub use test_samples::{
     FIVE_UNLESS_ZERO, INCREMENT, JUMPS_INTO_SPELLING, MOVES_A_WORD, ONE_TURN, PICKS_A_WORD,
     READS_AFTER_JUMP, STORES_BY_TWO_WAYS, SUM_TO_TEN, TRACES_ITS_PACKET,
 };

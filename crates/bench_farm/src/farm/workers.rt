@@ -11,13 +11,13 @@ pub struct Worker {
 /// Adds one to its packet.
 pub const LIGHT: Worker = Worker {
     name: "light",
-    image: tp_samples::INCREMENT,
+    image: test_samples::INCREMENT,
     few: 1024,
 };
 
 /// Sums the indices of a loop of 10,000 turns.
 pub const HEAVY: Worker = Worker {
     name: "heavy",
-    image: tp_samples::SUM_TO_TEN_THOUSAND,
+    image: test_samples::SUM_TO_TEN_THOUSAND,
     few: 8,
 };

@@ -4,9 +4,8 @@ use anyhow::{Result, anyhow};
 use std::alloc::Global;
 use tp_accept::Accepted;
 use tp_image::Image;
-use tp_link::{Link, LinkDevice, Links, Wire};
+use tp_link::{Link, LinkDevice, Links, Media, Wire};
 use tp_machine::Outcome;
-use tp_media::Media;
 
 /// The bytes of the longest packet and the longest result.
 const MESSAGE_BYTES: usize = 64;
@@ -42,7 +41,7 @@ impl Runs for Plain<'_> {
 
 #[derive(Drop)]
 pub(crate) struct Tested<'a> {
-    pub(crate) machine: tp_tested::Machine,
+    pub(crate) machine: tpw_machine::Machine,
     pub(crate) image: &'a Image,
 }
 

@@ -15,7 +15,7 @@ pub(crate) const WORKERS: [Worker; 4] = [SUM, NEST, CHECKSUM, MOVES];
 /// Sums the indices of 10,000 turns: ldl 1; ldl 2; add; stl 1; ldlp 2; ldc 8; lend.
 const SUM: Worker = Worker {
     name: "10,000 turns",
-    image: tp_samples::SUM_TO_TEN_THOUSAND,
+    image: test_samples::SUM_TO_TEN_THOUSAND,
     rounds: 400,
     turns: Some((1, 10_000)),
 };
@@ -36,7 +36,7 @@ const NEST: Worker = Worker {
 /// The checksum CRC-32 of 16 words, bit by bit: 20 different instructions, prefixes, a cj in the inner of two loops.
 const CHECKSUM: Worker = Worker {
     name: "checksum",
-    image: tp_samples::CHECKSUM,
+    image: test_samples::CHECKSUM,
     rounds: 1_500,
     turns: None,
 };

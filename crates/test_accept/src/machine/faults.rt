@@ -4,11 +4,10 @@ use super::media::{accepted, all_bits_set, run_packet};
 use crate::asserts::{assert_same, unwrap};
 use std::alloc::Global;
 use std::process::Abort;
+use test_samples::{INCREMENT, TRACES_65_TIMES};
 use tp_accept::Accepted;
-use tp_link::{DeviceFault, FaultyWire, Link, LinkDevice, LinkFault, Links};
+use tp_link::{DeviceFault, FaultyWire, Link, LinkDevice, LinkFault, Links, Media};
 use tp_machine::{Machine, Outcome};
-use tp_media::Media;
-use tp_samples::{INCREMENT, TRACES_65_TIMES};
 
 /// A refusal by a device.
 fn refused(link: Link, code: DeviceFault) -> Result<Outcome, LinkFault> {

@@ -4,9 +4,8 @@ use crate::asserts::unwrap;
 use std::alloc::Global;
 use std::process::Abort;
 use tp_accept::{Accepted, accept};
-use tp_link::{LinkDevice, LinkFault};
+use tp_link::{LinkDevice, LinkFault, Media};
 use tp_machine::{Machine, Outcome};
-use tp_media::Media;
 
 /// The room of each medium in bytes.
 const ROOM: usize = 256;

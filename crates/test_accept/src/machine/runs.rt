@@ -3,8 +3,8 @@
 use super::media::{accepted, all_bits_set, run_packet};
 use std::alloc::Global;
 use std::process::Abort;
+use test_samples::*;
 use tp_machine::{Machine, Outcome};
-use tp_samples::*;
 
 /// An image, a packet of it, and what its run gives: the error flag, the steps, the result and the trace.
 pub(crate) type Case = (&'static [u8], [u8; 4], (bool, u32), [u8; 4], &'static [u8]);

@@ -9,7 +9,7 @@ use std::sync::Wait;
 use std::sync::atomic::{AtomicBool, Ordering};
 use std::thread::{Threads, join};
 use std::{fs, io};
-use tp_samples::TEN_TIMES_TEN_THOUSAND;
+use test_samples::TEN_TIMES_TEN_THOUSAND;
 
 /// How many threads this process has.
 fn threads_now<R: Files + AllocGlobal>(rt: &R) -> io::Result<usize> {

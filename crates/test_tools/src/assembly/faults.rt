@@ -4,9 +4,9 @@ use crate::assembly::programs::{back, cj, plain, program, row, spelled};
 use crate::asserts::{assert_same, unwrap};
 use std::alloc::Global;
 use std::process::Abort;
-use tp_assembly::{AssemblyFault, Line, LineFault, Loop, Operation, Spot, assemble};
 use tp_decode::Instr;
 use tp_image::{ImageCode, Version};
+use tpw_asm::{AssemblyFault, Line, LineFault, Loop, Operation, Spot, assemble};
 
 /// A program of these loops and lines has this fault.
 fn refused(rt: &impl Abort, alloc: Global, loops: &[Loop], lines: &[Line], fault: AssemblyFault) {

@@ -4,8 +4,8 @@ use crate::assembly::programs::{back, cj, plain, program, spelled};
 use crate::asserts::unwrap;
 use std::alloc::Global;
 use std::process::Abort;
-use tp_assembly::{Line, Operation, assemble};
 use tp_decode::Instr;
+use tpw_asm::{Line, Operation, assemble};
 
 /// The code of lines.
 fn code_is(rt: &impl Abort, alloc: Global, lines: &[Line], code: &[u8]) {

@@ -3,9 +3,9 @@
 use crate::asserts::unwrap;
 use std::alloc::Global;
 use std::process::Abort;
-use tp_assembly::{Line, Loop, Operation, Program, Spot};
 use tp_decode::Instr;
 use tp_image::Version;
+use tpw_asm::{Line, Loop, Operation, Program, Spot};
 
 /// An instruction as it is, in its canonical spelling.
 pub fn plain(instr: Instr) -> Line {

@@ -2,8 +2,8 @@
 
 use crate::asserts::{assert_same, unwrap};
 use crate::steps::told::{WHOLE, told};
-use tp_samples::{CHECKSUM, FIBONACCI, SORT};
-use tp_stepper::{End, Place, Span};
+use test_samples::{CHECKSUM, FIBONACCI, SORT};
+use tpw_step::{End, Place, Span};
 
 /// The first five instructions of the checksum: local 0 is word 5, at 0x8000005C, and link 0 receives at 0x80000010. The packet
 /// is received into the words 5 to 20, and the five words below Wptr are undefined then.
@@ -59,7 +59,7 @@ count 15860
     assert_same(&rt, &text.as_slice(), &wanted.as_bytes());
 }
 
-/// Three numbers are traced, 0, 1 and 1, and 2 is the result. Before the loop stand 15 bytes and behind it 7; three turns have
+/// Three numbers are traced, 0, 1 and 1, and 2 is the result. Before the loop are 15 bytes and behind it 7; three turns have
 /// 22 bytes and 44 have 9.
 #[test]
 fn the_trace(rt: HostRuntime) {

@@ -5,7 +5,7 @@ use crate::asserts::unwrap;
 use crate::steps::told::{WHOLE, told};
 use std::alloc::Global;
 use std::process::Abort;
-use tp_stepper::{End, Reason};
+use tpw_step::{End, Reason};
 
 /// The bytes of an image with this code.
 fn image(rt: &impl Abort, alloc: Global, magic: &[u8], code: &[u8]) -> Vec<u8> {

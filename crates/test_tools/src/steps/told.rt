@@ -1,10 +1,10 @@
-//! What is told of a run.
+//! What is printed of a run.
 
 use crate::asserts::unwrap;
 use std::alloc::Global;
 use std::process::Abort;
 use tp_image::read_image;
-use tp_stepper::{End, Span, tell};
+use tpw_step::{End, Span, tell};
 
 /// The whole of a run.
 pub(crate) const WHOLE: Span = Span {
@@ -12,7 +12,7 @@ pub(crate) const WHOLE: Span = Span {
     until: None,
 };
 
-/// How a run of an image's bytes is left, and the text that tells it.
+/// How a run of an image's bytes is left, and its text.
 pub(crate) fn told(
     rt: &impl Abort,
     alloc: Global,

@@ -3,7 +3,7 @@
 use crate::asserts::{assert_same, unwrap};
 use std::alloc::Global;
 use std::process::Abort;
-use tp_assembly_text::{SourceFault, TextFault, read_source};
+use tpw_text::{SourceFault, TextFault, read_source};
 
 /// Texts, and the line, the column and the kind of their faults.
 const CASES: [(&str, usize, usize, TextFault); 48] = [

@@ -1,7 +1,7 @@
-//! Where the words stand that ask for a text's lines, and the statements of its lines.
+//! The places of the words that ask for a text's lines, and the statements of its lines.
 
 use crate::asserts::{assert_same, unwrap};
-use tp_assembly_text::{Local, Position, read_source, statement_of};
+use tpw_text::{Local, Position, read_source, statement_of};
 
 const TEXT: &str = "\
 local   n[2], m
@@ -12,7 +12,7 @@ end i
 \tldl n + 1
 ";
 
-/// Each line stands where the word stands that asks for it: the lines of a `for` and of an `end` at that word, a byte at its number.
+/// Each line has the place of the word that asks for it: the lines of a `for` and of an `end` at that word, a byte at its number.
 #[test]
 fn positions(rt: HostRuntime) {
     let wanted = [

@@ -19,7 +19,7 @@ pub fn a_refusal_means_no_table()
         KeepsNest image.loops image.workspace cuts → IsVerdict image cuts (Err fault) → HasNoTable image cuts }
 {}
 
-/// The table that the passes come to is below every table that each edge respects.
+/// The table of the passes is below every table that each edge respects.
 pub fn the_verdict_is_the_least_table()
     ensures { (image : ImageValue) (cuts : List Cut) (table other : Table) → InRange image →
         AllByRecursion IsSpelled cuts → KeepsNest image.loops image.workspace cuts →
@@ -27,14 +27,14 @@ pub fn the_verdict_is_the_least_table()
         (at : ℕ) (s : State) → table at ≡ Some s → HasAbove other at s }
 {}
 
-/// Every edge respects the table that the passes come to.
+/// Every edge respects the table of the passes.
 pub fn every_edge_respects_the_verdict()
     ensures { (image : ImageValue) (cuts : List Cut) (table : Table) → InRange image → AllByRecursion IsSpelled cuts →
         KeepsNest image.loops image.workspace cuts → IsVerdict image cuts (Ok table) →
         EveryEdgeRespects image cuts table }
 {}
 
-/// What the passes come to know is sound, and the same words are live in all states of one address: so it is with the states of
+/// What the passes find is sound, and the same words are live in all states of one address: so it is with the states of
 /// their tables, after any number of passes.
 pub fn states_of_the_passes_are_sound()
     ensures { (image : ImageValue) (cuts : List Cut) (n : ℕ) (table : Table) → InRange image →

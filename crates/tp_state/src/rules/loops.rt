@@ -30,7 +30,7 @@ fn row_of(image: &Image, number: usize) -> Option<LoopRow>
     image.loops.get(number).copied()
 }
 
-/// The loop whose lend stands at an address.
+/// The loop whose lend is at an address.
 #[tactic(auto, unfolding(crate::specs::Rules::row_ended_at))]
 fn row_ended_at(image: &Image, nest: &Nest, at: usize) -> Option<LoopRow>
     requires good { HasGoodLoops image.now }

@@ -1,7 +1,0 @@
-use Rattle.std.proofs.Common.{◌≡◌, length, drop}
-use Rattle.tp_assembly.specs.Faults.{first_fault}
-use Rattle.tp_assembly.proofs.placing.check_lines.Given as goal
-
--- the first fault is that of the lines that are left
-abbrev pub invariant-loop-number : goal.invariant-loop-number
-invariant-loop-number l = first_fault (length l.lines) l.number (drop l.number l.lines) ≡ first_fault (length l.lines) 0 l.lines

@@ -1,7 +1,0 @@
-use Rattle.std.proofs.Common.{◌≡◌, drop}
-use Rattle.tp_assembly.specs.Faults.{first_row}
-use Rattle.tp_assembly.proofs.placing.check_rows.Given as goal
-
--- the first such loop is that of the loops that are left
-abbrev pub invariant-loop-number : goal.invariant-loop-number
-invariant-loop-number l = first_row l.count l.number (drop l.number l.loops) ≡ first_row l.count 0 l.loops

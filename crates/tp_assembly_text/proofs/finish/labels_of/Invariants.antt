@@ -1,7 +1,0 @@
-use Rattle.std.proofs.Common.{◌≡◌, map, take}
-use Rattle.tp_assembly_text.specs.Programs.{label_of, labels_told}
-use Rattle.tp_assembly_text.proofs.finish.labels_of.Given as goal
-
--- the labels so far
-abbrev pub invariant-loop-name : goal.invariant-loop-name
-invariant-loop-name l = map label_of l.labels.items ≡ labels_told (take l.name-index l.names)

@@ -1,8 +1,0 @@
-use Rattle.std.proofs.Common.{◌≡◌, take, Ok}
-use Rattle.tp_assembly_text.specs.Programs.{loop_placed}
-use Rattle.tp_assembly_text.specs.Faults.{each_read}
-use Rattle.tp_assembly_text.proofs.finish.loops_of.Given as goal
-
--- the rows so far
-abbrev pub invariant-loop-row : goal.invariant-loop-row
-invariant-loop-row l = each_read (loop_placed l.labels l.start) (take l.row-index l.rows) ≡ Ok l.loops.items

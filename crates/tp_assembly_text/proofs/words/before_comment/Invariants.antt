@@ -1,7 +1,0 @@
-use Rattle.std.proofs.Common.{◌≡◌, ◌++◌, take, drop}
-use Rattle.tp_assembly_text.specs.Words.{before_comment}
-use Rattle.tp_assembly_text.proofs.words.before_comment.Given as goal
-
--- no comment begins before the place
-abbrev pub invariant-loop-at : goal.invariant-loop-at
-invariant-loop-at l = before_comment l.text ≡ take l.at l.text ++ before_comment (drop l.at l.text)

@@ -1,8 +1,0 @@
-use Rattle.std.proofs.Common.{take}
-use Rattle.std.specs.List.{list_any}
-use Rattle.tp_assembly_text.specs.Written.{IsMarked, names_from_line}
-use Rattle.tp_assembly_text.proofs.writing.mark_lines.Given as goal
-
--- what those so far name is marked
-abbrev pub invariant-loop-line : goal.invariant-loop-line
-invariant-loop-line l = IsMarked (λ k. list_any (names_from_line k) (take l.line-index l.lines)) l.fn.marks l.marks

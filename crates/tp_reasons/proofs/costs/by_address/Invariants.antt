@@ -1,5 +1,0 @@
-use Rattle.tp_reasons.specs.CostsTold.{AreByAddress}
-use Rattle.tp_reasons.proofs.costs.by_address.Given as goal
-
-abbrev pub invariant-loop-at : goal.invariant-loop-at
-invariant-loop-at l = AreByAddress l.image.loops l.listing l.at l.all.items

@@ -1,9 +1,0 @@
-use Rattle.std.proofs.Common.{◌≡◌, map, take}
-use Rattle.tp_reasons.specs.CostsTold.{loop_cost}
-use Rattle.tp_reasons.proofs.costs.by_loop.Given as goal
-
-abbrev pub invariant-loop-row : goal.invariant-loop-row
-invariant-loop-row l = record {
-  rows : l.row-items ≡ l.image.loops;
-  all : l.all.items ≡ map (loop_cost l.image.loops l.listing) (take l.row-index l.image.loops);
-}

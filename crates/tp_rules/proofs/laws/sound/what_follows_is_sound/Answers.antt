@@ -1,5 +1,0 @@
-use Rattle.tp_rules.proofs.Rules.{after_sound}
-use Rattle.tp_rules.proofs.laws.sound.what_follows_is_sound.Goals as goal
-
-pub returns : goal.returns
-returns c = after_sound

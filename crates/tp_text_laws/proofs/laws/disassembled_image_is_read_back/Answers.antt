@@ -1,5 +1,0 @@
-use Rattle.tp_text_laws.proofs.Disassembled.{told_back}
-use Rattle.tp_text_laws.proofs.laws.disassembled_image_is_read_back.Goals as goal
-
-pub returns : goal.returns
-returns c = told_back

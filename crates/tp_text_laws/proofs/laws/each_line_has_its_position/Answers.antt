@@ -1,5 +1,0 @@
-use Rattle.tp_text_laws.proofs.Positions.{has_positions}
-use Rattle.tp_text_laws.proofs.laws.each_line_has_its_position.Goals as goal
-
-pub returns : goal.returns
-returns c = has_positions

@@ -1,7 +1,0 @@
-use Rattle.std.proofs.Common.{refl}
-use Rattle.tp_assembly_text.specs.Names.{operation_named}
-use Rattle.tp_text_laws.proofs.laws.operation_is_read_by_its_name.Goals as goal
-
-pub returns : goal.returns
-unfolding operation_named
-returns c = (refl, (refl, (refl, (refl, (refl, (refl, (refl, (refl, (refl, (refl, (refl, (refl, (refl, (refl, (refl, (refl, (refl, (refl, (refl, (refl, (refl, (refl, (refl, (refl, (refl, (refl, (refl, (refl, tt))))))))))))))))))))))))))))

@@ -1,5 +1,0 @@
-use Rattle.tp_text_laws.proofs.Images.{image_may}
-use Rattle.tp_text_laws.proofs.laws.program_with_an_image_may_be_written.Goals as goal
-
-pub returns : goal.returns
-returns c = image_may

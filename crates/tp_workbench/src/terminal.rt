@@ -1,9 +1,0 @@
-//! Standard error.
-
-/// Where faults are told, and whether somebody waits there.
-#[derive(Drop)]
-pub struct Terminal<'e, E> {
-    pub errors: &'e mut E,
-    /// Whether it is a terminal, where progress is shown.
-    pub is_terminal: bool,
-}

@@ -1,0 +1,40 @@
+-- A code as lines.
+use Rattle.std.specs.Prelude.{◌≡◌, ◌⊎◌, ℕ, ◌-◌, ◌==◌, Bool, ◌&&◌, if◌then◌else◌, List, [], ◌∷◌, ◌++◌, length, map, take, drop, Option, Some, None}
+use Rattle.std.specs.List.{list_all, flat_map, AllByRecursion}
+use Rattle.std.specs.Str.{bytes_eq}
+use Rattle.tp_decode.specs.declared.instr.Instr.{Instr}
+use Rattle.tp_decode.specs.declared.fault.DecodeFault.{DecodeFault}
+use Rattle.tp_decode.specs.Lines.{shortest}
+use Rattle.tp_decode.specs.Cutting.{Cut, IsSpelled, code_of as code_of_cuts}
+use Rattle.tp_decode.specs.Front.{Stops}
+use Rattle.tpw_asm.specs.declared.program.Operation.TheVariants.{Plain}
+use Rattle.tpw_asm.specs.declared.program.Line.{Line}
+use Rattle.tpw_asm.specs.declared.program.Line.TheVariants.{Byte, Spelled}
+
+-- a spelling that is the shortest, or that behind pfix 0
+abbrev pub is_filled : List ℕ → List ℕ → Bool
+is_filled spelling least =
+    list_all (λ byte. byte == 0x20) (take (length spelling - length least) spelling)
+    && bytes_eq (drop (length spelling - length least) spelling) least
+
+-- no length is stated of the shortest spelling
+abbrev pub stated : List ℕ → List ℕ → Option ℕ
+stated spelling least = if length spelling == length least then None else Some (length spelling)
+
+-- the lines of an instruction that is spelled so: one, or its bytes where another spelling could not be had from it
+abbrev pub told : List ℕ → Instr → List Line
+told spelling instr =
+    if is_filled spelling (shortest instr) then Spelled (Plain instr) (stated spelling (shortest instr)) ∷ []
+    else map Byte spelling
+
+abbrev pub told_cut : Cut → List Line
+told_cut cut = told cut.bytes cut.instr
+
+-- the lines of a code: those of the instructions that it is cut into, as far as it can be, and bytes behind them
+pub record IsTold (code : List ℕ) (lines : List Line) : Type 0 where
+  pub cuts : List Cut
+  pub rest : List ℕ
+  pub joined : code ≡ code_of_cuts cuts ++ rest
+  pub each : AllByRecursion IsSpelled cuts
+  pub ends : (rest ≡ []) ⊎ ((e : DecodeFault) × Stops rest (length (code_of_cuts cuts)) e)
+  pub are : lines ≡ flat_map told_cut cuts ++ map Byte rest

@@ -1,0 +1,64 @@
+//! Assembling.
+
+ghost use Rattle.std.specs.Prelude.{◌≡◌, IfOk, IfErr, MatchResult};
+ghost use Rattle.tp_image.specs.Image.{ImageValue};
+ghost use Rattle.tpw_asm.specs.Layout.{addresses_from};
+ghost use Rattle.tpw_asm.specs.Assembly.{AreItsAddresses, HasLengths, IsAssembly, IsRefused};
+
+use crate::fault::AssemblyFault;
+use crate::fields::{field_fault, image_of, most_of};
+use crate::layout::{Layout, code_of, least_layout};
+use crate::placing::{check_lengths, check_lines, check_rows};
+use crate::program::Program;
+use crate::rows::rows_of;
+use std::alloc::Global;
+use tp_image::Image;
+
+/// The least layout of a program whose lines and loops are sound, and whose lines are as long as they state.
+fn layout_of(alloc: Global, program: &Program) -> Result<Layout, AssemblyFault>
+    ensures lengths { IfOk result (λ layout. HasLengths program.now layout.lengths.items) }
+    ensures addresses { IfOk result (λ layout. layout.addresses.items ≡ addresses_from 0 layout.lengths.items) }
+    ensures refused { IfErr result (λ fault. IsRefused program.now fault) }
+{
+    check_lines(&program.lines)?;
+    check_rows(program.lines.len(), &program.loops)?;
+    let (most, _) = most_of(program.version);
+    let layout = least_layout(alloc, &program.lines, most as usize)?;
+    check_lengths(&program.lines, &layout.lengths)?;
+    Ok(layout)
+}
+
+/// The address of each place of a program, in its least layout: one more than there are lines. Or else why it has no such layout.
+pub fn addresses(alloc: Global, program: &Program) -> Result<Vec<u32>, AssemblyFault>
+    ensures addresses { IfOk result (λ found. AreItsAddresses program.now found.items) }
+    ensures refused { IfErr result (λ fault. IsRefused program.now fault) }
+{
+    Ok(layout_of(alloc, program)?.addresses)
+}
+
+/// The image of a program.
+fn assembly_of(alloc: Global, program: &Program) -> Result<Image, AssemblyFault>
+    ensures image { IfOk result (λ image. IsAssembly program.now image) }
+    ensures refused { IfErr result (λ fault. IsRefused program.now fault) }
+{
+    let layout = layout_of(alloc, program)?;
+    let code = code_of(alloc, &layout.addresses, &program.lines)?;
+    if let Some(refusal) = field_fault(program, code.len() as u32) {
+        return Err(AssemblyFault::Field(refusal));
+    }
+    let loops = rows_of(alloc, &layout.addresses, &program.loops)?;
+    Ok(image_of(alloc, program, loops, code)?)
+}
+
+/// The image of a program: its instructions are, one by one, those that the lines say, each jump to a label by the distance to the
+/// address of the label, each in its canonical spelling where no other length is stated; its rows are those of the loops.
+/// Of the layouts for which that holds it is the least. Or else the first fault.
+pub fn assemble(alloc: Global, program: &Program) -> Result<Image, AssemblyFault>
+    ensures image { IfOk result (λ image. IsAssembly program.now image) }
+    ensures refused { IfErr result (λ fault. IsRefused program.now fault) }
+    // A program has no other image, and none that is refused.
+    ensures only { (image : ImageValue) → IsAssembly program.now image
+        → MatchResult result (λ found. found ≡ image) (λ fault. fault ≡ AssemblyFault.Memory) }
+{
+    assembly_of(alloc, program)
+}

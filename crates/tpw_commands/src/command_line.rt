@@ -1,0 +1,423 @@
+//! What a command line asks for.
+
+use crate::asking::Asking;
+use crate::ending::Ending;
+use crate::input::Input;
+use crate::refusing::Telling;
+use crate::running::Running;
+use crate::stepping::{FROM, Stepping, UNTIL};
+use clap::{Arg, ArgAction, ArgMatches, Command, Error, value_parser};
+use hex::FromHexError;
+use std::alloc::Global;
+use std::convert::AsStr;
+use tpw_run_text::Style;
+
+/// What `--version` says behind the name: the version, the commit where a package is built, and the kit that the proofs are made with.
+const VERSION: &str = "0.1 (unreleased, rattle-kit-13f)";
+
+/// The name of the command that prints a run.
+const STEP: &str = "step";
+
+/// The name of the command that explains a refusal.
+const WHY: &str = "why";
+
+/// The name of the command that counts where steps go.
+const PROFILE: &str = "profile";
+
+/// The name of the command that lists a code with its costs.
+const LIST: &str = "list";
+
+/// The names of those that make an image of a text, and a text of an image.
+const ASM: &str = "asm";
+
+const DIS: &str = "dis";
+
+/// The name of an option of `asm`.
+const LINE: &str = "line";
+
+/// What `tpw asm --help` says below the options.
+const ASM_LINES: &str = "\
+Reads a text, and writes its image as hexadecimal on one line.
+Status 1: the text says no worker; where and why is told, as FILE:LINE:COLUMN.
+docs/WORKERS.md shows a text.";
+
+/// What `tpw dis --help` says below the options.
+const DIS_LINES: &str = "\
+Reads an image as hexadecimal, and writes a text that asm reads as the same image.
+Status 1: it is no image.";
+
+/// The name of the command that runs packets, and of its options.
+const RUN: &str = "run";
+
+const WORDS: &str = "words";
+
+const PACKETS: &str = "packets";
+
+const EXPECT: &str = "expect";
+
+const MEMBERS: &str = "members";
+
+const TRACE: &str = "trace";
+
+const HEX: &str = "hex";
+
+const RAW: &str = "raw";
+
+/// How many members run packets where nothing is said.
+const DEFAULT_MEMBERS: usize = 4;
+
+/// What `tpw run --help` says below the options.
+const RUN_LINES: &str = "\
+Reads a worker as assembly text, or an image as hexadecimal. Packets and results are a line each: their words as numbers,
+or one field of hexadecimal, two digits for each byte, as they are sent. For each packet it writes its number, the error
+flag, the steps of the budget, and its words; or that it was lost, and why. The last line counts them.
+Status 0: each packet has a result, the one expected. Status 1: not so, or the worker is refused, as `why` tells it.";
+
+/// The name of the argument of each command that is read in place of standard input.
+const FILE: &str = "file";
+
+/// The name of an option of `step`.
+const PACKET: &str = "packet";
+
+/// What `tpw step --help` says below the options.
+const STEP_LINES: &str = "\
+Reads an image as hexadecimal, one line, or a worker as assembly text.
+A PLACE is an address, as 36 or 0x24, or a count of steps, as +100; in a text also a label, or a line, as line:37.
+Status 0: the worker stopped, or was left at --until. Status 1: it is stuck, or does not end, or what is read is no image.
+docs/WORKERS.md reads a run.";
+
+/// What `tpw why --help` says below the options.
+const WHY_LINES: &str = "\
+Reads an image as hexadecimal, one line, or a worker as assembly text.
+Status 0: the image is accepted. Status 1: it is refused, or what is read says none.
+docs/VERIFIER.md lists every refusal.";
+
+/// What `tpw list --help` says below the options.
+const LIST_LINES: &str = "\
+Reads an image as hexadecimal, one line, or a worker as assembly text. It writes the verdict; the bound on the instruction
+bytes of a run, and the bytes of a turn of each loop; and each instruction: its address, its bytes, the most bytes that are
+executed from there to the end of the loop around it, or of the run, and the line of the text that says it.
+Status 0: the image is accepted. Status 1: it is refused, or what is read says none.";
+
+/// What `tpw profile --help` says below the options.
+const PROFILE_LINES: &str = "\
+Reads a worker as assembly text, or an image as hexadecimal, accepted by the verifier or not, and runs packets on it. It
+writes how many steps they made, each an instruction byte; the share of each line of the text, or of each instruction of an
+image, the most first; and the share of each loop.
+Status 0: each worker stopped. Status 1: not so, or what is read says no worker.";
+
+/// What a command line asks for: a task, and where its text is read.
+#[derive(Drop)]
+pub struct Asked {
+    pub task: Task,
+    pub input: Input,
+}
+
+/// What is to be done with a text.
+#[derive(Drop)]
+pub enum Task {
+    Run(Running),
+    Profile(Asking),
+    Step(Stepping),
+    /// The verdict on an image.
+    Judge(Telling),
+    /// An image of a text, behind a name where one is given.
+    Assemble(Option<String>),
+    Disassemble,
+}
+
+/// What a command reads in place of standard input.
+fn file_argument<'a>(alloc: Global) -> Arg<'a> {
+    Arg::new(alloc, FILE)
+        .value_name("FILE")
+        .action(ArgAction::Set)
+        .help("Read in place of standard input")
+}
+
+/// An option that takes a place.
+fn place_argument<'a>(alloc: Global, name: &'static str, help: &'static str) -> Arg<'a> {
+    Arg::new(alloc, name)
+        .long(name)
+        .value_name("PLACE")
+        .action(ArgAction::Set)
+        .help(help)
+}
+
+/// `step`, as the command line has it.
+fn step_command<'a>(alloc: Global) -> Result<Command<'a>, Error> {
+    let packet = Arg::new(alloc, PACKET)
+        .long(PACKET)
+        .value_name("HEX")
+        .action(ArgAction::Set)
+        .help("The packet, as hexadecimal; an empty one where none is given");
+    let command = Command::new(alloc, STEP)
+        .about("Runs an image an instruction at a time, accepted by the verifier or not")
+        .after_help(STEP_LINES)
+        .arg(file_argument(alloc))?
+        .arg(packet)?
+        .arg(place_argument(alloc, FROM, "The first instruction that is told"))?
+        .arg(place_argument(alloc, UNTIL, "Where the run is left"))?;
+    Ok(command)
+}
+
+/// An option that takes a text.
+fn text_argument<'a>(
+    alloc: Global,
+    name: &'static str,
+    value: &'static str,
+    help: &'static str,
+) -> Arg<'a> {
+    Arg::new(alloc, name)
+        .long(name)
+        .value_name(value)
+        .action(ArgAction::Set)
+        .help(help)
+}
+
+/// An option that is given or not.
+fn flag_argument<'a>(alloc: Global, name: &'static str, help: &'static str) -> Arg<'a> {
+    Arg::new(alloc, name)
+        .long(name)
+        .action(ArgAction::SetTrue)
+        .value_parser(value_parser!(bool))
+        .help(help)
+}
+
+/// The option that says a packet.
+fn words_argument<'a>(alloc: Global) -> Arg<'a> {
+    Arg::new(alloc, WORDS)
+        .long(WORDS)
+        .value_name("WORDS")
+        .action(ArgAction::Append)
+        .allow_hyphen_values(true)
+        .help("A packet, as a line of FILE has it; may be given again")
+}
+
+/// `profile`, as the command line has it.
+fn profile_command<'a>(alloc: Global) -> Result<Command<'a>, Error> {
+    let command = Command::new(alloc, PROFILE)
+        .about("Runs packets on a worker, and writes where their steps go")
+        .after_help(PROFILE_LINES)
+        .arg(file_argument(alloc))?
+        .arg(words_argument(alloc))?
+        .arg(text_argument(alloc, PACKETS, "FILE", "Packets, one a line"))?;
+    Ok(command)
+}
+
+/// `run`, as the command line has it.
+fn run_command<'a>(alloc: Global) -> Result<Command<'a>, Error> {
+    let members = Arg::new(alloc, MEMBERS)
+        .long(MEMBERS)
+        .value_name("N")
+        .action(ArgAction::Set)
+        .value_parser(value_parser!(usize).range(1..=64))
+        .help("How many members run packets, 1 to 64; 4 where nothing is said");
+    let command = Command::new(alloc, RUN)
+        .about("Runs packets on a worker, and writes each result")
+        .after_help(RUN_LINES)
+        .arg(file_argument(alloc))?
+        .arg(words_argument(alloc))?
+        .arg(text_argument(alloc, PACKETS, "FILE", "Packets, one a line"))?
+        .arg(text_argument(
+            alloc,
+            EXPECT,
+            "FILE",
+            "Results that are expected, one a line: what differs alone is written",
+        ))?
+        .arg(members)?
+        .arg(flag_argument(alloc, TRACE, "Follow each result with its trace"))?
+        .arg(flag_argument(
+            alloc,
+            HEX,
+            "Write results in hexadecimal, as they are sent, else as signed numbers",
+        ))?
+        .arg(flag_argument(
+            alloc,
+            RAW,
+            "Write the bytes of results alone, one behind another",
+        ))?;
+    Ok(command)
+}
+
+/// `list`, as the command line has it.
+fn list_command<'a>(alloc: Global) -> Result<Command<'a>, Error> {
+    let command = Command::new(alloc, LIST)
+        .about("Lists a worker's instructions with what each costs")
+        .after_help(LIST_LINES)
+        .arg(file_argument(alloc))?;
+    Ok(command)
+}
+
+/// `why`, as the command line has it.
+fn why_command<'a>(alloc: Global) -> Result<Command<'a>, Error> {
+    let command = Command::new(alloc, WHY)
+        .about("Judges an image as the verifier does, and tells why it is refused")
+        .after_help(WHY_LINES)
+        .arg(file_argument(alloc))?;
+    Ok(command)
+}
+
+/// `asm`, as the command line has it.
+fn asm_command<'a>(alloc: Global) -> Result<Command<'a>, Error> {
+    let line = Arg::new(alloc, LINE)
+        .long(LINE)
+        .value_name("NAME")
+        .action(ArgAction::Set)
+        .help("Writes `NAME IMAGE` before the image, ready for farmd: 1 to 16 of a to z, 0 to 9");
+    let command = Command::new(alloc, ASM)
+        .about("Makes an image of a text")
+        .after_help(ASM_LINES)
+        .arg(file_argument(alloc))?
+        .arg(line)?;
+    Ok(command)
+}
+
+/// `dis`, as the command line has it.
+fn dis_command<'a>(alloc: Global) -> Result<Command<'a>, Error> {
+    let command = Command::new(alloc, DIS)
+        .about("Makes a text of an image")
+        .after_help(DIS_LINES)
+        .arg(file_argument(alloc))?;
+    Ok(command)
+}
+
+/// The command line that the program knows.
+fn command<'a>(alloc: Global) -> Result<Command<'a>, Error> {
+    let command = Command::new(alloc, "tpw")
+        .bin_name("tpw")?
+        .version(VERSION)
+        .about("Tools for those who write workers")
+        .subcommand_required(true)
+        .subcommand(asm_command(alloc)?)?
+        .subcommand(dis_command(alloc)?)?
+        .subcommand(list_command(alloc)?)?
+        .subcommand(profile_command(alloc)?)?
+        .subcommand(run_command(alloc)?)?
+        .subcommand(step_command(alloc)?)?
+        .subcommand(why_command(alloc)?)?;
+    Ok(command)
+}
+
+/// The packet of `step`.
+fn packet_of(alloc: Global, matches: &ArgMatches<'_>) -> Result<Vec<u8>, Ending> {
+    let Some(text) = matches.get_str(PACKET) else {
+        return Ok(Vec::new(alloc));
+    };
+    match hex::decode(alloc, text) {
+        Ok(bytes) => Ok(bytes),
+        Err(FromHexError::OutOfMemory) => Err(Ending::Memory),
+        Err(_) => Err(Ending::NoPacket),
+    }
+}
+
+/// What `step` is asked for.
+fn stepping(alloc: Global, matches: &ArgMatches<'_>) -> Result<Stepping, Ending> {
+    let packet = packet_of(alloc, matches)?;
+    Ok(Stepping {
+        packet,
+        from: text_given(alloc, matches, FROM)?,
+        until: text_given(alloc, matches, UNTIL)?,
+    })
+}
+
+/// The text that an option gives, if it is given.
+fn text_given(
+    alloc: Global,
+    matches: &ArgMatches<'_>,
+    name: &'static str,
+) -> Result<Option<String>, Ending> {
+    match matches.get_str(name) {
+        Some(text) => Ok(Some(String::from_str(alloc, text)?)),
+        None => Ok(None),
+    }
+}
+
+/// The texts that an option gives, each time that it is given.
+fn texts_given(
+    alloc: Global,
+    matches: &ArgMatches<'_>,
+    name: &'static str,
+) -> Result<Vec<String>, Ending> {
+    let mut texts = Vec::new(alloc);
+    if let Some(given) = matches.get_strs(name) {
+        for text in given {
+            texts.push(String::from_str(alloc, *text)?)?;
+        }
+    }
+    Ok(texts)
+}
+
+/// The packets that are asked for.
+fn asking(alloc: Global, matches: &ArgMatches<'_>) -> Result<Asking, Ending> {
+    let words = texts_given(alloc, matches, WORDS)?;
+    let file = text_given(alloc, matches, PACKETS)?;
+    if words.is_empty() && file.is_none() {
+        return Err(Ending::NoPackets);
+    }
+    Ok(Asking { words, file })
+}
+
+/// What `run` is asked for.
+fn running(alloc: Global, matches: &ArgMatches<'_>) -> Result<Running, Ending> {
+    Ok(Running {
+        asking: asking(alloc, matches)?,
+        expect: text_given(alloc, matches, EXPECT)?,
+        members: matches.get_one::<usize>(MEMBERS).unwrap_or(DEFAULT_MEMBERS),
+        style: Style {
+            hexadecimal: matches.get_flag(HEX),
+            trace: matches.get_flag(TRACE),
+        },
+        raw: matches.get_flag(RAW),
+    })
+}
+
+/// The longest name of a session.
+const NAME_BYTES: usize = 16;
+
+/// Whether farmd takes a name: 1 to 16 letters in lower case and digits.
+fn is_name(name: &str) -> bool {
+    let is_short = !name.is_empty() && name.len() <= NAME_BYTES;
+    is_short
+        && name
+            .bytes()
+            .all(|byte| byte.is_ascii_lowercase() || byte.is_ascii_digit())
+}
+
+/// What `asm` is asked for.
+fn assembling(alloc: Global, matches: &ArgMatches<'_>) -> Result<Task, Ending> {
+    match matches.get_str(LINE) {
+        Some(name) if !is_name(name) => Err(Ending::NoName),
+        Some(name) => Ok(Task::Assemble(Some(String::from_str(alloc, name)?))),
+        None => Ok(Task::Assemble(None)),
+    }
+}
+
+/// Where a command reads.
+fn input_of(alloc: Global, matches: &ArgMatches<'_>) -> Result<Input, Ending> {
+    match matches.get_str(FILE) {
+        Some(name) => Ok(Input::File(String::from_str(alloc, name)?)),
+        None => Ok(Input::Standard),
+    }
+}
+
+/// What words ask for, the first of which names the program.
+pub fn asked_by<S: AsStr>(alloc: Global, words: &[S]) -> Result<Asked, Ending> {
+    let matches = command(alloc)?.try_get_matches_from(words)?;
+    let Some((name, found)) = matches.subcommand() else {
+        return Err(Ending::NoCommand);
+    };
+    let task = match name {
+        PROFILE => Task::Profile(asking(alloc, found)?),
+        RUN => Task::Run(running(alloc, found)?),
+        STEP => Task::Step(stepping(alloc, found)?),
+        ASM => assembling(alloc, found)?,
+        DIS => Task::Disassemble,
+        LIST => Task::Judge(Telling::List),
+        WHY => Task::Judge(Telling::Why),
+        _ => return Err(Ending::NoCommand),
+    };
+    Ok(Asked {
+        task,
+        input: input_of(alloc, found)?,
+    })
+}

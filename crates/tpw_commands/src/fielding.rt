@@ -1,0 +1,83 @@
+//! Fields of an image that a text says out of range: by the statement that says them.
+
+use crate::assembly::assembled;
+use crate::ending::Ending;
+use crate::fault::InputFault;
+use std::alloc::Global;
+use tp_image::{ImageCode, Version};
+use tpw_asm::AssemblyFault;
+use tpw_text::{Position, Source, statement_of};
+
+/// The statement that says a field, and the range of the field in an image of a version.
+fn asked_of(code: ImageCode, version: Version) -> Option<(&'static str, &'static str)> {
+    match (code, version) {
+        (ImageCode::F4, Version::One) => Some((
+            "workspace",
+            "workspace: 8 to 256 words, those below the start word and the locals counted; version 2 has 512 words",
+        )),
+        (ImageCode::F4, Version::Two) => Some((
+            "workspace",
+            "workspace: 8 to 512 words, those below the start word and the locals counted",
+        )),
+        (ImageCode::F5, _) => Some(("start", "start: a word of the workspace, 5 or more")),
+        (ImageCode::F6, _) => Some(("packet", "packet: 1 to 64 words")),
+        (ImageCode::F7, _) => Some(("result", "result: 1 to 64 words")),
+        (ImageCode::F10, Version::One) => Some(("init", "init: version 2 alone has initial words")),
+        (ImageCode::F10, Version::Two) => Some((
+            "init",
+            "init: no more words than the workspace has",
+        )),
+        _ => None,
+    }
+}
+
+/// Where the last statement of a text that begins with a word stands.
+fn position_of(alloc: Global, text: &str, word: &str) -> Result<Option<Position>, Ending> {
+    let mut found = None;
+    for (i, line) in text.lines().enumerate() {
+        let statement = statement_of(alloc, line)?;
+        let first = match statement.split_once(|c: char| c.is_ascii_whitespace()) {
+            Some((first, _)) => first,
+            None => statement,
+        };
+        if first.eq_ignore_ascii_case(word) {
+            found = Some(Position {
+                line: i.saturating_add(1),
+                column: line.find(statement).unwrap_or(0).saturating_add(1),
+            });
+        }
+    }
+    Ok(found)
+}
+
+/// The same ending, of a field that is out of range at the statement that says it: a workspace that none says is as large as its locals
+/// need.
+fn at_statement(
+    alloc: Global,
+    text: &str,
+    version: Version,
+    ending: Ending,
+) -> Result<Ending, Ending> {
+    let Ending::Input(InputFault::Assembly(AssemblyFault::Field(code))) = ending else {
+        return Ok(ending);
+    };
+    let Some((word, range)) = asked_of(code, version) else {
+        return Ok(ending);
+    };
+    let position = match position_of(alloc, text, word)? {
+        None if code == ImageCode::F4 => position_of(alloc, text, "local")?,
+        position => position,
+    };
+    match position {
+        Some(position) => Ok(Ending::Input(InputFault::Field(position, range))),
+        None => Ok(ending),
+    }
+}
+
+/// The bytes of the image of a program that a text says. A field that is out of range is told at the statement that says it.
+pub fn assembled_text(alloc: Global, text: &str, source: &Source<'_>) -> Result<Vec<u8>, Ending> {
+    match assembled(alloc, source) {
+        Ok(bytes) => Ok(bytes),
+        Err(ending) => Err(at_statement(alloc, text, source.program.version, ending)?),
+    }
+}

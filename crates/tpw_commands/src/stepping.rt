@@ -1,0 +1,125 @@
+//! The command `step`: a run, an instruction at a time.
+
+use crate::ending::{Ending, Status};
+use crate::fielding::assembled_text;
+use crate::input::{TextFault, bytes_of, utf8};
+use crate::noting::Notes;
+use crate::place::place_of;
+use std::alloc::Global;
+use std::io::Write;
+use tp_image::{Image, read_image};
+use tpw_step::{Place, Span, tell};
+use tpw_text::read_source;
+use tpw_why::SourceText;
+
+/// The names of the options that take a place.
+pub const FROM: &str = "from";
+
+pub const UNTIL: &str = "until";
+
+/// What `step` is to tell: a packet's run, and the words that name the places from which and to which it is told.
+#[derive(Drop)]
+pub struct Stepping {
+    pub packet: Vec<u8>,
+    pub from: Option<String>,
+    pub until: Option<String>,
+}
+
+/// The address of the first instruction that a line of a text says, as `line:37` names it.
+fn place_of_line(source: SourceText<'_>, word: &str) -> Option<Place> {
+    let line = word.strip_prefix("line:")?.parse::<usize>().ok()?;
+    let statement = source
+        .statements
+        .iter()
+        .find(|statement| statement.line == line)?;
+    let address = u32::try_from(statement.at).ok()?;
+    Some(Place::Address(address))
+}
+
+/// The address of a label.
+fn place_of_label(source: SourceText<'_>, word: &str) -> Option<Place> {
+    let label = source.labels.iter().find(|label| label.name == word)?;
+    let address = u32::try_from(label.at).ok()?;
+    Some(Place::Address(address))
+}
+
+/// The place that the word of an option names: an address, a count of steps, a line or a label.
+fn place_named(
+    source: SourceText<'_>,
+    option: &'static str,
+    word: &Option<String>,
+) -> Result<Option<Place>, Ending> {
+    let Some(word) = word else {
+        return Ok(None);
+    };
+    let word = word.as_str();
+    let place = place_of(word)
+        .or(place_of_line(source, word))
+        .or(place_of_label(source, word));
+    match place {
+        Some(place) => Ok(Some(place)),
+        None => Err(Ending::NoPlace(option)),
+    }
+}
+
+/// Runs an image with the packet, and writes its lines.
+fn step_image<W: Write, E: Write>(
+    alloc: Global,
+    image: Image,
+    source: SourceText<'_>,
+    writer: &mut W,
+    errors: &mut E,
+    stepping: &Stepping,
+) -> Result<Status, Ending> {
+    let span = Span {
+        from: place_named(source, FROM, &stepping.from)?,
+        until: place_named(source, UNTIL, &stepping.until)?,
+    };
+    note_length(errors, stepping.packet.len(), &image);
+    let told = tell(alloc, image, &stepping.packet, span, writer);
+    let flushed = writer.flush();
+    let end = told?;
+    match flushed {
+        Ok(()) => Ok(Status::from(end)),
+        Err(_) => Err(Ending::Write),
+    }
+}
+
+/// The bytes of a word.
+const WORD_BYTES: usize = 4;
+
+/// Notes that a packet that is given is not as long as those of an image.
+fn note_length<E: Write>(errors: &mut E, bytes: usize, image: &Image) {
+    let wanted = WORD_BYTES.saturating_mul(image.packet as usize);
+    if bytes != 0 && bytes != wanted {
+        let _ = write!(
+            errors,
+            "tpw: note: the packet has {bytes} bytes, and those of the image {wanted}\n"
+        );
+    }
+}
+
+/// Runs the image that a text says, in hexadecimal or as assembly text, with the packet, and writes its lines.
+pub fn step<W: Write, E: Write>(
+    alloc: Global,
+    text: &[u8],
+    writer: &mut W,
+    errors: &mut E,
+    stepping: &Stepping,
+) -> Result<Status, Ending> {
+    match bytes_of(alloc, text) {
+        Ok(bytes) => {
+            let image = read_image(alloc, &bytes)?;
+            step_image(alloc, image, SourceText::NONE, writer, errors, stepping)
+        }
+        Err(TextFault::Memory) => Err(Ending::Memory),
+        Err(TextFault::NotADigit(_) | TextFault::HalfAByte(_)) => {
+            let text = utf8(text)?;
+            let source = read_source(alloc, text)?;
+            let bytes = assembled_text(alloc, text, &source)?;
+            let image = read_image(alloc, &bytes)?;
+            let notes = Notes::new(alloc, text, &source)?;
+            step_image(alloc, image, notes.source_text(), writer, errors, stepping)
+        }
+    }
+}

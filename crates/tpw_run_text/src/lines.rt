@@ -1,0 +1,249 @@
+//! What became of a packet, as a line.
+
+ghost use Rattle.std.specs.Prelude.{◌≡◌, ◌++◌, ◌+◌, ◌^◌, ◌≤◌, ◌<◌, OnOk, length};
+ghost use Rattle.std.specs.Option.{option_map};
+ghost use Rattle.hex.specs.Hex.{encode_lower};
+ghost use Rattle.tp_collect.specs.DoneValue.{most_message};
+ghost use Rattle.tpw_run_text.specs.Lines.{cause_text, words_text, message_text, head_text, trace_text, done_text, line_of, whole_line};
+ghost use Rattle.tpw_run_text.specs.Lines.{is_expected, expected_text, difference_text, raw_text, entry_text, entries_text, is_other};
+
+use crate::form::{Form, Style};
+use std::alloc::AllocError;
+use std::io::Write;
+use tp_board::Packet;
+use tp_collect::{Done, Entry, LostCause};
+use tp_link::{DeviceFault, Link, LinkFault};
+
+/// Why a packet was lost.
+fn cause_text(cause: LostCause) -> &'static str
+    ensures { result.now ≡ cause_text cause }
+{
+    match cause {
+        LostCause::Link(
+            LinkFault {
+                link: Link::Trace,
+                code: DeviceFault::Full,
+            },
+        ) => "its trace has more than 256 bytes",
+        LostCause::Link(_) => "a device has failed",
+        LostCause::Stopped => "the batch was stopped",
+    }
+}
+
+/// Writes bytes in hexadecimal.
+fn write_hexadecimal(out: &mut Vec<u8>, bytes: &[u8]) -> Result<(), AllocError>
+    requires { length bytes.now ≤ most_message }
+    ensures { OnOk result (out.new.items ≡ out.old.items ++ encode_lower bytes.now) }
+{
+    let start = out.len();
+    out.resize(start + 2 * bytes.len(), 0)?;
+    match hex::encode_to_slice(bytes, &mut out[start..]) {
+        Ok(()) => Ok(()),
+        Err(_) => unreachable!(),
+    }
+}
+
+/// Writes the words of a message as signed numbers, each behind a space.
+fn write_words(out: &mut Vec<u8>, bytes: &[u8]) -> Result<(), AllocError>
+    ensures { OnOk result (out.new.items ≡ out.old.items ++ words_text bytes.now) }
+{
+    let mut rest = bytes;
+    while let Some((word, behind)) = rest.split_first_chunk::<4>() {
+        let number = i32::from_le_bytes(*word);
+        write!(out, " {number}").or(Err(AllocError))?;
+        rest = behind;
+    }
+    Ok(())
+}
+
+/// Writes a message.
+fn write_message(out: &mut Vec<u8>, style: Style, bytes: &[u8]) -> Result<(), AllocError>
+    requires { length bytes.now ≤ most_message }
+    ensures { OnOk result (out.new.items ≡ out.old.items ++ message_text style bytes.now) }
+{
+    if style.hexadecimal {
+        out.push(b' ')?;
+        write_hexadecimal(out, bytes)
+    } else {
+        write_words(out, bytes)
+    }
+}
+
+/// Writes what a result's line has before its words.
+fn write_head(
+    out: &mut Vec<u8>,
+    budget: u32,
+    number: usize,
+    error: bool,
+    steps: u32,
+) -> Result<(), AllocError>
+    ensures { OnOk result (out.new.items ≡ out.old.items ++ head_text budget number error steps) }
+{
+    let flag = u8::from(error);
+    write!(out, "{number}  flag {flag}  {steps} of {budget} ").or(Err(AllocError))
+}
+
+/// Writes a trace, where it is asked for.
+fn write_trace(out: &mut Vec<u8>, style: Style, trace: &[u8]) -> Result<(), AllocError>
+    requires { length trace.now ≤ most_message }
+    ensures { OnOk result (out.new.items ≡ out.old.items ++ trace_text style trace.now) }
+{
+    if !style.trace {
+        return Ok(());
+    }
+    out.extend_from_slice(b"\n  trace")?;
+    write_message(out, style, trace)
+}
+
+/// Writes a result, and the trace where it is asked for.
+fn write_done(
+    out: &mut Vec<u8>,
+    style: Style,
+    budget: u32,
+    number: usize,
+    done: &Done,
+) -> Result<(), AllocError>
+    ensures { OnOk result (out.new.items ≡ out.old.items ++ done_text style budget number done.now) }
+{
+    write_head(out, budget, number, done.error, done.steps)?;
+    write_message(out, style, done.result.as_slice())?;
+    write_trace(out, style, done.trace.as_slice())
+}
+
+/// Writes what became of a packet.
+fn write_line(
+    out: &mut Vec<u8>,
+    style: Style,
+    budget: u32,
+    number: usize,
+    entry: &Entry,
+) -> Result<(), AllocError>
+    ensures { OnOk result (out.new.items ≡ out.old.items ++ line_of style budget number entry.now) }
+{
+    match entry {
+        Entry::Done(done) => write_done(out, style, budget, number, done),
+        Entry::Lost(cause) => {
+            let why = cause_text(*cause);
+            write!(out, "{number}  LOST  {why}").or(Err(AllocError))
+        }
+    }
+}
+
+/// Whether a packet has the result that is expected.
+fn is_expected(entry: &Entry, expected: Option<&Packet>) -> bool
+    ensures { result ≡ is_expected entry.now (option_map (λ p. p.now.items) expected.entry) }
+{
+    match (entry, expected) {
+        (Entry::Done(done), Some(wanted)) => done.result.as_slice() == wanted.as_slice(),
+        _ => false,
+    }
+}
+
+/// Writes the line of a packet, and a line feed.
+fn write_whole(
+    out: &mut Vec<u8>,
+    style: Style,
+    budget: u32,
+    number: usize,
+    entry: &Entry,
+) -> Result<(), AllocError>
+    ensures { OnOk result (out.new.items ≡ out.old.items ++ whole_line style budget number entry.now) }
+{
+    write_line(out, style, budget, number, entry)?;
+    out.push(b'\n')?;
+    Ok(())
+}
+
+/// Writes the result that was expected, on a line of its own.
+fn write_expected(
+    out: &mut Vec<u8>,
+    style: Style,
+    expected: Option<&Packet>,
+) -> Result<(), AllocError>
+    ensures { OnOk result (out.new.items ≡ out.old.items
+        ++ expected_text style (option_map (λ p. p.now.items) expected.entry)) }
+{
+    let Some(expected) = expected else {
+        return Ok(());
+    };
+    out.extend_from_slice(b"  expected")?;
+    write_message(out, style, expected.as_slice())?;
+    out.push(b'\n')?;
+    Ok(())
+}
+
+/// Writes the line of a packet that has another result than is expected of it, and the result that was.
+fn write_difference(
+    out: &mut Vec<u8>,
+    style: Style,
+    expected: Option<&Packet>,
+    budget: u32,
+    number: usize,
+    entry: &Entry,
+) -> Result<(), AllocError>
+    ensures { OnOk result (out.new.items ≡ out.old.items
+        ++ difference_text style (option_map (λ p. p.now.items) expected.entry) budget number entry.now) }
+{
+    if is_expected(entry, expected) {
+        return Ok(());
+    }
+    write_whole(out, style, budget, number, entry)?;
+    write_expected(out, style, expected)
+}
+
+/// Writes the bytes of a result.
+fn write_raw(out: &mut Vec<u8>, entry: &Entry) -> Result<(), AllocError>
+    ensures { OnOk result (out.new.items ≡ out.old.items ++ raw_text entry.now) }
+{
+    match entry {
+        Entry::Done(done) => out.extend_from_slice(done.result.as_slice()),
+        Entry::Lost(_) => Ok(()),
+    }
+}
+
+/// Writes what became of the packet of a number, in a form, behind what is in `out`. Where a growth is refused, some of it is
+/// written.
+pub fn write_entry(
+    out: &mut Vec<u8>,
+    form: Form<'_>,
+    budget: u32,
+    number: usize,
+    entry: &Entry,
+) -> Result<(), AllocError>
+    ensures { OnOk result (out.new.items ≡ out.old.items ++ entry_text form.entry budget number entry.now) }
+{
+    match form {
+        Form::Lines(style) => write_whole(out, style, budget, number, entry),
+        Form::Raw => write_raw(out, entry),
+        Form::Differences(style, expected) => {
+            write_difference(out, style, expected.get(number), budget, number, entry)
+        }
+    }
+}
+
+/// Writes what became of packets, the first of which has a number.
+pub fn write_entries(
+    out: &mut Vec<u8>,
+    form: Form<'_>,
+    budget: u32,
+    number: usize,
+    entries: &[Entry],
+) -> Result<(), AllocError>
+    requires { number + length entries.now < 2 ^ 63 }
+    ensures { OnOk result (out.new.items ≡ out.old.items ++ entries_text form.entry budget number entries.now) }
+{
+    for (i, entry) in entries.iter().enumerate() {
+        write_entry(out, form, budget, number + i, entry)?;
+    }
+    Ok(())
+}
+
+/// Whether another result was expected of the packet of a number.
+pub fn is_other(form: Form<'_>, number: usize, entry: &Entry) -> bool
+    ensures { result ≡ is_other form.entry number entry.now }
+{
+    match form {
+        Form::Differences(_, expected) => !is_expected(entry, expected.get(number)),
+        Form::Lines(_) | Form::Raw => false,
+    }
+}

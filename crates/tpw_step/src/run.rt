@@ -1,0 +1,278 @@
+//! A whole run, printed line by line.
+
+ghost use Rattle.std.specs.Prelude.{◌≡◌};
+ghost use Rattle.tpw_step.specs.declared.run.TellFault.TheVariants.{Memory};
+
+use crate::prefixes::prefixes_at;
+use crate::reason::{Reason, Stood, instruction_at, why};
+use crate::span::Span;
+use crate::stepper::Stepper;
+use crate::value::Value;
+use crate::workspace::{Workspace, Written};
+use std::alloc::{AllocError, AllocFailed, Global};
+use std::io::Write;
+use thiserror::Error;
+use tp_image::Image;
+use tp_link::{LinkDevice, LinkFault, Links, Media};
+use tp_step::profile::{self, MEM_START};
+use tpw_machine::{Registers, Turn};
+
+/// The longest packet, result or trace message, in bytes.
+const ROOM: usize = 256;
+
+/// The bytes of a word, signed.
+const WORD_BYTES: i32 = profile::WORD_BYTES as i32;
+
+/// The most instructions that are run.
+pub(crate) const MOST_INSTRUCTIONS: u64 = 16_777_216;
+
+/// How a run was left.
+#[derive(Clone, Copy, Debug, PartialEq, Eq)]
+pub enum End {
+    /// The worker stopped.
+    Stopped,
+    /// No step exists, at this address.
+    Stuck(i64, Reason),
+    /// A device refused a call.
+    Refused(LinkFault),
+    /// It came to the place at which it was to be left.
+    Left,
+    /// The most instructions were run.
+    Unended,
+}
+
+/// Why a run could not be printed.
+#[derive(Clone, Copy, Debug, PartialEq, Eq, Error)]
+pub enum TellFault {
+    #[error("memory")]
+    Memory,
+    #[error("write")]
+    Write,
+}
+
+impl From<AllocError> for TellFault {
+    ghost from_gives = { λ _ e. e ≡ Memory };
+
+    fn from(_: AllocError) -> Self {
+        TellFault::Memory
+    }
+}
+
+impl<T: Drop> From<AllocFailed<T>> for TellFault {
+    ghost from_gives = { λ _ e. e ≡ Memory };
+
+    fn from(_: AllocFailed<T>) -> Self {
+        TellFault::Memory
+    }
+}
+
+/// What a run has sent.
+#[derive(Drop)]
+struct Sent {
+    result: Vec<u8>,
+    trace: Vec<u8>,
+}
+
+/// Takes what a device holds, and keeps it behind other bytes. What it took comes back, as hexadecimal.
+fn taken<D: LinkDevice>(
+    alloc: Global,
+    device: &mut D,
+    kept: &mut Vec<u8>,
+) -> Result<String, AllocError> {
+    let mut bytes = [0; ROOM];
+    let held = device.held().min(ROOM);
+    let message = &mut bytes[..held];
+    match device.receive(message) {
+        Ok(()) => {
+            kept.extend_from_slice(message)?;
+            hex::encode(alloc, message)
+        }
+        Err(_) => Ok(String::new(alloc)),
+    }
+}
+
+/// Writes an instruction and the registers after it: Wptr as the number of the word that it points at.
+fn tell_registers<W: Write>(
+    writer: &mut W,
+    count: u64,
+    code: &[u8],
+    at: i64,
+    after: &Registers,
+) -> Result<(), TellFault> {
+    let written = match instruction_at(code, at) {
+        Some(instr) => write!(writer, "{count} {at} {instr}:"),
+        None => write!(writer, "{count} {at} ?:"),
+    };
+    written.map_err(|_| TellFault::Write)?;
+    let a = Value(after.areg);
+    let b = Value(after.breg);
+    let c = Value(after.creg);
+    let wptr = after.wptr.wrapping_sub(MEM_START).cast_signed() / WORD_BYTES;
+    let flag = u8::from(after.error);
+    write!(writer, " A {a} B {b} C {c} Wptr {wptr} flag {flag}").map_err(|_| TellFault::Write)
+}
+
+/// Writes a word and bytes after it, where there are some.
+fn tell_bytes<W: Write>(writer: &mut W, name: &str, bytes: &str) -> Result<(), TellFault> {
+    if bytes.is_empty() {
+        Ok(())
+    } else {
+        write!(writer, " {name} {bytes}").map_err(|_| TellFault::Write)
+    }
+}
+
+/// How far a run is.
+#[derive(Clone, Copy)]
+struct Progress {
+    /// Steps made, prefixes counted.
+    count: u64,
+    /// Whether it has reached where printing begins.
+    is_told: bool,
+}
+
+impl Progress {
+    /// Whether the run is left here; and from here on it is printed where the span begins.
+    fn comes_to(&mut self, span: Span, at: i64) -> bool {
+        let begins = match span.from {
+            Some(place) => place.is_at(at, self.count),
+            None => true,
+        };
+        self.is_told = self.is_told || begins;
+        match span.until {
+            Some(place) => self.is_told && place.is_at(at, self.count),
+            None => false,
+        }
+    }
+}
+
+/// How a run is left by what became of an instruction, if it is.
+fn left(turn: Option<Turn>, stood: Stood<'_>) -> Option<End> {
+    match turn {
+        None => Some(End::Stopped),
+        Some(Turn::Made) => None,
+        Some(Turn::Refused(fault)) => Some(End::Refused(fault)),
+        Some(Turn::Stuck) => Some(End::Stuck(stood.registers.iptr, why(stood))),
+    }
+}
+
+/// Makes one instruction, and prints it where the span has it. How the run is left comes back, if it is; else `stands` are the words
+/// where it is now.
+fn tell_one<D: LinkDevice, W: Write>(
+    alloc: Global,
+    stepper: &mut Stepper,
+    links: &mut Links<D>,
+    stands: &mut Workspace,
+    sent: &mut Sent,
+    progress: &mut Progress,
+    writer: &mut W,
+) -> Result<Option<End>, TellFault> {
+    let registers = stepper.registers();
+    let at = registers.iptr;
+    let phase = stepper.phase();
+    let turn = stepper.next(links);
+    let stood = Stood {
+        image: stepper.image(),
+        registers,
+        phase,
+        workspace: stands,
+    };
+    if let Some(end) = left(turn, stood) {
+        return Ok(Some(end));
+    }
+    let code = stepper.image().code.as_slice();
+    let bytes = (prefixes_at(code, at) as u64).saturating_add(1);
+    progress.count = progress.count.saturating_add(bytes);
+    let result = taken(alloc, &mut links.sink, &mut sent.result)?;
+    let trace = taken(alloc, &mut links.trace, &mut sent.trace)?;
+    let after = Workspace::of(alloc, stepper)?;
+    if progress.is_told {
+        tell_registers(writer, progress.count, code, at, &stepper.registers())?;
+        let written = Written {
+            before: stands,
+            after: &after,
+        };
+        write!(writer, "{written}").map_err(|_| TellFault::Write)?;
+        tell_bytes(writer, "result", result.as_str())?;
+        tell_bytes(writer, "trace", trace.as_str())?;
+        writeln!(writer).map_err(|_| TellFault::Write)?;
+    }
+    *stands = after;
+    Ok(None)
+}
+
+/// Writes the outcome of a run: how it was left, its result, its trace, the error flag and the steps made.
+fn tell_end<W: Write>(
+    alloc: Global,
+    stepper: &Stepper,
+    sent: &Sent,
+    count: u64,
+    end: End,
+    writer: &mut W,
+) -> Result<(), TellFault> {
+    let at = stepper.registers().iptr;
+    let written = match end {
+        End::Stopped => writeln!(writer, "stopped"),
+        End::Stuck(at, reason) => writeln!(writer, "stuck at {at}: {reason}"),
+        End::Refused(fault) => writeln!(writer, "refused: {fault}"),
+        End::Left => writeln!(writer, "left at {at}"),
+        End::Unended => {
+            writeln!(
+                writer,
+                "not ended after {MOST_INSTRUCTIONS} instructions, at {at}"
+            )
+        }
+    };
+    written.map_err(|_| TellFault::Write)?;
+    let result = hex::encode(alloc, sent.result.as_slice())?;
+    let trace = hex::encode(alloc, sent.trace.as_slice())?;
+    let flag = u8::from(stepper.registers().error);
+    writeln!(writer, "result {result}").map_err(|_| TellFault::Write)?;
+    writeln!(writer, "trace {trace}").map_err(|_| TellFault::Write)?;
+    writeln!(writer, "flag {flag}").map_err(|_| TellFault::Write)?;
+    writeln!(writer, "count {count}").map_err(|_| TellFault::Write)
+}
+
+/// Runs a packet of an image from its start. Writes a line for each instruction of the span, and then the run's outcome.
+pub fn tell<W: Write>(
+    alloc: Global,
+    image: Image,
+    packet: &[u8],
+    span: Span,
+    writer: &mut W,
+) -> Result<End, TellFault> {
+    let mut media = Media::with_rooms(alloc, packet.len(), ROOM, ROOM)?;
+    let mut links = media.wires();
+    let _ = links.source.send(packet);
+    let mut stepper = Stepper::new(image);
+    let mut stands = Workspace::of(alloc, &stepper)?;
+    let mut sent = Sent {
+        result: Vec::new(alloc),
+        trace: Vec::new(alloc),
+    };
+    let mut progress = Progress {
+        count: 0,
+        is_told: false,
+    };
+    let mut end = End::Unended;
+    for _ in 0..MOST_INSTRUCTIONS {
+        if progress.comes_to(span, stepper.registers().iptr) {
+            end = End::Left;
+            break;
+        }
+        let left = tell_one(
+            alloc,
+            &mut stepper,
+            &mut links,
+            &mut stands,
+            &mut sent,
+            &mut progress,
+            writer,
+        )?;
+        if let Some(how) = left {
+            end = how;
+            break;
+        }
+    }
+    tell_end(alloc, &stepper, &sent, progress.count, end, writer)?;
+    Ok(end)
+}

@@ -1,0 +1,64 @@
+//! The words of a workspace, and those that an instruction wrote.
+
+use crate::stepper::Stepper;
+use crate::value::Value;
+use std::alloc::{AllocError, Global};
+use std::fmt;
+use tp_step::profile::{MEM_START, WORD_BYTES};
+
+/// The most words of a workspace.
+const WORDS: u32 = 512;
+
+/// The words of a workspace, as they stood once.
+#[derive(Drop)]
+pub(crate) struct Workspace {
+    words: Vec<Option<u32>>,
+}
+
+impl Workspace {
+    /// The words where a run is.
+    pub(crate) fn of(alloc: Global, stepper: &Stepper) -> Result<Workspace, AllocError> {
+        let count = stepper.image().workspace;
+        let mut words = Vec::with_capacity(alloc, count as usize)?;
+        for i in 0..count.min(WORDS) {
+            words.push(stepper.word(i))?;
+        }
+        Ok(Workspace { words })
+    }
+
+    /// Whether so many bytes from an address on lie in it.
+    pub(crate) fn holds(&self, address: u32, bytes: u32) -> bool {
+        let first = u64::from(address);
+        let end = u64::from(MEM_START).saturating_add(u64::from(WORD_BYTES).saturating_mul(
+            self.words.len() as u64,
+        ));
+        MEM_START <= address && first.saturating_add(u64::from(bytes)) <= end
+    }
+
+    /// The word at an address, if it is defined.
+    pub(crate) fn at(&self, address: u32) -> Option<u32> {
+        let i = address.checked_sub(MEM_START)? / WORD_BYTES;
+        self.words.get(i as usize).copied().flatten()
+    }
+}
+
+/// The words that an instruction has changed, each as ` w5=3` with the word's number.
+#[derive(Clone, Copy)]
+pub(crate) struct Written<'a> {
+    pub(crate) before: &'a Workspace,
+    pub(crate) after: &'a Workspace,
+}
+
+impl fmt::Display for Written<'_> {
+    fn fmt<W: fmt::Write>(&self, f: &mut fmt::Formatter<W>) -> fmt::Result {
+        let before = self.before;
+        let after = self.after;
+        for (i, (old, new)) in before.words.iter().zip(after.words.iter()).enumerate() {
+            if *old != *new {
+                let value = Value(*new);
+                write!(f, " w{i}={value}")?;
+            }
+        }
+        Ok(())
+    }
+}

@@ -1,0 +1,75 @@
+//! The first words of statements.
+
+ghost use Rattle.std.specs.Prelude.{◌≡◌};
+ghost use Rattle.tpw_text.specs.Keywords.{keyword_name, keyword_named};
+
+use crate::words::Word;
+
+/// What kind of statement a first word begins. A statement with another first word is an instruction.
+#[derive(Clone, Copy)]
+pub enum Keyword {
+    Worker,
+    Packet,
+    Results,
+    Start,
+    Workspace,
+    Version,
+    Local,
+    Init,
+    Byte,
+    Receive,
+    Send,
+    Trace,
+    For,
+    End,
+    Loop,
+}
+
+const KEYWORDS: [Keyword; 15] = [
+    Keyword::Worker,
+    Keyword::Packet,
+    Keyword::Results,
+    Keyword::Start,
+    Keyword::Workspace,
+    Keyword::Version,
+    Keyword::Local,
+    Keyword::Init,
+    Keyword::Byte,
+    Keyword::Receive,
+    Keyword::Send,
+    Keyword::Trace,
+    Keyword::For,
+    Keyword::End,
+    Keyword::Loop,
+];
+
+/// How a text writes it.
+fn name_of(keyword: Keyword) -> &'static str
+    ensures { result.now ≡ keyword_name keyword }
+{
+    match keyword {
+        Keyword::Worker => "worker",
+        Keyword::Packet => "packet",
+        Keyword::Results => "result",
+        Keyword::Start => "start",
+        Keyword::Workspace => "workspace",
+        Keyword::Version => "version",
+        Keyword::Local => "local",
+        Keyword::Init => "init",
+        Keyword::Byte => "byte",
+        Keyword::Receive => "receive",
+        Keyword::Send => "send",
+        Keyword::Trace => "trace",
+        Keyword::For => "for",
+        Keyword::End => "end",
+        Keyword::Loop => "loop",
+    }
+}
+
+/// The keyword that a word is, in capitals or not.
+#[tactic(auto, unfolding(crate::specs::Keywords::keyword_named))]
+pub fn keyword_of(word: &Word<'_>) -> Option<Keyword>
+    ensures { result ≡ keyword_named word.now.text.now }
+{
+    KEYWORDS.iter().copied().find(|k| word.is(name_of(*k)))
+}

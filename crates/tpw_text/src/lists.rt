@@ -1,0 +1,171 @@
+//! Lists of a statement: what is between commas.
+
+ghost use Rattle.std.specs.Prelude.{◌≡◌, ◌≤◌, map, IfOk, IfErr};
+ghost use Rattle.tpw_text.specs.Faults.{IsRefusal};
+ghost use Rattle.tpw_text.specs.Lists.{part, parts, list_said, one_word_said, no_more_said, size_said, new_local_said, initial_word_said, byte_line_said};
+
+use crate::draft::{DraftLine, MOST_WORDS};
+use crate::fault::{SourceFault, TextFault};
+use crate::number::{count_of, number_of};
+use crate::statement::{InitialWord, NewLine, NewLocal};
+use crate::wanted::{expect, word_at};
+use crate::words::Word;
+use std::alloc::{AllocError, Global};
+use tpw_asm::Line;
+
+/// The words between two commas, and the word before them.
+#[derive(Clone, Copy)]
+struct Item<'w, 'a> {
+    behind: Word<'a>,
+    words: &'w [Word<'a>],
+}
+
+/// What is between commas, of words behind another.
+fn items_of<'w, 'a>(
+    alloc: Global,
+    behind: &Word<'a>,
+    words: &'w [Word<'a>],
+) -> Result<Vec<Item<'w, 'a>>, AllocError>
+    ensures { IfOk result (λ items. map part items.items ≡ parts behind.now words.now) }
+{
+    let mut items = Vec::new(alloc);
+    let mut before = *behind;
+    let mut start = 0;
+    for (i, word) in words.iter().enumerate() {
+        if word.is(",") {
+            items.push(Item {
+                behind: before,
+                words: &words[start..i],
+            })?;
+            before = *word;
+            start = i + 1;
+        }
+    }
+    items.push(Item {
+        behind: before,
+        words: &words[start..],
+    })?;
+    Ok(items)
+}
+
+/// No word is here.
+#[tactic(auto, unfolding(crate::specs::Lists::no_more_said))]
+fn expect_no_more(words: &[Word<'_>], i: usize) -> Result<(), SourceFault>
+    ensures { result ≡ no_more_said words.now i }
+{
+    match words.get(i) {
+        Some(word) => Err(word.fault(TextFault::Unexpected)),
+        None => Ok(()),
+    }
+}
+
+/// The one word of an item.
+#[tactic(auto, unfolding(crate::specs::Lists::one_word_said))]
+fn one_word<'a>(item: &Item<'_, 'a>) -> Result<Word<'a>, SourceFault>
+    ensures { result ≡ one_word_said (part item.now) }
+{
+    let word = word_at(item.words, 0, &item.behind)?;
+    expect_no_more(item.words, 1)?;
+    Ok(word)
+}
+
+/// An initial word.
+#[tactic(auto, unfolding(crate::specs::Lists::initial_word_said))]
+fn initial_word<'a>(item: &Item<'_, 'a>) -> Result<InitialWord<'a>, SourceFault>
+    ensures { result ≡ initial_word_said (part item.now) }
+{
+    let word = one_word(item)?;
+    let value = number_of(&word)?.cast_unsigned();
+    Ok(InitialWord { word, value })
+}
+
+/// A byte as it is.
+#[tactic(auto, unfolding(crate::specs::Lists::byte_line_said))]
+fn byte_line<'a>(item: &Item<'_, 'a>) -> Result<NewLine<'a>, SourceFault>
+    ensures { result ≡ byte_line_said (part item.now) }
+{
+    let word = one_word(item)?;
+    let byte = count_of(&word, 0xFF)? as u8;
+    let line = DraftLine::Known(Line::Byte(byte));
+    Ok(NewLine { word, line })
+}
+
+/// How many local words a name has: `[SIZE]` behind it, or 1.
+#[tactic(auto, unfolding(crate::specs::Lists::size_said))]
+fn size_of<'a>(name: &Word<'a>, words: &[Word<'a>]) -> Result<u16, SourceFault>
+    ensures { result ≡ size_said name.now words.now }
+{
+    if words.len() <= 1 {
+        return Ok(1);
+    }
+    expect(words, 1, name, "[")?;
+    let word = word_at(words, 2, name)?;
+    let size = count_of(&word, u32::from(MOST_WORDS))? as u16;
+    expect(words, 3, &word, "]")?;
+    expect_no_more(words, 4)?;
+    Ok(size)
+}
+
+/// A name of local words: `NAME` or `NAME[SIZE]`.
+#[tactic(auto, unfolding(crate::specs::Lists::new_local_said))]
+fn new_local<'a>(item: &Item<'_, 'a>) -> Result<NewLocal<'a>, SourceFault>
+    ensures { result ≡ new_local_said (part item.now) }
+{
+    let name = word_at(item.words, 0, &item.behind)?;
+    if name.is("[") || name.is("]") {
+        return Err(name.fault(TextFault::Unexpected));
+    }
+    let size = size_of(&name, item.words)?;
+    Ok(NewLocal { name, size })
+}
+
+/// The names of `local NAME[SIZE], NAME ..`, behind a word.
+pub fn new_locals<'a>(
+    alloc: Global,
+    behind: &Word<'a>,
+    words: &[Word<'a>],
+) -> Result<Vec<NewLocal<'a>>, SourceFault>
+    ensures said { IfOk result (λ locals. list_said new_local_said behind.now words.now ≡ Ok locals.items) }
+    ensures refused { IfErr result (IsRefusal (list_said new_local_said behind.now words.now)) }
+{
+    let items = items_of(alloc, behind, words)?;
+    let mut locals = Vec::new(alloc);
+    for item in &items {
+        locals.push(new_local(item)?)?;
+    }
+    Ok(locals)
+}
+
+/// The values of `init WORD: VALUE, VALUE ..`, behind a word.
+pub fn initial_words<'a>(
+    alloc: Global,
+    behind: &Word<'a>,
+    words: &[Word<'a>],
+) -> Result<Vec<InitialWord<'a>>, SourceFault>
+    ensures said { IfOk result (λ values. list_said initial_word_said behind.now words.now ≡ Ok values.items) }
+    ensures refused { IfErr result (IsRefusal (list_said initial_word_said behind.now words.now)) }
+{
+    let items = items_of(alloc, behind, words)?;
+    let mut values = Vec::new(alloc);
+    for item in &items {
+        values.push(initial_word(item)?)?;
+    }
+    Ok(values)
+}
+
+/// The lines of `byte N, N ..`, behind a word.
+pub fn byte_lines<'a>(
+    alloc: Global,
+    behind: &Word<'a>,
+    words: &[Word<'a>],
+) -> Result<Vec<NewLine<'a>>, SourceFault>
+    ensures said { IfOk result (λ lines. list_said byte_line_said behind.now words.now ≡ Ok lines.items) }
+    ensures refused { IfErr result (IsRefusal (list_said byte_line_said behind.now words.now)) }
+{
+    let items = items_of(alloc, behind, words)?;
+    let mut lines = Vec::new(alloc);
+    for item in &items {
+        lines.push(byte_line(item)?)?;
+    }
+    Ok(lines)
+}

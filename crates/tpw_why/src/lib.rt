@@ -1,0 +1,35 @@
+//! Why the verifier refuses an image: the refusal's meaning, what is known where it comes, and what helps.
+//!
+//! [`first_refusal`] makes the passes over whole tables up to their first refusal. [`tell`] judges an image and explains the verdict.
+#![tactic(auto)]
+
+mod asked;
+mod bound;
+mod costs;
+mod counting;
+mod fields;
+mod flow;
+mod known;
+mod lines;
+mod listed;
+mod meaning;
+mod origin;
+mod passes;
+mod refusal;
+mod source;
+mod states;
+mod telling;
+mod verdict;
+mod ways;
+mod writers;
+mod written;
+
+pub use costs::{Costs, LoopCost, costs_of};
+pub use listed::list;
+pub use meaning::{Meaning, meaning_of};
+pub use passes::first_refusal;
+pub use refusal::{EdgeRefusal, FirstRefusal};
+pub use source::{Label, Named, SourceText, Statement, ToldLoop};
+pub use telling::TellFault;
+pub use tp_accept::Counted;
+pub use verdict::tell;

@@ -1,0 +1,197 @@
+//! A code, listed with its costs.
+
+ghost use Rattle.std.specs.Prelude.{IfOk};
+ghost use Rattle.tp_decode.specs.Cutting.{IsCutting};
+ghost use Rattle.tpw_why.specs.Told.{IsVerdictOn};
+
+use crate::bound::tell_bound;
+use crate::costs::{CodeCosts, costs_of_code, listing_of};
+use crate::source::SourceText;
+use crate::telling::TellFault;
+use crate::verdict::{image_of, tell_line, tell_refusal, whole_of};
+use std::alloc::Global;
+use std::io::Write;
+use tp_accept::{Counted, Refusal, RefusalCode, accept};
+use tp_decode::{DecodeFault, Listing, Placed, decode};
+use tp_image::Image;
+
+/// What is listed: an image, its instructions, and what a text says of them.
+#[derive(Clone, Copy)]
+struct Listed<'a> {
+    image: &'a Image,
+    listing: &'a Listing,
+    source: SourceText<'a>,
+}
+
+/// Writes the labels of an address on a line of their own.
+fn list_labels<W: Write>(
+    source: SourceText<'_>,
+    at: usize,
+    writer: &mut W,
+) -> Result<(), TellFault> {
+    for label in source.labels {
+        if label.at == at {
+            let name = label.name;
+            writeln!(writer, "{name}:").map_err(|_| TellFault::Write)?;
+        }
+    }
+    Ok(())
+}
+
+/// Writes where an instruction is, its bytes, and what it costs from there on; a dash where no cost is known.
+fn list_place<W: Write>(
+    alloc: Global,
+    code: &[u8],
+    placed: Placed,
+    cost: Option<Counted>,
+    writer: &mut W,
+) -> Result<(), TellFault> {
+    let Placed { at, next, .. } = placed;
+    let bytes = hex::encode(alloc, code.get(at..next).unwrap_or(&[]))?;
+    let bytes = bytes.as_str();
+    match cost {
+        Some(cost) => {
+            let left = cost.whole;
+            write!(writer, "{at:>6}  {bytes:<16}  {left:>10}  ")
+        }
+        None => write!(writer, "{at:>6}  {bytes:<16}           -  "),
+    }
+    .map_err(|_| TellFault::Write)
+}
+
+/// Writes an instruction, and the line of the text that says it, if it is another than that of the one before.
+fn list_text<W: Write>(
+    alloc: Global,
+    source: SourceText<'_>,
+    placed: Placed,
+    line: &mut usize,
+    writer: &mut W,
+) -> Result<(), TellFault> {
+    let Placed { at, instr, .. } = placed;
+    let instr = format!(in alloc; "{instr}")?;
+    let instr = instr.as_str();
+    let told = match source.statement_at(at) {
+        Some(statement) if statement.line != *line => {
+            *line = statement.line;
+            let text = statement.text;
+            writeln!(writer, "{instr:<12}  ; line {line}: {text}")
+        }
+        _ => writeln!(writer, "{instr}"),
+    };
+    told.map_err(|_| TellFault::Write)
+}
+
+/// Writes each instruction. Without costs a dash stands in their place.
+fn list_code<W: Write>(
+    alloc: Global,
+    listed: Listed<'_>,
+    costs: &[Option<Counted>],
+    writer: &mut W,
+) -> Result<(), TellFault> {
+    writeln!(writer, "    at  bytes                   left  instruction").map_err(
+        |_| TellFault::Write,
+    )?;
+    let Listed {
+        image,
+        listing,
+        source,
+    } = listed;
+    let mut line = 0;
+    for i in 0..listing.len() {
+        if let Some(placed) = listing.get(i) {
+            let cost = costs.get(placed.at).copied().unwrap_or(None);
+            list_labels(source, placed.at, writer)?;
+            list_place(alloc, &image.code, placed, cost, writer)?;
+            list_text(alloc, source, placed, &mut line, writer)?;
+        }
+    }
+    Ok(())
+}
+
+/// Writes the most bytes of a run behind a name, and each instruction with its cost.
+fn list_costs<W: Write>(
+    alloc: Global,
+    listed: Listed<'_>,
+    name: &str,
+    writer: &mut W,
+) -> Result<(), TellFault>
+    requires { IsCutting listed.image.now.code listed.listing.now }
+{
+    let costs = costs_of_code(alloc, listed.image, listed.listing)?;
+    let bytes = whole_of(&costs);
+    tell_bound(
+        listed.source,
+        listed.image,
+        name,
+        bytes,
+        &costs.loops,
+        writer,
+    )?;
+    list_code(alloc, listed, &costs.by_address, writer)
+}
+
+/// Writes a refusal, and of a code that has instructions each of them: with its cost, where control goes as it may.
+fn list_refused<W: Write>(
+    alloc: Global,
+    text: &[u8],
+    source: SourceText<'_>,
+    code: RefusalCode,
+    place: usize,
+    writer: &mut W,
+) -> Result<(), TellFault> {
+    let Some(image) = image_of(alloc, text)? else {
+        return tell_refusal(alloc, text, source, code, place, writer);
+    };
+    let listing = match decode(alloc, &image.code) {
+        Ok(listing) => listing,
+        Err(DecodeFault::Memory) => return Err(TellFault::Memory),
+        Err(DecodeFault::Refused { .. }) => {
+            return tell_refusal(alloc, text, source, code, place, writer);
+        }
+    };
+    let listed = Listed {
+        image: &image,
+        listing: &listing,
+        source,
+    };
+    tell_line(code, place, writer)?;
+    match code {
+        RefusalCode::State(_) | RefusalCode::B1 => list_costs(alloc, listed, "bound   ", writer),
+        RefusalCode::Image(_) | RefusalCode::Cutting(_) | RefusalCode::Flow(_) => {
+            list_code(alloc, listed, &[], writer)
+        }
+    }
+}
+
+/// Judges the bytes of an image, and writes the verdict and the code: of each instruction its address, its bytes, the most bytes that
+/// are executed from there to the end of the loop around it or of the run, its text, and the line of the text that says it. It
+/// answers whether the image is accepted.
+pub fn list<W: Write>(
+    alloc: Global,
+    text: &[u8],
+    source: SourceText<'_>,
+    writer: &mut W,
+) -> Result<bool, TellFault>
+    ensures { IfOk result (IsVerdictOn text.now) }
+{
+    match accept(alloc, Vec::from_slice(alloc, text)?) {
+        Ok(accepted) => {
+            let bytes = accepted.code().len();
+            let budget = accepted.budget();
+            writeln!(writer, "YES {bytes} {budget}").map_err(|_| TellFault::Write)?;
+            let listing = listing_of(alloc, &accepted)?;
+            let listed = Listed {
+                image: accepted.image(),
+                listing: &listing,
+                source,
+            };
+            list_costs(alloc, listed, "budget  ", writer)?;
+            Ok(true)
+        }
+        Err(Refusal::Memory) => Err(TellFault::Memory),
+        Err(Refusal::Refused { code, place }) => {
+            list_refused(alloc, text, source, code, place, writer)?;
+            Ok(false)
+        }
+    }
+}

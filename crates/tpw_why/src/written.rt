@@ -1,0 +1,211 @@
+//! The instructions that wrote what a rule refuses.
+
+use crate::origin::{Register, origin_of, wrong_register};
+use crate::refusal::{EdgeRefusal, FirstRefusal};
+use crate::source::SourceText;
+use crate::telling::TellFault;
+use crate::ways::{Way, ways_of};
+use crate::writers::{Passage, Wrote, passages_of, same_before, written_by};
+use std::alloc::Global;
+use std::io::Write;
+use tp_check::state_at;
+use tp_decode::{Instr, Listing, Placed};
+use tp_flow::Nest;
+use tp_image::Image;
+use tp_state::{Cell, Kind, State, StateCode};
+
+/// What the verifier has found, where it refuses a state.
+#[derive(Clone, Copy)]
+pub(crate) struct Finding<'a> {
+    pub(crate) image: &'a Image,
+    pub(crate) listing: &'a Listing,
+    pub(crate) nest: &'a Nest,
+    pub(crate) source: SourceText<'a>,
+    pub(crate) found: &'a FirstRefusal,
+}
+
+/// The word at a distance from Wptr, if there is one.
+fn local_word(state: &State, n: i32) -> Option<usize> {
+    usize::try_from(i64::from(state.wptr) + i64::from(n)).ok()
+}
+
+/// Writes that an instruction wrote a word, and what.
+fn tell_writer<W: Write>(
+    source: SourceText<'_>,
+    word: usize,
+    writer: Placed,
+    did: Wrote,
+    output: &mut W,
+) -> Result<(), TellFault> {
+    let word = source.word(word);
+    let Placed { at, instr, .. } = writer;
+    writeln!(output, "written  {word} by {at} {instr}: {did}").map_err(|_| TellFault::Write)
+}
+
+/// Writes which instructions wrote a word last on the ways to an address, or that a way leads there on which none did.
+fn tell_writers<W: Write>(
+    alloc: Global,
+    finding: Finding<'_>,
+    ways: &[Way],
+    word: usize,
+    at: usize,
+    output: &mut W,
+) -> Result<(), TellFault> {
+    let Finding {
+        image,
+        nest,
+        source,
+        found,
+        ..
+    } = finding;
+    let table = &found.table;
+    let passages = passages_of(alloc, image, nest, table, ways, word)?;
+    let marks = same_before(alloc, table.len(), &passages, at)?;
+    if marks.first() == Some(&true) {
+        let first = image.initial.get(word).copied().unwrap_or(0).cast_signed();
+        let word = source.word(word);
+        writeln!(
+            output,
+            "written  {word} by no instruction on a way: it begins as {first}"
+        )
+        .map_err(|_| TellFault::Write)?;
+    }
+    for Passage { way, wrote } in &passages {
+        if let (Some(wrote), Some(true)) = (wrote, marks.get(way.to)) {
+            tell_writer(source, word, way.from, *wrote, output)?;
+        }
+    }
+    Ok(())
+}
+
+/// Writes where a register of the wrong kind comes from: the instruction that left it, and of a word that was read, which
+/// instructions wrote that last.
+fn tell_register<W: Write>(
+    alloc: Global,
+    finding: Finding<'_>,
+    ways: &[Way],
+    register: Register,
+    output: &mut W,
+) -> Result<(), TellFault> {
+    let at = finding.found.refusal.instruction.at;
+    let Some(origin) = origin_of(ways, at, register) else {
+        return Ok(());
+    };
+    let name = register.name();
+    let Placed {
+        at: from,
+        instr,
+        ..
+    } = origin;
+    let read = match (instr, state_at(&finding.found.table, from)) {
+        (Instr::Ldl(n), Some(state)) => local_word(state, n),
+        _ => None,
+    };
+    let Some(word) = read else {
+        return writeln!(output, "why      {name} is what {from} {instr} left").map_err(
+            |_| TellFault::Write,
+        );
+    };
+    let told = finding.source.word(word);
+    writeln!(
+        output,
+        "why      {name} is what {from} {instr} read from {told}"
+    )
+    .map_err(|_| TellFault::Write)?;
+    tell_writers(alloc, finding, ways, word, from, output)
+}
+
+/// Writes which instructions wrote a word last on the edge that is refused.
+fn tell_entered<W: Write>(
+    alloc: Global,
+    finding: Finding<'_>,
+    ways: &[Way],
+    state: &State,
+    word: usize,
+    output: &mut W,
+) -> Result<(), TellFault> {
+    let EdgeRefusal {
+        instruction,
+        edge,
+        ..
+    } = finding.found.refusal;
+    match written_by(finding.image, finding.nest, instruction, edge, state, word) {
+        Some(did) => tell_writer(finding.source, word, instruction, did, output),
+        None => tell_writers(alloc, finding, ways, word, instruction.at, output),
+    }
+}
+
+/// Writes which instructions wrote the words last that a loop asks for and that are not as it asks.
+fn tell_block<W: Write>(
+    alloc: Global,
+    finding: Finding<'_>,
+    ways: &[Way],
+    state: &State,
+    output: &mut W,
+) -> Result<(), TellFault> {
+    let EdgeRefusal {
+        instruction,
+        edge,
+        ..
+    } = finding.found.refusal;
+    let Placed { at, instr, next } = instruction;
+    let nest = finding.nest;
+    let entered = nest
+        .target(at, next, instr, edge)
+        .and_then(|to| nest.entered(at, to));
+    let Some(row) = entered.and_then(|number| finding.image.loops.get(number)) else {
+        return Ok(());
+    };
+    let control = row.control as usize;
+    let count = Cell::Known(row.count.cast_signed());
+    for (word, wanted) in [
+        (control, Cell::Known(row.start)),
+        (control.saturating_add(1), count),
+    ] {
+        if known_after(finding, state, word) != wanted {
+            tell_entered(alloc, finding, ways, state, word, output)?;
+        }
+    }
+    Ok(())
+}
+
+/// What is known of a word behind the refused instruction, as far as a store of a local word shows it.
+fn known_after(finding: Finding<'_>, state: &State, word: usize) -> Cell {
+    let EdgeRefusal {
+        instruction,
+        edge,
+        ..
+    } = finding.found.refusal;
+    match written_by(finding.image, finding.nest, instruction, edge, state, word) {
+        Some(Wrote::Stored(Kind::Int(low, high))) if low == high => Cell::Known(low),
+        Some(_) => Cell::Undef,
+        None => state.cells.get(word),
+    }
+}
+
+/// Writes where what is refused was written, as far as the states show it: a register of the wrong kind, a local word that may be
+/// undefined, and the block of a loop that is entered.
+pub(crate) fn tell_written<W: Write>(
+    alloc: Global,
+    finding: Finding<'_>,
+    output: &mut W,
+) -> Result<(), TellFault> {
+    let refusal = &finding.found.refusal;
+    let at = refusal.instruction.at;
+    let Some(state) = state_at(&finding.found.table, at) else {
+        return Ok(());
+    };
+    let ways = ways_of(alloc, finding.listing, finding.nest, finding.found)?;
+    match (refusal.code, refusal.instruction.instr) {
+        (StateCode::S2, instr) => match wrong_register(instr, state) {
+            Some(register) => tell_register(alloc, finding, &ways, register, output),
+            None => Ok(()),
+        },
+        (StateCode::S4, Instr::Ldl(n)) => match local_word(state, n) {
+            Some(word) => tell_writers(alloc, finding, &ways, word, at, output),
+            None => Ok(()),
+        },
+        (StateCode::S5, _) => tell_block(alloc, finding, &ways, state, output),
+        _ => Ok(()),
+    }
+}
