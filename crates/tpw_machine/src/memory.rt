@@ -7,7 +7,7 @@ ghost use Rattle.tp_step.specs.State.{mem_start, in_workspace, load, store, desc
 use crate::machine::Machine;
 use crate::places::{in_workspace, is_word};
 use tp_image::Image;
-use tp_machine::MEM_START;
+use tp_step::profile::MEM_START;
 
 impl Machine {
     ghost use Rattle.tpw_machine.specs.Meaning.{memory_of, state_of, Messages, Made, memory_in};

@@ -16,9 +16,8 @@ use crate::places::in_workspace;
 use crate::turn::Turn;
 use tp_image::Image;
 use tp_link::{DeviceFault, Link, LinkDevice, LinkFault, Links};
-use tp_machine::MEM_START;
 use tp_step::profile::{
-    LINK0_INPUT, LINK0_OUTPUT, LINK1_OUTPUT, MOVE_BYTES, TRACE_BYTES, has_move,
+    LINK0_INPUT, LINK0_OUTPUT, LINK1_OUTPUT, MEM_START, MOVE_BYTES, TRACE_BYTES, has_move,
 };
 
 /// Whether these are the channel and the length of a trace message.

@@ -6,7 +6,7 @@ ghost use Rattle.tp_step.specs.Steps.{code_byte};
 ghost use Rattle.tp_step.specs.Effects.{has_move};
 
 use tp_image::Image;
-use tp_machine::MEM_START;
+use tp_step::profile::MEM_START;
 
 /// Whether n bytes from an address on lie in the workspace.
 #[inline]

@@ -9,7 +9,7 @@ ghost use Rattle.tpw_machine.specs.declared.phase.Phase.TheVariants.{BeforePacke
 
 use crate::machine::{Machine, WORKSPACE_BYTES};
 use tp_image::Image;
-use tp_machine::MEM_START;
+use tp_step::profile::MEM_START;
 
 /// The first value of a workspace word: an initial word of the image, or 0.
 fn first_word(image: &Image, i: u32) -> u32
