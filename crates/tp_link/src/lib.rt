@@ -13,7 +13,7 @@
 //! looked at again once the wires have ended.
 #![tactic(auto)]
 
-mod boxed;
+mod box_device;
 mod device;
 mod faulty;
 pub mod laws;
