@@ -55,11 +55,11 @@ fn count_packets<E: Write>(
 }
 
 /// Writes a profile by the lines of the text that says its image, if a text does.
-fn write_profile<W: Write>(
+fn write_profile<'x, W: Write>(
     alloc: Global,
     text: &[u8],
-    image: &Image,
-    profile: &Profile,
+    image: &'x Image,
+    profile: &'x Profile,
     writer: &mut W,
 ) -> Result<(), Ending> {
     match bytes_of(alloc, text) {

@@ -14,10 +14,10 @@ const BAR: u64 = 30;
 
 /// What is written: an image, the steps made on it, and what a text says of it.
 #[derive(Clone, Copy)]
-pub struct Shares<'a> {
+pub struct Shares<'a, 's> {
     pub image: &'a Image,
     pub profile: &'a Profile,
-    pub source: SourceText<'a>,
+    pub source: SourceText<'s>,
 }
 
 /// The steps of a line or an instruction, which has a place: the line, or the address.
@@ -49,7 +49,7 @@ fn add(shares: &mut Vec<Share>, place: usize, steps: u64) -> Result<(), Ending> 
 }
 
 /// The shares by line, or by address where no text says the code.
-fn shares_of(alloc: Global, shares: Shares<'_>) -> Result<Vec<Share>, Ending> {
+fn shares_of(alloc: Global, shares: Shares<'_, '_>) -> Result<Vec<Share>, Ending> {
     let mut found = Vec::new(alloc);
     for (at, steps) in shares.profile.counts.iter().enumerate() {
         if *steps != 0 {
@@ -89,7 +89,7 @@ impl fmt::Display for Part {
 
 /// Writes the share of a line with its text, or of an instruction.
 fn write_share<W: Write>(
-    shares: Shares<'_>,
+    shares: Shares<'_, '_>,
     listing: &Listing,
     share: Share,
     part: Part,
@@ -122,9 +122,10 @@ fn steps_within(profile: &Profile, row: &LoopRow) -> u64 {
 }
 
 /// Writes the share of each loop, in the order of rows.
-fn write_loops<W: Write>(shares: Shares<'_>, writer: &mut W) -> Result<(), Ending> {
+fn write_loops<W: Write>(shares: Shares<'_, '_>, writer: &mut W) -> Result<(), Ending> {
+    let image = shares.image;
     let all = shares.profile.steps;
-    for (number, row) in shares.image.loops.iter().enumerate() {
+    for (number, row) in image.loops.iter().enumerate() {
         let part = Part {
             steps: steps_within(shares.profile, row),
             all,
@@ -150,7 +151,7 @@ fn listing_of(alloc: Global, image: &Image) -> Result<Option<Listing>, Ending> {
 /// Writes a profile: all steps, the shares of lines or instructions, and those of loops.
 pub fn write_shares<W: Write>(
     alloc: Global,
-    shares: Shares<'_>,
+    shares: Shares<'_, '_>,
     writer: &mut W,
 ) -> Result<(), Ending> {
     let all = shares.profile.steps;
