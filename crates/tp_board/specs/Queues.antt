@@ -23,7 +23,7 @@ turn packets members parts feeds pushed marks popped ended = record {
 }
 
 -- ---- passes that have made no step
--- the first pass, which has not got the sizes
+-- the first pass, before it knows the sizes
 abbrev pub first : PassView
 first = turn 0 0 1 1 0 0 [] 0
 

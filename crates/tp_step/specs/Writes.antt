@@ -12,7 +12,7 @@ use Rattle.tp_step.specs.Memory.{Memory}
 use Rattle.tp_step.specs.State.{State, mem_start, local}
 use Rattle.tp_step.specs.Steps.{code_byte}
 
--- so many bytes from an address on
+-- a number of bytes, from an address
 pub record Stretch : Type 0 where
   pub from : ℕ
   pub bytes : ℕ
@@ -20,7 +20,7 @@ pub record Stretch : Type 0 where
 abbrev pub stretch : ℕ → ℕ → Stretch
 stretch from bytes = record { from = from; bytes = bytes }
 
--- the number in a register; nothing where it is undefined
+-- what the number in a register stands for; nothing where it is undefined
 abbrev pub where_defined : Option ℕ → (ℕ → List Stretch) → List Stretch
 where_defined register there = option_map_or there register []
 
