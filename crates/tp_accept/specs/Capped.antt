@@ -1,14 +1,13 @@
--- Costs as they are counted: no further than is needed to see that they are above the greatest budget.
-use Rattle.std.specs.Prelude.{◌≡◌, ℕ, ◌+◌, ◌≤◌, min, List, length, get_or, All}
+-- Costs as they are counted: no further than a number of 64 bits goes.
+use Rattle.std.specs.Prelude.{◌≡◌, ℕ, ◌-◌, ◌^◌, ◌≤◌, min, List, length, get_or, All}
 use Rattle.tp_image.specs.declared.image.LoopRow.{LoopRow}
 use Rattle.tp_decode.specs.Cutting.{Cut, code_of}
 use Rattle.tp_accept.specs.declared.counting.Counted.{Counted}
-use Rattle.tp_accept.specs.Limits.{most_budget}
 use Rattle.tp_accept.specs.Bound.{Cost, Costs, costs_of}
 
--- one more than the greatest budget
+-- the greatest number of 64 bits
 abbrev pub cap : ℕ
-cap = most_budget + 1
+cap = 2 ^ 64 - 1
 
 abbrev pub capped : ℕ → ℕ
 capped n = min n cap

@@ -1,19 +1,14 @@
-//! The costs of instructions, counted no further than is needed to see that there is no budget.
+//! The costs of instructions, counted no further than a number of 64 bits goes.
 
 ghost use Rattle.std.specs.Prelude.{◌≡◌, ◌≤◌, ◌-◌, ◌+◌};
 ghost use Rattle.tp_flow.specs.Edges.{jump_target};
 ghost use Rattle.tp_accept.specs.Bound.{whole_at, left_of, behind, begun_at, whole_of, cost_of};
 ghost use Rattle.tp_accept.specs.Capped.{cap, capped, counted, table, AreCapped};
 
-use crate::limits::MOST_BUDGET;
 use tp_decode::{Instr, Listing, Placed};
 use tp_image::{Image, LoopRow};
 
-/// One more than the greatest budget. Costs are counted no further.
-const CAP: u64 = MOST_BUDGET as u64 + 1;
-
-/// What can be executed from an address on, in instruction bytes, at most; counted no further than one above
-/// [`MOST_BUDGET`].
+/// What can be executed from an address on, in instruction bytes, at most; `u64::MAX` where that is more.
 #[derive(Clone, Copy, Debug, PartialEq, Eq)]
 pub struct Counted {
     /// To the end of the innermost loop around it, or of the run.
@@ -61,7 +56,7 @@ fn left_of(costs: &[Counted], n: u64, next: usize, instr: Instr) -> u64
         }
         _ => whole_at(costs, Some(next)),
     };
-    (n.min(CAP) + following).min(CAP)
+    n.saturating_add(following)
 }
 
 /// The address behind the instruction at an address.
@@ -88,8 +83,9 @@ fn whole_of(listing: &Listing, costs: &[Counted], left: u64, row: Option<LoopRow
         None => left,
         Some(row) => {
             let later = whole_at(costs, Some(behind(listing, row.lend as usize)));
-            let turns = u64::from(row.count) * left;
-            (turns + later).min(CAP)
+            u64::from(row.count)
+                .saturating_mul(left)
+                .saturating_add(later)
         }
     }
 }

@@ -6,7 +6,7 @@ use Rattle.tp_image.specs.Image.{ImageValue}
 use Rattle.tp_image.specs.declared.image.LoopRow.{LoopRow}
 use Rattle.tp_decode.specs.Cutting.{Cut, cut_at}
 use Rattle.tp_accept.specs.Bound.{bound, costs_of}
-use Rattle.tpw_why.specs.Counts.{counted}
+use Rattle.tp_accept.specs.Capped.{counted}
 use Rattle.tp_accept.specs.Acceptance.{IsAcceptable}
 use Rattle.tp_accept.proofs.LookedUp.{first_starts}
 use Rattle.tpw_why.specs.declared.costs.Costs.{Costs}

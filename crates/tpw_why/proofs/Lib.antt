@@ -1,5 +1,3 @@
 mod Passing
 mod Taking
 mod Costing
-pub mod LimitedCosts
-pub mod CountsFilled

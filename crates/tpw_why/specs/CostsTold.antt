@@ -7,7 +7,7 @@ use Rattle.tp_image.specs.Text.{IsTextOf}
 use Rattle.tp_image.specs.declared.image.LoopRow.{LoopRow}
 use Rattle.tp_decode.specs.Cutting.{Cut, cut_at, IsCutting}
 use Rattle.tp_accept.specs.Bound.{bound, costs_of}
-use Rattle.tpw_why.specs.Counts.{limited, counted}
+use Rattle.tp_accept.specs.Capped.{capped, counted}
 use Rattle.tp_accept.specs.Acceptance.{IsAcceptable}
 use Rattle.tp_accept.specs.declared.counting.Counted.{Counted}
 use Rattle.tpw_why.specs.declared.costs.LoopCost.{LoopCost}
@@ -26,7 +26,7 @@ pub record AreByAddress (rows : List LoopRow) (code : List Cut) (bytes : ℕ)
 -- a turn of a loop is what is left at its head
 abbrev pub loop_cost : List LoopRow → List Cut → LoopRow → LoopCost
 loop_cost rows code row =
-    record { head = row.head; lend = row.lend; turns = row.count; turn = limited (costs_of rows code row.head).left }
+    record { head = row.head; lend = row.lend; turns = row.count; turn = capped (costs_of rows code row.head).left }
 
 -- the costs of an image
 pub record AreCostsOf (image : ImageValue) (costs : Costs) : Type 0 where

@@ -1,6 +1,5 @@
 -- What a reader must believe: clauses of public calls cite it.
 pub mod FirstRefusals
-pub mod Counts
 pub mod CostsTold
 pub mod Told
 pub use Rattle.tp_check.specs.Passes

@@ -2,12 +2,11 @@
 
 ghost use Rattle.std.specs.Prelude.{◌≡◌, length, map, None, IfOk, IfSome};
 ghost use Rattle.tp_decode.specs.Cutting.{IsCutting};
-ghost use Rattle.tpw_why.specs.Counts.{counted_at, AreCounted};
+ghost use Rattle.tp_accept.specs.Capped.{counted_at, AreCounted};
 ghost use Rattle.tpw_why.specs.CostsTold.{loop_cost, AreByAddress, AreCostsOf, AreCostsOfText, MayNotBeRun, BeginsWithBudget};
 
-use crate::counting::counts;
 use std::alloc::{AllocError, Global};
-use tp_accept::{Accepted, Counted, Refusal, accept};
+use tp_accept::{Accepted, Counted, Refusal, accept, costs};
 use tp_decode::{DecodeFault, Listing, decode};
 use tp_image::{Image, LoopRow};
 
@@ -114,7 +113,7 @@ pub(crate) fn costs_of_code(
     ensures by_address { IfOk result
         (λ costs. AreByAddress image.now.loops listing.now (length image.now.code) costs.by_address.items) }
 {
-    let counted = counts(alloc, image, listing)?;
+    let counted = costs(alloc, image, listing)?;
     Ok(CodeCosts {
         loops: by_loop(alloc, image, listing, &counted)?,
         by_address: by_address(alloc, image, listing, &counted)?,

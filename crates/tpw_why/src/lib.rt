@@ -6,7 +6,6 @@
 mod asked;
 mod bound;
 mod costs;
-mod counting;
 mod fields;
 mod flow;
 mod known;
