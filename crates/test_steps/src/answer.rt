@@ -7,7 +7,7 @@ use anyhow::Result;
 use std::alloc::Global;
 use std::fmt::Write;
 use tp_link::{DeviceFault, Link, LinkFault};
-use tp_machine::Outcome;
+use tp_outcome::Outcome;
 use tpw_machine::{Phase, Registers, RunFault};
 
 /// A packet that is not whole.

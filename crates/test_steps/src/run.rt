@@ -5,7 +5,7 @@ use crate::vector::Vector;
 use anyhow::{Result, anyhow};
 use std::alloc::Global;
 use tp_link::{LinkDevice, Links, Medium, Wire};
-use tp_machine::Outcome;
+use tp_outcome::Outcome;
 use tp_step::profile::MEM_START;
 use tpw_machine::{Machine, Phase, Registers, RunFault, WORKSPACE_BYTES};
 

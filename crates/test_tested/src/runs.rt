@@ -6,7 +6,7 @@ use std::alloc::Global;
 use std::process::Abort;
 use tp_image::read_image;
 use tp_link::LinkDevice;
-use tp_machine::Outcome;
+use tp_outcome::Outcome;
 use tpw_machine::{Machine, RunFault};
 
 /// What a run answers.

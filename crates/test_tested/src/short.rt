@@ -7,7 +7,7 @@ use std::alloc::Global;
 use std::process::Abort;
 use tp_image::{Image, read_image};
 use tp_link::{DeviceFault, Link, LinkDevice, LinkFault, Links, Wire};
-use tp_machine::Outcome;
+use tp_outcome::Outcome;
 use tpw_machine::{Machine, Phase, RunFault};
 use worked_steps::rows::{Expected, Row, Setting, Worker};
 use worked_steps::table::short_runs;

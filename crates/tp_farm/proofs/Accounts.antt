@@ -6,7 +6,7 @@ use Rattle.std.proofs.lemmas.List.Sums.{sum_by_push}
 use Rattle.tp_link.specs.declared.links.Link.{Link}
 use Rattle.tp_link.specs.declared.links.Link.TheVariants.{Source, Sink, Trace}
 use Rattle.tp_link.specs.declared.links.LinkFault.{LinkFault}
-use Rattle.tp_machine.specs.Devices.{Devices}
+use Rattle.tp_outcome.specs.Devices.{Devices}
 use Rattle.tp_board.specs.Sources.{Progress, HandFinished, HandAbandoned}
 use Rattle.tp_collect.specs.DoneValue.{DoneValue}
 use Rattle.tp_collect.specs.Collected.{JobValue, IsResult}

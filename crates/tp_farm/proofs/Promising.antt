@@ -12,7 +12,7 @@ use Rattle.tp_image.specs.Image.{ImageValue}
 use Rattle.tp_step.specs.Runs.{Run, RunsAlone}
 use Rattle.tp_step.proofs.StepLemmas.{one_run}
 use Rattle.tp_accept.specs.Ending as ending
-use Rattle.tp_machine.specs.Devices.{Devices}
+use Rattle.tp_outcome.specs.Devices.{Devices}
 use Rattle.tp_step.proofs.LastingLemmas.{begins_length, sends_first}
 use Rattle.tp_collect.specs.declared.collected.Entry.{Entry}
 use Rattle.tp_collect.specs.declared.collected.Entry.TheVariants as entry

@@ -17,10 +17,10 @@ use Rattle.tp_step.specs.Steps.{step, steps, Reaches}
 use Rattle.tp_step.specs.Runs.{start, HasExchanged}
 use Rattle.tp_step.proofs.StepLemmas.{steps_add, ends_in}
 use Rattle.tp_step.proofs.SentLemmas.{reached_exchanged}
-use Rattle.tp_machine.specs.declared.outcome.Outcome.{Outcome}
-use Rattle.tp_machine.specs.Devices.{Devices, packet_of}
-use Rattle.tp_machine.specs.Answers.{start_of, HasCome, Refused, Answered}
-use Rattle.tp_machine.proofs.DeviceLemmas.{packet_held}
+use Rattle.tp_outcome.specs.declared.outcome.Outcome.{Outcome}
+use Rattle.tp_outcome.specs.Devices.{Devices, packet_of}
+use Rattle.tp_outcome.specs.Answers.{start_of, HasCome, Refused, Answered}
+use Rattle.tp_outcome.proofs.DeviceLemmas.{packet_held}
 use Rattle.tp_collect.specs.DoneValue.{most_trace}
 use Rattle.tp_farm.specs.Settings.{SameSettings}
 use Rattle.tp_farm.specs.Losses.{HasCause, MayLose, TracesMore}

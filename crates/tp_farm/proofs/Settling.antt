@@ -11,7 +11,7 @@ use Rattle.std.specs.List.{All, AllZip}
 use Rattle.tp_link.specs.declared.links.Link.{Link}
 use Rattle.tp_link.specs.declared.links.LinkFault.{LinkFault}
 use Rattle.tp_link.specs.declared.links.Link.TheVariants.{Source, Sink, Trace}
-use Rattle.tp_machine.specs.Devices.{Devices}
+use Rattle.tp_outcome.specs.Devices.{Devices}
 use Rattle.tp_board.specs.declared.answer.Ledger.{Ledger}
 use Rattle.tp_board.specs.Counting.{times, once_below}
 use Rattle.tp_board.specs.Sources.{Progress}

@@ -6,7 +6,7 @@ use Rattle.tp_link.specs.declared.links.Link.{Link}
 use Rattle.tp_link.specs.declared.links.Link.TheVariants.{Source, Sink, Trace}
 use Rattle.tp_link.specs.declared.links.LinkFault.{LinkFault}
 use Rattle.tp_link.specs.declared.links.Links.{Links}
-use Rattle.tp_machine.specs.Devices.{Devices, devices_of}
+use Rattle.tp_outcome.specs.Devices.{Devices, devices_of}
 use Rattle.tp_collect.specs.declared.collected.Entry.{Entry}
 use Rattle.tp_collect.specs.declared.collected.Entry.TheVariants as entry
 use Rattle.tp_collect.specs.declared.collected.LostCause.TheVariants as cause

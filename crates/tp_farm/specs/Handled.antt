@@ -4,7 +4,7 @@ use Rattle.tp_link.specs.declared.device.DeviceFault.{DeviceFault}
 use Rattle.tp_link.specs.declared.links.Link.{Link}
 use Rattle.tp_link.specs.declared.links.LinkFault.{LinkFault}
 use Rattle.tp_image.specs.Image.{ImageValue}
-use Rattle.tp_machine.specs.Devices.{Devices}
+use Rattle.tp_outcome.specs.Devices.{Devices}
 use Rattle.tp_farm.specs.Settings.{Rises, failed_by}
 use Rattle.tp_farm.specs.Losses.{MayLose}
 

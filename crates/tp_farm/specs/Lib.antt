@@ -6,7 +6,7 @@ pub mod Works
 pub mod Refused
 pub mod Batches
 pub mod Promised
-pub use Rattle.tp_machine.specs.Devices
+pub use Rattle.tp_outcome.specs.Devices
 pub use Rattle.tp_board.specs.Limits
 pub use Rattle.tp_collect.specs.Collected
 -- What only private steps cite.

@@ -7,7 +7,7 @@ use Rattle.tp_link.specs.declared.links.Link.{Link}
 use Rattle.tp_link.specs.declared.links.Link.TheVariants.{Source, Sink, Trace}
 use Rattle.tp_image.specs.Image.{ImageValue}
 use Rattle.tp_step.specs.Runs.{TracesMoreThan}
-use Rattle.tp_machine.specs.Devices.{Devices}
+use Rattle.tp_outcome.specs.Devices.{Devices}
 use Rattle.tp_collect.specs.DoneValue.{most_trace}
 
 -- on its way from a packet's start a worker sends more bytes on link 1 than a trace may have, or than there is room for

@@ -6,7 +6,7 @@ use Rattle.tp_link.specs.declared.links.Link.TheVariants.{Trace}
 use Rattle.tp_image.specs.Image.{ImageValue}
 use Rattle.tp_step.specs.Runs.{Run}
 use Rattle.tp_accept.specs.Ending.{EndsWithin}
-use Rattle.tp_machine.specs.Devices.{Devices}
+use Rattle.tp_outcome.specs.Devices.{Devices}
 use Rattle.tp_collect.specs.declared.collected.Entry.{Entry}
 use Rattle.tp_collect.specs.declared.collected.Entry.TheVariants as entry
 use Rattle.tp_collect.specs.declared.collected.LostCause.TheVariants as cause

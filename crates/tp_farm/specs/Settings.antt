@@ -4,7 +4,7 @@ use Rattle.tp_link.specs.Device.{DeviceState, failures}
 use Rattle.tp_link.specs.declared.links.Link.{Link}
 use Rattle.tp_link.specs.declared.links.Link.TheVariants.{Source, Sink, Trace}
 use Rattle.tp_link.specs.declared.links.LinkFault.{LinkFault}
-use Rattle.tp_machine.specs.Devices.{Devices}
+use Rattle.tp_outcome.specs.Devices.{Devices}
 
 -- room, openness and whether it can fail are the same
 pub record SameDevice (before after : DeviceState) : Type 0 where

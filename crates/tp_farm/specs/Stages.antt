@@ -2,8 +2,8 @@
 use Rattle.std.specs.Prelude.{◌≡◌, ℕ, List, []}
 use Rattle.tp_image.specs.Image.{ImageValue}
 use Rattle.tp_step.specs.Runs.{Run, RunsAlone}
-use Rattle.tp_machine.specs.Devices.{Devices}
-use Rattle.tp_machine.specs.declared.outcome.Outcome.{Outcome}
+use Rattle.tp_outcome.specs.Devices.{Devices}
+use Rattle.tp_outcome.specs.declared.outcome.Outcome.{Outcome}
 
 -- the source holds the packet, and the others nothing
 pub record IsReady (packet : List ℕ) (now : Devices) : Type 0 where

@@ -5,7 +5,7 @@ use Rattle.tp_link.specs.Device.{DeviceState}
 use Rattle.tp_link.specs.declared.links.Links.{Links}
 use Rattle.tp_board.specs.Sources.{Progress}
 use Rattle.tp_collect.specs.Collecting.{Collection, vacant}
-use Rattle.tp_machine.specs.Devices.{devices_of}
+use Rattle.tp_outcome.specs.Devices.{devices_of}
 use Rattle.tp_farm.specs.declared.worker.Returned.{Returned}
 use Rattle.tp_farm.specs.declared.worker.Shared.{Shared}
 use Rattle.tp_farm.specs.Jobs.{value_of_job, AreWhole}

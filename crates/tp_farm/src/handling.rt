@@ -3,7 +3,7 @@
 ghost use Rattle.std.specs.Prelude.{◌≡◌, ℕ, ◌*◌, ◌+◌, ◌≤◌, ◌<◌, List, length, [], take, slice_get, OnOk, IfOk, IfErr, Ok, Err, Some};
 ghost use Rattle.tp_link.specs.Device.{failures};
 ghost use Rattle.tp_image.specs.Image.{ImageValue};
-ghost use Rattle.tp_machine.specs.Devices.{devices_of};
+ghost use Rattle.tp_outcome.specs.Devices.{devices_of};
 ghost use Rattle.tp_collect.specs.Collected.{IsResult};
 ghost use Rattle.tp_collect.specs.DoneValue.{most_message, most_trace};
 ghost use Rattle.tp_farm.specs.Settings.{SameDevice, SameSettings};

@@ -1,7 +1,7 @@
 //! What follows for a batch of accepted code: each function's contract is the law.
 
 ghost use Rattle.std.specs.Prelude.{◌≡◌, Bool, true, List, All};
-ghost use Rattle.tp_machine.specs.Devices.{Devices};
+ghost use Rattle.tp_outcome.specs.Devices.{Devices};
 ghost use Rattle.tp_collect.specs.declared.collected.Entry.{Entry};
 ghost use Rattle.tp_farm.specs.Jobs.{value_of_job};
 ghost use Rattle.tp_farm.specs.Batches.{IsBatch};

@@ -1,6 +1,4 @@
 pub mod Casts
-pub mod DeviceLemmas
-pub mod StartLemmas
 pub mod Inversions
 pub mod Held
 pub mod Represented
@@ -10,7 +8,6 @@ pub mod Moving
 pub mod Copying
 pub mod Turns
 pub mod Quiet
-pub mod Receiving
 pub mod Exchanging
 pub mod OneStep
 pub mod HeldPacket

@@ -1,24 +1,13 @@
 //! What follows from the answer of a run.
 
-ghost use Rattle.std.specs.Prelude.{ℕ, ◌<◌, All, Result};
-ghost use Rattle.tp_image.specs.Image.{ImageValue};
+ghost use Rattle.std.specs.Prelude.{◌<◌, All, Result};
 ghost use Rattle.tp_link.specs.declared.links.LinkFault.{LinkFault};
-ghost use Rattle.tp_step.specs.Runs.{RunsAlone};
-ghost use Rattle.tp_machine.specs.declared.outcome.Outcome.{Outcome};
-ghost use Rattle.tp_machine.specs.Devices.{Devices, packet_of};
-ghost use Rattle.tp_machine.specs.Answers.{start_of, Ended, Answered};
+ghost use Rattle.tp_outcome.specs.declared.outcome.Outcome.{Outcome};
+ghost use Rattle.tp_outcome.specs.Devices.{Devices};
+ghost use Rattle.tp_outcome.specs.Answers.{Answered};
 ghost use Rattle.tp_machine.specs.Promise.{KeepsPromise};
 
 use tp_accept::Accepted;
-
-/// A run that has ended is the run alone of the packet that the source held: its result is what the sink took, and its
-/// trace what the trace took.
-pub fn an_ended_run_is_the_run_alone()
-    ensures { (image : ImageValue) (limit : ℕ) (before after : Devices) (outcome : Outcome)
-        (run : Ended image (start_of image before) limit before after outcome) →
-        RunsAlone image (packet_of image before.source) record
-        { result = run.state.sent; error = outcome.error; steps = outcome.steps; trace = run.state.traced } }
-{}
 
 /// Accepted code never goes wrong. Let an image be accepted, with its budget. Let devices be as before, the source holding
 /// bytes, each below 256 as `held` tells, and let a run on a machine have given this answer. Then the packet's run alone ends

@@ -13,7 +13,6 @@ pub mod laws;
 mod machine;
 mod memory;
 mod messages;
-mod outcome;
 mod perform;
 mod registers;
 mod run;
@@ -23,4 +22,4 @@ mod turn;
 mod words;
 
 pub use machine::Machine;
-pub use outcome::Outcome;
+pub use tp_outcome::Outcome;

@@ -3,7 +3,7 @@
 ghost use Rattle.std.specs.Prelude.{◌≡◌, ◌+◌, ◌-◌, ◌≤◌, ◌⊎◌, MatchResult, take, drop};
 ghost use Rattle.tp_decode.specs.declared.instr.Instr.TheVariants.{Input, Output, MoveBytes};
 ghost use Rattle.tp_link.specs.Device.{after_receive, MayAnswerReceive};
-ghost use Rattle.tp_machine.specs.Devices.{devices_of};
+ghost use Rattle.tp_outcome.specs.Devices.{devices_of};
 ghost use Rattle.tp_step.specs.Effects.{effect};
 ghost use Rattle.tp_step.specs.State.{mem_start};
 ghost use Rattle.tp_machine.specs.Bytes.{put};

@@ -9,7 +9,7 @@ use Rattle.tp_link.specs.declared.links.Links.{Links}
 use Rattle.tp_link.specs.declared.wire.Wire.{Wire}
 use Rattle.tp_link.specs.Wired.{empty_media, seen_in_boxes, wired_media}
 use Rattle.tp_link.specs.declared.media.Media.{Media}
-use Rattle.tp_machine.specs.Devices.{Devices, devices}
+use Rattle.tp_outcome.specs.Devices.{Devices, devices}
 use Rattle.tp_session.specs.Fitness.{AreFit, AreFitOf}
 use Rattle.tp_program.specs.Media.{HaveRoom}
 

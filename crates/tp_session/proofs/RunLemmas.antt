@@ -17,7 +17,7 @@ use Rattle.tp_image.specs.Image.{ImageValue}
 use Rattle.tp_step.specs.Runs.{Run, RunsAlone, TracesMoreThan}
 use Rattle.tp_step.proofs.StepLemmas.{ends_in}
 use Rattle.tp_accept.specs.Acceptance.{IsAcceptable}
-use Rattle.tp_machine.specs.Devices.{Devices}
+use Rattle.tp_outcome.specs.Devices.{Devices}
 use Rattle.tp_collect.specs.Collected.{JobValue}
 use Rattle.tp_collect.specs.declared.collected.Entry.{Entry}
 use Rattle.tp_collect.specs.declared.collected.Entry.TheVariants as entry

@@ -2,7 +2,7 @@
 use Rattle.std.specs.Prelude.{◌≡◌, ◌≤◌, List, length, map, All}
 use Rattle.tp_link.specs.Device.{DeviceState}
 use Rattle.tp_link.specs.declared.links.Links.{Links}
-use Rattle.tp_machine.specs.Devices.{Devices, devices_of}
+use Rattle.tp_outcome.specs.Devices.{Devices, devices_of}
 use Rattle.tp_board.specs.Limits.{most_members}
 use Rattle.tp_collect.specs.DoneValue.{most_trace}
 use Rattle.tp_farm.specs.Promised.{Takes}

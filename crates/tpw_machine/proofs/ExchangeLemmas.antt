@@ -12,12 +12,12 @@ use Rattle.tp_step.specs.Effects.{effect, link0_input, link0_output, is_packet, 
 use Rattle.tpw_machine.specs.declared.phase.Phase.{Phase}
 use Rattle.tpw_machine.specs.declared.machine.Machine.{Machine}
 use Rattle.tpw_machine.specs.declared.phase.Phase.TheVariants.{BeforePacket, BeforeResult, AfterResult, Stopped}
-use Rattle.tp_machine.specs.Devices.{Devices}
-use Rattle.tp_machine.specs.Answers.{RefusedReceive, RefusedSend}
+use Rattle.tp_outcome.specs.Devices.{Devices}
+use Rattle.tp_outcome.specs.Answers.{RefusedReceive, RefusedSend}
 use Rattle.tpw_machine.specs.Phases.{phase_number}
 use Rattle.tpw_machine.specs.Meaning.{Messages, HasExchanged, memory_of, state_of}
-use Rattle.tp_machine.proofs.DeviceLemmas.{took_more}
-use Rattle.tp_machine.proofs.Receiving as receiving
+use Rattle.tp_outcome.proofs.DeviceLemmas.{took_more}
+use Rattle.tp_outcome.proofs.Receiving as receiving
 
 module _ (image : ImageValue) (s : State) (n channel target : ℕ) (a_is : s.areg ≡ Some n) (b_is : s.breg ≡ Some channel) (c_is : s.creg ≡ Some target) where
   -- in, where it is the packet's and its places are in the workspace

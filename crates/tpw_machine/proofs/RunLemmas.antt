@@ -8,19 +8,19 @@ use Rattle.tp_step.specs.Runs.{start}
 use Rattle.tp_step.proofs.StepLemmas.{steps_add}
 use Rattle.tp_decode.specs.Words.{low_word}
 use Rattle.tpw_machine.specs.declared.machine.Machine.{Machine}
-use Rattle.tp_machine.specs.declared.outcome.Outcome.{Outcome}
+use Rattle.tp_outcome.specs.declared.outcome.Outcome.{Outcome}
 use Rattle.tpw_machine.specs.declared.fault.RunFault.{RunFault}
 use Rattle.tpw_machine.specs.declared.fault.RunFault.TheVariants as fault
 use Rattle.tpw_machine.specs.declared.phase.Phase.{Phase}
 use Rattle.tpw_machine.specs.declared.phase.Phase.TheVariants.{BeforePacket, Stopped}
 use Rattle.tpw_machine.specs.declared.turn.Turn.TheVariants as turn
-use Rattle.tp_machine.specs.Devices.{Devices, Gave, packet_of}
-use Rattle.tp_machine.specs.Answers.{HasCome}
+use Rattle.tp_outcome.specs.Devices.{Devices, Gave, packet_of}
+use Rattle.tp_outcome.specs.Answers.{HasCome}
 use Rattle.tpw_machine.specs.Answers.{AnsweredFrom, Answered}
 use Rattle.tpw_machine.specs.Phases.{is_stopped}
 use Rattle.tpw_machine.specs.Meaning.{state_of, Turned}
 use Rattle.tpw_machine.specs.Resuming.{nothing_sent, HasReached, HasReachedBy, Resumed, LeavesMachine}
-use Rattle.tp_machine.proofs.DeviceLemmas.{packet_length, gave_none, took_none}
+use Rattle.tp_outcome.proofs.DeviceLemmas.{packet_length, gave_none, took_none}
 use Rattle.tpw_machine.proofs.TurnLemmas.{not_stopped}
 
 -- where it stands at first, with nothing sent

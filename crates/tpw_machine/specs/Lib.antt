@@ -8,4 +8,4 @@ pub use Rattle.tp_step.specs.Steps
 pub use Rattle.tp_step.specs.Runs
 pub use Rattle.tp_image.specs.Image
 pub use Rattle.tp_link.specs.Device
-pub use Rattle.tp_machine.specs.Devices
+pub use Rattle.tp_outcome.specs.Devices

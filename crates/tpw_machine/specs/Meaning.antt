@@ -9,8 +9,8 @@ use Rattle.tpw_machine.specs.declared.phase.Phase.TheVariants.{BeforePacket}
 use Rattle.tpw_machine.specs.Phases.{phase_number, is_stopped}
 use Rattle.tpw_machine.specs.declared.turn.Turn.{Turn}
 use Rattle.tpw_machine.specs.declared.turn.Turn.TheVariants as turn
-use Rattle.tp_machine.specs.Devices.{Devices, packet_of, Took, Gave}
-use Rattle.tp_machine.specs.Answers.{RefusedAt}
+use Rattle.tp_outcome.specs.Devices.{Devices, packet_of, Took, Gave}
+use Rattle.tp_outcome.specs.Answers.{RefusedAt}
 
 -- the workspace's bytes, each with its tag, from the first address on
 unfoldable pub memory_of : List Bool → List ℕ → Memory

@@ -5,12 +5,12 @@ use Rattle.tp_link.specs.Device.{DeviceState}
 use Rattle.tp_step.specs.State.{State}
 use Rattle.tp_step.specs.Steps.{steps}
 use Rattle.tpw_machine.specs.declared.machine.Machine.{Machine}
-use Rattle.tp_machine.specs.declared.outcome.Outcome.{Outcome}
+use Rattle.tp_outcome.specs.declared.outcome.Outcome.{Outcome}
 use Rattle.tpw_machine.specs.declared.fault.RunFault.{RunFault}
 use Rattle.tpw_machine.specs.declared.fault.RunFault.TheVariants as fault
 use Rattle.tpw_machine.specs.declared.phase.Phase.{Phase}
-use Rattle.tp_machine.specs.Devices.{Devices, packet_of}
-use Rattle.tp_machine.specs.Answers.{start_of}
+use Rattle.tp_outcome.specs.Devices.{Devices, packet_of}
+use Rattle.tp_outcome.specs.Answers.{start_of}
 use Rattle.tpw_machine.specs.Answers.{AnsweredFrom}
 use Rattle.tpw_machine.specs.Meaning.{Messages, state_of, HasExchanged}
 

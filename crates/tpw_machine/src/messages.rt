@@ -7,7 +7,7 @@ ghost use Rattle.tp_link.specs.Device.{after_receive, MayAnswerReceive};
 ghost use Rattle.tp_step.specs.Memory.{bytes_at, with_bytes};
 ghost use Rattle.tp_step.specs.State.{mem_start};
 ghost use Rattle.tp_step.specs.Effects.{effect, is_trace, link0_output, link0_input, may_move, has_move};
-ghost use Rattle.tp_machine.specs.Devices.{devices_of};
+ghost use Rattle.tp_outcome.specs.Devices.{devices_of};
 ghost use Rattle.tpw_machine.specs.Phases.{phase_number};
 
 use crate::machine::Machine;

@@ -1,6 +1,6 @@
 //! Runs.
 
-ghost use Rattle.tp_machine.specs.Devices.{devices_of};
+ghost use Rattle.tp_outcome.specs.Devices.{devices_of};
 ghost use Rattle.tpw_machine.specs.Answers.{Answered};
 ghost use Rattle.tpw_machine.specs.Resuming.{nothing_sent, Resumed, LeavesMachine};
 
@@ -11,7 +11,7 @@ use crate::turn::Turn;
 use crate::words::low_address;
 use tp_image::Image;
 use tp_link::{LinkDevice, Links};
-use tp_machine::Outcome;
+use tp_outcome::Outcome;
 
 impl Machine {
     ghost use Rattle.tpw_machine.specs.Meaning.{state_of};

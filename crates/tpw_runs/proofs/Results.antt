@@ -5,7 +5,7 @@ use Rattle.std.proofs.lemmas.List.{length-map}
 use Rattle.std.proofs.lemmas.List.Elements.{All-nil, All-cons, All-head, All-rest}
 use Rattle.std.proofs.lemmas.Option.{same_Some}
 use Rattle.tp_image.specs.Image.{ImageValue}
-use Rattle.tp_machine.specs.Devices.{Devices}
+use Rattle.tp_outcome.specs.Devices.{Devices}
 use Rattle.tp_collect.specs.Collected.{JobValue}
 use Rattle.tp_collect.specs.declared.collected.Entry.{Entry}
 use Rattle.tp_farm.specs.Settings.{SameSettings}

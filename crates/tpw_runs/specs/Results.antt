@@ -5,7 +5,7 @@ use Rattle.std.specs.Io.KnownBytes.{Appends}
 use Rattle.tp_image.specs.Image.{ImageValue}
 use Rattle.tp_link.specs.Device.{DeviceState}
 use Rattle.tp_link.specs.declared.links.Links.{Links}
-use Rattle.tp_machine.specs.Devices.{devices_of}
+use Rattle.tp_outcome.specs.Devices.{devices_of}
 use Rattle.tp_accept.specs.declared.accepted.Accepted.{Accepted}
 use Rattle.tp_accept.specs.Ending.{EndsWithin}
 use Rattle.tp_board.specs.Limits.{most_members}

@@ -10,8 +10,8 @@ use Rattle.tp_step.specs.Maybe.{◌>>=◌, ◌>>◌, only_if}
 use Rattle.tp_step.specs.State.{State}
 use Rattle.tp_step.specs.Steps.{step, steps, code_byte, executed}
 use Rattle.tp_step.proofs.StepLemmas.{steps_add}
-use Rattle.tp_machine.specs.Devices.{Devices}
-use Rattle.tp_machine.specs.Answers.{HasCome}
+use Rattle.tp_outcome.specs.Devices.{Devices}
+use Rattle.tp_outcome.specs.Answers.{HasCome}
 use Rattle.tpw_machine.specs.declared.machine.Machine.{Machine}
 use Rattle.tpw_machine.specs.declared.phase.Phase.{Phase}
 use Rattle.tpw_machine.specs.declared.phase.Phase.TheVariants.{Stopped}

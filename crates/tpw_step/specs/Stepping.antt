@@ -6,8 +6,8 @@ use Rattle.tp_image.specs.Image.{ImageValue}
 use Rattle.tp_link.specs.declared.links.LinkFault.{LinkFault}
 use Rattle.tp_step.specs.State.{State}
 use Rattle.tp_step.specs.Steps.{step, steps, code_byte, IsStuck}
-use Rattle.tp_machine.specs.Devices.{Devices}
-use Rattle.tp_machine.specs.Answers.{HasCome, RefusedAt}
+use Rattle.tp_outcome.specs.Devices.{Devices}
+use Rattle.tp_outcome.specs.Answers.{HasCome, RefusedAt}
 use Rattle.tpw_machine.specs.declared.phase.Phase.{Phase}
 use Rattle.tpw_machine.specs.declared.phase.Phase.TheVariants.{Stopped}
 use Rattle.tpw_machine.specs.declared.turn.Turn.{Turn}

@@ -4,7 +4,7 @@ ghost use Rattle.std.specs.Prelude.{◌≡◌, ◌<◌, ℕ, ◌+◌, ◌*◌, L
 ghost use Rattle.tp_step.specs.Memory.{word_at};
 ghost use Rattle.tp_step.specs.State.{mem_start};
 ghost use Rattle.tp_step.specs.Runs.{start};
-ghost use Rattle.tp_machine.specs.Devices.{devices_of};
+ghost use Rattle.tp_outcome.specs.Devices.{devices_of};
 ghost use Rattle.tpw_machine.specs.declared.phase.Phase.TheVariants.{BeforePacket};
 ghost use Rattle.tpw_machine.specs.Meaning.{memory_of, state_of};
 ghost use Rattle.tpw_step.specs.Stepping.{Came};

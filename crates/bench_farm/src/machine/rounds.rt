@@ -5,7 +5,7 @@ use std::alloc::Global;
 use tp_accept::Accepted;
 use tp_image::Image;
 use tp_link::{Link, LinkDevice, Links, Media, Wire};
-use tp_machine::Outcome;
+use tp_outcome::Outcome;
 
 /// The bytes of the longest packet and the longest result.
 const MESSAGE_BYTES: usize = 64;

@@ -4,7 +4,7 @@ use Rattle.std.specs.Int.{w32, to_le_bytes}
 use Rattle.tp_image.specs.Image.{InRange}
 use Rattle.tp_step.specs.Memory.{with_bytes, nothing_defined}
 use Rattle.tp_step.specs.State.{mem_start}
-use Rattle.tp_machine.proofs.StartLemmas.{with_none, word_more, all_words}
+use Rattle.tp_outcome.proofs.StartLemmas.{with_none, word_more, all_words}
 use Rattle.tp_machine.specs.Bytes.{put}
 use Rattle.tp_machine.specs.Representation.{Holds}
 use Rattle.tp_machine.proofs.Held.{held_put}

@@ -1,5 +1,5 @@
 use Rattle.std.proofs.Common.{map, All, sym, subst}
-use Rattle.tp_machine.specs.Devices.{devices_of}
+use Rattle.tp_outcome.specs.Devices.{devices_of}
 use Rattle.tp_session.specs.Fitness.{AreFitOf}
 use Rattle.tp_session.proofs.RunLemmas.{fit_taken, fit_left, fit_both}
 use Rattle.tp_session.proofs.running.run_on_enough.Goals as goal

@@ -1,5 +1,5 @@
 use Rattle.std.proofs.Common.{map, refl, sym, subst, All, length, ap, ◌∙◌, true}
-use Rattle.tp_machine.specs.Devices.{devices_of}
+use Rattle.tp_outcome.specs.Devices.{devices_of}
 use Rattle.tp_accept.proofs.NeverWrong.{never_goes_wrong_of}
 use Rattle.tp_farm.specs.Jobs.{value_of_job}
 use Rattle.tp_farm.proofs.Promising.{loses_long_traces}

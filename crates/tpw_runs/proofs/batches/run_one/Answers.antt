@@ -1,5 +1,5 @@
 use Rattle.std.proofs.Common.{◌≡◌, ◌≤◌, None, All, IfErr, map, length, refl, sym, subst, ap, ◌∙◌, true, arith}
-use Rattle.tp_machine.specs.Devices.{devices_of}
+use Rattle.tp_outcome.specs.Devices.{devices_of}
 use Rattle.tp_accept.proofs.NeverWrong.{never_goes_wrong_of}
 use Rattle.tp_farm.specs.Jobs.{value_of_job}
 use Rattle.tp_farm.specs.Refused.{job_fault}

@@ -6,7 +6,7 @@ use Rattle.tp_step.specs.Runs.{first_words}
 use Rattle.std.specs.Prelude.{flat_map}
 use Rattle.std.specs.Int.{w32, to_le_bytes}
 use Rattle.tpw_machine.specs.declared.machine.Machine.{Machine}
-use Rattle.tp_machine.proofs.StartLemmas.{with_none, word_more, all_words}
+use Rattle.tp_outcome.proofs.StartLemmas.{with_none, word_more, all_words}
 use Rattle.tpw_machine.proofs.machine.Machine.fill_workspace.Goals as goal
 
 pub loop-i-init : goal.loop-i-init

@@ -1,5 +1,5 @@
 use Rattle.std.proofs.Common.{refl, sym, ◌∙◌, subst}
-use Rattle.tp_machine.specs.Devices.{devices_of}
+use Rattle.tp_outcome.specs.Devices.{devices_of}
 use Rattle.tpw_machine.specs.Meaning.{HasExchanged, state_of}
 use Rattle.tpw_machine.proofs.ExchangeLemmas.{input_refused, input_received, input_other, input_outside, input_no_place, packet_is, is_packet_at}
 use Rattle.tpw_machine.proofs.machine.Machine.input.Goals as goal

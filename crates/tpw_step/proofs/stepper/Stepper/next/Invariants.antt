@@ -1,5 +1,5 @@
 use Rattle.std.proofs.Common.{◌≡◌}
-use Rattle.tp_machine.specs.Devices.{devices_of}
+use Rattle.tp_outcome.specs.Devices.{devices_of}
 use Rattle.tpw_step.proofs.Along.{Along}
 use Rattle.tpw_step.proofs.stepper.Stepper.next.Given as goal
 

@@ -4,9 +4,9 @@ use Rattle.std.proofs.lemmas.List.{take_all}
 use Rattle.tp_link.specs.declared.device.DeviceFault.{DeviceFault}
 use Rattle.tp_link.specs.Device.{DeviceState, after_receive, plain_receive, MayAnswerReceive}
 use Rattle.tp_image.specs.Image.{ImageValue}
-use Rattle.tp_machine.specs.Devices.{packet_of, Gave}
-use Rattle.tp_machine.specs.Answers.{RefusedReceive}
-use Rattle.tp_machine.proofs.DeviceLemmas.{received_was, gave_nothing, packet_length, packet_held}
+use Rattle.tp_outcome.specs.Devices.{packet_of, Gave}
+use Rattle.tp_outcome.specs.Answers.{RefusedReceive}
+use Rattle.tp_outcome.proofs.DeviceLemmas.{received_was, gave_nothing, packet_length, packet_held}
 
 module _ (image : ImageValue) (before now : DeviceState) (to_come : List ℕ) (all : to_come ≡ packet_of image before) (gave : Gave before (4 * image.packet - length to_come) now) where
   pub to_come_length : length to_come ≡ 4 * image.packet

@@ -6,7 +6,7 @@ use Rattle.tp_link.specs.declared.device.DeviceFault.{DeviceFault}
 use Rattle.tp_link.specs.declared.device.DeviceFault.TheVariants.{Closed, Full, Short}
 use Rattle.tp_link.specs.Device.{DeviceState, Answer, after_send, plain_send, plain_receive}
 use Rattle.tp_image.specs.Image.{ImageValue}
-use Rattle.tp_machine.specs.Devices.{Took, Gave, packet_of}
+use Rattle.tp_outcome.specs.Devices.{Took, Gave, packet_of}
 
 both : (o b : Bool) (e f : DeviceFault) → ◌≡◌ {A = Answer} (if o then (if b then Ok tt else Err e) else Err f) (Ok tt) → (o ≡ true) × (b ≡ true)
 both true true e f is = (refl, refl)

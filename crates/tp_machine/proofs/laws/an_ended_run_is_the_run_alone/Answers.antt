@@ -1,5 +1,0 @@
-use Rattle.tp_machine.proofs.Alone.{ended_alone}
-use Rattle.tp_machine.proofs.laws.an_ended_run_is_the_run_alone.Goals as goal
-
-pub returns : goal.returns
-returns c = ended_alone

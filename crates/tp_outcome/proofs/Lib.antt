@@ -1,0 +1,4 @@
+pub mod DeviceLemmas
+pub mod StartLemmas
+pub mod Receiving
+pub mod Alone
