@@ -7,11 +7,22 @@ ghost use Rattle.tp_program.specs.declared.ending.Ending.TheVariants.{Fault};
 ghost use Rattle.tp_program.specs.Endings.{ending_without};
 
 use crate::ending::Ending;
-use std::alloc::Global;
+use std::alloc::{AllocError, Global};
 use std::env::Args;
 use std::io;
 use std::io::ErrorKind;
 use tp_session::ServeFault;
+
+/// The words as a list.
+fn listed(words: Args, alloc: Global) -> Result<Vec<String>, AllocError>
+    ensures { IfOk result (λ all. all.items ≡ into_iter_items words) }
+{
+    let mut all = Vec::new(alloc);
+    for word in words {
+        all.push(word)?;
+    }
+    Ok(all)
+}
 
 /// The words that were had, the first of which names the program.
 pub fn words_of(words: io::Result<Args>, alloc: Global) -> Result<Vec<String>, Ending>
@@ -20,7 +31,7 @@ pub fn words_of(words: io::Result<Args>, alloc: Global) -> Result<Vec<String>, E
     ensures none { IfErr words (λ error. result ≡ Err (ending_without (error_kind error))) }
 {
     match words {
-        Ok(words) => Ok(words.collect(alloc)?),
+        Ok(words) => Ok(listed(words, alloc)?),
         Err(error) => Err(match error.kind() {
             ErrorKind::OutOfMemory => Ending::Fault(ServeFault::Memory),
             _ => Ending::NotText,
