@@ -3,7 +3,8 @@
 use crate::asserts::unwrap;
 use std::alloc::Global;
 use std::process::Abort;
-use tpw_why::{SourceText, tell};
+use tpw_source::SourceText;
+use tpw_why::explain;
 
 /// How many words the worker's loop moves on by one place.
 const MOVED: u16 = 464;
@@ -59,7 +60,7 @@ fn local(function: u8, word: u16) -> [u8; 3] {
 fn tells_a_late_refusal(rt: HostRuntime) {
     let image = moving(&rt, rt.alloc());
     let mut output = Vec::new(rt.alloc());
-    let answer = tell(rt.alloc(), &image, SourceText::NONE, &mut output);
+    let answer = explain(rt.alloc(), &image, SourceText::NONE, &mut output);
     let is_accepted = unwrap(&rt, answer.map_err(|_| "no answer"));
     let told = unwrap(&rt, str::from_utf8(&output).map_err(|_| "no text"));
     assert!(rt; !is_accepted);

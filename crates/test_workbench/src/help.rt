@@ -37,12 +37,14 @@ Arguments:
 
 Options:
       --packet <HEX>   The packet, as hexadecimal; an empty one where none is given
-      --from <PLACE>   The first instruction that is told
+      --from <PLACE>   The first instruction that is shown
       --until <PLACE>  Where the run is left
+      --watch <WORDS>  Show only instructions that change one of these words, as k,buf
   -h, --help           Print help
 
 Reads an image as hexadecimal, one line, or a worker as assembly text.
 A PLACE is an address, as 36 or 0x24, or a count of steps, as +100; in a text also a label, or a line, as line:37.
+WORDS are names of local words, buf[2] for one word of a name, or w5 for a word by its number, with commas between.
 Status 0: the worker stopped, or was left at --until. Status 1: it is stuck, or does not end, or what is read is no image.
 docs/WORKERS.md reads a run.
 ";

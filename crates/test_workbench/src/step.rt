@@ -12,11 +12,53 @@ const LABELLED: &str = "local n\nreceive n\nldl n\nadc 1\nstl n\ndone: send n\ns
 const LABELLED_STEPS: &str = "\
 7 6 ldl 0: A 7 B - C - Wptr 5 flag 0
 8 7 adc 1: A 8 B - C - Wptr 5 flag 0
-9 8 stl 0: A - B - C - Wptr 5 flag 0 w5=8
+9 8 stl 0: A - B - C - Wptr 5 flag 0 n=8
 left at 9
 result \ntrace \nflag 0
 count 9
 ";
+
+/// A text whose word k takes the address of a word of buf.
+const POINTED: &str = "packet 2\nlocal buf[2], k\nreceive buf\nldlp buf + 1\nstl k\nldl buf\nstl buf + 1\nsend buf\nstopp\n";
+
+/// The changes of its last two words, before it sends.
+const POINTED_STEPS: &str = "\
+6 5 in: A - B - C - Wptr 5 flag 0 w0=- w1=- w2=- w3=- w4=- buf[0]=5 buf[1]=7
+8 7 stl 2: A - B - C - Wptr 5 flag 0 k=&buf[1]
+10 9 stl 1: A - B - C - Wptr 5 flag 0 buf[1]=5
+left at 10
+result \ntrace \nflag 0
+count 10
+";
+
+/// Its first pointer.
+const POINTED_FROM: &str = "\
+1 0 ldlp 0: A &buf[0] B - C - Wptr 5 flag 0
+left at 1
+result \ntrace \nflag 0
+count 1
+";
+
+/// Which words may be watched.
+#[test]
+fn watched_words(rt: HostRuntime) {
+    let packet = "--packet=0500000007000000";
+    let accepted = ["buf[1],k", "k,buf[1]", "w6,w7", "w6,k"];
+    for words in accepted {
+        let words = ["tpw", "step", packet, "--watch", words, "--until", "+10"];
+        check(&rt, rt.alloc(), (POINTED, words.as_slice(), 0, POINTED_STEPS, ""));
+    }
+    let refused = ["", "buf[2]", "buf[", "buf[1]k", "buf[x]", "n", "k,", ",k", "w8", "w", "wx", "buf [1]"];
+    for words in refused {
+        let words = ["tpw", "step", packet, "--watch", words];
+        check(&rt, rt.alloc(), (POINTED, words.as_slice(), 2, "", NOT_WATCHED));
+    }
+    let words = ["tpw", "step", packet, "--until", "+1"];
+    check(&rt, rt.alloc(), (POINTED, words.as_slice(), 0, POINTED_FROM, ""));
+}
+
+/// How a word that no worker has is refused.
+const NOT_WATCHED: &str = "error: invalid value for '--watch <WORDS>': it takes names of local words, buf[2] for one word of a name, or w5 for a word by its number\n";
 
 /// How runs are printed, and the statuses that they end with.
 #[test]

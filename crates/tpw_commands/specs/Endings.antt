@@ -67,6 +67,7 @@ status_of ending.NoCommand = status.Refused
 status_of ending.NoName = status.Refused
 status_of ending.NoPacket = status.Refused
 status_of (ending.NoPlace name) = status.Refused
+status_of ending.NoWatched = status.Refused
 status_of (ending.NoWords fault) = status.Refused
 status_of ending.NoPackets = status.Refused
 status_of e = status.Failed

@@ -35,7 +35,7 @@ fn ending_of(fault: AssemblyFault, positions: &[Position]) -> Ending
 }
 
 /// Writes a text, and flushes it.
-pub fn told<W: Write>(writer: &mut W, text: &str) -> Result<Status, Ending> {
+pub fn write_line<W: Write>(writer: &mut W, text: &str) -> Result<Status, Ending> {
     match writer
         .write_all(text.as_bytes())
         .and_then(|()| writer.flush())
@@ -71,5 +71,5 @@ pub fn assemble_text<W: Write>(
         Some(name) => format!(in alloc; "{name} IMAGE {digits}\n")?,
         None => format!(in alloc; "{digits}\n")?,
     };
-    told(writer, line.as_str())
+    write_line(writer, line.as_str())
 }

@@ -3,9 +3,9 @@
 use crate::asking::Asking;
 use crate::ending::Ending;
 use crate::input::Input;
-use crate::refusing::Telling;
+use crate::refusing::Report;
 use crate::running::Running;
-use crate::stepping::{FROM, Stepping, UNTIL};
+use crate::stepping::{FROM, Stepping, UNTIL, WATCH};
 use clap::{Arg, ArgAction, ArgMatches, Command, Error, value_parser};
 use hex::FromHexError;
 use std::alloc::Global;
@@ -83,6 +83,7 @@ const PACKET: &str = "packet";
 const STEP_LINES: &str = "\
 Reads an image as hexadecimal, one line, or a worker as assembly text.
 A PLACE is an address, as 36 or 0x24, or a count of steps, as +100; in a text also a label, or a line, as line:37.
+WORDS are names of local words, buf[2] for one word of a name, or w5 for a word by its number, with commas between.
 Status 0: the worker stopped, or was left at --until. Status 1: it is stuck, or does not end, or what is read is no image.
 docs/WORKERS.md reads a run.";
 
@@ -120,7 +121,7 @@ pub enum Task {
     Profile(Asking),
     Step(Stepping),
     /// The verdict on an image.
-    Judge(Telling),
+    Judge(Report),
     /// An image of a text, behind a name where one is given.
     Assemble(Option<String>),
     Disassemble,
@@ -150,13 +151,19 @@ fn step_command<'a>(alloc: Global) -> Result<Command<'a>, Error> {
         .value_name("HEX")
         .action(ArgAction::Set)
         .help("The packet, as hexadecimal; an empty one where none is given");
+    let watch = Arg::new(alloc, WATCH)
+        .long(WATCH)
+        .value_name("WORDS")
+        .action(ArgAction::Set)
+        .help("Show only instructions that change one of these words, as k,buf");
     let command = Command::new(alloc, STEP)
         .about("Runs an image an instruction at a time, accepted by the verifier or not")
         .after_help(STEP_LINES)
         .arg(file_argument(alloc))?
         .arg(packet)?
-        .arg(place_argument(alloc, FROM, "The first instruction that is told"))?
-        .arg(place_argument(alloc, UNTIL, "Where the run is left"))?;
+        .arg(place_argument(alloc, FROM, "The first instruction that is shown"))?
+        .arg(place_argument(alloc, UNTIL, "Where the run is left"))?
+        .arg(watch)?;
     Ok(command)
 }
 
@@ -317,6 +324,7 @@ fn stepping(alloc: Global, matches: &ArgMatches<'_>) -> Result<Stepping, Ending>
         packet,
         from: text_given(alloc, matches, FROM)?,
         until: text_given(alloc, matches, UNTIL)?,
+        watch: text_given(alloc, matches, WATCH)?,
     })
 }
 
@@ -412,8 +420,8 @@ pub fn asked_by<S: AsStr>(alloc: Global, words: &[S]) -> Result<Asked, Ending> {
         STEP => Task::Step(stepping(alloc, found)?),
         ASM => assembling(alloc, found)?,
         DIS => Task::Disassemble,
-        LIST => Task::Judge(Telling::List),
-        WHY => Task::Judge(Telling::Why),
+        LIST => Task::Judge(Report::List),
+        WHY => Task::Judge(Report::Why),
         _ => return Err(Ending::NoCommand),
     };
     Ok(Asked {

@@ -12,7 +12,8 @@ use thiserror::Error;
 use tp_image::ImageFault;
 use tpw_run_text::PacketFault;
 use tpw_runs::RunFault;
-use tpw_step::{End, TellFault};
+use tpw_step::End;
+use tpw_source::ShowFault;
 use tpw_text::{SourceFault, TextFault as SourceKind};
 
 /// What the program ends with.
@@ -71,6 +72,9 @@ pub enum Ending {
     /// An option of the command line has a text that names no place.
     #[error("error: invalid value for '--{0} <PLACE>': it takes an address, as 36 or 0x24, or a count of steps, as +100; in a text a label, or a line, as line:37\n")]
     NoPlace(&'static str),
+    /// An option of the command line names a word that a worker does not have.
+    #[error("error: invalid value for '--watch <WORDS>': it takes names of local words, buf[2] for one word of a name, or w5 for a word by its number\n")]
+    NoWatched,
     /// Words of the command line say no packet.
     #[error("error: invalid value for '--words <WORDS>': {0}\n")]
     NoWords(PacketFault),
@@ -111,6 +115,7 @@ impl Ending {
             | Ending::NoCommand
             | Ending::NoName
             | Ending::NoPacket
+            | Ending::NoWatched
             | Ending::NoWords(_)
             | Ending::NoPackets
             | Ending::NoPlace(_) => Status::Refused,
@@ -168,20 +173,11 @@ impl From<SourceFault> for Ending {
     }
 }
 
-impl From<TellFault> for Ending {
-    fn from(fault: TellFault) -> Self {
+impl From<ShowFault> for Ending {
+    fn from(fault: ShowFault) -> Self {
         match fault {
-            TellFault::Memory => Ending::Memory,
-            TellFault::Write => Ending::Write,
-        }
-    }
-}
-
-impl From<tpw_why::TellFault> for Ending {
-    fn from(fault: tpw_why::TellFault) -> Self {
-        match fault {
-            tpw_why::TellFault::Memory => Ending::Memory,
-            tpw_why::TellFault::Write => Ending::Write,
+            ShowFault::Memory => Ending::Memory,
+            ShowFault::Write => Ending::Write,
         }
     }
 }

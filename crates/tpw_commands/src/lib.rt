@@ -4,6 +4,7 @@
 mod asking;
 mod assembly;
 mod command_line;
+mod disassembly;
 mod ending;
 mod fault;
 mod fielding;
@@ -16,7 +17,6 @@ mod refusing;
 mod running;
 mod shares;
 mod stepping;
-mod telling;
 mod terminal;
 mod traps;
 mod words;

@@ -5,7 +5,7 @@ use crate::fault::InputFault;
 use std::alloc::Global;
 use tpw_asm::{AssemblyFault, Program, addresses};
 use tpw_text::{Local, Position, Source, statement_of};
-use tpw_why::{Label, Named, SourceText, Statement};
+use tpw_source::{Label, Named, SourceText, Statement};
 
 /// The statements of a text at the addresses of their instructions, its labels at theirs, and its names of workspace words.
 #[derive(Drop)]

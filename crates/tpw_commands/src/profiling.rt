@@ -16,7 +16,7 @@ use tp_board::Packet;
 use tp_image::{Image, read_image};
 use tpw_step::{Profile, RunEnd, Stepper, count_run};
 use tpw_text::read_source;
-use tpw_why::SourceText;
+use tpw_source::SourceText;
 
 /// The bytes of a word.
 const WORD_BYTES: usize = 4;

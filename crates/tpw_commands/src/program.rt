@@ -2,13 +2,13 @@
 
 use crate::assembly::assemble_text;
 use crate::command_line::{Asked, Task, asked_by};
+use crate::disassembly::disassemble;
 use crate::ending::{Ending, Status};
 use crate::input::{Input, Inputs};
 use crate::profiling::profile_worker;
 use crate::refusing::judge;
 use crate::running::run_worker;
 use crate::stepping::step;
-use crate::telling::tell_image;
 use crate::terminal::Terminal;
 use crate::traps::note_traps;
 use crate::words::words_of;
@@ -44,10 +44,10 @@ where
         Task::Profile(asking) => profile_worker(alloc, inputs, &text, writer, terminal, asking),
         Task::Run(running) => run_worker(rt, alloc, inputs, &text, writer, terminal, running),
         Task::Step(stepping) => step(alloc, &text, writer, terminal.errors, stepping),
-        Task::Judge(telling) => judge(alloc, &text, *telling, writer),
+        Task::Judge(report) => judge(alloc, &text, *report, writer),
         Task::Assemble(Some(name)) => assemble_text(alloc, &text, writer, Some(name.as_str())),
         Task::Assemble(None) => assemble_text(alloc, &text, writer, None),
-        Task::Disassemble => tell_image(alloc, &text, writer),
+        Task::Disassemble => disassemble(alloc, &text, writer),
     }
 }
 
@@ -66,7 +66,7 @@ fn read_words(words: &impl Env, alloc: Global) -> Result<Asked, Ending> {
 }
 
 /// Writes why the program ends early. A fault of the command's input comes behind its name.
-fn tell<E: Write>(errors: &mut E, input: &Input, ending: &Ending) {
+fn write_ending<E: Write>(errors: &mut E, input: &Input, ending: &Ending) {
     let _ = match ending {
         Ending::Input(fault) => write!(errors, "{input}{fault}\n"),
         _ => write!(errors, "{ending}"),
@@ -100,7 +100,7 @@ where
     let status = match ended {
         Ok(status) => status,
         Err(ending) => {
-            tell(terminal.errors, &input, &ending);
+            write_ending(terminal.errors, &input, &ending);
             ending.status()
         }
     };

@@ -6,12 +6,13 @@ use crate::input::{TextFault, bytes_of, utf8};
 use crate::noting::Notes;
 use std::alloc::Global;
 use std::io::Write;
+use tpw_source::SourceText;
 use tpw_text::read_source;
-use tpw_why::{SourceText, list, tell};
+use tpw_why::{explain, list};
 
 /// How a verdict is written.
 #[derive(Clone, Copy, Debug, PartialEq, Eq)]
-pub enum Telling {
+pub enum Report {
     /// With what a refusal means, what is known there, and what helps.
     Why,
     /// With the code, and what each instruction costs.
@@ -19,44 +20,44 @@ pub enum Telling {
 }
 
 /// Judges the bytes of an image, and writes the verdict.
-fn tell_bytes<W: Write>(
+fn judge_bytes<W: Write>(
     alloc: Global,
     bytes: &[u8],
     source: SourceText<'_>,
-    telling: Telling,
+    report: Report,
     writer: &mut W,
 ) -> Result<bool, Ending> {
-    match telling {
-        Telling::Why => Ok(tell(alloc, bytes, source, writer)?),
-        Telling::List => Ok(list(alloc, bytes, source, writer)?),
+    match report {
+        Report::Why => Ok(explain(alloc, bytes, source, writer)?),
+        Report::List => Ok(list(alloc, bytes, source, writer)?),
     }
 }
 
 /// Judges the image that an assembly text says, and writes the verdict.
-fn tell_source<W: Write>(
+fn judge_source<W: Write>(
     alloc: Global,
     text: &str,
-    telling: Telling,
+    report: Report,
     writer: &mut W,
 ) -> Result<bool, Ending> {
     let source = read_source(alloc, text)?;
     let image = assembled_text(alloc, text, &source)?;
     let notes = Notes::new(alloc, text, &source)?;
-    tell_bytes(alloc, &image, notes.source_text(), telling, writer)
+    judge_bytes(alloc, &image, notes.source_text(), report, writer)
 }
 
 /// Judges the image that a text says, and writes the verdict: the image's bytes in hexadecimal, or else a worker in assembly text.
-fn tell_text<W: Write>(
+fn judge_text<W: Write>(
     alloc: Global,
     text: &[u8],
-    telling: Telling,
+    report: Report,
     writer: &mut W,
 ) -> Result<bool, Ending> {
     match bytes_of(alloc, text) {
-        Ok(bytes) => tell_bytes(alloc, &bytes, SourceText::NONE, telling, writer),
+        Ok(bytes) => judge_bytes(alloc, &bytes, SourceText::NONE, report, writer),
         Err(TextFault::Memory) => Err(Ending::Memory),
         Err(TextFault::NotADigit(_) | TextFault::HalfAByte(_)) => {
-            tell_source(alloc, utf8(text)?, telling, writer)
+            judge_source(alloc, utf8(text)?, report, writer)
         }
     }
 }
@@ -79,12 +80,12 @@ pub fn image_bytes(alloc: Global, text: &[u8]) -> Result<Vec<u8>, Ending> {
 pub fn judge<W: Write>(
     alloc: Global,
     text: &[u8],
-    telling: Telling,
+    report: Report,
     writer: &mut W,
 ) -> Result<Status, Ending> {
-    let told = tell_text(alloc, text, telling, writer);
+    let judged = judge_text(alloc, text, report, writer);
     let flushed = writer.flush();
-    let is_accepted = told?;
+    let is_accepted = judged?;
     match flushed {
         Ok(()) if is_accepted => Ok(Status::Done),
         Ok(()) => Ok(Status::Failed),

@@ -5,7 +5,7 @@ ghost use Rattle.std.specs.Prelude.{◌≡◌, ◌≤◌, ◌*◌, All, length};
 use crate::asking::{Asking, packets_in};
 use crate::ending::{Ending, Status};
 use crate::input::Inputs;
-use crate::refusing::{Telling, image_bytes, judge};
+use crate::refusing::{Report, image_bytes, judge};
 use crate::terminal::Terminal;
 use std::alloc::Global;
 use std::io::{Eprint, Read, Write};
@@ -73,7 +73,7 @@ fn worker<E: Write>(
         Ok(accepted) => Ok(Some(accepted)),
         Err(Refusal::Memory) => Err(Ending::Memory),
         Err(Refusal::Refused { .. }) => {
-            judge(alloc, text, Telling::Why, errors)?;
+            judge(alloc, text, Report::Why, errors)?;
             Ok(None)
         }
     }

@@ -7,7 +7,7 @@ use std::io::Write;
 use tp_decode::{DecodeFault, Listing, decode};
 use tp_image::{Image, LoopRow};
 use tpw_step::Profile;
-use tpw_why::{SourceText, Statement};
+use tpw_source::SourceText;
 
 /// The columns of the longest bar.
 const BAR: u64 = 30;
@@ -27,15 +27,6 @@ struct Share {
     steps: u64,
 }
 
-/// The statement that says the instruction at an address.
-fn statement_at<'a>(source: SourceText<'a>, at: usize) -> Option<Statement<'a>> {
-    source
-        .statements
-        .iter()
-        .copied()
-        .find(|statement| statement.at == at)
-}
-
 /// Adds steps to the share of a place.
 fn add(shares: &mut Vec<Share>, place: usize, steps: u64) -> Result<(), Ending> {
     for share in shares.iter_mut() {
@@ -53,7 +44,7 @@ fn shares_of(alloc: Global, shares: Shares<'_, '_>) -> Result<Vec<Share>, Ending
     let mut found = Vec::new(alloc);
     for (at, steps) in shares.profile.counts.iter().enumerate() {
         if *steps != 0 {
-            let place = match statement_at(shares.source, at) {
+            let place = match shares.source.statement_at(at) {
                 Some(statement) => statement.line,
                 None => at,
             };
@@ -131,10 +122,10 @@ fn write_loops<W: Write>(shares: Shares<'_, '_>, writer: &mut W) -> Result<(), E
             all,
             most: all,
         };
-        let told = shares.source.told_loop(number, row);
+        let name = shares.source.loop_name(number, row);
         let head = row.head;
         let lend = row.lend;
-        writeln!(writer, "{part}  loop {told}, {head} to {lend}").map_err(|_| Ending::Write)?;
+        writeln!(writer, "{part}  loop {name}, {head} to {lend}").map_err(|_| Ending::Write)?;
     }
     Ok(())
 }

@@ -8,21 +8,25 @@ use crate::place::place_of;
 use std::alloc::Global;
 use std::io::Write;
 use tp_image::{Image, read_image};
-use tpw_step::{Place, Span, tell};
+use tpw_step::{Place, Shown, Span, show_run};
 use tpw_text::read_source;
-use tpw_why::SourceText;
+use tpw_source::{Named, SourceText};
 
 /// The names of the options that take a place.
 pub const FROM: &str = "from";
 
 pub const UNTIL: &str = "until";
 
-/// What `step` is to tell: a packet's run, and the words that name the places from which and to which it is told.
+/// The name of the option that takes words.
+pub const WATCH: &str = "watch";
+
+/// What `step` is to show: a packet's run, from the place that a word names and as far as another, and of it the changes of some words.
 #[derive(Drop)]
 pub struct Stepping {
     pub packet: Vec<u8>,
     pub from: Option<String>,
     pub until: Option<String>,
+    pub watch: Option<String>,
 }
 
 /// The address of the first instruction that a line of a text says, as `line:37` names it.
@@ -62,6 +66,56 @@ fn place_named(
     }
 }
 
+/// The word that `buf[2]` names.
+fn indexed<'a>(source: SourceText<'a>, item: &str) -> Option<Named<'a>> {
+    let (name, index) = item.strip_suffix("]")?.split_once("[")?;
+    let index = index.parse::<usize>().ok()?;
+    let named = source.words.iter().copied().find(|named| named.name == name)?;
+    if named.words <= index {
+        return None;
+    }
+    Some(Named {
+        first: named.first.checked_add(index)?,
+        words: 1,
+        name: named.name,
+    })
+}
+
+/// The word that `w5` names.
+fn numbered(image: &Image, item: &str) -> Option<Named<'static>> {
+    let first = item.strip_prefix("w")?.parse::<usize>().ok()?;
+    if first < image.workspace as usize {
+        Some(Named {
+            first,
+            words: 1,
+            name: "",
+        })
+    } else {
+        None
+    }
+}
+
+/// The words that the option names, between commas.
+fn watched_of<'a>(
+    alloc: Global,
+    image: &Image,
+    source: SourceText<'a>,
+    watch: &Option<String>,
+) -> Result<Vec<Named<'a>>, Ending> {
+    let mut watched = Vec::new(alloc);
+    let Some(watch) = watch else {
+        return Ok(watched);
+    };
+    for item in watch.split(',') {
+        let named = source.words.iter().copied().find(|named| named.name == item);
+        match named.or(indexed(source, item)).or(numbered(image, item)) {
+            Some(named) => watched.push(named)?,
+            None => return Err(Ending::NoWatched),
+        }
+    }
+    Ok(watched)
+}
+
 /// Runs an image with the packet, and writes its lines.
 fn step_image<W: Write, E: Write>(
     alloc: Global,
@@ -75,10 +129,16 @@ fn step_image<W: Write, E: Write>(
         from: place_named(source, FROM, &stepping.from)?,
         until: place_named(source, UNTIL, &stepping.until)?,
     };
+    let watched = watched_of(alloc, &image, source, &stepping.watch)?;
     note_length(errors, stepping.packet.len(), &image);
-    let told = tell(alloc, image, &stepping.packet, span, writer);
+    let shown = Shown {
+        span,
+        watched: &watched,
+        source,
+    };
+    let shown = show_run(alloc, image, &stepping.packet, shown, writer);
     let flushed = writer.flush();
-    let end = told?;
+    let end = shown?;
     match flushed {
         Ok(()) => Ok(Status::from(end)),
         Err(_) => Err(Ending::Write),

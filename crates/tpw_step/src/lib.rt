@@ -14,6 +14,6 @@ mod workspace;
 
 pub use profile::{Profile, RunEnd, count_run};
 pub use reason::Reason;
-pub use run::{End, TellFault, tell};
+pub use run::{End, Shown, show_run};
 pub use span::{Place, Span};
 pub use stepper::Stepper;

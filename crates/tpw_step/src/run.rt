@@ -1,21 +1,18 @@
 //! A whole run, printed line by line.
 
-ghost use Rattle.std.specs.Prelude.{◌≡◌};
-ghost use Rattle.tpw_step.specs.declared.run.TellFault.TheVariants.{Memory};
-
 use crate::prefixes::prefixes_at;
 use crate::reason::{Reason, Stood, instruction_at, why};
 use crate::span::Span;
 use crate::stepper::Stepper;
 use crate::value::Value;
 use crate::workspace::{Workspace, Written};
-use std::alloc::{AllocError, AllocFailed, Global};
+use std::alloc::{AllocError, Global};
 use std::io::Write;
-use thiserror::Error;
 use tp_image::Image;
 use tp_link::{LinkDevice, LinkFault, Links, Media};
 use tp_step::profile::{self, MEM_START};
 use tpw_machine::{Registers, Turn};
+use tpw_source::{Named, ShowFault, SourceText};
 
 /// The longest packet, result or trace message, in bytes.
 const ROOM: usize = 256;
@@ -41,29 +38,15 @@ pub enum End {
     Unended,
 }
 
-/// Why a run could not be printed.
-#[derive(Clone, Copy, Debug, PartialEq, Eq, Error)]
-pub enum TellFault {
-    #[error("memory")]
-    Memory,
-    #[error("write")]
-    Write,
-}
-
-impl From<AllocError> for TellFault {
-    ghost from_gives = { λ _ e. e ≡ Memory };
-
-    fn from(_: AllocError) -> Self {
-        TellFault::Memory
-    }
-}
-
-impl<T: Drop> From<AllocFailed<T>> for TellFault {
-    ghost from_gives = { λ _ e. e ≡ Memory };
-
-    fn from(_: AllocFailed<T>) -> Self {
-        TellFault::Memory
-    }
+/// What is shown of a run.
+#[derive(Clone, Copy)]
+pub struct Shown<'a> {
+    /// Which instructions are.
+    pub span: Span,
+    /// Where there are some, only instructions that change one of these words are.
+    pub watched: &'a [Named<'a>],
+    /// What an assembly text says of the code.
+    pub source: SourceText<'a>,
 }
 
 /// What a run has sent.
@@ -92,32 +75,34 @@ fn taken<D: LinkDevice>(
 }
 
 /// Writes an instruction and the registers after it: Wptr as the number of the word that it points at.
-fn tell_registers<W: Write>(
+fn write_registers<W: Write>(
     writer: &mut W,
     count: u64,
     code: &[u8],
     at: i64,
     after: &Registers,
-) -> Result<(), TellFault> {
+    source: SourceText<'_>,
+) -> Result<(), ShowFault> {
     let written = match instruction_at(code, at) {
         Some(instr) => write!(writer, "{count} {at} {instr}:"),
         None => write!(writer, "{count} {at} ?:"),
     };
-    written.map_err(|_| TellFault::Write)?;
-    let a = Value(after.areg);
-    let b = Value(after.breg);
-    let c = Value(after.creg);
+    written.map_err(|_| ShowFault::Write)?;
+    let value = |word| Value { word, source };
+    let a = value(after.areg);
+    let b = value(after.breg);
+    let c = value(after.creg);
     let wptr = after.wptr.wrapping_sub(MEM_START).cast_signed() / WORD_BYTES;
     let flag = u8::from(after.error);
-    write!(writer, " A {a} B {b} C {c} Wptr {wptr} flag {flag}").map_err(|_| TellFault::Write)
+    write!(writer, " A {a} B {b} C {c} Wptr {wptr} flag {flag}").map_err(|_| ShowFault::Write)
 }
 
 /// Writes a word and bytes after it, where there are some.
-fn tell_bytes<W: Write>(writer: &mut W, name: &str, bytes: &str) -> Result<(), TellFault> {
+fn write_message<W: Write>(writer: &mut W, name: &str, bytes: &str) -> Result<(), ShowFault> {
     if bytes.is_empty() {
         Ok(())
     } else {
-        write!(writer, " {name} {bytes}").map_err(|_| TellFault::Write)
+        write!(writer, " {name} {bytes}").map_err(|_| ShowFault::Write)
     }
 }
 
@@ -127,7 +112,7 @@ struct Progress {
     /// Steps made, prefixes counted.
     count: u64,
     /// Whether it has reached where printing begins.
-    is_told: bool,
+    is_shown: bool,
 }
 
 impl Progress {
@@ -137,9 +122,9 @@ impl Progress {
             Some(place) => place.is_at(at, self.count),
             None => true,
         };
-        self.is_told = self.is_told || begins;
+        self.is_shown = self.is_shown || begins;
         match span.until {
-            Some(place) => self.is_told && place.is_at(at, self.count),
+            Some(place) => self.is_shown && place.is_at(at, self.count),
             None => false,
         }
     }
@@ -155,17 +140,18 @@ fn left(turn: Option<Turn>, stood: Stood<'_>) -> Option<End> {
     }
 }
 
-/// Makes one instruction, and prints it where the span has it. How the run is left comes back, if it is; else `stands` are the words
+/// Makes one instruction, and writes its line where it is to be shown. How the run is left comes back, if it is; else `stands` are the words
 /// where it is now.
-fn tell_one<D: LinkDevice, W: Write>(
+fn show_one<D: LinkDevice, W: Write>(
     alloc: Global,
     stepper: &mut Stepper,
     links: &mut Links<D>,
     stands: &mut Workspace,
     sent: &mut Sent,
     progress: &mut Progress,
+    shown: Shown<'_>,
     writer: &mut W,
-) -> Result<Option<End>, TellFault> {
+) -> Result<Option<End>, ShowFault> {
     let registers = stepper.registers();
     let at = registers.iptr;
     let phase = stepper.phase();
@@ -185,30 +171,32 @@ fn tell_one<D: LinkDevice, W: Write>(
     let result = taken(alloc, &mut links.sink, &mut sent.result)?;
     let trace = taken(alloc, &mut links.trace, &mut sent.trace)?;
     let after = Workspace::of(alloc, stepper)?;
-    if progress.is_told {
-        tell_registers(writer, progress.count, code, at, &stepper.registers())?;
-        let written = Written {
-            before: stands,
-            after: &after,
-        };
-        write!(writer, "{written}").map_err(|_| TellFault::Write)?;
-        tell_bytes(writer, "result", result.as_str())?;
-        tell_bytes(writer, "trace", trace.as_str())?;
-        writeln!(writer).map_err(|_| TellFault::Write)?;
+    let written = Written {
+        before: stands,
+        after: &after,
+        source: shown.source,
+    };
+    if progress.is_shown && (shown.watched.is_empty() || written.changes(shown.watched)) {
+        let registers = stepper.registers();
+        write_registers(writer, progress.count, code, at, &registers, shown.source)?;
+        write!(writer, "{written}").map_err(|_| ShowFault::Write)?;
+        write_message(writer, "result", result.as_str())?;
+        write_message(writer, "trace", trace.as_str())?;
+        writeln!(writer).map_err(|_| ShowFault::Write)?;
     }
     *stands = after;
     Ok(None)
 }
 
 /// Writes the outcome of a run: how it was left, its result, its trace, the error flag and the steps made.
-fn tell_end<W: Write>(
+fn write_end<W: Write>(
     alloc: Global,
     stepper: &Stepper,
     sent: &Sent,
     count: u64,
     end: End,
     writer: &mut W,
-) -> Result<(), TellFault> {
+) -> Result<(), ShowFault> {
     let at = stepper.registers().iptr;
     let written = match end {
         End::Stopped => writeln!(writer, "stopped"),
@@ -222,24 +210,24 @@ fn tell_end<W: Write>(
             )
         }
     };
-    written.map_err(|_| TellFault::Write)?;
+    written.map_err(|_| ShowFault::Write)?;
     let result = hex::encode(alloc, sent.result.as_slice())?;
     let trace = hex::encode(alloc, sent.trace.as_slice())?;
     let flag = u8::from(stepper.registers().error);
-    writeln!(writer, "result {result}").map_err(|_| TellFault::Write)?;
-    writeln!(writer, "trace {trace}").map_err(|_| TellFault::Write)?;
-    writeln!(writer, "flag {flag}").map_err(|_| TellFault::Write)?;
-    writeln!(writer, "count {count}").map_err(|_| TellFault::Write)
+    writeln!(writer, "result {result}").map_err(|_| ShowFault::Write)?;
+    writeln!(writer, "trace {trace}").map_err(|_| ShowFault::Write)?;
+    writeln!(writer, "flag {flag}").map_err(|_| ShowFault::Write)?;
+    writeln!(writer, "count {count}").map_err(|_| ShowFault::Write)
 }
 
-/// Runs a packet of an image from its start. Writes a line for each instruction of the span, and then the run's outcome.
-pub fn tell<W: Write>(
+/// Runs a packet of an image from its start. Writes a line for each instruction that is to be shown, and then the run's outcome.
+pub fn show_run<W: Write>(
     alloc: Global,
     image: Image,
     packet: &[u8],
-    span: Span,
+    shown: Shown<'_>,
     writer: &mut W,
-) -> Result<End, TellFault> {
+) -> Result<End, ShowFault> {
     let mut media = Media::with_rooms(alloc, packet.len(), ROOM, ROOM)?;
     let mut links = media.wires();
     let _ = links.source.send(packet);
@@ -251,21 +239,22 @@ pub fn tell<W: Write>(
     };
     let mut progress = Progress {
         count: 0,
-        is_told: false,
+        is_shown: false,
     };
     let mut end = End::Unended;
     for _ in 0..MOST_INSTRUCTIONS {
-        if progress.comes_to(span, stepper.registers().iptr) {
+        if progress.comes_to(shown.span, stepper.registers().iptr) {
             end = End::Left;
             break;
         }
-        let left = tell_one(
+        let left = show_one(
             alloc,
             &mut stepper,
             &mut links,
             &mut stands,
             &mut sent,
             &mut progress,
+            shown,
             writer,
         )?;
         if let Some(how) = left {
@@ -273,6 +262,6 @@ pub fn tell<W: Write>(
             break;
         }
     }
-    tell_end(alloc, &stepper, &sent, progress.count, end, writer)?;
+    write_end(alloc, &stepper, &sent, progress.count, end, writer)?;
     Ok(end)
 }

@@ -5,6 +5,7 @@ use crate::value::Value;
 use std::alloc::{AllocError, Global};
 use std::fmt;
 use tp_step::profile::{MEM_START, WORD_BYTES};
+use tpw_source::{Named, SourceText};
 
 /// The most words of a workspace.
 const WORDS: u32 = 512;
@@ -42,11 +43,20 @@ impl Workspace {
     }
 }
 
-/// The words that an instruction has changed, each as ` w5=3` with the word's number.
+/// The words that an instruction has changed: each as ` buf[2]=3`, or as ` w5=3` with the word's number where it has no name.
 #[derive(Clone, Copy)]
 pub(crate) struct Written<'a> {
     pub(crate) before: &'a Workspace,
     pub(crate) after: &'a Workspace,
+    pub(crate) source: SourceText<'a>,
+}
+
+impl Written<'_> {
+    /// Whether a word of these is among them.
+    pub(crate) fn changes(&self, watched: &[Named<'_>]) -> bool {
+        let mut words = self.before.words.iter().zip(self.after.words.iter()).enumerate();
+        words.any(|(i, (old, new))| *old != *new && watched.iter().any(|named| named.has(i)))
+    }
 }
 
 impl fmt::Display for Written<'_> {
@@ -55,8 +65,17 @@ impl fmt::Display for Written<'_> {
         let after = self.after;
         for (i, (old, new)) in before.words.iter().zip(after.words.iter()).enumerate() {
             if *old != *new {
-                let value = Value(*new);
-                write!(f, " w{i}={value}")?;
+                let value = Value {
+                    word: *new,
+                    source: self.source,
+                };
+                match self.source.named(i) {
+                    Some(named) => {
+                        let name = named.of(i);
+                        write!(f, " {name}={value}")?;
+                    }
+                    None => write!(f, " w{i}={value}")?,
+                }
             }
         }
         Ok(())

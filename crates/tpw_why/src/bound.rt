@@ -1,11 +1,10 @@
-//! What is told of a bound: the most bytes of a run, and those of a turn of each loop.
+//! A bound: the most bytes of a run, and those of a turn of each loop.
 
 use crate::costs::LoopCost;
-use crate::source::SourceText;
-use crate::telling::TellFault;
 use std::fmt;
 use std::io::Write;
 use tp_image::Image;
+use tpw_source::{ShowFault, SourceText};
 
 /// A count of bytes; the greatest number of 64 bits stands for each that is not below it.
 #[derive(Clone, Copy)]
@@ -24,27 +23,27 @@ impl fmt::Display for Bytes {
 
 /// Writes the most bytes of a run behind a name of eight columns, and those of a turn of each loop, the last
 /// row's first: of a text, outer loops before inner ones.
-pub(crate) fn tell_bound<W: Write>(
+pub(crate) fn write_bound<W: Write>(
     source: SourceText<'_>,
     image: &Image,
     name: &str,
     bytes: u64,
     loops: &[LoopCost],
     writer: &mut W,
-) -> Result<(), TellFault> {
+) -> Result<(), ShowFault> {
     let all = Bytes(bytes);
-    write!(writer, "{name} {all}").map_err(|_| TellFault::Write)?;
+    write!(writer, "{name} {all}").map_err(|_| ShowFault::Write)?;
     let mut between = ":";
     for number in (0..image.loops.len()).rev() {
         if let (Some(row), Some(cost)) = (image.loops.get(number), loops.get(number)) {
             let turn = Bytes(cost.turn);
             let turns = cost.turns;
-            let told = source.told_loop(number, row);
-            write!(writer, "{between} {turn} a turn of {told}, {turns} turns").map_err(
-                |_| TellFault::Write,
+            let head = source.loop_name(number, row);
+            write!(writer, "{between} {turn} a turn of {head}, {turns} turns").map_err(
+                |_| ShowFault::Write,
             )?;
             between = "\n        ";
         }
     }
-    writeln!(writer).map_err(|_| TellFault::Write)
+    writeln!(writer).map_err(|_| ShowFault::Write)
 }

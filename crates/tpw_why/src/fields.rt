@@ -1,7 +1,7 @@
 //! The explanation of an image's fields and bytes.
 
 use crate::known::ToldRow;
-use crate::telling::TellFault;
+use tpw_source::ShowFault;
 use std::alloc::Global;
 use std::io::Write;
 use tp_image::{Image, ImageCode};
@@ -37,14 +37,14 @@ fn half_word(text: &[u8], place: usize) -> Option<u16> {
 }
 
 /// Writes the field that is refused, with what it may be; or how long the image is.
-pub(crate) fn tell_field<W: Write>(
+pub(crate) fn write_field<W: Write>(
     text: &[u8],
     code: ImageCode,
     place: usize,
     writer: &mut W,
-) -> Result<(), TellFault> {
+) -> Result<(), ShowFault> {
     let length = text.len();
-    let told = match (range_of(code), half_word(text, place)) {
+    let written = match (range_of(code), half_word(text, place)) {
         (Some((name, one, two)), Some(value)) => {
             let range = if text.starts_with(b"TPW2") { two } else { one };
             writeln!(
@@ -54,16 +54,16 @@ pub(crate) fn tell_field<W: Write>(
         }
         _ => writeln!(writer, "known    the image has {length} bytes"),
     };
-    told.map_err(|_| TellFault::Write)
+    written.map_err(|_| ShowFault::Write)
 }
 
 /// Writes the code bytes from a place on, as many as a spelling may have.
-pub(crate) fn tell_bytes<W: Write>(
+pub(crate) fn write_bytes<W: Write>(
     alloc: Global,
     image: &Image,
     place: usize,
     writer: &mut W,
-) -> Result<(), TellFault> {
+) -> Result<(), ShowFault> {
     let code = image.code.as_slice();
     let from = place.min(code.len());
     let to = from.saturating_add(SPELLING_BYTES).min(code.len());
@@ -73,14 +73,14 @@ pub(crate) fn tell_bytes<W: Write>(
         writer,
         "known    the code's bytes from {place} on are {bytes}, and it has {length}"
     )
-    .map_err(|_| TellFault::Write)
+    .map_err(|_| ShowFault::Write)
 }
 
 /// Writes the loops of an image.
-pub(crate) fn tell_turns<W: Write>(image: &Image, writer: &mut W) -> Result<(), TellFault> {
+pub(crate) fn write_turns<W: Write>(image: &Image, writer: &mut W) -> Result<(), ShowFault> {
     for (number, row) in image.loops.iter().enumerate() {
         let row = ToldRow(*row);
-        writeln!(writer, "known    row {number}: {row}").map_err(|_| TellFault::Write)?;
+        writeln!(writer, "known    row {number}: {row}").map_err(|_| ShowFault::Write)?;
     }
     Ok(())
 }

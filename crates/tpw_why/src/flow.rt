@@ -1,15 +1,14 @@
 //! The explanation of a refusal of flow.
 
 use crate::known::ToldRow;
-use crate::lines::tell_around;
-use crate::source::SourceText;
-use crate::telling::TellFault;
+use crate::lines::write_around;
 use std::alloc::Global;
 use std::io::Write;
 use tp_decode::{Instr, Listing};
 use tp_flow::FlowCode;
 use tp_flow::limits::MOST_TURNS;
 use tp_image::{Image, LoopRow};
+use tpw_source::{ShowFault, SourceText};
 
 /// Whether a row's range has an address.
 fn has(row: &LoopRow, at: u32) -> bool {
@@ -81,7 +80,7 @@ fn fault_of_row(image: &Image, listing: &Listing, number: usize) -> &'static str
 }
 
 /// Writes where a jump goes, if a jump is there.
-fn tell_target<W: Write>(listing: &Listing, place: usize, writer: &mut W) -> Result<(), TellFault> {
+fn write_target<W: Write>(listing: &Listing, place: usize, writer: &mut W) -> Result<(), ShowFault> {
     let (Some(instr), Some(next)) = (listing.at(place), listing.next(place)) else {
         return Ok(());
     };
@@ -94,11 +93,11 @@ fn tell_target<W: Write>(listing: &Listing, place: usize, writer: &mut W) -> Res
         writer,
         "known    the next instruction is at {next}, the target {distance} bytes on, at {target}"
     )
-    .map_err(|_| TellFault::Write)
+    .map_err(|_| ShowFault::Write)
 }
 
 /// Writes where a refusal of flow comes.
-pub(crate) fn tell_flow<W: Write>(
+pub(crate) fn write_flow<W: Write>(
     alloc: Global,
     image: &Image,
     listing: &Listing,
@@ -106,21 +105,21 @@ pub(crate) fn tell_flow<W: Write>(
     code: FlowCode,
     place: usize,
     writer: &mut W,
-) -> Result<(), TellFault> {
+) -> Result<(), ShowFault> {
     if code != FlowCode::J6 {
-        tell_around(alloc, image, listing, source, place, writer)?;
-        return tell_target(listing, place, writer);
+        write_around(alloc, image, listing, source, place, writer)?;
+        return write_target(listing, place, writer);
     }
     if let Some(row) = image.loops.get(place) {
-        let told = source.told_loop(place, row);
+        let name = source.loop_name(place, row);
         let row = ToldRow(*row);
-        write!(writer, "known    row {place}: {row}").map_err(|_| TellFault::Write)?;
+        write!(writer, "known    row {place}: {row}").map_err(|_| ShowFault::Write)?;
         if source.statements.is_empty() {
-            writeln!(writer).map_err(|_| TellFault::Write)?;
+            writeln!(writer).map_err(|_| ShowFault::Write)?;
         } else {
-            writeln!(writer, "; {told}").map_err(|_| TellFault::Write)?;
+            writeln!(writer, "; {name}").map_err(|_| ShowFault::Write)?;
         }
     }
     let fault = fault_of_row(image, listing, place);
-    writeln!(writer, "why      {fault}").map_err(|_| TellFault::Write)
+    writeln!(writer, "why      {fault}").map_err(|_| ShowFault::Write)
 }

@@ -1,6 +1,6 @@
 //! Why the verifier refuses an image: the refusal's meaning, what is known where it comes, and what helps.
 //!
-//! [`first_refusal`] makes the passes over whole tables up to their first refusal. [`tell`] judges an image and explains the verdict.
+//! [`first_refusal`] makes the passes over whole tables up to their first refusal. [`explain`] judges an image and explains the verdict.
 #![tactic(auto)]
 
 mod asked;
@@ -15,9 +15,7 @@ mod meaning;
 mod origin;
 mod passes;
 mod refusal;
-mod source;
 mod states;
-mod telling;
 mod verdict;
 mod ways;
 mod writers;
@@ -28,7 +26,5 @@ pub use listed::list;
 pub use meaning::{Meaning, meaning_of};
 pub use passes::first_refusal;
 pub use refusal::{EdgeRefusal, FirstRefusal};
-pub use source::{Label, Named, SourceText, Statement, ToldLoop};
-pub use telling::TellFault;
 pub use tp_accept::Counted;
-pub use verdict::tell;
+pub use verdict::explain;

@@ -4,16 +4,15 @@ ghost use Rattle.std.specs.Prelude.{IfOk};
 ghost use Rattle.tp_decode.specs.Cutting.{IsCutting};
 ghost use Rattle.tpw_why.specs.Told.{IsVerdictOn};
 
-use crate::bound::tell_bound;
+use crate::bound::write_bound;
 use crate::costs::{CodeCosts, costs_of_code, listing_of};
-use crate::source::SourceText;
-use crate::telling::TellFault;
-use crate::verdict::{image_of, tell_line, tell_refusal, whole_of};
+use crate::verdict::{image_of, write_line, write_refusal, whole_of};
 use std::alloc::Global;
 use std::io::Write;
 use tp_accept::{Counted, Refusal, RefusalCode, accept};
 use tp_decode::{DecodeFault, Listing, Placed, decode};
 use tp_image::Image;
+use tpw_source::{ShowFault, SourceText};
 
 /// What is listed: an image, its instructions, and what a text says of them.
 #[derive(Clone, Copy)]
@@ -28,11 +27,11 @@ fn list_labels<W: Write>(
     source: SourceText<'_>,
     at: usize,
     writer: &mut W,
-) -> Result<(), TellFault> {
+) -> Result<(), ShowFault> {
     for label in source.labels {
         if label.at == at {
             let name = label.name;
-            writeln!(writer, "{name}:").map_err(|_| TellFault::Write)?;
+            writeln!(writer, "{name}:").map_err(|_| ShowFault::Write)?;
         }
     }
     Ok(())
@@ -45,7 +44,7 @@ fn list_place<W: Write>(
     placed: Placed,
     cost: Option<Counted>,
     writer: &mut W,
-) -> Result<(), TellFault> {
+) -> Result<(), ShowFault> {
     let Placed { at, next, .. } = placed;
     let bytes = hex::encode(alloc, code.get(at..next).unwrap_or(&[]))?;
     let bytes = bytes.as_str();
@@ -56,7 +55,7 @@ fn list_place<W: Write>(
         }
         None => write!(writer, "{at:>6}  {bytes:<16}           -  "),
     }
-    .map_err(|_| TellFault::Write)
+    .map_err(|_| ShowFault::Write)
 }
 
 /// Writes an instruction, and the line of the text that says it, if it is another than that of the one before.
@@ -66,11 +65,11 @@ fn list_text<W: Write>(
     placed: Placed,
     line: &mut usize,
     writer: &mut W,
-) -> Result<(), TellFault> {
+) -> Result<(), ShowFault> {
     let Placed { at, instr, .. } = placed;
     let instr = format!(in alloc; "{instr}")?;
     let instr = instr.as_str();
-    let told = match source.statement_at(at) {
+    let written = match source.statement_at(at) {
         Some(statement) if statement.line != *line => {
             *line = statement.line;
             let text = statement.text;
@@ -78,7 +77,7 @@ fn list_text<W: Write>(
         }
         _ => writeln!(writer, "{instr}"),
     };
-    told.map_err(|_| TellFault::Write)
+    written.map_err(|_| ShowFault::Write)
 }
 
 /// Writes each instruction. Without costs a dash stands in their place.
@@ -87,9 +86,9 @@ fn list_code<W: Write>(
     listed: Listed<'_>,
     costs: &[Option<Counted>],
     writer: &mut W,
-) -> Result<(), TellFault> {
+) -> Result<(), ShowFault> {
     writeln!(writer, "    at  bytes                   left  instruction").map_err(
-        |_| TellFault::Write,
+        |_| ShowFault::Write,
     )?;
     let Listed {
         image,
@@ -114,12 +113,12 @@ fn list_costs<W: Write>(
     listed: Listed<'_>,
     name: &str,
     writer: &mut W,
-) -> Result<(), TellFault>
+) -> Result<(), ShowFault>
     requires { IsCutting listed.image.now.code listed.listing.now }
 {
     let costs = costs_of_code(alloc, listed.image, listed.listing)?;
     let bytes = whole_of(&costs);
-    tell_bound(
+    write_bound(
         listed.source,
         listed.image,
         name,
@@ -138,15 +137,15 @@ fn list_refused<W: Write>(
     code: RefusalCode,
     place: usize,
     writer: &mut W,
-) -> Result<(), TellFault> {
+) -> Result<(), ShowFault> {
     let Some(image) = image_of(alloc, text)? else {
-        return tell_refusal(alloc, text, source, code, place, writer);
+        return write_refusal(alloc, text, source, code, place, writer);
     };
     let listing = match decode(alloc, &image.code) {
         Ok(listing) => listing,
-        Err(DecodeFault::Memory) => return Err(TellFault::Memory),
+        Err(DecodeFault::Memory) => return Err(ShowFault::Memory),
         Err(DecodeFault::Refused { .. }) => {
-            return tell_refusal(alloc, text, source, code, place, writer);
+            return write_refusal(alloc, text, source, code, place, writer);
         }
     };
     let listed = Listed {
@@ -154,7 +153,7 @@ fn list_refused<W: Write>(
         listing: &listing,
         source,
     };
-    tell_line(code, place, writer)?;
+    write_line(code, place, writer)?;
     match code {
         RefusalCode::State(_) | RefusalCode::B1 => list_costs(alloc, listed, "bound   ", writer),
         RefusalCode::Image(_) | RefusalCode::Cutting(_) | RefusalCode::Flow(_) => {
@@ -171,14 +170,14 @@ pub fn list<W: Write>(
     text: &[u8],
     source: SourceText<'_>,
     writer: &mut W,
-) -> Result<bool, TellFault>
+) -> Result<bool, ShowFault>
     ensures { IfOk result (IsVerdictOn text.now) }
 {
     match accept(alloc, Vec::from_slice(alloc, text)?) {
         Ok(accepted) => {
             let bytes = accepted.code().len();
             let budget = accepted.budget();
-            writeln!(writer, "YES {bytes} {budget}").map_err(|_| TellFault::Write)?;
+            writeln!(writer, "YES {bytes} {budget}").map_err(|_| ShowFault::Write)?;
             let listing = listing_of(alloc, &accepted)?;
             let listed = Listed {
                 image: accepted.image(),
@@ -188,7 +187,7 @@ pub fn list<W: Write>(
             list_costs(alloc, listed, "budget  ", writer)?;
             Ok(true)
         }
-        Err(Refusal::Memory) => Err(TellFault::Memory),
+        Err(Refusal::Memory) => Err(ShowFault::Memory),
         Err(Refusal::Refused { code, place }) => {
             list_refused(alloc, text, source, code, place, writer)?;
             Ok(false)

@@ -7,12 +7,10 @@ ghost use Rattle.tp_check.specs.Tables.{table_of, HasPlacedStates};
 
 use crate::asked::asked_by;
 use crate::known::{KnownPhase, KnownRegister, KnownWord};
-use crate::lines::tell_around;
+use crate::lines::write_around;
 use crate::passes::asked;
 use crate::refusal::{EdgeRefusal, FirstRefusal};
-use crate::source::{SourceText, ToldNames};
-use crate::telling::TellFault;
-use crate::written::{Finding, tell_written};
+use crate::written::{Finding, write_written};
 use std::alloc::Global;
 use std::io::Write;
 use tp_check::state_at;
@@ -21,6 +19,7 @@ use tp_flow::{Edge, Nest};
 use tp_image::{Image, LoopRow};
 use tp_state::{Cell, State, StateCode, StateFault, after};
 use tp_step::profile::FRAME_WORDS;
+use tpw_source::{Names, ShowFault, SourceText};
 
 /// The name of an edge.
 fn name_of(edge: Edge) -> &'static str {
@@ -33,52 +32,52 @@ fn name_of(edge: Edge) -> &'static str {
 }
 
 /// Writes what is known of the registers of a state.
-fn tell_registers<W: Write>(state: &State, writer: &mut W) -> Result<(), TellFault> {
+fn write_registers<W: Write>(state: &State, writer: &mut W) -> Result<(), ShowFault> {
     let a = KnownRegister(state.a);
     let b = KnownRegister(state.b);
     let c = KnownRegister(state.c);
-    writeln!(writer, "Areg {a}; Breg {b}; Creg {c}").map_err(|_| TellFault::Write)
+    writeln!(writer, "Areg {a}; Breg {b}; Creg {c}").map_err(|_| ShowFault::Write)
 }
 
 /// Writes that words from one on up to another are known so.
-fn tell_stretch<W: Write>(
+fn write_stretch<W: Write>(
     source: SourceText<'_>,
     first: usize,
     last: usize,
     cell: Cell,
     writer: &mut W,
-) -> Result<(), TellFault> {
+) -> Result<(), ShowFault> {
     let known = KnownWord(cell);
-    let told = if first == last {
+    let written = if first == last {
         let word = source.word(first);
         writeln!(writer, "         {word}: {known}")
     } else {
-        let names = ToldNames {
+        let names = Names {
             source,
             first,
             last,
         };
         writeln!(writer, "         words {first} to {last}{names}: {known}")
     };
-    told.map_err(|_| TellFault::Write)
+    written.map_err(|_| ShowFault::Write)
 }
 
 /// Writes what is known of the words of a workspace: of stretches of words of which the same is known.
-fn tell_words<W: Write>(
+fn write_words<W: Write>(
     source: SourceText<'_>,
     state: &State,
     words: usize,
     writer: &mut W,
-) -> Result<(), TellFault> {
+) -> Result<(), ShowFault> {
     let mut first = 0;
     for word in 1..words {
         let cell = state.cells.get(first);
         if state.cells.get(word) != cell {
-            tell_stretch(source, first, word.saturating_sub(1), cell, writer)?;
+            write_stretch(source, first, word.saturating_sub(1), cell, writer)?;
             first = word;
         }
     }
-    tell_stretch(
+    write_stretch(
         source,
         first,
         words.saturating_sub(1),
@@ -88,23 +87,23 @@ fn tell_words<W: Write>(
 }
 
 /// Writes what is known before an instruction.
-fn tell_known<W: Write>(
+fn write_known<W: Write>(
     source: SourceText<'_>,
     state: &State,
     image: &Image,
     nest: &Nest,
     at: usize,
     writer: &mut W,
-) -> Result<(), TellFault> {
-    write!(writer, "known    ").map_err(|_| TellFault::Write)?;
-    tell_registers(state, writer)?;
+) -> Result<(), ShowFault> {
+    write!(writer, "known    ").map_err(|_| ShowFault::Write)?;
+    write_registers(state, writer)?;
     let wptr = state.wptr;
     let phase = KnownPhase(state.phase);
-    writeln!(writer, "         Wptr at word {wptr}; {phase}").map_err(|_| TellFault::Write)?;
+    writeln!(writer, "         Wptr at word {wptr}; {phase}").map_err(|_| ShowFault::Write)?;
     for row in &nest.around(at) {
-        writeln!(writer, "         in the loop of row {row}").map_err(|_| TellFault::Write)?;
+        writeln!(writer, "         in the loop of row {row}").map_err(|_| ShowFault::Write)?;
     }
-    tell_words(source, state, image.workspace as usize, writer)
+    write_words(source, state, image.workspace as usize, writer)
 }
 
 /// Whether a word is a live control word.
@@ -145,16 +144,16 @@ fn row_entered(nest: &Nest, refusal: &EdgeRefusal) -> Option<usize> {
 }
 
 /// Writes which meaning of S5 it is, and what a loop asks that is entered.
-fn tell_loop<W: Write>(
+fn write_loop<W: Write>(
     image: &Image,
     nest: &Nest,
     refusal: &EdgeRefusal,
     state: &State,
     writer: &mut W,
-) -> Result<(), TellFault> {
+) -> Result<(), ShowFault> {
     let entered = row_entered(nest, refusal);
     let meaning = meaning_of_s5(refusal.instruction.instr, state, entered.is_some());
-    writeln!(writer, "why      {meaning}").map_err(|_| TellFault::Write)?;
+    writeln!(writer, "why      {meaning}").map_err(|_| ShowFault::Write)?;
     let Some(number) = entered else {
         return Ok(());
     };
@@ -173,11 +172,11 @@ fn tell_loop<W: Write>(
         writer,
         "         row {number}, head {head}: word {control} is to be {start}, word {behind} is to be {count}"
     )
-    .map_err(|_| TellFault::Write)
+    .map_err(|_| ShowFault::Write)
 }
 
 /// Writes what an edge brings to an address, if it leads there and there is a state before its instruction.
-fn tell_arrival<W: Write>(
+fn write_arrival<W: Write>(
     alloc: Global,
     image: &Image,
     nest: &Nest,
@@ -186,7 +185,7 @@ fn tell_arrival<W: Write>(
     edge: Edge,
     to: usize,
     writer: &mut W,
-) -> Result<(), TellFault>
+) -> Result<(), ShowFault>
     requires good { HasGoodLoops image.now }
     requires nest { nest.now ≡ ranges image.now.loops }
     requires placed { HasPlacedStates image.now (table_of table.now) }
@@ -201,16 +200,16 @@ fn tell_arrival<W: Write>(
     match after(alloc, state, at, next, instr, edge, image, nest) {
         Ok(outcome) => {
             let name = name_of(edge);
-            write!(writer, "from     {at} by {name}: ").map_err(|_| TellFault::Write)?;
-            tell_registers(&outcome, writer)
+            write!(writer, "from     {at} by {name}: ").map_err(|_| ShowFault::Write)?;
+            write_registers(&outcome, writer)
         }
-        Err(StateFault::Memory) => Err(TellFault::Memory),
+        Err(StateFault::Memory) => Err(ShowFault::Memory),
         Err(StateFault::Refused { .. }) => Ok(()),
     }
 }
 
 /// Writes what each edge brings to an address.
-fn tell_arrivals<W: Write>(
+fn write_arrivals<W: Write>(
     alloc: Global,
     image: &Image,
     listing: &Listing,
@@ -218,7 +217,7 @@ fn tell_arrivals<W: Write>(
     table: &[Option<State>],
     to: usize,
     writer: &mut W,
-) -> Result<(), TellFault>
+) -> Result<(), ShowFault>
     requires good { HasGoodLoops image.now }
     requires nest { nest.now ≡ ranges image.now.loops }
     requires placed { HasPlacedStates image.now (table_of table.now) }
@@ -226,7 +225,7 @@ fn tell_arrivals<W: Write>(
     for i in 0..listing.len() {
         if let Some(place) = listing.get(i) {
             for edge in asked(place.instr) {
-                tell_arrival(alloc, image, nest, table, place, *edge, to, writer)?;
+                write_arrival(alloc, image, nest, table, place, *edge, to, writer)?;
             }
         }
     }
@@ -234,11 +233,11 @@ fn tell_arrivals<W: Write>(
 }
 
 /// Writes what is there already, where two edges may not meet.
-fn tell_meeting<W: Write>(
+fn write_meeting<W: Write>(
     table: &[Option<State>],
     refusal: &EdgeRefusal,
     writer: &mut W,
-) -> Result<(), TellFault> {
+) -> Result<(), ShowFault> {
     let place = refusal.place;
     let at = refusal.instruction.at;
     let Some(there) = state_at(table, place) else {
@@ -254,11 +253,11 @@ fn tell_meeting<W: Write>(
         writer,
         "why      at {place} Wptr is at word {wptr}, {phase}, by another way than from {at} by {name}"
     )
-    .map_err(|_| TellFault::Write)
+    .map_err(|_| ShowFault::Write)
 }
 
 /// Writes where the passes refuse a code, and what is known there.
-pub(crate) fn tell_state<W: Write>(
+pub(crate) fn write_state<W: Write>(
     alloc: Global,
     image: &Image,
     listing: &Listing,
@@ -266,7 +265,7 @@ pub(crate) fn tell_state<W: Write>(
     source: SourceText<'_>,
     found: &FirstRefusal,
     writer: &mut W,
-) -> Result<(), TellFault>
+) -> Result<(), ShowFault>
     requires good { HasGoodLoops image.now }
     requires nest { nest.now ≡ ranges image.now.loops }
     requires placed { HasPlacedStates image.now (table_of found.now.table.items) }
@@ -277,15 +276,15 @@ pub(crate) fn tell_state<W: Write>(
         table,
     } = found;
     let at = refusal.instruction.at;
-    tell_around(alloc, image, listing, source, at, writer)?;
+    write_around(alloc, image, listing, source, at, writer)?;
     let wanted = asked_by(refusal.instruction.instr);
     let name = name_of(refusal.edge);
     let pass = passes.saturating_add(1);
-    writeln!(writer, "asked    {wanted}").map_err(|_| TellFault::Write)?;
+    writeln!(writer, "asked    {wanted}").map_err(|_| ShowFault::Write)?;
     if let Some(before) = state_at(table, at) {
-        tell_known(source, before, image, nest, at, writer)?;
+        write_known(source, before, image, nest, at, writer)?;
         if refusal.code == StateCode::S5 {
-            tell_loop(image, nest, refusal, before, writer)?;
+            write_loop(image, nest, refusal, before, writer)?;
         }
     }
     let finding = Finding {
@@ -295,12 +294,12 @@ pub(crate) fn tell_state<W: Write>(
         source,
         found,
     };
-    tell_written(alloc, finding, writer)?;
-    tell_meeting(table, refusal, writer)?;
-    tell_arrivals(alloc, image, listing, nest, table, at, writer)?;
+    write_written(alloc, finding, writer)?;
+    write_meeting(table, refusal, writer)?;
+    write_arrivals(alloc, image, listing, nest, table, at, writer)?;
     writeln!(
         writer,
         "found    in pass {pass}, on the edge {name} of the instruction at {at}"
     )
-    .map_err(|_| TellFault::Write)
+    .map_err(|_| ShowFault::Write)
 }

@@ -4,105 +4,104 @@ ghost use Rattle.std.specs.Prelude.{IfOk};
 ghost use Rattle.tp_decode.specs.Cutting.{IsCutting};
 ghost use Rattle.tpw_why.specs.Told.{IsVerdictOn};
 
-use crate::bound::tell_bound;
+use crate::bound::write_bound;
 use crate::costs::{CodeCosts, costs_of_code};
-use crate::fields::{tell_bytes, tell_field, tell_turns};
-use crate::flow::tell_flow;
+use crate::fields::{write_bytes, write_field, write_turns};
+use crate::flow::write_flow;
 use crate::meaning::meaning_of;
 use crate::passes::first_refusal;
-use crate::source::SourceText;
-use crate::states::tell_state;
-use crate::telling::TellFault;
+use crate::states::write_state;
 use std::alloc::Global;
 use std::io::Write;
 use tp_accept::{Refusal, RefusalCode, accept};
 use tp_decode::{DecodeFault, Listing, decode};
 use tp_flow::check_flow;
 use tp_image::{Image, ImageFault, read_image};
+use tpw_source::{ShowFault, SourceText};
 
 /// Judges the bytes of an image, and writes the verdict: as farmd answers it, and of a refusal what it means, where it comes, and
 /// what helps; the listing has what a text says of its lines. It answers whether the image is accepted.
-pub fn tell<W: Write>(
+pub fn explain<W: Write>(
     alloc: Global,
     text: &[u8],
     source: SourceText<'_>,
     writer: &mut W,
-) -> Result<bool, TellFault>
+) -> Result<bool, ShowFault>
     ensures { IfOk result (IsVerdictOn text.now) }
 {
     match accept(alloc, Vec::from_slice(alloc, text)?) {
         Ok(accepted) => {
             let bytes = accepted.code().len();
             let budget = accepted.budget();
-            writeln!(writer, "YES {bytes} {budget}").map_err(|_| TellFault::Write)?;
+            writeln!(writer, "YES {bytes} {budget}").map_err(|_| ShowFault::Write)?;
             Ok(true)
         }
-        Err(Refusal::Memory) => Err(TellFault::Memory),
+        Err(Refusal::Memory) => Err(ShowFault::Memory),
         Err(Refusal::Refused { code, place }) => {
-            tell_refusal(alloc, text, source, code, place, writer)?;
+            write_refusal(alloc, text, source, code, place, writer)?;
             Ok(false)
         }
     }
 }
 
 /// Writes the line of a refusal, and what it means.
-pub(crate) fn tell_line<W: Write>(
+pub(crate) fn write_line<W: Write>(
     code: RefusalCode,
     place: usize,
     writer: &mut W,
-) -> Result<(), TellFault> {
+) -> Result<(), ShowFault> {
     let refused = meaning_of(code).refused;
-    writeln!(writer, "NO {code} {place}").map_err(|_| TellFault::Write)?;
-    writeln!(writer, "refused  {refused}").map_err(|_| TellFault::Write)
+    writeln!(writer, "NO {code} {place}").map_err(|_| ShowFault::Write)?;
+    writeln!(writer, "refused  {refused}").map_err(|_| ShowFault::Write)
 }
 
 /// Writes what helps against a refusal.
-fn tell_instead<W: Write>(code: RefusalCode, writer: &mut W) -> Result<(), TellFault> {
+fn write_instead<W: Write>(code: RefusalCode, writer: &mut W) -> Result<(), ShowFault> {
     let instead = meaning_of(code).instead;
-    writeln!(writer, "instead  {instead}").map_err(|_| TellFault::Write)
+    writeln!(writer, "instead  {instead}").map_err(|_| ShowFault::Write)
 }
 
 /// The image that bytes are, if they are one.
-pub(crate) fn image_of(alloc: Global, text: &[u8]) -> Result<Option<Image>, TellFault> {
+pub(crate) fn image_of(alloc: Global, text: &[u8]) -> Result<Option<Image>, ShowFault> {
     match read_image(alloc, text) {
         Ok(image) => Ok(Some(image)),
-        Err(ImageFault::Memory) => Err(TellFault::Memory),
+        Err(ImageFault::Memory) => Err(ShowFault::Memory),
         Err(ImageFault::Refused { .. }) => Ok(None),
     }
 }
 
 /// Writes a refusal: its line, what it means, where it comes, and what helps.
-pub(crate) fn tell_refusal<W: Write>(
+pub(crate) fn write_refusal<W: Write>(
     alloc: Global,
     text: &[u8],
     source: SourceText<'_>,
     code: RefusalCode,
     place: usize,
     writer: &mut W,
-) -> Result<(), TellFault> {
-    tell_line(code, place, writer)?;
+) -> Result<(), ShowFault> {
+    write_line(code, place, writer)?;
     match code {
-        RefusalCode::Image(code) => tell_field(text, code, place, writer)?,
+        RefusalCode::Image(code) => write_field(text, code, place, writer)?,
         RefusalCode::Cutting(_) => {
             if let Some(image) = image_of(alloc, text)? {
-                tell_bytes(alloc, &image, place, writer)?;
+                write_bytes(alloc, &image, place, writer)?;
             }
         }
         code => {
             if let Some(image) = image_of(alloc, text)? {
                 match decode(alloc, &image.code) {
-                    Ok(listing) => tell_code(alloc, &image, &listing, source, code, place, writer)?,
-                    Err(DecodeFault::Memory) => return Err(TellFault::Memory),
+                    Ok(listing) => write_code(alloc, &image, &listing, source, code, place, writer)?,
+                    Err(DecodeFault::Memory) => return Err(ShowFault::Memory),
                     Err(DecodeFault::Refused { .. }) => {}
                 }
             }
         }
     }
-    tell_instead(code, writer)
+    write_instead(code, writer)
 }
 
 /// Writes where a refusal of a code that is cut comes.
-fn tell_code<W: Write>(
+fn write_code<W: Write>(
     alloc: Global,
     image: &Image,
     listing: &Listing,
@@ -110,15 +109,15 @@ fn tell_code<W: Write>(
     code: RefusalCode,
     place: usize,
     writer: &mut W,
-) -> Result<(), TellFault>
+) -> Result<(), ShowFault>
     requires { IsCutting image.now.code listing.now }
 {
     match code {
-        RefusalCode::Flow(code) => tell_flow(alloc, image, listing, source, code, place, writer),
-        RefusalCode::State(_) => tell_passes(alloc, image, listing, source, writer),
+        RefusalCode::Flow(code) => write_flow(alloc, image, listing, source, code, place, writer),
+        RefusalCode::State(_) => write_passes(alloc, image, listing, source, writer),
         RefusalCode::B1 => {
-            tell_turns(image, writer)?;
-            tell_above(alloc, image, listing, source, writer)
+            write_turns(image, writer)?;
+            write_above(alloc, image, listing, source, writer)
         }
         RefusalCode::Image(_) | RefusalCode::Cutting(_) => Ok(()),
     }
@@ -133,35 +132,35 @@ pub(crate) fn whole_of(costs: &CodeCosts) -> u64 {
 }
 
 /// Writes the bound of a code, which is above the limit.
-fn tell_above<W: Write>(
+fn write_above<W: Write>(
     alloc: Global,
     image: &Image,
     listing: &Listing,
     source: SourceText<'_>,
     writer: &mut W,
-) -> Result<(), TellFault>
+) -> Result<(), ShowFault>
     requires { IsCutting image.now.code listing.now }
 {
     let costs = costs_of_code(alloc, image, listing)?;
     let bytes = whole_of(&costs);
-    tell_bound(source, image, "bound   ", bytes, &costs.loops, writer)
+    write_bound(source, image, "bound   ", bytes, &costs.loops, writer)
 }
 
 /// Writes where the passes over a code refuse it, and what is known there: they are made once more.
-fn tell_passes<W: Write>(
+fn write_passes<W: Write>(
     alloc: Global,
     image: &Image,
     listing: &Listing,
     source: SourceText<'_>,
     writer: &mut W,
-) -> Result<(), TellFault>
+) -> Result<(), ShowFault>
     requires { IsCutting image.now.code listing.now }
 {
     let Ok(nest) = check_flow(image, listing) else {
         return Ok(());
     };
     match first_refusal(alloc, image, listing, &nest)? {
-        Some(found) => tell_state(alloc, image, listing, &nest, source, &found, writer),
+        Some(found) => write_state(alloc, image, listing, &nest, source, &found, writer),
         None => Ok(()),
     }
 }

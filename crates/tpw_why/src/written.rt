@@ -2,8 +2,6 @@
 
 use crate::origin::{Register, origin_of, wrong_register};
 use crate::refusal::{EdgeRefusal, FirstRefusal};
-use crate::source::SourceText;
-use crate::telling::TellFault;
 use crate::ways::{Way, ways_of};
 use crate::writers::{Passage, Wrote, passages_of, same_before, written_by};
 use std::alloc::Global;
@@ -13,6 +11,7 @@ use tp_decode::{Instr, Listing, Placed};
 use tp_flow::Nest;
 use tp_image::Image;
 use tp_state::{Cell, Kind, State, StateCode};
+use tpw_source::{ShowFault, SourceText};
 
 /// What the verifier has found, where it refuses a state.
 #[derive(Clone, Copy)]
@@ -30,27 +29,27 @@ fn local_word(state: &State, n: i32) -> Option<usize> {
 }
 
 /// Writes that an instruction wrote a word, and what.
-fn tell_writer<W: Write>(
+fn write_writer<W: Write>(
     source: SourceText<'_>,
     word: usize,
     writer: Placed,
     did: Wrote,
     output: &mut W,
-) -> Result<(), TellFault> {
+) -> Result<(), ShowFault> {
     let word = source.word(word);
     let Placed { at, instr, .. } = writer;
-    writeln!(output, "written  {word} by {at} {instr}: {did}").map_err(|_| TellFault::Write)
+    writeln!(output, "written  {word} by {at} {instr}: {did}").map_err(|_| ShowFault::Write)
 }
 
 /// Writes which instructions wrote a word last on the ways to an address, or that a way leads there on which none did.
-fn tell_writers<W: Write>(
+fn write_writers<W: Write>(
     alloc: Global,
     finding: Finding<'_>,
     ways: &[Way],
     word: usize,
     at: usize,
     output: &mut W,
-) -> Result<(), TellFault> {
+) -> Result<(), ShowFault> {
     let Finding {
         image,
         nest,
@@ -68,11 +67,11 @@ fn tell_writers<W: Write>(
             output,
             "written  {word} by no instruction on a way: it begins as {first}"
         )
-        .map_err(|_| TellFault::Write)?;
+        .map_err(|_| ShowFault::Write)?;
     }
     for Passage { way, wrote } in &passages {
         if let (Some(wrote), Some(true)) = (wrote, marks.get(way.to)) {
-            tell_writer(source, word, way.from, *wrote, output)?;
+            write_writer(source, word, way.from, *wrote, output)?;
         }
     }
     Ok(())
@@ -80,13 +79,13 @@ fn tell_writers<W: Write>(
 
 /// Writes where a register of the wrong kind comes from: the instruction that left it, and of a word that was read, which
 /// instructions wrote that last.
-fn tell_register<W: Write>(
+fn write_register<W: Write>(
     alloc: Global,
     finding: Finding<'_>,
     ways: &[Way],
     register: Register,
     output: &mut W,
-) -> Result<(), TellFault> {
+) -> Result<(), ShowFault> {
     let at = finding.found.refusal.instruction.at;
     let Some(origin) = origin_of(ways, at, register) else {
         return Ok(());
@@ -103,46 +102,46 @@ fn tell_register<W: Write>(
     };
     let Some(word) = read else {
         return writeln!(output, "why      {name} is what {from} {instr} left").map_err(
-            |_| TellFault::Write,
+            |_| ShowFault::Write,
         );
     };
-    let told = finding.source.word(word);
+    let of = finding.source.word(word);
     writeln!(
         output,
-        "why      {name} is what {from} {instr} read from {told}"
+        "why      {name} is what {from} {instr} read from {of}"
     )
-    .map_err(|_| TellFault::Write)?;
-    tell_writers(alloc, finding, ways, word, from, output)
+    .map_err(|_| ShowFault::Write)?;
+    write_writers(alloc, finding, ways, word, from, output)
 }
 
 /// Writes which instructions wrote a word last on the edge that is refused.
-fn tell_entered<W: Write>(
+fn write_entered<W: Write>(
     alloc: Global,
     finding: Finding<'_>,
     ways: &[Way],
     state: &State,
     word: usize,
     output: &mut W,
-) -> Result<(), TellFault> {
+) -> Result<(), ShowFault> {
     let EdgeRefusal {
         instruction,
         edge,
         ..
     } = finding.found.refusal;
     match written_by(finding.image, finding.nest, instruction, edge, state, word) {
-        Some(did) => tell_writer(finding.source, word, instruction, did, output),
-        None => tell_writers(alloc, finding, ways, word, instruction.at, output),
+        Some(did) => write_writer(finding.source, word, instruction, did, output),
+        None => write_writers(alloc, finding, ways, word, instruction.at, output),
     }
 }
 
 /// Writes which instructions wrote the words last that a loop asks for and that are not as it asks.
-fn tell_block<W: Write>(
+fn write_block<W: Write>(
     alloc: Global,
     finding: Finding<'_>,
     ways: &[Way],
     state: &State,
     output: &mut W,
-) -> Result<(), TellFault> {
+) -> Result<(), ShowFault> {
     let EdgeRefusal {
         instruction,
         edge,
@@ -163,7 +162,7 @@ fn tell_block<W: Write>(
         (control.saturating_add(1), count),
     ] {
         if known_after(finding, state, word) != wanted {
-            tell_entered(alloc, finding, ways, state, word, output)?;
+            write_entered(alloc, finding, ways, state, word, output)?;
         }
     }
     Ok(())
@@ -185,11 +184,11 @@ fn known_after(finding: Finding<'_>, state: &State, word: usize) -> Cell {
 
 /// Writes where what is refused was written, as far as the states show it: a register of the wrong kind, a local word that may be
 /// undefined, and the block of a loop that is entered.
-pub(crate) fn tell_written<W: Write>(
+pub(crate) fn write_written<W: Write>(
     alloc: Global,
     finding: Finding<'_>,
     output: &mut W,
-) -> Result<(), TellFault> {
+) -> Result<(), ShowFault> {
     let refusal = &finding.found.refusal;
     let at = refusal.instruction.at;
     let Some(state) = state_at(&finding.found.table, at) else {
@@ -198,14 +197,14 @@ pub(crate) fn tell_written<W: Write>(
     let ways = ways_of(alloc, finding.listing, finding.nest, finding.found)?;
     match (refusal.code, refusal.instruction.instr) {
         (StateCode::S2, instr) => match wrong_register(instr, state) {
-            Some(register) => tell_register(alloc, finding, &ways, register, output),
+            Some(register) => write_register(alloc, finding, &ways, register, output),
             None => Ok(()),
         },
         (StateCode::S4, Instr::Ldl(n)) => match local_word(state, n) {
-            Some(word) => tell_writers(alloc, finding, &ways, word, at, output),
+            Some(word) => write_writers(alloc, finding, &ways, word, at, output),
             None => Ok(()),
         },
-        (StateCode::S5, _) => tell_block(alloc, finding, &ways, state, output),
+        (StateCode::S5, _) => write_block(alloc, finding, &ways, state, output),
         _ => Ok(()),
     }
 }

@@ -4,7 +4,8 @@ use crate::asserts::unwrap;
 use std::alloc::Global;
 use std::process::Abort;
 use tp_image::read_image;
-use tpw_step::{End, Span, tell};
+use tpw_source::SourceText;
+use tpw_step::{End, Shown, Span, show_run};
 
 /// The whole of a run.
 pub(crate) const WHOLE: Span = Span {
@@ -22,6 +23,11 @@ pub(crate) fn told(
 ) -> (End, Vec<u8>) {
     let image = unwrap(rt, read_image(alloc, image));
     let mut text = Vec::new(alloc);
-    let end = unwrap(rt, tell(alloc, image, packet, span, &mut text));
+    let shown = Shown {
+        span,
+        watched: &[],
+        source: SourceText::NONE,
+    };
+    let end = unwrap(rt, show_run(alloc, image, packet, shown, &mut text));
     (end, text)
 }

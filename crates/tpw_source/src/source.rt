@@ -27,6 +27,36 @@ pub struct Named<'a> {
     pub name: &'a str,
 }
 
+impl<'a> Named<'a> {
+    /// Whether it names a word.
+    pub fn has(&self, word: usize) -> bool {
+        self.first <= word && word.saturating_sub(self.first) < self.words
+    }
+
+    /// A word of the name, as a text writes it.
+    pub fn of(self, word: usize) -> Indexed<'a> {
+        Indexed { named: self, word }
+    }
+}
+
+/// A word of a name: `k` where the name has one word, else `buf[2]`.
+#[derive(Clone, Copy)]
+pub struct Indexed<'a> {
+    named: Named<'a>,
+    word: usize,
+}
+
+impl fmt::Display for Indexed<'_> {
+    fn fmt<W: fmt::Write>(&self, f: &mut fmt::Formatter<W>) -> fmt::Result {
+        f.write_str(self.named.name)?;
+        if self.named.words == 1 {
+            return Ok(());
+        }
+        let index = self.word.saturating_sub(self.named.first);
+        write!(f, "[{index}]")
+    }
+}
+
 /// What a text says of its code. Of an image that no text says, it is [`SourceText::NONE`].
 #[derive(Clone, Copy)]
 pub struct SourceText<'a> {
@@ -44,7 +74,7 @@ impl<'a> SourceText<'a> {
     };
 
     /// The statement that says the instruction at an address.
-    pub(crate) fn statement_at(&self, at: usize) -> Option<Statement<'a>> {
+    pub fn statement_at(&self, at: usize) -> Option<Statement<'a>> {
         self.statements
             .iter()
             .copied()
@@ -52,7 +82,7 @@ impl<'a> SourceText<'a> {
     }
 
     /// The name of a word, if it is the first of one.
-    pub(crate) fn name_of(&self, word: usize) -> Option<&'a str> {
+    pub fn name_of(&self, word: usize) -> Option<&'a str> {
         self.words
             .iter()
             .find(|named| named.first == word)
@@ -60,7 +90,7 @@ impl<'a> SourceText<'a> {
     }
 
     /// The line of the last statement before an address.
-    pub(crate) fn line_before(&self, at: usize) -> Option<usize> {
+    pub fn line_before(&self, at: usize) -> Option<usize> {
         let mut line = None;
         for statement in self.statements {
             if statement.at < at {
@@ -70,9 +100,9 @@ impl<'a> SourceText<'a> {
         line
     }
 
-    /// The loop of a row, as it is told.
-    pub fn told_loop(&self, number: usize, row: &LoopRow) -> ToldLoop<'a> {
-        ToldLoop {
+    /// The loop of a row, by its name.
+    pub fn loop_name(&self, number: usize, row: &LoopRow) -> LoopName<'a> {
+        LoopName {
             source: *self,
             number,
             control: row.control,
@@ -80,23 +110,31 @@ impl<'a> SourceText<'a> {
         }
     }
 
+    /// The name that a word has, if it has one.
+    pub fn named(&self, word: usize) -> Option<Named<'a>> {
+        self.words
+            .iter()
+            .copied()
+            .find(|named| named.has(word))
+    }
+
     /// A word, with its name if it has one.
-    pub(crate) fn word(&self, number: usize) -> ToldWord<'a> {
-        let named = self.words.iter().copied().find(|named| {
-            named.first <= number && number.saturating_sub(named.first) < named.words
-        });
-        ToldWord { number, named }
+    pub fn word(&self, number: usize) -> WordName<'a> {
+        WordName {
+            number,
+            named: self.named(number),
+        }
     }
 }
 
-/// A workspace word, as text.
+/// A workspace word by its number, with its name behind it if it has one.
 #[derive(Clone, Copy)]
-pub(crate) struct ToldWord<'a> {
+pub struct WordName<'a> {
     number: usize,
     named: Option<Named<'a>>,
 }
 
-impl fmt::Display for ToldWord<'_> {
+impl fmt::Display for WordName<'_> {
     fn fmt<W: fmt::Write>(&self, f: &mut fmt::Formatter<W>) -> fmt::Result {
         let number = self.number;
         write!(f, "word {number}")?;
@@ -111,9 +149,9 @@ impl fmt::Display for ToldWord<'_> {
     }
 }
 
-/// A loop, as it is told: by its index's name and the line that begins it where a text says it, and by its row elsewhere.
+/// The name of a loop: by its index's name and the line that begins it where a text says it, and by its row elsewhere.
 #[derive(Clone, Copy)]
-pub struct ToldLoop<'a> {
+pub struct LoopName<'a> {
     source: SourceText<'a>,
     number: usize,
     /// The workspace word of its index.
@@ -121,7 +159,7 @@ pub struct ToldLoop<'a> {
     head: u32,
 }
 
-impl fmt::Display for ToldLoop<'_> {
+impl fmt::Display for LoopName<'_> {
     fn fmt<W: fmt::Write>(&self, f: &mut fmt::Formatter<W>) -> fmt::Result {
         let number = self.number;
         match self.source.name_of(self.control as usize) {
@@ -137,13 +175,13 @@ impl fmt::Display for ToldLoop<'_> {
 
 /// The names of words from one on up to another, behind white space and in parentheses, if there are any.
 #[derive(Clone, Copy)]
-pub(crate) struct ToldNames<'a> {
-    pub(crate) source: SourceText<'a>,
-    pub(crate) first: usize,
-    pub(crate) last: usize,
+pub struct Names<'a> {
+    pub source: SourceText<'a>,
+    pub first: usize,
+    pub last: usize,
 }
 
-impl fmt::Display for ToldNames<'_> {
+impl fmt::Display for Names<'_> {
     fn fmt<W: fmt::Write>(&self, f: &mut fmt::Formatter<W>) -> fmt::Result {
         let mut between = " (";
         for named in self.source.words {

@@ -1,34 +1,32 @@
-//! The words of a refusal's explanation.
+//! Why a text could not be written.
 
 ghost use Rattle.std.specs.Prelude.{◌≡◌};
-ghost use Rattle.tpw_why.specs.declared.telling.TellFault.TheVariants.{Memory};
+ghost use Rattle.tpw_source.specs.declared.fault.ShowFault.TheVariants.{Memory};
 
 use std::alloc::{AllocError, AllocFailed};
-use std::fmt;
-use std::io::Write;
 use thiserror::Error;
 
-/// Why a refusal could not be explained.
+/// Why what a tool shows could not be written.
 #[derive(Clone, Copy, Debug, PartialEq, Eq, Error)]
-pub enum TellFault {
+pub enum ShowFault {
     #[error("memory")]
     Memory,
     #[error("write")]
     Write,
 }
 
-impl From<AllocError> for TellFault {
+impl From<AllocError> for ShowFault {
     ghost from_gives = { λ _ e. e ≡ Memory };
 
     fn from(_: AllocError) -> Self {
-        TellFault::Memory
+        ShowFault::Memory
     }
 }
 
-impl<T: Drop> From<AllocFailed<T>> for TellFault {
+impl<T: Drop> From<AllocFailed<T>> for ShowFault {
     ghost from_gives = { λ _ e. e ≡ Memory };
 
     fn from(_: AllocFailed<T>) -> Self {
-        TellFault::Memory
+        ShowFault::Memory
     }
 }

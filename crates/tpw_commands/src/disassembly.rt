@@ -3,7 +3,7 @@
 ghost use Rattle.std.specs.Prelude.{IfOk, string_bytes};
 ghost use Rattle.tpw_commands.specs.Programs.{AreTextOf};
 
-use crate::assembly::told;
+use crate::assembly::write_line;
 use crate::ending::{Ending, Status};
 use crate::input::hex_bytes;
 use crate::noting::places_of;
@@ -72,11 +72,11 @@ fn text_of(alloc: Global, program: &Program, costs: Option<&Costs>) -> Result<St
 }
 
 /// Writes the image that a text says as assembly text. Of an accepted one, comments say where its bytes go.
-pub fn tell_image<W: Write>(alloc: Global, text: &[u8], writer: &mut W) -> Result<Status, Ending> {
+pub fn disassemble<W: Write>(alloc: Global, text: &[u8], writer: &mut W) -> Result<Status, Ending> {
     let bytes = hex_bytes(alloc, text)?;
     let image = read_image(alloc, &bytes)?;
     let program = disassemble(alloc, &image)?;
     let costs = costs_of(alloc, &bytes)?;
     let text = text_of(alloc, &program, costs.as_ref())?;
-    told(writer, text.as_str())
+    write_line(writer, text.as_str())
 }

@@ -1,0 +1,8 @@
+//! What the tools share that show a code beside its text: what an assembly text says of its code, and why a text could not be written.
+#![tactic(auto)]
+
+mod fault;
+mod source;
+
+pub use fault::ShowFault;
+pub use source::{Indexed, Label, LoopName, Named, Names, SourceText, Statement, WordName};
