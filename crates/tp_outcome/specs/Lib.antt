@@ -6,3 +6,5 @@ pub use Rattle.tp_step.specs.Steps
 pub use Rattle.tp_step.specs.Runs
 pub use Rattle.tp_image.specs.Image
 pub use Rattle.tp_link.specs.Device
+-- What only private steps cite.
+pub mod Quiet

@@ -15,7 +15,7 @@ use Rattle.tpw_machine.specs.declared.turn.Turn.{Turn}
 use Rattle.tpw_machine.specs.declared.turn.Turn.TheVariants as turn
 use Rattle.tp_outcome.specs.Devices.{Devices}
 use Rattle.tp_outcome.specs.Answers.{RefusedReceive, RefusedSend, RefusedAt}
-use Rattle.tp_outcome.specs.Devices.{is_quiet}
+use Rattle.tp_outcome.specs.Quiet.{is_quiet}
 use Rattle.tpw_machine.specs.Phases.{phase_number, is_stopped}
 use Rattle.tpw_machine.specs.Meaning.{Messages, state_of, Made, Turned, HasExchanged}
 

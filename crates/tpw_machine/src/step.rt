@@ -5,7 +5,7 @@ ghost use Rattle.tp_decode.specs.declared.instr.Instr.TheVariants.{Stopp};
 ghost use Rattle.tp_step.specs.Effects.{effect};
 ghost use Rattle.tp_step.specs.Steps.{step};
 ghost use Rattle.tp_outcome.specs.Devices.{devices_of};
-ghost use Rattle.tp_outcome.specs.Devices.{is_quiet};
+ghost use Rattle.tp_outcome.specs.Quiet.{is_quiet};
 
 use crate::machine::Machine;
 use crate::phase::Phase;
