@@ -2,6 +2,7 @@
 
 use crate::program::{STUCK, capitals, check};
 use test_samples::INCREMENT;
+use test_samples::commands::INCREMENT_LISTED;
 
 /// A loop in a loop, more than a run may have.
 const TOO_LONG: &str = "\
@@ -13,26 +14,6 @@ end i
 end o
 send s
 stopp
-";
-
-/// An image: no text says it.
-const INCREMENT_LISTED: &str = "\
-YES 16 16
-budget   16
-    at  bytes                   left  instruction
-     0  10                        16  ldlp 0
-     1  24f2                      15  mint
-     3  54                        13  ldnlp 4
-     4  44                        12  ldc 4
-     5  f7                        11  in
-     6  70                        10  ldl 0
-     7  81                         9  adc 1
-     8  d0                         8  stl 0
-     9  10                         7  ldlp 0
-    10  24f2                       6  mint
-    12  44                         4  ldc 4
-    13  fb                         3  out
-    14  21f5                       2  stopp
 ";
 
 /// Each cost is 4 times 10,000 and 11, 10,000 times, and what is before and behind.

@@ -2,6 +2,7 @@
 
 use crate::program::{STUCK, capitals, check};
 use test_samples::INCREMENT;
+use test_samples::commands::{LOOP, LOOP_COUNTED};
 
 /// Two packets, each of 16 steps, by the address of the instruction.
 const INCREMENT_COUNTED: &str = "\
@@ -19,33 +20,6 @@ steps 32
   6.2%             2  ###############                 9 ldlp 0
   6.2%             2  ###############                 12 ldc 4
   6.2%             2  ###############                 13 out
-";
-
-/// A loop of three turns, each of seven bytes: three in the loop's body, four for its end.
-const LOOP: &str = "\
-local n
-receive n
-for i = 0 for 3
-ldl n
-adc 1
-stl n
-end i
-send n
-stopp
-";
-
-/// 6 steps receive, 4 begin the loop, 21 are its turns, 5 send and 2 stop.
-const LOOP_COUNTED: &str = "\
-steps 38
- 31.5%            12  ##############################  line 7: end i
- 15.7%             6  ###############                 line 2: receive n
- 13.1%             5  ############                    line 8: send n
- 10.5%             4  ##########                      line 3: for i = 0 for 3
-  7.8%             3  #######                         line 4: ldl n
-  7.8%             3  #######                         line 5: adc 1
-  7.8%             3  #######                         line 6: stl n
-  5.2%             2  #####                           line 9: stopp
- 55.2%            21  ################                loop i (line 3), 10 to 15
 ";
 
 /// Where the steps of packets go, and what is told of a worker that does not stop.
