@@ -2,7 +2,7 @@
 
 use crate::assembly::assemble_text;
 use crate::command_line::{Asked, Task, asked_by};
-use crate::disassembly::disassemble;
+use crate::disassembly::disassemble_image;
 use crate::ending::{Ending, Status};
 use crate::input::{Input, Inputs};
 use crate::profiling::profile_worker;
@@ -47,7 +47,7 @@ where
         Task::Judge(report) => judge(alloc, &text, *report, writer),
         Task::Assemble(Some(name)) => assemble_text(alloc, &text, writer, Some(name.as_str())),
         Task::Assemble(None) => assemble_text(alloc, &text, writer, None),
-        Task::Disassemble => disassemble(alloc, &text, writer),
+        Task::Disassemble => disassemble_image(alloc, &text, writer),
     }
 }
 
