@@ -22,7 +22,7 @@ steps 32
   6.2%             2  ###############                 13 out
 ";
 
-/// Where the steps of packets go, and what is told of a worker that does not stop.
+/// Where the steps of packets go, and what is shown of a worker that does not stop.
 #[test]
 fn profiles(rt: HostRuntime) {
     let increment = capitals(&rt, rt.alloc(), INCREMENT);

@@ -1,4 +1,4 @@
--- What the run of a packet gives, as it is told.
+-- What the run of a packet gives, as it is written.
 use Rattle.std.specs.Prelude.{ℕ, Bool, List}
 
 -- the bytes sent on link 0, the error flag at the end, the instruction bytes executed, and the bytes sent on link 1

@@ -14,7 +14,7 @@ abbrev pub IsVerdict : List ℕ → Verdict → Type 0
 IsVerdict text (Accepts image budget) = IsTextOf text image × IsAnswer text (Ok (allowed image budget))
 IsVerdict text (Refuses code place) = IsAnswer text (Err (Refused code place))
 
--- what a packet comes to: its run alone, or a loss where that traces more than may be
+-- the outcome of a packet: its run alone, or a loss where that traces too much
 abbrev pub IsOutcome : ImageValue → List ℕ → Option RunResult → Type 0
 IsOutcome image packet (Some run) =
     RunsAlone image packet (run_giving run.result run.error run.steps run.trace) × (length run.trace ≤ most_trace)

@@ -20,7 +20,7 @@ abbrev pub status_of : Result (Unit {0}) ServeFault → ℕ
 status_of (Ok _) = 0
 status_of (Err fault) = 1
 
--- what is told of a fault
+-- how a fault is reported
 abbrev pub fault_text : ServeFault → List ℕ
 fault_text Read = codes "farmd: read\n"
 fault_text Write = codes "farmd: write\n"
@@ -31,7 +31,7 @@ abbrev pub told_of : Result (Unit {0}) ServeFault → List ℕ
 told_of (Ok _) = []
 told_of (Err fault) = fault_text fault
 
--- what is served for the input is written, by how serving ends; a fault is told, as far as that can be written
+-- what is served for the input is written, by how serving ends; a fault is reported, as far as that can be written
 pub record HasServed (trace : Bool) (input left old new told told' : Option (List ℕ)) (status : ℕ) : Type 0 where
   pub result : Result (Unit {0}) ServeFault
   pub all : OnOk result (ServesAll trace input left old new)
@@ -63,7 +63,7 @@ pub record Performs (words : List Text) (input left old new told told' : Option 
 
 -- ---- no words could be had
 
--- for want of memory, which is told as far as that can be written; else a word is no text
+-- for want of memory, which is reported as far as that can be written; else a word is no text
 abbrev pub EndsWordless : IoKind → (told told' : Option (List ℕ)) → (status : ℕ) → Type 0
 EndsWordless OutOfMemory told told' status = (some : ℕ) × Appends told told' (take some (fault_text Memory)) × (status ≡ 1)
 EndsWordless kind told told' status = status ≡ 2

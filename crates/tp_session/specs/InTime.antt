@@ -1,4 +1,4 @@
--- What is promised of each result that is told.
+-- What is promised of each result that is written.
 use Rattle.std.specs.Prelude.{ℕ, ◌≤◌, List, Option, IfSome}
 use Rattle.tp_image.specs.Image.{ImageValue}
 use Rattle.tp_accept.specs.Ending.{EndsWithin}
@@ -6,11 +6,11 @@ use Rattle.tp_answers.specs.Results.{RunResult}
 use Rattle.tp_answers.specs.Answers.{Accepts}
 use Rattle.tp_answers.specs.Rules.{IsVerdict, IsOutcome}
 
--- YES tells this budget for the text of the image
+-- YES states this budget for the text of the image
 abbrev pub IsBudgetOf : ImageValue → ℕ → Type 0
 IsBudgetOf image budget = (text : List ℕ) × IsVerdict text (Accepts image budget)
 
--- what a packet comes to: its run alone ends within the budget that YES told for its image, and no state on its way is
+-- the outcome of a packet: its run alone ends within the budget that YES stated for its image, and no state on its way is
 -- stuck
 pub record IsOutcomeInTime (image : ImageValue) (packet : List ℕ) (outcome : Option RunResult) : Type 0 where
   pub is : IsOutcome image packet outcome

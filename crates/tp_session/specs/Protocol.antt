@@ -1,6 +1,6 @@
--- The protocol: what is told for the lines of an input.
+-- The protocol: what is answered to the lines of an input.
 --
--- The verdict on an image and what a packet comes to are parameters. `Served` has what is told by the rules of the
+-- The verdict on an image and the outcome of a packet are parameters. `Served` has what is answered by the rules of the
 -- product.
 use Rattle.std.specs.Prelude.{◌≡◌, ℕ, ◌+◌, ◌-◌, ◌^◌, min, nat_lt, Bool, true, false, List, [], ◌∷◌, ◌++◌, length, Option, None}
 use Rattle.tp_image.specs.Image.{ImageValue}
@@ -45,11 +45,11 @@ module _ (Judges : List ℕ → Verdict → Type 0) (ComesTo : ImageValue → Li
       × AreAnswers trace (next_number number) between lines rest after
       × (told ≡ answer_text trace number answer ++ rest)
 
-  -- what is told for the first lines of an input: before them no session is open
+  -- what is answered to the first lines of an input: before them no session is open
   abbrev pub AreTold : Bool → List Line → List ℕ → Type 0
   AreTold trace lines told = (after : List Session) × AreAnswers trace 1 [] lines told after
 
--- what is written for an input, where this is the verdict on each text and this is what each packet comes to
+-- what is written for an input, where this is the verdict on each text and this is the outcome of each packet
 abbrev pub IsServedBy : (List ℕ → Verdict) → (ImageValue → List ℕ → Option RunResult) → Bool → List ℕ → List ℕ → Type 0
 IsServedBy verdict outcome trace input told =
     AreTold (λ text v. v ≡ verdict text) (λ image packet o. o ≡ outcome image packet) trace (lines_of input) told

@@ -12,7 +12,7 @@ use Rattle.tp_session.specs.Protocol as protocol
 abbrev pub most_read : ℕ
 most_read = 4096
 
--- what is told for the first lines of an input, by the verifier's verdicts and the runs of packets alone
+-- what is answered to the first lines of an input, by the verifier's verdicts and the runs of packets alone
 abbrev pub AreTold : Bool → List Line → List ℕ → Type 0
 AreTold trace lines told = protocol.AreTold IsVerdict IsOutcome trace lines told
 
@@ -65,7 +65,7 @@ pub record ServesBefore (trace : Bool) (input left old new : Option (List ℕ)) 
 abbrev pub ServesSome : Bool → (input old new : Option (List ℕ)) → Type 0
 ServesSome trace input old new = IfSome input (λ bytes. (lines : ℕ) × AreWrittenInPart trace (take lines (lines_of bytes)) old new)
 
--- functions that give the verifier's verdict on each text, and what each packet comes to
+-- functions that give the verifier's verdict on each text, and the outcome of each packet
 pub record AreRuled (verdict : List ℕ → Verdict) (outcome : ImageValue → List ℕ → Option RunResult) : Type 0 where
   pub verdicts : (text : List ℕ) (v : Verdict) → IsVerdict text v → v ≡ verdict text
   pub outcomes : (image : ImageValue) (packet : List ℕ) (o : Option RunResult) → IsOutcome image packet o

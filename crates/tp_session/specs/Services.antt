@@ -15,7 +15,7 @@ use Rattle.tp_answers.specs.Rules.{IsVerdict, IsOutcome}
 use Rattle.tp_session.specs.Protocol.{IsAnswered}
 use Rattle.tp_session.specs.Fitness.{AreFit, AreAsMany}
 
--- there are as many members as before, their devices are as fit as they were, and traces are told as before
+-- there are as many members as before, their devices are as fit as they were, and traces are written as before
 pub record StaysOn {D : Type 0} (state : D → DeviceState) (before after : Service D) : Type 0 where
   pub members : AreAsMany before.links.items after.links.items
   pub fit : AreFit state before.links.items → AreFit state after.links.items

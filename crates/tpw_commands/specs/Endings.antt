@@ -52,7 +52,7 @@ of_assembly positions (assembly.Narrow line) = of_narrow line (slice_get positio
 of_assembly positions assembly.Memory = ending.Memory
 of_assembly positions fault = ending.Input (input.Assembly fault)
 
--- the status that a run is told with
+-- the status of a run, by its end
 abbrev pub of_run : End → Status
 of_run end.Stopped = status.Done
 of_run end.Left = status.Done

@@ -1,4 +1,4 @@
--- What is written of programs and images, and what is told of a program that has none.
+-- What is written of programs and images, and how a program that has none is reported.
 use Rattle.std.specs.Prelude.{◌≡◌, ℕ, List, Option}
 use Rattle.tp_image.specs.Image.{ImageValue}
 use Rattle.tp_image.specs.Text.{text}

@@ -74,7 +74,7 @@ fn at_statement(
     }
 }
 
-/// The bytes of the image of a program that a text says. A field that is out of range is told at the statement that says it.
+/// The bytes of the image of a program that a text says. A field that is out of range is reported at the statement that says it.
 pub fn assembled_text(alloc: Global, text: &str, source: &Source<'_>) -> Result<Vec<u8>, Ending> {
     match assembled(alloc, source) {
         Ok(bytes) => Ok(bytes),

@@ -65,7 +65,7 @@ impl Profile {
     }
 }
 
-/// Takes what a device holds, so that it has room again.
+/// Empties a device, which has room again.
 fn drain<D: LinkDevice>(device: &mut D) {
     let mut bytes = [0; ROOM];
     let held = device.held().min(ROOM);

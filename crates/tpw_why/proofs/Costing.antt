@@ -10,7 +10,7 @@ use Rattle.tp_accept.specs.Capped.{counted}
 use Rattle.tp_accept.specs.Acceptance.{IsAcceptable}
 use Rattle.tp_accept.proofs.LookedUp.{first_starts}
 use Rattle.tpw_why.specs.declared.costs.Costs.{Costs}
-use Rattle.tpw_why.specs.CostsTold.{cost_at, AreCostsOf, BeginsWithBudget}
+use Rattle.tpw_why.specs.ByAddress.{cost_at, AreCostsOf, BeginsWithBudget}
 
 -- the cost of the first instruction, where there is one
 cost_there : (rows : List LoopRow) (code : List Cut) (at : ℕ) (o : Option Cut) → cut_at code at ≡ o → is_some o ≡ true → cost_at rows code at ≡ Some (counted (costs_of rows code at))

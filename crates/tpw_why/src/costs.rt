@@ -3,7 +3,7 @@
 ghost use Rattle.std.specs.Prelude.{◌≡◌, length, map, None, IfOk, IfSome};
 ghost use Rattle.tp_decode.specs.Cutting.{IsCutting};
 ghost use Rattle.tp_accept.specs.Capped.{counted_at, AreCounted};
-ghost use Rattle.tpw_why.specs.CostsTold.{loop_cost, AreByAddress, AreCostsOf, AreCostsOfText, MayNotBeRun, BeginsWithBudget};
+ghost use Rattle.tpw_why.specs.ByAddress.{loop_cost, AreByAddress, AreCostsOf, AreCostsOfText, MayNotBeRun, BeginsWithBudget};
 
 use std::alloc::{AllocError, Global};
 use tp_accept::{Accepted, Counted, Refusal, accept, costs};

@@ -2,7 +2,7 @@
 
 ghost use Rattle.std.specs.Prelude.{IfOk};
 ghost use Rattle.tp_decode.specs.Cutting.{IsCutting};
-ghost use Rattle.tpw_why.specs.Told.{IsVerdictOn};
+ghost use Rattle.tpw_why.specs.Verdicts.{IsVerdictOn};
 
 use crate::bound::write_bound;
 use crate::costs::{CodeCosts, costs_of_code};

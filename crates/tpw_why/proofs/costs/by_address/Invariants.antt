@@ -1,4 +1,4 @@
-use Rattle.tpw_why.specs.CostsTold.{AreByAddress}
+use Rattle.tpw_why.specs.ByAddress.{AreByAddress}
 use Rattle.tpw_why.proofs.costs.by_address.Given as goal
 
 abbrev pub invariant-loop-at : goal.invariant-loop-at

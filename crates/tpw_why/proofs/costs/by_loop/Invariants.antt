@@ -1,5 +1,5 @@
 use Rattle.std.proofs.Common.{◌≡◌, map, take}
-use Rattle.tpw_why.specs.CostsTold.{loop_cost}
+use Rattle.tpw_why.specs.ByAddress.{loop_cost}
 use Rattle.tpw_why.proofs.costs.by_loop.Given as goal
 
 abbrev pub invariant-loop-row : goal.invariant-loop-row

@@ -1,6 +1,6 @@
 use Rattle.std.proofs.Common.{◌≡◌, sym, ◌∙◌, subst, rules}
 use Rattle.tp_accept.specs.declared.refusal.Refusal.TheVariants.{Refused, Memory}
-use Rattle.tpw_why.specs.CostsTold.{MayNotBeRun}
+use Rattle.tpw_why.specs.ByAddress.{MayNotBeRun}
 use Rattle.tpw_why.proofs.Costing.{begins_with_budget}
 use Rattle.tpw_why.proofs.costs.costs_of.Goals as goal
 

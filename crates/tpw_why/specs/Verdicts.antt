@@ -1,4 +1,4 @@
--- What is known of a verdict that is told.
+-- What is known of a verdict that is shown.
 use Rattle.std.specs.Prelude.{ℕ, Bool, true, false, List, Err}
 use Rattle.tp_image.specs.Image.{ImageValue}
 use Rattle.tp_image.specs.Text.{IsTextOf}

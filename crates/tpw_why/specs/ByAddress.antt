@@ -1,4 +1,4 @@
--- Where the bytes of an image that may be run go, as it is told: the budget, the cost of each loop, and costs by
+-- Where the bytes of an image that may be run go: the budget, the cost of each loop, and costs by
 -- address.
 use Rattle.std.specs.Prelude.{◌≡◌, ℕ, ◌<◌, List, length, map, get_or, slice_get, Option, Some, None}
 use Rattle.std.specs.Option.{option_map}
