@@ -10,10 +10,8 @@ use std::alloc::Global;
 use std::io::{Read, Write};
 use std::rt::Files;
 use tp_board::Packet;
+use tp_image::layout::WORD_BYTES;
 use tpw_run_text::{PacketFault, fields_of, packet_of, packets_of};
-
-/// The bytes of a word.
-const WORD_BYTES: usize = 4;
 
 /// Packets as words: those of the command line, each a line, and the name of a file of more.
 #[derive(Drop)]

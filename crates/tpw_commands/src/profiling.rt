@@ -14,12 +14,10 @@ use std::io::{Read, Write};
 use std::rt::Files;
 use tp_board::Packet;
 use tp_image::{Image, read_image};
+use tp_image::layout::WORD_BYTES;
 use tpw_step::{Profile, RunEnd, Stepper, count_run};
 use tpw_text::read_source;
 use tpw_source::SourceText;
-
-/// The bytes of a word.
-const WORD_BYTES: usize = 4;
 
 /// The most words of a packet.
 const PACKET_WORDS: usize = 64;

@@ -8,6 +8,7 @@ use crate::place::place_of;
 use std::alloc::Global;
 use std::io::Write;
 use tp_image::{Image, read_image};
+use tp_image::layout::WORD_BYTES;
 use tpw_step::{Place, Shown, Span, show_run};
 use tpw_text::read_source;
 use tpw_source::{Named, SourceText};
@@ -144,9 +145,6 @@ fn step_image<W: Write, E: Write>(
         Err(_) => Err(Ending::Write),
     }
 }
-
-/// The bytes of a word.
-const WORD_BYTES: usize = 4;
 
 /// Notes that a packet that is given is not as long as those of an image.
 fn note_length<E: Write>(errors: &mut E, bytes: usize, image: &Image) {

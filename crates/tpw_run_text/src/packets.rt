@@ -9,10 +9,8 @@ use crate::fault::PacketFault;
 use std::alloc::{AllocError, Global};
 use tp_board::Packet;
 use tp_collect::limits::MESSAGE_BYTES;
+use tp_image::layout::WORD_BYTES;
 use tpw_text::{Position, signed_of};
-
-/// The bytes of a word.
-const WORD_BYTES: usize = 4;
 
 /// What is between white space, and where it begins.
 #[derive(Clone, Copy)]

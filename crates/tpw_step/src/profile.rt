@@ -4,15 +4,12 @@ ghost use Rattle.std.specs.Prelude.{IfOk};
 ghost use Rattle.tpw_step.specs.Profiles.{AddsUp};
 
 use crate::prefixes::prefixes_at;
-use crate::run::MOST_INSTRUCTIONS;
+use crate::run::{MOST_INSTRUCTIONS, ROOM};
 use crate::stepper::Stepper;
 use std::alloc::{AllocError, Global};
 use tp_image::Image;
 use tp_link::{LinkDevice, LinkFault, Links, Media};
 use tpw_machine::Turn;
-
-/// The longest packet, result or trace message, in bytes.
-const ROOM: usize = 256;
 
 /// The steps made in runs.
 #[derive(Drop)]

@@ -15,7 +15,7 @@ use tpw_machine::{Registers, Turn};
 use tpw_source::{Named, ShowFault, SourceText};
 
 /// The longest packet, result or trace message, in bytes.
-const ROOM: usize = 256;
+pub(crate) const ROOM: usize = 256;
 
 /// The bytes of a word, signed.
 const WORD_BYTES: i32 = profile::WORD_BYTES as i32;
