@@ -19,7 +19,8 @@ count 9
 ";
 
 /// A text whose word k takes the address of a word of buf.
-const POINTED: &str = "packet 2\nlocal buf[2], k\nreceive buf\nldlp buf + 1\nstl k\nldl buf\nstl buf + 1\nsend buf\nstopp\n";
+const POINTED: &str =
+    "packet 2\nlocal buf[2], k\nreceive buf\nldlp buf + 1\nstl k\nldl buf\nstl buf + 1\nsend buf\nstopp\n";
 
 /// The changes of its last two words, before it sends.
 const POINTED_STEPS: &str = "\
@@ -46,19 +47,34 @@ fn watched_words(rt: HostRuntime) {
     let accepted = ["buf[1],k", "k,buf[1]", "w6,w7", "w6,k"];
     for words in accepted {
         let words = ["tpw", "step", packet, "--watch", words, "--until", "+10"];
-        check(&rt, rt.alloc(), (POINTED, words.as_slice(), 0, POINTED_STEPS, ""));
+        check(
+            &rt,
+            rt.alloc(),
+            (POINTED, words.as_slice(), 0, POINTED_STEPS, ""),
+        );
     }
-    let refused = ["", "buf[2]", "buf[", "buf[1]k", "buf[x]", "n", "k,", ",k", "w8", "w", "wx", "buf [1]"];
+    let refused = [
+        "", "buf[2]", "buf[", "buf[1]k", "buf[x]", "n", "k,", ",k", "w8", "w", "wx", "buf [1]",
+    ];
     for words in refused {
         let words = ["tpw", "step", packet, "--watch", words];
-        check(&rt, rt.alloc(), (POINTED, words.as_slice(), 2, "", NOT_WATCHED));
+        check(
+            &rt,
+            rt.alloc(),
+            (POINTED, words.as_slice(), 2, "", NOT_WATCHED),
+        );
     }
     let words = ["tpw", "step", packet, "--until", "+1"];
-    check(&rt, rt.alloc(), (POINTED, words.as_slice(), 0, POINTED_FROM, ""));
+    check(
+        &rt,
+        rt.alloc(),
+        (POINTED, words.as_slice(), 0, POINTED_FROM, ""),
+    );
 }
 
 /// How a word that no worker has is refused.
-const NOT_WATCHED: &str = "error: invalid value for '--watch <WORDS>': it takes names of local words, buf[2] for one word of a name, or w5 for a word by its number\n";
+const NOT_WATCHED: &str =
+    "error: invalid value for '--watch <WORDS>': it takes names of local words, buf[2] for one word of a name, or w5 for a word by its number\n";
 
 /// How runs are printed, and the statuses that they end with.
 #[test]

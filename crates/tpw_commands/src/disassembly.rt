@@ -72,7 +72,11 @@ fn text_of(alloc: Global, program: &Program, costs: Option<&Costs>) -> Result<St
 }
 
 /// Writes the image that a text says as assembly text. Of an accepted one, comments say where its bytes go.
-pub fn disassemble_image<W: Write>(alloc: Global, text: &[u8], writer: &mut W) -> Result<Status, Ending> {
+pub fn disassemble_image<W: Write>(
+    alloc: Global,
+    text: &[u8],
+    writer: &mut W,
+) -> Result<Status, Ending> {
     let bytes = hex_bytes(alloc, text)?;
     let image = read_image(alloc, &bytes)?;
     let program = disassemble(alloc, &image)?;

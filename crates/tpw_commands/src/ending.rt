@@ -12,8 +12,8 @@ use thiserror::Error;
 use tp_image::ImageFault;
 use tpw_run_text::PacketFault;
 use tpw_runs::RunFault;
-use tpw_step::End;
 use tpw_source::ShowFault;
+use tpw_step::End;
 use tpw_text::{SourceFault, TextFault as SourceKind};
 
 /// What the program ends with.

@@ -4,8 +4,8 @@ use crate::ending::Ending;
 use crate::fault::InputFault;
 use std::alloc::Global;
 use tpw_asm::{AssemblyFault, Program, addresses};
-use tpw_text::{Local, Position, Source, statement_of};
 use tpw_source::{Label, Named, SourceText, Statement};
+use tpw_text::{Local, Position, Source, statement_of};
 
 /// The statements of a text at the addresses of their instructions, its labels at theirs, and its names of workspace words.
 #[derive(Drop)]

@@ -13,11 +13,11 @@ use std::alloc::Global;
 use std::io::{Read, Write};
 use std::rt::Files;
 use tp_board::Packet;
-use tp_image::{Image, read_image};
 use tp_image::layout::WORD_BYTES;
+use tp_image::{Image, read_image};
+use tpw_source::SourceText;
 use tpw_step::{Profile, RunEnd, Stepper, count_run};
 use tpw_text::read_source;
-use tpw_source::SourceText;
 
 /// The most words of a packet.
 const PACKET_WORDS: usize = 64;

@@ -6,8 +6,8 @@ use std::fmt;
 use std::io::Write;
 use tp_decode::{DecodeFault, Listing, decode};
 use tp_image::{Image, LoopRow};
-use tpw_step::Profile;
 use tpw_source::SourceText;
+use tpw_step::Profile;
 
 /// The columns of the longest bar.
 const BAR: u64 = 30;

@@ -7,11 +7,11 @@ use crate::noting::Notes;
 use crate::place::place_of;
 use std::alloc::Global;
 use std::io::Write;
-use tp_image::{Image, read_image};
 use tp_image::layout::WORD_BYTES;
+use tp_image::{Image, read_image};
+use tpw_source::{Named, SourceText};
 use tpw_step::{Place, Shown, Span, show_run};
 use tpw_text::read_source;
-use tpw_source::{Named, SourceText};
 
 /// The names of the options that take a place.
 pub const FROM: &str = "from";
@@ -71,7 +71,11 @@ fn place_named(
 fn indexed<'a>(source: SourceText<'a>, item: &str) -> Option<Named<'a>> {
     let (name, index) = item.strip_suffix("]")?.split_once("[")?;
     let index = index.parse::<usize>().ok()?;
-    let named = source.words.iter().copied().find(|named| named.name == name)?;
+    let named = source
+        .words
+        .iter()
+        .copied()
+        .find(|named| named.name == name)?;
     if named.words <= index {
         return None;
     }
@@ -108,7 +112,11 @@ fn watched_of<'a>(
         return Ok(watched);
     };
     for item in watch.split(',') {
-        let named = source.words.iter().copied().find(|named| named.name == item);
+        let named = source
+            .words
+            .iter()
+            .copied()
+            .find(|named| named.name == item);
         match named.or(indexed(source, item)).or(numbered(image, item)) {
             Some(named) => watched.push(named)?,
             None => return Err(Ending::NoWatched),

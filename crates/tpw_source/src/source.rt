@@ -112,10 +112,7 @@ impl<'a> SourceText<'a> {
 
     /// The name that a word has, if it has one.
     pub fn named(&self, word: usize) -> Option<Named<'a>> {
-        self.words
-            .iter()
-            .copied()
-            .find(|named| named.has(word))
+        self.words.iter().copied().find(|named| named.has(word))
     }
 
     /// A word, with its name if it has one.

@@ -54,7 +54,12 @@ pub(crate) struct Written<'a> {
 impl Written<'_> {
     /// Whether a word of these is among them.
     pub(crate) fn changes(&self, watched: &[Named<'_>]) -> bool {
-        let mut words = self.before.words.iter().zip(self.after.words.iter()).enumerate();
+        let mut words = self
+            .before
+            .words
+            .iter()
+            .zip(self.after.words.iter())
+            .enumerate();
         words.any(|(i, (old, new))| *old != *new && watched.iter().any(|named| named.has(i)))
     }
 }

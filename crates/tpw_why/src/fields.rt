@@ -1,10 +1,10 @@
 //! The explanation of an image's fields and bytes.
 
 use crate::known::ToldRow;
-use tpw_source::ShowFault;
 use std::alloc::Global;
 use std::io::Write;
 use tp_image::{Image, ImageCode};
+use tpw_source::ShowFault;
 
 /// The most bytes of a spelling.
 const SPELLING_BYTES: usize = 8;

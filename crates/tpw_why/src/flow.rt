@@ -80,7 +80,11 @@ fn fault_of_row(image: &Image, listing: &Listing, number: usize) -> &'static str
 }
 
 /// Writes where a jump goes, if a jump is there.
-fn write_target<W: Write>(listing: &Listing, place: usize, writer: &mut W) -> Result<(), ShowFault> {
+fn write_target<W: Write>(
+    listing: &Listing,
+    place: usize,
+    writer: &mut W,
+) -> Result<(), ShowFault> {
     let (Some(instr), Some(next)) = (listing.at(place), listing.next(place)) else {
         return Ok(());
     };

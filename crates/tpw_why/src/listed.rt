@@ -6,7 +6,7 @@ ghost use Rattle.tpw_why.specs.Verdicts.{IsVerdictOn};
 
 use crate::bound::write_bound;
 use crate::costs::{CodeCosts, costs_of_code, listing_of};
-use crate::verdict::{image_of, write_line, write_refusal, whole_of};
+use crate::verdict::{image_of, whole_of, write_line, write_refusal};
 use std::alloc::Global;
 use std::io::Write;
 use tp_accept::{Counted, Refusal, RefusalCode, accept};

@@ -90,7 +90,9 @@ pub(crate) fn write_refusal<W: Write>(
         code => {
             if let Some(image) = image_of(alloc, text)? {
                 match decode(alloc, &image.code) {
-                    Ok(listing) => write_code(alloc, &image, &listing, source, code, place, writer)?,
+                    Ok(listing) => write_code(
+                        alloc, &image, &listing, source, code, place, writer,
+                    )?,
                     Err(DecodeFault::Memory) => return Err(ShowFault::Memory),
                     Err(DecodeFault::Refused { .. }) => {}
                 }
