@@ -11,8 +11,8 @@ use Rattle.tp_board.specs.Rule.{total, AtMost, Fits, Rule}
 use Rattle.tp_board.specs.Steps.{with_number, with_end, after_draw, after_finish, after_abandon, after_stop, with_seen}
 use Rattle.tp_board.proofs.Counting.{times-append, once_more}
 use Rattle.tp_board.proofs.Reports.{Adds, to_finished, to_abandoned, reported}
-use Rattle.tp_board.proofs.Totals.{le_total, others_none, all_of, each_set, each_snoc, Exchange, one_changed, one_cut, two_joined}
-use Rattle.tp_board.proofs.Totals.{still_there}
+use Rattle.tp_board.proofs.Totals.{le_total, others_none, all_of, each_set, each_snoc, Exchange, Goes, one_changed, one_cut}
+use Rattle.tp_board.proofs.Totals.{two_joined, still_there}
 use Rattle.tp_board.specs.declared.view.Counters.{Counters}
 use Rattle.tp_board.specs.declared.view.View.{View}
 use Rattle.tp_board.specs.declared.rule.Size.{Size}
@@ -56,16 +56,13 @@ grown k w u v a f =
 -- views are exchanged for others, and the words change with them
 module _ (k : Size) (w w' : Counters) (views olds views' news : List View) (r : Rule k w views)
     (e : Exchange views olds views' news) where
-  -- a count goes from `was` to `now` as the total of f does
-  abbrev Goes : (View → ℕ) → ℕ → ℕ → Type 0
-  Goes f was now = now + total f olds ≡ was + total f news
-
-  changed : Goes (λ v. v.parts) k.members k.members
-      → ((x : ℕ) → Goes (λ v. times x v.drawn) (once_below x (min w.claimed k.packets)) (once_below x (min w'.claimed k.packets)))
-      → Goes (λ v. length v.drawn) (min w.claimed k.packets) (min w'.claimed k.packets)
-      → Goes (λ v. v.ended) (w.claimed - k.packets) (w'.claimed - k.packets)
-      → Goes (λ v. length v.finished) w.done w'.done
-      → Goes (λ v. length v.abandoned) w.lost w'.lost
+  changed : Goes olds news (λ v. v.parts) k.members k.members
+      → ((x : ℕ) → Goes olds news (λ v. times x v.drawn) (once_below x (min w.claimed k.packets))
+          (once_below x (min w'.claimed k.packets)))
+      → Goes olds news (λ v. length v.drawn) (min w.claimed k.packets) (min w'.claimed k.packets)
+      → Goes olds news (λ v. v.ended) (w.claimed - k.packets) (w'.claimed - k.packets)
+      → Goes olds news (λ v. length v.finished) w.done w'.done
+      → Goes olds news (λ v. length v.abandoned) w.lost w'.lost
       → w'.stop ≡ min 1 (total (λ v. v.stop_callers) views')
       → ((id : ℕ) (v : View) → get_elem? views' id ≡ some v → Fits k w' v)
       → Rule k w' views'

@@ -19,8 +19,8 @@ use Rattle.tp_board.specs.Plays.{Tells}
 use Rattle.tp_board.specs.Tallies.{FitsTally, TallyRule, KeepsTally, TallyHolds, holding, Reports}
 use Rattle.tp_board.proofs.Moves.{added, one_or, set_same}
 use Rattle.tp_board.proofs.Steps.{wider, both_at_most}
-use Rattle.tp_board.proofs.Totals.{total_set, le_total, total_le, others_none, all_of, each_set, each_snoc, Exchange, one_changed}
-use Rattle.tp_board.proofs.Totals.{one_cut, two_joined, still_there}
+use Rattle.tp_board.proofs.Totals.{total_set, le_total, total_le, others_none, all_of, each_set, each_snoc, Exchange, Goes}
+use Rattle.tp_board.proofs.Totals.{one_changed, one_cut, two_joined, still_there}
 
 grown : (k : Size) (w u : Counters) (v : View) → AtMost w u → FitsTally k w v → FitsTally k u v
 grown k w u v a f = record { few = f.few; seen = wider v.seen w u f.seen a; idle = f.idle }
@@ -43,9 +43,10 @@ lost_small k w views r =
 
 -- views are exchanged for others, and the words change with them
 changed : (k : Size) (w w' : Counters) (views olds views' news : List View) → TallyRule k w views
-    → Exchange views olds views' news → w'.claimed ≡ 0 → total (λ v. v.parts) news ≡ total (λ v. v.parts) olds
-    → w'.done + total (λ v. length v.finished) olds ≡ w.done + total (λ v. length v.finished) news
-    → w'.lost + total (λ v. length v.abandoned) olds ≡ w.lost + total (λ v. length v.abandoned) news
+    → Exchange views olds views' news → w'.claimed ≡ 0
+    → Goes olds news (λ v. v.parts) k.members k.members
+    → Goes olds news (λ v. length v.finished) w.done w'.done
+    → Goes olds news (λ v. length v.abandoned) w.lost w'.lost
     → w'.stop ≡ min 1 (total (λ v. v.stop_callers) views')
     → ((id : ℕ) (v : View) → get_elem? views' id ≡ some v → FitsTally k w' v) → TallyRule k w' views'
 changed k w w' views olds views' news r e unclaimed same done lost stop fits = record {

@@ -77,6 +77,10 @@ module _ {V : Type 0} where
   abbrev pub Exchange : List V → List V → List V → List V → Type 0
   Exchange views olds views' news = (f : V → ℕ) → total f views' + total f olds ≡ total f views + total f news
 
+  -- a count goes from `was` to `now` as the total of f does
+  abbrev pub Goes : (olds news : List V) → (V → ℕ) → ℕ → ℕ → Type 0
+  Goes olds news f was now = now + total f olds ≡ was + total f news
+
   pub one_changed : (views : List V) (id : ℕ) (v u : V) → get_elem? views id ≡ some v
       → Exchange views (v ∷ []) (set views id u) (u ∷ [])
   one_changed views id v u at f = let a = total_set f views id v u at in omega arith
