@@ -22,8 +22,9 @@ use Rattle.tp_board.specs.Sources.{progress_of, claim_of, NextSays, IsAnswerable
 use Rattle.tp_board.specs.Views.{first_of}
 use Rattle.tp_board.specs.Tallies.{holding}
 use Rattle.tp_board.specs.Steps.{with_number, with_end, after_draw, after_finish, after_abandon, after_look}
-use Rattle.tp_board.specs.Streams.{seen_of, IsHand, NextAfter, NextMakes}
+use Rattle.tp_board.specs.Streams.{seen_of, Agrees, IsHand, NextAfter, NextMakes}
 use Rattle.tp_board.proofs.Counting.{times-append}
+use Rattle.tp_board.proofs.Reports.{Adds, to_finished, to_abandoned, reported, agrees_reported}
 
 pub no_number : (m : Option ℕ) → first_of (hand_list m) ≡ None → m ≡ None
 no_number None e = refl
@@ -305,9 +306,11 @@ has_room t p number ended stop_seen n full ok =
     ok.agrees.counted in let b =
     ok.few_popped in let d = ok.few_packets in let c = ap (λ m. length (hand_list m)) full in omega arith
 
-pub hand_finished : (t : PassView) (p q : View) (number : Option ℕ) (ended stop_seen : Bool) (n : ℕ) → number ≡ Some n
-    → q ≡ after_finish (holding p (n ∷ [])) → IsHand t p number ended stop_seen → IsHand t q None ended stop_seen
-hand_finished t p q number ended stop_seen n full is ok = subst (λ (q : View). IsHand t q None ended stop_seen) (sym is) (record {
+-- the number in hand is reported
+hand_reported : (t : PassView) (p : View) (number : Option ℕ) (ended stop_seen : Bool) (n : ℕ) (done lost : List ℕ) → number ≡ Some n
+    → Adds p (n ∷ []) done lost → IsHand t p number ended stop_seen
+    → IsHand t (reported p (p.steps + 1) done lost) None ended stop_seen
+hand_reported t p number ended stop_seen n done lost full adds ok = record {
   one_pass = ok.one_pass;
   one_seat = ok.one_seat;
   feeds = ok.feeds;
@@ -316,42 +319,22 @@ hand_finished t p q number ended stop_seen n full is ok = subst (λ (q : View). 
   few_packets = ok.few_packets;
   few_popped = ok.few_popped;
   no_claim = ok.no_claim;
-  agrees = record {
-    ended = ok.agrees.ended;
-    in_hand = omega arith;
-    each_once =
-        (λ x. let a = ok.agrees.each_once x in let b = times-append x p.finished (n ∷ []) in let c = ap
-        (λ m. times x (hand_list m)) full in omega arith);
-    counted =
-        (let a = ok.agrees.counted in let b = length-append p.finished (n ∷ []) in let c = ap
-        (λ m. length (hand_list m)) full in omega arith);
-  };
+  agrees =
+      agrees_reported (seen_of t p (n ∷ [])) (length t.popped + t.ended + (p.steps + 1)) done lost
+      (record { each_once = adds.each_once; counted = adds.counted })
+      (subst (λ m. Agrees (seen_of t p (hand_list m))) full ok.agrees);
   ended_is = ok.ended_is;
   stop_seen_is = ok.stop_seen_is;
-})
+}
+
+pub hand_finished : (t : PassView) (p q : View) (number : Option ℕ) (ended stop_seen : Bool) (n : ℕ) → number ≡ Some n
+    → q ≡ after_finish (holding p (n ∷ [])) → IsHand t p number ended stop_seen → IsHand t q None ended stop_seen
+hand_finished t p q number ended stop_seen n full is ok =
+    subst (λ (q : View). IsHand t q None ended stop_seen) (sym is)
+    (hand_reported t p number ended stop_seen n (p.finished ++ n ∷ []) p.abandoned full (to_finished p (n ∷ [])) ok)
 
 pub hand_abandoned : (t : PassView) (p q : View) (number : Option ℕ) (ended stop_seen : Bool) (n : ℕ) → number ≡ Some n
     → q ≡ after_abandon (holding p (n ∷ [])) → IsHand t p number ended stop_seen → IsHand t q None ended stop_seen
 hand_abandoned t p q number ended stop_seen n full is ok =
-    subst (λ (q : View). IsHand t q None ended stop_seen) (sym is) (record {
-      one_pass = ok.one_pass;
-      one_seat = ok.one_seat;
-      feeds = ok.feeds;
-      pushed = ok.pushed;
-      marks = ok.marks;
-      few_packets = ok.few_packets;
-      few_popped = ok.few_popped;
-      no_claim = ok.no_claim;
-      agrees = record {
-        ended = ok.agrees.ended;
-        in_hand = omega arith;
-        each_once =
-            (λ x. let a = ok.agrees.each_once x in let b = times-append x p.abandoned (n ∷ []) in let c = ap
-            (λ m. times x (hand_list m)) full in omega arith);
-        counted =
-            (let a = ok.agrees.counted in let b = length-append p.abandoned (n ∷ []) in let c = ap
-            (λ m. length (hand_list m)) full in omega arith);
-      };
-      ended_is = ok.ended_is;
-      stop_seen_is = ok.stop_seen_is;
-    })
+    subst (λ (q : View). IsHand t q None ended stop_seen) (sym is)
+    (hand_reported t p number ended stop_seen n p.finished (p.abandoned ++ n ∷ []) full (to_abandoned p (n ∷ [])) ok)
