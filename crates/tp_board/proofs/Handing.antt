@@ -132,26 +132,14 @@ module _ (t u : PassView) (p q : View) (number : Option ℕ) (ended stop_seen : 
   pub says_number : (n : ℕ) (numbers : List ℕ) → numbers ≡ n ∷ [] → u ≡ took t (Number n) → IsNext t (Number n)
       → Makes (seen_of t p (hand_list number)) (sees_no_stop ∷ made event.Claim n (reply.Number n) ∷ []) (seen_of u q numbers)
   says_number n numbers has is next =
-      subst (λ ns. Makes (seen_of t p (hand_list number)) (sees_no_stop ∷ made event.Claim n (reply.Number n) ∷ [])
-      (seen_of u q ns)) (sym has)
-      (subst (λ u. Makes (seen_of t p (hand_list number)) (sees_no_stop ∷ made event.Claim n (reply.Number n) ∷ [])
-      (seen_of u q (n ∷ []))) (sym is)
-      (subst (λ q. Makes (seen_of t p (hand_list number)) (sees_no_stop ∷ made event.Claim n (reply.Number n) ∷ [])
-      (seen_of (took t (Number n)) q (n ∷ []))) (sym (looked ∙ ap (after_look p shown.Stop) was))
-      (subst (λ m. Makes (seen_of t p (hand_list m)) (sees_no_stop ∷ made event.Claim n (reply.Number n) ∷ [])
-      (seen_of (took t (Number n)) (after_look p shown.Stop 0) (n ∷ []))) (sym empty)
-      (number_made t p ended stop_seen n (subst (λ m. IsHand t p m ended stop_seen) empty ok) going no_stop next))))
+      rw (has, is, looked, was, empty)
+      (number_made t p ended stop_seen n (subst (λ m. IsHand t p m ended stop_seen) empty ok) going no_stop next)
 
   pub says_end : u ≡ took t End → Makes (seen_of t p (hand_list number))
       (sees_no_stop ∷ made event.Claim t.packets reply.NoMore ∷ []) (seen_of u q (hand_list number))
   says_end is =
-      subst (λ u. Makes (seen_of t p (hand_list number)) (sees_no_stop ∷ made event.Claim t.packets reply.NoMore ∷ [])
-      (seen_of u q (hand_list number))) (sym is)
-      (subst (λ q. Makes (seen_of t p (hand_list number)) (sees_no_stop ∷ made event.Claim t.packets reply.NoMore ∷ [])
-      (seen_of (took t End) q (hand_list number))) (sym (looked ∙ ap (after_look p shown.Stop) was))
-      (subst (λ m. Makes (seen_of t p (hand_list m)) (sees_no_stop ∷ made event.Claim t.packets reply.NoMore ∷ [])
-      (seen_of (took t End) (after_look p shown.Stop 0) (hand_list m))) (sym empty)
-      (end_made t p ended stop_seen (subst (λ m. IsHand t p m ended stop_seen) empty ok) going no_stop)))
+      rw (is, looked, was, empty)
+      (end_made t p ended stop_seen (subst (λ m. IsHand t p m ended stop_seen) empty ok) going no_stop)
 
 -- ---- several looks, and then a call
 pub makes_then : (xs : List MadeStep) (v : View) (ys : List MadeStep) (u w : View) → Makes v xs u → Makes u ys w
