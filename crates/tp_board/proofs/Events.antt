@@ -1,6 +1,6 @@
 -- Each kind of step of the board is one event of the farm.
 use Rattle.std.proofs.Common.{All, ◌≡◌, ℕ, zero, suc, ◌+◌, ◌<◌, ◌≤◌, ltb, min, nat_eq, bit_or, Bool, true, false, List, [], ◌∷◌}
-use Rattle.std.proofs.Common.{◌++◌, length, map, set, get_or, Option, Some, None, sym, refl, ap, ◌∙◌, subst, ⊎_elim, arith}
+use Rattle.std.proofs.Common.{◌++◌, length, map, set, get_or, Some, None, sym, refl, ap, ◌∙◌, subst, ⊎_elim, arith}
 use Rattle.std.specs.Prelude.{slice_index, slice_set, if◌then◌else◌}
 use Rattle.std.proofs.lemmas.Bool.{lt-ltb, le-ltb, cases_lt}
 use Rattle.std.proofs.lemmas.List.Elements.{All-head, All-tail}
@@ -9,13 +9,14 @@ use lib.ListN.{get_elem?}
 use Rattle.tp_board.specs.Counting.{times, times_in_hands, hand_list}
 use Rattle.tp_board.specs.Farm.{Farm, Step, farm, step, claim_step, finish_step, abandon_step, hand_of, hands_with}
 use Rattle.tp_board.specs.Runs.{Accounts}
-use Rattle.tp_board.specs.Words.{one_more, word_of, place_of, words_of, counters}
+use Rattle.tp_board.specs.Words.{word_of, place_of, words_of}
 use Rattle.tp_board.specs.Views.{first_of, all_finished, all_abandoned}
 use Rattle.tp_board.specs.Rule.{total, Rule}
 use Rattle.tp_board.specs.Steps.{answer_for, claim_reply, hand_reply, with_number, with_end, after_draw, after_finish}
-use Rattle.tp_board.specs.Steps.{after_abandon, after_stop, after_look, words_after}
+use Rattle.tp_board.specs.Steps.{after_abandon, after_stop, after_look, row_of, MayStep, found_by, words_after}
 use Rattle.tp_board.specs.FarmOf.{farm_of, IsSame}
-use Rattle.tp_board.specs.Laws.{AccountsLaw, StepLaw}
+use Rattle.tp_board.specs.Freshness.{IsFresh}
+use Rattle.tp_board.specs.Laws.{AccountsLaw, StepLaw, IsEvent, IsSeatAt}
 use Rattle.tp_board.proofs.Counting.{times-append}
 use Rattle.tp_board.proofs.Moves.{moves, set_same, word_fresh, claimed_small, finished_small, abandoned_small, added, one_or}
 use Rattle.tp_board.proofs.Totals.{total_parts, length_gathered, times_gathered, gathered_set}
@@ -61,6 +62,19 @@ by_name : (k : Size) (words : List ℕ) (w w' : Counters) (views views' : List V
 by_name k words w w' views views' id event r is next told =
     subst (λ ws. Told k ws (words_after event ws) views views' id event r) (sym is)
     (subst (λ ws. Told k (words_of w) ws views views' id event r) (sym next) told)
+
+-- what is told of an event is its law, since each step keeps the rule and finds its word fresh
+event_law : (event : Event) (k : Size) (words : List ℕ) (views : List View) (id : ℕ) (v : View) → IsSeatAt k words views id v
+    → MayStep event v
+    → let n = found_by event words in
+    let row = row_of event in
+    Told k words (words_after event words) views (set views id (row.view v n)) id event (row.reply v n)
+    → IsFresh v row.word n
+    × IsEvent k words views (words_after event words) (set views id (row.view v n)) id event (row.reply v n)
+event_law event k words views id v (h, at, one) may told = (
+  word_fresh k words views id v h at (row_of event).word one,
+  record { rule = moves k words views id v h at event may one; farm = told.0; answered = told.1 },
+)
 
 -- a seat whose hand and reports stay leaves the farm's
 unmoved : (k : Size) (w w' : Counters) (views : List View) (id : ℕ) (v u : View) → get_elem? views id ≡ some v → u.hand ≡ v.hand
@@ -142,10 +156,8 @@ claim_law k words views id v (h, at, one) may =
     let told =
     subst (λ n. Told k words (words_after Claim words) views (set views id (after_draw v n)) id Claim (claim_reply v.packets n))
     (sym (ap (λ ws. slice_index ws 0) h.1))
-    (by_name k words w w' views (set views id (after_draw v w.claimed)) id Claim (claim_reply v.packets w.claimed) h.1 next drew) in (
-      word_fresh k words views id v h at shown.Claimed one,
-      record { rule = moves k words views id v h at Claim may one; farm = told.0; answered = told.1 },
-    )
+    (by_name k words w w' views (set views id (after_draw v w.claimed)) id Claim (claim_reply v.packets w.claimed) h.1 next drew) in
+    event_law Claim k words views id v (h, at, one) may told
 
 pub finish_law : StepLaw Finish
 finish_law k words views id v (h, at, one) (n, full) =
@@ -170,15 +182,8 @@ finish_law k words views id v (h, at, one) (n, full) =
         stop = refl;
       },
       refl,
-    )) in (
-      word_fresh k words views id v h at shown.Done one,
-      record {
-        rule = moves k words views id v h at Finish (n, full) one;
-        farm = told.0;
-        answered = told.1
-            ∙ ap hand_reply (sym full);
-      },
-    )
+    )) in
+    event_law Finish k words views id v (h, at, one) (n, full) (told.0, told.1 ∙ ap hand_reply (sym full))
 
 pub abandon_law : StepLaw Abandon
 abandon_law k words views id v (h, at, one) (n, full) =
@@ -203,15 +208,8 @@ abandon_law k words views id v (h, at, one) (n, full) =
         stop = refl;
       },
       refl,
-    )) in (
-      word_fresh k words views id v h at shown.Lost one,
-      record {
-        rule = moves k words views id v h at Abandon (n, full) one;
-        farm = told.0;
-        answered = told.1
-            ∙ ap hand_reply (sym full);
-      },
-    )
+    )) in
+    event_law Abandon k words views id v (h, at, one) (n, full) (told.0, told.1 ∙ ap hand_reply (sym full))
 
 pub stop_law : StepLaw Stop
 stop_law k words views id v (h, at, one) may =
@@ -220,10 +218,8 @@ stop_law k words views id v (h, at, one) may =
     let next : words_after Stop (words_of w) ≡ words_of w' =
     ap (λ n. w.claimed ∷ w.done ∷ w.lost ∷ n ∷ []) (ap (λ n. bit_or n 1) h.2.stop ∙ one_or (total (λ v. v.stop_callers) views)) in
     let told = by_name k words w w' views (set views id (after_stop v)) id Stop Made h.1 next
-    (unmoved k w w' views id v (after_stop v) at refl refl refl refl, refl) in (
-      word_fresh k words views id v h at shown.Stop one,
-      record { rule = moves k words views id v h at Stop may one; farm = told.0; answered = told.1 },
-    )
+    (unmoved k w w' views id v (after_stop v) at refl refl refl refl, refl) in
+    event_law Stop k words views id v (h, at, one) may told
 
 stop_shown : (t : ℕ) → (if nat_eq (min 1 t) 1 then 1 else 0) ≡ min 1 t
 stop_shown zero = refl
@@ -252,19 +248,14 @@ look_at k w views id v shown.Stop r at = (
 pub look_law : (what : Shown) → StepLaw (Look what)
 look_law what k words views id v (h, at, one) may =
     let packets : v.packets ≡ k.packets = (h.2.fits id v at).packets (omega arith) in
-    let u = after_look v what (word_of what words) in
     let told =
     subst (λ ws. let n = word_of what ws in
     Told k ws ws views (slice_set views id (after_look v what n)) id (Look what) (Value (answer_for what k.packets n))) (sym h.1)
-    (look_at k h.0 views id v what h.2 at) in (
-      word_fresh k words views id v h at what one,
-      record {
-        rule = moves k words views id v h at (Look what) may one;
-        farm =
-            subst (λ ws. IsSame (farm_of k ws (slice_set views id u)) (step (farm_of k words views) id (Look what)).1)
-            (sym (set_same (place_of what) words)) told.0;
-        answered = told.1 ∙ ap (λ p. Value (answer_for what p (word_of what words))) (sym packets);
-      },
+    (look_at k h.0 views id v what h.2 at) in
+    event_law (Look what) k words views id v (h, at, one) may (
+      subst (λ ws. IsSame (farm_of k ws (set views id (after_look v what (word_of what words))))
+          (step (farm_of k words views) id (Look what)).1) (sym (set_same (place_of what) words)) told.0,
+      told.1 ∙ ap (λ p. Value (answer_for what p (word_of what words))) (sym packets),
     )
 
 -- ---- the accounts

@@ -1,6 +1,6 @@
 -- Each kind of step keeps the rule.
 use Rattle.std.proofs.Common.{◌≡◌, ◌≢◌, ℕ, ◌+◌, ◌-◌, ◌<◌, ◌≤◌, ltb, min, List, [], ◌∷◌, ◌++◌, length, set, sym, refl, ap, ◌∙◌}
-use Rattle.std.proofs.Common.{subst, ⊎_elim, arith, length-append}
+use Rattle.std.proofs.Common.{arith, length-append}
 use Rattle.std.proofs.lemmas.Bool.{cond_both, ltb-true, ltb-false}
 use mathlib.Core.Option.{some}
 use lib.ListN.{get_elem?}
@@ -58,7 +58,7 @@ module _ (k : Size) (w w' : Counters) (views olds views' news : List View) (r : 
     (e : Exchange views olds views' news) where
   changed : Goes olds news (λ v. v.parts) k.members k.members
       → ((x : ℕ) → Goes olds news (λ v. times x v.drawn) (once_below x (min w.claimed k.packets))
-          (once_below x (min w'.claimed k.packets)))
+      (once_below x (min w'.claimed k.packets)))
       → Goes olds news (λ v. length v.drawn) (min w.claimed k.packets) (min w'.claimed k.packets)
       → Goes olds news (λ v. v.ended) (w.claimed - k.packets) (w'.claimed - k.packets)
       → Goes olds news (λ v. length v.finished) w.done w'.done
@@ -90,7 +90,7 @@ module _ (k : Size) (w : Counters) (views : List View) (id : ℕ) (v : View) (r 
   -- where it calls no stop
   stepped : (w' : Counters) (u : View) → u.parts ≡ v.parts → u.stop_callers ≡ v.stop_callers → w'.stop ≡ w.stop
       → ((x : ℕ) → once_below x (min w'.claimed k.packets) + times x v.drawn ≡
-          once_below x (min w.claimed k.packets) + times x u.drawn)
+      once_below x (min w.claimed k.packets) + times x u.drawn)
       → min w'.claimed k.packets + length v.drawn ≡ min w.claimed k.packets + length u.drawn
       → (w'.claimed - k.packets) + v.ended ≡ (w.claimed - k.packets) + u.ended
       → w'.done + length v.finished ≡ w.done + length u.finished

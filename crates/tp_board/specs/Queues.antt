@@ -1,7 +1,7 @@
 -- The rule of a stream's queue: it holds the numbers from the first that is not popped to the last
 -- pushed, and then the end marks; what was popped are the numbers below, each once.
-use Rattle.std.specs.Prelude.{◌≡◌, ℕ, ◌+◌, ◌-◌, ◌%◌, ◌<◌, ◌≤◌, ltb, nat_eq, Bool, true, List, [], ◌∷◌, ◌++◌, length, map, replicate}
-use Rattle.std.specs.Prelude.{if◌then◌else◌}
+use Rattle.std.specs.Prelude.{◌≡◌, ℕ, ◌+◌, ◌-◌, ◌%◌, ◌<◌, ◌≤◌, ltb, nat_eq, Bool, true, List, [], ◌∷◌, ◌++◌, length, map}
+use Rattle.std.specs.Prelude.{replicate, if◌then◌else◌}
 use mathlib.Core.Option.{some}
 use lib.ListN.{get_elem?}
 use Rattle.tp_board.specs.declared.stream.queue.Item.{Item}
