@@ -59,7 +59,7 @@ opens S p m few_packets few_members = (
   where
     only : (id : ℕ) (v : View) → get_elem? (newcomer p m ∷ []) id ≡ some v → Fits (size p m) nothing_seen v
     only zero v at =
-        subst (Fits (size p m) nothing_seen) (some-injective (newcomer p m) v at) (newcomer_fits (size p m) nothing_seen p m refl)
+        subst (Fits (size p m) nothing_seen) (some-injective (newcomer p m) v at) (newcomer_fits (size p m) nothing_seen p m (λ _. refl))
     only (suc id) v at = absurd (some-ne-none v (sym at))
 
 -- the seat that has the parts of all members knows what the rule says of the words

@@ -1,24 +1,26 @@
 -- Each kind of step of the board is one event of the farm.
 use Rattle.std.proofs.Common.{All, ◌≡◌, ℕ, zero, suc, ◌+◌, ◌<◌, ◌≤◌, ltb, min, nat_eq, bit_or, Bool, true, false, List, [], ◌∷◌}
-use Rattle.std.proofs.Common.{◌++◌, length, map, set, get_or, Option, Some, None, sym, refl, ap, ◌∙◌, subst, ⊎_elim, arith}
+use Rattle.std.proofs.Common.{◌++◌, length, map, set, get_or, Some, None, sym, refl, ap, ◌∙◌, subst, ⊎_elim, arith}
 use Rattle.std.specs.Prelude.{slice_index, slice_set, if◌then◌else◌}
 use Rattle.std.proofs.lemmas.Bool.{lt-ltb, le-ltb, cases_lt}
 use Rattle.std.proofs.lemmas.List.Elements.{All-head, All-tail}
 use mathlib.Core.Option.{some, some-ne-none, some-injective}
 use lib.ListN.{get_elem?}
 use Rattle.tp_board.specs.Counting.{times, times_in_hands, hand_list}
-use Rattle.tp_board.specs.Farm.{Step, farm, step, claim_step, finish_step, abandon_step, hand_of}
+use Rattle.tp_board.specs.Farm.{Farm, Step, farm, step, claim_step, finish_step, abandon_step, hand_of, hands_with}
 use Rattle.tp_board.specs.Runs.{Accounts}
-use Rattle.tp_board.specs.Words.{one_more, word_of, place_of, words_of, counters}
+use Rattle.tp_board.specs.Words.{word_of, place_of, words_of}
 use Rattle.tp_board.specs.Views.{first_of, all_finished, all_abandoned}
 use Rattle.tp_board.specs.Rule.{total, Rule}
 use Rattle.tp_board.specs.Steps.{answer_for, claim_reply, hand_reply, with_number, with_end, after_draw, after_finish}
-use Rattle.tp_board.specs.Steps.{after_abandon, after_stop, with_seen, after_look}
+use Rattle.tp_board.specs.Steps.{after_abandon, after_stop, after_look, row_of, MayStep, found_by, words_after}
 use Rattle.tp_board.specs.FarmOf.{farm_of, IsSame}
-use Rattle.tp_board.specs.Laws.{AccountsLaw, StepLaw}
+use Rattle.tp_board.specs.Freshness.{IsFresh}
+use Rattle.tp_board.specs.Laws.{AccountsLaw, StepLaw, IsEvent, IsSeatAt}
 use Rattle.tp_board.proofs.Counting.{times-append}
 use Rattle.tp_board.proofs.Moves.{moves, set_same, word_fresh, claimed_small, finished_small, abandoned_small, added, one_or}
 use Rattle.tp_board.proofs.Totals.{total_parts, length_gathered, times_gathered, gathered_set}
+use Rattle.tp_board.specs.declared.event.Event.{Event}
 use Rattle.tp_board.specs.declared.event.Event.TheVariants.{Claim, Finish, Abandon, Stop, Look}
 use Rattle.tp_board.specs.declared.event.Shown.{Shown}
 use Rattle.tp_board.specs.declared.event.Shown.TheVariants as shown
@@ -48,136 +50,127 @@ module _ where
       ap (λ h. first_of h ∷ map (λ v. first_of v.hand) ys) (e ∙ ap (λ (y : View). y.hand) (sym (some-injective y v at)))
   same_hand (y ∷ ys) (suc id) v u at e = ap (λ l. first_of y.hand ∷ l) (same_hand ys id v u at e)
 
-draw_below : (p : ℕ) (w : Counters) (views : List View) (id : ℕ) (v : View) → get_elem? views id ≡ some v → v.hand ≡ []
-    → w.claimed < p
-    → let s =
-    farm p (min w.claimed p) (map (λ v. first_of v.hand) views) (all_finished views) (all_abandoned views)
-    (nat_eq w.stop 1) in
-    let t =
-    farm p (min (w.claimed + 1) p) (map (λ v. first_of v.hand) (set views id (with_number v w.claimed)))
-    (all_finished (set views id (with_number v w.claimed))) (all_abandoned (set views id (with_number v w.claimed)))
-    (nat_eq w.stop 1) in
-    IsSame t (step s id Claim).1 × ((step s id Claim).0 ≡ Number w.claimed)
-draw_below p w views id v at none below =
-    let hs = map (λ v. first_of v.hand) views in
-    let u = with_number v w.claimed in
-    let s = farm p (min w.claimed p) hs (all_finished views) (all_abandoned views) (nat_eq w.stop 1) in
-    let t =
-    farm p (min (w.claimed + 1) p) (map (λ v. first_of v.hand) (set views id u)) (all_finished (set views id u))
-    (all_abandoned (set views id u)) (nat_eq w.stop 1) in
-    let was : min w.claimed p ≡ w.claimed = omega arith in
-    let now : min (w.claimed + 1) p ≡ w.claimed + 1 = omega arith in
-    let hand : hand_of s id ≡ None = hand_at views id v at ∙ ap first_of none in
-    let P : Option ℕ → Type 0 = λ h. IsSame t (claim_step s id h).1 × ((claim_step s id h).0 ≡ Number w.claimed) in
-    let test : ltb (min w.claimed p) p ≡ true = lt-ltb (min w.claimed p) p (omega arith) in
-    let yes : Step = (
-      Number (min w.claimed p),
-      farm p (min w.claimed p + 1) (set hs id (Some (min w.claimed p))) (all_finished views)
-          (all_abandoned views) (nat_eq w.stop 1),
-    ) in
-    let no : Step = (NoMore, s) in
-    let Q : Bool → Type 0 = λ b. IsSame t (if b then yes else no).1 × ((if b then yes else no).0 ≡ Number w.claimed) in
-    subst P (sym hand) (subst Q (sym test) (
-      record {
-        packets = refl;
-        drawn = (omega arith);
-        hands =
-            hands_set views id u ∙ ap (λ h. set hs id (first_of h)) (ap (λ l. l ++ w.claimed ∷ []) none)
-            ∙ ap (λ n. set hs id (Some n)) (sym was);
-        done = (λ x. let a = gathered_set (λ v. v.finished) x views id v u at in omega arith);
-        lost = (λ x. let a = gathered_set (λ v. v.abandoned) x views id v u at in omega arith);
-        stop = refl;
-      },
-      ap (λ n. Number n) was,
-    ))
+-- the farm after these words and views is what the event makes of the farm before, with this reply
+abbrev Told : Size → List ℕ → List ℕ → List View → List View → ℕ → Event → Reply → Type 0
+Told k words words' views views' id event r =
+    IsSame (farm_of k words' views') (step (farm_of k words views) id event).1 × ((step (farm_of k words views) id event).0 ≡ r)
 
-draw_above : (p : ℕ) (w : Counters) (views : List View) (id : ℕ) (v : View) → get_elem? views id ≡ some v → v.hand ≡ []
-    → p ≤ w.claimed
-    → let s =
-    farm p (min w.claimed p) (map (λ v. first_of v.hand) views) (all_finished views) (all_abandoned views)
-    (nat_eq w.stop 1) in
-    let t =
-    farm p (min (w.claimed + 1) p) (map (λ v. first_of v.hand) (set views id (with_end v)))
-    (all_finished (set views id (with_end v))) (all_abandoned (set views id (with_end v))) (nat_eq w.stop 1) in
-    IsSame t (step s id Claim).1 × ((step s id Claim).0 ≡ NoMore)
-draw_above p w views id v at none above =
-    let hs = map (λ v. first_of v.hand) views in
-    let u = with_end v in
-    let s = farm p (min w.claimed p) hs (all_finished views) (all_abandoned views) (nat_eq w.stop 1) in
-    let t =
-    farm p (min (w.claimed + 1) p) (map (λ v. first_of v.hand) (set views id u)) (all_finished (set views id u))
-    (all_abandoned (set views id u)) (nat_eq w.stop 1) in
-    let hand : hand_of s id ≡ None = hand_at views id v at ∙ ap first_of none in
-    let P : Option ℕ → Type 0 = λ h. IsSame t (claim_step s id h).1 × ((claim_step s id h).0 ≡ NoMore) in
-    let test : ltb (min w.claimed p) p ≡ false = le-ltb (min w.claimed p) p (omega arith) in
-    let yes : Step = (
-      Number (min w.claimed p),
-      farm p (min w.claimed p + 1) (set hs id (Some (min w.claimed p))) (all_finished views)
-          (all_abandoned views) (nat_eq w.stop 1),
-    ) in
-    let no : Step = (NoMore, s) in
-    let Q : Bool → Type 0 = λ b. IsSame t (if b then yes else no).1 × ((if b then yes else no).0 ≡ NoMore) in
-    subst P (sym hand) (subst Q (sym test) (
-      record {
-        packets = refl;
-        drawn = (omega arith);
-        hands = same_hand views id v u at refl;
-        done = (λ x. let a = gathered_set (λ v. v.finished) x views id v u at in omega arith);
-        lost = (λ x. let a = gathered_set (λ v. v.abandoned) x views id v u at in omega arith);
-        stop = refl;
-      },
-      refl,
-    ))
+-- where the words are known by their names
+by_name : (k : Size) (words : List ℕ) (w w' : Counters) (views views' : List View) (id : ℕ) (event : Event) (r : Reply)
+    → words ≡ words_of w → words_after event (words_of w) ≡ words_of w'
+    → Told k (words_of w) (words_of w') views views' id event r → Told k words (words_after event words) views views' id event r
+by_name k words w w' views views' id event r is next told =
+    subst (λ ws. Told k ws (words_after event ws) views views' id event r) (sym is)
+    (subst (λ ws. Told k (words_of w) ws views views' id event r) (sym next) told)
+
+-- what is told of an event is its law, since each step keeps the rule and finds its word fresh
+event_law : (event : Event) (k : Size) (words : List ℕ) (views : List View) (id : ℕ) (v : View) → IsSeatAt k words views id v
+    → MayStep event v
+    → let n = found_by event words in
+    let row = row_of event in
+    Told k words (words_after event words) views (set views id (row.view v n)) id event (row.reply v n)
+    → IsFresh v row.word n
+    × IsEvent k words views (words_after event words) (set views id (row.view v n)) id event (row.reply v n)
+event_law event k words views id v (h, at, one) may told = (
+  word_fresh k words views id v h at (row_of event).word one,
+  record { rule = moves k words views id v h at event may one; farm = told.0; answered = told.1 },
+)
+
+-- a seat whose hand and reports stay leaves the farm's
+unmoved : (k : Size) (w w' : Counters) (views : List View) (id : ℕ) (v u : View) → get_elem? views id ≡ some v → u.hand ≡ v.hand
+    → u.finished ≡ v.finished → u.abandoned ≡ v.abandoned → min w'.claimed k.packets ≡ min w.claimed k.packets
+    → IsSame (farm_of k (words_of w') (set views id u)) (farm_of k (words_of (record w { stop = w'.stop })) views)
+unmoved k w w' views id v u at hand finished abandoned drawn = record {
+  packets = refl;
+  drawn = drawn;
+  hands = same_hand views id v u at hand;
+  done =
+      (λ x. let a = gathered_set (λ v. v.finished) x views id v u at in let b = ap (times x) finished in omega arith);
+  lost =
+      (λ x. let a = gathered_set (λ v. v.abandoned) x views id v u at in let b = ap (times x) abandoned in omega arith);
+  stop = refl;
+}
+
+-- a claim by one with nothing in hand, where a number is left and where none is
+drawn_by : (s t : Farm) (id : ℕ) (r : Reply) (b : Bool) → hand_of s id ≡ None → ltb s.drawn s.packets ≡ b
+    → (let given : Step =
+    if b then (Number s.drawn, farm s.packets (s.drawn + 1) (hands_with s id (Some s.drawn)) s.done s.lost s.stop)
+    else (NoMore, s) in IsSame t given.1 × (given.0 ≡ r))
+    → IsSame t (step s id Claim).1 × ((step s id Claim).0 ≡ r)
+drawn_by s t id r b none test h =
+    subst (λ o. IsSame t (claim_step s id o).1 × ((claim_step s id o).0 ≡ r)) (sym none)
+    (subst (λ b. let given : Step =
+    if b then (Number s.drawn, farm s.packets (s.drawn + 1) (hands_with s id (Some s.drawn)) s.done s.lost s.stop)
+    else (NoMore, s) in IsSame t given.1 × (given.0 ≡ r)) (sym test) h)
+
+module _ (k : Size) (w : Counters) (views : List View) (id : ℕ) (v : View) (at : get_elem? views id ≡ some v)
+    (none : v.hand ≡ []) where
+  draw_below : w.claimed < k.packets
+      → Told k (words_of w) (words_of (record w { claimed = w.claimed + 1 })) views (set views id (with_number v w.claimed)) id Claim
+      (Number w.claimed)
+  draw_below below =
+      let u = with_number v w.claimed in
+      let was : min w.claimed k.packets ≡ w.claimed = omega arith in
+      let now : min (w.claimed + 1) k.packets ≡ w.claimed + 1 = omega arith in
+      drawn_by (farm_of k (words_of w) views) (farm_of k (words_of (record w { claimed = w.claimed + 1 })) (set views id u)) id
+      (Number w.claimed) true (hand_at views id v at ∙ ap first_of none)
+      (lt-ltb (min w.claimed k.packets) k.packets (omega arith)) (
+        record {
+          packets = refl;
+          drawn = (omega arith);
+          hands =
+              hands_set views id u ∙ ap (λ h. set (map (λ v. first_of v.hand) views) id (first_of h))
+              (ap (λ l. l ++ w.claimed ∷ []) none)
+              ∙ ap (λ n. set (map (λ v. first_of v.hand) views) id (Some n)) (sym was);
+          done = (λ x. let a = gathered_set (λ v. v.finished) x views id v u at in omega arith);
+          lost = (λ x. let a = gathered_set (λ v. v.abandoned) x views id v u at in omega arith);
+          stop = refl;
+        },
+        ap (λ n. Number n) was,
+      )
+
+  draw_above : k.packets ≤ w.claimed
+      → Told k (words_of w) (words_of (record w { claimed = w.claimed + 1 })) views (set views id (with_end v)) id Claim NoMore
+  draw_above above =
+      drawn_by (farm_of k (words_of w) views)
+      (farm_of k (words_of (record w { claimed = w.claimed + 1 })) (set views id (with_end v))) id NoMore false
+      (hand_at views id v at ∙ ap first_of none) (le-ltb (min w.claimed k.packets) k.packets (omega arith))
+      (unmoved k w (record w { claimed = w.claimed + 1 }) views id v (with_end v) at refl refl refl (omega arith), refl)
 
 pub claim_law : StepLaw Claim
 claim_law k words views id v (h, at, one) may =
     let w = h.0 in
     let packets : v.packets ≡ k.packets = (h.2.fits id v at).packets (omega arith) in
-    let next : slice_set (words_of w) 0 (one_more w.claimed) ≡ words_of (counters (w.claimed + 1) w.done w.lost w.stop) =
+    let w' : Counters = record w { claimed = w.claimed + 1 } in
+    let next : words_after Claim (words_of w) ≡ words_of w' =
     ap (λ n. n ∷ w.done ∷ w.lost ∷ w.stop ∷ []) (added w.claimed (let z = claimed_small k w views h.2 in omega arith)) in
-    let Told : List ℕ → List ℕ → View → Reply → Type 0 =
-    λ ws ws' u r. IsSame (farm_of k ws' (slice_set views id u)) (step (farm_of k ws views) id Claim).1
-    × ((step (farm_of k ws views) id Claim).0 ≡ r) in
-    let Goal : List ℕ → Type 0 =
-    λ ws. Told ws (slice_set ws 0 (one_more (slice_index ws 0))) (after_draw v (slice_index ws 0))
-    (claim_reply v.packets (slice_index ws 0)) in
-    let Next : List ℕ → Type 0 = λ ws. Told (words_of w) ws (after_draw v w.claimed) (claim_reply v.packets w.claimed) in
     let Branch : Bool → Type 0 =
-    λ b. Told (words_of w) (words_of (counters (w.claimed + 1) w.done w.lost w.stop))
-    (if b then with_number v w.claimed else with_end v) (if b then Number w.claimed else NoMore) in
-    let Case : ℕ → Type 0 = λ p. Branch (ltb w.claimed p) in
-    let told = subst Goal (sym h.1) (subst Next (sym next) (subst Case (sym packets) (⊎_elim
-    (λ (below : w.claimed < k.packets). subst Branch (sym (lt-ltb w.claimed k.packets below))
-    (draw_below k.packets w views id v at may.0 below))
-    (λ (above : k.packets ≤ w.claimed). subst Branch (sym (le-ltb w.claimed k.packets above))
-    (draw_above k.packets w views id v at may.0 above))
-    (cases_lt w.claimed k.packets)))) in (
-      word_fresh k words views id v h at shown.Claimed one,
-      record { rule = moves k words views id v h at Claim may one; farm = told.0; answered = told.1 },
-    )
+    λ b. Told k (words_of w) (words_of w') views (set views id (if b then with_number v w.claimed else with_end v)) id Claim
+    (if b then Number w.claimed else NoMore) in
+    let drew : Branch (ltb w.claimed v.packets) = ⊎_elim
+    (λ (below : w.claimed < v.packets). subst Branch (sym (lt-ltb w.claimed v.packets below))
+    (draw_below k w views id v at may.0 (omega arith)))
+    (λ (above : v.packets ≤ w.claimed). subst Branch (sym (le-ltb w.claimed v.packets above))
+    (draw_above k w views id v at may.0 (omega arith)))
+    (cases_lt w.claimed v.packets) in
+    let told =
+    subst (λ n. Told k words (words_after Claim words) views (set views id (after_draw v n)) id Claim (claim_reply v.packets n))
+    (sym (ap (λ ws. slice_index ws 0) h.1))
+    (by_name k words w w' views (set views id (after_draw v w.claimed)) id Claim (claim_reply v.packets w.claimed) h.1 next drew) in
+    event_law Claim k words views id v (h, at, one) may told
 
 pub finish_law : StepLaw Finish
 finish_law k words views id v (h, at, one) (n, full) =
     let w = h.0 in
-    let r = h.2 in
     let u = after_finish v in
-    let hs = map (λ v. first_of v.hand) views in
-    let s = farm k.packets (min w.claimed k.packets) hs (all_finished views) (all_abandoned views) (nat_eq w.stop 1) in
-    let t =
-    farm k.packets (min w.claimed k.packets) (map (λ v. first_of v.hand) (set views id u)) (all_finished (set views id u))
-    (all_abandoned (set views id u)) (nat_eq w.stop 1) in
-    let small = finished_small k w views r in
-    let next : slice_set (words_of w) 1 (one_more w.done) ≡ words_of (counters w.claimed (w.done + 1) w.lost w.stop) =
+    let w' : Counters = record w { done = w.done + 1 } in
+    let small = finished_small k w views h.2 in
+    let next : words_after Finish (words_of w) ≡ words_of w' =
     ap (λ n. w.claimed ∷ n ∷ w.lost ∷ w.stop ∷ []) (added w.done (omega arith)) in
-    let Goal : List ℕ → Type 0 =
-    λ ws. IsSame (farm_of k (slice_set ws 1 (one_more (slice_index ws 1))) (slice_set views id u))
-    (step (farm_of k ws views) id Finish).1 × ((step (farm_of k ws views) id Finish).0 ≡ Number n) in
-    let Next : List ℕ → Type 0 =
-    λ ws. IsSame (farm_of k ws (slice_set views id u)) (step (farm_of k (words_of w) views) id Finish).1
-    × ((step (farm_of k (words_of w) views) id Finish).0 ≡ (Number n)) in
-    let hand : hand_of s id ≡ Some n = hand_at views id v at ∙ ap first_of full in
-    let P : Option ℕ → Type 0 = λ o. IsSame t (finish_step s id o).1 × ((finish_step s id o).0 ≡ Number n) in
-    let told = subst Goal (sym h.1) (subst Next (sym next) (subst P (sym hand) (
+    let told = by_name k words w w' views (set views id u) id Finish (Number n) h.1 next
+    (subst (λ o. let given = finish_step (farm_of k (words_of w) views) id o in
+    IsSame (farm_of k (words_of w') (set views id u)) given.1 × (given.0 ≡ Number n))
+    (sym (hand_at views id v at ∙ ap first_of full)) (
       record {
         packets = refl;
         drawn = refl;
@@ -189,38 +182,21 @@ finish_law k words views id v (h, at, one) (n, full) =
         stop = refl;
       },
       refl,
-    ))) in (
-      word_fresh k words views id v h at shown.Done one,
-      record {
-        rule = moves k words views id v h at Finish (n, full) one;
-        farm = told.0;
-        answered = told.1
-            ∙ ap hand_reply (sym full);
-      },
-    )
+    )) in
+    event_law Finish k words views id v (h, at, one) (n, full) (told.0, told.1 ∙ ap hand_reply (sym full))
 
 pub abandon_law : StepLaw Abandon
 abandon_law k words views id v (h, at, one) (n, full) =
     let w = h.0 in
-    let r = h.2 in
     let u = after_abandon v in
-    let hs = map (λ v. first_of v.hand) views in
-    let s = farm k.packets (min w.claimed k.packets) hs (all_finished views) (all_abandoned views) (nat_eq w.stop 1) in
-    let t =
-    farm k.packets (min w.claimed k.packets) (map (λ v. first_of v.hand) (set views id u)) (all_finished (set views id u))
-    (all_abandoned (set views id u)) (nat_eq w.stop 1) in
-    let small = abandoned_small k w views r in
-    let next : slice_set (words_of w) 2 (one_more w.lost) ≡ words_of (counters w.claimed w.done (w.lost + 1) w.stop) =
+    let w' : Counters = record w { lost = w.lost + 1 } in
+    let small = abandoned_small k w views h.2 in
+    let next : words_after Abandon (words_of w) ≡ words_of w' =
     ap (λ n. w.claimed ∷ w.done ∷ n ∷ w.stop ∷ []) (added w.lost (omega arith)) in
-    let Goal : List ℕ → Type 0 =
-    λ ws. IsSame (farm_of k (slice_set ws 2 (one_more (slice_index ws 2))) (slice_set views id u))
-    (step (farm_of k ws views) id Abandon).1 × ((step (farm_of k ws views) id Abandon).0 ≡ Number n) in
-    let Next : List ℕ → Type 0 =
-    λ ws. IsSame (farm_of k ws (slice_set views id u)) (step (farm_of k (words_of w) views) id Abandon).1
-    × ((step (farm_of k (words_of w) views) id Abandon).0 ≡ (Number n)) in
-    let hand : hand_of s id ≡ Some n = hand_at views id v at ∙ ap first_of full in
-    let P : Option ℕ → Type 0 = λ o. IsSame t (abandon_step s id o).1 × ((abandon_step s id o).0 ≡ Number n) in
-    let told = subst Goal (sym h.1) (subst Next (sym next) (subst P (sym hand) (
+    let told = by_name k words w w' views (set views id u) id Abandon (Number n) h.1 next
+    (subst (λ o. let given = abandon_step (farm_of k (words_of w) views) id o in
+    IsSame (farm_of k (words_of w') (set views id u)) given.1 × (given.0 ≡ Number n))
+    (sym (hand_at views id v at ∙ ap first_of full)) (
       record {
         packets = refl;
         drawn = refl;
@@ -232,56 +208,18 @@ abandon_law k words views id v (h, at, one) (n, full) =
         stop = refl;
       },
       refl,
-    ))) in (
-      word_fresh k words views id v h at shown.Lost one,
-      record {
-        rule = moves k words views id v h at Abandon (n, full) one;
-        farm = told.0;
-        answered = told.1
-            ∙ ap hand_reply (sym full);
-      },
-    )
+    )) in
+    event_law Abandon k words views id v (h, at, one) (n, full) (told.0, told.1 ∙ ap hand_reply (sym full))
 
 pub stop_law : StepLaw Stop
 stop_law k words views id v (h, at, one) may =
     let w = h.0 in
-    let r = h.2 in
-    let u = after_stop v in
-    let next : slice_set (words_of w) 3 (bit_or w.stop 1) ≡ words_of (counters w.claimed w.done w.lost 1) =
-    ap (λ n. w.claimed ∷ w.done ∷ w.lost ∷ n ∷ []) (ap (λ n. bit_or n 1) r.stop ∙ one_or (total (λ v. v.stop_callers) views)) in
-    let Goal : List ℕ → Type 0 =
-    λ ws. IsSame (farm_of k (slice_set ws 3 (bit_or (slice_index ws 3) 1)) (slice_set views id u))
-    (step (farm_of k ws views) id Stop).1 × ((step (farm_of k ws views) id Stop).0 ≡ Made) in
-    let Next : List ℕ → Type 0 =
-    λ ws. IsSame (farm_of k ws (slice_set views id u)) (step (farm_of k (words_of w) views) id Stop).1
-    × ((step (farm_of k (words_of w) views) id Stop).0 ≡ Made) in
-    let told = subst Goal (sym h.1) (subst Next (sym next) (
-      record {
-        packets = refl;
-        drawn = refl;
-        hands = same_hand views id v u at refl;
-        done = (λ x. let a = gathered_set (λ v. v.finished) x views id v u at in omega arith);
-        lost = (λ x. let a = gathered_set (λ v. v.abandoned) x views id v u at in omega arith);
-        stop = refl;
-      },
-      refl,
-    )) in (
-      word_fresh k words views id v h at shown.Stop one,
-      record { rule = moves k words views id v h at Stop may one; farm = told.0; answered = told.1 },
-    )
-
--- a look changes what the seat has seen, and nothing of the farm
-unchanged : (k : Size) (w : Counters) (views : List View) (id : ℕ) (v : View) (s : Counters) → get_elem? views id ≡ some v
-    → IsSame (farm_of k (words_of w) (set views id (with_seen v s))) (farm_of k (words_of w) views)
-unchanged k w views id v s at =
-    let u = with_seen v s in record {
-      packets = refl;
-      drawn = refl;
-      hands = same_hand views id v u at refl;
-      done = (λ x. let a = gathered_set (λ v. v.finished) x views id v u at in omega arith);
-      lost = (λ x. let a = gathered_set (λ v. v.abandoned) x views id v u at in omega arith);
-      stop = refl;
-    }
+    let w' : Counters = record w { stop = 1 } in
+    let next : words_after Stop (words_of w) ≡ words_of w' =
+    ap (λ n. w.claimed ∷ w.done ∷ w.lost ∷ n ∷ []) (ap (λ n. bit_or n 1) h.2.stop ∙ one_or (total (λ v. v.stop_callers) views)) in
+    let told = by_name k words w w' views (set views id (after_stop v)) id Stop Made h.1 next
+    (unmoved k w w' views id v (after_stop v) at refl refl refl refl, refl) in
+    event_law Stop k words views id v (h, at, one) may told
 
 stop_shown : (t : ℕ) → (if nat_eq (min 1 t) 1 then 1 else 0) ≡ min 1 t
 stop_shown zero = refl
@@ -289,22 +227,20 @@ stop_shown (suc t) = let e : min 1 (suc t) ≡ 1 = omega arith in rw e refl
 
 look_at : (k : Size) (w : Counters) (views : List View) (id : ℕ) (v : View) (what : Shown) → Rule k w views
     → get_elem? views id ≡ some v
-    → let s = farm_of k (words_of w) views in
-    let n = word_of what (words_of w) in
-    IsSame (farm_of k (words_of w) (slice_set views id (after_look v what n))) (step s id (Look what)).1
-    × ((step s id (Look what)).0 ≡ Value (answer_for what k.packets n))
+    → let n = word_of what (words_of w) in
+    Told k (words_of w) (words_of w) views (slice_set views id (after_look v what n)) id (Look what) (Value (answer_for what k.packets n))
 look_at k w views id v shown.Claimed r at =
-    (unchanged k w views id v (counters w.claimed v.seen.done v.seen.lost v.seen.stop) at, refl)
+    (unmoved k w w views id v (after_look v shown.Claimed w.claimed) at refl refl refl refl, refl)
 look_at k w views id v shown.Done r at = (
-  unchanged k w views id v (counters v.seen.claimed w.done v.seen.lost v.seen.stop) at,
+  unmoved k w w views id v (after_look v shown.Done w.done) at refl refl refl refl,
   ap (λ n. Value n) (length_gathered (λ v. v.finished) views ∙ sym r.done),
 )
 look_at k w views id v shown.Lost r at = (
-  unchanged k w views id v (counters v.seen.claimed v.seen.done w.lost v.seen.stop) at,
+  unmoved k w w views id v (after_look v shown.Lost w.lost) at refl refl refl refl,
   ap (λ n. Value n) (length_gathered (λ v. v.abandoned) views ∙ sym r.lost),
 )
 look_at k w views id v shown.Stop r at = (
-  unchanged k w views id v (counters v.seen.claimed v.seen.done v.seen.lost w.stop) at,
+  unmoved k w w views id v (after_look v shown.Stop w.stop) at refl refl refl refl,
   ap (λ n. Value n) (ap (λ n. if nat_eq n 1 then 1 else 0) r.stop ∙ stop_shown (total (λ v. v.stop_callers) views)
       ∙ sym r.stop),
 )
@@ -312,20 +248,14 @@ look_at k w views id v shown.Stop r at = (
 pub look_law : (what : Shown) → StepLaw (Look what)
 look_law what k words views id v (h, at, one) may =
     let packets : v.packets ≡ k.packets = (h.2.fits id v at).packets (omega arith) in
-    let u = after_look v what (word_of what words) in
-    let Goal : List ℕ → Type 0 =
-    λ ws. IsSame (farm_of k ws (slice_set views id (after_look v what (word_of what ws))))
-    (step (farm_of k ws views) id (Look what)).1 ×
-    ((step (farm_of k ws views) id (Look what)).0 ≡ Value (answer_for what k.packets (word_of what ws))) in
-    let told = subst Goal (sym h.1) (look_at k h.0 views id v what h.2 at) in (
-      word_fresh k words views id v h at what one,
-      record {
-        rule = moves k words views id v h at (Look what) may one;
-        farm =
-            subst (λ ws. IsSame (farm_of k ws (slice_set views id u)) (step (farm_of k words views) id (Look what)).1)
-            (sym (set_same (place_of what) words)) told.0;
-        answered = told.1 ∙ ap (λ p. Value (answer_for what p (word_of what words))) (sym packets);
-      },
+    let told =
+    subst (λ ws. let n = word_of what ws in
+    Told k ws ws views (slice_set views id (after_look v what n)) id (Look what) (Value (answer_for what k.packets n))) (sym h.1)
+    (look_at k h.0 views id v what h.2 at) in
+    event_law (Look what) k words views id v (h, at, one) may (
+      subst (λ ws. IsSame (farm_of k ws (set views id (after_look v what (word_of what words))))
+          (step (farm_of k words views) id (Look what)).1) (sym (set_same (place_of what) words)) told.0,
+      told.1 ∙ ap (λ p. Value (answer_for what p (word_of what words))) (sym packets),
     )
 
 -- ---- the accounts

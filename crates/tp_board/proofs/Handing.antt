@@ -22,8 +22,9 @@ use Rattle.tp_board.specs.Sources.{progress_of, claim_of, NextSays, IsAnswerable
 use Rattle.tp_board.specs.Views.{first_of}
 use Rattle.tp_board.specs.Tallies.{holding}
 use Rattle.tp_board.specs.Steps.{with_number, with_end, after_draw, after_finish, after_abandon, after_look}
-use Rattle.tp_board.specs.Streams.{seen_of, IsHand, NextAfter, NextMakes}
+use Rattle.tp_board.specs.Streams.{seen_of, Agrees, IsHand, NextAfter, NextMakes}
 use Rattle.tp_board.proofs.Counting.{times-append}
+use Rattle.tp_board.proofs.Reports.{Adds, to_finished, to_abandoned, reported, agrees_reported}
 
 pub no_number : (m : Option ℕ) → first_of (hand_list m) ≡ None → m ≡ None
 no_number None e = refl
@@ -131,26 +132,14 @@ module _ (t u : PassView) (p q : View) (number : Option ℕ) (ended stop_seen : 
   pub says_number : (n : ℕ) (numbers : List ℕ) → numbers ≡ n ∷ [] → u ≡ took t (Number n) → IsNext t (Number n)
       → Makes (seen_of t p (hand_list number)) (sees_no_stop ∷ made event.Claim n (reply.Number n) ∷ []) (seen_of u q numbers)
   says_number n numbers has is next =
-      subst (λ ns. Makes (seen_of t p (hand_list number)) (sees_no_stop ∷ made event.Claim n (reply.Number n) ∷ [])
-      (seen_of u q ns)) (sym has)
-      (subst (λ u. Makes (seen_of t p (hand_list number)) (sees_no_stop ∷ made event.Claim n (reply.Number n) ∷ [])
-      (seen_of u q (n ∷ []))) (sym is)
-      (subst (λ q. Makes (seen_of t p (hand_list number)) (sees_no_stop ∷ made event.Claim n (reply.Number n) ∷ [])
-      (seen_of (took t (Number n)) q (n ∷ []))) (sym (looked ∙ ap (after_look p shown.Stop) was))
-      (subst (λ m. Makes (seen_of t p (hand_list m)) (sees_no_stop ∷ made event.Claim n (reply.Number n) ∷ [])
-      (seen_of (took t (Number n)) (after_look p shown.Stop 0) (n ∷ []))) (sym empty)
-      (number_made t p ended stop_seen n (subst (λ m. IsHand t p m ended stop_seen) empty ok) going no_stop next))))
+      rw (has, is, looked, was, empty)
+      (number_made t p ended stop_seen n (subst (λ m. IsHand t p m ended stop_seen) empty ok) going no_stop next)
 
   pub says_end : u ≡ took t End → Makes (seen_of t p (hand_list number))
       (sees_no_stop ∷ made event.Claim t.packets reply.NoMore ∷ []) (seen_of u q (hand_list number))
   says_end is =
-      subst (λ u. Makes (seen_of t p (hand_list number)) (sees_no_stop ∷ made event.Claim t.packets reply.NoMore ∷ [])
-      (seen_of u q (hand_list number))) (sym is)
-      (subst (λ q. Makes (seen_of t p (hand_list number)) (sees_no_stop ∷ made event.Claim t.packets reply.NoMore ∷ [])
-      (seen_of (took t End) q (hand_list number))) (sym (looked ∙ ap (after_look p shown.Stop) was))
-      (subst (λ m. Makes (seen_of t p (hand_list m)) (sees_no_stop ∷ made event.Claim t.packets reply.NoMore ∷ [])
-      (seen_of (took t End) (after_look p shown.Stop 0) (hand_list m))) (sym empty)
-      (end_made t p ended stop_seen (subst (λ m. IsHand t p m ended stop_seen) empty ok) going no_stop)))
+      rw (is, looked, was, empty)
+      (end_made t p ended stop_seen (subst (λ m. IsHand t p m ended stop_seen) empty ok) going no_stop)
 
 -- ---- several looks, and then a call
 pub makes_then : (xs : List MadeStep) (v : View) (ys : List MadeStep) (u w : View) → Makes v xs u → Makes u ys w
@@ -305,9 +294,11 @@ has_room t p number ended stop_seen n full ok =
     ok.agrees.counted in let b =
     ok.few_popped in let d = ok.few_packets in let c = ap (λ m. length (hand_list m)) full in omega arith
 
-pub hand_finished : (t : PassView) (p q : View) (number : Option ℕ) (ended stop_seen : Bool) (n : ℕ) → number ≡ Some n
-    → q ≡ after_finish (holding p (n ∷ [])) → IsHand t p number ended stop_seen → IsHand t q None ended stop_seen
-hand_finished t p q number ended stop_seen n full is ok = subst (λ (q : View). IsHand t q None ended stop_seen) (sym is) (record {
+-- the number in hand is reported
+hand_reported : (t : PassView) (p : View) (number : Option ℕ) (ended stop_seen : Bool) (n : ℕ) (done lost : List ℕ) → number ≡ Some n
+    → Adds p (n ∷ []) done lost → IsHand t p number ended stop_seen
+    → IsHand t (reported p (p.steps + 1) done lost) None ended stop_seen
+hand_reported t p number ended stop_seen n done lost full adds ok = record {
   one_pass = ok.one_pass;
   one_seat = ok.one_seat;
   feeds = ok.feeds;
@@ -316,42 +307,22 @@ hand_finished t p q number ended stop_seen n full is ok = subst (λ (q : View). 
   few_packets = ok.few_packets;
   few_popped = ok.few_popped;
   no_claim = ok.no_claim;
-  agrees = record {
-    ended = ok.agrees.ended;
-    in_hand = omega arith;
-    each_once =
-        (λ x. let a = ok.agrees.each_once x in let b = times-append x p.finished (n ∷ []) in let c = ap
-        (λ m. times x (hand_list m)) full in omega arith);
-    counted =
-        (let a = ok.agrees.counted in let b = length-append p.finished (n ∷ []) in let c = ap
-        (λ m. length (hand_list m)) full in omega arith);
-  };
+  agrees =
+      agrees_reported (seen_of t p (n ∷ [])) (length t.popped + t.ended + (p.steps + 1)) done lost
+      (record { each_once = adds.each_once; counted = adds.counted })
+      (subst (λ m. Agrees (seen_of t p (hand_list m))) full ok.agrees);
   ended_is = ok.ended_is;
   stop_seen_is = ok.stop_seen_is;
-})
+}
+
+pub hand_finished : (t : PassView) (p q : View) (number : Option ℕ) (ended stop_seen : Bool) (n : ℕ) → number ≡ Some n
+    → q ≡ after_finish (holding p (n ∷ [])) → IsHand t p number ended stop_seen → IsHand t q None ended stop_seen
+hand_finished t p q number ended stop_seen n full is ok =
+    subst (λ (q : View). IsHand t q None ended stop_seen) (sym is)
+    (hand_reported t p number ended stop_seen n (p.finished ++ n ∷ []) p.abandoned full (to_finished p (n ∷ [])) ok)
 
 pub hand_abandoned : (t : PassView) (p q : View) (number : Option ℕ) (ended stop_seen : Bool) (n : ℕ) → number ≡ Some n
     → q ≡ after_abandon (holding p (n ∷ [])) → IsHand t p number ended stop_seen → IsHand t q None ended stop_seen
 hand_abandoned t p q number ended stop_seen n full is ok =
-    subst (λ (q : View). IsHand t q None ended stop_seen) (sym is) (record {
-      one_pass = ok.one_pass;
-      one_seat = ok.one_seat;
-      feeds = ok.feeds;
-      pushed = ok.pushed;
-      marks = ok.marks;
-      few_packets = ok.few_packets;
-      few_popped = ok.few_popped;
-      no_claim = ok.no_claim;
-      agrees = record {
-        ended = ok.agrees.ended;
-        in_hand = omega arith;
-        each_once =
-            (λ x. let a = ok.agrees.each_once x in let b = times-append x p.abandoned (n ∷ []) in let c = ap
-            (λ m. times x (hand_list m)) full in omega arith);
-        counted =
-            (let a = ok.agrees.counted in let b = length-append p.abandoned (n ∷ []) in let c = ap
-            (λ m. length (hand_list m)) full in omega arith);
-      };
-      ended_is = ok.ended_is;
-      stop_seen_is = ok.stop_seen_is;
-    })
+    subst (λ (q : View). IsHand t q None ended stop_seen) (sym is)
+    (hand_reported t p number ended stop_seen n p.finished (p.abandoned ++ n ∷ []) full (to_abandoned p (n ∷ [])) ok)

@@ -1,6 +1,7 @@
 mod Counting
 mod Runs
 mod Totals
+mod Reports
 mod Steps
 mod Moves
 mod Allowed

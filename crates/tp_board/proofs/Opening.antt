@@ -30,7 +30,7 @@ opening_rule p m few_packets few_members =
       stop = sym (ap (min 1) (total_same (λ u. u.stop_callers) v m refl));
       fits =
           (λ id u at. subst (Fits (size p m) nothing_seen) (at_replicate v u m id at)
-          (newcomer_fits (size p m) nothing_seen p 1 refl));
+          (newcomer_fits (size p m) nothing_seen p 1 (λ _. refl)));
     }
 
 -- no other words

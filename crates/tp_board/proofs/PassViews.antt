@@ -6,7 +6,6 @@ use Rattle.std.proofs.lemmas.Bool.{lt-ltb, le-ltb, cases_lt}
 use Rattle.std.proofs.lemmas.List.{append-nil}
 use mathlib.Core.Option.{some}
 use lib.ListN.{get_elem?}
-use Rattle.atomic_table.proofs.Lists.{at_set, at_snoc}
 use Rattle.crossbeam_queue.specs.Fifo.{Pushes, Pops, Forks, Merges, Learns}
 use Rattle.tp_board.specs.Counting.{times, once_below, AreBelow}
 use Rattle.tp_board.specs.Runs.{numbers_from}
@@ -17,7 +16,8 @@ use Rattle.tp_board.specs.declared.stream.queue.PassView.{PassView}
 use Rattle.tp_board.specs.Queues.{first, feeder, hand, nobody, without_one, joined, put, took, Took, item_of, MayPut, queue}
 use Rattle.tp_board.specs.Queues.{FitsQueue, Streamed, Waits, Left, LeftAt, TookRest}
 use Rattle.tp_board.proofs.Counting.{times-append, once_more}
-use Rattle.tp_board.proofs.Totals.{total_set, total_snoc, le_total, others_none, all_of, each_set}
+use Rattle.tp_board.proofs.Totals.{le_total, others_none, all_of, each_set, each_snoc, Exchange, Goes, one_changed, one_cut, two_joined}
+use Rattle.tp_board.proofs.Totals.{still_there}
 
 count_snoc : (from n : ℕ) → numbers_from from (suc n) ≡ numbers_from from n ++ (from + n) ∷ []
 count_snoc from zero = ap (λ x. x ∷ []) (let e : from ≡ from + 0 = omega arith in e)
@@ -33,13 +33,36 @@ ends_snoc : (n : ℕ) → replicate n End ++ End ∷ [] ≡ replicate (suc n) En
 ends_snoc zero = refl
 ends_snoc (suc n) = ap (λ l. End ∷ l) (ends_snoc n)
 
--- the feeder has what all passes have pushed
-alone : (f : PassView → ℕ) → ((p m : ℕ) (v : PassView) → FitsQueue p m v → v.feeds ≡ 0 → f v ≡ 0)
-    → (items : List Item) (views : List PassView) (id : ℕ) (v : PassView) → v.feeds ≡ 1 → Streamed items views
-    → get_elem? views id ≡ some v → total f views ≡ f v
-alone f none items views id v one r at =
-    all_of f views id v at (λ j u apart there. none r.packets r.members u (r.fits j u there)
-    (others_none (λ v. v.feeds) views id v at (r.feeds ∙ sym one) j u apart there))
+-- the pass that feeds has pushed all that is pushed
+fed_alone : (items : List Item) (views : List PassView) (id : ℕ) (v : PassView) → v.feeds ≡ 1 → (r : Streamed items views)
+    → get_elem? views id ≡ some v → (r.pushed ≡ v.pushed) × (r.marks ≡ v.marks)
+fed_alone items views id v one r at =
+    let none = others_none (λ v. v.feeds) views id v at (r.feeds ∙ sym one) in (
+      sym r.pushed_is ∙ all_of (λ v. v.pushed) views id v at (λ j u apart there. ((r.fits j u there).fed (none j u apart there)).0),
+      sym r.marks_is ∙ all_of (λ v. v.marks) views id v at (λ j u apart there. ((r.fits j u there).fed (none j u apart there)).1),
+    )
+
+-- the pass that has every part has done all that is done
+record WholeQueue (items : List Item) (views : List PassView) (r : Streamed items views) (v : PassView) : Type 0 where
+  pub pushed : r.pushed ≡ v.pushed
+  pub marks : r.marks ≡ v.marks
+  pub ended : r.ended ≡ v.ended
+  pub each_once : (x : ℕ) → times x v.popped ≡ once_below x r.drawn
+  pub counted : length v.popped ≡ r.drawn
+
+all_done : (items : List Item) (views : List PassView) (id : ℕ) (v : PassView) (r : Streamed items views)
+    → get_elem? views id ≡ some v → r.members + 1 ≡ v.parts → WholeQueue items views r v
+all_done items views id v r at every =
+    let none = others_none (λ v. v.parts) views id v at (r.parts ∙ every) in
+    let of =
+    λ (f : PassView → ℕ) (h : (u : PassView) → FitsQueue r.packets r.members u → u.parts ≡ 0 → f u ≡ 0). all_of f views id v at
+    (λ j u apart there. h u (r.fits j u there) (none j u apart there)) in record {
+      pushed = sym r.pushed_is ∙ of (λ v. v.pushed) (λ u f e. (f.fed (f.idle e).0).0);
+      marks = sym r.marks_is ∙ of (λ v. v.marks) (λ u f e. (f.fed (f.idle e).0).1);
+      ended = sym r.ended_is ∙ of (λ v. v.ended) (λ u f e. (f.idle e).2);
+      each_once = (λ x. sym (of (λ v. times x v.popped) (λ u f e. ap (times x) (f.idle e).1)) ∙ r.each_once x);
+      counted = sym (of (λ v. length v.popped) (λ u f e. ap length (f.idle e).1)) ∙ r.counted;
+    }
 
 abbrev heads : Item → List Item → Item
 heads d [] = d
@@ -57,109 +80,163 @@ all_below x views id v n at e some_time = ⊎_elim (λ l. l)
     (le-ltb x n past) refl in absurd (omega arith))
     (cases_lt x n)
 
+-- what the queue holds, by the counts of the numbers and marks that were pushed and popped
+record Line (items : List Item) (packets members drawn pushed marks ended : ℕ) : Type 0 where
+  pub in_line : items ≡ queue drawn (pushed - drawn) (marks - ended)
+  pub behind : drawn ≤ pushed
+  pub within : pushed ≤ packets
+  pub marked : marks ≤ members
+  pub taken : ended ≤ marks
+  pub marks_last : 0 < marks → pushed ≡ packets
+  pub ends_last : 0 < ended → drawn ≡ pushed
+
+-- passes are exchanged for others, and the queue changes with them
+module _ (items : List Item) (views olds views' news : List PassView) (r : Streamed items views)
+    (e : Exchange views olds views' news) where
+  changed : (items' : List Item) (packets members drawn pushed marks ended : ℕ)
+      → Line items' packets members drawn pushed marks ended
+      → Goes olds news (λ v. v.parts) r.members members
+      → Goes olds news (λ v. v.feeds) 0 0
+      → Goes olds news (λ v. v.pushed) r.pushed pushed
+      → Goes olds news (λ v. v.marks) r.marks marks
+      → Goes olds news (λ v. v.ended) r.ended ended
+      → ((x : ℕ) → Goes olds news (λ v. times x v.popped) (once_below x r.drawn) (once_below x drawn))
+      → Goes olds news (λ v. length v.popped) r.drawn drawn
+      → ((id : ℕ) (v : PassView) → get_elem? views' id ≡ some v → FitsQueue packets members v)
+      → Streamed items' views'
+  changed items' packets members drawn pushed marks ended l parts feeds pushed_is marks_is ended_is each_once counted fits =
+      record {
+        packets = packets;
+        members = members;
+        drawn = drawn;
+        pushed = pushed;
+        marks = marks;
+        ended = ended;
+        pushed_is = (let a = e (λ v. v.pushed) in let b = r.pushed_is in omega arith);
+        marks_is = (let a = e (λ v. v.marks) in let b = r.marks_is in omega arith);
+        ended_is = (let a = e (λ v. v.ended) in let b = r.ended_is in omega arith);
+        parts = (let a = e (λ v. v.parts) in let b = r.parts in omega arith);
+        feeds = (let a = e (λ v. v.feeds) in let b = r.feeds in omega arith);
+        in_line = l.in_line;
+        behind = l.behind;
+        within = l.within;
+        marked = l.marked;
+        taken = l.taken;
+        marks_last = l.marks_last;
+        ends_last = l.ends_last;
+        each_once = (λ x. let a = e (λ v. times x v.popped) in let b = r.each_once x in let c = each_once x in omega arith);
+        counted = (let a = e (λ v. length v.popped) in let b = r.counted in omega arith);
+        fits = fits;
+      }
+
+  -- where the queue stays as it is
+  kept : (packets members : ℕ) → r.pushed ≤ packets → r.marks ≤ members → (0 < r.marks → r.pushed ≡ packets)
+      → Goes olds news (λ v. v.parts) r.members members
+      → Goes olds news (λ v. v.feeds) 0 0
+      → Goes olds news (λ v. v.pushed) 0 0
+      → Goes olds news (λ v. v.marks) 0 0
+      → Goes olds news (λ v. v.ended) 0 0
+      → ((x : ℕ) → Goes olds news (λ v. times x v.popped) 0 0)
+      → Goes olds news (λ v. length v.popped) 0 0
+      → ((id : ℕ) (v : PassView) → get_elem? views' id ≡ some v → FitsQueue packets members v)
+      → Streamed items views'
+  kept packets members within marked marks_last parts feeds pushed marks ended each_once counted fits =
+      changed items packets members r.drawn r.pushed r.marks r.ended
+      (record {
+        in_line = r.in_line;
+        behind = r.behind;
+        within = within;
+        marked = marked;
+        taken = r.taken;
+        marks_last = marks_last;
+        ends_last = r.ends_last;
+      }) parts feeds (omega arith) (omega arith) (omega arith) (λ x. let a = each_once x in omega arith) (omega arith) fits
+
+-- one pass makes a step
+stepped : (items : List Item) (views : List PassView) (id : ℕ) (v : PassView) (r : Streamed items views)
+    → get_elem? views id ≡ some v → (items' : List Item) (u : PassView) (drawn pushed marks ended : ℕ)
+    → u.parts ≡ v.parts → u.feeds ≡ v.feeds → pushed + v.pushed ≡ r.pushed + u.pushed → marks + v.marks ≡ r.marks + u.marks
+    → ended + v.ended ≡ r.ended + u.ended
+    → ((x : ℕ) → once_below x drawn + times x v.popped ≡ once_below x r.drawn + times x u.popped)
+    → drawn + length v.popped ≡ r.drawn + length u.popped
+    → FitsQueue r.packets r.members u
+    → Line items' r.packets r.members drawn pushed marks ended → Streamed items' (set views id u)
+stepped items views id v r at items' u drawn pushed marks ended parts feeds pushed_is marks_is ended_is each_once counted mine l =
+    changed items views (v ∷ []) (set views id u) (u ∷ []) r (one_changed views id v u at) items' r.packets r.members drawn pushed
+    marks ended l (omega arith) (omega arith) (omega arith) (omega arith) (omega arith) (λ x. let a = each_once x in omega arith)
+    (omega arith) (each_set (FitsQueue r.packets r.members) views id u mine (λ j y _ e. r.fits j y e))
+
 module _ where
   feeds_number : (n id : ℕ) (v : PassView) (next : ℕ) → v.feeds ≡ 1 → v.pushed ≡ next → v.marks ≡ 0 → next < v.packets → 0 < v.parts
       → Pushes Streamed n id v (Number next) (λ w. w ≡ put v (Number next))
   feeds_number n id v next one same none below some_part items views _ r at =
-      let u = put v (Number next) in
       let mine = r.fits id v at in
-      let size = mine.sizes some_part in let size0 = size.0 in let size1 = size.1 in
-      let pushed : r.pushed ≡ next =
-      sym r.pushed_is ∙ alone (λ v. v.pushed) (λ _ _ v f e. (f.fed e).0) items views id v one r at ∙ same in
-      let marks : r.marks ≡ 0 =
-      sym r.marks_is ∙ alone (λ v. v.marks) (λ _ _ v f e. (f.fed e).1) items views id v one r at ∙ none in
+      let size = (mine.sizes some_part).0 in
+      let alone = fed_alone items views id v one r at in
+      let pushed : r.pushed ≡ next = alone.0 ∙ same in
+      let marks : r.marks ≡ 0 = alone.1 ∙ none in
       let behind = r.behind in let taken = r.taken in
       let no_end : r.marks - r.ended ≡ 0 = omega arith in
       let long : r.pushed + 1 - r.drawn ≡ suc (r.pushed - r.drawn) = omega arith in
       let last : r.drawn + (r.pushed - r.drawn) ≡ next = omega arith in (
-        u,
-        record {
-          packets = r.packets;
-          members = r.members;
-          drawn = r.drawn;
-          pushed = r.pushed + 1;
-          marks = r.marks;
-          ended = r.ended;
-          pushed_is = (let a = total_set (λ v. v.pushed) views id v u at in let b = r.pushed_is in omega arith);
-          marks_is = (let a = total_set (λ v. v.marks) views id v u at in let b = r.marks_is in omega arith);
-          ended_is = (let a = total_set (λ v. v.ended) views id v u at in let b = r.ended_is in omega arith);
-          parts = (let a = total_set (λ v. v.parts) views id v u at in let b = r.parts in omega arith);
-          feeds = (let a = total_set (λ v. v.feeds) views id v u at in let b = r.feeds in omega arith);
-          in_line =
-              ap (λ l. l ++ Number next ∷ []) (r.in_line ∙ ap
-              (λ k. map (λ n. Number n) (numbers_from r.drawn (r.pushed - r.drawn)) ++ replicate k End) no_end
-              ∙ append-nil (map (λ n. Number n) (numbers_from r.drawn (r.pushed - r.drawn))))
-              ∙ sym (ap (λ k. map (λ n. Number n) (numbers_from r.drawn (r.pushed + 1 - r.drawn)) ++ replicate k End) no_end
-              ∙ append-nil (map (λ n. Number n) (numbers_from r.drawn (r.pushed + 1 - r.drawn)))
-              ∙ ap (λ k. map (λ n. Number n) (numbers_from r.drawn k)) long
-              ∙ ap (map (λ n. Number n)) (count_snoc r.drawn (r.pushed - r.drawn))
-              ∙ numbers_snoc (numbers_from r.drawn (r.pushed - r.drawn)) (r.drawn + (r.pushed - r.drawn))
-              ∙ ap (λ x. map (λ n. Number n) (numbers_from r.drawn (r.pushed - r.drawn)) ++ Number x ∷ []) last);
-          behind = (omega arith);
-          within = (omega arith);
-          marked = r.marked;
-          taken = r.taken;
-          marks_last = (λ some_mark. absurd (omega arith));
-          ends_last = (λ some_end. absurd (omega arith));
-          each_once = (λ x. let a = total_set (λ v. times x v.popped) views id v u at in let b = r.each_once x in omega arith);
-          counted = (let a = total_set (λ v. length v.popped) views id v u at in let b = r.counted in omega arith);
-          fits =
-              each_set (FitsQueue r.packets r.members) views id u
-              (record {
-                sizes = mine.sizes;
-                fed = (λ e. absurd (omega arith));
-                idle = (λ e. absurd (let z = (mine.idle e).0 in omega arith));
-              }) (λ j y _ e. r.fits j y e);
-        },
+        put v (Number next),
+        stepped items views id v r at (items ++ Number next ∷ []) (put v (Number next)) r.drawn (r.pushed + 1) r.marks r.ended
+            refl refl (omega arith) refl refl (λ x. refl) refl
+            (record {
+              sizes = mine.sizes;
+              fed = (λ e. absurd (omega arith));
+              idle = (λ e. absurd (let z = (mine.idle e).0 in omega arith));
+            })
+            (record {
+              in_line =
+                  ap (λ l. l ++ Number next ∷ []) (r.in_line ∙ ap
+                  (λ k. map (λ n. Number n) (numbers_from r.drawn (r.pushed - r.drawn)) ++ replicate k End) no_end
+                  ∙ append-nil (map (λ n. Number n) (numbers_from r.drawn (r.pushed - r.drawn))))
+                  ∙ sym (ap (λ k. map (λ n. Number n) (numbers_from r.drawn (r.pushed + 1 - r.drawn)) ++ replicate k End) no_end
+                  ∙ append-nil (map (λ n. Number n) (numbers_from r.drawn (r.pushed + 1 - r.drawn)))
+                  ∙ ap (λ k. map (λ n. Number n) (numbers_from r.drawn k)) long
+                  ∙ ap (map (λ n. Number n)) (count_snoc r.drawn (r.pushed - r.drawn))
+                  ∙ numbers_snoc (numbers_from r.drawn (r.pushed - r.drawn)) (r.drawn + (r.pushed - r.drawn))
+                  ∙ ap (λ x. map (λ n. Number n) (numbers_from r.drawn (r.pushed - r.drawn)) ++ Number x ∷ []) last);
+              behind = (omega arith);
+              within = (omega arith);
+              marked = r.marked;
+              taken = r.taken;
+              marks_last = (λ some_mark. absurd (omega arith));
+              ends_last = (λ some_end. absurd (omega arith));
+            }),
         refl,
       )
 
   feeds_end : (n id : ℕ) (v : PassView) → v.feeds ≡ 1 → v.pushed ≡ v.packets → v.marks < v.members → 0 < v.parts
       → Pushes Streamed n id v End (λ w. w ≡ put v End)
   feeds_end n id v one all few some_part items views _ r at =
-      let u = put v End in
       let mine = r.fits id v at in
-      let size = mine.sizes some_part in let size0 = size.0 in let size1 = size.1 in
-      let pushed : r.pushed ≡ r.packets =
-      sym r.pushed_is ∙ alone (λ v. v.pushed) (λ _ _ v f e. (f.fed e).0) items views id v one r at ∙ all
-      ∙ (mine.sizes some_part).0 in
-      let marks : r.marks ≡ v.marks =
-      sym r.marks_is ∙ alone (λ v. v.marks) (λ _ _ v f e. (f.fed e).1) items views id v one r at in
+      let size = mine.sizes some_part in let size1 = size.1 in
+      let alone = fed_alone items views id v one r at in
+      let marks = alone.1 in
       let taken = r.taken in
       let long : r.marks + 1 - r.ended ≡ suc (r.marks - r.ended) = omega arith in
       let numbers = map (λ n. Number n) (numbers_from r.drawn (r.pushed - r.drawn)) in (
-        u,
-        record {
-          packets = r.packets;
-          members = r.members;
-          drawn = r.drawn;
-          pushed = r.pushed;
-          marks = r.marks + 1;
-          ended = r.ended;
-          pushed_is = (let a = total_set (λ v. v.pushed) views id v u at in let b = r.pushed_is in omega arith);
-          marks_is = (let a = total_set (λ v. v.marks) views id v u at in let b = r.marks_is in omega arith);
-          ended_is = (let a = total_set (λ v. v.ended) views id v u at in let b = r.ended_is in omega arith);
-          parts = (let a = total_set (λ v. v.parts) views id v u at in let b = r.parts in omega arith);
-          feeds = (let a = total_set (λ v. v.feeds) views id v u at in let b = r.feeds in omega arith);
-          in_line =
-              ap (λ l. l ++ End ∷ []) r.in_line ∙ append_assoc numbers (replicate (r.marks - r.ended) End) (End ∷ [])
-              ∙ ap (λ l. numbers ++ l) (ends_snoc (r.marks - r.ended) ∙ ap (λ k. replicate k End) (sym long));
-          behind = r.behind;
-          within = r.within;
-          marked = (omega arith);
-          taken = (omega arith);
-          marks_last = (λ _. pushed);
-          ends_last = r.ends_last;
-          each_once = (λ x. let a = total_set (λ v. times x v.popped) views id v u at in let b = r.each_once x in omega arith);
-          counted = (let a = total_set (λ v. length v.popped) views id v u at in let b = r.counted in omega arith);
-          fits =
-              each_set (FitsQueue r.packets r.members) views id u
-              (record {
-                sizes = mine.sizes;
-                fed = (λ e. absurd (omega arith));
-                idle = (λ e. absurd (let z = (mine.idle e).0 in omega arith));
-              }) (λ j y _ e. r.fits j y e);
-        },
+        put v End,
+        stepped items views id v r at (items ++ End ∷ []) (put v End) r.drawn r.pushed (r.marks + 1) r.ended
+            refl refl refl (omega arith) refl (λ x. refl) refl
+            (record {
+              sizes = mine.sizes;
+              fed = (λ e. absurd (omega arith));
+              idle = (λ e. absurd (let z = (mine.idle e).0 in omega arith));
+            })
+            (record {
+              in_line =
+                  ap (λ l. l ++ End ∷ []) r.in_line ∙ append_assoc numbers (replicate (r.marks - r.ended) End) (End ∷ [])
+                  ∙ ap (λ l. numbers ++ l) (ends_snoc (r.marks - r.ended) ∙ ap (λ k. replicate k End) (sym long));
+              behind = r.behind;
+              within = r.within;
+              marked = (omega arith);
+              taken = (omega arith);
+              marks_last = (λ _. alone.0 ∙ all ∙ size.0);
+              ends_last = r.ends_last;
+            }),
         refl,
       )
 
@@ -169,45 +246,29 @@ module _ where
   takes_number : (items : List Item) (x : Item) (views : List PassView) (id : ℕ) (v : PassView) → 0 < v.parts
       → (r : Streamed (x ∷ items) views) → get_elem? views id ≡ some v → r.drawn < r.pushed → Taken items views id v x
   takes_number items x views id v some_part r at below =
-      let u = took v (Number r.drawn) in
       let mine = r.fits id v at in
-      let size = mine.sizes some_part in let size0 = size.0 in let size1 = size.1 in
+      let size = (mine.sizes some_part).0 in
       let within = r.within in
+      let popped = length-append v.popped (r.drawn ∷ []) in
       let long : r.pushed - r.drawn ≡ suc (r.pushed - (r.drawn + 1)) = omega arith in
       let is = r.in_line ∙ ap (λ k. queue r.drawn k (r.marks - r.ended)) long in
       let kind : x ≡ Number r.drawn = ap (heads x) is in
       let rest : items ≡ queue (r.drawn + 1) (r.pushed - (r.drawn + 1)) (r.marks - r.ended) = ap tails is in
       subst (Taken items views id v) (sym kind) (
-        u,
-        record {
-          packets = r.packets;
-          members = r.members;
-          drawn = r.drawn + 1;
-          pushed = r.pushed;
-          marks = r.marks;
-          ended = r.ended;
-          pushed_is = (let a = total_set (λ v. v.pushed) views id v u at in let b = r.pushed_is in omega arith);
-          marks_is = (let a = total_set (λ v. v.marks) views id v u at in let b = r.marks_is in omega arith);
-          ended_is = (let a = total_set (λ v. v.ended) views id v u at in let b = r.ended_is in omega arith);
-          parts = (let a = total_set (λ v. v.parts) views id v u at in let b = r.parts in omega arith);
-          feeds = (let a = total_set (λ v. v.feeds) views id v u at in let b = r.feeds in omega arith);
-          in_line = rest;
-          behind = (omega arith);
-          within = r.within;
-          marked = r.marked;
-          taken = r.taken;
-          marks_last = r.marks_last;
-          ends_last = (λ some_end. absurd (let z = r.ends_last some_end in omega arith));
-          each_once =
-              (λ x. let a = total_set (λ v. times x v.popped) views id v u at in let b = r.each_once x in let c = times-append x
-              v.popped (r.drawn ∷ []) in let d = once_more x r.drawn in omega arith);
-          counted =
-              (let a = total_set (λ v. length v.popped) views id v u at in let b = r.counted in let c = length-append v.popped
-              (r.drawn ∷ []) in omega arith);
-          fits =
-              each_set (FitsQueue r.packets r.members) views id u
-              (record { sizes = mine.sizes; fed = mine.fed; idle = (λ e. absurd (omega arith)) }) (λ j y _ e. r.fits j y e);
-        },
+        took v (Number r.drawn),
+        stepped (x ∷ items) views id v r at items (took v (Number r.drawn)) (r.drawn + 1) r.pushed r.marks r.ended
+            refl refl refl refl refl
+            (λ x. let c = times-append x v.popped (r.drawn ∷ []) in let d = once_more x r.drawn in omega arith) (omega arith)
+            (record { sizes = mine.sizes; fed = mine.fed; idle = (λ e. absurd (omega arith)) })
+            (record {
+              in_line = rest;
+              behind = (omega arith);
+              within = r.within;
+              marked = r.marked;
+              taken = r.taken;
+              marks_last = r.marks_last;
+              ends_last = (λ some_end. absurd (let z = r.ends_last some_end in omega arith));
+            }),
         (
           refl,
           (
@@ -222,9 +283,7 @@ module _ where
       → (r : Streamed (x ∷ items) views) → get_elem? views id ≡ some v → r.pushed ≤ r.drawn → r.ended < r.marks
       → Taken items views id v x
   takes_end items x views id v some_part r at above more =
-      let u = took v End in
       let mine = r.fits id v at in
-      let size = mine.sizes some_part in let size0 = size.0 in let size1 = size.1 in
       let behind = r.behind in
       let none : r.pushed - r.drawn ≡ 0 = omega arith in
       let long : r.marks - r.ended ≡ suc (r.marks - (r.ended + 1)) = omega arith in
@@ -233,32 +292,19 @@ module _ where
       let rest : items ≡ queue r.drawn (r.pushed - r.drawn) (r.marks - (r.ended + 1)) =
       ap tails is ∙ ap (λ k. queue r.drawn k (r.marks - (r.ended + 1))) (sym none) in
       subst (Taken items views id v) (sym kind) (
-        u,
-        record {
-          packets = r.packets;
-          members = r.members;
-          drawn = r.drawn;
-          pushed = r.pushed;
-          marks = r.marks;
-          ended = r.ended + 1;
-          pushed_is = (let a = total_set (λ v. v.pushed) views id v u at in let b = r.pushed_is in omega arith);
-          marks_is = (let a = total_set (λ v. v.marks) views id v u at in let b = r.marks_is in omega arith);
-          ended_is = (let a = total_set (λ v. v.ended) views id v u at in let b = r.ended_is in omega arith);
-          parts = (let a = total_set (λ v. v.parts) views id v u at in let b = r.parts in omega arith);
-          feeds = (let a = total_set (λ v. v.feeds) views id v u at in let b = r.feeds in omega arith);
-          in_line = rest;
-          behind = r.behind;
-          within = r.within;
-          marked = r.marked;
-          taken = (omega arith);
-          marks_last = r.marks_last;
-          ends_last = (λ _. let z : r.drawn ≡ r.pushed = omega arith in z);
-          each_once = (λ x. let a = total_set (λ v. times x v.popped) views id v u at in let b = r.each_once x in omega arith);
-          counted = (let a = total_set (λ v. length v.popped) views id v u at in let b = r.counted in omega arith);
-          fits =
-              each_set (FitsQueue r.packets r.members) views id u
-              (record { sizes = mine.sizes; fed = mine.fed; idle = (λ e. absurd (omega arith)) }) (λ j y _ e. r.fits j y e);
-        },
+        took v End,
+        stepped (x ∷ items) views id v r at items (took v End) r.drawn r.pushed r.marks (r.ended + 1)
+            refl refl refl refl (omega arith) (λ x. refl) refl
+            (record { sizes = mine.sizes; fed = mine.fed; idle = (λ e. absurd (omega arith)) })
+            (record {
+              in_line = rest;
+              behind = r.behind;
+              within = r.within;
+              marked = r.marked;
+              taken = (omega arith);
+              marks_last = r.marks_last;
+              ends_last = (λ _. let z : r.drawn ≡ r.pushed = omega arith in z);
+            }),
         (refl, tt),
       )
 
@@ -277,35 +323,27 @@ module _ where
 
   pub left : (id : ℕ) (v : PassView) → v.members + 1 ≤ v.parts → Learns Streamed id v (Left v)
   left id v every items views r at =
-      let size = (r.fits id v at).sizes (omega arith) in let size0 = size.0 in let size1 = size.1 in
-      let none =
-      others_none (λ v. v.parts) views id v at (let a = r.parts in let b = le_total
-      (λ v. v.parts) views id v at in omega arith) in
-      let of =
-      λ (f : PassView → ℕ) (h : (u : PassView) → FitsQueue r.packets r.members u → u.parts ≡ 0 → f u ≡ 0). all_of f views id v at
-      (λ j u apart there. h u (r.fits j u there) (none j u apart there)) in
-      let pushed : r.pushed ≡ v.pushed = sym r.pushed_is ∙ of (λ v. v.pushed) (λ u f e. (f.fed (f.idle e).0).0) in
-      let marks : r.marks ≡ v.marks = sym r.marks_is ∙ of (λ v. v.marks) (λ u f e. (f.fed (f.idle e).0).1) in
-      let ended : r.ended ≡ v.ended = sym r.ended_is ∙ of (λ v. v.ended) (λ u f e. (f.idle e).2) in (
+      let size = ((r.fits id v at).sizes (omega arith)).1 in
+      let all =
+      all_done items views id v r at (let a = r.parts in let b = le_total (λ v. v.parts) views id v at in omega arith) in
+      let pushed = all.pushed in let ended = all.ended in (
         r.drawn,
         r.in_line ∙ ap (λ n. queue r.drawn (n - r.drawn) (r.marks - r.ended)) pushed
-            ∙ ap (λ n. queue r.drawn (v.pushed - r.drawn) (n - r.ended)) marks
+            ∙ ap (λ n. queue r.drawn (v.pushed - r.drawn) (n - r.ended)) all.marks
             ∙ ap (λ n. queue r.drawn (v.pushed - r.drawn) (v.marks - n)) ended,
         (let z = r.behind in omega arith),
-        (λ x. sym (of (λ v. times x v.popped) (λ u f e. ap (times x) (f.idle e).1)) ∙ r.each_once x),
-        sym (of (λ v. length v.popped) (λ u f e. ap length (f.idle e).1)) ∙ r.counted,
-        (let z = r.within in omega arith),
+        all.each_once,
+        all.counted,
+        (let z = r.within in let size = ((r.fits id v at).sizes (omega arith)).0 in omega arith),
         (λ some_end. let taken = r.taken in let a = r.marks_last (omega arith) in let b = r.ends_last
-            (omega arith) in omega arith),
+            (omega arith) in let size = ((r.fits id v at).sizes (omega arith)).0 in omega arith),
       )
 
   -- the pass that feeds has pushed all that was pushed
   pub waits : (id : ℕ) (v : PassView) → v.feeds ≡ 1 → Learns Streamed id v (Waits v)
   waits id v one items views r at =
-      let pushed : r.pushed ≡ v.pushed =
-      sym r.pushed_is ∙ alone (λ v. v.pushed) (λ _ _ v f e. (f.fed e).0) items views id v one r at in
-      let marks : r.marks ≡ v.marks =
-      sym r.marks_is ∙ alone (λ v. v.marks) (λ _ _ v f e. (f.fed e).1) items views id v one r at in (
+      let alone = fed_alone items views id v one r at in
+      let pushed = alone.0 in let marks = alone.1 in (
         r.drawn,
         r.ended,
         r.in_line ∙ ap (λ n. queue r.drawn (n - r.drawn) (r.marks - r.ended)) pushed
@@ -329,168 +367,64 @@ module _ where
       (feeds_end n id v may.1 (omega arith) (may.4 above) may.0))
       (cases_lt v.pushed v.packets)
 
+  -- a hand is cut from a pass, which goes on with these sizes and n parts
+  cut : (id : ℕ) (v : PassView) (p m n : ℕ) (items : List Item) (views : List PassView) (r : Streamed items views)
+      → get_elem? views id ≡ some v → 0 < n → v.parts + m ≡ n + 1 + r.members → r.pushed ≤ p → r.marks ≤ m
+      → (0 < r.marks → r.pushed ≡ p)
+      → ((j : ℕ) (y : PassView) → j ≢ id → get_elem? views j ≡ some y → FitsQueue p m y)
+      → Streamed items (set views id (record v { packets = p; members = m; parts = n }) ++ hand p m ∷ [])
+  cut id v p m n items views r at some_part parts within marked marks_last others =
+      let u = record v { packets = p; members = m; parts = n } in let new = hand p m in
+      kept items views (v ∷ []) (set views id u ++ new ∷ []) (u ∷ new ∷ []) r (one_cut views id v u new at) p m within marked
+      marks_last (omega arith) refl refl refl refl (λ x. refl) refl
+      (each_snoc (FitsQueue p m) (set views id u) new
+      (each_set (FitsQueue p m) views id u
+      (record { sizes = (λ _. (refl, refl)); fed = (r.fits id v at).fed; idle = (λ e. absurd (omega arith)) }) others)
+      (record { sizes = (λ _. (refl, refl)); fed = (λ _. (refl, refl)); idle = (λ e. absurd (omega arith)) }))
+
   pub forks : (id : ℕ) (v : PassView) → 1 < v.parts → v.feeds ≡ 1 → Forks Streamed id v (without_one v) (hand v.packets v.members)
   forks id v many one items views r at =
-      let new = hand v.packets v.members in
-      let u = without_one v in let vs = set views id u in
-      let mine = r.fits id v at in record {
-        packets = r.packets;
-        members = r.members;
-        drawn = r.drawn;
-        pushed = r.pushed;
-        marks = r.marks;
-        ended = r.ended;
-        pushed_is =
-            (let a = total_set (λ v. v.pushed) views id v u at in let b = r.pushed_is in let c = total_snoc
-            (λ v. v.pushed) vs new in omega arith);
-        marks_is =
-            (let a = total_set (λ v. v.marks) views id v u at in let b = r.marks_is in let c = total_snoc
-            (λ v. v.marks) vs new in omega arith);
-        ended_is =
-            (let a = total_set (λ v. v.ended) views id v u at in let b = r.ended_is in let c = total_snoc
-            (λ v. v.ended) vs new in omega arith);
-        parts =
-            (let a = total_set (λ v. v.parts) views id v u at in let b = r.parts in let c = total_snoc
-            (λ v. v.parts) vs new in omega arith);
-        feeds =
-            (let a = total_set (λ v. v.feeds) views id v u at in let b = r.feeds in let c = total_snoc
-            (λ v. v.feeds) vs new in omega arith);
-        in_line = r.in_line;
-        behind = r.behind;
-        within = r.within;
-        marked = r.marked;
-        taken = r.taken;
-        marks_last = r.marks_last;
-        ends_last = r.ends_last;
-        each_once =
-            (λ x. let a = total_set (λ v. times x v.popped) views id v u at in let b = r.each_once x in let c = total_snoc
-            (λ v. times x v.popped) vs new in omega arith);
-        counted =
-            (let a = total_set (λ v. length v.popped) views id v u at in let b = r.counted in let c = total_snoc
-            (λ v. length v.popped) vs new in omega arith);
-        fits = (λ j y e. ⊎_elim
-            (λ was. each_set (FitsQueue r.packets r.members) views id u
-            (record { sizes = (λ _. mine.sizes (omega arith)); fed = mine.fed; idle = (λ e. absurd (omega arith)) })
-            (λ j y _ e. r.fits j y e) j y was)
-            (λ (same : new ≡ y). subst (FitsQueue r.packets r.members) same
-            (record { sizes = (λ _. mine.sizes (omega arith)); fed = (λ _. (refl, refl)); idle = (λ e. absurd (omega arith)) }))
-            (at_snoc vs new y j e));
-      }
+      let size = (r.fits id v at).sizes (omega arith) in let size0 = size.0 in let size1 = size.1 in
+      let within = r.within in let marked = r.marked in
+      cut id v v.packets v.members (v.parts - 1) items views r at (omega arith) (omega arith) (omega arith) (omega arith)
+      (λ some_mark. let a = r.marks_last some_mark in omega arith)
+      (λ j y _ e. subst (λ m. FitsQueue v.packets m y) (sym size1) (subst (λ p. FitsQueue p r.members y) (sym size0) (r.fits j y e)))
 
   -- where the first pass has made no step, the sizes are told, and the first hand is made
   pub deals : (id : ℕ) (v : PassView) (p m : ℕ) → 0 < m → v ≡ first → Forks Streamed id v (feeder p m m) (hand p m)
   deals id v p m some_member is items views r at =
-      let u = feeder p m m in let new = hand p m in let vs = set views id u in
-      let f0 : get_elem? views id ≡ some first = at ∙ ap some is in
-      let mine = r.fits id first f0 in
-      let size = mine.sizes (omega arith) in let size1 = size.1 in
-      let none = others_none (λ v. v.parts) views id first f0 (let a = r.parts in omega arith) in
-      let of =
-      λ (f : PassView → ℕ) (h : (u : PassView) → FitsQueue r.packets r.members u → u.parts ≡ 0 → f u ≡ 0). all_of f views id first f0
-      (λ j u apart there. h u (r.fits j u there) (none j u apart there)) in
-      let pushed = of (λ v. v.pushed) (λ u f e. (f.fed (f.idle e).0).0) in
-      let marks = of (λ v. v.marks) (λ u f e. (f.fed (f.idle e).0).1) in
-      let ended = of (λ v. v.ended) (λ u f e. (f.idle e).2) in
-      let popped = of (λ v. length v.popped) (λ u f e. ap length (f.idle e).1) in
-      let pushed_is =
-      r.pushed_is in let marks_is =
-      r.marks_is in let ended_is = r.ended_is in let counted = r.counted in let behind = r.behind in record {
-        packets = p;
-        members = m;
-        drawn = r.drawn;
-        pushed = r.pushed;
-        marks = r.marks;
-        ended = r.ended;
-        pushed_is =
-            (let a = total_set (λ v. v.pushed) views id first u f0 in let b = r.pushed_is in let c = total_snoc
-            (λ v. v.pushed) vs new in omega arith);
-        marks_is =
-            (let a = total_set (λ v. v.marks) views id first u f0 in let b = r.marks_is in let c = total_snoc
-            (λ v. v.marks) vs new in omega arith);
-        ended_is =
-            (let a = total_set (λ v. v.ended) views id first u f0 in let b = r.ended_is in let c = total_snoc
-            (λ v. v.ended) vs new in omega arith);
-        parts =
-            (let a = total_set (λ v. v.parts) views id first u f0 in let b = r.parts in let c = total_snoc
-            (λ v. v.parts) vs new in omega arith);
-        feeds =
-            (let a = total_set (λ v. v.feeds) views id first u f0 in let b = r.feeds in let c = total_snoc
-            (λ v. v.feeds) vs new in omega arith);
-        in_line = r.in_line;
-        behind = r.behind;
-        within = (omega arith);
-        marked = (omega arith);
-        taken = r.taken;
-        marks_last = (λ some_mark. absurd (omega arith));
-        ends_last = r.ends_last;
-        each_once =
-            (λ x. let a = total_set (λ v. times x v.popped) views id first u f0 in let b = r.each_once x in let c = total_snoc
-            (λ v. times x v.popped) vs new in omega arith);
-        counted =
-            (let a = total_set (λ v. length v.popped) views id first u f0 in let b = r.counted in let c = total_snoc
-            (λ v. length v.popped) vs new in omega arith);
-        fits = (λ j y e. ⊎_elim
-            (λ was. each_set (FitsQueue p m) views id u (record {
-              sizes = (λ _. (refl, refl));
-              fed = (λ e. (refl, refl));
-              idle = (λ e. absurd (omega arith));
-            })
-            (λ j y apart e. let g = r.fits j y e in record {
-              sizes =
-                  (λ some_part. absurd (let z = none j y apart e in omega arith));
-              fed = g.fed;
-              idle = g.idle;
-            }) j y was)
-            (λ (same : new ≡ y). subst (FitsQueue p m) same
-            (record { sizes = (λ _. (refl, refl)); fed = (λ _. (refl, refl)); idle = (λ e. absurd (omega arith)) }))
-            (at_snoc vs new y j e));
-      }
+      let at_first : get_elem? views id ≡ some first = at ∙ ap some is in
+      let size = ((r.fits id first at_first).sizes (omega arith)).1 in
+      let all = all_done items views id first r at_first (omega arith) in
+      let pushed = all.pushed in let marks = all.marks in
+      let none = others_none (λ v. v.parts) views id first at_first (let a = r.parts in omega arith) in
+      cut id first p m m items views r at_first some_member (omega arith) (omega arith) (omega arith)
+      (λ some_mark. absurd (omega arith))
+      (λ j y apart e. let g = r.fits j y e in record {
+        sizes = (λ some_part. absurd (let z = none j y apart e in omega arith));
+        fed = g.fed;
+        idle = g.idle;
+      })
 
   pub merges : (id : ℕ) (v : PassView) (other : ℕ) (u : PassView) → 0 < v.parts → Merges Streamed id v other u (joined v u) nobody
   merges id v other u some_part items views r at apart there =
       let b = joined v u in let vs = set views id b in
-      let was : get_elem? views other ≡ some u =
-      ⊎_elim (λ (t : (other ≡ id) × (b ≡ u)). absurd (apart t.0)) (λ (t : (other ≢ id) × (get_elem? views other ≡ some u)). t.1)
-      (at_set views id other b u there) in
-      let mine = r.fits id v at in let theirs = r.fits other u was in
-      let sum = λ (f : PassView → ℕ). total_set f views id v b at in
-      let rest = λ (f : PassView → ℕ). total_set f vs other u nobody there in record {
-        packets = r.packets;
-        members = r.members;
-        drawn = r.drawn;
-        pushed = r.pushed;
-        marks = r.marks;
-        ended = r.ended;
-        pushed_is = (let a = sum (λ v. v.pushed) in let c = rest (λ v. v.pushed) in let d = r.pushed_is in omega arith);
-        marks_is = (let a = sum (λ v. v.marks) in let c = rest (λ v. v.marks) in let d = r.marks_is in omega arith);
-        ended_is = (let a = sum (λ v. v.ended) in let c = rest (λ v. v.ended) in let d = r.ended_is in omega arith);
-        parts = (let a = sum (λ v. v.parts) in let c = rest (λ v. v.parts) in let d = r.parts in omega arith);
-        feeds = (let a = sum (λ v. v.feeds) in let c = rest (λ v. v.feeds) in let d = r.feeds in omega arith);
-        in_line = r.in_line;
-        behind = r.behind;
-        within = r.within;
-        marked = r.marked;
-        taken = r.taken;
-        marks_last = r.marks_last;
-        ends_last = r.ends_last;
-        each_once =
-            (λ x. let a = sum (λ v. times x v.popped) in let c = rest (λ v. times x v.popped) in let d = r.each_once
-            x in let e = times-append x v.popped u.popped in omega arith);
-        counted =
-            (let a = sum (λ v. length v.popped) in let c = rest
-            (λ v. length v.popped) in let d = r.counted in let e = length-append v.popped u.popped in omega arith);
-        fits =
-            each_set (FitsQueue r.packets r.members) vs other nobody
-            (record { sizes = (λ e. absurd (omega arith)); fed = (λ _. (refl, refl)); idle = (λ _. (refl, refl, refl)) })
-            (λ j y _ e. each_set (FitsQueue r.packets r.members) views id b
-            (record {
-              sizes = (λ _. mine.sizes some_part);
-              fed = (λ (none : v.feeds + u.feeds ≡ 0). let a : v.feeds ≡ 0 = omega arith in let c : u.feeds ≡ 0 = omega
-                  arith in let d = mine.fed a in let f = theirs.fed
-                  c in ((let d0 = d.0 in let f0 = f.0 in omega arith), (let d1 = d.1 in let f1 = f.1 in omega arith)));
-              idle = (λ e. absurd (omega arith));
-            }) (λ j y _ e. r.fits j y e) j y e);
-      }
+      let mine = r.fits id v at in
+      let theirs = r.fits other u (still_there views id b other u apart there) in
+      let popped = length-append v.popped u.popped in
+      kept items views (v ∷ u ∷ []) (set vs other nobody) (b ∷ nobody ∷ []) r (two_joined views id v b other u nobody at there)
+      r.packets r.members r.within r.marked r.marks_last (omega arith) (omega arith) (omega arith) (omega arith) (omega arith)
+      (λ x. let a = times-append x v.popped u.popped in omega arith) (omega arith)
+      (each_set (FitsQueue r.packets r.members) vs other nobody
+      (record { sizes = (λ e. absurd (omega arith)); fed = (λ _. (refl, refl)); idle = (λ _. (refl, refl, refl)) })
+      (λ j y _ e. each_set (FitsQueue r.packets r.members) views id b
+      (record {
+        sizes = (λ _. mine.sizes some_part);
+        fed = (λ (none : v.feeds + u.feeds ≡ 0).
+            let a = mine.fed (omega arith) in let c = theirs.fed (omega arith) in
+            let a0 = a.0 in let a1 = a.1 in let c0 = c.0 in let c1 = c.1 in (omega arith, omega arith));
+        idle = (λ e. absurd (omega arith));
+      }) (λ j y _ e. r.fits j y e) j y e))
 
 -- a queue that holds nothing has no number left
 pub none_left : (from n marks : ℕ) → [] ≡ queue from n marks → n ≡ 0

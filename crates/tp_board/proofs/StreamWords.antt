@@ -1,5 +1,5 @@
 -- The steps at a stream's three words: each is one event of the board that the stream stands for.
-use Rattle.std.proofs.Common.{◌≡◌, ℕ, ◌+◌, ◌<◌, List, [], ◌∷◌, length, map, set, sym, refl, ap, ◌∙◌, subst, arith, length-append}
+use Rattle.std.proofs.Common.{◌≡◌, ℕ, ◌+◌, ◌-◌, ◌<◌, List, [], ◌∷◌, ◌++◌, length, map, set, sym, refl, ap, ◌∙◌, subst, arith}
 use mathlib.Core.Option.{some}
 use lib.ListN.{get_elem?}
 use Rattle.tp_board.specs.declared.event.Event.{Event}
@@ -7,21 +7,23 @@ use Rattle.tp_board.specs.declared.event.Event.TheVariants.{Finish, Abandon, Sto
 use Rattle.tp_board.specs.declared.event.Shown.{Shown}
 use Rattle.tp_board.specs.declared.event.Shown.TheVariants as shown
 use Rattle.tp_board.specs.declared.event.Reply.{Reply}
+use Rattle.tp_board.specs.declared.event.Reply.TheVariants.{Value}
 use Rattle.tp_board.specs.declared.stream.queue.Item.{Item}
 use Rattle.tp_board.specs.declared.stream.queue.PassView.{PassView}
 use Rattle.tp_board.specs.declared.view.View.{View}
 use Rattle.tp_board.specs.Counting.{times}
 use Rattle.tp_board.specs.Tallies.{KeepsTally, holding}
-use Rattle.tp_board.specs.Laws.{IsEvent}
+use Rattle.tp_board.specs.Freshness.{IsFresh}
+use Rattle.tp_board.specs.Laws.{IsEvent, IsSeatAt}
 use Rattle.tp_board.specs.Queues.{Streamed}
 use Rattle.tp_board.specs.Stages.{HandState, hand_seen, IsHandState, KeepsStream, pops, IsStreamEvent, IsAtWords, found_at}
 use Rattle.tp_board.specs.Stages.{words_with, WordLaw}
-use Rattle.tp_board.specs.Steps.{after_finish, after_abandon, after_stop, after_look}
+use Rattle.tp_board.specs.Steps.{answer_for, after_finish, after_abandon, after_stop, after_look}
 use Rattle.tp_board.specs.Streams.{seen_of}
 use Rattle.tp_board.specs.Words.{size}
-use Rattle.tp_board.proofs.Counting.{times-append}
 use Rattle.tp_board.proofs.Tallies.{finish_keeps, abandon_keeps, stop_keeps, look_keeps}
 use Rattle.tp_board.proofs.Events.{finish_law, abandon_law, stop_law, look_law}
+use Rattle.tp_board.proofs.Reports.{Adds, to_finished, to_abandoned, reported, agrees_reported}
 use Rattle.tp_board.proofs.Stages.{total_map, map_at, sizes_told, stand_law}
 use Rattle.tp_board.proofs.StreamSteps.{map_set, map_same}
 use Rattle.tp_board.proofs.Totals.{le_total, total_set, each_set}
@@ -70,76 +72,21 @@ worded packets members items words words' stands id s p numbers u event r h at t
     }
 
 -- one more step at the words is one more step of all
-one_step : (a b c : ℕ) → a + b + (c + 1) ≡ a + b + c + 1
-one_step a b c = omega arith
+one_more_step : (s : HandState) (v : View) → record v { steps = length s.turn.popped + s.turn.ended + (s.place.steps + 1) }
+    ≡ record v { steps = (hand_seen s).steps + 1 }
+one_more_step s v = ap (λ (m : ℕ). record v { steps = m }) (omega arith)
 
-place_at : (stands : List HandState) (id : ℕ) (s : HandState) → get_elem? stands id ≡ some s
-    → get_elem? (map (λ (s : HandState). s.place) stands) id ≡ some s.place
-place_at stands id s at = map_at (λ (s : HandState). s.place) stands id s at
-
-pub finish_word : WordLaw Finish
-finish_word packets members items words stands id s h at (n, full) =
-    let k = size packets (members + 1) in
-    let so = h.each id s at in
-    let a = so.agrees in
-    let p : View = after_finish (holding s.place s.numbers) in
-    let law =
-    finish_law k (pops stands ∷ words) (map hand_seen stands) id (hand_seen s)
-    (stand_law packets members items words stands h, map_at hand_seen stands id s at, so.one_seat) (n, full) in
-    let tally =
-    finish_keeps k words (map (λ (s : HandState). s.place) stands) id s.place h.tally (place_at stands id s at) n so.one_seat
-    (room packets members items words stands id s n h at full) in (
-      law.0,
-      worded packets members items words (words_with Finish words) stands id s p [] (after_finish (hand_seen s)) Finish _ h at
-          (subst (λ ns. KeepsTally k (words_with Finish words)
-          (set (map (λ (s : HandState). s.place) stands) id (after_finish (holding s.place ns)))) (sym full) tally)
-          (record {
-            packets_is = so.packets_is;
-            one_pass = so.one_pass;
-            one_seat = so.one_seat;
-            agrees = record {
-              ended = a.ended;
-              in_hand = omega arith;
-              each_once = (λ x. let b = a.each_once x in let c = times-append x s.place.finished s.numbers in omega arith);
-              counted = (let b = a.counted in let c = length-append s.place.finished s.numbers in omega arith);
-            };
-          })
-          (ap (λ (m : ℕ). record (after_finish (hand_seen s)) { steps = m })
-          (one_step (length s.turn.popped) s.turn.ended s.place.steps))
-          law.1,
-    )
-
-pub abandon_word : WordLaw Abandon
-abandon_word packets members items words stands id s h at (n, full) =
-    let k = size packets (members + 1) in
-    let so = h.each id s at in
-    let a = so.agrees in
-    let p : View = after_abandon (holding s.place s.numbers) in
-    let law =
-    abandon_law k (pops stands ∷ words) (map hand_seen stands) id (hand_seen s)
-    (stand_law packets members items words stands h, map_at hand_seen stands id s at, so.one_seat) (n, full) in
-    let tally =
-    abandon_keeps k words (map (λ (s : HandState). s.place) stands) id s.place h.tally (place_at stands id s at) n so.one_seat
-    (room packets members items words stands id s n h at full) in (
-      law.0,
-      worded packets members items words (words_with Abandon words) stands id s p [] (after_abandon (hand_seen s)) Abandon _ h at
-          (subst (λ ns. KeepsTally k (words_with Abandon words)
-          (set (map (λ (s : HandState). s.place) stands) id (after_abandon (holding s.place ns)))) (sym full) tally)
-          (record {
-            packets_is = so.packets_is;
-            one_pass = so.one_pass;
-            one_seat = so.one_seat;
-            agrees = record {
-              ended = a.ended;
-              in_hand = omega arith;
-              each_once = (λ x. let b = a.each_once x in let c = times-append x s.place.abandoned s.numbers in omega arith);
-              counted = (let b = a.counted in let c = length-append s.place.abandoned s.numbers in omega arith);
-            };
-          })
-          (ap (λ (m : ℕ). record (after_abandon (hand_seen s)) { steps = m })
-          (one_step (length s.turn.popped) s.turn.ended s.place.steps))
-          law.1,
-    )
+-- what was in hand is reported
+so_reported : (packets : ℕ) (s : HandState) (done lost : List ℕ) → Adds s.place s.numbers done lost → IsHandState packets s
+    → IsHandState packets (record s { place = reported s.place (s.place.steps + 1) done lost; numbers = [] })
+so_reported packets s done lost adds so = record {
+  packets_is = so.packets_is;
+  one_pass = so.one_pass;
+  one_seat = so.one_seat;
+  agrees =
+      agrees_reported (hand_seen s) (length s.turn.popped + s.turn.ended + (s.place.steps + 1)) done lost
+      (record { each_once = adds.each_once; counted = adds.counted }) so.agrees;
+}
 
 -- a step that reports nothing
 so_kept : (packets : ℕ) (s : HandState) (p : View) → p.parts ≡ s.place.parts → p.finished ≡ s.place.finished
@@ -158,93 +105,131 @@ so_kept packets s p parts finished abandoned so =
       };
     }
 
+module _ (packets members : ℕ) (items : List Item) (words : List ℕ) (stands : List HandState) (id : ℕ) (s : HandState)
+    (h : KeepsStream packets members items words stands) (at : get_elem? stands id ≡ some s) where
+  -- the board that the stream stands for has the one that steps in a seat, and so have the words
+  board_seat : IsSeatAt (size packets (members + 1)) (pops stands ∷ words) (map hand_seen stands) id (hand_seen s)
+  board_seat = (stand_law packets members items words stands h, map_at hand_seen stands id s at, (h.each id s at).one_seat)
+
+  place_at : get_elem? (map (λ (s : HandState). s.place) stands) id ≡ some s.place
+  place_at = map_at (λ (s : HandState). s.place) stands id s at
+
+  -- a report of the number in hand
+  after_report : (event : Event) (done lost : List ℕ) → Adds s.place s.numbers done lost
+      → KeepsTally (size packets (members + 1)) (words_with event words)
+      (set (map (λ (s : HandState). s.place) stands) id (reported s.place (s.place.steps + 1) done lost))
+      → (r : Reply)
+      → IsEvent (size packets (members + 1)) (pops stands ∷ words) (map hand_seen stands) (pops stands ∷ words_with event words)
+      (set (map hand_seen stands) id (reported (hand_seen s) ((hand_seen s).steps + 1) done lost)) id event r
+      → IsStreamEvent packets members words stands items (words_with event words)
+      (set stands id (record s { place = reported s.place (s.place.steps + 1) done lost; numbers = [] })) id event r
+  after_report event done lost adds tally r made =
+      worded packets members items words (words_with event words) stands id s (reported s.place (s.place.steps + 1) done lost) []
+      (reported (hand_seen s) ((hand_seen s).steps + 1) done lost) event r h at tally
+      (so_reported packets s done lost adds (h.each id s at))
+      (one_more_step s (reported (hand_seen s) ((hand_seen s).steps + 1) done lost)) made
+
+  saw : (what : Shown) (n : ℕ) → IsHandState packets (record s { place = after_look s.place what n })
+  saw shown.Claimed n = so_kept packets s (after_look s.place shown.Claimed n) refl refl refl (h.each id s at)
+  saw shown.Done n = so_kept packets s (after_look s.place shown.Done n) refl refl refl (h.each id s at)
+  saw shown.Lost n = so_kept packets s (after_look s.place shown.Lost n) refl refl refl (h.each id s at)
+  saw shown.Stop n = so_kept packets s (after_look s.place shown.Stop n) refl refl refl (h.each id s at)
+
+  looked : (what : Shown) (n : ℕ) → seen_of s.turn (after_look s.place what n) s.numbers ≡ after_look (hand_seen s) what n
+  looked shown.Claimed n = one_more_step s (after_look (hand_seen s) shown.Claimed n)
+  looked shown.Done n = one_more_step s (after_look (hand_seen s) shown.Done n)
+  looked shown.Lost n = one_more_step s (after_look (hand_seen s) shown.Lost n)
+  looked shown.Stop n = one_more_step s (after_look (hand_seen s) shown.Stop n)
+
+  -- the look at the board's word, which is the one before in the stream's
+  board_look : (what : Shown) → IsAtWords (Look what)
+      → let n = found_at (Look what) words in
+      IsFresh (hand_seen s) what n
+      × IsEvent (size packets (members + 1)) (pops stands ∷ words) (map hand_seen stands) (pops stands ∷ words_with (Look what) words)
+      (set (map hand_seen stands) id (after_look (hand_seen s) what n)) id (Look what)
+      (Value (answer_for what (hand_seen s).packets n))
+  board_look shown.Claimed kept = absurd (omega arith)
+  board_look shown.Done kept =
+      look_law shown.Done (size packets (members + 1)) (pops stands ∷ words) (map hand_seen stands) id (hand_seen s) board_seat tt
+  board_look shown.Lost kept =
+      look_law shown.Lost (size packets (members + 1)) (pops stands ∷ words) (map hand_seen stands) id (hand_seen s) board_seat tt
+  board_look shown.Stop kept =
+      look_law shown.Stop (size packets (members + 1)) (pops stands ∷ words) (map hand_seen stands) id (hand_seen s) board_seat tt
+
+-- a look leaves what is in hand
+same_hand : (v : View) (what : Shown) (n : ℕ) → v.hand ≡ (after_look v what n).hand
+same_hand v shown.Claimed n = refl
+same_hand v shown.Done n = refl
+same_hand v shown.Lost n = refl
+same_hand v shown.Stop n = refl
+
+pub finish_word : WordLaw Finish
+finish_word packets members items words stands id s h at (n, full) =
+    let k = size packets (members + 1) in
+    let law =
+    finish_law k (pops stands ∷ words) (map hand_seen stands) id (hand_seen s)
+    (board_seat packets members items words stands id s h at) (n, full) in
+    let tally =
+    finish_keeps k words (map (λ (s : HandState). s.place) stands) id s.place h.tally
+    (place_at packets members items words stands id s h at) n (h.each id s at).one_seat
+    (room packets members items words stands id s n h at full) in (
+      law.0,
+      after_report packets members items words stands id s h at Finish (s.place.finished ++ s.numbers) s.place.abandoned
+          (to_finished s.place s.numbers)
+          (subst (λ ns. KeepsTally k (words_with Finish words)
+          (set (map (λ (s : HandState). s.place) stands) id (after_finish (holding s.place ns)))) (sym full) tally)
+          _ law.1,
+    )
+
+pub abandon_word : WordLaw Abandon
+abandon_word packets members items words stands id s h at (n, full) =
+    let k = size packets (members + 1) in
+    let law =
+    abandon_law k (pops stands ∷ words) (map hand_seen stands) id (hand_seen s)
+    (board_seat packets members items words stands id s h at) (n, full) in
+    let tally =
+    abandon_keeps k words (map (λ (s : HandState). s.place) stands) id s.place h.tally
+    (place_at packets members items words stands id s h at) n (h.each id s at).one_seat
+    (room packets members items words stands id s n h at full) in (
+      law.0,
+      after_report packets members items words stands id s h at Abandon s.place.finished (s.place.abandoned ++ s.numbers)
+          (to_abandoned s.place s.numbers)
+          (subst (λ ns. KeepsTally k (words_with Abandon words)
+          (set (map (λ (s : HandState). s.place) stands) id (after_abandon (holding s.place ns)))) (sym full) tally)
+          _ law.1,
+    )
+
 pub stop_word : WordLaw Stop
 stop_word packets members items words stands id s h at may =
     let k = size packets (members + 1) in
     let so = h.each id s at in
     let law =
     stop_law k (pops stands ∷ words) (map hand_seen stands) id (hand_seen s)
-    (stand_law packets members items words stands h, map_at hand_seen stands id s at, so.one_seat) may in (
+    (board_seat packets members items words stands id s h at) may in (
       law.0,
       worded packets members items words (words_with Stop words) stands id s (after_stop s.place) s.numbers
           (after_stop (hand_seen s)) Stop _ h at
-          (stop_keeps k words (map (λ (s : HandState). s.place) stands) id s.place h.tally (place_at stands id s at) so.one_seat)
+          (stop_keeps k words (map (λ (s : HandState). s.place) stands) id s.place h.tally
+          (place_at packets members items words stands id s h at) so.one_seat)
           (so_kept packets s (after_stop s.place) refl refl refl so)
-          (ap (λ (m : ℕ). record (after_stop (hand_seen s)) { steps = m })
-          (one_step (length s.turn.popped) s.turn.ended s.place.steps))
+          (one_more_step s (after_stop (hand_seen s)))
           law.1,
     )
-
-module _ (packets members : ℕ) (items : List Item) (words : List ℕ) (stands : List HandState) (id : ℕ) (s : HandState)
-    (h : KeepsStream packets members items words stands) (at : get_elem? stands id ≡ some s) where
-  sees : (what : Shown) → IsHandState packets (record s { place = after_look s.place what (found_at (Look what) words) })
-  sees shown.Claimed =
-      so_kept packets s (after_look s.place shown.Claimed (found_at (Look shown.Claimed) words)) refl refl refl (h.each id s at)
-  sees shown.Done =
-      so_kept packets s (after_look s.place shown.Done (found_at (Look shown.Done) words)) refl refl refl (h.each id s at)
-  sees shown.Lost =
-      so_kept packets s (after_look s.place shown.Lost (found_at (Look shown.Lost) words)) refl refl refl (h.each id s at)
-  sees shown.Stop =
-      so_kept packets s (after_look s.place shown.Stop (found_at (Look shown.Stop) words)) refl refl refl (h.each id s at)
-
-  looked : (what : Shown) (n : ℕ) → seen_of s.turn (after_look s.place what n) s.numbers ≡ after_look (hand_seen s) what n
-  looked shown.Claimed n =
-      ap (λ (m : ℕ). record (after_look (hand_seen s) shown.Claimed n) { steps = m })
-      (one_step (length s.turn.popped) s.turn.ended s.place.steps)
-  looked shown.Done n =
-      ap (λ (m : ℕ). record (after_look (hand_seen s) shown.Done n) { steps = m })
-      (one_step (length s.turn.popped) s.turn.ended s.place.steps)
-  looked shown.Lost n =
-      ap (λ (m : ℕ). record (after_look (hand_seen s) shown.Lost n) { steps = m })
-      (one_step (length s.turn.popped) s.turn.ended s.place.steps)
-  looked shown.Stop n =
-      ap (λ (m : ℕ). record (after_look (hand_seen s) shown.Stop n) { steps = m })
-      (one_step (length s.turn.popped) s.turn.ended s.place.steps)
 
 pub look_word : (what : Shown) → IsAtWords (Look what) → WordLaw (Look what)
-look_word shown.Claimed kept packets members items words stands id s h at may = absurd (omega arith)
-look_word shown.Done kept packets members items words stands id s h at may =
+look_word what kept packets members items words stands id s h at may =
     let k = size packets (members + 1) in
-    let law =
-    look_law shown.Done k (pops stands ∷ words) (map hand_seen stands) id (hand_seen s)
-    (stand_law packets members items words stands h, map_at hand_seen stands id s at, (h.each id s at).one_seat) may in (
+    let n = found_at (Look what) words in
+    let law = board_look packets members items words stands id s h at what kept in (
       law.0,
-      worded packets members items words (words_with (Look shown.Done) words) stands id s
-          (after_look s.place shown.Done (found_at (Look shown.Done) words)) s.numbers
-          (after_look (hand_seen s) shown.Done (found_at (Look shown.Done) words)) (Look shown.Done) _ h at
+      subst (λ ns. IsStreamEvent packets members words stands items (words_with (Look what) words)
+          (set stands id (record s { place = after_look s.place what n; numbers = ns })) id (Look what)
+          (Value (answer_for what (hand_seen s).packets n))) (same_hand (hand_seen s) what n)
+          (worded packets members items words (words_with (Look what) words) stands id s (after_look s.place what n) s.numbers
+          (after_look (hand_seen s) what n) (Look what) _ h at
           (look_keeps k words (map (λ (s : HandState). s.place) stands) id s.place h.tally
-          (place_at stands id s at) shown.Done kept)
-          (sees packets members items words stands id s h at shown.Done)
-          (looked packets members items words stands id s h at shown.Done (found_at (Look shown.Done) words))
-          law.1,
-    )
-look_word shown.Lost kept packets members items words stands id s h at may =
-    let k = size packets (members + 1) in
-    let law =
-    look_law shown.Lost k (pops stands ∷ words) (map hand_seen stands) id (hand_seen s)
-    (stand_law packets members items words stands h, map_at hand_seen stands id s at, (h.each id s at).one_seat) may in (
-      law.0,
-      worded packets members items words (words_with (Look shown.Lost) words) stands id s
-          (after_look s.place shown.Lost (found_at (Look shown.Lost) words)) s.numbers
-          (after_look (hand_seen s) shown.Lost (found_at (Look shown.Lost) words)) (Look shown.Lost) _ h at
-          (look_keeps k words (map (λ (s : HandState). s.place) stands) id s.place h.tally
-          (place_at stands id s at) shown.Lost kept)
-          (sees packets members items words stands id s h at shown.Lost)
-          (looked packets members items words stands id s h at shown.Lost (found_at (Look shown.Lost) words))
-          law.1,
-    )
-look_word shown.Stop kept packets members items words stands id s h at may =
-    let k = size packets (members + 1) in
-    let law =
-    look_law shown.Stop k (pops stands ∷ words) (map hand_seen stands) id (hand_seen s)
-    (stand_law packets members items words stands h, map_at hand_seen stands id s at, (h.each id s at).one_seat) may in (
-      law.0,
-      worded packets members items words (words_with (Look shown.Stop) words) stands id s
-          (after_look s.place shown.Stop (found_at (Look shown.Stop) words)) s.numbers
-          (after_look (hand_seen s) shown.Stop (found_at (Look shown.Stop) words)) (Look shown.Stop) _ h at
-          (look_keeps k words (map (λ (s : HandState). s.place) stands) id s.place h.tally
-          (place_at stands id s at) shown.Stop kept)
-          (sees packets members items words stands id s h at shown.Stop)
-          (looked packets members items words stands id s h at shown.Stop (found_at (Look shown.Stop) words))
-          law.1,
+          (place_at packets members items words stands id s h at) what kept)
+          (saw packets members items words stands id s h at what n)
+          (looked packets members items words stands id s h at what n)
+          law.1),
     )

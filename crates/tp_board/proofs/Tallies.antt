@@ -1,11 +1,10 @@
 -- Each step at a stream's three words keeps their rule.
 use Rattle.std.proofs.Common.{◌≡◌, ◌≢◌, ℕ, zero, suc, ◌+◌, ◌-◌, ◌*◌, ◌%◌, ◌^◌, ◌<◌, ◌≤◌, min, bit_or, List, [], ◌∷◌, ◌++◌, length}
-use Rattle.std.proofs.Common.{set, sym, refl, ap, ◌∙◌, subst, ⊎_elim, arith, length-append}
+use Rattle.std.proofs.Common.{set, sym, refl, ap, ◌∙◌, subst, arith, length-append}
 use Rattle.std.specs.Prelude.{slice_index, slice_set}
 use mathlib.Core.Option.{some, none, some-ne-none, some-injective}
 use lib.ListN.{get_elem?}
 use Rattle.atomic_table.specs.Table.{State, Me, keeps, step, Allows, Splits, Joins, Seen, opening}
-use Rattle.atomic_table.proofs.Lists.{at_set, at_snoc}
 use Rattle.tp_board.specs.declared.event.Event.TheVariants.{Finish, Abandon, Stop, Look}
 use Rattle.tp_board.specs.declared.event.Shown.{Shown}
 use Rattle.tp_board.specs.declared.event.Shown.TheVariants as shown
@@ -19,14 +18,9 @@ use Rattle.tp_board.specs.Steps.{after_finish, after_abandon, after_stop, after_
 use Rattle.tp_board.specs.Plays.{Tells}
 use Rattle.tp_board.specs.Tallies.{FitsTally, TallyRule, KeepsTally, TallyHolds, holding, Reports}
 use Rattle.tp_board.proofs.Moves.{added, one_or, set_same}
-use Rattle.tp_board.proofs.Totals.{total_set, total_snoc, le_total, total_le, others_none, all_of, each_set}
-
-wider : (s w u : Counters) → AtMost s w → AtMost w u → AtMost s u
-wider s w u a b =
-    let a0 =
-    a.claimed in let b0 =
-    b.claimed in let a1 = a.done in let b1 = b.done in let a2 = a.lost in let b2 = b.lost in let a3 = a.stop in let b3 = b.stop in
-    record { claimed = omega arith; done = omega arith; lost = omega arith; stop = omega arith }
+use Rattle.tp_board.proofs.Steps.{wider, both_at_most}
+use Rattle.tp_board.proofs.Totals.{total_set, le_total, total_le, others_none, all_of, each_set, each_snoc, Exchange, Goes}
+use Rattle.tp_board.proofs.Totals.{one_changed, one_cut, two_joined, still_there}
 
 grown : (k : Size) (w u : Counters) (v : View) → AtMost w u → FitsTally k w v → FitsTally k u v
 grown k w u v a f = record { few = f.few; seen = wider v.seen w u f.seen a; idle = f.idle }
@@ -47,22 +41,34 @@ lost_small k w views r =
     total_le (λ v. length v.abandoned) (λ v. 1024 * v.parts) views (λ id v at. let f = (r.fits id v at).few in omega arith) in
     let b = total_times 1024 views in let c = r.parts in let d = r.few_seats in let e = r.lost in omega arith
 
--- one view and the words change together
-changed : (k : Size) (w w' : Counters) (views : List View) (id : ℕ) (v u : View) → TallyRule k w views
-    → get_elem? views id ≡ some v
-    → w'.claimed ≡ 0 → u.parts ≡ v.parts → w'.done + length v.finished ≡ w.done + length u.finished
+-- views are exchanged for others, and the words change with them
+changed : (k : Size) (w w' : Counters) (views olds views' news : List View) → TallyRule k w views
+    → Exchange views olds views' news → w'.claimed ≡ 0
+    → Goes olds news (λ v. v.parts) k.members k.members
+    → Goes olds news (λ v. length v.finished) w.done w'.done
+    → Goes olds news (λ v. length v.abandoned) w.lost w'.lost
+    → w'.stop ≡ min 1 (total (λ v. v.stop_callers) views')
+    → ((id : ℕ) (v : View) → get_elem? views' id ≡ some v → FitsTally k w' v) → TallyRule k w' views'
+changed k w w' views olds views' news r e unclaimed same done lost stop fits = record {
+  few_seats = r.few_seats;
+  no_claim = unclaimed;
+  parts = (let a = e (λ v. v.parts) in let b = r.parts in omega arith);
+  done = (let a = e (λ v. length v.finished) in let b = r.done in omega arith);
+  lost = (let a = e (λ v. length v.abandoned) in let b = r.lost in omega arith);
+  stop = stop;
+  fits = fits;
+}
+
+-- one seat makes a step
+stepped : (k : Size) (w w' : Counters) (views : List View) (id : ℕ) (v u : View) → TallyRule k w views
+    → get_elem? views id ≡ some v → w'.claimed ≡ 0 → u.parts ≡ v.parts
+    → w'.done + length v.finished ≡ w.done + length u.finished
     → w'.lost + length v.abandoned ≡ w.lost + length u.abandoned
     → w'.stop ≡ min 1 (total (λ v. v.stop_callers) (set views id u)) → AtMost w w' → FitsTally k w' u
     → TallyRule k w' (set views id u)
-changed k w w' views id v u r at unclaimed same done lost stop more mine = record {
-  few_seats = r.few_seats;
-  no_claim = unclaimed;
-  parts = (let a = total_set (λ v. v.parts) views id v u at in let b = r.parts in omega arith);
-  done = (let a = total_set (λ v. length v.finished) views id v u at in let b = r.done in omega arith);
-  lost = (let a = total_set (λ v. length v.abandoned) views id v u at in let b = r.lost in omega arith);
-  stop = stop;
-  fits = each_set (FitsTally k w') views id u mine (λ j y _ e. grown k w w' y more (r.fits j y e));
-}
+stepped k w w' views id v u r at unclaimed same done lost stop more mine =
+    changed k w w' views (v ∷ []) (set views id u) (u ∷ []) r (one_changed views id v u at) unclaimed (omega arith) (omega arith)
+    (omega arith) stop (each_set (FitsTally k w') views id u mine (λ j y _ e. grown k w w' y more (r.fits j y e)))
 
 module _ (k : Size) (words : List ℕ) (views : List View) (id : ℕ) (v : View) (h : KeepsTally k words views)
     (at : get_elem? views id ≡ some v) where
@@ -77,7 +83,7 @@ module _ (k : Size) (words : List ℕ) (views : List View) (id : ℕ) (v : View)
         w',
         ap (λ ws. slice_set ws 0 ((slice_index ws 0 + 1) % 2 ^ 64)) h.1
             ∙ ap (λ d. d ∷ w.lost ∷ w.stop ∷ []) (added w.done (omega arith)),
-        changed k w w' views id v u r at r.no_claim refl (omega arith) (omega arith)
+        stepped k w w' views id v u r at r.no_claim refl (omega arith) (omega arith)
             (let a = total_set (λ v. v.stop_callers) views id v u at in let b = r.stop in omega arith) more
             (record { few = omega arith; seen = wider v.seen w w' f.seen more; idle = (λ e. absurd (omega arith)) }),
       )
@@ -93,7 +99,7 @@ module _ (k : Size) (words : List ℕ) (views : List View) (id : ℕ) (v : View)
         w',
         ap (λ ws. slice_set ws 1 ((slice_index ws 1 + 1) % 2 ^ 64)) h.1
             ∙ ap (λ d. w.done ∷ d ∷ w.stop ∷ []) (added w.lost (omega arith)),
-        changed k w w' views id v u r at r.no_claim refl (omega arith) (omega arith)
+        stepped k w w' views id v u r at r.no_claim refl (omega arith) (omega arith)
             (let a = total_set (λ v. v.stop_callers) views id v u at in let b = r.stop in omega arith) more
             (record { few = omega arith; seen = wider v.seen w w' f.seen more; idle = (λ e. absurd (omega arith)) }),
       )
@@ -108,7 +114,7 @@ module _ (k : Size) (words : List ℕ) (views : List View) (id : ℕ) (v : View)
         w',
         ap (λ ws. slice_set ws 2 (bit_or (slice_index ws 2) 1)) h.1 ∙ ap (λ n. w.done ∷ w.lost ∷ n ∷ [])
             (ap (λ n. bit_or n 1) r.stop ∙ one_or (total (λ v. v.stop_callers) views)),
-        changed k w w' views id v u r at r.no_claim refl (omega arith) (omega arith)
+        stepped k w w' views id v u r at r.no_claim refl (omega arith) (omega arith)
             (let a = total_set (λ v. v.stop_callers) views id v u at in let b = le_total
             (λ v. v.stop_callers) views id v at in omega arith) more
             (record { few = f.few; seen = wider v.seen w w' f.seen more; idle = (λ e. absurd (omega arith)) }),
@@ -129,7 +135,7 @@ module _ (k : Size) (words : List ℕ) (views : List View) (id : ℕ) (v : View)
       saw w r seen least =
           let f = r.fits id v at in let u = with_seen v seen in
           let same : AtMost w w = record { claimed = omega arith; done = omega arith; lost = omega arith; stop = omega arith } in
-          changed k w w views id v u r at r.no_claim refl (omega arith) (omega arith)
+          stepped k w w views id v u r at r.no_claim refl (omega arith) (omega arith)
           (let a = total_set (λ v. v.stop_callers) views id v u at in let b = r.stop in omega arith) same
           (record { few = f.few; seen = least; idle = f.idle })
 
@@ -217,37 +223,19 @@ split_rule : (k : Size) (w : Counters) (views : List View) (id p m : ℕ) → 0 
     → get_elem? views id ≡ some (newcomer p m)
     → TallyRule k w (set views id (newcomer p (m - 1)) ++ newcomer p 1 ∷ [])
 split_rule k w views id p m some_part r at =
-    let v : View =
-    newcomer p m in let u : View = newcomer p (m - 1) in let n : View = newcomer p 1 in let vs = set views id u in record {
-      few_seats = r.few_seats;
-      no_claim = r.no_claim;
-      parts =
-          (let a = total_set (λ v. v.parts) views id v u at in let b = r.parts in let c = total_snoc
-          (λ v. v.parts) vs n in omega arith);
-      done =
-          (let a = total_set (λ v. length v.finished) views id v u at in let b = r.done in let c = total_snoc
-          (λ v. length v.finished) vs n in omega arith);
-      lost =
-          (let a = total_set (λ v. length v.abandoned) views id v u at in let b = r.lost in let c = total_snoc
-          (λ v. length v.abandoned) vs n in omega arith);
-      stop =
-          (let a = total_set (λ v. v.stop_callers) views id v u at in let b = r.stop in let c = total_snoc
-          (λ v. v.stop_callers) vs n in omega arith);
-      fits = (λ j y e. ⊎_elim
-          (λ was. each_set (FitsTally k w) views id u (newcomer_fits k w p (m - 1)) (λ j y _ e. r.fits j y e) j y was)
-          (λ (same : n ≡ y). subst (FitsTally k w) same (newcomer_fits k w p 1))
-          (at_snoc vs n y j e));
-    }
+    let v : View = newcomer p m in let u : View = newcomer p (m - 1) in let n : View = newcomer p 1 in
+    let e = one_cut views id v u n at in
+    changed k w w views (v ∷ []) (set views id u ++ n ∷ []) (u ∷ n ∷ []) r e r.no_claim (omega arith) refl refl
+    (let a = e (λ v. v.stop_callers) in let b = r.stop in omega arith)
+    (each_snoc (FitsTally k w) (set views id u) n
+    (each_set (FitsTally k w) views id u (newcomer_fits k w p (m - 1)) (λ j y _ e. r.fits j y e)) (newcomer_fits k w p 1))
 
 joined_fits : (k : Size) (w : Counters) (v u : View) → 0 < v.parts → FitsTally k w v → FitsTally k w u → FitsTally k w (join_of v u)
 joined_fits k w v u some_part f g = record {
   few =
       (let a = f.few in let b = g.few in let d = length-append v.finished u.finished in let e = length-append v.abandoned
       u.abandoned in omega arith);
-  seen =
-      (let a0 = f.seen.claimed in let b0 = g.seen.claimed in let a1 = f.seen.done in let b1 = g.seen.done in
-      let a2 = f.seen.lost in let b2 = g.seen.lost in let a3 = f.seen.stop in let b3 = g.seen.stop in
-      record { claimed = omega arith; done = omega arith; lost = omega arith; stop = omega arith });
+  seen = both_at_most v.seen u.seen w f.seen g.seen;
   idle = (λ e. absurd (omega arith));
 }
 
@@ -256,26 +244,14 @@ join_rule : (k : Size) (w : Counters) (views : List View) (id : ℕ) (v : View) 
     → TallyRule k w (set (set views id (join_of v u)) other (newcomer 0 0))
 join_rule k w views id v other u some_part r at apart there =
     let b : View = join_of v u in let s : View = newcomer 0 0 in let vs = set views id b in
-    let was : get_elem? views other ≡ some u =
-    ⊎_elim (λ (t : (other ≡ id) × (b ≡ u)). absurd (apart t.0)) (λ (t : (other ≢ id) × (get_elem? views other ≡ some u)). t.1)
-    (at_set views id other b u there) in
-    let sum = λ (f : View → ℕ). total_set f views id v b at in
-    let rest = λ (f : View → ℕ). total_set f vs other u s there in record {
-      few_seats = r.few_seats;
-      no_claim = r.no_claim;
-      parts = (let a = sum (λ v. v.parts) in let c = rest (λ v. v.parts) in let d = r.parts in omega arith);
-      done =
-          (let a = sum (λ v. length v.finished) in let c = rest
-          (λ v. length v.finished) in let d = r.done in let e = length-append v.finished u.finished in omega arith);
-      lost =
-          (let a = sum (λ v. length v.abandoned) in let c = rest
-          (λ v. length v.abandoned) in let d = r.lost in let e = length-append v.abandoned u.abandoned in omega arith);
-      stop = (let a = sum (λ v. v.stop_callers) in let c = rest (λ v. v.stop_callers) in let d = r.stop in omega arith);
-      fits =
-          each_set (FitsTally k w) vs other s (newcomer_fits k w 0 0)
-          (λ j y _ e. each_set (FitsTally k w) views id b (joined_fits k w v u some_part (r.fits id v at) (r.fits other u was))
-          (λ j y _ e. r.fits j y e) j y e);
-    }
+    let e = two_joined views id v b other u s at there in
+    let done = length-append v.finished u.finished in
+    let lost = length-append v.abandoned u.abandoned in
+    changed k w w views (v ∷ u ∷ []) (set vs other s) (b ∷ s ∷ []) r e r.no_claim (omega arith) (omega arith) (omega arith)
+    (let a = e (λ v. v.stop_callers) in let b = r.stop in omega arith)
+    (each_set (FitsTally k w) vs other s (newcomer_fits k w 0 0) (λ j y _ e. each_set (FitsTally k w) views id b
+    (joined_fits k w v u some_part (r.fits id v at) (r.fits other u (still_there views id b other u apart there)))
+    (λ j y _ e. r.fits j y e) j y e))
 
 module _ {S : Type 0} (k : Size) (id : ℕ) (v : View) where
   pub splits : (p m : ℕ) → 0 < m → v ≡ newcomer p m

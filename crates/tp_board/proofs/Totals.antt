@@ -3,7 +3,7 @@ use Rattle.std.proofs.Common.{replicate, length, ◌≡◌, ◌≢◌, ℕ, zero
 use Rattle.std.proofs.Common.{subst, ⊎_elim, arith, length-append}
 use mathlib.Core.Option.{some, some-ne-none, some-injective}
 use lib.ListN.{get_elem?}
-use Rattle.atomic_table.proofs.Lists.{at_set}
+use Rattle.atomic_table.proofs.Lists.{at_set, at_snoc}
 use Rattle.tp_board.specs.Counting.{times}
 use Rattle.tp_board.specs.Views.{gathered}
 use Rattle.tp_board.specs.Rule.{total}
@@ -66,6 +66,40 @@ pub each_set : {V : Type 0} (P : V → Type 0) (views : List V) (id : ℕ) (w : 
 each_set P views id w mine others j u e =
     ⊎_elim (λ (t : (j ≡ id) × (w ≡ u)). subst P t.1 mine) (λ (t : (j ≢ id) × (get_elem? views j ≡ some u)). others j u t.0 t.1)
     (at_set views id j w u e)
+
+pub each_snoc : {V : Type 0} (P : V → Type 0) (views : List V) (w : V) → ((j : ℕ) (u : V) → get_elem? views j ≡ some u → P u) → P w
+    → (j : ℕ) (u : V) → get_elem? (views ++ w ∷ []) j ≡ some u → P u
+each_snoc P views w others mine j u e = ⊎_elim (λ was. others j u was) (λ (same : w ≡ u). subst P same mine) (at_snoc views w u j e)
+
+-- ---- views are exchanged for others
+module _ {V : Type 0} where
+  -- `olds` have gone and `news` have come
+  abbrev pub Exchange : List V → List V → List V → List V → Type 0
+  Exchange views olds views' news = (f : V → ℕ) → total f views' + total f olds ≡ total f views + total f news
+
+  -- a count goes from `was` to `now` as the total of f does
+  abbrev pub Goes : (olds news : List V) → (V → ℕ) → ℕ → ℕ → Type 0
+  Goes olds news f was now = now + total f olds ≡ was + total f news
+
+  pub one_changed : (views : List V) (id : ℕ) (v u : V) → get_elem? views id ≡ some v
+      → Exchange views (v ∷ []) (set views id u) (u ∷ [])
+  one_changed views id v u at f = let a = total_set f views id v u at in omega arith
+
+  pub one_cut : (views : List V) (id : ℕ) (v u w : V) → get_elem? views id ≡ some v
+      → Exchange views (v ∷ []) (set views id u ++ w ∷ []) (u ∷ w ∷ [])
+  one_cut views id v u w at f =
+      let a = total_set f views id v u at in let b = total_snoc f (set views id u) w in omega arith
+
+  pub two_joined : (views : List V) (id : ℕ) (v b : V) (other : ℕ) (u s : V) → get_elem? views id ≡ some v
+      → get_elem? (set views id b) other ≡ some u → Exchange views (v ∷ u ∷ []) (set (set views id b) other s) (b ∷ s ∷ [])
+  two_joined views id v b other u s at there f =
+      let a = total_set f views id v b at in let c = total_set f (set views id b) other u s there in omega arith
+
+  pub still_there : (views : List V) (id : ℕ) (b : V) (other : ℕ) (u : V) → other ≢ id → get_elem? (set views id b) other ≡ some u
+      → get_elem? views other ≡ some u
+  still_there views id b other u apart there =
+      ⊎_elim (λ (t : (other ≡ id) × (b ≡ u)). absurd (apart t.0)) (λ (t : (other ≢ id) × (get_elem? views other ≡ some u)). t.1)
+      (at_set views id other b u there)
 
 -- where f of each view is g, h and i of it together, so are the totals
 pub total_parts : {V : Type 0} (f g h i : V → ℕ) (views : List V)

@@ -1,6 +1,7 @@
 -- The rule of a stream's queue: it holds the numbers from the first that is not popped to the last
 -- pushed, and then the end marks; what was popped are the numbers below, each once.
-use Rattle.std.specs.Prelude.{◌≡◌, ℕ, ◌+◌, ◌-◌, ◌<◌, ◌≤◌, ltb, List, [], ◌∷◌, ◌++◌, length, map, replicate, if◌then◌else◌}
+use Rattle.std.specs.Prelude.{◌≡◌, ℕ, ◌+◌, ◌-◌, ◌%◌, ◌<◌, ◌≤◌, ltb, nat_eq, Bool, true, List, [], ◌∷◌, ◌++◌, length, map}
+use Rattle.std.specs.Prelude.{replicate, if◌then◌else◌}
 use mathlib.Core.Option.{some}
 use lib.ListN.{get_elem?}
 use Rattle.tp_board.specs.declared.stream.queue.Item.{Item}
@@ -77,6 +78,11 @@ Took v x w = (w ≡ took v x) × IsNext v x
 -- so many numbers, from `from` on, and then so many marks
 abbrev pub queue : ℕ → ℕ → ℕ → List Item
 queue from count marks = map (λ n. Number n) (numbers_from from count) ++ replicate marks End
+
+-- the last of each sixteen numbers wakes the other side of the queue, and so does each end mark
+abbrev pub wakes_other : Item → Bool
+wakes_other (Number n) = nat_eq ((n + 1) % 16) 0
+wakes_other End = true
 
 -- ---- the rule
 pub record FitsQueue (packets members : ℕ) (v : PassView) : Type 0 where

@@ -1,5 +1,7 @@
 //! How the two sides of a stream's queue wait for each other: the feeder while the queue is full, the members while it is
 //! empty. They sleep until the other side has pushed or popped half of the queue.
+ghost use Rattle.std.specs.Prelude.{◌≡◌};
+ghost use Rattle.tp_board.specs.Queues.{wakes_other};
 
 use crate::stream::queue::{CAPACITY, Item};
 use std::sync::Wait;
@@ -22,7 +24,9 @@ pub struct Waiting {
 }
 
 /// Whether the other side is woken when this is pushed or popped.
-fn is_worth_a_wake(item: Item) -> bool {
+fn is_worth_a_wake(item: Item) -> bool
+    ensures { result ≡ wakes_other item }
+{
     match item {
         Item::Number(number) => number % WAKE_EVERY == WAKE_EVERY - 1,
         Item::End => true,
