@@ -7,7 +7,7 @@ use Rattle.std.proofs.lemmas.List.{append-nil}
 use mathlib.Core.Option.{some}
 use lib.ListN.{get_elem?}
 use Rattle.crossbeam_queue.specs.Fifo.{Pushes, Pops, Forks, Merges, Learns}
-use Rattle.tp_board.specs.Counting.{times, once_below, AreBelow}
+use Rattle.tp_board.specs.Counting.{times, once_below}
 use Rattle.tp_board.specs.Runs.{numbers_from}
 use Rattle.tp_board.specs.Rule.{total}
 use Rattle.tp_board.specs.declared.stream.queue.Item.{Item}
