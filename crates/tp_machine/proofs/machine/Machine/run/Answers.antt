@@ -7,7 +7,7 @@ use Rattle.tp_step.specs.Runs.{first_words}
 use Rattle.tp_outcome.specs.Devices.{devices_of}
 use Rattle.tp_machine.specs.Representation.{Holds}
 use Rattle.tp_machine.proofs.Kept.{begins, ends}
-use Rattle.tp_outcome.proofs.Alone.{answered_alone}
+use Rattle.tp_machine.proofs.Alone.{answered_alone}
 use Rattle.tp_machine.proofs.PromiseKept.{keeps_promise}
 use Rattle.tp_machine.proofs.machine.Machine.run.Goals as goal
 
