@@ -8,10 +8,7 @@ local   cells[32], later[32], before
         receive cells
         for generation = 0 for 100
         for i = 0 for 32
-        ldl     i               -- the cells before these: the word before has the one that comes in
-        ldlp    cells
-        wsub
-        ldnl    0
+        load    cells[i]        -- the cells before these: the word before has the one that comes in
         ldc     1
         shl
         ldl     i
@@ -25,10 +22,7 @@ local   cells[32], later[32], before
         shr
         or
         stl     before
-        ldl     i               -- the cells behind these
-        ldlp    cells
-        wsub
-        ldnl    0
+        load    cells[i]        -- the cells behind these
         ldc     1
         shr
         ldl     i
@@ -41,17 +35,11 @@ local   cells[32], later[32], before
         ldc     31
         shl
         or
-        ldl     i
-        ldlp    cells
-        wsub
-        ldnl    0
+        load    cells[i]
         or
         ldl     before
         xor                     -- before xor (cell or behind)
-        ldl     i
-        ldlp    later
-        wsub
-        stnl    0
+        store   later[i]
         end i
         ldlp    later
         ldlp    cells

@@ -11,10 +11,7 @@ init    5: -52, 0, 418, 1036, 1292, 1036, 418, 0, -52   -- h begins at the start
         ldc     0
         stl     acc
         for k = 0 for 9
-        ldl     k
-        ldlp    h
-        wsub
-        ldnl    0               -- h[k]
+        load    h[k]
         ldl     n
         ldl     k
         sum
@@ -29,10 +26,7 @@ init    5: -52, 0, 418, 1036, 1292, 1036, 418, 0, -52   -- h begins at the start
         ldl     acc
         ldc     4096
         div
-        ldl     n
-        ldlp    y
-        wsub
-        stnl    0               -- y[n]
+        store   y[n]
         end n
         send    y
         stopp

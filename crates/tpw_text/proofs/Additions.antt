@@ -23,14 +23,16 @@ use Rattle.tpw_text.specs.declared.statement.Instruction.{Instruction}
 use Rattle.tpw_text.specs.declared.statement.Instruction.TheVariants.{Line, OfLocal}
 use Rattle.tpw_text.specs.declared.statement.Message.{Message}
 use Rattle.tpw_text.specs.declared.statement.Message.TheVariants.{Receive, Send, Trace}
+use Rattle.tpw_text.specs.declared.statement.Access.{Access}
+use Rattle.tpw_text.specs.declared.statement.Element.{Element}
 use Rattle.tpw_text.specs.Limits.{most_words}
 use Rattle.tpw_text.specs.Faults.{fault_at}
 use Rattle.tpw_text.specs.Drafts.{Said, is_full, place_named, local_named, pushed, locals_named, label_set, room_for_loop, local_said}
 use Rattle.tpw_text.specs.Words.{position_of}
-use Rattle.tpw_text.specs.Grammar.{StatementSaid, SaysNothing, SetsPacket, SetsResults, SetsStart, SetsWorkspace, SetsVersion, NamesLocals, SetsInitial, AddsLines, AddsInstruction, AddsMessage, BeginsLoop, EndsLoop, AddsRow}
-use Rattle.tpw_text.specs.Meaning.{in_turn, initial_added, initials_added, lines_pushed, operand_with, local_instr_added, instruction_added, message_lines, message_added, loop_begins, begun, loop_begun, loop_ends, row_of, with_row, row_added, innermost, inner_ended, loop_named, loop_ended, added, unlabelled, labelled, is_colon, line_said}
+use Rattle.tpw_text.specs.Grammar.{StatementSaid, SaysNothing, SetsPacket, SetsResults, SetsStart, SetsWorkspace, SetsVersion, NamesLocals, SetsInitial, AddsLines, AddsInstruction, AddsMessage, AddsAccess, BeginsLoop, EndsLoop, AddsRow}
+use Rattle.tpw_text.specs.Meaning.{in_turn, initial_added, initials_added, lines_pushed, operand_with, local_instr_added, instruction_added, message_lines, message_added, access_lines, access_added, loop_begins, begun, loop_begun, loop_ends, row_of, with_row, row_added, innermost, inner_ended, loop_named, loop_ended, added, unlabelled, labelled, is_colon, line_said}
 use Rattle.tpw_text.specs.Apart.{word_apart, line_apart, label_apart, local_apart, row_apart, begun_apart, draft_apart}
-use Rattle.tpw_text.proofs.Apart.{kept, then_kept, then_in, if_kept, ok_or_kept, numbered, initial_apart, offset_apart, local_instr_apart, instruction_apart, new_loop_apart, statement_apart, a_statement}
+use Rattle.tpw_text.proofs.Apart.{kept, then_kept, then_in, if_kept, ok_or_kept, numbered, initial_apart, offset_apart, local_instr_apart, instruction_apart, element_apart, new_loop_apart, statement_apart, a_statement}
 
 -- what is found by a text
 found : {A : Type 0} (view : A → A) (test : A → Bool) (f : A → ℕ) → ((x : A) → test (view x) ≡ test x) → ((x : A) → f (view x) ≡ f x) → (xs : List A)
@@ -139,6 +141,10 @@ a_message w m name d = then_kept _ _ _ _ (local_is d.locals name) (λ n. by m n.
     by Send n = all_pushed w (message_lines Send d n) d
     by Trace n = all_pushed w (message_lines Trace d n) d
 
+an_access : (w : Word) (a : Access) (e : Element) (d : Said) → access_added (word_apart w) a (element_apart e) (draft_apart d) ≡ kept draft_apart (access_added w a e d)
+unfolding access_added
+an_access w a e d = then_kept _ _ _ _ (local_is d.locals e.name) (λ array. then_kept _ _ _ _ (local_is d.locals e.index) (λ index. all_pushed w (access_lines a array.first index.first) d))
+
 is_begun : (n : ℕ) (l : NewLoop) (d : Said) → ok (begun n (new_loop_apart l) (draft_apart d)) ≡ ok (draft_apart (begun n l d))
 is_begun n l d =
     rw (length-map d.lines line_apart)
@@ -196,6 +202,7 @@ an_addition (SetsInitial at first values) d = initials at first values d
 an_addition (AddsLines lines) d = turns _ _ (λ (l : NewLine) e. a_line_pushed l.word l.line e) lines d
 an_addition (AddsInstruction i) d = an_instruction i d
 an_addition (AddsMessage word message name) d = a_message word message name d
+an_addition (AddsAccess word access element) d = an_access word access element d
 an_addition (BeginsLoop l) d = a_loop_begun l d
 an_addition (EndsLoop word name) d = a_loop_ended word name d
 an_addition (AddsRow word row) d = a_row word row d

@@ -20,11 +20,12 @@ use Rattle.tpw_text.specs.declared.statement.Offset.{Offset}
 use Rattle.tpw_text.specs.declared.statement.LocalInstr.{LocalInstr}
 use Rattle.tpw_text.specs.declared.statement.Instruction.{Instruction}
 use Rattle.tpw_text.specs.declared.statement.Instruction.TheVariants.{Line, OfLocal}
+use Rattle.tpw_text.specs.declared.statement.Element.{Element}
 use Rattle.tpw_text.specs.Faults.{fault_at, then_read, each_read}
 use Rattle.tpw_text.specs.Numbers.{begins_number}
 use Rattle.tpw_text.specs.Statements.{word_said, number_read, count_read, nothing_at, end_said, one_number_said, expect_said, target_said}
 use Rattle.tpw_text.specs.Lists.{Part, is_comma, onto_part, parts, no_word, no_more_said, one_word_said, initial_word_said, byte_line_said, size_said, is_bracket, new_local_said, list_said}
-use Rattle.tpw_text.specs.Grammar.{StatementSaid, SaysNothing, SetsPacket, SetsResults, SetsStart, SetsWorkspace, SetsVersion, NamesLocals, SetsInitial, AddsLines, AddsInstruction, AddsMessage, BeginsLoop, EndsLoop, AddsRow, is_word, is_word_here, version_said, initial_said, one_name_said, new_loop_said, row_said, length_at, length_said, plain_line, number_line, offset_at, offset_said, label_line, distance_said, number_said, local_instr_said, operand_said, with_operand_said, operation_said, of_operation, of_function, instruction_said, keyword_said, of_keyword, statement_said}
+use Rattle.tpw_text.specs.Grammar.{StatementSaid, SaysNothing, SetsPacket, SetsResults, SetsStart, SetsWorkspace, SetsVersion, NamesLocals, SetsInitial, AddsLines, AddsInstruction, AddsMessage, AddsAccess, BeginsLoop, EndsLoop, AddsRow, is_word, is_word_here, version_said, initial_said, one_name_said, element_said, new_loop_said, row_said, length_at, length_said, plain_line, number_line, offset_at, offset_said, label_line, distance_said, number_said, local_instr_said, operand_said, with_operand_said, operation_said, of_operation, of_function, instruction_said, keyword_said, of_keyword, statement_said}
 use Rattle.tpw_text.specs.Apart.{word_apart, line_apart, target_apart, row_apart}
 
 -- what is read, by another view
@@ -199,6 +200,9 @@ abbrev pub instruction_apart : Instruction → Instruction
 instruction_apart (Line l) = Line (new_line_apart l)
 instruction_apart (OfLocal i) = OfLocal (local_instr_apart i)
 
+abbrev pub element_apart : Element → Element
+element_apart e = record { name = word_apart e.name; index = word_apart e.index }
+
 abbrev pub new_loop_apart : NewLoop → NewLoop
 new_loop_apart l = record l { word = word_apart l.word; name = word_apart l.name }
 
@@ -214,6 +218,7 @@ statement_apart (SetsInitial at first values) = SetsInitial (word_apart at) firs
 statement_apart (AddsLines lines) = AddsLines (map new_line_apart lines)
 statement_apart (AddsInstruction i) = AddsInstruction (instruction_apart i)
 statement_apart (AddsMessage word message name) = AddsMessage (word_apart word) message (word_apart name)
+statement_apart (AddsAccess word access element) = AddsAccess (word_apart word) access (element_apart element)
 statement_apart (BeginsLoop l) = BeginsLoop (new_loop_apart l)
 statement_apart (EndsLoop word name) = EndsLoop (word_apart word) (word_apart name)
 statement_apart (AddsRow word row) = AddsRow (word_apart word) (row_apart row)
@@ -232,6 +237,12 @@ module _ (ws : List Word) (first : Word) where
   one_name : one_name_said (map word_apart ws) (word_apart first) ≡ kept word_apart (one_name_said ws first)
   unfolding one_name_said
   one_name = then_kept _ _ _ _ (said ws 1 first) (λ name. then_in _ _ _ _ (ended ws 2) (λ _. refl))
+
+  element : element_said (map word_apart ws) (word_apart first) ≡ kept element_apart (element_said ws first)
+  unfolding element_said
+  element =
+      then_kept _ _ _ _ (said ws 1 first) (λ name. then_kept _ _ _ _ (expected ws 2 name _) (λ opens. then_kept _ _ _ _ (said ws 3 opens) (λ index.
+      then_kept _ _ _ _ (expected ws 4 index _) (λ _. then_in _ _ _ _ (ended ws 5) (λ _. refl)))))
 
   new_loop : new_loop_said (map word_apart ws) (word_apart first) ≡ kept new_loop_apart (new_loop_said ws first)
   unfolding new_loop_said
@@ -332,6 +343,8 @@ module _ (ws : List Word) (first : Word) where
   a_keyword keyword.Receive = then_kept _ _ _ _ (one_name ws first) (λ name. refl)
   a_keyword keyword.Send = then_kept _ _ _ _ (one_name ws first) (λ name. refl)
   a_keyword keyword.Trace = then_kept _ _ _ _ (one_name ws first) (λ name. refl)
+  a_keyword keyword.Load = then_kept _ _ _ _ (element ws first) (λ e. refl)
+  a_keyword keyword.Store = then_kept _ _ _ _ (element ws first) (λ e. refl)
   a_keyword keyword.For = then_kept _ _ _ _ (new_loop ws first) (λ l. refl)
   a_keyword keyword.End = then_kept _ _ _ _ (one_name ws first) (λ name. refl)
   a_keyword keyword.Loop = then_kept _ _ _ _ (row ws first) (λ r. refl)

@@ -26,6 +26,9 @@ use Rattle.tpw_text.specs.declared.statement.Instruction.{Instruction}
 use Rattle.tpw_text.specs.declared.statement.Instruction.TheVariants.{Line, OfLocal}
 use Rattle.tpw_text.specs.declared.statement.Message.{Message}
 use Rattle.tpw_text.specs.declared.statement.Message.TheVariants as message
+use Rattle.tpw_text.specs.declared.statement.Access.{Access}
+use Rattle.tpw_text.specs.declared.statement.Access.TheVariants as access
+use Rattle.tpw_text.specs.declared.statement.Element.{Element}
 use Rattle.tpw_text.specs.declared.statement.Statement.{Statement}
 use Rattle.tpw_text.specs.declared.statement.Statement.TheVariants as statement
 use Rattle.tpw_text.specs.Limits.{most_count, most_words, most_bytes}
@@ -55,6 +58,8 @@ pub data StatementSaid : Type 0 where
   AddsInstruction : (instruction : Instruction) → StatementSaid
   -- a message, and the name of its local words
   AddsMessage : (word : Word) (message : Message) (name : Word) → StatementSaid
+  -- a word that an index picks is loaded or stored
+  AddsAccess : (word : Word) (access : Access) (element : Element) → StatementSaid
   -- a loop begins, and the innermost one ends
   BeginsLoop : (loop : NewLoop) → StatementSaid
   EndsLoop : (word : Word) (name : Word) → StatementSaid
@@ -74,6 +79,7 @@ statement_kept (statement.Initial at first values) = SetsInitial at first values
 statement_kept (statement.Lines lines) = AddsLines lines.items
 statement_kept (statement.Instruction i) = AddsInstruction i
 statement_kept (statement.Message word message name) = AddsMessage word message name
+statement_kept (statement.Access word access element) = AddsAccess word access element
 statement_kept (statement.Begin loop) = BeginsLoop loop
 statement_kept (statement.End word name) = EndsLoop word name
 statement_kept (statement.Row word row) = AddsRow word row
@@ -114,6 +120,16 @@ one_name_said words first = do
   name ← word_said words 1 first
   end ← end_said words 2
   Ok name
+
+-- NAME[INDEX] behind load or store
+unfoldable pub element_said : List Word → Word → Result Element SourceFault
+element_said words first = do
+  name ← word_said words 1 first
+  opens ← expect_said words 2 name (codes "[")
+  index ← word_said words 3 opens
+  closes ← expect_said words 4 index (codes "]")
+  end ← end_said words 5
+  Ok (record { name = name; index = index })
 
 -- for NAME = START for COUNT
 unfoldable pub new_loop_said : List Word → Word → Result NewLoop SourceFault
@@ -271,6 +287,10 @@ keyword_said keyword.Send words first =
     one_name_said words first >>= λ name. Ok (AddsMessage first message.Send name)
 keyword_said keyword.Trace words first =
     one_name_said words first >>= λ name. Ok (AddsMessage first message.Trace name)
+keyword_said keyword.Load words first =
+    element_said words first >>= λ element. Ok (AddsAccess first access.Load element)
+keyword_said keyword.Store words first =
+    element_said words first >>= λ element. Ok (AddsAccess first access.Store element)
 keyword_said keyword.For words first = new_loop_said words first >>= λ loop. Ok (BeginsLoop loop)
 keyword_said keyword.End words first = one_name_said words first >>= λ name. Ok (EndsLoop first name)
 keyword_said keyword.Loop words first = row_said words first >>= λ row. Ok (AddsRow first row)

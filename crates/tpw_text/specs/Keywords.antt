@@ -3,7 +3,7 @@ use Rattle.std.specs.Prelude.{ℕ, List, [], ◌∷◌, codes, Option}
 use Rattle.std.specs.List.{find}
 use Rattle.std.specs.Str.{str_eq_ignore_ascii_case}
 use Rattle.tpw_text.specs.declared.keyword.Keyword.{Keyword}
-use Rattle.tpw_text.specs.declared.keyword.Keyword.TheVariants.{Worker, Packet, Results, Start, Workspace, Version, Local, Init, Byte, Receive, Send, Trace, For, End, Loop}
+use Rattle.tpw_text.specs.declared.keyword.Keyword.TheVariants.{Worker, Packet, Results, Start, Workspace, Version, Local, Init, Byte, Receive, Send, Trace, Load, Store, For, End, Loop}
 
 abbrev pub keyword_name : Keyword → List ℕ
 keyword_name Worker = codes "worker"
@@ -18,6 +18,8 @@ keyword_name Byte = codes "byte"
 keyword_name Receive = codes "receive"
 keyword_name Send = codes "send"
 keyword_name Trace = codes "trace"
+keyword_name Load = codes "load"
+keyword_name Store = codes "store"
 keyword_name For = codes "for"
 keyword_name End = codes "end"
 keyword_name Loop = codes "loop"
@@ -25,7 +27,7 @@ keyword_name Loop = codes "loop"
 abbrev pub keywords : List Keyword
 keywords =
     Worker ∷ Packet ∷ Results ∷ Start ∷ Workspace ∷ Version ∷ Local ∷ Init ∷ Byte
-    ∷ Receive ∷ Send ∷ Trace ∷ For ∷ End ∷ Loop ∷ []
+    ∷ Receive ∷ Send ∷ Trace ∷ Load ∷ Store ∷ For ∷ End ∷ Loop ∷ []
 
 -- the keyword that a word is, in capitals or not
 unfoldable pub keyword_named : List ℕ → Option Keyword

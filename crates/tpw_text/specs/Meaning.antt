@@ -2,7 +2,7 @@
 use Rattle.std.specs.Prelude.{ℕ, ◌+◌, ◌-◌, ◌*◌, nat_lt, ℤ, pos, ◌+ℤ◌, int_lt, ◌||◌, not, Bool, if◌then◌else◌, List, [], ◌∷◌, ◌++◌, length, take, replicate, codes, Option, Some, None, Result, Ok, Err, slice_get}
 use Rattle.std.specs.Str.{str_eq_ignore_ascii_case, bytes_eq}
 use Rattle.tp_decode.specs.declared.instr.Instr.{Instr}
-use Rattle.tp_decode.specs.declared.instr.Instr.TheVariants.{Ldlp, Ldc, Ldnlp, Stl, Mint, Input, Output, Lend}
+use Rattle.tp_decode.specs.declared.instr.Instr.TheVariants.{Ldlp, Ldnl, Ldc, Ldnlp, Ldl, Stl, Stnl, Mint, Wsub, Input, Output, Lend}
 use Rattle.tpw_asm.specs.declared.program.Operation.TheVariants as operation
 use Rattle.tpw_asm.specs.declared.program.Line.TheVariants.{Spelled}
 use Rattle.tpw_text.specs.declared.words.Word.{Word}
@@ -25,9 +25,12 @@ use Rattle.tpw_text.specs.declared.statement.Instruction.{Instruction}
 use Rattle.tpw_text.specs.declared.statement.Instruction.TheVariants.{Line, OfLocal}
 use Rattle.tpw_text.specs.declared.statement.Message.{Message}
 use Rattle.tpw_text.specs.declared.statement.Message.TheVariants.{Receive, Send, Trace}
+use Rattle.tpw_text.specs.declared.statement.Access.{Access}
+use Rattle.tpw_text.specs.declared.statement.Access.TheVariants.{Load, Store}
+use Rattle.tpw_text.specs.declared.statement.Element.{Element}
 use Rattle.tpw_text.specs.Faults.{fault_at, ◌>>=◌}
 use Rattle.tpw_text.specs.Drafts.{Said, is_full, pushed, locals_named, label_set, room_for_loop, local_said}
-use Rattle.tpw_text.specs.Grammar.{StatementSaid, SaysNothing, SetsPacket, SetsResults, SetsStart, SetsWorkspace, SetsVersion, NamesLocals, SetsInitial, AddsLines, AddsInstruction, AddsMessage, BeginsLoop, EndsLoop, AddsRow, number_line, statement_said}
+use Rattle.tpw_text.specs.Grammar.{StatementSaid, SaysNothing, SetsPacket, SetsResults, SetsStart, SetsWorkspace, SetsVersion, NamesLocals, SetsInitial, AddsLines, AddsInstruction, AddsMessage, AddsAccess, BeginsLoop, EndsLoop, AddsRow, number_line, statement_said}
 
 -- one after another, and the first fault ends it
 unfoldable pub in_turn : {A : Type 0} → (A → Said → Result Said SourceFault) → List A → Said → Result Said SourceFault
@@ -97,6 +100,22 @@ message_added word message name d = do
   local ← local_said d.locals name
   lines_pushed word (message_lines message d local.first) d
 
+-- what is done at the address of a word
+abbrev pub accessing : Access → Instr
+accessing Load = Ldnl (pos 0)
+accessing Store = Stnl (pos 0)
+
+-- a word is loaded or stored that a local word picks, by its index, among those from an array's first on
+abbrev pub access_lines : Access → ℕ → ℕ → List DraftLine
+access_lines access array index =
+    plain (Ldl (pos index)) ∷ plain (Ldlp (pos array)) ∷ plain Wsub ∷ plain (accessing access) ∷ []
+
+unfoldable pub access_added : Word → Access → Element → Said → Result Said SourceFault
+access_added word access element d = do
+  array ← local_said d.locals element.name
+  index ← local_said d.locals element.index
+  lines_pushed word (access_lines access array.first index.first) d
+
 -- a loop begins: its two local words take the start and the count, and the head is behind
 abbrev pub loop_begins : ℕ → NewLoop → List DraftLine
 loop_begins local l =
@@ -164,6 +183,7 @@ added (SetsInitial at first values) d = initials_added at first values d
 added (AddsLines lines) d = in_turn line_added lines d
 added (AddsInstruction i) d = instruction_added i d
 added (AddsMessage word message name) d = message_added word message name d
+added (AddsAccess word access element) d = access_added word access element d
 added (BeginsLoop l) d = loop_begun l d
 added (EndsLoop word name) d = loop_ended word name d
 added (AddsRow word row) d = row_added word row d

@@ -4,13 +4,14 @@ ghost use Rattle.std.specs.Prelude.{◌≡◌, OnOk, IfErr, Ok};
 ghost use Rattle.tpw_text.specs.Faults.{IsRefusal};
 ghost use Rattle.tpw_text.specs.Drafts.{said};
 ghost use Rattle.tpw_text.specs.Grammar.{statement_kept};
-ghost use Rattle.tpw_text.specs.Meaning.{in_turn, local_added, initial_added, initials_added, line_added, lines_pushed, plain, operand_with, local_instr_added, instruction_added, message_added, loop_begun, loop_named, innermost, loop_ended, row_added, added};
+ghost use Rattle.tpw_text.specs.Meaning.{in_turn, local_added, initial_added, initials_added, line_added, lines_pushed, plain, operand_with, local_instr_added, instruction_added, message_added, accessing, access_added, loop_begun, loop_named, innermost, loop_ended, row_added, added};
 
 use crate::draft::{Begun, Control, Draft, DraftLine, LocalName, MOST, Row, Target};
 use crate::fault::{SourceFault, TextFault};
 use crate::instructions::number_line;
 use crate::statement::{
-    InitialWord, Instruction, LocalInstr, Message, NewLine, NewLocal, NewLoop, Offset, Statement,
+    Access, Element, InitialWord, Instruction, LocalInstr, Message, NewLine, NewLocal, NewLoop,
+    Offset, Statement,
 };
 use crate::words::Word;
 use tp_decode::Instr;
@@ -25,6 +26,16 @@ fn plain<'a>(instr: Instr) -> DraftLine<'a>
         operation,
         bytes: None,
     })
+}
+
+/// What is done at the address of a word.
+fn accessing(access: Access) -> Instr
+    ensures { result ≡ accessing access }
+{
+    match access {
+        Access::Load => Instr::Ldnl(0),
+        Access::Store => Instr::Stnl(0),
+    }
 }
 
 /// The operand that a name of local words is: the first of them, or one behind it.
@@ -182,6 +193,30 @@ impl<'a> Draft<'a> {
         }
     }
 
+    /// Adds the load or the store of a word that an index picks.
+    #[tactic(auto, unfolding(crate::specs::Meaning::access_added))]
+    fn add_access(
+        &mut self,
+        word: &Word<'a>,
+        access: Access,
+        element: &Element<'_>,
+    ) -> Result<(), SourceFault>
+        ensures said { OnOk result (access_added word.now access element.now (said self.old) ≡ Ok (said self.new)) }
+        ensures refused { IfErr result (IsRefusal (access_added word.now access element.now (said self.old))) }
+    {
+        let array = i32::from(self.local(&element.name)?.first);
+        let index = i32::from(self.local(&element.index)?.first);
+        self.push_all(
+            word,
+            &[
+                plain(Instr::Ldl(index)),
+                plain(Instr::Ldlp(array)),
+                plain(Instr::Wsub),
+                plain(accessing(access)),
+            ],
+        )
+    }
+
     /// Begins a loop: its two local words take the start and the count, and its head is behind.
     #[tactic(auto, unfolding(crate::specs::Meaning::loop_begun))]
     fn begin_loop(&mut self, begins: &NewLoop<'a>) -> Result<(), SourceFault>
@@ -274,6 +309,9 @@ impl<'a> Draft<'a> {
             Statement::Instruction(instruction) => return self.add_instruction(instruction),
             Statement::Message(word, message, name) => {
                 return self.add_message(word, *message, name);
+            }
+            Statement::Access(word, access, element) => {
+                return self.add_access(word, *access, element);
             }
             Statement::Begin(begins) => return self.begin_loop(begins),
             Statement::End(word, name) => return self.end_loop(word, name),

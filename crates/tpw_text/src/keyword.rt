@@ -20,12 +20,14 @@ pub enum Keyword {
     Receive,
     Send,
     Trace,
+    Load,
+    Store,
     For,
     End,
     Loop,
 }
 
-const KEYWORDS: [Keyword; 15] = [
+const KEYWORDS: [Keyword; 17] = [
     Keyword::Worker,
     Keyword::Packet,
     Keyword::Results,
@@ -38,6 +40,8 @@ const KEYWORDS: [Keyword; 15] = [
     Keyword::Receive,
     Keyword::Send,
     Keyword::Trace,
+    Keyword::Load,
+    Keyword::Store,
     Keyword::For,
     Keyword::End,
     Keyword::Loop,
@@ -60,6 +64,8 @@ fn name_of(keyword: Keyword) -> &'static str
         Keyword::Receive => "receive",
         Keyword::Send => "send",
         Keyword::Trace => "trace",
+        Keyword::Load => "load",
+        Keyword::Store => "store",
         Keyword::For => "for",
         Keyword::End => "end",
         Keyword::Loop => "loop",

@@ -33,6 +33,20 @@ pub enum Message {
     Trace,
 }
 
+/// What is done with a word that an index picks.
+#[derive(Clone, Copy)]
+pub enum Access {
+    Load,
+    Store,
+}
+
+/// Such a word: the name of the local words among which it is, and the name of the local word that holds its index.
+#[derive(Clone, Copy)]
+pub struct Element<'a> {
+    pub name: Word<'a>,
+    pub index: Word<'a>,
+}
+
 /// A number that is added to a local word's, behind a mark.
 #[derive(Clone, Copy)]
 pub struct Offset<'a> {
@@ -84,6 +98,8 @@ pub enum Statement<'a> {
     Instruction(Instruction<'a>),
     /// A message, and the name of its local words.
     Message(Word<'a>, Message, Word<'a>),
+    /// A word that an index picks is loaded or stored.
+    Access(Word<'a>, Access, Element<'a>),
     Begin(NewLoop<'a>),
     /// The innermost loop ends, which has this name.
     End(Word<'a>, Word<'a>),

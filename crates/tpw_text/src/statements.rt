@@ -2,7 +2,7 @@
 
 ghost use Rattle.std.specs.Prelude.{◌≡◌, ◌≤◌, IfOk, IfErr};
 ghost use Rattle.tpw_text.specs.Faults.{IsRefusal};
-ghost use Rattle.tpw_text.specs.Grammar.{statement_kept, field_said, version_said, initial_said, one_name_said, new_loop_said, row_said, keyword_said, statement_said};
+ghost use Rattle.tpw_text.specs.Grammar.{statement_kept, field_said, version_said, initial_said, one_name_said, element_said, new_loop_said, row_said, keyword_said, statement_said};
 
 use crate::draft::{Control, MOST_WORDS, Row};
 use crate::fault::{SourceFault, TextFault};
@@ -10,7 +10,7 @@ use crate::instructions::instruction_of;
 use crate::keyword::{Keyword, keyword_of};
 use crate::lists::{byte_lines, initial_words, new_locals};
 use crate::number::{count_of, number_of};
-use crate::statement::{Message, NewLoop, Statement};
+use crate::statement::{Access, Element, Message, NewLoop, Statement};
 use crate::wanted::{expect, expect_end, one_number, target_of, word_at};
 use crate::words::Word;
 use std::alloc::Global;
@@ -63,6 +63,19 @@ fn one_name<'a>(words: &[Word<'a>], first: &Word<'a>) -> Result<Word<'a>, Source
     let name = word_at(words, 1, first)?;
     expect_end(words, 2)?;
     Ok(name)
+}
+
+/// `NAME[INDEX]` behind `load` or `store`
+#[tactic(auto, unfolding(crate::specs::Grammar::element_said))]
+fn element<'a>(words: &[Word<'a>], first: &Word<'a>) -> Result<Element<'a>, SourceFault>
+    ensures { result ≡ element_said words.now first.now }
+{
+    let name = word_at(words, 1, first)?;
+    let opens = expect(words, 2, &name, "[")?;
+    let index = word_at(words, 3, &opens)?;
+    expect(words, 4, &index, "]")?;
+    expect_end(words, 5)?;
+    Ok(Element { name, index })
 }
 
 /// `for NAME = START for COUNT`
@@ -138,6 +151,8 @@ fn of_keyword<'a>(
         Keyword::Receive => Statement::Message(word, Message::Receive, one_name(words, first)?),
         Keyword::Send => Statement::Message(word, Message::Send, one_name(words, first)?),
         Keyword::Trace => Statement::Message(word, Message::Trace, one_name(words, first)?),
+        Keyword::Load => Statement::Access(word, Access::Load, element(words, first)?),
+        Keyword::Store => Statement::Access(word, Access::Store, element(words, first)?),
         Keyword::For => Statement::Begin(new_loop(words, first)?),
         Keyword::End => Statement::End(word, one_name(words, first)?),
         Keyword::Loop => Statement::Row(word, row(words, first)?),

@@ -12,12 +12,14 @@ use Rattle.tpw_text.specs.declared.statement.LocalInstr.{LocalInstr}
 use Rattle.tpw_text.specs.declared.statement.Instruction.{Instruction}
 use Rattle.tpw_text.specs.declared.statement.Instruction.TheVariants.{Line, OfLocal}
 use Rattle.tpw_text.specs.declared.statement.Message.{Message}
+use Rattle.tpw_text.specs.declared.statement.Access.{Access}
+use Rattle.tpw_text.specs.declared.statement.Element.{Element}
 use Rattle.tpw_text.specs.Limits.{most_words}
 use Rattle.tpw_text.specs.Faults.{then_read, each_read}
 use Rattle.tpw_text.specs.Words.{position_of}
 use Rattle.tpw_text.specs.Drafts.{Said, empty, is_full, place_named, local_named, pushed, locals_named, label_set, room_for_loop, local_said}
-use Rattle.tpw_text.specs.Grammar.{StatementSaid, SaysNothing, SetsPacket, SetsResults, SetsStart, SetsWorkspace, SetsVersion, NamesLocals, SetsInitial, AddsLines, AddsInstruction, AddsMessage, BeginsLoop, EndsLoop, AddsRow, number_line, statement_said}
-use Rattle.tpw_text.specs.Meaning.{in_turn, local_added, initial_added, initials_added, line_added, lines_pushed, operand_with, local_instr_added, instruction_added, message_lines, message_added, loop_begins, loop_begun, loop_ends, row_of, with_row, row_added, innermost, inner_ended, loop_named, loop_ended, added, unlabelled, is_colon, line_said}
+use Rattle.tpw_text.specs.Grammar.{StatementSaid, SaysNothing, SetsPacket, SetsResults, SetsStart, SetsWorkspace, SetsVersion, NamesLocals, SetsInitial, AddsLines, AddsInstruction, AddsMessage, AddsAccess, BeginsLoop, EndsLoop, AddsRow, number_line, statement_said}
+use Rattle.tpw_text.specs.Meaning.{in_turn, local_added, initial_added, initials_added, line_added, lines_pushed, operand_with, local_instr_added, instruction_added, message_lines, message_added, access_lines, access_added, loop_begins, loop_begun, loop_ends, row_of, with_row, row_added, innermost, inner_ended, loop_named, loop_ended, added, unlabelled, is_colon, line_said}
 use Rattle.tpw_text.specs.Programs.{ProgramSaid, SourceSaid, line_placed, loop_placed, ended, locals_fit, program_of, finished}
 use Rattle.tpw_text.specs.Apart.{word_for}
 use Rattle.tpw_text.specs.Texts.{words_of_lines, text_said, source_of}
@@ -88,6 +90,11 @@ a_message : (w : Word) (m : Message) (name : Word) (d : Said) → ArePaired d �
 unfolding message_added
 a_message w m name d p = then_any ArePaired (local_said d.locals name) _ (λ local. all_pushed w (message_lines m d local.first) d p)
 
+an_access : (w : Word) (a : Access) (e : Element) (d : Said) → ArePaired d → Pairs (access_added w a e d)
+unfolding access_added
+an_access w a e d p =
+    then_any ArePaired (local_said d.locals e.name) _ (λ array. then_any ArePaired (local_said d.locals e.index) _ (λ index. all_pushed w (access_lines a array.first index.first) d p))
+
 a_loop_begun : (l : NewLoop) (d : Said) → ArePaired d → Pairs (loop_begun l d)
 unfolding loop_begun
 a_loop_begun l d p =
@@ -115,6 +122,7 @@ an_addition (SetsInitial at first values) d p = initials at first values d p
 an_addition (AddsLines ls) d p = turns line_added (λ l e q. line_pushed l.word l.line e q) ls d p
 an_addition (AddsInstruction i) d p = an_instruction i d p
 an_addition (AddsMessage word message name) d p = a_message word message name d p
+an_addition (AddsAccess word access element) d p = an_access word access element d p
 an_addition (BeginsLoop l) d p = a_loop_begun l d p
 an_addition (EndsLoop word name) d p = a_loop_ended word name d p
 an_addition (AddsRow word row) d p = a_row word row d p

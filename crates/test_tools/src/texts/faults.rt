@@ -6,7 +6,7 @@ use std::process::Abort;
 use tpw_text::{SourceFault, TextFault, read_source};
 
 /// Texts, and the line, the column and the kind of their faults.
-const CASES: [(&str, usize, usize, TextFault); 48] = [
+const CASES: [(&str, usize, usize, TextFault); 58] = [
     ("ldc 1\n  frob\n", 2, 3, TextFault::Unknown),
     ("dup", 1, 1, TextFault::LeftOut),
     ("here: CALL 3", 1, 7, TextFault::LeftOut),
@@ -49,6 +49,16 @@ const CASES: [(&str, usize, usize, TextFault); 48] = [
     ("version 0", 1, 1, TextFault::OutOfRange),
     ("local n[2]\nldl n + 2", 2, 7, TextFault::OutsideLocal),
     ("local n[2], m\n stl n + -1", 2, 8, TextFault::OutsideLocal),
+    ("load", 1, 1, TextFault::Missing),
+    ("load buf", 1, 6, TextFault::Missing),
+    ("load buf i", 1, 10, TextFault::Unexpected),
+    ("load buf[", 1, 9, TextFault::Missing),
+    ("load buf[i", 1, 10, TextFault::Missing),
+    ("load buf[i[", 1, 11, TextFault::Unexpected),
+    ("load buf[i] + 1", 1, 13, TextFault::Extra),
+    ("local i\nload buf[i]", 2, 6, TextFault::NoLocal),
+    ("local buf[4]\n store buf[i]", 2, 12, TextFault::NoLocal),
+    ("local buf[4]\nstore buf[3]", 2, 11, TextFault::NoLocal),
     (
         "for i = 0 for 3\nldl i + 2\nend i",
         2,

@@ -10,9 +10,10 @@ here: mint ; a word by itself
         for i = 0 for 3
 end i
 \tldl n + 1
+ Store n[m]
 ";
 
-/// Each line has the place of the word that asks for it: the lines of a `for` and of an `end` at that word, a byte at its number.
+/// Each line has the place of the word that asks for it: the lines of a `for`, an `end` and a `store` at that word, a byte at its number.
 #[test]
 fn positions(rt: HostRuntime) {
     let wanted = [
@@ -27,6 +28,10 @@ fn positions(rt: HostRuntime) {
         (5, 1),
         (5, 1),
         (6, 2),
+        (7, 2),
+        (7, 2),
+        (7, 2),
+        (7, 2),
     ];
     let source = unwrap(&rt, read_source(rt.alloc(), TEXT));
     assert_same(&rt, &source.positions.len(), &wanted.len());
