@@ -3,6 +3,7 @@
 
 usage: client.py IMAGE PACKET.. [-- COMMAND..]     prints the result of each packet; COMMAND is farmd by default
 """
+import contextlib
 import subprocess
 import sys
 import threading
@@ -13,12 +14,17 @@ def answers(lines, command):
     farm = subprocess.Popen(command, stdin=subprocess.PIPE, stdout=subprocess.PIPE, text=True)
 
     def send():
-        with farm.stdin as stream:
+        with contextlib.suppress(BrokenPipeError), farm.stdin as stream:
             stream.writelines(line + "\n" for line in lines)
 
     threading.Thread(target=send, daemon=True).start()
-    for line in farm.stdout:
-        yield line.rstrip("\n")
+    try:
+        for line in farm.stdout:
+            yield line.rstrip("\n")
+    except GeneratorExit:
+        # Nobody reads on: the farm ends before its output does.
+        farm.kill()
+        raise
     if farm.wait() != 0:
         sys.exit(f"client: the farm ended with status {farm.returncode}")
 
@@ -27,12 +33,13 @@ def main(words):
     command = words[words.index("--") + 1 :] if "--" in words else ["farmd"]
     image, *packets = words[: words.index("--")] if "--" in words else words
     lines = [f"a IMAGE {image}", *(f"a PACKET {it}" for it in packets), "a RUN"]
-    for answer in answers(lines, command):
-        word, *fields = answer.split(" ")
-        if word == "NO":
-            sys.exit(f"client: refused: {answer}")
-        if word in ("R", "LOST"):
-            print(fields[0], fields[3] if word == "R" else "lost")
+    with contextlib.closing(answers(lines, command)) as lines_back:
+        for answer in lines_back:
+            word, *fields = answer.split(" ")
+            if word == "NO":
+                sys.exit(f"client: refused: {answer}")
+            if word in ("R", "LOST"):
+                print(fields[0], fields[3] if word == "R" else "lost")
 
 
 if __name__ == "__main__":
