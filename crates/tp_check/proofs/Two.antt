@@ -23,18 +23,18 @@ use Rattle.tp_check.proofs.Waiting.{leads_there}
 
 -- ---- one edge after the other
 
--- whatever is carried, and whatever the spare room has
-pub way_with : (image : ImageValue) (cuts : List Cut) (is_join : ℕ → Bool) (p : Passes) (left : List (Placed × Edge)) (ahead : ℕ) (whole : Table) (x y : State) → IsPlaced image x → IsPlaced image y → IsUnderWay image cuts is_join p left ahead whole → IsUnderWay image cuts is_join (record p { carried = x; spare = y }) left ahead whole
+-- whatever is carried, and whatever is saved
+pub way_with : (image : ImageValue) (cuts : List Cut) (is_join : ℕ → Bool) (p : Passes) (left : List (Placed × Edge)) (ahead : ℕ) (whole : Table) (x y : State) → IsPlaced image x → IsPlaced image y → IsUnderWay image cuts is_join p left ahead whole → IsUnderWay image cuts is_join (record p { carried = x; saved = y }) left ahead whole
 way_with image cuts is_join p left ahead whole x y fits also way = record {
-  keeps = record { flags = way.keeps.flags; takes = way.keeps.takes; carried = fits; spare = also; states = way.keeps.states; grown = way.keeps.grown; sound = way.keeps.sound };
+  keeps = record { flags = way.keeps.flags; takes = way.keeps.takes; carried = fits; saved = also; states = way.keeps.states; grown = way.keeps.grown; sound = way.keeps.sound };
   each = way.each;
   again = way.again;
   left_again = way.left_again;
 }
 
--- whatever the spare room has
-abbrev pub with_spare : (image : ImageValue) (is_join : ℕ → Bool) (p : Passes) (place : Placed) (left : List Edge) (s : State) → IsPlaced image s → AreLeft image is_join p place left → AreLeft image is_join (record p { spare = s }) place left
-with_spare image is_join p place left s fits way = record {
+-- whatever is saved
+abbrev pub with_saved : (image : ImageValue) (is_join : ℕ → Bool) (p : Passes) (place : Placed) (left : List Edge) (s : State) → IsPlaced image s → AreLeft image is_join p place left → AreLeft image is_join (record p { saved = s }) place left
+with_saved image is_join p place left s fits way = record {
   cuts = way.cuts;
   join = way.join;
   among = way.among;
@@ -107,7 +107,7 @@ module _ (image : ImageValue) (is_join : ℕ → Bool) (p : Passes) (place : Pla
 
   -- ---- after the first edge: what was carried before is carried again
 
-  module _ (fallen : Passes) (middle : Table) (goes : over image is_join ((place, first) ∷ []) way.whole ≡ Ok middle) (it : IsAfterEdge image way.cuts is_join p fallen place first (last ∷ []) way.whole middle) (back : Passes) (is_back : back ≡ record fallen { carried = p.carried; spare = fallen.carried }) where
+  module _ (fallen : Passes) (middle : Table) (goes : over image is_join ((place, first) ∷ []) way.whole ≡ Ok middle) (it : IsAfterEdge image way.cuts is_join p fallen place first (last ∷ []) way.whole middle) (back : Passes) (is_back : back ≡ record fallen { carried = p.carried; saved = fallen.carried }) where
     abbrev pub on_last : AreLeft image is_join back place (last ∷ [])
     on_last = record {
       cuts = way.cuts;
@@ -140,7 +140,7 @@ module _ (image : ImageValue) (is_join : ℕ → Bool) (p : Passes) (place : Pla
       )
 
       -- the first one leads there
-      module _ (rests : p.is_carried ≡ false) (on : fallen.is_carried ≡ true) (new : Passes) (is_new : new ≡ record jumped { carried = fallen.carried; spare = jumped.carried }) where
+      module _ (rests : p.is_carried ≡ false) (on : fallen.is_carried ≡ true) (new : Passes) (is_new : new ≡ record jumped { carried = fallen.carried; saved = jumped.carried }) where
         leads : target_of image (place, first) ≡ Some place.next
         leads = came_on image way.cuts is_join p fallen place first (last ∷ []) way.whole middle it rests on
 

@@ -101,8 +101,8 @@ pub(crate) struct Passes {
     is_again: bool,
     /// What is known before the instruction that is being taken, and then after its edge.
     carried: State,
-    /// Room for a second state: what is known before an instruction of two edges, while the first of them is taken.
-    spare: State,
+    /// What is known before an instruction of two edges, saved while the first of them is taken. Else it is of no use.
+    saved: State,
 }
 
 impl Passes {
@@ -117,7 +117,7 @@ impl Passes {
         // A look into the image tells that it is in range.
         let _ = &image.code;
         let carried = State::entry(alloc, image)?;
-        let spare = State::entry(alloc, image)?;
+        let saved = State::entry(alloc, image)?;
         let states = first_states(alloc, image, places)?;
         let changed = first_marked(alloc, places)?;
         let taken = none_marked(alloc, places)?;
@@ -128,7 +128,7 @@ impl Passes {
             is_carried: false,
             is_again: false,
             carried,
-            spare,
+            saved,
         })
     }
 
@@ -304,13 +304,13 @@ impl Passes {
             (IsBefore image.now way.cuts (is_join_at predecessors.now) self.new place.next) }
         ensures moves { IfOk result (λ moved. Moves image.now moved self.old.states.items self.new.states.items) }
     {
-        self.spare.set_to(&self.carried);
+        self.saved.set_to(&self.carried);
         let moved = self.take_edge(alloc, image, nest, predecessors, place, first)?;
         let is_next = self.is_carried;
-        mem::swap(&mut self.carried, &mut self.spare);
+        mem::swap(&mut self.carried, &mut self.saved);
         let also = self.take_edge(alloc, image, nest, predecessors, place, last)?;
         if is_next {
-            mem::swap(&mut self.carried, &mut self.spare);
+            mem::swap(&mut self.carried, &mut self.saved);
         }
         Ok(moved | also)
     }
@@ -334,7 +334,7 @@ impl Passes {
             (way : AreLeft image.now (is_join_at predecessors.now) self.old place (edge ∷ later)) →
             Carries result (over image.now (is_join_at predecessors.now) ((place, edge) ∷ []) way.whole)
             (IsAfterEdge image.now way.cuts (is_join_at predecessors.now) self.old self.new place edge later way.whole) }
-        ensures spare { self.new.spare ≡ self.old.spare }
+        ensures saved { self.new.saved ≡ self.old.saved }
         ensures moves { IfOk result (λ moved. Moves image.now moved self.old.states.items self.new.states.items) }
     {
         let Placed { at, instr, next } = place;
