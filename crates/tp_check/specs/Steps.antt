@@ -62,6 +62,7 @@ marked moved to flags = if moved then slice_set flags to true else flags
 pub record SameButStates (old new : Passes) : Type 0 where
   pub is_carried : new.is_carried ≡ old.is_carried
   pub carried : new.carried ≡ old.carried
+  pub saved : new.saved ≡ old.saved
   pub is_again : new.is_again ≡ old.is_again
   pub taken : new.taken.items ≡ old.taken.items
 
@@ -70,6 +71,7 @@ pub record SameButStates (old new : Passes) : Type 0 where
 pub record IsStarted (at : ℕ) (old new : Passes) : Type 0 where
   pub states : new.states.items ≡ old.states.items
   pub changed : new.changed.items ≡ slice_set old.changed.items at false
+  pub saved : new.saved ≡ old.saved
   pub yes : new.is_carried ≡ true → table_of old.states.items at ≡ Some new.carried
   pub again : new.is_carried ≡ true → new.is_again ≡ is_in old.taken.items at
   pub takes : new.is_carried ≡ true → new.taken.items ≡ slice_set old.taken.items at true

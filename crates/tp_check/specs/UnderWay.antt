@@ -103,6 +103,7 @@ pub record KeepsWhole (image : ImageValue) (is_join : ℕ → Bool) (p : Passes)
   pub flags : length p.changed.items ≡ length p.states.items
   pub takes : length p.taken.items ≡ length p.states.items
   pub carried : IsPlaced image p.carried
+  pub saved : IsPlaced image p.saved
   pub states : (at : ℕ) → is_join at ≡ true → whole at ≡ table_of p.states.items at
   pub grown : HasGrown image whole
   pub sound : (at : ℕ) (s : State) → whole at ≡ Some s → IsSound image s

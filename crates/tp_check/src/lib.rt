@@ -10,6 +10,6 @@ mod predecessors;
 mod states;
 mod table;
 
-pub use passes::{check_states, places_of};
+pub use passes::{asked, check_states, places_of};
 pub use states::{enter, first_states, state_at};
 pub use table::Table;

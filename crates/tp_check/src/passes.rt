@@ -101,6 +101,8 @@ pub(crate) struct Passes {
     is_again: bool,
     /// What is known before the instruction that is being taken, and then after its edge.
     carried: State,
+    /// What is known before an instruction of two edges, saved while the first of them is taken. Else it is of no use.
+    saved: State,
 }
 
 impl Passes {
@@ -115,6 +117,7 @@ impl Passes {
         // A look into the image tells that it is in range.
         let _ = &image.code;
         let carried = State::entry(alloc, image)?;
+        let saved = State::entry(alloc, image)?;
         let states = first_states(alloc, image, places)?;
         let changed = first_marked(alloc, places)?;
         let taken = none_marked(alloc, places)?;
@@ -125,6 +128,7 @@ impl Passes {
             is_carried: false,
             is_again: false,
             carried,
+            saved,
         })
     }
 
@@ -277,8 +281,8 @@ impl Passes {
         }
     }
 
-    /// Two edges are taken, each from the state that is carried: the second from a copy. Of what comes of both, that is carried on
-    /// which goes on to the next instruction.
+    /// Two edges are taken, each from the state that is carried: the second from a copy, which takes no memory. Of what comes of
+    /// both, that is carried on which goes on to the next instruction.
     fn take_two(
         &mut self,
         alloc: Global,
@@ -300,15 +304,15 @@ impl Passes {
             (IsBefore image.now way.cuts (is_join_at predecessors.now) self.new place.next) }
         ensures moves { IfOk result (λ moved. Moves image.now moved self.old.states.items self.new.states.items) }
     {
-        let mut other = self.carried.copy_of(alloc)?;
+        self.saved.set_to(&self.carried);
         let moved = self.take_edge(alloc, image, nest, predecessors, place, first)?;
         let is_next = self.is_carried;
-        mem::swap(&mut self.carried, &mut other);
+        mem::swap(&mut self.carried, &mut self.saved);
         let also = self.take_edge(alloc, image, nest, predecessors, place, last)?;
         if is_next {
-            mem::swap(&mut self.carried, &mut other);
+            mem::swap(&mut self.carried, &mut self.saved);
         }
-        Ok(moved || also)
+        Ok(moved | also)
     }
 
     /// An edge is taken: what is carried becomes what is known after it, and arrives at its target.
@@ -330,6 +334,7 @@ impl Passes {
             (way : AreLeft image.now (is_join_at predecessors.now) self.old place (edge ∷ later)) →
             Carries result (over image.now (is_join_at predecessors.now) ((place, edge) ∷ []) way.whole)
             (IsAfterEdge image.now way.cuts (is_join_at predecessors.now) self.old self.new place edge later way.whole) }
+        ensures saved { self.new.saved ≡ self.old.saved }
         ensures moves { IfOk result (λ moved. Moves image.now moved self.old.states.items self.new.states.items) }
     {
         let Placed { at, instr, next } = place;
@@ -434,7 +439,7 @@ pub fn places_of(listing: &Listing) -> usize
 }
 
 /// The edges that an instruction's rule is asked on.
-pub(crate) fn asked(instr: Instr) -> &'static [Edge]
+pub fn asked(instr: Instr) -> &'static [Edge]
     ensures { result.now ≡ asked instr }
 {
     match instr {

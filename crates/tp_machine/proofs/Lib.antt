@@ -1,4 +1,3 @@
-pub mod Casts
 pub mod Inversions
 pub mod Held
 pub mod Represented

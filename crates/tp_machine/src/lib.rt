@@ -19,7 +19,6 @@ mod run;
 mod stack;
 mod start;
 mod turn;
-mod words;
 
 pub use machine::Machine;
 pub use tp_outcome::Outcome;

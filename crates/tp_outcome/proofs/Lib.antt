@@ -1,3 +1,4 @@
+pub mod Casts
 pub mod DeviceLemmas
 pub mod StartLemmas
 pub mod Receiving

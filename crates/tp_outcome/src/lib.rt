@@ -1,7 +1,8 @@
-//! How a worker's run ends, and what it leaves its devices: what every machine answers.
+//! What both machines share: how a run ends, what it leaves its devices, and the arithmetic of words.
 #![tactic(auto)]
 
 pub mod laws;
 mod outcome;
+pub mod words;
 
 pub use outcome::Outcome;

@@ -16,7 +16,7 @@ use Rattle.tp_state.specs.Answer.{◌>>=◌, ◌>>◌, unless}
 use Rattle.tp_state.specs.Kinds.{exactly, is_exactly}
 use Rattle.tp_state.specs.CellRules.{cells_from, with_cells, are_free, are_defined}
 use Rattle.tp_state.specs.Order.{IsBelow}
-use Rattle.tp_state.specs.Rules.{rule, set_areg, given_way, descheduled, message_in, words_to_send, phase_after, channel, is_one_length, count_of, is_trace_length}
+use Rattle.tp_state.specs.Rules.{rule, set_areg, suspended, descheduled, message_in, words_to_send, phase_after, channel, is_one_length, count_of, is_trace_length}
 use Rattle.tp_state.proofs.OrderLemmas.{kind_below-self}
 use Rattle.tp_state.specs.Sound.{IsSoundCell, IsSound, IsSoundKind}
 use Rattle.std.proofs.lemmas.List.Elements.{All-replicate}
@@ -92,12 +92,12 @@ module _ {image : ImageValue} {s t : State} (pair : AreOrdered image s t) where
   same_phase e = rw (e, pair.below.phase) refl
 
   sending : (x n m : ℕ) → n ≡ m → is_exactly (channel link1_output) s.b ≡ is_exactly (channel link1_output) t.b
-      → Goes (phase_after s.b s.phase >>= λ phase. message_in image x n >> (unless S4 (are_defined (cells_from (given_way s).cells x n)) >> (descheduled s >>= λ u. Ok (record u { phase = phase }))))
-      (phase_after t.b t.phase >>= λ phase. message_in image x m >> (unless S4 (are_defined (cells_from (given_way t).cells x m)) >> (descheduled t >>= λ u. Ok (record u { phase = phase }))))
+      → Goes (phase_after s.b s.phase >>= λ phase. message_in image x n >> (unless S4 (are_defined (cells_from (suspended s).cells x n)) >> (descheduled s >>= λ u. Ok (record u { phase = phase }))))
+      (phase_after t.b t.phase >>= λ phase. message_in image x m >> (unless S4 (are_defined (cells_from (suspended t).cells x m)) >> (descheduled t >>= λ u. Ok (record u { phase = phase }))))
   sending x n m many channels =
       rw (many, same_phase channels)
       (same_then pair (phase_after t.b t.phase) _ _ λ phase. message_then pair x m _ _
-      (tested IsBelow S4 (are_defined (cells_from (given_way s).cells x m)) (are_defined (cells_from (given_way t).cells x m)) _ _ (defined_from _ _ (way_given s t pair.below) x m) λ _. sends phase))
+      (tested IsBelow S4 (are_defined (cells_from (suspended s).cells x m)) (are_defined (cells_from (suspended t).cells x m)) _ _ (defined_from _ _ (way_given s t pair.below) x m) λ _. sends phase))
 
 module _ {image : ImageValue} {s t : State} (pair : AreOrdered image s t) (at next : ℕ) (edge : Edge) where
   pub jump_follows : (n : ℤ) → KeepsOrder image s t at next edge (Jump n)

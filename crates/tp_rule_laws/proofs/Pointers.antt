@@ -14,7 +14,7 @@ use Rattle.tp_state.specs.Answer.{◌>>=◌}
 use Rattle.tp_state.specs.Kinds.{full, known, number, pointer, byte_pointer}
 use Rattle.tp_state.specs.CellRules.{cell_at, are_free, is_defined, are_defined, read}
 use Rattle.tp_state.specs.Order.{IsBelow}
-use Rattle.tp_state.specs.Rules.{rule, between, words_of_bytes, set_areg, give, with_word, with_blurred, pop_two}
+use Rattle.tp_state.specs.Rules.{rule, between, words_of_bytes, set_areg, replace_pair, with_word, with_blurred, pop_two}
 use Rattle.tp_state.proofs.OrderLemmas.{kind_below-self}
 use Rattle.tp_state.specs.Sound.{IsSound, IsSoundKind}
 use Rattle.tp_state.specs.declared.kind.Kind.TheVariants as kind
@@ -136,10 +136,10 @@ module _ {image : ImageValue} {t : State} (h : HasSoundState image t) where
   puts_byte : (w : ℕ × ℕ) → IsSound image (pop_two (with_blurred w t))
   puts_byte w = popped_two_sound image _ (blurs_sound image t w h.sound)
 
-  pointed : (w : ℕ × ℕ) → ArePlaces w → IsSound image (give (kind.Ptr w.0 w.1) t)
+  pointed : (w : ℕ × ℕ) → ArePlaces w → IsSound image (replace_pair (kind.Ptr w.0 w.1) t)
   pointed w are = gives h _ are
 
-  byte_pointed : (w : ℕ × ℕ) → ArePlaces w → IsSound image (give (kind.BytePtr w.0 w.1) t)
+  byte_pointed : (w : ℕ × ℕ) → ArePlaces w → IsSound image (replace_pair (kind.BytePtr w.0 w.1) t)
   byte_pointed w are = gives h _ are
 
   byte_set : IsSound image (set_areg (kind.Int (pos 0) (pos 255)) t)

@@ -19,7 +19,7 @@ use Rattle.tp_state.specs.declared.fault.StateCode.TheVariants.{S5}
 use Rattle.tp_state.specs.Answer.{◌>>=◌, ◌>>◌, unless}
 use Rattle.tp_state.specs.Kinds.{known, number, pointer, byte_pointer, word_in}
 use Rattle.tp_state.specs.CellRules.{cell_at, cells_from, with_cells, are_free, is_defined, read, copied, written, blurred}
-use Rattle.tp_state.specs.Rules.{rule, one_number, two_numbers, local, words_on, between, with_block, set_areg, give, no_registers, with_word, with_blurred, given_way, descheduled, words_further, bytes_on, push, pop, pop_two, below_wptr}
+use Rattle.tp_state.specs.Rules.{rule, one_number, two_numbers, local, words_on, between, with_block, set_areg, replace_pair, no_registers, with_word, with_blurred, suspended, descheduled, words_further, bytes_on, push, pop, pop_two, below_wptr}
 use Rattle.tp_state.proofs.OrderLemmas.{kind_below-self}
 use Rattle.tp_state.specs.Sound.{IsRange, IsSoundCell, IsSound, AreInOrder, IsSoundKind}
 use Rattle.std.proofs.lemmas.List.Elements.{All-set, All-take, All-drop, All-map, All-append, All-replicate}
@@ -240,7 +240,7 @@ module _ (image : ImageValue) where
 
   pub way_sound : (t : State) → IsSound image t → IfOk (descheduled t) (IsSound image)
   unfolding descheduled
-  way_sound t h = tested_sound S5 (are_free (below_wptr t)) (Ok (given_way t)) λ free. none_known _ (cells_sound t _ h long words)
+  way_sound t h = tested_sound S5 (are_free (below_wptr t)) (Ok (suspended t)) λ free. none_known _ (cells_sound t _ h long words)
     where
       long : length (with_cells t.cells (t.wptr - 5) (replicate 5 cell.Undef)) ≡ length t.cells
       long = let placed = h.placed in length-with_cells t.cells (t.wptr - 5) (replicate 5 cell.Undef) (omega (arith, length-replicate 5 cell.Undef))
@@ -274,7 +274,7 @@ module _ {image : ImageValue} {t : State} (h : HasSoundState image t) where
   pub sets : (k : Kind) → IsSoundKind k → IsSound image (set_areg k t)
   sets k ends = registers_sound image t k t.b t.c h.sound ends h.sound.b h.sound.c
 
-  pub gives : (k : Kind) → IsSoundKind k → IsSound image (give k t)
+  pub gives : (k : Kind) → IsSoundKind k → IsSound image (replace_pair k t)
   gives k ends = registers_sound image t k t.c kind.Undef h.sound ends h.sound.c tt
 
   pub reads : (x : ℕ) → IfOk (read image.loops (cell_at t.cells x)) IsSoundKind

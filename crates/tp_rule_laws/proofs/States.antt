@@ -14,7 +14,7 @@ use Rattle.tp_state.specs.declared.state.State.{State}
 use Rattle.tp_state.specs.declared.fault.StateCode.TheVariants.{S5}
 use Rattle.tp_state.specs.CellRules.{cell_at, cells_from, with_cells, is_free, are_free, are_defined, is_defined, written, blurred}
 use Rattle.tp_state.specs.Order.{kind_below, cell_below, IsBelow}
-use Rattle.tp_state.specs.Rules.{push, pop, pop_two, set_areg, give, no_registers, with_word, with_blurred, between, below_wptr, given_way, descheduled, with_block, leaving}
+use Rattle.tp_state.specs.Rules.{push, pop, pop_two, set_areg, replace_pair, no_registers, with_word, with_blurred, between, below_wptr, suspended, descheduled, with_block, leaving}
 use Rattle.tp_state.proofs.CellLemmas.{cell_at-cells_from}
 use Rattle.tp_state.proofs.CellOrder.{cell_below-self}
 use Rattle.tp_state.proofs.StretchLemmas.{all_within}
@@ -52,7 +52,7 @@ module _ (s t : State) (h : IsBelow s t) where
   pub replaced : (k l : Kind) → IsTrue (kind_below k l) → IsBelow (set_areg k s) (set_areg l t)
   replaced k l e = registers k s.b s.c l t.b t.c e h.b h.c
 
-  pub given : (k l : Kind) → IsTrue (kind_below k l) → IsBelow (give k s) (give l t)
+  pub given : (k l : Kind) → IsTrue (kind_below k l) → IsBelow (replace_pair k s) (replace_pair l t)
   given k l e = registers k s.c kind.Undef l t.c kind.Undef e h.c (search rules)
 
   pub no_more_known : IsBelow (no_registers s) (no_registers t)
@@ -78,15 +78,15 @@ module _ (s t : State) (h : IsBelow s t) where
   five_words : AreBelow (with_cells s.cells (s.wptr - 5) (replicate 5 cell.Undef)) (with_cells t.cells (t.wptr - 5) (replicate 5 cell.Undef))
   five_words = rw h.wptr (replaced_below (t.wptr - 5) s.cells t.cells (replicate 5 cell.Undef) (replicate 5 cell.Undef) (cells_of s t h) (below_themselves (replicate 5 cell.Undef)))
 
-  pub way_given : IsBelow (given_way s) (given_way t)
+  pub way_given : IsBelow (suspended s) (suspended t)
   way_given = record {
     wptr = h.wptr;
     phase = h.phase;
     a = search rules;
     b = search rules;
     c = search rules;
-    sized = as_long (given_way s).cells (given_way t).cells five_words;
-    cells = to_place (given_way s).cells (given_way t).cells five_words;
+    sized = as_long (suspended s).cells (suspended t).cells five_words;
+    cells = to_place (suspended s).cells (suspended t).cells five_words;
   }
 
   pub gives_way : Follows IsBelow (descheduled s) (descheduled t)

@@ -5,7 +5,7 @@ use Rattle.tp_decode.specs.declared.instr.Instr.{Instr}
 use Rattle.tp_image.specs.declared.image.LoopRow.{LoopRow}
 use Rattle.tp_image.specs.Image.{ImageValue}
 use Rattle.tp_step.specs.Memory.{Memory}
-use Rattle.tp_step.specs.State.{State as Machine, give as machine_give}
+use Rattle.tp_step.specs.State.{State as Machine, replace_pair as machine_replace_pair}
 use Rattle.tp_step.specs.Effects.{effect}
 use Rattle.tp_state.specs.declared.kind.Kind.{Kind}
 use Rattle.tp_state.specs.declared.kind.Kind.TheVariants as kind
@@ -13,7 +13,7 @@ use Rattle.tp_state.specs.declared.cell.Cell.{Cell}
 use Rattle.tp_state.specs.declared.state.State.{State}
 use Rattle.tp_state.specs.declared.fault.StateCode.{StateCode}
 use Rattle.tp_state.specs.Answer.{◌>>=◌}
-use Rattle.tp_state.specs.Rules.{one_number, two_numbers, give, set_areg}
+use Rattle.tp_state.specs.Rules.{one_number, two_numbers, replace_pair, set_areg}
 use Rattle.tp_state.specs.Fits.{InRange, KindFits, FitsAmong}
 use Rattle.tp_state.specs.GoesOn.{turns_in}
 use Rattle.tp_state.proofs.Passing.{through, same_Ok}
@@ -75,8 +75,8 @@ module _ (image : ImageValue) (around : ℕ → Bool) (at : ℕ) (t : State) (s 
   -- Areg and Breg are numbers, of which one is made
   pub operated : (instr : Instr) (t' : State) (k : ℤ × ℤ → ℤ × ℤ → Kind) (w : ℕ → ℕ → ℕ) (error : ℕ → ℕ → Bool) (out : ℕ → ℕ → Machine)
       → effect image instr s ≡ option_and_then (λ a. option_and_then (λ b. Some (out b a)) s.breg) s.areg
-      → ((b a : ℕ) → out b a ≡ machine_give (w b a) (record s { error = error b a }))
-      → (two_numbers t >>= (λ p. Ok (give (k p.1 p.0) t))) ≡ Ok t'
+      → ((b a : ℕ) → out b a ≡ machine_replace_pair (w b a) (record s { error = error b a }))
+      → (two_numbers t >>= (λ p. Ok (replace_pair (k p.1 p.0) t))) ≡ Ok t'
       → ((a b : ℤ × ℤ) (x y : ℕ) → InRange a.0 a.1 x → InRange b.0 b.1 y → KindFits image (k b a) (Some (w y x)))
       → Makes image around None at instr t' s
   operated instr t' k w error out effect_is out_is ok fits =

@@ -25,7 +25,7 @@ use Rattle.tp_state.specs.declared.fault.StateCode.TheVariants.{S3, S4, S5, S7, 
 use Rattle.tp_state.specs.Answer.{◌>>◌, unless}
 use Rattle.tp_state.specs.Kinds.{known, number, one_word, is_exactly}
 use Rattle.tp_state.specs.CellRules.{cell_at, cells_from, with_cells, are_free, is_defined, are_defined}
-use Rattle.tp_state.specs.Rules.{rule, message_in, words_to_send, phase_after, descheduled, given_way, channel, is_one_length, is_trace_length, count_of}
+use Rattle.tp_state.specs.Rules.{rule, message_in, words_to_send, phase_after, descheduled, suspended, channel, is_one_length, is_trace_length, count_of}
 use Rattle.tp_state.specs.Fits.{InRange, KindFits, CellFits, FitsAmong, WordsFit, word_address}
 use Rattle.tp_state.proofs.Passing.{through, past, past_is, held, holds, same_Ok, true_false}
 use Rattle.tp_state.proofs.WordLemmas.{natural_signed, signed_same, words_inside}
@@ -323,7 +323,7 @@ module _ (image : ImageValue) (around : ℕ → Bool) (next : ℕ) (t : State) (
       through (words_to_send image t.b a) _ t' ok λ n n_is ok.
       through (phase_after t.b t.phase) _ t' ok λ after after_is ok.
       past_is (message_in image x n) _ t' ok λ b b_is ok.
-      held S4 (are_defined (cells_from (given_way t).cells x n)) _ t' ok λ defined ok.
+      held S4 (are_defined (cells_from (suspended t).cells x n)) _ t' ok λ defined ok.
       through (descheduled t) _ t' ok λ u u_is ok.
       message_inside image x n b b_is λ inside.
       one_word_is image t.c s.creg x x_is f.registers.c λ c_is lt.

@@ -15,7 +15,7 @@ use Rattle.tp_image.specs.Image.{ImageValue}
 use Rattle.tp_flow.specs.declared.edge.Edge.{Edge}
 use Rattle.tp_step.specs.Maybe.{only_if, ◌>>◌ as ◌>>?◌}
 use Rattle.tp_step.specs.Numbers.{overflows, truth, least_integer, greatest_integer, minus_one}
-use Rattle.tp_step.specs.State.{State as Machine, give as machine_give}
+use Rattle.tp_step.specs.State.{State as Machine, replace_pair as machine_replace_pair}
 use Rattle.tp_step.specs.Effects.{effect, divided, is_shift_count as machine_shift_count}
 use Rattle.tp_state.specs.declared.kind.Kind.{Kind}
 use Rattle.tp_state.specs.declared.kind.Kind.TheVariants as kind
@@ -23,7 +23,7 @@ use Rattle.tp_state.specs.declared.state.State.{State}
 use Rattle.tp_state.specs.declared.fault.StateCode.TheVariants.{S10}
 use Rattle.tp_state.specs.Kinds.{full, range, at_ends}
 use Rattle.tp_state.specs.Answer.{◌>>=◌, ◌>>◌, unless}
-use Rattle.tp_state.specs.Rules.{give, power, rule, one_number, two_numbers, sum_of, difference, product, is_positive, quotients, remainders, conjunctions, shifted_up, shifted_down, truth_value, are_shift_counts}
+use Rattle.tp_state.specs.Rules.{replace_pair, power, rule, one_number, two_numbers, sum_of, difference, product, is_positive, quotients, remainders, conjunctions, shifted_up, shifted_down, truth_value, are_shift_counts}
 use Rattle.tp_state.specs.Fits.{InRange, KindFits, FitsAmong}
 use Rattle.tp_state.proofs.Passing.{through, bound, held, past_is}
 use Rattle.tp_state.proofs.Products.{between_corners, mul_up, div_more, quotient_up, remainder_low, remainder_high, remainder_sign}
@@ -101,11 +101,11 @@ divided_word divide b a = if refuses b a then 0 else low_word (divide b a)
 divided_error : ℤ → ℤ → Bool → Bool
 divided_error b a error = if refuses b a then true else error
 
-divided_is : (divide : ℤ → ℤ → ℤ) (b a : ℤ) (s : Machine) → divided divide b a s ≡ machine_give (divided_word divide b a) (record s { error = divided_error b a s.error })
+divided_is : (divide : ℤ → ℤ → ℤ) (b a : ℤ) (s : Machine) → divided divide b a s ≡ machine_replace_pair (divided_word divide b a) (record s { error = divided_error b a s.error })
 unfolding refuses divided_word divided_error
 divided_is divide b a s = by_test (int_eq a (pos 0) || (int_eq b least_integer && int_eq a minus_one))
   where
-    by_test : (c : Bool) → (if c then machine_give 0 (record s { error = true }) else machine_give (low_word (divide b a)) s) ≡ machine_give (if c then 0 else low_word (divide b a)) (record s { error = if c then true else s.error })
+    by_test : (c : Bool) → (if c then machine_replace_pair 0 (record s { error = true }) else machine_replace_pair (low_word (divide b a)) s) ≡ machine_replace_pair (if c then 0 else low_word (divide b a)) (record s { error = if c then true else s.error })
     by_test true = refl
     by_test false = refl
 
@@ -443,8 +443,8 @@ module _ (image : ImageValue) (around : ℕ → Bool) (next : ℕ) (t : State) (
 
   -- the count is from 0 to 31
   shifted : (instr : Instr) (k : ℤ × ℤ → ℤ × ℤ → Kind) (w : ℕ → ℕ → ℕ)
-      → effect image instr s ≡ option_and_then (λ a. option_and_then (λ b. only_if (machine_shift_count a) >>? Some (machine_give (w b a) s)) s.breg) s.areg
-      → (two_numbers t >>= (λ p. unless S10 (are_shift_counts p.0) >> Ok (give (k p.1 p.0) t))) ≡ Ok t'
+      → effect image instr s ≡ option_and_then (λ a. option_and_then (λ b. only_if (machine_shift_count a) >>? Some (machine_replace_pair (w b a) s)) s.breg) s.areg
+      → (two_numbers t >>= (λ p. unless S10 (are_shift_counts p.0) >> Ok (replace_pair (k p.1 p.0) t))) ≡ Ok t'
       → ((a b : ℤ × ℤ) (x y : ℕ) → AreCounts a x → InRange b.0 b.1 y → KindFits image (k b a) (Some (w y x)))
       → Makes image around None next instr t' s
   shifted instr k w effect_is ok fits =
@@ -458,7 +458,7 @@ module _ (image : ImageValue) (around : ℕ → Bool) (next : ℕ) (t : State) (
       (effect_is ∙ shift_there w s.areg s.breg x y x_is y_is (shift_test p.0 x c)) ok (fits p.0 p.1 x y c in_b) f.registers.c tt
     where
       shift_there : (w : ℕ → ℕ → ℕ) (ra rb : Option ℕ) (a b : ℕ) → ra ≡ Some a → rb ≡ Some b → nat_lt a 32 ≡ true
-          → option_and_then (λ a. option_and_then (λ b. only_if (machine_shift_count a) >>? Some (machine_give (w b a) s)) rb) ra ≡ Some (machine_give (w b a) s)
+          → option_and_then (λ a. option_and_then (λ b. only_if (machine_shift_count a) >>? Some (machine_replace_pair (w b a) s)) rb) ra ≡ Some (machine_replace_pair (w b a) s)
       shift_there w ra rb a b is its test = rw (is, its, test)
 
   pub shr_makes : rule image at next Shr e t ≡ Ok t' → Makes image around None next Shr t' s

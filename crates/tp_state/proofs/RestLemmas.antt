@@ -8,7 +8,7 @@ use Rattle.tp_state.specs.declared.cell.Cell.TheVariants as cell
 use Rattle.tp_state.specs.declared.state.State.{State}
 use Rattle.tp_state.specs.declared.fault.StateCode.TheVariants.{S5}
 use Rattle.tp_state.specs.CellRules.{with_cells, are_free}
-use Rattle.tp_state.specs.Rules.{below_wptr, given_way, descheduled}
+use Rattle.tp_state.specs.Rules.{below_wptr, suspended, descheduled}
 use Rattle.tp_state.specs.Fits.{FitsAmong, word_address}
 use Rattle.tp_state.proofs.Passing.{held, same_Ok}
 use Rattle.tp_state.proofs.WordsChange.{Change}
@@ -41,8 +41,8 @@ module _ (image : ImageValue) (around : ℕ → Bool) (at : ℕ) (t : State) (s 
         subst (λ a. Change image.loops image.workspace t.cells (with_cells t.cells (t.wptr - 5) (replicate 5 cell.Undef)) s.memory (undefined s.memory a 20)) from
         (undefined_taken image.loops image.workspace t.cells s.memory (t.wptr - 5) 5 (omega (arith, f.words.sized)) free)
 
-    pub given_way_fits : FitsAmong image around at (given_way t) (rested s)
-    given_way_fits =
+    pub suspended_fits : FitsAmong image around at (suspended t) (rested s)
+    suspended_fits =
         let w = words_fit image around at t s f (with_cells t.cells (t.wptr - 5) (replicate 5 cell.Undef)) (undefined s.memory (s.wptr - 20) 20) rest_change (undefined_small s.memory (s.wptr - 20) 20 f.bytes.memory) in
         record {
           place = record { running = w.place.running; iptr = w.place.iptr; oreg = w.place.oreg; wptr = w.place.wptr; roomy = w.place.roomy; inside = w.place.inside };
@@ -58,12 +58,12 @@ module _ (image : ImageValue) (around : ℕ → Bool) (at : ℕ) (t : State) (s 
     rest_turns = words_turns image around at t s f (with_cells t.cells (t.wptr - 5) (replicate 5 cell.Undef)) (undefined s.memory (s.wptr - 20) 20) rest_change
 
   -- the rule of descheduling refused nothing
-  pub rest : {P : Type 0} (t' : State) → descheduled t ≡ Ok t' → (are_free (below_wptr t) ≡ true → FitsAmong image around at t' (rested s) → KeepsTurns image.loops around None s.memory (rested s).memory → given_way t ≡ t' → P) → P
+  pub rest : {P : Type 0} (t' : State) → descheduled t ≡ Ok t' → (are_free (below_wptr t) ≡ true → FitsAmong image around at t' (rested s) → KeepsTurns image.loops around None s.memory (rested s).memory → suspended t ≡ t' → P) → P
   unfolding descheduled
   rest t' ok go =
       held S5 (are_free (below_wptr t)) _ t' ok λ free ok.
-      let same = same_Ok (given_way t) t' ok in
-      go free (subst (λ u. FitsAmong image around at u (rested s)) same (given_way_fits free)) (rest_turns free) same
+      let same = same_Ok (suspended t) t' ok in
+      go free (subst (λ u. FitsAmong image around at u (rested s)) same (suspended_fits free)) (rest_turns free) same
 
 -- a state that fits, at another place
 pub fits_at : (image : ImageValue) (around : ℕ → Bool) (at to : ℕ) (t : State) (s : Machine) (z : ℤ) → z ≡ pos to → FitsAmong image around at t s → FitsAmong image around to t (record s { iptr = z })

@@ -43,8 +43,8 @@ pop_two t = record t { a = t.c; b = kind.Undef; c = kind.Undef }
 abbrev pub set_areg : Kind → State → State
 set_areg k t = record t { a = k }
 
-abbrev pub give : Kind → State → State
-give k t = record t { a = k; b = t.c; c = kind.Undef }
+abbrev pub replace_pair : Kind → State → State
+replace_pair k t = record t { a = k; b = t.c; c = kind.Undef }
 
 abbrev pub no_registers : State → State
 no_registers t = record t { a = kind.Undef; b = kind.Undef; c = kind.Undef }
@@ -121,14 +121,14 @@ abbrev pub below_wptr : State → List Cell
 below_wptr t = cells_from t.cells (t.wptr - 5) 5
 
 -- registers and the five words below Wptr undefined
-abbrev pub given_way : State → State
-given_way t = no_registers (record t { cells = with_cells t.cells (t.wptr - 5) (replicate 5 cell.Undef) })
+abbrev pub suspended : State → State
+suspended t = no_registers (record t { cells = with_cells t.cells (t.wptr - 5) (replicate 5 cell.Undef) })
 
 -- the same, unless one of these is a live control word
 unfoldable pub descheduled : State → Result State StateCode
 descheduled t = do
   unless S5 (are_free (below_wptr t))
-  Ok (given_way t)
+  Ok (suspended t)
 
 -- ---- numbers
 
@@ -346,15 +346,15 @@ rule image at next Bsub edge t = do
   p ← byte_pointer t.a
   b ← number t.b
   w ← bytes_on image p b
-  Ok (give (kind.BytePtr w.0 w.1) t)
+  Ok (replace_pair (kind.BytePtr w.0 w.1) t)
 -- diff
 rule image at next Diff edge t = do
   (a, b) ← two_numbers t
-  Ok (give (at_ends difference b a) t)
+  Ok (replace_pair (at_ends difference b a) t)
 -- add
 rule image at next Add edge t = do
   (a, b) ← two_numbers t
-  Ok (give (at_ends sum_of b a) t)
+  Ok (replace_pair (at_ends sum_of b a) t)
 -- in: the packet, whole, on its channel, once, to one place; the process is descheduled after it is written
 rule image at next Input edge t = do
   known t.a
@@ -372,11 +372,11 @@ rule image at next Input edge t = do
 -- prod
 rule image at next Prod edge t = do
   (a, b) ← two_numbers t
-  Ok (give (at_ends product b a) t)
+  Ok (replace_pair (at_ends product b a) t)
 -- gt
 rule image at next Gt edge t = do
   two_numbers t
-  Ok (give truth_value t)
+  Ok (replace_pair truth_value t)
 -- wsub
 rule image at next Wsub edge t = do
   known t.a
@@ -384,7 +384,7 @@ rule image at next Wsub edge t = do
   p ← pointer t.a
   b ← number t.b
   w ← words_on image p b
-  Ok (give (kind.Ptr w.0 w.1) t)
+  Ok (replace_pair (kind.Ptr w.0 w.1) t)
 -- out: the result, or a trace message, from one place; the process is descheduled before it is read
 rule image at next Output edge t = do
   known t.a
@@ -396,13 +396,13 @@ rule image at next Output edge t = do
   n ← words_to_send image t.b a
   phase ← phase_after t.b t.phase
   message_in image x n
-  unless S4 (are_defined (cells_from (given_way t).cells x n))
+  unless S4 (are_defined (cells_from (suspended t).cells x n))
   t ← descheduled t
   Ok (record t { phase = phase })
 -- sub
 rule image at next Sub edge t = do
   (a, b) ← two_numbers t
-  Ok (give (at_ends difference b a) t)
+  Ok (replace_pair (at_ends difference b a) t)
 -- seterr
 rule image at next Seterr edge t = Ok t
 -- csub0
@@ -416,7 +416,7 @@ rule image at next Stopp edge t = do
 -- rem
 rule image at next Rem edge t = do
   (a, b) ← two_numbers t
-  Ok (give (remainders b a) t)
+  Ok (replace_pair (remainders b a) t)
 -- lend: of the loop that ends here, by its block and its distance
 rule image at next Lend edge t = do
   known t.a
@@ -430,7 +430,7 @@ rule image at next Lend edge t = do
 -- div
 rule image at next Div edge t = do
   (a, b) ← two_numbers t
-  Ok (give (quotients b a) t)
+  Ok (replace_pair (quotients b a) t)
 -- not
 rule image at next BitNot edge t = do
   a ← one_number t
@@ -438,7 +438,7 @@ rule image at next BitNot edge t = do
 -- xor
 rule image at next BitXor edge t = do
   two_numbers t
-  Ok (give full t)
+  Ok (replace_pair full t)
 -- sb
 rule image at next Sb edge t = do
   known t.a
@@ -452,18 +452,18 @@ rule image at next Sb edge t = do
 rule image at next Shr edge t = do
   (a, b) ← two_numbers t
   unless S10 (are_shift_counts a)
-  Ok (give (shifted_down b a) t)
+  Ok (replace_pair (shifted_down b a) t)
 -- shl
 rule image at next Shl edge t = do
   (a, b) ← two_numbers t
   unless S10 (are_shift_counts a)
-  Ok (give (shifted_up b a) t)
+  Ok (replace_pair (shifted_up b a) t)
 -- mint
 rule image at next Mint edge t = Ok (push (exactly least_integer) t)
 -- and
 rule image at next BitAnd edge t = do
   (a, b) ← two_numbers t
-  Ok (give (conjunctions b a) t)
+  Ok (replace_pair (conjunctions b a) t)
 -- move: from one place to another
 rule image at next MoveBytes edge t = do
   unless S11 (has_move image.version)
@@ -481,15 +481,15 @@ rule image at next MoveBytes edge t = do
 -- or
 rule image at next BitOr edge t = do
   two_numbers t
-  Ok (give full t)
+  Ok (replace_pair full t)
 -- sum
 rule image at next Sum edge t = do
   (a, b) ← two_numbers t
-  Ok (give (at_ends sum_of b a) t)
+  Ok (replace_pair (at_ends sum_of b a) t)
 -- mul
 rule image at next Mul edge t = do
   (a, b) ← two_numbers t
-  Ok (give (at_ends product b a) t)
+  Ok (replace_pair (at_ends product b a) t)
 
 -- ---- a call that changes a state in place
 

@@ -5,7 +5,7 @@ ghost use Rattle.tp_state.specs.Answer.{answered};
 ghost use Rattle.tp_state.specs.Conditions.{KeepsPlace, IsPlaced};
 ghost use Rattle.tp_state.specs.Order.{AgreeOnValues, IsBelow, join, join_kinds, meeting, TellsChange};
 ghost use Rattle.tp_state.specs.Entry.{entry};
-ghost use Rattle.tp_state.specs.Rules.{push, pop, pop_two, set_areg, give, no_registers, one_number, two_numbers, local, below_wptr, given_way, descheduled};
+ghost use Rattle.tp_state.specs.Rules.{push, pop, pop_two, set_areg, replace_pair, no_registers, one_number, two_numbers, local, below_wptr, suspended, descheduled};
 ghost use Rattle.tp_state.specs.CellRules.{are_free};
 ghost use Rattle.tp_state.specs.Kinds.{HasWordEnds};
 
@@ -201,8 +201,8 @@ impl State {
         self.a = kind;
     }
 
-    pub(crate) fn give(&mut self, kind: Kind)
-        ensures { self.new ≡ give kind self.old }
+    pub(crate) fn replace_pair(&mut self, kind: Kind)
+        ensures { self.new ≡ replace_pair kind self.old }
     {
         self.a = kind;
         self.b = self.c;
@@ -248,10 +248,10 @@ impl State {
     }
 
     /// Registers and the five words below Wptr are undefined.
-    pub(crate) fn give_way(&mut self)
+    pub(crate) fn suspend(&mut self)
         requires roomy { 5 ≤ self.old.wptr }
         requires inside { self.old.wptr ≤ length self.old.cells }
-        ensures value { self.new ≡ given_way self.old }
+        ensures value { self.new ≡ suspended self.old }
         ensures kept { KeepsPlace self.old self.new }
     {
         self.cells.fill(
@@ -263,7 +263,7 @@ impl State {
     }
 
     /// Whether no live control word is among the five words below Wptr.
-    pub(crate) fn may_give_way(&self) -> bool
+    pub(crate) fn may_be_suspended(&self) -> bool
         requires { 5 ≤ self.now.wptr }
         ensures { result ≡ are_free (below_wptr self.now) }
     {
@@ -279,10 +279,10 @@ impl State {
         ensures value { answered result self.new ≡ descheduled self.old }
         ensures kept { KeepsPlace self.old self.new }
     {
-        if !self.may_give_way() {
+        if !self.may_be_suspended() {
             return Err(StateCode::S5);
         }
-        self.give_way();
+        self.suspend();
         Ok(())
     }
 }

@@ -1,4 +1,3 @@
-pub mod Casts
 pub mod BytesLemmas
 pub mod MessageLemmas
 pub mod ExchangeLemmas

@@ -1,5 +1,5 @@
 //! The instructions that move messages, and the end: each effect is that of the instruction table.
-#![tactic(auto, using(crate::proofs::Casts::casts), unfolding(tp_step::specs::Effects::effect))]
+#![tactic(auto, using(tp_outcome::proofs::Casts::casts), unfolding(tp_step::specs::Effects::effect))]
 
 ghost use Rattle.std.specs.Prelude.{◌≡◌, ◌+◌, ◌-◌, ◌*◌, ◌==◌, ◌≤◌, ◌<◌, ◌&&◌, true, if◌then◌else◌, Some, None, Ok, take, drop, MatchResult};
 ghost use Rattle.tp_decode.specs.declared.instr.Instr.TheVariants.{Input, Output, MoveBytes};

@@ -11,10 +11,10 @@ use crate::machine::Machine;
 use crate::phase::Phase;
 use crate::places::code_byte;
 use crate::turn::Turn;
-use crate::words::{shifted, shifted_complement};
 use tp_decode::Instr;
 use tp_image::Image;
 use tp_link::{LinkDevice, Links};
+use tp_outcome::words::{shifted, shifted_complement};
 
 impl Machine {
     ghost use Rattle.tpw_machine.specs.Meaning.{state_of, Made, Turned, Messages};

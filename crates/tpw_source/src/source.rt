@@ -1,5 +1,8 @@
 //! What a text says of the code that it is assembled to.
 
+ghost use Rattle.std.specs.Prelude.{◌≡◌, option_map};
+ghost use Rattle.tpw_source.specs.Said.{statement_at, line_before, is_word_of, named, named_from};
+
 use std::fmt;
 use tp_image::LoopRow;
 
@@ -29,7 +32,9 @@ pub struct Named<'a> {
 
 impl<'a> Named<'a> {
     /// Whether it names a word.
-    pub fn has(&self, word: usize) -> bool {
+    pub fn has(&self, word: usize) -> bool
+        ensures { result ≡ is_word_of self.now word }
+    {
         self.first <= word && word.saturating_sub(self.first) < self.words
     }
 
@@ -74,7 +79,9 @@ impl<'a> SourceText<'a> {
     };
 
     /// The statement that says the instruction at an address.
-    pub fn statement_at(&self, at: usize) -> Option<Statement<'a>> {
+    pub fn statement_at(&self, at: usize) -> Option<Statement<'a>>
+        ensures { result ≡ statement_at self.now.statements.now at }
+    {
         self.statements
             .iter()
             .copied()
@@ -82,7 +89,9 @@ impl<'a> SourceText<'a> {
     }
 
     /// The name of a word, if it is the first of one.
-    pub fn name_of(&self, word: usize) -> Option<&'a str> {
+    pub fn name_of(&self, word: usize) -> Option<&'a str>
+        ensures { result ≡ option_map (λ n. n.name) (named_from self.now.words.now word) }
+    {
         self.words
             .iter()
             .find(|named| named.first == word)
@@ -90,14 +99,14 @@ impl<'a> SourceText<'a> {
     }
 
     /// The line of the last statement before an address.
-    pub fn line_before(&self, at: usize) -> Option<usize> {
-        let mut line = None;
-        for statement in self.statements {
-            if statement.at < at {
-                line = Some(statement.line);
-            }
-        }
-        line
+    pub fn line_before(&self, at: usize) -> Option<usize>
+        ensures { result ≡ line_before self.now.statements.now at }
+    {
+        self.statements
+            .iter()
+            .rev()
+            .find(|statement| statement.at < at)
+            .map(|statement| statement.line)
     }
 
     /// The loop of a row, by its name.
@@ -111,7 +120,9 @@ impl<'a> SourceText<'a> {
     }
 
     /// The name that a word has, if it has one.
-    pub fn named(&self, word: usize) -> Option<Named<'a>> {
+    pub fn named(&self, word: usize) -> Option<Named<'a>>
+        ensures { result ≡ named self.now.words.now word }
+    {
         self.words.iter().copied().find(|named| named.has(word))
     }
 

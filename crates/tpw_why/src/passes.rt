@@ -14,9 +14,9 @@ ghost use Rattle.tpw_why.specs.FirstRefusals.{IfFound, IsFirstRefusal, EndsAs};
 
 use crate::refusal::{EdgeRefusal, FirstRefusal};
 use std::alloc::{AllocError, Global};
-use tp_check::{enter, first_states, places_of, state_at};
-use tp_decode::{Instr, Listing, Placed};
-use tp_flow::{Edge, Nest, edges};
+use tp_check::{asked, enter, first_states, places_of, state_at};
+use tp_decode::{Listing, Placed};
+use tp_flow::{Edge, Nest};
 use tp_image::Image;
 use tp_state::{State, StateFault, after};
 
@@ -84,16 +84,6 @@ fn add_edges(all: &mut Vec<Asked>, place: Placed) -> Result<(), AllocError>
         all.push((place, *edge))?;
     }
     Ok(())
-}
-
-/// The edges that an instruction's rule is asked on.
-pub(crate) fn asked(instr: Instr) -> &'static [Edge]
-    ensures { result.now ≡ asked instr }
-{
-    match instr {
-        Instr::Stopp => &[Edge::Next],
-        instr => edges(instr),
-    }
 }
 
 /// One pass: each edge in turn, up to the first that is refused. It answers whether a state has changed, or with that refusal.

@@ -147,12 +147,12 @@ impl State {
         let n = words_to_send(image, self.b, a)?;
         let phase = phase_after(self.b, self.phase)?;
         message_in(image, x, n)?;
-        let may_give_way = self.may_give_way();
-        self.give_way();
+        let may_be_suspended = self.may_be_suspended();
+        self.suspend();
         if !self.cells.are_defined(x as usize, n as usize) {
             return Err(StateCode::S4);
         }
-        if !may_give_way {
+        if !may_be_suspended {
             return Err(StateCode::S5);
         }
         self.phase = phase;

@@ -57,7 +57,7 @@ impl State {
         ensures kept { KeepsPlace self.old self.new }
     {
         let (a, b) = self.two_numbers()?;
-        self.give(sums(b, a));
+        self.replace_pair(sums(b, a));
         Ok(())
     }
 
@@ -69,7 +69,7 @@ impl State {
         ensures kept { KeepsPlace self.old self.new }
     {
         let (a, b) = self.two_numbers()?;
-        self.give(differences(b, a));
+        self.replace_pair(differences(b, a));
         Ok(())
     }
 
@@ -81,7 +81,7 @@ impl State {
         ensures kept { KeepsPlace self.old self.new }
     {
         let (a, b) = self.two_numbers()?;
-        self.give(products(b, a));
+        self.replace_pair(products(b, a));
         Ok(())
     }
 
@@ -92,7 +92,7 @@ impl State {
         ensures kept { KeepsPlace self.old self.new }
     {
         let (a, b) = self.two_numbers()?;
-        self.give(quotients(b, a));
+        self.replace_pair(quotients(b, a));
         Ok(())
     }
 
@@ -103,7 +103,7 @@ impl State {
         ensures kept { KeepsPlace self.old self.new }
     {
         let (a, b) = self.two_numbers()?;
-        self.give(remainders(b, a));
+        self.replace_pair(remainders(b, a));
         Ok(())
     }
 
@@ -114,7 +114,7 @@ impl State {
         ensures kept { KeepsPlace self.old self.new }
     {
         let (a, b) = self.two_numbers()?;
-        self.give(conjunctions(b, a));
+        self.replace_pair(conjunctions(b, a));
         Ok(())
     }
 
@@ -126,7 +126,7 @@ impl State {
         ensures kept { KeepsPlace self.old self.new }
     {
         self.two_numbers()?;
-        self.give(FULL);
+        self.replace_pair(FULL);
         Ok(())
     }
 
@@ -137,7 +137,7 @@ impl State {
         ensures kept { KeepsPlace self.old self.new }
     {
         self.two_numbers()?;
-        self.give(TRUTH_VALUE);
+        self.replace_pair(TRUTH_VALUE);
         Ok(())
     }
 
@@ -162,7 +162,7 @@ impl State {
         if !are_shift_counts(a) {
             return Err(StateCode::S10);
         }
-        self.give(shifted_down(b, a));
+        self.replace_pair(shifted_down(b, a));
         Ok(())
     }
 
@@ -176,7 +176,7 @@ impl State {
         if !are_shift_counts(a) {
             return Err(StateCode::S10);
         }
-        self.give(shifted_up(b, a));
+        self.replace_pair(shifted_up(b, a));
         Ok(())
     }
 }

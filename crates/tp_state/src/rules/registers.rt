@@ -100,7 +100,7 @@ impl State {
         let p = self.a.pointer()?;
         let b = self.b.number()?;
         let (first, last) = words_on(image, p, b)?;
-        self.give(Kind::Ptr(first, last));
+        self.replace_pair(Kind::Ptr(first, last));
         Ok(())
     }
 
@@ -114,7 +114,7 @@ impl State {
         let p = self.a.byte_pointer()?;
         let b = self.b.number()?;
         let (first, last) = bytes_on(image, p, b)?;
-        self.give(Kind::BytePtr(first, last));
+        self.replace_pair(Kind::BytePtr(first, last));
         Ok(())
     }
 

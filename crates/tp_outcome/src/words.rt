@@ -9,7 +9,7 @@ ghost use Rattle.tp_step.specs.Numbers.{overflows, words_on, truth, least_intege
 
 /// The low 32 bits of a sum, and whether it overflows, read signed.
 #[inline(always)]
-pub(crate) fn checked_sum(b: u32, a: u32) -> (u32, bool)
+pub fn checked_sum(b: u32, a: u32) -> (u32, bool)
     ensures low { result.0 ≡ low_word (signed b +ℤ signed a) }
     ensures flag { result.1 ≡ overflows (signed b +ℤ signed a) }
 {
@@ -19,7 +19,7 @@ pub(crate) fn checked_sum(b: u32, a: u32) -> (u32, bool)
 
 /// The low 32 bits of a difference, and whether it overflows, read signed.
 #[inline(always)]
-pub(crate) fn checked_difference(b: u32, a: u32) -> (u32, bool)
+pub fn checked_difference(b: u32, a: u32) -> (u32, bool)
     ensures low { result.0 ≡ low_word (signed b -ℤ signed a) }
     ensures flag { result.1 ≡ overflows (signed b -ℤ signed a) }
 {
@@ -29,7 +29,7 @@ pub(crate) fn checked_difference(b: u32, a: u32) -> (u32, bool)
 
 /// The low 32 bits of a product, and whether it overflows, read signed.
 #[inline(always)]
-pub(crate) fn checked_product(b: u32, a: u32) -> (u32, bool)
+pub fn checked_product(b: u32, a: u32) -> (u32, bool)
     ensures low { result.0 ≡ low_word (signed b *ℤ signed a) }
     ensures flag { result.1 ≡ overflows (signed b *ℤ signed a) }
 {
@@ -39,7 +39,7 @@ pub(crate) fn checked_product(b: u32, a: u32) -> (u32, bool)
 
 /// The quotient, read signed and toward zero, where there is one.
 #[inline(always)]
-pub(crate) fn quotient(b: u32, a: u32) -> Option<u32>
+pub fn quotient(b: u32, a: u32) -> Option<u32>
     ensures { result ≡
         (if int_eq (signed a) (pos 0) || (int_eq (signed b) least_integer && int_eq (signed a) minus_one) then None
         else Some (low_word (int_div (signed b) (signed a)))) }
@@ -52,7 +52,7 @@ pub(crate) fn quotient(b: u32, a: u32) -> Option<u32>
 
 /// The remainder, read signed and with the sign of the dividend, where there is one.
 #[inline(always)]
-pub(crate) fn remainder(b: u32, a: u32) -> Option<u32>
+pub fn remainder(b: u32, a: u32) -> Option<u32>
     ensures { result ≡
         (if int_eq (signed a) (pos 0) || (int_eq (signed b) least_integer && int_eq (signed a) minus_one) then None
         else Some (low_word (int_rem (signed b) (signed a)))) }
@@ -65,7 +65,7 @@ pub(crate) fn remainder(b: u32, a: u32) -> Option<u32>
 
 /// The low 32 bits of a sum of words.
 #[inline(always)]
-pub(crate) fn sum(b: u32, a: u32) -> u32
+pub fn sum(b: u32, a: u32) -> u32
     ensures { result ≡ low_word (pos b +ℤ pos a) }
 {
     b.wrapping_add(a)
@@ -73,7 +73,7 @@ pub(crate) fn sum(b: u32, a: u32) -> u32
 
 /// The low 32 bits of a difference of words.
 #[inline(always)]
-pub(crate) fn difference(b: u32, a: u32) -> u32
+pub fn difference(b: u32, a: u32) -> u32
     ensures { result ≡ low_word (pos b -ℤ pos a) }
 {
     b.wrapping_sub(a)
@@ -81,7 +81,7 @@ pub(crate) fn difference(b: u32, a: u32) -> u32
 
 /// The address that many words on, wrapped.
 #[inline(always)]
-pub(crate) fn words_on(a: u32, n: u32) -> u32
+pub fn words_on(a: u32, n: u32) -> u32
     ensures { result ≡ words_on a (signed n) }
 {
     a.wrapping_add(n.wrapping_mul(4))
@@ -89,7 +89,7 @@ pub(crate) fn words_on(a: u32, n: u32) -> u32
 
 /// The address that many words on, wrapped, with the number of words read unsigned.
 #[inline(always)]
-pub(crate) fn words_beyond(a: u32, n: u32) -> u32
+pub fn words_beyond(a: u32, n: u32) -> u32
     ensures { result ≡ words_on a (pos n) }
 {
     a.wrapping_add(n.wrapping_mul(4))
@@ -97,7 +97,7 @@ pub(crate) fn words_beyond(a: u32, n: u32) -> u32
 
 /// One less, wrapped.
 #[inline(always)]
-pub(crate) fn one_less(a: u32) -> u32
+pub fn one_less(a: u32) -> u32
     ensures { result ≡ low_word (signed a -ℤ pos 1) }
 {
     a.wrapping_sub(1)
@@ -105,7 +105,7 @@ pub(crate) fn one_less(a: u32) -> u32
 
 /// One more, wrapped.
 #[inline(always)]
-pub(crate) fn one_more(a: u32) -> u32
+pub fn one_more(a: u32) -> u32
     ensures { result ≡ low_word (signed a +ℤ pos 1) }
 {
     a.wrapping_add(1)
@@ -113,7 +113,7 @@ pub(crate) fn one_more(a: u32) -> u32
 
 /// Every bit turned.
 #[inline(always)]
-pub(crate) fn complement(a: u32) -> u32
+pub fn complement(a: u32) -> u32
     ensures { result ≡ complement a }
 {
     !a
@@ -121,7 +121,7 @@ pub(crate) fn complement(a: u32) -> u32
 
 /// Whether a word is above 0, read signed.
 #[inline(always)]
-pub(crate) fn is_positive(a: u32) -> bool
+pub fn is_positive(a: u32) -> bool
     ensures { result ≡ int_lt (pos 0) (signed a) }
 {
     a.cast_signed() > 0
@@ -129,7 +129,7 @@ pub(crate) fn is_positive(a: u32) -> bool
 
 /// Whether a word is below another, both read signed, as a word.
 #[inline(always)]
-pub(crate) fn is_less(a: u32, b: u32) -> u32
+pub fn is_less(a: u32, b: u32) -> u32
     ensures { result ≡ truth (int_lt (signed a) (signed b)) }
 {
     u32::from(a.cast_signed() < b.cast_signed())
@@ -137,7 +137,7 @@ pub(crate) fn is_less(a: u32, b: u32) -> u32
 
 /// Whether two words read signed are equal, as a word.
 #[inline(always)]
-pub(crate) fn is_equal(a: u32, b: u32) -> u32
+pub fn is_equal(a: u32, b: u32) -> u32
     ensures { result ≡ truth (int_eq (signed a) (signed b)) }
 {
     u32::from(a.cast_signed() == b.cast_signed())
@@ -145,7 +145,7 @@ pub(crate) fn is_equal(a: u32, b: u32) -> u32
 
 /// What pfix makes of Oreg.
 #[inline(always)]
-pub(crate) fn shifted(oreg: u32) -> u32
+pub fn shifted(oreg: u32) -> u32
     ensures value { result ≡ shifted oreg }
     ensures shifted { result % 16 ≡ 0 }
 {
@@ -154,7 +154,7 @@ pub(crate) fn shifted(oreg: u32) -> u32
 
 /// What nfix makes of Oreg.
 #[inline(always)]
-pub(crate) fn shifted_complement(oreg: u32) -> u32
+pub fn shifted_complement(oreg: u32) -> u32
     ensures value { result ≡ shifted_complement oreg }
     ensures shifted { result % 16 ≡ 0 }
 {
