@@ -2,7 +2,7 @@
 # What light packets take where others want the processors too: 50 batches of 1,024 packets of 16 instruction bytes by 1, 2, 4 and 64
 # members, on all processors, pinned to one, and pinned to two beside an endless loop on each: the best of 15 of the wall time and of
 # the processor time (user and system), in milliseconds. Another program, as one that was built from another commit, is measured in turn,
-# and the ratios to it are told:
+# and the ratios to it are printed:
 #     bench/busy.sh [OTHER_FARMD]
 # PROGRAM=FARMD measures that in place of the proved program of this checkout, ROUNDS=N is the best of N in place of 15, and NICE=N the
 # niceness of all that is measured, the loops included. Ends with status 1 where an answer is not the expected one.
@@ -33,14 +33,14 @@ def pinned(processors):
 def once(program, members, given, processors):
     """The wall time and the processor time of a run."""
     given.seek(0)
-    with tempfile.TemporaryFile() as told:
+    with tempfile.TemporaryFile() as answers:
         began = time.monotonic()
         words = [program, "--members", str(members)]
-        child = subprocess.Popen(words, stdin=given, stdout=told, preexec_fn=pinned(processors))
+        child = subprocess.Popen(words, stdin=given, stdout=answers, preexec_fn=pinned(processors))
         _, status, used = os.wait4(child.pid, 0)
         took = time.monotonic() - began
-        told.seek(0)
-        lines = told.readlines()
+        answers.seek(0)
+        lines = answers.readlines()
     if status or lines.count(LAST) != BATCHES or lines.count(b"R 0 0 16 02000000\n") != BATCHES:
         sys.exit(f"busy.sh: {program}: another answer than expected")
     return 1000 * took, 1000 * (used.ru_utime + used.ru_stime)

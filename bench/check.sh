@@ -3,8 +3,8 @@
 # 4,000 conditional jumps, and codes made to keep the passes going: a loop that moves the words of its workspace on by one place,
 # the same in three others, sixteen such loops one behind the other, the jumps behind the loop, stores far from one another in
 # place of the jumps, a register's range that grows by one with each pass, and a code that is refused at its end in the last pass.
-# Then small random searches (bench/search.py) from three of these change pieces of them so that they take longer, and what each comes
-# to is told.
+# Then small random searches (bench/search.py) from three of these change pieces of them until they take longer, and print what each
+# finds.
 # Then the processor time (user and system) and the peak of memory of each image, the found ones too, judged in a process of its
 # own: the least of five, since others use the machine too, less what a process takes that only makes the image.
 # Ends with status 1 where an image takes more than half a second of processor time or a process more than 25 MiB; a quarter of
@@ -31,8 +31,8 @@ MOST_KIB = 25 * 1024
 
 judged = {name: images.named(name) for name in CHECKED}
 for name, image in judged.items():
-    told = subprocess.run([BENCH, "check", name, image.hex()], stdout=subprocess.PIPE, check=True).stdout
-    print(*measure.check(told.decode()), sep="\n")
+    output = subprocess.run([BENCH, "check", name, image.hex()], stdout=subprocess.PIPE, check=True).stdout
+    print(*measure.check(output.decode()), sep="\n")
 for name, image in search.searches(BENCH):
     judged["found from " + name] = image
 slowest = largest = 0

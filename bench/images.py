@@ -19,7 +19,7 @@ ADD_BIT = bytes.fromhex("4124f6f5")
 
 MOST_CODE = 8192
 WORKSPACE = 512
-# Wptr stands at this word.
+# Wptr is at this word.
 START = 8
 # How many local words the loops of an image move on in all, from word 1 on, before those of their blocks.
 MOVED = 464

@@ -37,9 +37,9 @@ def program(crate):
     return f"{TOP}/crates/{crate}/out/{crate}"
 
 
-def lines(told):
+def lines(output):
     """Of each line its name, its whole numbers by the words behind them, its text, and its times by what took them."""
-    for line in told.splitlines():
+    for line in output.splitlines():
         name, _, text = line.rpartition(": ")
         times = {what: int(nanos) for what, nanos in re.findall(r", ([a-z_][\w ]*?) (\d+) ns", text)}
         if not times:
@@ -71,9 +71,9 @@ def states():
             print(f"{name}: join {joined:.0f} ns, is_below {compared:.0f} ns")
 
 
-def check(told):
+def check(output):
     """What bench/check.sh prints of an image."""
-    for name, counts, text, times in lines(told):
+    for name, counts, text, times in lines(output):
         judged, flow = times["judged"], times["check_flow 100 times"] / 100
         yield f"{name}: {judged // 1000} microseconds, {judged / flow:.0f} times check_flow; {text.partition(', judged')[0]}"
 
@@ -119,11 +119,11 @@ def farm():
         percent = [100 * a // b for a, b in zip(found, best_and_median[worker, "members 1"])]
         print(f"{worker}, {members}: {found[0]} packets a second, median {found[1]}; {percent[0]} and {percent[1]} percent of one member")
     child = subprocess.Popen([program("bench_farm"), "farm-once"], stdout=subprocess.PIPE, text=True)
-    told = child.stdout.read().strip()
+    counted = child.stdout.read().strip()
     _, status, usage = os.wait4(child.pid, 0)
     if status:
         sys.exit("measure.py: farm-once has failed")
-    print(f"{told}; peak {usage.ru_maxrss} KiB")
+    print(f"{counted}; peak {usage.ru_maxrss} KiB")
 
 
 WORDS = {it.__name__: it for it in (flow, states, accept, machine, board, farm)}

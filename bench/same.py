@@ -126,8 +126,8 @@ def main():
                 kept.write(given)
             sys.exit(f"input {number} is answered otherwise: {kept.name}, {' '.join(options)}")
         words.update(b" ".join(it.split(b" ")[:2]) if it.startswith(b"NO") else it.split(b" ")[0] for it in first[1].split(b"\n"))
-    told = {it.decode(errors="replace"): n for it, n in words.items() if re.fullmatch(rb"[A-Z]+( [A-Z]\d+)?", it)}
-    print(f"{inputs} inputs, the same answers: " + ", ".join(f"{n} {it}" for it, n in sorted(told.items())))
+    counts = {it.decode(errors="replace"): n for it, n in words.items() if re.fullmatch(rb"[A-Z]+( [A-Z]\d+)?", it)}
+    print(f"{inputs} inputs, the same answers: " + ", ".join(f"{n} {it}" for it, n in sorted(counts.items())))
 
 
 if __name__ == "__main__":

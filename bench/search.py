@@ -32,25 +32,25 @@ PIECES = [
     ]
 ]
 
-Judged = namedtuple("Judged", "seconds peak told")
+Judged = namedtuple("Judged", "seconds peak answer")
 
 
 def judged(bench, image, times):
-    """What a process takes that judges an image so often: processor seconds, the peak of memory in KiB, and what it tells."""
-    with tempfile.TemporaryFile() as told:
-        streams = [(os.POSIX_SPAWN_DUP2, told.fileno(), 1)]
+    """What a process takes that judges an image so often: processor seconds, the peak of memory in KiB, and its answer."""
+    with tempfile.TemporaryFile() as answer:
+        streams = [(os.POSIX_SPAWN_DUP2, answer.fileno(), 1)]
         child = os.posix_spawn(bench, [bench, "judge", "image", image.hex(), str(times)], os.environ, file_actions=streams)
         _, status, use = os.wait4(child, 0)
         if status:
             raise SystemExit(f"judge {image.hex()[:60]}: status {status}")
-        told.seek(0)
-        return Judged(use.ru_utime + use.ru_stime, use.ru_maxrss, told.read().decode())
+        answer.seek(0)
+        return Judged(use.ru_utime + use.ru_stime, use.ru_maxrss, answer.read().decode())
 
 
 def cost(bench, image):
     """The processor seconds of judging an image once, where it passes."""
     found = judged(bench, image, 1)
-    return found.seconds if found.told.endswith("kept\n") else None
+    return found.seconds if found.answer.endswith("kept\n") else None
 
 
 def numbers(state):
@@ -91,7 +91,7 @@ def takes_longer(bench, image, other):
 
 
 def searches(bench):
-    """Searches from each base with each seed: tells what the first code takes and the last that was kept, and gives that one."""
+    """Searches from each base with each seed: prints what the first code takes and the last that was kept, and yields that one."""
     for seed in SEEDS:
         for base in BASES:
             best, random, kept = images.named(base), numbers(seed), 0

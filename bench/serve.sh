@@ -1,7 +1,7 @@
 #!/bin/sh
 # What a line costs: for each kind of work the processor time (user and system) of the program, in milliseconds, best of five, and
 # its peak of memory. Another program, as one that was built from another commit, is measured beside it, in turn, and each of its
-# times and the ratio are told:
+# times and the ratio are printed:
 #     bench/serve.sh [OTHER_FARMD]
 # PROGRAM=FARMD measures that in place of the proved program of this checkout, and ROUNDS=N is the best of N in place of five, for a
 # machine whose speed changes from one moment to the next. Ends with status 1 where an answer is not the expected one.
@@ -13,7 +13,7 @@ fi
 exec python3 - "$PROGRAM" "$@" <<'PY'
 import os, sys, tempfile
 
-# The least memory is taken here, since a program's peak is told with that of the process that starts it.
+# The least memory is taken here, since a program's peak includes that of the process that starts it.
 ROUNDS = int(os.environ.get("ROUNDS", 5))
 PACKETS = 1024
 RECEIVE, SEND = "1024F25444F7", "1024F244FB21F5"
@@ -51,16 +51,16 @@ WORKS = [
 ]
 
 
-def once(program, members, given, told, lines, begun, first):
+def once(program, members, given, answers, lines, begun, first):
     os.lseek(given.fileno(), 0, os.SEEK_SET)
-    os.ftruncate(told.fileno(), 0)
-    os.lseek(told.fileno(), 0, os.SEEK_SET)
-    streams = [(os.POSIX_SPAWN_DUP2, given.fileno(), 0), (os.POSIX_SPAWN_DUP2, told.fileno(), 1)]
+    os.ftruncate(answers.fileno(), 0)
+    os.lseek(answers.fileno(), 0, os.SEEK_SET)
+    streams = [(os.POSIX_SPAWN_DUP2, given.fileno(), 0), (os.POSIX_SPAWN_DUP2, answers.fileno(), 1)]
     child = os.posix_spawn(program, [program, "--members", str(members)], os.environ, file_actions=streams)
     _, status, used = os.wait4(child, 0)
-    told.seek(0)
+    answers.seek(0)
     counted = begins = 0
-    for line in told:
+    for line in answers:
         counted += 1
         begins += line.startswith(first)
     if status != 0 or counted != lines or begins != begun:
@@ -70,12 +70,12 @@ def once(program, members, given, told, lines, begun, first):
 
 programs = sys.argv[1:]
 for name, members, lines_of, times, lines, begun, first in WORKS:
-    with tempfile.TemporaryFile() as given, tempfile.TemporaryFile() as told:
+    with tempfile.TemporaryFile() as given, tempfile.TemporaryFile() as answers:
         for _ in range(times):
             for line in lines_of():
                 given.write(line.encode())
         given.flush()
-        runs = [[once(program, members, given, told, lines, begun, first) for program in programs] for _ in range(ROUNDS)]
+        runs = [[once(program, members, given, answers, lines, begun, first) for program in programs] for _ in range(ROUNDS)]
     best = [min(run[n][0] for run in runs) for n in range(len(programs))]
     peak = [min(run[n][1] for run in runs) for n in range(len(programs))]
     line = f"{name}, members {members}: {best[0]:.0f} ms, peak {peak[0]} KiB"

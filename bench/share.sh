@@ -30,8 +30,8 @@ def recorded(file, words, **streams):
 
 def samples(file):
     """The moments of all samples, and of those in the machine's loop."""
-    told = subprocess.run(["perf", "script", "-i", file, "-F", "time,ip,sym"], capture_output=True, text=True).stdout
-    found = re.findall(r"^\s*([\d.]+):\s+[0-9a-f]+\s+(.*)$", told, re.M)
+    listed = subprocess.run(["perf", "script", "-i", file, "-F", "time,ip,sym"], capture_output=True, text=True).stdout
+    found = re.findall(r"^\s*([\d.]+):\s+[0-9a-f]+\s+(.*)$", listed, re.M)
     return [float(at) for at, _ in found], [float(at) for at, name in found if "Registers::go" in name]
 
 
@@ -63,13 +63,13 @@ def alone(file):
     return [len(loop) / HERTZ / (max(every) - min(every))]
 
 
-def tell(what, shares):
+def report(what, shares):
     print(f"{what}: best {100 * max(shares):.1f} percent, median {100 * statistics.median(shares):.1f}", flush=True)
 
 
 with tempfile.TemporaryDirectory() as room:
     file = os.path.join(room, "samples")
-    tell("the machine alone", [share for _ in range(ROUNDS) for share in alone(file)])
+    report("the machine alone", [share for _ in range(ROUNDS) for share in alone(file)])
     for members in 1, 2, 4:
-        tell(f"RUN by {members}", [share for _ in range(ROUNDS) for share in batches(file, members)])
+        report(f"RUN by {members}", [share for _ in range(ROUNDS) for share in batches(file, members)])
 PY

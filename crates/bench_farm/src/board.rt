@@ -1,7 +1,7 @@
 //! How many packets a second 1, 2 and 4 threads claim and finish on boards of 1,024 packets, beside
 //! plain atomics that make the same steps.
 //!
-//! A few boards are worked off, and what was finished is printed; or many, several times, with the times.
+//! Works off a few boards, and prints what was finished; timed, many boards, several times, with the times.
 
 mod plain;
 mod post;
@@ -29,14 +29,14 @@ pub(crate) fn measure<R: Runtime<A = Global> + Threads + Sync>(
     let times = if is_timed { TIMES } else { 1 };
     for _ in 0..times {
         for threads in [1, 2, 4] {
-            told(rt, threads, is_timed)?;
+            report(rt, threads, is_timed)?;
         }
     }
     Ok(())
 }
 
-/// Prints how many packets are finished by so many threads, on boards and by plain atomics.
-fn told<R: Runtime<A = Global> + Threads + Sync>(
+/// Prints how many packets so many threads finish, on boards and by plain atomics.
+fn report<R: Runtime<A = Global> + Threads + Sync>(
     rt: &R,
     threads: u32,
     is_timed: bool,

@@ -1,7 +1,7 @@
 //! How many packets a second a farm of 1, 2 and 4 members runs: one batch of 1,024 packets, with a light worker and with a
 //! heavy one.
 //!
-//! Each batch runs once, the heavy ones with few packets, and what came of it is printed; or several times, with the times.
+//! Runs each batch once, the heavy ones with few packets, and prints its counts; timed, several times, with the times.
 
 mod workers;
 
@@ -26,7 +26,7 @@ const TIMES: u32 = 11;
 
 const MEMBERS: [u32; 3] = [1, 2, 4];
 
-/// The bytes of a word, which each packet and each result is.
+/// The bytes of a packet and of a result: one word.
 const WORD_BYTES: usize = 4;
 
 pub(crate) fn measure<R: Runtime<A = Global> + Threads + Wait + Sync>(
@@ -37,13 +37,13 @@ pub(crate) fn measure<R: Runtime<A = Global> + Threads + Wait + Sync>(
     for worker in [workers::LIGHT, workers::HEAVY] {
         let image = accepted(rt.alloc(), &worker)?;
         for _ in 0..times {
-            told(rt, &worker, &image, is_timed)?;
+            report(rt, &worker, &image, is_timed)?;
         }
     }
     Ok(())
 }
 
-/// What came of a batch: its packets that are done, the sum of their results, and how long it took.
+/// The results of a batch: its packets that are done, the sum of their results, and how long it took.
 #[derive(Clone, Copy)]
 struct Run {
     done: u64,
@@ -117,7 +117,7 @@ fn run_batch_of<R: Runtime<A = Global> + Threads + Wait + Sync>(
     run_job(rt, &job, members, is_timed)
 }
 
-/// Runs a job's batch, timed from its call to its answer.
+/// Runs a job's batch, and times it from its call to its answer.
 fn run_job<R: Runtime<A = Global> + Threads + Wait + Sync>(
     rt: &R,
     job: &Job<'_>,
@@ -141,8 +141,8 @@ fn accepted(alloc: Global, worker: &Worker) -> Result<Accepted> {
     accept(alloc, text).map_err(|refusal| anyhow!("{refusal}"))
 }
 
-/// Prints what comes of a worker's batches.
-fn told<R: Runtime<A = Global> + Threads + Wait + Sync>(
+/// Prints the results of a worker's batches.
+fn report<R: Runtime<A = Global> + Threads + Wait + Sync>(
     rt: &R,
     worker: &Worker,
     image: &Accepted,

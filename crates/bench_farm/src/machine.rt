@@ -1,7 +1,7 @@
 //! How many instruction bytes a second the machine executes, and the tested machine beside it; and, of two loops, plain
 //! functions that make the same turns over an array.
 //!
-//! Each worker runs once, and what was counted is printed; or many times on each in turn, with the times of all its rounds.
+//! Runs each worker once, and prints the counts; timed, many times on each in turn, with the times of all its rounds.
 
 mod plain;
 mod rounds;
@@ -27,7 +27,7 @@ pub(crate) fn measure<R: Runtime<A = Global>>(rt: &R, is_timed: bool) -> Result<
     for worker in &WORKERS {
         let accepted = accepted(rt.alloc(), worker)?;
         for _ in 0..times {
-            told(rt, worker, &accepted, is_timed)?;
+            report_worker(rt, worker, &accepted, is_timed)?;
         }
     }
     Ok(())
@@ -38,8 +38,7 @@ fn accepted(alloc: Global, worker: &Worker) -> Result<Accepted> {
     accept(alloc, text).map_err(|refusal| anyhow!("{refusal}"))
 }
 
-/// Runs the first worker alone, so that another program's processor time can be set beside this one's. What was counted is
-/// printed.
+/// Runs the first worker alone, to compare this program's processor time with another one's, and prints the counts.
 pub(crate) fn turns<R: Runtime<A = Global>>(rt: &R) -> Result<()> {
     let [worker, ..] = &WORKERS;
     let accepted = accepted(rt.alloc(), worker)?;
@@ -71,16 +70,16 @@ fn tested_with(accepted: &Accepted) -> Tested<'_> {
 }
 
 /// Prints the cost of a worker's rounds on both machines, and in the plain function that makes its turns.
-fn told<R: Runtime<A = Global>>(
+fn report_worker<R: Runtime<A = Global>>(
     rt: &R,
     worker: &Worker,
     accepted: &Accepted,
     is_timed: bool,
 ) -> Result<()> {
     let machine = &mut machine_with(accepted);
-    told_of(rt, worker, "the machine", machine, accepted, is_timed)?;
+    report_machine(rt, worker, "the machine", machine, accepted, is_timed)?;
     let tested = &mut tested_with(accepted);
-    told_of(rt, worker, "tested", tested, accepted, is_timed)?;
+    report_machine(rt, worker, "tested", tested, accepted, is_timed)?;
     let Some(turns) = worker.turns else {
         return Ok(());
     };
@@ -98,7 +97,7 @@ fn count_of(worker: &Worker, is_timed: bool) -> u32 {
 }
 
 /// Prints the cost of a worker's rounds on one machine.
-fn told_of<R: Runtime<A = Global>, M: Runs>(
+fn report_machine<R: Runtime<A = Global>, M: Runs>(
     rt: &R,
     worker: &Worker,
     kind: &str,
@@ -119,8 +118,8 @@ fn told_of<R: Runtime<A = Global>, M: Runs>(
     Ok(())
 }
 
-/// The same turns by a plain function: the word that it leaves. The places of its words are read from the image, so that no compiler
-/// knows it.
+/// The same turns by a plain function: the word that it leaves. The places of its words are read from the image: no compiler knows
+/// them.
 fn plain_rounds((outer, inner): (u32, u32), accepted: &Accepted, count: u32) -> u32 {
     let sum = accepted.result_bytes() % 8;
     let block = (accepted.packet_bytes() + 1) % 8;

@@ -1,6 +1,6 @@
 //! How long `check_flow` takes over 8,192 code bytes with 16 loops, beside plain loops over the same listing.
 //!
-//! Each code is judged once, and what was counted is printed, or many times, with the times of all rounds.
+//! Judges each code once, and prints the counts; timed, many times, with the times of all rounds.
 
 mod plain;
 mod sample;
@@ -20,17 +20,22 @@ use tp_image::{Image, read_image};
 const TIMED_ROUNDS: u32 = 2000;
 
 pub(crate) fn measure<R: Runtime<A = Global>>(rt: &R, is_timed: bool) -> Result<()> {
-    told(rt, "every eighth byte a cj", MIXED, is_timed)?;
-    told(rt, "every byte a cj", EVERY_JUMP, is_timed)
+    report_code(rt, "every eighth byte a cj", MIXED, is_timed)?;
+    report_code(rt, "every byte a cj", EVERY_JUMP, is_timed)
 }
 
-/// Prints of one code what is counted, and what all rounds took.
-fn told<R: Runtime<A = Global>>(rt: &R, name: &str, fill: [u8; 8], is_timed: bool) -> Result<()> {
+/// Prints the counts of one code, and what all rounds took.
+fn report_code<R: Runtime<A = Global>>(
+    rt: &R,
+    name: &str,
+    fill: [u8; 8],
+    is_timed: bool,
+) -> Result<()> {
     let image = image_of(rt.alloc(), fill)?;
     let Ok(listing) = decode(rt.alloc(), &image.code) else {
         bail!("no listing");
     };
-    told_of(rt, name, &image, &listing, is_timed)
+    report_listing(rt, name, &image, &listing, is_timed)
 }
 
 fn image_of(alloc: Global, fill: [u8; 8]) -> Result<Image> {
@@ -40,8 +45,8 @@ fn image_of(alloc: Global, fill: [u8; 8]) -> Result<Image> {
     Ok(image?)
 }
 
-/// Prints of a listing what is counted, and what all rounds took.
-fn told_of<R: Runtime<A = Global>>(
+/// Prints the counts of a listing, and what all rounds took.
+fn report_listing<R: Runtime<A = Global>>(
     rt: &R,
     name: &str,
     image: &Image,

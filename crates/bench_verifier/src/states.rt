@@ -1,7 +1,7 @@
 //! How many instructions a second the verifier's rules take in place: `State::go_on` over ldl, adc, stl. And how long
 //! `State::join` and `State::is_below` take for two states of 512 words, all known and alike.
 //!
-//! A thousand rounds are made, or millions, with the time that they took.
+//! Makes a thousand rounds; timed, millions, with the time that they took.
 
 ghost use Rattle.std.specs.Prelude.{◌≡◌, length};
 ghost use Rattle.tp_decode.specs.Cutting.{IsCutting};
@@ -35,11 +35,11 @@ fn measure_rules<R: Runtime<A = Global>>(rt: &R, is_timed: bool) -> Result<()> {
     let Ok(listing) = decode(rt.alloc(), &image.code) else {
         bail!("no listing");
     };
-    told_of(rt, &image, &listing, is_timed)
+    report_rules(rt, &image, &listing, is_timed)
 }
 
 /// Prints how many instructions pass.
-fn told_of<R: Runtime<A = Global>>(
+fn report_rules<R: Runtime<A = Global>>(
     rt: &R,
     image: &Image,
     listing: &Listing,
@@ -48,11 +48,11 @@ fn told_of<R: Runtime<A = Global>>(
     requires { IsCutting image.now.code listing.now }
 {
     let nest = check_flow(image, listing).map_err(|fault| anyhow!("{fault}"))?;
-    told_along(rt, image, &nest, is_timed)
+    report_along(rt, image, &nest, is_timed)
 }
 
 /// Prints how many instructions pass along a nest.
-fn told_along<R: Runtime<A = Global>>(
+fn report_along<R: Runtime<A = Global>>(
     rt: &R,
     image: &Image,
     nest: &Nest,
@@ -92,11 +92,11 @@ fn measure_meetings<R: Runtime<A = Global>>(rt: &R, is_timed: bool) -> Result<()
     drop(image);
     let first = state.copy_of(rt.alloc())?;
     let second = state.copy_of(rt.alloc())?;
-    meetings_told(rt, &mut state, &first, &second, is_timed)
+    report_meetings(rt, &mut state, &first, &second, is_timed)
 }
 
 /// Prints how many joins change nothing, and how many comparisons hold.
-fn meetings_told<R: Runtime<A = Global>>(
+fn report_meetings<R: Runtime<A = Global>>(
     rt: &R,
     state: &mut State,
     first: &State,
@@ -177,7 +177,7 @@ fn is_unchanged(state: &mut State, other: &State) -> bool
     state.join(other) == Ok(false)
 }
 
-/// How many times a state is below another, of so many: below one of two in turn, so that no round is like the one before.
+/// How many times a state is below another, of so many. Two others take turns, and no round is like the one before.
 fn count_below(state: &State, first: &State, second: &State, rounds: u32) -> u64
     requires first { length first.now.cells ≡ length state.now.cells }
     requires second { length second.now.cells ≡ length state.now.cells }

@@ -7,7 +7,7 @@ use std::process::Abort;
 use test_samples::*;
 use tp_accept::{Accepted, Refusal, accept};
 
-/// That a text, which a row of a table has, is answered so.
+/// Fails unless a text, the one of a table's row, has this answer.
 fn assert_answered(rt: &impl Abort, alloc: Global, text: &[u8], expected: &str, row: usize) {
     let answered = answer(rt, alloc, text);
     assert_eq!(rt; answered.as_str(), expected, "row {row}");
@@ -131,13 +131,13 @@ fn answers_long_codes(rt: HostRuntime) {
 }
 
 #[test]
-fn tells_the_parts(rt: HostRuntime) {
+fn gives_the_parts(rt: HostRuntime) {
     let text = unwrap(&rt, Vec::from_slice(rt.alloc(), INCREMENT));
     let accepted = unwrap(&rt, accept(rt.alloc(), text));
     assert_increment(&rt, &accepted);
 }
 
-/// An accepted image has the parts of the increment.
+/// Fails unless an accepted image has the parts of the increment.
 fn assert_increment(rt: &impl Abort, accepted: &Accepted) {
     assert_same(
         rt,
@@ -148,14 +148,14 @@ fn assert_increment(rt: &impl Abort, accepted: &Accepted) {
     assert_same(rt, &accepted.image().workspace, &12);
 }
 
-/// A refusal's code as it prints, and its place.
+/// A refusal's code as it is printed, and its place.
 fn parts_of(rt: &impl Abort, alloc: Global, refusal: &Refusal) -> (String, usize) {
     let code = unwrap(rt, refusal.code().ok_or("a code"));
     (unwrap(rt, format!(in alloc; "{code}")), refusal.place())
 }
 
 #[test]
-fn tells_the_parts_of_a_refusal(rt: HostRuntime) {
+fn gives_the_parts_of_a_refusal(rt: HostRuntime) {
     let text = unwrap(&rt, Vec::from_slice(rt.alloc(), &INCREMENT[..9]));
     let answered = accept(rt.alloc(), text);
     let refusal = unwrap(&rt, answered.err().ok_or("a refusal"));
@@ -164,7 +164,7 @@ fn tells_the_parts_of_a_refusal(rt: HostRuntime) {
 }
 
 #[test]
-fn tells_that_memory_is_out(rt: HostRuntime) {
+fn reports_out_of_memory(rt: HostRuntime) {
     let refusal = Refusal::Memory;
     assert_same(&rt, &(refusal.code(), refusal.place()), &(None, 0));
     assert_same(

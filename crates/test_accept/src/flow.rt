@@ -12,7 +12,7 @@ use tp_flow::{Edge, FlowCode, FlowFault, LoopRange, Nest, check_flow, edges};
 /// Head, lend, control word, count and start.
 type Fields = (u16, u16, u16, u16, i32);
 
-/// Which code is refused where; none where it passes.
+/// The refusal and its place; none where the code passes.
 type Refusal = Option<(FlowCode, usize)>;
 
 /// An image of 16 workspace words.
@@ -39,13 +39,13 @@ fn judged(rt: &(impl Abort + AllocGlobal), bytes: &[u8]) -> Result<Nest, FlowFau
     check_flow(&image, &listing)
 }
 
-/// That an image's code is refused so, or passes.
+/// Fails unless an image's code has this refusal, or passes where there is none.
 fn assert_judged(rt: &(impl Abort + AllocGlobal), bytes: &[u8], expected: Refusal) {
     let expected = expected.map(|(code, place)| FlowFault { code, place });
     assert_same(rt, &judged(rt, bytes).err(), &expected);
 }
 
-/// That a code with these loop rows is refused so, or passes.
+/// Fails unless a code with these loop rows has this refusal, or passes where there is none.
 fn assert_code_judged(
     rt: &(impl Abort + AllocGlobal),
     rows: &[Fields],
@@ -86,7 +86,7 @@ const SINGLE_ROWS: [(Fields, bool); 18] = [
     // The head is not before the lend.
     ((18, 18, 10, 10, 0), false),
     ((20, 18, 10, 10, 0), false),
-    // No lend stands there.
+    // There is no lend.
     ((12, 17, 10, 10, 0), false),
     // The block ends behind the workspace.
     ((12, 18, 14, 10, 0), true),
@@ -133,7 +133,7 @@ const ROWS_AMONG_OTHERS: [(&[(u16, u16)], &[u8], Refusal); 15] = [
     (&[(0, 7), (2, 3)], TWO_LENDS, Some((FlowCode::J6, 0))),
     // Four loops within one another.
     (&[(4, 6), (3, 8), (2, 10), (1, 12)], FOUR_LENDS, None),
-    // The innermost of five is bad, wherever its row stands.
+    // The innermost of five is bad, whichever row it is.
     (
         &[(1, 15), (2, 13), (3, 11), (4, 9), (5, 7)],
         FIVE_LENDS,
@@ -161,7 +161,7 @@ fn rows_over(rt: &impl Abort, alloc: Global, ranges: &[(u16, u16)]) -> Vec<Field
     rows
 }
 
-/// That a code with such rows is refused so, or passes.
+/// Fails unless a code with such rows has this refusal, or passes where there is none.
 fn assert_ranges_judged(
     rt: &(impl Abort + AllocGlobal),
     ranges: &[(u16, u16)],
@@ -188,7 +188,7 @@ const CODES: [(&[Fields], &[u8], Refusal); 19] = [
     (&[], b"\x41\x60\x0D", Some((FlowCode::J3, 1))),
     // Back into a spelling: the direction is judged before the target.
     (&[], b"\x41\x21\x40\x60\x0D", Some((FlowCode::J3, 3))),
-    // A lend that no row names, which stands last.
+    // A lend that no row names, as the last instruction.
     (&[], b"\x22\xF1", Some((FlowCode::J7, 0))),
     // One of two lends is named.
     (&[(1, 4, 10, 10, 0)], TWO_LENDS, Some((FlowCode::J7, 7))),
@@ -295,7 +295,7 @@ fn nest_of_two(rt: &(impl Abort + AllocGlobal)) -> Nest {
 }
 
 #[test]
-fn tells_the_loops_around(rt: HostRuntime) {
+fn finds_the_loops_around(rt: HostRuntime) {
     let nest = nest_of_two(&rt);
     let around: [(usize, &[usize]); 5] = [(0, &[]), (1, &[1]), (3, &[0, 1]), (6, &[1]), (9, &[])];
     for (at, rows) in around {
@@ -304,7 +304,7 @@ fn tells_the_loops_around(rt: HostRuntime) {
 }
 
 #[test]
-fn tells_loops_by_number(rt: HostRuntime) {
+fn finds_loops_by_number(rt: HostRuntime) {
     let nest = nest_of_two(&rt);
     let entered = [
         nest.entered(0, 1),
@@ -318,7 +318,7 @@ fn tells_loops_by_number(rt: HostRuntime) {
 }
 
 #[test]
-fn tells_edges(rt: HostRuntime) {
+fn lists_edges(rt: HostRuntime) {
     assert_same(
         &rt,
         &edges(Instr::Cj(0)),

@@ -19,7 +19,7 @@ pub(crate) const BATCH: u64 = 7;
 
 /// What became of a packet.
 #[derive(Clone, Copy, PartialEq, Eq)]
-pub(crate) enum Told {
+pub(crate) enum Outcome {
     /// Its result as one word, its error flag, and how many instruction bytes were run.
     Done {
         result: u32,
@@ -37,22 +37,22 @@ fn word(bytes: &[u8]) -> u32 {
     }
 }
 
-pub(crate) fn of_entry(entry: &Entry) -> Told {
+pub(crate) fn of_entry(entry: &Entry) -> Outcome {
     match entry {
-        Entry::Done(done) => Told::Done {
+        Entry::Done(done) => Outcome::Done {
             result: word(done.result.as_slice()),
             error: done.error,
             steps: done.steps,
         },
-        Entry::Lost(LostCause::Link(LinkFault { link, code })) => Told::Lost(*link, *code),
-        Entry::Lost(LostCause::Stopped) => Told::Stopped,
+        Entry::Lost(LostCause::Link(LinkFault { link, code })) => Outcome::Lost(*link, *code),
+        Entry::Lost(LostCause::Stopped) => Outcome::Stopped,
     }
 }
 
 /// What `INCREMENT` makes of a packet of this word: one more, in 16 instruction bytes, of which the sum of the greatest number and
 /// one sets the error flag.
-pub(crate) fn one_more(word: u32) -> Told {
-    Told::Done {
+pub(crate) fn one_more(word: u32) -> Outcome {
+    Outcome::Done {
         result: word.wrapping_add(1),
         error: word == 0x7FFF_FFFF,
         steps: 16,
@@ -60,15 +60,15 @@ pub(crate) fn one_more(word: u32) -> Told {
 }
 
 /// What `TRACES_ITS_PACKET` makes of a packet of this word: the same, in 19 instruction bytes.
-pub(crate) fn the_same(word: u32) -> Told {
-    Told::Done {
+pub(crate) fn the_same(word: u32) -> Outcome {
+    Outcome::Done {
         result: word,
         error: false,
         steps: 19,
     }
 }
 
-pub(crate) fn all_told(rt: &impl Abort, alloc: Global, collected: &Collected) -> Vec<Told> {
+pub(crate) fn outcomes(rt: &impl Abort, alloc: Global, collected: &Collected) -> Vec<Outcome> {
     let mut all = Vec::new(alloc);
     for entry in collected.entries.iter() {
         unwrap(rt, all.push(of_entry(entry)));
@@ -96,7 +96,7 @@ pub(crate) fn count_up(rt: &impl Abort, alloc: Global, count: u32) -> Vec<u32> {
     words
 }
 
-/// The batch of these packets, when an image's worker runs on them, or what it is refused with.
+/// Runs an image's worker on these packets, and returns the batch or its refusal.
 pub(crate) fn batch_of<R: Abort + Threads + Wait + Sync, D: LinkDevice + Send, G: Gate>(
     rt: &R,
     alloc: Global,
@@ -115,7 +115,7 @@ pub(crate) fn batch_of<R: Abort + Threads + Wait + Sync, D: LinkDevice + Send, G
     run_batch(rt, alloc, &job, links, gate)
 }
 
-/// The batch of packets of one word each, when an image's worker runs on them.
+/// Runs an image's worker on packets of one word each, and returns the batch.
 pub(crate) fn batch_on<R: Abort + Threads + Wait + Sync, D: LinkDevice + Send, G: Gate>(
     rt: &R,
     alloc: Global,
@@ -128,7 +128,7 @@ pub(crate) fn batch_on<R: Abort + Threads + Wait + Sync, D: LinkDevice + Send, G
     unwrap(rt, batch_of(rt, alloc, image, &packets, links, gate))
 }
 
-/// What becomes of these packets.
+/// Runs an image's worker on packets of one word each, and returns their entries.
 pub(crate) fn run_on<R: Abort + Threads + Wait + Sync, D: LinkDevice + Send, G: Gate>(
     rt: &R,
     alloc: Global,
@@ -140,21 +140,21 @@ pub(crate) fn run_on<R: Abort + Threads + Wait + Sync, D: LinkDevice + Send, G: 
     batch_on(rt, alloc, image, words, links, gate).collected
 }
 
-/// The entries of these packets where one member runs them.
-pub(crate) fn told_by_one<R: Abort + Threads + Wait + Sync, D: LinkDevice + Send, G: Gate>(
+/// The outcomes of packets of one word each that one member runs.
+pub(crate) fn run_by_one<R: Abort + Threads + Wait + Sync, D: LinkDevice + Send, G: Gate>(
     rt: &R,
     alloc: Global,
     image: &[u8],
     words: &[u32],
     links: Links<D>,
     gate: &G,
-) -> Vec<Told> {
+) -> Vec<Outcome> {
     let links = alone(rt, alloc, links);
     let collected = run_on(rt, alloc, image, words, links, gate);
-    all_told(rt, alloc, &collected)
+    outcomes(rt, alloc, &collected)
 }
 
-/// What becomes of the increments of these words, by so many members.
+/// Runs `INCREMENT` on these words by so many members, and returns their entries.
 pub(crate) fn increments_by<R: Abort + Threads + Wait + Sync, G: Gate>(
     rt: &R,
     alloc: Global,
@@ -167,7 +167,7 @@ pub(crate) fn increments_by<R: Abort + Threads + Wait + Sync, G: Gate>(
     run_on(rt, alloc, INCREMENT, words, links, gate)
 }
 
-/// The room of each medium in bytes, where nothing else is said.
+/// The room of each medium in bytes, unless stated otherwise.
 pub(crate) const ROOM: usize = 256;
 
 /// Wires that fail in their calls of these numbers, in source, sink and trace.
@@ -208,7 +208,7 @@ fn same_entry(left: &Entry, right: &Entry) -> bool {
     }
 }
 
-/// Two batches have equal entries, each field of them.
+/// Whether two batches have equal entries in each field.
 pub(crate) fn same(left: &Collected, right: &Collected) -> bool {
     left.entries.len() == right.entries.len()
         && left

@@ -1,7 +1,7 @@
 //! Devices that fail in one call, are closed, or lack room.
 
 use crate::asserts::unwrap;
-use crate::batches::{ROOM, Told, failing, have_ended, the_same, told_by_one};
+use crate::batches::{Outcome, ROOM, failing, have_ended, run_by_one, the_same};
 use std::alloc::Global;
 use std::process::Abort;
 use std::sync::Wait;
@@ -11,7 +11,7 @@ use tp_farm::OpenGate;
 use tp_link::{DeviceFault, Link, LinkDevice, Links, Media};
 
 /// A packet of 1 is done.
-const DONE: Told = Told::Done {
+const DONE: Outcome = Outcome::Done {
     result: 2,
     error: false,
     steps: 16,
@@ -22,19 +22,19 @@ fn fails_as<R: Abort + Threads + Wait + Sync>(
     rt: &R,
     alloc: Global,
     calls: [u64; 3],
-    wanted: [Told; 2],
+    wanted: [Outcome; 2],
 ) -> bool {
     let mut media = unwrap(rt, Media::new(alloc, ROOM));
     let links = failing(&mut media, calls);
-    let all = told_by_one(rt, alloc, INCREMENT, &[1, 1], links, &OpenGate);
+    let all = run_by_one(rt, alloc, INCREMENT, &[1, 1], links, &OpenGate);
     all.as_slice() == wanted.as_slice() && have_ended(&media)
 }
 
 #[test]
 fn each_call_of_a_device_fails_in_turn(rt: HostRuntime) {
-    let source = Told::Lost(Link::Source, DeviceFault::Failed);
-    let sink = Told::Lost(Link::Sink, DeviceFault::Failed);
-    let rows: [([u64; 3], [Told; 2]); 11] = [
+    let source = Outcome::Lost(Link::Source, DeviceFault::Failed);
+    let sink = Outcome::Lost(Link::Sink, DeviceFault::Failed);
+    let rows: [([u64; 3], [Outcome; 2]); 11] = [
         ([1, 0, 0], [source, DONE]),
         ([2, 0, 0], [source, DONE]),
         ([3, 0, 0], [DONE, source]),
@@ -53,18 +53,22 @@ fn each_call_of_a_device_fails_in_turn(rt: HostRuntime) {
 }
 
 /// The entry of a packet of 10 that is traced, where devices fail in these calls.
-fn traced<R: Abort + Threads + Wait + Sync>(rt: &R, alloc: Global, calls: [u64; 3]) -> Vec<Told> {
+fn traced<R: Abort + Threads + Wait + Sync>(
+    rt: &R,
+    alloc: Global,
+    calls: [u64; 3],
+) -> Vec<Outcome> {
     let mut media = unwrap(rt, Media::new(alloc, ROOM));
     let links = failing(&mut media, calls);
-    told_by_one(rt, alloc, TRACES_ITS_PACKET, &[10], links, &OpenGate)
+    run_by_one(rt, alloc, TRACES_ITS_PACKET, &[10], links, &OpenGate)
 }
 
 /// The first call of the trace sends its message, and then the first of the sink its result. After the run the second
 /// call of the sink receives the result, and then the second of the trace the message.
 #[test]
 fn a_trace_fails(rt: HostRuntime) {
-    let sink = Told::Lost(Link::Sink, DeviceFault::Failed);
-    let trace = Told::Lost(Link::Trace, DeviceFault::Failed);
+    let sink = Outcome::Lost(Link::Sink, DeviceFault::Failed);
+    let trace = Outcome::Lost(Link::Trace, DeviceFault::Failed);
     for (calls, wanted) in [
         ([0, 0, 1], trace),
         ([0, 0, 2], trace),
@@ -109,11 +113,11 @@ fn empties_as<R: Abort + Threads + Wait + Sync>(
     alloc: Global,
     link: Link,
     call: u64,
-    wanted: [Told; 2],
+    wanted: [Outcome; 2],
 ) -> bool {
     let mut media = with_600_bytes(rt, alloc, link);
     let links = failing(&mut media, call_of(link, call));
-    let all = told_by_one(rt, alloc, INCREMENT, &[1, 1], links, &OpenGate);
+    let all = run_by_one(rt, alloc, INCREMENT, &[1, 1], links, &OpenGate);
     let empty = media.source.bytes().is_empty()
         && media.sink.bytes().is_empty()
         && media.trace.bytes().is_empty();
@@ -123,9 +127,9 @@ fn empties_as<R: Abort + Threads + Wait + Sync>(
 /// A device that holds 600 bytes is emptied by three calls, before the packet is sent.
 #[test]
 fn a_device_fails_while_it_is_emptied(rt: HostRuntime) {
-    let source = Told::Lost(Link::Source, DeviceFault::Failed);
-    let sink = Told::Lost(Link::Sink, DeviceFault::Failed);
-    let trace = Told::Lost(Link::Trace, DeviceFault::Failed);
+    let source = Outcome::Lost(Link::Source, DeviceFault::Failed);
+    let sink = Outcome::Lost(Link::Sink, DeviceFault::Failed);
+    let trace = Outcome::Lost(Link::Trace, DeviceFault::Failed);
     for (link, call, wanted) in [
         (Link::Source, 0, [DONE, DONE]),
         (Link::Source, 1, [source, DONE]),
@@ -168,23 +172,23 @@ fn bring<D: LinkDevice>(rt: &impl Abort, device: &mut D, start: Start) {
 }
 
 /// The entry of a packet of 1, where the devices begin in these states.
-fn told_from<R: Abort + Threads + Wait + Sync>(
+fn run_from<R: Abort + Threads + Wait + Sync>(
     rt: &R,
     alloc: Global,
     starts: [Start; 3],
-) -> Vec<Told> {
+) -> Vec<Outcome> {
     let mut media = unwrap(rt, Media::new(alloc, ROOM));
     let mut links = media.wires();
     bring(rt, &mut links.source, starts[0]);
     bring(rt, &mut links.sink, starts[1]);
     bring(rt, &mut links.trace, starts[2]);
-    told_by_one(rt, alloc, INCREMENT, &[1], links, &OpenGate)
+    run_by_one(rt, alloc, INCREMENT, &[1], links, &OpenGate)
 }
 
 /// Source, sink and trace are emptied in this order, then the packet is sent, and then the worker runs. The first
-/// refusal is told.
+/// refusal is reported.
 #[test]
-fn the_first_refusal_is_told(rt: HostRuntime) {
+fn the_first_refusal_is_reported(rt: HostRuntime) {
     for (row, (starts, link)) in [
         (
             [Start::ClosedFull, Start::ClosedFull, Start::Open],
@@ -206,8 +210,8 @@ fn the_first_refusal_is_told(rt: HostRuntime) {
     .into_iter()
     .enumerate()
     {
-        let all = told_from(&rt, rt.alloc(), starts);
-        let wanted = Told::Lost(link, DeviceFault::Closed);
+        let all = run_from(&rt, rt.alloc(), starts);
+        let wanted = Outcome::Lost(link, DeviceFault::Closed);
         assert!(rt; all.as_slice() == [wanted].as_slice(), "{row}");
     }
 }
@@ -221,23 +225,23 @@ fn close<D: LinkDevice>(links: &mut Links<D>, link: Link) {
 }
 
 /// The entries of packets of these words where the link is closed at the start.
-fn told_where_closed<R: Abort + Threads + Wait + Sync>(
+fn run_where_closed<R: Abort + Threads + Wait + Sync>(
     rt: &R,
     alloc: Global,
     media: &mut Media,
     link: Link,
     words: &[u32],
-) -> Vec<Told> {
+) -> Vec<Outcome> {
     let mut links = media.wires();
     close(&mut links, link);
-    told_by_one(rt, alloc, INCREMENT, words, links, &OpenGate)
+    run_by_one(rt, alloc, INCREMENT, words, links, &OpenGate)
 }
 
 #[test]
 fn a_closed_source_loses_all(rt: HostRuntime) {
     let mut media = unwrap(&rt, Media::new(rt.alloc(), ROOM));
-    let all = told_where_closed(&rt, rt.alloc(), &mut media, Link::Source, &[1, 1]);
-    let lost = Told::Lost(Link::Source, DeviceFault::Closed);
+    let all = run_where_closed(&rt, rt.alloc(), &mut media, Link::Source, &[1, 1]);
+    let lost = Outcome::Lost(Link::Source, DeviceFault::Closed);
     assert!(rt; all.as_slice() == [lost, lost].as_slice());
 }
 
@@ -245,34 +249,34 @@ fn a_closed_source_loses_all(rt: HostRuntime) {
 #[test]
 fn a_closed_trace_is_not_called(rt: HostRuntime) {
     let mut media = unwrap(&rt, Media::new(rt.alloc(), ROOM));
-    let lost = Told::Lost(Link::Sink, DeviceFault::Closed);
+    let lost = Outcome::Lost(Link::Sink, DeviceFault::Closed);
     for (link, wanted) in [(Link::Trace, DONE), (Link::Sink, lost)] {
-        let all = told_where_closed(&rt, rt.alloc(), &mut media, link, &[1]);
+        let all = run_where_closed(&rt, rt.alloc(), &mut media, link, &[1]);
         assert!(rt; all.as_slice() == [wanted].as_slice());
     }
 }
 
 /// The entry of a packet of 1 where the media have these rooms.
-fn told_in_rooms<R: Abort + Threads + Wait + Sync>(
+fn run_in_rooms<R: Abort + Threads + Wait + Sync>(
     rt: &R,
     alloc: Global,
     rooms: [usize; 3],
-) -> Vec<Told> {
+) -> Vec<Outcome> {
     let mut media = unwrap(rt, Media::with_rooms(alloc, rooms[0], rooms[1], rooms[2]));
-    told_by_one(rt, alloc, INCREMENT, &[1], media.wires(), &OpenGate)
+    run_by_one(rt, alloc, INCREMENT, &[1], media.wires(), &OpenGate)
 }
 
 #[test]
 fn room_is_lacking(rt: HostRuntime) {
-    let source = Told::Lost(Link::Source, DeviceFault::Full);
-    let sink = Told::Lost(Link::Sink, DeviceFault::Full);
+    let source = Outcome::Lost(Link::Source, DeviceFault::Full);
+    let sink = Outcome::Lost(Link::Sink, DeviceFault::Full);
     for (rooms, wanted) in [
         ([256, 3, 256], sink),
         ([3, 256, 256], source),
         ([3, 3, 0], source),
         ([4, 4, 0], DONE),
     ] {
-        let all = told_in_rooms(&rt, rt.alloc(), rooms);
+        let all = run_in_rooms(&rt, rt.alloc(), rooms);
         assert!(rt; all.as_slice() == [wanted].as_slice(), "{rooms:?}");
     }
 }

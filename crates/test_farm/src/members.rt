@@ -2,7 +2,7 @@
 
 use crate::asserts::{assert_same, unwrap};
 use crate::batches::{
-    ROOM, all_told, alone, count_up, failing, increments_by, one_more, run_on, same,
+    ROOM, alone, count_up, failing, increments_by, one_more, outcomes, run_on, same,
 };
 use std::alloc::Global;
 use std::process::Abort;
@@ -25,9 +25,9 @@ fn increments_by_one<R: Abort + Threads + Wait + Sync>(
     run_on(rt, alloc, INCREMENT, words, links, &OpenGate)
 }
 
-/// Each entry has its packet's word plus one.
+/// Whether each entry has its packet's word plus one.
 fn are_one_more(rt: &impl Abort, alloc: Global, words: &[u32], collected: &Collected) -> bool {
-    let all = all_told(rt, alloc, collected);
+    let all = outcomes(rt, alloc, collected);
     for (one, word) in all.iter().zip(words.iter()) {
         if *one != one_more(*word) {
             return false;

@@ -1,7 +1,7 @@
 //! The calls of a gate: a member's own number, and its packet's.
 
 use crate::asserts::{assert_same, unwrap};
-use crate::batches::{ROOM, count_up, failing, increments_by, told_by_one};
+use crate::batches::{ROOM, count_up, failing, increments_by, run_by_one};
 use std::alloc::Global;
 use std::process::Abort;
 use std::sync::{Mutex, Wait};
@@ -14,9 +14,9 @@ use tp_link::Media;
 #[derive(Clone, Copy, PartialEq, Eq)]
 enum Heard {
     Asked(u32),
-    /// It has taken the packet of the second number.
+    /// The member has taken the packet of the second number.
     Claimed(u32, u32),
-    /// It is done with it, or has lost it.
+    /// The member has finished that packet, or lost it.
     Finished(u32, u32),
 }
 
@@ -28,7 +28,7 @@ impl Heard {
     }
 }
 
-/// Lets each member go on, and keeps what it hears.
+/// Lets each member go on, and records what it hears.
 #[derive(Drop)]
 struct Recording<'r, R> {
     rt: &'r R,
@@ -82,13 +82,13 @@ fn heard_of_one<R: Abort + Threads + Wait + Sync>(
     let mut media = unwrap(rt, Media::new(alloc, ROOM));
     let links = failing(&mut media, calls);
     let gate = Recording::new(rt, alloc);
-    let _ = told_by_one(rt, alloc, INCREMENT, &[1, 1], links, &gate);
+    let _ = run_by_one(rt, alloc, INCREMENT, &[1, 1], links, &gate);
     gate.into_heard()
 }
 
 /// A gate hears of a lost packet as of one that is done.
 #[test]
-fn a_gate_is_told_of_one_member(rt: HostRuntime) {
+fn a_gate_hears_of_one_member(rt: HostRuntime) {
     let wanted = [
         Heard::Asked(0),
         Heard::Claimed(0, 0),
@@ -157,7 +157,7 @@ fn turns_of(heard: &[Heard]) -> Option<usize> {
 
 /// Members of the numbers 0, 1, 2 .. ask and no others, and each of them reports its own packets.
 #[test]
-fn a_gate_is_told_of_each_member(rt: HostRuntime) {
+fn a_gate_hears_of_each_member(rt: HostRuntime) {
     for members in [1u32, 3, 64] {
         let heard = heard_of(&rt, rt.alloc(), members as usize);
         let mut packets = 0usize;

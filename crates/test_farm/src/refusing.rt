@@ -11,7 +11,7 @@ use tp_board::Packet;
 use tp_farm::{FarmFault, OpenGate};
 use tp_link::{Media, boxed, media_of};
 
-/// What a batch of the increment over these media is refused with, if it is.
+/// The refusal of a batch of the increment over these media, if it is refused.
 fn fault_over<R: Abort + Threads + Wait + Sync>(
     rt: &R,
     alloc: Global,
@@ -90,7 +90,7 @@ fn a_batch_may_be_empty(rt: HostRuntime) {
     }
 }
 
-/// Each fault, and what is printed of it.
+/// Each fault, and its text.
 const PRINTED: [(FarmFault, &str); 5] = [
     (FarmFault::Members, "G1: not 1 to 64 members"),
     (FarmFault::Packets, "G2: more than 1024 packets"),
@@ -102,7 +102,7 @@ const PRINTED: [(FarmFault, &str); 5] = [
 #[test]
 fn prints_faults(rt: HostRuntime) {
     for (fault, text) in PRINTED.iter() {
-        let told = unwrap(&rt, format!(in rt.alloc(); "{fault}"));
-        assert!(rt; told.as_str() == *text, "{text}");
+        let printed = unwrap(&rt, format!(in rt.alloc(); "{fault}"));
+        assert!(rt; printed.as_str() == *text, "{text}");
     }
 }

@@ -2,7 +2,7 @@
 
 use crate::asserts::{assert_same, unwrap};
 use crate::batches::{
-    ROOM, Told, all_told, batch_on, have_ended, increments_by, one_more, told_by_one,
+    Outcome, ROOM, batch_on, have_ended, increments_by, one_more, outcomes, run_by_one,
 };
 use std::alloc::Global;
 use std::process::Abort;
@@ -13,7 +13,7 @@ use test_samples::*;
 use tp_farm::Gate;
 use tp_link::{LinkDevice, Links, Media, boxed, media_of};
 
-/// Lets members go on until it is asked for the time that is given.
+/// Answers yes until the ask of the number that is given, and no from there on.
 #[derive(Drop)]
 pub(crate) struct Closing {
     at: u64,
@@ -46,22 +46,22 @@ impl Gate for Closing {
     fn finished(&self, _member: u32, _number: u32) {}
 }
 
-/// The entries of three packets of 1 by one member.
-fn told_of_three<R: Abort + Threads + Wait + Sync>(
+/// The outcomes of three packets of 1 that one member runs.
+fn run_three<R: Abort + Threads + Wait + Sync>(
     rt: &R,
     alloc: Global,
     gate: &Closing,
-) -> Vec<Told> {
+) -> Vec<Outcome> {
     let mut media = unwrap(rt, Media::new(alloc, ROOM));
-    told_by_one(rt, alloc, INCREMENT, &[1; 3], media.wires(), gate)
+    run_by_one(rt, alloc, INCREMENT, &[1; 3], media.wires(), gate)
 }
 
 #[test]
 fn a_gate_stops_one_member(rt: HostRuntime) {
     let gate = Closing::at(3);
-    let all = told_of_three(&rt, rt.alloc(), &gate);
+    let all = run_three(&rt, rt.alloc(), &gate);
     let done = one_more(1);
-    assert!(rt; all.as_slice() == [done, done, Told::Stopped].as_slice());
+    assert!(rt; all.as_slice() == [done, done, Outcome::Stopped].as_slice());
     assert_same(&rt, &gate.asks.load(Ordering::SeqCst), &3);
 }
 
@@ -76,7 +76,7 @@ fn fill_traces<D: LinkDevice>(rt: &impl Abort, links: &mut [Links<D>]) {
     }
 }
 
-/// All devices are open, and each trace holds what was put into it.
+/// Whether all devices are open, and each trace holds what was put into it.
 fn are_kept<D: LinkDevice>(links: &[Links<D>]) -> bool {
     for (member, one) in links.iter().enumerate() {
         let open = one.source.is_open() && one.sink.is_open() && one.trace.is_open();
@@ -92,8 +92,8 @@ fn stops_all<R: Abort + Threads + Wait + Sync>(rt: &R, alloc: Global, media: &mu
     let mut links = unwrap(rt, boxed(alloc, media));
     fill_traces(rt, &mut links);
     let batch = batch_on(rt, alloc, INCREMENT, &[1; 100], links, &Closing::at(1));
-    let all = all_told(rt, alloc, &batch.collected);
-    let stopped = all.len() == 100 && count_of(&all, Told::Stopped) == 100;
+    let all = outcomes(rt, alloc, &batch.collected);
+    let stopped = all.len() == 100 && count_of(&all, Outcome::Stopped) == 100;
     stopped && batch.links.len() == 2 && are_kept(&batch.links)
 }
 
@@ -113,9 +113,9 @@ fn done_before<R: Abort + Threads + Wait + Sync>(
     at: u64,
 ) -> Option<usize> {
     let collected = increments_by(rt, alloc, &[1; 1024], members, &Closing::at(at));
-    let all = all_told(rt, alloc, &collected);
+    let all = outcomes(rt, alloc, &collected);
     let done = count_of(&all, one_more(1));
-    let stopped = count_of(&all, Told::Stopped);
+    let stopped = count_of(&all, Outcome::Stopped);
     (done.saturating_add(stopped) == 1024).then_some(done)
 }
 
@@ -135,7 +135,7 @@ fn a_full_queue_ends_with_its_members(rt: HostRuntime) {
 }
 
 /// How many packets have this entry.
-fn count_of(all: &[Told], wanted: Told) -> usize {
+fn count_of(all: &[Outcome], wanted: Outcome) -> usize {
     let mut count = 0usize;
     for one in all {
         if *one == wanted {
@@ -148,8 +148,11 @@ fn count_of(all: &[Told], wanted: Told) -> usize {
 /// How many of 50 packets by two members are done, and how many are stopped.
 fn done_and_stopped<R: Abort + Threads + Wait + Sync>(rt: &R, alloc: Global) -> (usize, usize) {
     let collected = increments_by(rt, alloc, &[1; 50], 2, &Closing::at(10));
-    let all = all_told(rt, alloc, &collected);
-    (count_of(&all, one_more(1)), count_of(&all, Told::Stopped))
+    let all = outcomes(rt, alloc, &collected);
+    (
+        count_of(&all, one_more(1)),
+        count_of(&all, Outcome::Stopped),
+    )
 }
 
 /// Where the tenth question is the first that is answered false, nine members went on. The last of these may still find the
@@ -230,8 +233,11 @@ fn done_and_stopped_by_one_no<R: Abort + Threads + Wait + Sync>(
     gate: &SayingNoOnce,
 ) -> (usize, usize) {
     let collected = increments_by(rt, alloc, &[1; 1024], members, gate);
-    let all = all_told(rt, alloc, &collected);
-    (count_of(&all, one_more(1)), count_of(&all, Told::Stopped))
+    let all = outcomes(rt, alloc, &collected);
+    (
+        count_of(&all, one_more(1)),
+        count_of(&all, Outcome::Stopped),
+    )
 }
 
 /// One no stops all members, though they would be let go on: each of them ends, and packets are left. Nine asks were

@@ -2,7 +2,7 @@
 //! each batch ends, with an entry for each packet.
 
 use crate::asserts::unwrap;
-use crate::batches::{ROOM, Told, all_told, count_up, increments_by, one_more, run_on};
+use crate::batches::{Outcome, ROOM, count_up, increments_by, one_more, outcomes, run_on};
 use crate::stopping::Closing;
 use std::alloc::Global;
 use std::process::Abort;
@@ -17,7 +17,7 @@ const MEMBERS: [usize; 3] = [1, 2, 64];
 const COUNTS: [u32; 5] = [1, 31, 32, 33, 1024];
 
 /// How many packets are done with their word plus one: 1, or 0 where the packet has that other entry; none where it has neither.
-fn done_or(one: Told, word: u32, other: Told) -> Option<usize> {
+fn done_or(one: Outcome, word: u32, other: Outcome) -> Option<usize> {
     if one == one_more(word) {
         Some(1)
     } else if one == other {
@@ -28,7 +28,7 @@ fn done_or(one: Told, word: u32, other: Told) -> Option<usize> {
 }
 
 /// How many packets are done, each with its word plus one, where all others have that other entry; none where they have not.
-fn done_beside(all: &[Told], words: &[u32], other: Told) -> Option<usize> {
+fn done_beside(all: &[Outcome], words: &[u32], other: Outcome) -> Option<usize> {
     if all.len() != words.len() {
         return None;
     }
@@ -48,7 +48,7 @@ fn done_before<R: Abort + Threads + Wait + Sync>(
     at: u64,
 ) -> Option<usize> {
     let collected = increments_by(rt, alloc, words, members, &Closing::at(at));
-    done_beside(&all_told(rt, alloc, &collected), words, Told::Stopped)
+    done_beside(&outcomes(rt, alloc, &collected), words, Outcome::Stopped)
 }
 
 /// Where the twentieth ask is the first that is answered no, at most 19 packets were taken; one member takes so many.
@@ -78,8 +78,8 @@ fn done_beside_closed<R: Abort + Threads + Wait + Sync>(
         first.source.close();
     }
     let collected = run_on(rt, alloc, INCREMENT, words, links, &OpenGate);
-    let lost = Told::Lost(Link::Source, DeviceFault::Closed);
-    done_beside(&all_told(rt, alloc, &collected), words, lost)
+    let lost = Outcome::Lost(Link::Source, DeviceFault::Closed);
+    done_beside(&outcomes(rt, alloc, &collected), words, lost)
 }
 
 /// A member with a closed device takes its packets and loses them. Alone it loses all.

@@ -1,7 +1,7 @@
 //! Traces.
 
 use crate::asserts::{assert_same, unwrap};
-use crate::batches::{BATCH, ROOM, Told, alone, run_on, told_by_one};
+use crate::batches::{BATCH, Outcome, ROOM, alone, run_by_one, run_on};
 use std::alloc::Global;
 use std::process::Abort;
 use std::sync::Wait;
@@ -11,7 +11,7 @@ use tp_collect::{Collected, Done, Entry};
 use tp_farm::OpenGate;
 use tp_link::{DeviceFault, Link, Media};
 
-/// What becomes of packets of two words by one member.
+/// Runs an image's worker on packets of these two words by one member, and returns their entries.
 fn both<R: Abort + Threads + Wait + Sync>(
     rt: &R,
     alloc: Global,
@@ -23,7 +23,7 @@ fn both<R: Abort + Threads + Wait + Sync>(
     run_on(rt, alloc, image, &words, links, &OpenGate)
 }
 
-/// The result is that of this packet, and result and trace are these bytes.
+/// Whether the result is that of this packet, and result and trace are these bytes.
 fn is_traced(done: &Done, packet: u32, bytes: [u8; 4]) -> bool {
     done.batch == BATCH
         && done.packet == packet
@@ -45,14 +45,14 @@ fn a_trace_is_kept(rt: HostRuntime) {
     }
 }
 
-/// The entries of two packets that are traced 65 times, in a trace with this room.
-fn told_of_long_traces<R: Abort + Threads + Wait + Sync>(
+/// The outcomes of two packets that are traced 65 times, in a trace with this room.
+fn run_long_traces<R: Abort + Threads + Wait + Sync>(
     rt: &R,
     alloc: Global,
     room: usize,
-) -> Vec<Told> {
+) -> Vec<Outcome> {
     let mut media = unwrap(rt, Media::with_rooms(alloc, ROOM, ROOM, room));
-    told_by_one(
+    run_by_one(
         rt,
         alloc,
         TRACES_65_TIMES,
@@ -65,16 +65,16 @@ fn told_of_long_traces<R: Abort + Threads + Wait + Sync>(
 /// With room for 256 bytes the 65th message is refused. With room for it, the trace is too long in the end.
 #[test]
 fn a_long_trace_is_lost(rt: HostRuntime) {
-    let lost = Told::Lost(Link::Trace, DeviceFault::Full);
+    let lost = Outcome::Lost(Link::Trace, DeviceFault::Full);
     for room in [0, 256, 259, 260, 1000] {
-        let all = told_of_long_traces(&rt, rt.alloc(), room);
+        let all = run_long_traces(&rt, rt.alloc(), room);
         assert!(rt; all.as_slice() == [lost, lost].as_slice(), "{room}");
     }
 }
 
 /// The error flag of each packet is its own.
 #[test]
-fn an_error_flag_is_told(rt: HostRuntime) {
+fn an_error_flag_is_reported(rt: HostRuntime) {
     let collected = both(&rt, rt.alloc(), INCREMENT, [0x7FFF_FFFF, 1]);
     match collected.entries.as_slice() {
         [Entry::Done(first), Entry::Done(second)] => {

@@ -79,7 +79,7 @@ fn serves_to_the_end(rt: HostRuntime) {
 }
 
 #[test]
-fn tells_a_failed_read(rt: HostRuntime) {
+fn reports_a_failed_read(rt: HostRuntime) {
     let mut output = Vec::new(rt.alloc());
     let ended = ran(&rt, rt.alloc(), &["farmd"], &mut Broken, &mut output);
     assert_same(&rt, &ended.status, &ExitCode::from(1));
@@ -87,8 +87,8 @@ fn tells_a_failed_read(rt: HostRuntime) {
     assert!(rt; ended.errors.as_slice() == b"farmd: read\n".as_slice());
 }
 
-/// What ends with a fault of this writer: an answer, help and the version.
-fn assert_tells_a_failed_write<T: Threads + Wait + Sync, W: Write>(
+/// Fails unless an answer, help and the version end with this writer's fault.
+fn assert_reports_a_failed_write<T: Threads + Wait + Sync, W: Write>(
     rt: &T,
     alloc: Global,
     output: &mut W,
@@ -109,13 +109,13 @@ where
 }
 
 #[test]
-fn tells_a_failed_write(rt: HostRuntime) {
-    assert_tells_a_failed_write(&rt, rt.alloc(), &mut Broken);
+fn reports_a_failed_write(rt: HostRuntime) {
+    assert_reports_a_failed_write(&rt, rt.alloc(), &mut Broken);
 }
 
 #[test]
-fn tells_a_failed_flush(rt: HostRuntime) {
-    assert_tells_a_failed_write(&rt, rt.alloc(), &mut Unflushed);
+fn reports_a_failed_flush(rt: HostRuntime) {
+    assert_reports_a_failed_write(&rt, rt.alloc(), &mut Unflushed);
 }
 
 /// Gives a line a call, and fails in one call, counted from 1.
@@ -181,7 +181,7 @@ const ANSWERS: &[u8] = b"YES 16 16\nKEPT 0\nR 0 0 16 02000000\nDONE 1\n";
 
 /// Each read and each write fails in turn: the call that fails, the first bytes of the answers that are out, and the message.
 #[test]
-fn tells_each_failed_call(rt: HostRuntime) {
+fn reports_each_failed_call(rt: HostRuntime) {
     let cases = [
         (1, 0, 0, "farmd: read\n"),
         (2, 0, 10, "farmd: read\n"),
@@ -201,7 +201,7 @@ fn tells_each_failed_call(rt: HostRuntime) {
         b"a PACKET 01000000\n".as_slice(),
         b"a RUN\n".as_slice(),
     ];
-    for (read, write, out, told) in cases {
+    for (read, write, out, message) in cases {
         let mut input = ByLine {
             lines: &lines,
             calls: 0,
@@ -216,15 +216,15 @@ fn tells_each_failed_call(rt: HostRuntime) {
         assert_same(
             &rt,
             &ended.status,
-            &ExitCode::from(u8::from(!told.is_empty())),
+            &ExitCode::from(u8::from(!message.is_empty())),
         );
         assert_same(&rt, &output.taken.len(), &out);
         assert!(rt; ANSWERS.starts_with(output.taken.as_slice()));
-        assert!(rt; ended.errors.as_slice() == told.as_bytes());
+        assert!(rt; ended.errors.as_slice() == message.as_bytes());
     }
 }
 
-/// The words, and the first line of why they are refused.
+/// Words, and the first line of their refusal.
 #[test]
 fn refuses_words(rt: HostRuntime) {
     let refused = [
@@ -241,13 +241,13 @@ fn refuses_words(rt: HostRuntime) {
             "error: unexpected argument '' found\n",
         ),
     ];
-    for (words, told) in refused {
+    for (words, message) in refused {
         let mut output = Vec::new(rt.alloc());
         let mut input = b"LIST 604F\n".as_slice();
         let ended = ran(&rt, rt.alloc(), words, &mut input, &mut output);
         assert_same(&rt, &ended.status, &ExitCode::from(2));
         assert!(rt; output.is_empty());
-        assert!(rt; ended.errors.starts_with(told.as_bytes()));
+        assert!(rt; ended.errors.starts_with(message.as_bytes()));
         assert!(rt;
             ended
                 .errors
@@ -313,8 +313,8 @@ fn answers_help_and_version(rt: HostRuntime) {
         let mut output = Vec::new(rt.alloc());
         let ended = ran(&rt, rt.alloc(), &[name, word], &mut Broken, &mut output);
         assert_same(&rt, &ended.status, &ExitCode::SUCCESS);
-        let told = unwrap(&rt, str::from_utf8(&output));
-        assert_same(&rt, &told, &answer);
+        let written = unwrap(&rt, str::from_utf8(&output));
+        assert_same(&rt, &written, &answer);
         assert!(rt; ended.errors.is_empty());
     }
 }
@@ -335,13 +335,13 @@ fn serves_as_asked(rt: HostRuntime) {
     ];
     let mut lines = image_line(&rt, rt.alloc(), TRACES_ITS_PACKET);
     unwrap(&rt, lines.extend_from_slice(b"a PACKET 0A000000\na RUN\n"));
-    for (words, told) in cases {
+    for (words, answer) in cases {
         let mut output = Vec::new(rt.alloc());
         let mut input = lines.as_slice();
         let ended = ran(&rt, rt.alloc(), words, &mut input, &mut output);
         assert_same(&rt, &ended.status, &ExitCode::SUCCESS);
         assert!(rt; output.starts_with(b"YES 19 19\nKEPT 0\n".as_slice()));
-        assert!(rt; output.ends_with(told.as_bytes()));
+        assert!(rt; output.ends_with(answer.as_bytes()));
         assert!(rt; ended.errors.is_empty());
     }
 }
@@ -367,7 +367,7 @@ fn endings(rt: HostRuntime) {
     ];
     for (ending, status, text) in &endings {
         let mut errors = Vec::new(rt.alloc());
-        assert_same(&rt, &ending.tell(&mut errors), &ExitCode::from(*status));
+        assert_same(&rt, &ending.report(&mut errors), &ExitCode::from(*status));
         assert!(rt; errors.as_slice() == text.as_bytes());
     }
 }

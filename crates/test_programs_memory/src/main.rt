@@ -8,7 +8,7 @@
 #![tactic(auto)]
 
 mod daemon;
-mod told;
+mod expected;
 mod tools;
 
 use std::io;

@@ -1,6 +1,6 @@
 //! The program of those who write workers, each of its commands once.
 
-use crate::told::{CASES, Case};
+use crate::expected::{CASES, Case};
 use std::alloc::Global;
 use std::io::Eprint;
 use std::process::ExitCode;
@@ -13,8 +13,8 @@ use test_samples::page::Page;
 use test_samples::streams::Words;
 use tpw_commands::{Terminal, run};
 
-/// What a command answers, and how much it has written. After Memory, and where a thread was refused for it, that is how its text
-/// begins, and its fault is reported.
+/// What a command answers, and how many bytes it has written. Where memory or a thread is refused, it reports that fault, and what it
+/// has written is the beginning of the expected text.
 fn answer<T>(rt: &T, alloc: Global, case: &Case<'_>) -> (Answer, usize)
 where
     T: Files + Threads + Wait + Clock + Eprint + Sync,
@@ -36,13 +36,13 @@ where
         &mut terminal,
     );
     let (written, fault) = (page.written(), errors.written());
-    let told = case.told.page();
-    let told = told.written();
+    let expected = case.expected.page();
+    let expected = expected.written();
     let answer = if fault.is_empty() {
-        same_if(status == ExitCode::from(case.status) && written == told)
+        same_if(status == ExitCode::from(case.status) && written == expected)
     } else if (fault == b"tpw: memory\n".as_slice() || fault == b"tpw: thread\n".as_slice())
         && status == ExitCode::from(1)
-        && told.starts_with(written)
+        && expected.starts_with(written)
     {
         Answer::Memory
     } else {

@@ -1,8 +1,8 @@
-//! Images, packets and what is answered, worked out by hand.
+//! Images, packets and answers, worked out by hand.
 
 use test_samples::*;
 
-/// An image, packets that are run on it, and all that is answered.
+/// An image, packets that are run on it, and all answers.
 pub struct Case {
     pub name: &'static str,
     pub trace: bool,
@@ -63,14 +63,14 @@ pub const RUNS: [Case; 14] = [
         answers: "YES 17 17\nKEPT 0\nKEPT 1\nR 0 0 15 00000000\nR 1 0 17 05000000\nDONE 2\n",
     },
     Case {
-        name: "a trace that is told",
+        name: "a trace that is written",
         trace: true,
         image: TRACES_ITS_PACKET,
         packets: &["0A000000"],
         answers: "YES 19 19\nKEPT 0\nR 0 0 19 0a000000\nT 0 0a000000\nDONE 1\n",
     },
     Case {
-        name: "a trace that is not told",
+        name: "a trace that is not written",
         trace: false,
         image: TRACES_ITS_PACKET,
         packets: &["0A000000"],
@@ -91,7 +91,7 @@ pub const RUNS: [Case; 14] = [
         answers: "YES 28 668\nKEPT 0\nLOST 0\nDONE 1\n",
     },
     Case {
-        name: "a trace that is too long, where traces are told",
+        name: "a trace that is too long, where traces are written",
         trace: true,
         image: TRACES_65_TIMES,
         packets: &["00000000"],

@@ -31,23 +31,23 @@ fn full_session(rt: &impl Abort, alloc: Global) -> Vec<u8> {
     input
 }
 
-/// What is answered before the run.
+/// The answers before the run.
 fn kept(rt: &impl Abort, alloc: Global) -> String {
     let mut output = String::new(alloc);
     unwrap(rt, output.push_str("YES 16 16\n"));
     for number in 0..PACKETS {
-        let told = unwrap(rt, format!(in alloc; "KEPT {number}\n"));
-        unwrap(rt, output.push_str(told.as_str()));
+        let line = unwrap(rt, format!(in alloc; "KEPT {number}\n"));
+        unwrap(rt, output.push_str(line.as_str()));
     }
     output
 }
 
-/// What is answered to the run.
+/// The answer to the run.
 fn results(rt: &impl Abort, alloc: Global) -> String {
     let mut output = String::new(alloc);
     for number in 0..PACKETS {
-        let told = unwrap(rt, format!(in alloc; "R {number} 0 16 02000000\n"));
-        unwrap(rt, output.push_str(told.as_str()));
+        let line = unwrap(rt, format!(in alloc; "R {number} 0 16 02000000\n"));
+        unwrap(rt, output.push_str(line.as_str()));
     }
     unwrap(rt, output.push_str("DONE 1024\n"));
     output
@@ -70,13 +70,13 @@ fn a_full_batch_is_flushed_once(rt: HostRuntime) {
     assert!(rt; writer.taken.ends_with(results.as_bytes()));
 }
 
-/// What is answered to so many empty lines.
+/// The answers to so many empty lines.
 fn refusals(rt: &impl Abort, alloc: Global, lines: u32) -> String {
     let mut output = String::new(alloc);
-    for number in 0..lines {
-        let line = u64::from(number).saturating_add(1);
-        let told = unwrap(rt, format!(in alloc; "NO E1 {line}\n"));
-        unwrap(rt, output.push_str(told.as_str()));
+    for index in 0..lines {
+        let number = u64::from(index).saturating_add(1);
+        let line = unwrap(rt, format!(in alloc; "NO E1 {number}\n"));
+        unwrap(rt, output.push_str(line.as_str()));
     }
     output
 }

@@ -66,15 +66,15 @@ fn two_listings(rt: &impl Abort, alloc: Global, instructions: usize, end: &[u8])
     input
 }
 
-/// What is answered for a listing of so many instructions `ldc 1`.
+/// The answer to a listing of so many instructions `ldc 1`.
 pub(crate) fn long_listing(rt: &impl Abort, alloc: Global, instructions: u32) -> String {
     let mut output = String::new(alloc);
     for at in 0..instructions {
-        let told = unwrap(rt, format!(in alloc; "{at} 41 ldc 1\n"));
-        unwrap(rt, output.push_str(told.as_str()));
+        let line = unwrap(rt, format!(in alloc; "{at} 41 ldc 1\n"));
+        unwrap(rt, output.push_str(line.as_str()));
     }
-    let told = unwrap(rt, format!(in alloc; "DONE {instructions}\n"));
-    unwrap(rt, output.push_str(told.as_str()));
+    let last = unwrap(rt, format!(in alloc; "DONE {instructions}\n"));
+    unwrap(rt, output.push_str(last.as_str()));
     output
 }
 
@@ -109,9 +109,9 @@ fn many_answers(rt: &impl Abort, alloc: Global) -> String {
     let mut output = String::new(alloc);
     for pair in 1..1_501u32 {
         let refused = pair.saturating_mul(2);
-        let told = format!(in alloc; "0 604f ldc -1\nDONE 1\nNO E1 {refused}\n");
-        let told = unwrap(rt, told);
-        unwrap(rt, output.push_str(told.as_str()));
+        let answers = format!(in alloc; "0 604f ldc -1\nDONE 1\nNO E1 {refused}\n");
+        let answers = unwrap(rt, answers);
+        unwrap(rt, output.push_str(answers.as_str()));
     }
     output
 }

@@ -62,8 +62,8 @@ fn all_codes(rt: &impl Abort, alloc: Global) -> Vec<u8> {
 fn all_names(rt: &impl Abort, alloc: Global) -> Vec<u8> {
     let mut output = Vec::new(alloc);
     for (code, text) in NAMES.iter() {
-        let told = unwrap(rt, format!(in alloc; "0 {code} {text}\nDONE 1\n"));
-        unwrap(rt, output.extend_from_slice(told.as_bytes()));
+        let answer = unwrap(rt, format!(in alloc; "0 {code} {text}\nDONE 1\n"));
+        unwrap(rt, output.extend_from_slice(answer.as_bytes()));
     }
     output
 }

@@ -97,7 +97,7 @@ const INPUT: &[u8] = b"LIST 604F\nHELLO\nLIST 24F2\r\nLIST 41F3";
 
 const OUTPUT: &[u8] = b"0 604f ldc -1\nDONE 1\nNO E1 2\n0 24f2 mint\nDONE 1\nNO D3 1\n";
 
-/// What a writer that takes a byte a call takes for an input that is read a byte at a time.
+/// Serves an input that is read a byte at a time, to a writer that takes a byte a call, and returns the writer.
 fn served_by_bytes<T: Abort + Threads + Wait + Sync>(
     rt: &T,
     alloc: Global,
@@ -231,7 +231,7 @@ fn session(rt: &impl Abort, alloc: Global) -> Vec<u8> {
     input
 }
 
-const TOLD: &[u8] = b"YES 16 16\nKEPT 0\nKEPT 1\nKEPT 2\n\
+const SESSION_ANSWERS: &[u8] = b"YES 16 16\nKEPT 0\nKEPT 1\nKEPT 2\n\
     R 0 0 16 02000000\nR 1 1 16 00000080\nR 2 0 16 02000000\nDONE 3\nDONE 0\n";
 
 /// How much is written before each line, and how many bytes the lines before it have.
@@ -245,14 +245,15 @@ const STEPS: [(usize, usize); 7] = [
     (139, 99),
 ];
 
-fn told_after(read: usize) -> usize {
-    let mut told = 0;
+/// How much of a session's answers is written once so much of the session was read.
+fn answered_after(read: usize) -> usize {
+    let mut written = 0;
     for (lines, bytes) in STEPS.iter() {
         if *lines <= read {
-            told = *bytes;
+            written = *bytes;
         }
     }
-    told
+    written
 }
 
 /// 99 bytes and 6 flushes.
@@ -260,7 +261,7 @@ fn told_after(read: usize) -> usize {
 fn a_session_a_byte_at_a_time(rt: HostRuntime) {
     let input = session(&rt, rt.alloc());
     let writer = served_by_bytes(&rt, rt.alloc(), 4, &input);
-    assert!(rt; writer.taken.as_slice() == TOLD);
+    assert!(rt; writer.taken.as_slice() == SESSION_ANSWERS);
     assert_same(&rt, &writer.calls, &105);
 }
 
@@ -268,7 +269,9 @@ fn a_session_a_byte_at_a_time(rt: HostRuntime) {
 fn each_read_of_a_session_fails(rt: HostRuntime) {
     let input = session(&rt, rt.alloc());
     for failing in 1..141 {
-        let wanted = TOLD.get(..told_after(failing - 1)).unwrap_or(TOLD);
+        let wanted = SESSION_ANSWERS
+            .get(..answered_after(failing - 1))
+            .unwrap_or(SESSION_ANSWERS);
         let same = read_fails_as(&rt, rt.alloc(), &input, failing, wanted);
         assert!(rt; same, "{failing}");
     }
@@ -279,7 +282,7 @@ fn each_read_of_a_session_fails(rt: HostRuntime) {
 fn each_write_of_a_session_fails(rt: HostRuntime) {
     let input = session(&rt, rt.alloc());
     for failing in 1..106 {
-        let same = write_fails_within(&rt, rt.alloc(), &input, failing, TOLD);
+        let same = write_fails_within(&rt, rt.alloc(), &input, failing, SESSION_ANSWERS);
         assert!(rt; same, "{failing}");
     }
 }

@@ -1,4 +1,4 @@
-//! What a vector came to, spelled as vectors spell it.
+//! The outcome of a vector, spelled as vectors spell it.
 
 use crate::fields::Cells;
 use crate::run::{Ran, SENT, TRACED};
@@ -145,7 +145,7 @@ fn write_end(out: &mut String, vector: &Vector, ran: &Ran, outcome: &Outcome) ->
     Ok(())
 }
 
-/// What a vector came to.
+/// The outcome of a vector.
 pub(crate) fn text(alloc: Global, vector: &Vector, ran: &Ran) -> Result<String> {
     let mut out = String::new(alloc);
     match &ran.answer {

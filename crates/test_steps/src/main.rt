@@ -1,7 +1,7 @@
 //! Single steps on the machine: a state, the bytes of one instruction, and the state after them.
 //!
-//! The vectors come on standard input, one a line, as README.md says. How many agree is printed, and before that the
-//! first that does not: the number of its line, its state, what it says and what came.
+//! Reads vectors from standard input, one a line, as README.md describes them. Prints the first that does not agree (the number of
+//! its line, its state, the vector's outcome and the machine's), and then how many agree.
 #![tactic(auto)]
 
 mod answer;
@@ -13,10 +13,10 @@ use anyhow::{Context, Result};
 use std::alloc::Global;
 use std::io::{BufRead, BufReader};
 
-/// What parts a vector's state from the state after it.
+/// Separates a vector's state from the state after it.
 const MARK: &str = " > ";
 
-/// Whether what came is what a vector says. The machine does not tell where it stood when a device refused a call.
+/// Whether an outcome is the vector's. The machine does not report its address where a device refuses a call.
 fn agrees(came: &str, wanted: &str) -> bool {
     came == wanted || came == "W" && wanted.starts_with("W ")
 }

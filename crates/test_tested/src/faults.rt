@@ -131,7 +131,7 @@ fn prints_faults(rt: HostRuntime) {
     ];
     for (answer, text) in faults {
         let fault = unwrap(&rt, answer.err().ok_or("no fault"));
-        let told = unwrap(&rt, format!(in rt.alloc(); "{fault}"));
-        assert_same(&rt, &told.as_str(), &text);
+        let printed = unwrap(&rt, format!(in rt.alloc(); "{fault}"));
+        assert_same(&rt, &printed.as_str(), &text);
     }
 }

@@ -57,15 +57,15 @@ fn local(function: u8, word: u16) -> [u8; 3] {
 
 /// The refusal comes in the last of 464 passes. The passes before it carry one state, as the verifier's do.
 #[test]
-fn tells_a_late_refusal(rt: HostRuntime) {
+fn explains_a_late_refusal(rt: HostRuntime) {
     let image = moving(&rt, rt.alloc());
     let mut output = Vec::new(rt.alloc());
     let answer = explain(rt.alloc(), &image, SourceText::NONE, &mut output);
     let is_accepted = unwrap(&rt, answer.map_err(|_| "no answer"));
-    let told = unwrap(&rt, str::from_utf8(&output).map_err(|_| "no text"));
+    let text = unwrap(&rt, str::from_utf8(&output).map_err(|_| "no text"));
     assert!(rt; !is_accepted);
-    assert!(rt; told.starts_with("NO S3 8188\n"));
+    assert!(rt; text.starts_with("NO S3 8188\n"));
     assert!(rt;
-        told.contains("\nfound    in pass 464, on the edge Next of the instruction at 8188\n")
+        text.contains("\nfound    in pass 464, on the edge Next of the instruction at 8188\n")
     );
 }

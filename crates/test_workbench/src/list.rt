@@ -58,7 +58,7 @@ refused  control goes on behind the last instruction
      1  f5                         -  add
 ";
 
-/// No image: as why tells it.
+/// No image: the text that `why` writes.
 const CUT_SHORT: &str = "\
 NO F2 4
 refused  the image is cut short

@@ -47,21 +47,21 @@ pub fn small_letters(rt: &impl Abort, alloc: Global, before: &str, image: &[u8])
 /// ldc 1, add.
 pub const STUCK: &str = "5450573102000C00080001000100000041F5";
 
-/// What is asked of the program: an input and words. What it is to end with: a status, what it writes, and what on standard error.
+/// The program's input and words, and what is expected: a status, an output, and the text on standard error.
 pub type Case<'a> = (&'a str, &'a [&'a str], u8, &'a str, &'a str);
 
-/// Runs the program, and finds that it ends as it is to.
+/// Runs the program, and fails unless it ends as expected.
 pub fn check<T>(rt: &T, alloc: Global, case: Case<'_>)
 where
     T: Files + Threads + Wait + Clock + Eprint + Sync + Abort,
 {
-    let (input, words, status, told, said) = case;
+    let (input, words, status, expected, expected_errors) = case;
     let mut output = Vec::new(alloc);
     let mut input = input.as_bytes();
     let ended = ran(rt, alloc, words, &mut input, &mut output);
     let written = unwrap(rt, str::from_utf8(&output));
     let errors = unwrap(rt, str::from_utf8(&ended.errors));
-    assert_same(rt, &written, &told);
-    assert_same(rt, &errors, &said);
+    assert_same(rt, &written, &expected);
+    assert_same(rt, &errors, &expected_errors);
     assert_same(rt, &ended.status, &ExitCode::from(status));
 }

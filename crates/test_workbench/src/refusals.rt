@@ -1,4 +1,4 @@
-//! What ends the program early.
+//! Command lines and inputs with which the program ends early.
 
 use crate::asserts::{assert_same, unwrap};
 use crate::program::{capitals, ran};
@@ -30,7 +30,7 @@ for p = 0 for 2
 for q = 0 for 2
 ";
 
-/// What ends early: nothing is written but why.
+/// The program ends early, and writes nothing but the reason.
 #[test]
 fn refusals(rt: HostRuntime) {
     let increment = capitals(&rt, rt.alloc(), INCREMENT);
@@ -150,19 +150,19 @@ fn refusals(rt: HostRuntime) {
             "error: unrecognized subcommand 'walk'\n",
         ),
     ];
-    for (input, words, status, told) in cases {
+    for (input, words, status, message) in cases {
         let mut output = Vec::new(rt.alloc());
         let mut input = input.as_bytes();
         let ended = ran(&rt, rt.alloc(), words, &mut input, &mut output);
         let errors = unwrap(&rt, str::from_utf8(&ended.errors));
-        assert!(rt; errors.starts_with(told), "{errors}");
-        assert_eq!(rt; ended.status, ExitCode::from(status), "{told}");
+        assert!(rt; errors.starts_with(message), "{errors}");
+        assert_eq!(rt; ended.status, ExitCode::from(status), "{message}");
         assert!(rt; output.is_empty());
     }
 }
 
 #[test]
-fn tells_a_failed_read(rt: HostRuntime) {
+fn reports_a_failed_read(rt: HostRuntime) {
     let mut output = Vec::new(rt.alloc());
     let ended = ran(&rt, rt.alloc(), &["tpw", "step"], &mut Broken, &mut output);
     assert_same(&rt, &ended.status, &ExitCode::from(1));
@@ -172,7 +172,7 @@ fn tells_a_failed_read(rt: HostRuntime) {
 
 /// A run, help and the version where the output cannot be written, or not be flushed.
 #[test]
-fn tells_a_failed_write(rt: HostRuntime) {
+fn reports_a_failed_write(rt: HostRuntime) {
     let increment = capitals(&rt, rt.alloc(), INCREMENT);
     for words in [
         ["tpw", "step"].as_slice(),
@@ -236,7 +236,7 @@ fn endings(rt: HostRuntime) {
     ];
     for (ending, status, text) in &endings {
         assert_same(&rt, &ending.status(), &*status);
-        let told = unwrap(&rt, format!(in rt.alloc(); "{ending}"));
-        assert_same(&rt, &told.as_str(), &*text);
+        let printed = unwrap(&rt, format!(in rt.alloc(); "{ending}"));
+        assert_same(&rt, &printed.as_str(), &*text);
     }
 }

@@ -133,8 +133,8 @@ count 1
             LABELLED_STEPS,
         ),
     ];
-    for (image, words, status, told) in cases {
-        check(&rt, rt.alloc(), (image, words, status, told, ""));
+    for (image, words, status, expected) in cases {
+        check(&rt, rt.alloc(), (image, words, status, expected, ""));
     }
 }
 

@@ -25,7 +25,7 @@ result 1
 ";
 
 /// The text of INCREMENT: 16 bytes, each executed once.
-const INCREMENT_TOLD: &str = "\
+const INCREMENT_DISASSEMBLED: &str = "\
 ; at most 16 instruction bytes
 ; behind an instruction: its address, and the bytes from it to the end of the loop around it, or of the run
 workspace 12
@@ -48,7 +48,7 @@ result 1
 ";
 
 /// The text of FIBONACCI: a turn of its loop has at most 22 bytes, 18 of them where it sends a trace.
-const FIBONACCI_TOLD: &str = "\
+const FIBONACCI_DISASSEMBLED: &str = "\
 ; at most 1056 instruction bytes
 ; loop 15 to 35: 47 turns of 22, 1034 in all
 ; behind an instruction: its address, and the bytes from it to the end of the loop around it, or of the run
@@ -98,8 +98,8 @@ L30:
         stopp  ; 42: 2
 ";
 
-/// ldc 1, add: refused: no costs are printed.
-const STUCK_TOLD: &str = "\
+/// The text of ldc 1, add, which is refused: no costs are printed.
+const STUCK_DISASSEMBLED: &str = "\
 workspace 12
 start 8
 packet 1
@@ -125,22 +125,26 @@ fn texts_and_images(rt: HostRuntime) {
         (
             increment.as_str(),
             ["tpw", "dis"].as_slice(),
-            INCREMENT_TOLD,
+            INCREMENT_DISASSEMBLED,
         ),
-        (INCREMENT_TOLD, ["tpw", "asm"].as_slice(), image.as_str()),
+        (
+            INCREMENT_DISASSEMBLED,
+            ["tpw", "asm"].as_slice(),
+            image.as_str(),
+        ),
         (
             fibonacci.as_str(),
             ["tpw", "dis"].as_slice(),
-            FIBONACCI_TOLD,
+            FIBONACCI_DISASSEMBLED,
         ),
         (
-            FIBONACCI_TOLD,
+            FIBONACCI_DISASSEMBLED,
             ["tpw", "asm"].as_slice(),
             fibonacci.as_str(),
         ),
-        (STUCK, ["tpw", "dis"].as_slice(), STUCK_TOLD),
+        (STUCK, ["tpw", "dis"].as_slice(), STUCK_DISASSEMBLED),
     ];
-    for (input, words, told) in cases {
-        check(&rt, rt.alloc(), (input, words, 0, told, ""));
+    for (input, words, expected) in cases {
+        check(&rt, rt.alloc(), (input, words, 0, expected, ""));
     }
 }

@@ -76,7 +76,7 @@ instead  docs/VERIFIER.md lists what is asked of a row
 ",
         ),
     ];
-    for (image, words, status, told) in cases {
-        check(&rt, rt.alloc(), (image, words, status, told, ""));
+    for (image, words, status, expected) in cases {
+        check(&rt, rt.alloc(), (image, words, status, expected, ""));
     }
 }

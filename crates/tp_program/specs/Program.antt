@@ -27,12 +27,12 @@ fault_text Write = codes "farmd: write\n"
 fault_text Memory = codes "farmd: memory\n"
 fault_text Thread = codes "farmd: thread\n"
 
-abbrev pub told_of : Result (Unit {0}) ServeFault → List ℕ
-told_of (Ok _) = []
-told_of (Err fault) = fault_text fault
+abbrev pub reported : Result (Unit {0}) ServeFault → List ℕ
+reported (Ok _) = []
+reported (Err fault) = fault_text fault
 
 -- what is served for the input is written, by how serving ends; a fault is reported, as far as that can be written
-pub record HasServed (trace : Bool) (input left old new told told' : Option (List ℕ)) (status : ℕ) : Type 0 where
+pub record HasServed (trace : Bool) (input left old new errors errors' : Option (List ℕ)) (status : ℕ) : Type 0 where
   pub result : Result (Unit {0}) ServeFault
   pub all : OnOk result (ServesAll trace input left old new)
   pub read : result ≡ Err Read → ServesRead trace input left old new
@@ -40,7 +40,7 @@ pub record HasServed (trace : Bool) (input left old new told told' : Option (Lis
   pub write : result ≡ Err Write → ServesSome trace input old new
   pub status_is : status ≡ status_of result
   pub some : ℕ
-  pub tells : Appends told told' (take some (told_of result))
+  pub reports : Appends errors errors' (take some (reported result))
 
 -- ---- other words: they ask for a text, or are refused
 
@@ -56,20 +56,20 @@ IsStatusBy kinds status = ((kind : ErrorKind) × IsAmong kind kinds × (status �
 -- ---- what the words ask for is done
 
 -- from streams whose bytes are known or not, as they were and as they are left
-pub record Performs (words : List Text) (input left old new told told' : Option (List ℕ)) (status : ℕ) : Type 0 where
-  pub serves : fault_of farmd words ≡ [] → HasServed (asks_traces words) input left old new told told' status
+pub record Performs (words : List Text) (input left old new errors errors' : Option (List ℕ)) (status : ℕ) : Type 0 where
+  pub serves : fault_of farmd words ≡ [] → HasServed (asks_traces words) input left old new errors errors' status
   pub other : fault_of farmd words ≢ [] → IsStatusBy (fault_of farmd words) status × (left ≡ input)
   pub refused : status ≡ 2 → new ≡ old
 
 -- ---- no words could be had
 
 -- for want of memory, which is reported as far as that can be written; else a word is no text
-abbrev pub EndsWordless : IoKind → (told told' : Option (List ℕ)) → (status : ℕ) → Type 0
-EndsWordless OutOfMemory told told' status = (some : ℕ) × Appends told told' (take some (fault_text Memory)) × (status ≡ 1)
-EndsWordless kind told told' status = status ≡ 2
+abbrev pub EndsWordless : IoKind → (errors errors' : Option (List ℕ)) → (status : ℕ) → Type 0
+EndsWordless OutOfMemory errors errors' status = (some : ℕ) × Appends errors errors' (take some (fault_text Memory)) × (status ≡ 1)
+EndsWordless kind errors errors' status = status ≡ 2
 
 -- then nothing is read, and nothing is written to standard output
-pub record DoesNothing (kind : IoKind) (input left old new told told' : Option (List ℕ)) (status : ℕ) : Type 0 where
+pub record DoesNothing (kind : IoKind) (input left old new errors errors' : Option (List ℕ)) (status : ℕ) : Type 0 where
   pub unread : left ≡ input
   pub unwritten : new ≡ old
-  pub ends : EndsWordless kind told told' status
+  pub ends : EndsWordless kind errors errors' status

@@ -25,7 +25,7 @@ pub enum Ending {
     Refused(clap::Error),
     /// A word of the command line is not UTF-8.
     NotText,
-    /// Serving ended with a fault, or what it needs could not be had.
+    /// Serving ended with a fault, or was refused memory or a thread.
     Fault(ServeFault),
 }
 
@@ -41,13 +41,13 @@ fn fault_text(fault: ServeFault) -> &'static [u8]
     }
 }
 
-/// Writes a fault, as far as it can be written.
+/// Writes a fault, as far as the stream takes it.
 fn write_fault<E: Write>(errors: &mut E, fault: ServeFault)
     ensures { (n : ℕ) × Appends (E.contents errors.old) (E.contents errors.new) (take n (fault_text fault)) }
 {
     match write_whole(errors, fault_text(fault)) {
         Ok(()) => (),
-        // Nowhere is left to tell it.
+        // There is nowhere left to report it.
         Err(_) => (),
     }
 }
@@ -64,7 +64,7 @@ impl Ending {
         }
     }
 
-    /// Writes why, as far as it can be written.
+    /// Writes why, as far as the stream takes it.
     fn write<E: Write>(&self, errors: &mut E)
         ensures { (fault : ServeFault) → self.now ≡ Fault fault →
             (n : ℕ) × Appends (E.contents errors.old) (E.contents errors.new) (take n (fault_text fault)) }
@@ -82,8 +82,8 @@ impl Ending {
         }
     }
 
-    /// Writes why, as far as it can be written, and gives the status.
-    pub fn tell<E: Write>(&self, errors: &mut E) -> ExitCode
+    /// Writes why, as far as the stream takes it, and returns the status.
+    pub fn report<E: Write>(&self, errors: &mut E) -> ExitCode
         ensures status { exit_status result ≡ ending_status self.now }
         ensures text { (fault : ServeFault) → self.now ≡ Fault fault →
             (n : ℕ) × Appends (E.contents errors.old) (E.contents errors.new) (take n (fault_text fault)) }

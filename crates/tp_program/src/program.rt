@@ -43,7 +43,7 @@ fn show<W: Write>(writer: &mut W, text: &clap::Error) -> Result<(), ServeFault> 
     }
 }
 
-/// Does what these words ask for, the first of which names the program. Where that ends early, writes why to `errors`.
+/// Does what these words ask for, the first of which names the program. Writes to `errors` why it ends early, if it does.
 pub fn run_words<T: Threads + Wait + Sync, S: AsStr, R: Read, W: Write, E: Write>(
     rt: &T,
     words: &[S],
@@ -58,17 +58,17 @@ pub fn run_words<T: Threads + Wait + Sync, S: AsStr, R: Read, W: Write, E: Write
     match asked(alloc, words) {
         Ok(asked) => match serve_members(rt, alloc, reader, writer, asked) {
             Ok(()) => ExitCode::SUCCESS,
-            Err(fault) => Ending::Fault(fault).tell(errors),
+            Err(fault) => Ending::Fault(fault).report(errors),
         },
         Err(Ending::Shown(text)) => match show(writer, &text) {
             Ok(()) => ExitCode::SUCCESS,
-            Err(fault) => Ending::Fault(fault).tell(errors),
+            Err(fault) => Ending::Fault(fault).report(errors),
         },
-        Err(ending) => ending.tell(errors),
+        Err(ending) => ending.report(errors),
     }
 }
 
-/// Does what the words of a command line ask for, as `env::args` gives them. Where that ends early, writes why to `errors`.
+/// Does what the words of a command line ask for, as `env::args` gives them. Writes to `errors` why it ends early, if it does.
 pub fn run<T: Threads + Wait + Sync, R: Read, W: Write, E: Write>(
     rt: &T,
     words: io::Result<Args>,
@@ -86,6 +86,6 @@ pub fn run<T: Threads + Wait + Sync, R: Read, W: Write, E: Write>(
 {
     match words_of(words, alloc) {
         Ok(words) => run_words(rt, &words, alloc, reader, writer, errors),
-        Err(ending) => ending.tell(errors),
+        Err(ending) => ending.report(errors),
     }
 }

@@ -1,6 +1,6 @@
 pub mod LayoutLemmas
 pub mod AssemblyLemmas
-pub mod TellingLemmas
+pub mod CodeLines
 pub mod RoundTrip
 pub mod Labelled
-pub mod Told
+pub mod Disassembled

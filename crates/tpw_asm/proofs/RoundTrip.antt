@@ -1,4 +1,4 @@
--- What is told of an image is assembled to it.
+-- The lines of a code spell its bytes.
 use Rattle.std.proofs.Common.{◌≡◌, ℕ, suc, ◌+◌, ◌-◌, ◌≤◌, Bool, true, false, ◌&&◌, nat_eq, nat_lt, if◌then◌else◌, List, [], ◌∷◌, ◌++◌, length, map, take, drop, replicate, Some, None, refl, sym, ap, ◌∙◌, arith}
 use Rattle.std.specs.List.{concat, flat_map, list_all, AllByRecursion}
 use Rattle.std.proofs.lemmas.Bool.Decides.{nat_tests}
@@ -16,7 +16,7 @@ use Rattle.std.proofs.lemmas.Bool.{and_parts}
 use Rattle.std.proofs.lemmas.Slice.Eq.{bytes_eq-Decides}
 use Rattle.std.proofs.lemmas.List.{length-take-le, take-append-drop}
 use Rattle.std.proofs.lemmas.List.Folds.{concat-append}
-use Rattle.tpw_asm.proofs.TellingLemmas.{append_nil}
+use Rattle.tpw_asm.proofs.CodeLines.{append_nil}
 use Rattle.tp_prefix.proofs.Reach.{canonical_least}
 
 -- a line that has no distance
@@ -97,8 +97,8 @@ own_spelled bytes instr e h h' addresses number = by_test (nat_eq (length bytes)
         ap (λ n. replicate n 0x20 ++ shortest instr) none ∙ sym is
     by_test false other = sym is
 
--- lines that tell bytes, wherever they stand
-pub record Tells (lines : List Line) (bytes : List ℕ) : Type 0 where
+-- lines that spell bytes, at any address and number
+pub record Spells (lines : List Line) (bytes : List ℕ) : Type 0 where
   pub own : AllByRecursion IsOwn lines
   pub code : (addresses : List ℕ) (number : ℕ) → concat (spelled_from addresses number lines) ≡ bytes
 
@@ -111,8 +111,8 @@ own-append : (xs ys : List Line) → AllByRecursion IsOwn xs → AllByRecursion 
 own-append [] ys own own' = own'
 own-append (x ∷ xs) ys own own' = (own.0, own-append xs ys own.1 own')
 
-tells-append : (xs ys : List Line) (a b : List ℕ) → Tells xs a → Tells ys b → Tells (xs ++ ys) (a ++ b)
-tells-append xs ys a b t u = record {
+spells-append : (xs ys : List Line) (a b : List ℕ) → Spells xs a → Spells ys b → Spells (xs ++ ys) (a ++ b)
+spells-append xs ys a b t u = record {
   own = own-append xs ys t.own u.own;
   code = λ addresses number.
       ap concat (spelled_from-append addresses number xs ys) ∙ concat-append (spelled_from addresses number xs) (spelled_from addresses (number + length xs) ys)
@@ -127,22 +127,22 @@ bytes_own : (bytes : List ℕ) → AllByRecursion IsOwn (map Byte bytes)
 bytes_own [] = tt
 bytes_own (b ∷ bytes) = (own_byte b, bytes_own bytes)
 
-tells_bytes : (bytes : List ℕ) → Tells (map Byte bytes) bytes
-tells_bytes bytes = record { own = bytes_own bytes; code = λ addresses number. bytes_code addresses number bytes }
+spells_bytes : (bytes : List ℕ) → Spells (map Byte bytes) bytes
+spells_bytes bytes = record { own = bytes_own bytes; code = λ addresses number. bytes_code addresses number bytes }
 
-tells_cut : (cut : Cut) → IsSpelled cut → Tells (told_cut cut) cut.bytes
-tells_cut cut is = by_test (is_filled cut.bytes (shortest cut.instr)) refl
+spells_cut : (cut : Cut) → IsSpelled cut → Spells (told_cut cut) cut.bytes
+spells_cut cut is = by_test (is_filled cut.bytes (shortest cut.instr)) refl
   where
     by_test : (p : Bool) → is_filled cut.bytes (shortest cut.instr) ≡ p
-        → Tells (if p then Spelled (Plain cut.instr) (stated cut.bytes (shortest cut.instr)) ∷ [] else map Byte cut.bytes) cut.bytes
+        → Spells (if p then Spelled (Plain cut.instr) (stated cut.bytes (shortest cut.instr)) ∷ [] else map Byte cut.bytes) cut.bytes
     by_test true e =
         let own = own_filled cut.bytes cut.instr e (canonical_least _ _ _ is) is.short in
         record { own = (own, tt); code = λ addresses number. append_nil _ ∙ own_spelled cut.bytes cut.instr e (canonical_least _ _ _ is) is.short addresses number }
-    by_test false e = tells_bytes cut.bytes
+    by_test false e = spells_bytes cut.bytes
 
-tells_cuts : (cuts : List Cut) → AllByRecursion IsSpelled cuts → Tells (flat_map told_cut cuts) (code_of_cuts cuts)
-tells_cuts [] all = record { own = tt; code = λ addresses number. refl }
-tells_cuts (cut ∷ cuts) all = tells-append (told_cut cut) (flat_map told_cut cuts) cut.bytes (code_of_cuts cuts) (tells_cut cut all.0) (tells_cuts cuts all.1)
+spells_cuts : (cuts : List Cut) → AllByRecursion IsSpelled cuts → Spells (flat_map told_cut cuts) (code_of_cuts cuts)
+spells_cuts [] all = record { own = tt; code = λ addresses number. refl }
+spells_cuts (cut ∷ cuts) all = spells-append (told_cut cut) (flat_map told_cut cuts) cut.bytes (code_of_cuts cuts) (spells_cut cut all.0) (spells_cuts cuts all.1)
 
-pub tells_told : (code : List ℕ) (lines : List Line) → IsTold code lines → Tells lines code
-tells_told code lines is = rw (is.are, is.joined) (tells-append (flat_map told_cut is.cuts) (map Byte is.rest) (code_of_cuts is.cuts) is.rest (tells_cuts is.cuts is.each) (tells_bytes is.rest))
+pub spells_code : (code : List ℕ) (lines : List Line) → IsTold code lines → Spells lines code
+spells_code code lines is = rw (is.are, is.joined) (spells-append (flat_map told_cut is.cuts) (map Byte is.rest) (code_of_cuts is.cuts) is.rest (spells_cuts is.cuts is.each) (spells_bytes is.rest))

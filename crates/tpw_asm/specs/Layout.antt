@@ -9,7 +9,7 @@ use Rattle.tpw_asm.specs.declared.program.Operation.TheVariants.{Plain, JumpTo, 
 use Rattle.tpw_asm.specs.declared.program.Line.{Line}
 use Rattle.tpw_asm.specs.declared.program.Line.TheVariants.{Byte, Spelled}
 
--- the addresses of the places of lines that are so many bytes long, the first of which stands at an address: one more
+-- the addresses of the places of lines that are so many bytes long, the first of which is at an address: one more
 -- than lines
 abbrev pub addresses_from : ℕ → List ℕ → List ℕ
 addresses_from at [] = at ∷ []
@@ -19,7 +19,7 @@ addresses_from at (bytes ∷ lengths) = at ∷ addresses_from (at + bytes) lengt
 abbrev pub distance : List ℕ → ℕ → ℕ → ℕ
 distance addresses from to = slice_index addresses to - slice_index addresses from
 
--- the instruction of a line, with labels as the addresses where they stand; a jump counts from the place behind it
+-- the instruction of a line, with labels as their addresses; a jump counts from the place behind it
 abbrev pub instr_at : List ℕ → ℕ → Operation → Instr
 instr_at addresses line (Plain instr) = instr
 instr_at addresses line (JumpTo target) = Jump (pos (distance addresses (line + 1) target))

@@ -4,10 +4,10 @@ ghost use Rattle.std.specs.Prelude.{◌≡◌, IfOk};
 ghost use Rattle.tpw_asm.specs.Assembly.{IsAssembly};
 ghost use Rattle.tpw_asm.specs.Labelling.{IsDisassembly};
 
+use crate::code_lines::lines_of;
 use crate::labelling::{labelled_lines, loops_of};
 use crate::layout::{MOST_BYTES, least_layout};
 use crate::program::Program;
-use crate::telling::lines_of;
 use std::alloc::{AllocError, Global};
 use tp_image::{Image, Version};
 
@@ -22,18 +22,18 @@ fn version_of(image: &Image) -> Version
     }
 }
 
-/// An image as a program that is assembled to it: a line for each instruction, with a place for the distance of a jump where one
-/// stands there; a spelling longer than the canonical one has its length stated, and one that cannot be had so is written in bytes, as
-/// all is from where the code cannot be cut.
+/// An image as a program that is assembled to it: a line for each instruction, where a jump to a place has that place as its target. A
+/// spelling longer than the canonical one has its length stated; one that no stated length gives is written as bytes, and so is the
+/// code from where it cannot be cut.
 pub fn disassemble(alloc: Global, image: &Image) -> Result<Program, AllocError>
-    ensures told { IfOk result (λ program. IsDisassembly image.now program) }
+    ensures disassembled { IfOk result (λ program. IsDisassembly image.now program) }
     ensures assembled { IfOk result (λ program. IsAssembly program image.now) }
 {
-    let told = lines_of(alloc, &image.code)?;
-    let Ok(layout) = least_layout(alloc, &told, MOST_BYTES) else {
+    let unlabelled = lines_of(alloc, &image.code)?;
+    let Ok(layout) = least_layout(alloc, &unlabelled, MOST_BYTES) else {
         return Err(AllocError);
     };
-    let lines = labelled_lines(alloc, &layout.addresses, &told)?;
+    let lines = labelled_lines(alloc, &layout.addresses, &unlabelled)?;
     Ok(Program {
         version: version_of(image),
         workspace: image.workspace,

@@ -5,6 +5,7 @@
 #![tactic(auto)]
 
 mod assembling;
+mod code_lines;
 mod disassembling;
 mod fault;
 mod fields;
@@ -14,7 +15,6 @@ mod placing;
 mod program;
 mod rows;
 mod spelling;
-mod telling;
 
 pub use assembling::{addresses, assemble};
 pub use disassembling::disassemble;

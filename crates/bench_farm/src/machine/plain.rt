@@ -6,7 +6,7 @@ ghost use Rattle.std.specs.Prelude.{◌<◌, ◌+◌};
 pub const WORDS: usize = 16;
 
 /// Sums the indices of the inner loop's turns in a word. The loop's index is at `block`, and its count behind it. The
-/// places come as values, so that each turn reads and writes the array.
+/// places are arguments: each turn has to read and write the array.
 #[inline(never)]
 pub fn turns(words: &mut [u32; WORDS], sum: usize, block: usize, outer: u32, inner: u32)
     requires sum { sum < 16 }

@@ -65,11 +65,11 @@ pub(crate) fn is_so(rt: &impl Abort, alloc: Global, machine: &mut Machine, case:
     let (image, packet, (error, steps), result, trace) = *case;
     let accepted = accepted(rt, alloc, image);
     let (answered, media) = run_packet(rt, alloc, machine, &accepted, &packet);
-    let told = answered == Ok(Outcome { error, steps }) && media.source.bytes().is_empty();
-    told && media.sink.bytes() == result.as_slice() && media.trace.bytes() == trace
+    let is_same = answered == Ok(Outcome { error, steps }) && media.source.bytes().is_empty();
+    is_same && media.sink.bytes() == result.as_slice() && media.trace.bytes() == trace
 }
 
-/// The packets of one image follow one another on one machine, so nothing may be left over between them.
+/// The packets of one image follow one another on one machine: nothing may be left over between them.
 #[test]
 fn runs_whatever_the_machine_held(rt: HostRuntime) {
     let mut machine = all_bits_set();

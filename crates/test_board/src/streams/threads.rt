@@ -300,10 +300,10 @@ fn closed<R: Wait + Abort>(
     stream.close(rt, feeder, hands).ok()
 }
 
-// All that is told of a stream: the numbers that the members took, how each ended, the feeder's last answer, and the
+// What a run of a stream left: the numbers that the members took, how each ended, the feeder's last answer, and the
 // ledger.
 #[derive(Drop)]
-struct Told {
+struct StreamRun {
     numbers: (Vec<u32>, Vec<u32>),
     ends: (End, End),
     answer: Fed,
@@ -317,7 +317,7 @@ fn run<R: Abort + Threads + Wait + Sync>(
     count: u16,
     ways: (Way, Way),
     feeding: Feeding,
-) -> Told {
+) -> StreamRun {
     let packets = packets_of(rt, alloc, count);
     let stream = stream_of_two(alloc, packets.as_slice());
     let (stream, mut feeder, hands) = unwrap(rt, stream.ok_or("no stream"));
@@ -332,7 +332,7 @@ fn run<R: Abort + Threads + Wait + Sync>(
         answer,
     } = unwrap(rt, ends.ok_or("not run"));
     let ledger = closed(rt, alloc, stream, feeder, (first.hand, second.hand));
-    Told {
+    StreamRun {
         numbers: (first.numbers, second.numbers),
         ends: (first.end, second.end),
         answer,
@@ -357,7 +357,7 @@ fn ledger_of(pushed: u32, done: u32, stopped: bool) -> StreamLedger {
 #[test]
 fn two_take_each_packet_once(rt: HostRuntime) {
     let ways = (Way::Takes, Way::Takes);
-    let Told {
+    let StreamRun {
         numbers,
         ends,
         answer,
@@ -376,41 +376,37 @@ fn two_take_each_packet_once(rt: HostRuntime) {
 #[test]
 fn hands_stop_a_full_queue(rt: HostRuntime) {
     let ways = (Way::Stops, Way::Stops);
-    let told = run(&rt, rt.alloc(), 40, ways, Feeding::Feeds);
-    assert!(rt; told.numbers.0.is_empty() && told.numbers.1.is_empty());
-    assert_same(&rt, &told.ends, &(End::Stopped, End::Stopped));
-    assert_same(&rt, &told.answer, &Fed::Stopped);
-    assert_same(&rt, &told.ledger, &ledger_of(32, 0, true));
+    let ran = run(&rt, rt.alloc(), 40, ways, Feeding::Feeds);
+    assert!(rt; ran.numbers.0.is_empty() && ran.numbers.1.is_empty());
+    assert_same(&rt, &ran.ends, &(End::Stopped, End::Stopped));
+    assert_same(&rt, &ran.answer, &Fed::Stopped);
+    assert_same(&rt, &ran.ledger, &ledger_of(32, 0, true));
 }
 
 // One hand stops, and the other takes packets until it finds the stop mark, or the end.
 #[test]
 fn one_hand_stops_and_one_takes(rt: HostRuntime) {
     let ways = (Way::Stops, Way::Takes);
-    let told = run(&rt, rt.alloc(), 1024, ways, Feeding::Feeds);
-    let StreamLedger { pushed, ledger } = told.ledger;
+    let ran = run(&rt, rt.alloc(), 1024, ways, Feeding::Feeds);
+    let StreamLedger { pushed, ledger } = ran.ledger;
     let done = ledger.done;
-    assert_same(
-        &rt,
-        &(told.ends.0, told.numbers.0.len()),
-        &(End::Stopped, 0),
-    );
-    assert!(rt; told.ends.1 != End::Wrong);
-    assert!(rt; told.numbers.1.iter().copied().eq(0..done));
+    assert_same(&rt, &(ran.ends.0, ran.numbers.0.len()), &(End::Stopped, 0));
+    assert!(rt; ran.ends.1 != End::Wrong);
+    assert!(rt; ran.numbers.1.iter().copied().eq(0..done));
     assert!(rt;
         done <= pushed && pushed <= done.saturating_add(32),
         "{done} {pushed}"
     );
-    assert_same(&rt, &told.ledger, &ledger_of(pushed, done, true));
+    assert_same(&rt, &ran.ledger, &ledger_of(pushed, done, true));
 }
 
 // Both hands find the queue empty, and wait until the feeder stops.
 #[test]
 fn a_feeder_stops_an_empty_queue(rt: HostRuntime) {
     let ways = (Way::Takes, Way::Takes);
-    let told = run(&rt, rt.alloc(), 1024, ways, Feeding::Stops);
-    assert!(rt; told.numbers.0.is_empty() && told.numbers.1.is_empty());
-    assert_same(&rt, &told.ends, &(End::Stopped, End::Stopped));
-    assert_same(&rt, &told.answer, &Fed::Stopped);
-    assert_same(&rt, &told.ledger, &ledger_of(0, 0, true));
+    let ran = run(&rt, rt.alloc(), 1024, ways, Feeding::Stops);
+    assert!(rt; ran.numbers.0.is_empty() && ran.numbers.1.is_empty());
+    assert_same(&rt, &ran.ends, &(End::Stopped, End::Stopped));
+    assert_same(&rt, &ran.answer, &Fed::Stopped);
+    assert_same(&rt, &ran.ledger, &ledger_of(0, 0, true));
 }

@@ -32,7 +32,7 @@ fn reads_options(rt: HostRuntime) {
 }
 
 #[test]
-fn tells_kinds(rt: HostRuntime) {
+fn errors_have_kinds(rt: HostRuntime) {
     let cases = [
         (
             ["farmd", "--members", "0"].as_slice(),

@@ -1,7 +1,7 @@
 //! Lines and ends of three workers: a checksum, a sort, and Fibonacci numbers with a trace.
 
 use crate::asserts::{assert_same, unwrap};
-use crate::steps::told::{WHOLE, told};
+use crate::steps::printed::{WHOLE, printed};
 use test_samples::{CHECKSUM, FIBONACCI, SORT};
 use tpw_step::{End, Place, Span};
 
@@ -16,7 +16,7 @@ fn the_first_lines(rt: HostRuntime) {
         from: None,
         until: Some(Place::Address(7)),
     };
-    let (end, text) = told(&rt, rt.alloc(), CHECKSUM, &packet, span);
+    let (end, text) = printed(&rt, rt.alloc(), CHECKSUM, &packet, span);
     assert_same(&rt, &end, &End::Left);
     let wanted = "\
 1 0 ldlp 0: A -2147483556 B - C - Wptr 5 flag 0
@@ -45,7 +45,7 @@ fn the_checksum(rt: HostRuntime) {
         from: Some(Place::Address(90)),
         until: None,
     };
-    let (end, text) = told(&rt, rt.alloc(), CHECKSUM, &packet, span);
+    let (end, text) = printed(&rt, rt.alloc(), CHECKSUM, &packet, span);
     assert_same(&rt, &end, &End::Stopped);
     let wanted = "\
 15858 90 out: A - B - C - Wptr 5 flag 0 result 8cce0e10
@@ -67,7 +67,7 @@ fn the_trace(rt: HostRuntime) {
         from: Some(Place::Count(482)),
         until: None,
     };
-    let (end, text) = told(&rt, rt.alloc(), FIBONACCI, &[3, 0, 0, 0], span);
+    let (end, text) = printed(&rt, rt.alloc(), FIBONACCI, &[3, 0, 0, 0], span);
     assert_same(&rt, &end, &End::Stopped);
     let wanted = "\
 484 42 stopp: A - B - C - Wptr 5 flag 0
@@ -85,7 +85,7 @@ count 484
 fn the_sort(rt: HostRuntime) {
     let packet = b"FFFFFFFF03000000020000000000000007000000FBFFFFFF0100000001000000";
     let packet = unwrap(&rt, hex::decode(rt.alloc(), packet));
-    let (end, text) = told(&rt, rt.alloc(), SORT, packet.as_slice(), WHOLE);
+    let (end, text) = printed(&rt, rt.alloc(), SORT, packet.as_slice(), WHOLE);
     assert_same(&rt, &end, &End::Stopped);
     let wanted = b"\nresult fbffffffffffffff0000000001000000010000000200000003000000\
 07000000\ntrace \n";

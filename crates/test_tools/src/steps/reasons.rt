@@ -2,7 +2,7 @@
 //! word.
 
 use crate::asserts::unwrap;
-use crate::steps::told::{WHOLE, told};
+use crate::steps::printed::{WHOLE, printed};
 use std::alloc::Global;
 use std::process::Abort;
 use tpw_step::{End, Reason};
@@ -78,10 +78,10 @@ const ROWS: [Row; 15] = [
 ];
 
 #[test]
-fn each_reason_is_told(rt: HostRuntime) {
+fn each_reason_is_reported(rt: HostRuntime) {
     for (magic, code, at, reason) in ROWS {
         let text = image(&rt, rt.alloc(), magic, code);
-        let (end, _) = told(&rt, rt.alloc(), text.as_slice(), &[1, 0, 0, 0], WHOLE);
+        let (end, _) = printed(&rt, rt.alloc(), text.as_slice(), &[1, 0, 0, 0], WHOLE);
         assert_eq!(rt; end, End::Stuck(at, reason), "{reason}");
     }
 }

@@ -12,10 +12,10 @@ use Rattle.tp_program.proofs.Performing.{ended, did_nothing}
 use Rattle.tp_program.proofs.program.run.Goals as goal
 
 -- what is done with some words is done with the same words
-same_words : (words given : List Text) → words ≡ given → (input left old new told told' : Option (List ℕ)) (status : ℕ)
-    → Performs words input left old new told told' status → Performs given input left old new told told' status
-same_words words given is input left old new told told' status done =
-    subst (λ l. Performs l input left old new told told' status) is done
+same_words : (words given : List Text) → words ≡ given → (input left old new errors errors' : Option (List ℕ)) (status : ℕ)
+    → Performs words input left old new errors errors' status → Performs given input left old new errors errors' status
+same_words words given is input left old new errors errors' status done =
+    subst (λ l. Performs l input left old new errors errors' status) is done
 
 pub returns-in-Ok : goal.returns-in-Ok
 returns-in-Ok g c = record {
@@ -29,9 +29,9 @@ pub returns-in-Err : goal.returns-in-Err
 returns-in-Err g c = record {
   words = IfOk-weaker c.args.words (λ given. c.in-Err.ending ≡ Fault Memory) _
       (λ given is. ended (map string_bytes (into_iter_items given)) _ _ _ _ c.in-Err.ending
-      (subst (IsEndingBy (fault_of farmd (map string_bytes (into_iter_items given)))) (sym is) refl) _ c.tell.ensures.status c.tell.ensures.text)
+      (subst (IsEndingBy (fault_of farmd (map string_bytes (into_iter_items given)))) (sym is) refl) _ c.report.ensures.status c.report.ensures.text)
       c.in-Err.ensures.want;
   none = IfErr-weaker c.args.words _ _
       (λ error is. did_nothing (error_kind error) _ _ _ _ c.in-Err.ending
-      (let same : c.in-Err.ending ≡ ending_without (error_kind error) = cc in same) _ c.tell.ensures.status c.tell.ensures.text) c.in-Err.ensures.none;
+      (let same : c.in-Err.ending ≡ ending_without (error_kind error) = cc in same) _ c.report.ensures.status c.report.ensures.text) c.in-Err.ensures.none;
 }

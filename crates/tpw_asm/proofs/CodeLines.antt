@@ -1,4 +1,4 @@
--- Instructions in front of a code, and the lines that tell them.
+-- Instructions in front of a code, and their lines.
 use Rattle.std.proofs.Common.{◌≡◌, ◌↔◌, ◌⊎◌, inl, inr, ℕ, ◌-◌, ◌≤◌, List, [], ◌∷◌, ◌++◌, length, take, drop, Result, Err, IfErr, refl, sym, ap, subst, ◌∙◌, arith, append_assoc}
 use Rattle.std.specs.List.{flat_map, AllByRecursion}
 use Rattle.std.proofs.Math.Seq.{take-add}
@@ -39,22 +39,22 @@ all_push : (cuts : List Cut) (cut : Cut) → AllByRecursion IsSpelled cuts → I
 all_push [] cut all is = (is, tt)
 all_push (c ∷ cuts) cut all is = (all.0, all_push cuts cut all.1 is)
 
-told-push : (cuts : List Cut) (cut : Cut) → flat_map told_cut (cuts ++ cut ∷ []) ≡ flat_map told_cut cuts ++ told_cut cut
-told-push cuts cut = flat_map-append told_cut cuts (cut ∷ []) ∙ ap (λ xs. flat_map told_cut cuts ++ xs) (append_nil (told_cut cut))
+lines-push : (cuts : List Cut) (cut : Cut) → flat_map told_cut (cuts ++ cut ∷ []) ≡ flat_map told_cut cuts ++ told_cut cut
+lines-push cuts cut = flat_map-append told_cut cuts (cut ∷ []) ∙ ap (λ xs. flat_map told_cut cuts ++ xs) (append_nil (told_cut cut))
 
--- what is told of a code up to an address
-pub record ToldTo (code : List ℕ) (at : ℕ) (lines : List Line) : Type 0 where
+-- the lines of a code up to an address
+pub record LinesTo (code : List ℕ) (at : ℕ) (lines : List Line) : Type 0 where
   pub cuts : List Cut
   pub joined : code_of cuts ≡ take at code
   pub each : AllByRecursion IsSpelled cuts
   pub are : lines ≡ flat_map told_cut cuts
 
 -- one instruction more
-pub told_more : (code : List ℕ) (at next : ℕ) (lines : List Line) (cut : Cut) → at ≤ next → next ≤ length code → ToldTo code at lines → BeginsWith (drop at code) cut → length cut.bytes ≡ next - at
-    → ToldTo code next (lines ++ told_cut cut)
-told_more code at next lines cut h h' so_far begins size = record {
+pub lines_more : (code : List ℕ) (at next : ℕ) (lines : List Line) (cut : Cut) → at ≤ next → next ≤ length code → LinesTo code at lines → BeginsWith (drop at code) cut → length cut.bytes ≡ next - at
+    → LinesTo code next (lines ++ told_cut cut)
+lines_more code at next lines cut h h' so_far begins size = record {
   cuts = so_far.cuts ++ cut ∷ [];
   joined = code_of-push so_far.cuts cut ∙ ap (λ xs. xs ++ cut.bytes) so_far.joined ∙ ap (λ xs. take at code ++ xs) (sym begins.front ∙ ap (λ n. take n (drop at code)) size) ∙ take_range code at next h;
   each = all_push so_far.cuts cut so_far.each begins.spelled;
-  are = ap (λ xs. xs ++ told_cut cut) so_far.are ∙ sym (told-push so_far.cuts cut);
+  are = ap (λ xs. xs ++ told_cut cut) so_far.are ∙ sym (lines-push so_far.cuts cut);
 }

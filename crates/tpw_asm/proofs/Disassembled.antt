@@ -1,4 +1,4 @@
--- What is told of an image is assembled to it.
+-- What an image is disassembled to is assembled to that image.
 use Rattle.std.proofs.Common.{◌≡◌, ℕ, ◌+◌, ◌≤◌, false, nat_eq, List, [], ◌∷◌, length, map, sum, Option, Some, None, refl, sym, ap, subst, ◌∙◌, arith}
 use Rattle.std.specs.List.{concat, position}
 use Rattle.std.proofs.lemmas.Bool.Decides.{nat_tests}
@@ -15,7 +15,7 @@ use Rattle.tpw_asm.specs.Telling.{IsTold}
 use Rattle.tpw_asm.specs.Labelling.{spot_from, spot_of, loop_of, labelled_from}
 use Rattle.tpw_asm.proofs.LayoutLemmas.{length-addresses}
 use Rattle.tpw_asm.proofs.AssemblyLemmas.{layout_count, length-code}
-use Rattle.tpw_asm.proofs.RoundTrip.{tells_told}
+use Rattle.tpw_asm.proofs.RoundTrip.{spells_code}
 use Rattle.tpw_asm.proofs.Labelled.{all_spelled_same, length-labelled, lines_sound, none_narrow, lines_ahead, least_ahead}
 
 -- a spot's address, which is no place behind the last
@@ -83,33 +83,33 @@ fields_said program image lengths has rows code =
     } ≡ made = cc in
     same
 
-pub told_assembly : (program : Program) (image : ImageValue) (told : List Line) (lengths : List ℕ) → InRange image → HasFields program image → IsTold image.code told → IsLeastLayout told lengths
-    → program.lines.items ≡ labelled_from (addresses_from 0 lengths) 0 told → program.loops.items ≡ map (loop_of (addresses_from 0 lengths)) image.loops → IsAssembly program image
-told_assembly program image told lengths in_range has telling least lines loops =
+pub disassembly_is_assembly : (program : Program) (image : ImageValue) (unlabelled : List Line) (lengths : List ℕ) → InRange image → HasFields program image → IsTold image.code unlabelled → IsLeastLayout unlabelled lengths
+    → program.lines.items ≡ labelled_from (addresses_from 0 lengths) 0 unlabelled → program.loops.items ≡ map (loop_of (addresses_from 0 lengths)) image.loops → IsAssembly program image
+disassembly_is_assembly program image unlabelled lengths in_range has are_lines least lines loops =
     let addresses = addresses_from 0 lengths in
-    let all = labelled_from addresses 0 told in
-    let tells = tells_told image.code told telling in
-    let size : length addresses ≡ length told + 1 = omega (arith, length-addresses 0 lengths, layout_count told lengths least.layout) in
-    let count : length program.lines.items ≡ length told = ap length lines ∙ length-labelled addresses 0 told in
-    let spelled = all_spelled_same addresses 0 told in
+    let all = labelled_from addresses 0 unlabelled in
+    let spells = spells_code image.code unlabelled are_lines in
+    let size : length addresses ≡ length unlabelled + 1 = omega (arith, length-addresses 0 lengths, layout_count unlabelled lengths least.layout) in
+    let count : length program.lines.items ≡ length unlabelled = ap length lines ∙ length-labelled addresses 0 unlabelled in
+    let spelled = all_spelled_same addresses 0 unlabelled in
     let layout : IsLayout all lengths = ap (map length) spelled ∙ least.layout in
-    let sound : first_fault (length all) 0 all ≡ None = ap (λ n. first_fault n 0 all) (length-labelled addresses 0 told) ∙ lines_sound addresses (length told) 0 told size tells.own in
-    let code : code_of lengths program.lines.items ≡ image.code = ap (code_of lengths) lines ∙ ap concat spelled ∙ tells.code addresses 0 in
-    let short : sum lengths ≤ most_code image.version = omega (arith, length-code lengths told least.layout, ap length (tells.code addresses 0), in_range.code) in
-    let narrow : first_narrow 0 all lengths ≡ None = ap (first_narrow 0 all) (sym least.layout) ∙ none_narrow addresses addresses 0 told tells.own in
+    let sound : first_fault (length all) 0 all ≡ None = ap (λ n. first_fault n 0 all) (length-labelled addresses 0 unlabelled) ∙ lines_sound addresses (length unlabelled) 0 unlabelled size spells.own in
+    let code : code_of lengths program.lines.items ≡ image.code = ap (code_of lengths) lines ∙ ap concat spelled ∙ spells.code addresses 0 in
+    let short : sum lengths ≤ most_code image.version = omega (arith, length-code lengths unlabelled least.layout, ap length (spells.code addresses 0), in_range.code) in
+    let narrow : first_narrow 0 all lengths ≡ None = ap (first_narrow 0 all) (sym least.layout) ∙ none_narrow addresses addresses 0 unlabelled spells.own in
     record {
       lengths = lengths;
       laid_out = record {
         layout = record {
           places = record {
             lines = ap (λ xs. first_fault (length xs) 0 xs) lines ∙ sound;
-            rows = ap (λ n. first_row n 0 program.loops.items) count ∙ ap (first_row (length told) 0) loops ∙ rows_sound addresses (length told) 0 image.loops size;
+            rows = ap (λ n. first_row n 0 program.loops.items) count ∙ ap (first_row (length unlabelled) 0) loops ∙ rows_sound addresses (length unlabelled) 0 image.loops size;
           };
-          least = subst (λ (xs : List Line). IsLeastLayout xs lengths) (sym lines) (least_ahead all lengths (lines_ahead addresses 0 told tells.own) sound layout);
+          least = subst (λ (xs : List Line). IsLeastLayout xs lengths) (sym lines) (least_ahead all lengths (lines_ahead addresses 0 unlabelled spells.own) sound layout);
           short = omega (arith, short, ap most_code has.version);
         };
         stated = ap (λ xs. first_narrow 0 xs lengths) lines ∙ narrow;
       };
-      said = fields_said program image lengths has (ap (map (row_of addresses)) loops ∙ rows_same addresses (length told) image.loops size) code;
+      said = fields_said program image lengths has (ap (map (row_of addresses)) loops ∙ rows_same addresses (length unlabelled) image.loops size) code;
       in_range = in_range;
     }

@@ -6,8 +6,8 @@ use Rattle.tp_decode.specs.declared.fault.DecodeCode.TheVariants.{D3}
 use Rattle.tp_decode.specs.declared.fault.DecodeFault.TheVariants.{Refused}
 use Rattle.tp_decode.specs.Table.{instruction}
 use Rattle.tp_decode.proofs.DecodingLemmas.{unknown_in_front, known_in_front, spelled_some}
-use Rattle.tpw_asm.proofs.TellingLemmas.{stops_unread}
-use Rattle.tpw_asm.proofs.telling.found_at.Goals as goal
+use Rattle.tpw_asm.proofs.CodeLines.{stops_unread}
+use Rattle.tpw_asm.proofs.code_lines.found_at.Goals as goal
 
 pub returns-in_default : goal.returns-in_default
 returns-in_default c =
@@ -24,9 +24,9 @@ returns-in_default-of c =
 pub returns : goal.returns
 returns c =
     let s = c.in-Ok.spelled in
-    let stands = c.in-Ok.ensures.found in
+    let read = c.in-Ok.ensures.found in
     let fits : SFits w32 s.operand = search rules in
     let found : instruction s.function s.operand ≡ Some c.in-Some.instr = ap (instruction s.function) (sym (to_z-of_z w32 s.operand fits)) ∙ sym c.of.ensures ∙ c.in-Some.is in
-    let begins = known_in_front c.args.code.now c.args.at s _ c.in-Some.instr stands found refl in
+    let begins = known_in_front c.args.code.now c.args.at s _ c.in-Some.instr read found refl in
     let some = spelled_some _ begins.spelled in
-    (omega (arith, some, length-take (s.next - c.args.at) (drop c.args.at c.args.code.now), stands.forward), stands.within, begins)
+    (omega (arith, some, length-take (s.next - c.args.at) (drop c.args.at c.args.code.now), read.forward), read.within, begins)

@@ -13,8 +13,8 @@ pub(crate) const WHOLE: Span = Span {
     until: None,
 };
 
-/// How a run of an image's bytes is left, and its text.
-pub(crate) fn told(
+/// Prints a run of an image's bytes, and returns its end and its text.
+pub(crate) fn printed(
     rt: &impl Abort,
     alloc: Global,
     image: &[u8],

@@ -1,4 +1,4 @@
-//! What the program of those who write workers reads, and what it prints with ample memory.
+//! Inputs of the program of those who write workers, and the outputs that are expected of it with ample memory.
 
 use test_samples::commands::{INCREMENT_LISTED, LOOP, LOOP_COUNTED};
 use test_samples::page::Page;
@@ -29,12 +29,12 @@ impl Text<'_> {
     }
 }
 
-/// A command line with its input, and what it is answered.
+/// A command line with its input, and the output and the status that are expected.
 #[derive(Clone, Copy, Drop)]
 pub struct Case<'a> {
     pub words: &'a [&'a str],
     pub input: Text<'a>,
-    pub told: Text<'a>,
+    pub expected: Text<'a>,
     pub status: u8,
 }
 
@@ -43,37 +43,37 @@ pub const CASES: [Case<'_>; 7] = [
     Case {
         words: &["tpw", "asm", "--line", "fib"],
         input: Text::Lines(FIBONACCI_TEXT),
-        told: Text::Digits("fib IMAGE ", FIBONACCI),
+        expected: Text::Digits("fib IMAGE ", FIBONACCI),
         status: 0,
     },
     Case {
         words: &["tpw", "dis"],
         input: Text::Digits("", SUM_TO_TEN),
-        told: Text::Lines(SUM_TO_TEN_TOLD),
+        expected: Text::Lines(SUM_TO_TEN_DISASSEMBLED),
         status: 0,
     },
     Case {
         words: &["tpw", "step", "--packet", "29000000", "--from", "12"],
         input: Text::Digits("", INCREMENT),
-        told: Text::Lines(INCREMENT_STEPS),
+        expected: Text::Lines(INCREMENT_STEPS),
         status: 0,
     },
     Case {
         words: &["tpw", "list"],
         input: Text::Digits("", INCREMENT),
-        told: Text::Lines(INCREMENT_LISTED),
+        expected: Text::Lines(INCREMENT_LISTED),
         status: 0,
     },
     Case {
         words: &["tpw", "profile", "--words", "1"],
         input: Text::Lines(LOOP),
-        told: Text::Lines(LOOP_COUNTED),
+        expected: Text::Lines(LOOP_COUNTED),
         status: 0,
     },
     Case {
         words: &["tpw", "run", "--words", "10", "--members", "1"],
         input: Text::Digits("", FIBONACCI),
-        told: Text::Lines(
+        expected: Text::Lines(
             "0  flag 0  575 of 1056  55\npackets 1, lost 0, steps 575 to 575 of 1056\n",
         ),
         status: 0,
@@ -81,7 +81,7 @@ pub const CASES: [Case<'_>; 7] = [
     Case {
         words: &["tpw", "why"],
         input: Text::Lines(KEPT_ADDRESS),
-        told: Text::Lines(KEPT_ADDRESS_TOLD),
+        expected: Text::Lines(KEPT_ADDRESS_EXPLAINED),
         status: 1,
     },
 ];
@@ -92,7 +92,7 @@ const FIBONACCI_TEXT: &str =
     ldl n\nldl i\ngt\ncj skip\ntrace a\nldl a\nldl b\nsum\nldl b\nstl a\nstl b\nskip: end i\nsend a\nstopp\n";
 
 /// 12 bytes, a loop of ten turns of 8 bytes, and 7 bytes.
-const SUM_TO_TEN_TOLD: &str = "\
+const SUM_TO_TEN_DISASSEMBLED: &str = "\
 ; at most 99 instruction bytes
 ; loop 12 to 18: 10 turns of 8, 80 in all
 ; behind an instruction: its address, and the bytes from it to the end of the loop around it, or of the run
@@ -142,7 +142,7 @@ count 16
 const KEPT_ADDRESS: &str =
     "packet 1\nresult 1\nlocal n, p\nreceive n\nldlp n\nstl p\nldl p\nldnl 0\nstl n\ndone: send n\nstopp\n";
 
-const KEPT_ADDRESS_TOLD: &str = "\
+const KEPT_ADDRESS_EXPLAINED: &str = "\
 NO S2 9
 refused  a register is of the wrong kind
          5 f7 in  ; line 4: receive n

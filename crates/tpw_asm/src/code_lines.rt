@@ -1,4 +1,4 @@
-//! A code as lines.
+//! The lines of a code.
 
 ghost use Rattle.std.specs.Prelude.{◌≡◌, ◌==◌, ◌≤◌, ◌<◌, ◌⊎◌, [], ◌++◌, map, drop, length, slice_range, IfOk, OnOk, MatchOption};
 ghost use Rattle.std.specs.List.{list_all};
@@ -38,8 +38,8 @@ fn is_filled(spelling: &[u8], least: &[u8]) -> bool
     is_filling(front) && back == least
 }
 
-/// Appends bytes as they are.
-fn tell_bytes(lines: &mut Vec<Line>, bytes: &[u8]) -> Result<(), AllocError>
+/// Appends a line for each byte.
+fn push_bytes(lines: &mut Vec<Line>, bytes: &[u8]) -> Result<(), AllocError>
     ensures { OnOk result (lines.new.items ≡ lines.old.items ++ map Byte bytes.now) }
 {
     for byte in bytes {
@@ -48,15 +48,15 @@ fn tell_bytes(lines: &mut Vec<Line>, bytes: &[u8]) -> Result<(), AllocError>
     Ok(())
 }
 
-/// Appends an instruction that is spelled so.
-fn tell(lines: &mut Vec<Line>, instr: Instr, spelling: &[u8]) -> Result<(), AllocError>
+/// Appends the lines of an instruction with this spelling.
+fn push_instr(lines: &mut Vec<Line>, instr: Instr, spelling: &[u8]) -> Result<(), AllocError>
     requires least { length (shortest instr) ≤ length spelling.now }
     requires short { length spelling.now ≤ 8 }
     ensures { OnOk result (lines.new.items ≡ lines.old.items ++ told spelling.now instr) }
 {
     let least = shortest(instr);
     if !is_filled(spelling, least.as_slice()) {
-        return tell_bytes(lines, spelling);
+        return push_bytes(lines, spelling);
     }
     let bytes = if spelling.len() == least.len() {
         None
@@ -97,9 +97,9 @@ pub fn lines_of(alloc: Global, code: &[u8]) -> Result<Vec<Line>, AllocError>
     let mut lines = Vec::new(alloc);
     let mut at = 0;
     while let Some(found) = found_at(code, at) {
-        tell(&mut lines, found.instr, &code[at..found.next])?;
+        push_instr(&mut lines, found.instr, &code[at..found.next])?;
         at = found.next;
     }
-    tell_bytes(&mut lines, &code[at..])?;
+    push_bytes(&mut lines, &code[at..])?;
     Ok(lines)
 }
