@@ -123,10 +123,10 @@ version_leads Two s is none = two_leads s none
 abbrev pub value_of : Word → ℤ → InitialWord
 value_of w z = record { word = w; value = cast_unsigned w32 z }
 
-values_said : (colon : Word) (line column : ℕ) (ds : List ℕ) (z : ℤ) → number_read (word_for (record { text = 35 ∷ ds; line = line; column = column })) ≡ Ok z
+one_value : (colon : Word) (line column : ℕ) (ds : List ℕ) (z : ℤ) → number_read (word_for (record { text = 35 ∷ ds; line = line; column = column })) ≡ Ok z
     → list_said initial_word_said colon (word_for (record { text = 35 ∷ ds; line = line; column = column }) ∷ []) ≡ Ok (value_of (word_for (record { text = 35 ∷ ds; line = line; column = column })) z ∷ [])
 unfolding parts initial_word_said one_word_said word_said no_more_said
-values_said colon line column ds z is = rw is refl
+one_value colon line column ds z is = rw is refl
 
 init_said : (first at colon value : Word) (i : ℕ) (vs : List InitialWord) → at.text.now ≡ decimal i → i ≤ most_words → expect_said (first ∷ at ∷ colon ∷ value ∷ []) 2 at (codes ":") ≡ Ok colon
     → list_said initial_word_said colon (value ∷ []) ≡ Ok vs → initial_said (first ∷ at ∷ colon ∷ value ∷ []) first ≡ Ok (SetsInitial at i vs)
@@ -159,7 +159,7 @@ initial_leads s i word none long few small =
     let colon : Word = word_for (record { text = 58 ∷ []; line = line; column = 6 + length (decimal i) }) in
     let value : Word = word_for (record { text = 35 ∷ digits 16 false word; line = line; column = 6 + length (decimal i) + 1 + 1 }) in
     let v : InitialWord = value_of value (cast_signed w32 word) in
-    let values : list_said initial_word_said colon (value ∷ []) ≡ Ok (v ∷ []) = values_said colon line _ (digits 16 false word) _ (hexadecimal_is value word refl small) in
+    let values : list_said initial_word_said colon (value ∷ []) ≡ Ok (v ∷ []) = one_value colon line _ (digits 16 false word) _ (hexadecimal_is value word refl small) in
     let said : initial_said (first ∷ at ∷ colon ∷ value ∷ []) first ≡ Ok (SetsInitial at i (v ∷ [])) = init_said first at colon value i _ refl (omega arith) (colon_said first at value line _) values in
     let adds : initials_added at i (v ∷ []) s ≡ Ok (record s { initial = s.initial ++ word ∷ [] }) = an_initial at v s i long (omega arith) ∙ ap (λ w. Ok (record s { initial = s.initial ++ w ∷ [] })) (of_z-to_z w32 word small) in (
       record s { initial = s.initial ++ word ∷ [] },

@@ -93,9 +93,19 @@ fn has_initial(rt: &impl Abort, alloc: Global, text: &str, wanted: &[u32]) {
 #[test]
 fn initial_words(rt: HostRuntime) {
     let above = "start 8\nlocal a, b[3]\ninit b: 7, 8, 9";
-    has_initial(&rt, rt.alloc(), above, &[0, 0, 0, 0, 0, 0, 0, 0, 0, 7, 8, 9]);
+    has_initial(
+        &rt,
+        rt.alloc(),
+        above,
+        &[0, 0, 0, 0, 0, 0, 0, 0, 0, 7, 8, 9],
+    );
     let default = "local a[2], b\ninit a: 1, -1\ninit b: #FFFFFFFE";
-    has_initial(&rt, rt.alloc(), default, &[0, 0, 0, 0, 0, 1, 0xFFFF_FFFF, 0xFFFF_FFFE]);
+    has_initial(
+        &rt,
+        rt.alloc(),
+        default,
+        &[0, 0, 0, 0, 0, 1, 0xFFFF_FFFF, 0xFFFF_FFFE],
+    );
     let fewer = "local a[3]\ninit a: 4\ninit 7: 5";
     has_initial(&rt, rt.alloc(), fewer, &[0, 0, 0, 0, 0, 4, 0, 5]);
     let by_number = "init 2: 4\nstart 6\nlocal a\ninit a: 5";
@@ -122,12 +132,22 @@ const CASES: [(&str, usize, usize, TextFault); 45] = [
     ("const n = 3\nconst n = 3", 2, 7, TextFault::Twice),
     ("const n = 3\nlocal a, n", 2, 10, TextFault::Twice),
     ("const n = 3\nlocal n[n]", 2, 7, TextFault::Twice),
-    ("const n = 3\n  for n = 0 for 2\nend n", 2, 7, TextFault::Twice),
+    (
+        "const n = 3\n  for n = 0 for 2\nend n",
+        2,
+        7,
+        TextFault::Twice,
+    ),
     ("const n = 3\nn: mint", 2, 1, TextFault::Twice),
     ("n: mint\nconst n = 3", 2, 7, TextFault::Twice),
     ("n: const n = 3", 1, 10, TextFault::Twice),
     ("local a, n\nconst n = 3", 2, 7, TextFault::Twice),
-    ("for n = 0 for 2\nend n\nconst n = 3", 3, 7, TextFault::Twice),
+    (
+        "for n = 0 for 2\nend n\nconst n = 3",
+        3,
+        7,
+        TextFault::Twice,
+    ),
     ("local n\nn: mint", 2, 1, TextFault::Twice),
     ("n: mint\nlocal n", 2, 7, TextFault::Twice),
     ("n: mint\nfor n = 0 for 2\nend n", 2, 5, TextFault::Twice),
@@ -137,15 +157,40 @@ const CASES: [(&str, usize, usize, TextFault); 45] = [
     ("const n = 300\nbyte 1, n", 2, 9, TextFault::OutOfRange),
     ("const n = 70000\n packet n", 2, 9, TextFault::OutOfRange),
     ("const n = 5000\nlocal a[n]", 2, 9, TextFault::OutOfRange),
-    ("const n = 3\nlocal buf[3]\n ldl buf + n", 3, 10, TextFault::OutsideLocal),
+    (
+        "const n = 3\nlocal buf[3]\n ldl buf + n",
+        3,
+        10,
+        TextFault::OutsideLocal,
+    ),
     ("const n = 3\nreceive n", 2, 9, TextFault::NoLocal),
     ("const n = 3\n n", 2, 2, TextFault::Unknown),
-    ("local a[2]\ninit a: 1, 2, 3", 2, 15, TextFault::OutsideLocal),
+    (
+        "local a[2]\ninit a: 1, 2, 3",
+        2,
+        15,
+        TextFault::OutsideLocal,
+    ),
     ("local a\ninit a: 1\n  start 6", 3, 3, TextFault::StartBelow),
-    ("local a\ninit a: 1\nhere: start 5", 3, 7, TextFault::StartBelow),
+    (
+        "local a\ninit a: 1\nhere: start 5",
+        3,
+        7,
+        TextFault::StartBelow,
+    ),
     ("init a: 1\nlocal a", 1, 6, TextFault::NoLocal),
-    ("local a, b\ninit b: 1\ninit a: 2", 3, 6, TextFault::OutOfRange),
-    ("start 4097\nlocal a\ninit a: 1", 3, 6, TextFault::OutOfRange),
+    (
+        "local a, b\ninit b: 1\ninit a: 2",
+        3,
+        6,
+        TextFault::OutOfRange,
+    ),
+    (
+        "start 4097\nlocal a\ninit a: 1",
+        3,
+        6,
+        TextFault::OutOfRange,
+    ),
     ("local a\ninit a 1", 2, 8, TextFault::Unexpected),
     ("init a", 1, 6, TextFault::Missing),
     ("local a\ninit a:", 2, 7, TextFault::Missing),
