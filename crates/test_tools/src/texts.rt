@@ -1,4 +1,5 @@
-//! Assembly text: three workers, images that come back from text, faults with their places, places of lines, constants, and initial words of a local.
+//! Assembly text: three workers, images that come back from text, faults with their places, places of lines,
+//! constants, and initial words of a local.
 
 mod faults;
 mod names;

@@ -62,7 +62,8 @@ abbrev pub no_value : Option InitialWord → Result (Unit {0}) SourceFault
 no_value None = Ok tt
 no_value (Some v) = Err (fault_at v.word OutsideLocal)
 
--- initial words of a local: from the first Wptr and the local's first word on, and no more than it has. The first Wptr is used
+-- initial words of a local: no more than it has, from the first Wptr and the local's first word on. They use the first
+-- Wptr
 unfoldable pub local_initials_added : Word → List InitialWord → Said → Result Said SourceFault
 local_initials_added name values d = do
   local ← local_said d.locals name
