@@ -1,16 +1,20 @@
 -- A FIR filter of nine taps: each of 32 results is the sum of nine samples, each times its coefficient, over 4096.
 worker  fir
 version 2
-packet  40                      -- samples
-result  32
-local   h[9], x[40], y[32], acc
-init    5: -52, 0, 418, 1036, 1292, 1036, 418, 0, -52   -- h begins at the start word, 5
+const   taps = 9
+const   results = 32
+const   samples = 40            -- for the last result too: 32 + 9 - 1
+const   one = 4096              -- of coefficients
+packet  samples
+result  results
+local   h[taps], x[samples], y[results], acc
+init    h: -52, 0, 418, 1036, 1292, 1036, 418, 0, -52
 
         receive x
-        for n = 0 for 32
+        for n = 0 for results
         ldc     0
         stl     acc
-        for k = 0 for 9
+        for k = 0 for taps
         load    h[k]
         ldl     n
         ldl     k
@@ -24,7 +28,7 @@ init    5: -52, 0, 418, 1036, 1292, 1036, 418, 0, -52   -- h begins at the start
         stl     acc
         end k
         ldl     acc
-        ldc     4096
+        ldc     one
         div
         store   y[n]
         end n

@@ -2,6 +2,15 @@
 worker  sha1
 packet  16
 result  5
+const   h0 = #67452301          -- the hash before the first block
+const   h1 = #EFCDAB89
+const   h2 = #98BADCFE
+const   h3 = #10325476
+const   h4 = #C3D2E1F0
+const   k0 = #5A827999          -- what the turns add: to 19, to 39, to 59, to 79
+const   k20 = #6ED9EBA1
+const   k40 = #8F1BBCDC
+const   k60 = #CA62C1D6
 local   block[16], w[80], h[5], digest[5], a, b, c, d, e, f, x
 
         receive block
@@ -62,15 +71,15 @@ local   block[16], w[80], h[5], digest[5], a, b, c, d, e, f, x
         wsub
         stnl    0
         end s
-        ldc     #67452301
+        ldc     h0
         stl     a
-        ldc     #EFCDAB89
+        ldc     h1
         stl     b
-        ldc     #98BADCFE
+        ldc     h2
         stl     c
-        ldc     #10325476
+        ldc     h3
         stl     d
-        ldc     #C3D2E1F0
+        ldc     h4
         stl     e
         for t = 0 for 80
         ldc     20
@@ -85,7 +94,7 @@ local   block[16], w[80], h[5], digest[5], a, b, c, d, e, f, x
         ldl     d
         and
         or
-        ldc     #5A827999
+        ldc     k0
         sum
         stl     f
         j       mix
@@ -98,7 +107,7 @@ from20: ldc     40
         xor
         ldl     d
         xor
-        ldc     #6ED9EBA1
+        ldc     k20
         sum
         stl     f
         j       mix
@@ -115,7 +124,7 @@ from40: ldc     60
         ldl     d
         and
         or
-        ldc     #8F1BBCDC
+        ldc     k40
         sum
         stl     f
         j       mix
@@ -124,7 +133,7 @@ from60: ldl     b               -- to 79: b xor c xor d
         xor
         ldl     d
         xor
-        ldc     #CA62C1D6
+        ldc     k60
         sum
         stl     f
 mix:    ldl     a               -- a rotated by 5, f, e and w[t]
@@ -162,23 +171,23 @@ mix:    ldl     a               -- a rotated by 5, f, e and w[t]
         stl     a
         end t
         ldl     a
-        ldc     #67452301
+        ldc     h0
         sum
         stl     h
         ldl     b
-        ldc     #EFCDAB89
+        ldc     h1
         sum
         stl     h + 1
         ldl     c
-        ldc     #98BADCFE
+        ldc     h2
         sum
         stl     h + 2
         ldl     d
-        ldc     #10325476
+        ldc     h3
         sum
         stl     h + 3
         ldl     e
-        ldc     #C3D2E1F0
+        ldc     h4
         sum
         stl     h + 4
         for o = 0 for 5         -- the digest has the high byte first, too

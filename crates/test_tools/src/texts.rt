@@ -1,5 +1,7 @@
-//! Assembly text: three workers, images that come back from text, faults with their places, and places of lines.
+//! Assembly text: three workers, images that come back from text, faults with their places, places of lines,
+//! constants, and initial words of a local.
 
 mod faults;
+mod names;
 mod places;
 mod workers;

@@ -26,13 +26,16 @@ use Rattle.tpw_text.specs.declared.statement.Message.TheVariants.{Receive, Send,
 use Rattle.tpw_text.specs.declared.statement.Access.{Access}
 use Rattle.tpw_text.specs.declared.statement.Element.{Element}
 use Rattle.tpw_text.specs.Limits.{most_words}
+use Rattle.tpw_text.specs.Statements.{within}
+use Rattle.tpw_text.specs.Consts.{with_values}
 use Rattle.tpw_text.specs.Faults.{fault_at}
-use Rattle.tpw_text.specs.Drafts.{Said, is_full, place_named, local_named, pushed, locals_named, label_set, room_for_loop, local_said}
+use Rattle.tpw_text.specs.Drafts.{Said, is_full, place_named, local_named, const_named, is_taken, pushed, locals_named, label_set, const_set, start_set, room_for_loop, local_said}
 use Rattle.tpw_text.specs.Words.{position_of}
-use Rattle.tpw_text.specs.Grammar.{StatementSaid, SaysNothing, SetsPacket, SetsResults, SetsStart, SetsWorkspace, SetsVersion, NamesLocals, SetsInitial, AddsLines, AddsInstruction, AddsMessage, AddsAccess, BeginsLoop, EndsLoop, AddsRow}
-use Rattle.tpw_text.specs.Meaning.{in_turn, initial_added, initials_added, lines_pushed, operand_with, local_instr_added, instruction_added, message_lines, message_added, access_lines, access_added, loop_begins, begun, loop_begun, loop_ends, row_of, with_row, row_added, innermost, inner_ended, loop_named, loop_ended, added, unlabelled, labelled, is_colon, line_said}
-use Rattle.tpw_text.specs.Apart.{word_apart, line_apart, label_apart, local_apart, row_apart, begun_apart, draft_apart}
+use Rattle.tpw_text.specs.Grammar.{StatementSaid, statement_said, SaysNothing, SetsPacket, SetsResults, SetsStart, SetsWorkspace, SetsVersion, NamesConst, NamesLocals, SetsInitial, SetsLocal, AddsLines, AddsInstruction, AddsMessage, AddsAccess, BeginsLoop, EndsLoop, AddsRow}
+use Rattle.tpw_text.specs.Meaning.{in_turn, initial_added, initials_added, no_value, local_initials_added, lines_pushed, operand_with, local_instr_added, instruction_added, message_lines, message_added, access_lines, access_added, loop_begins, begun, loop_begun, loop_ends, row_of, with_row, row_added, innermost, inner_ended, loop_named, loop_ended, added, statement_with, unlabelled, labelled, is_colon, line_said}
+use Rattle.tpw_text.specs.Apart.{word_apart, line_apart, label_apart, local_apart, const_apart, row_apart, begun_apart, draft_apart}
 use Rattle.tpw_text.proofs.Apart.{kept, then_kept, then_in, if_kept, ok_or_kept, numbered, initial_apart, offset_apart, local_instr_apart, instruction_apart, element_apart, new_loop_apart, statement_apart, a_statement}
+use Rattle.tpw_text.proofs.Constants.{constant, values}
 
 -- what is found by a text
 found : {A : Type 0} (view : A → A) (test : A → Bool) (f : A → ℕ) → ((x : A) → test (view x) ≡ test x) → ((x : A) → f (view x) ≡ f x) → (xs : List A)
@@ -66,12 +69,16 @@ local (x ∷ locals) w = by (bytes_eq x.word.text.now w.text.now) (local locals 
 local_is : (locals : List LocalName) (w : Word) → local_said (map local_apart locals) (word_apart w) ≡ kept local_apart (local_said locals w)
 local_is locals w = ap (λ o. ok_or o (fault_at w fault.NoLocal)) (local locals w) ∙ ok_or_kept local_apart (local_named locals w) (fault_at w fault.NoLocal)
 
+is_there : {A : Type 0} (view : A → A) (o : Option A) → is_some (option_map view o) ≡ is_some o
+is_there view (Some n) = refl
+is_there view None = refl
+
 is_known : (locals : List LocalName) (w : Word) → is_some (local_named (map local_apart locals) (word_apart w)) ≡ is_some (local_named locals w)
-is_known locals w = ap is_some (local locals w) ∙ by (local_named locals w)
-  where
-    by : (o : Option LocalName) → is_some (option_map local_apart o) ≡ is_some o
-    by (Some n) = refl
-    by None = refl
+is_known locals w = ap is_some (local locals w) ∙ is_there local_apart (local_named locals w)
+
+taken : (w : Word) (d : Said) → is_taken (word_apart w) (draft_apart d) ≡ is_taken w d
+unfolding is_taken
+taken w d = rw (place d.labels w, is_known d.locals w, ap is_some (constant d.consts w) ∙ is_there word_apart (const_named d.consts w)) refl
 
 -- one more of a list
 abbrev ok : Said → Result Said SourceFault
@@ -89,16 +96,27 @@ a_line_pushed w line d =
 names_set : (w : Word) (size : ℕ) (d : Said) → locals_named (word_apart w) size (draft_apart d) ≡ kept draft_apart (locals_named w size d)
 unfolding locals_named
 names_set w size d =
-    rw (is_known d.locals w, length-map d.locals local_apart)
-    (if_kept _ (is_some (local_named d.locals w)) _ _ refl (if_kept _ (nat_lt most_words (d.words + size)) _ _ refl (if_kept _ (is_full d.locals) _ _ refl
+    rw (taken w d, length-map d.locals local_apart)
+    (if_kept _ (is_taken w d) _ _ refl (if_kept _ (nat_lt most_words (d.words + size)) _ _ refl (if_kept _ (is_full d.locals) _ _ refl
     (one_more local_apart (λ ls. record (draft_apart d) { locals = ls; words = d.words + size }) d.locals (record { word = w; first = d.words; words = size })))))
 
 a_label_set : (w : Word) (d : Said) → label_set (word_apart w) (draft_apart d) ≡ kept draft_apart (label_set w d)
 unfolding label_set
 a_label_set w d =
-    rw (place d.labels w, length-map d.labels label_apart, length-map d.lines line_apart)
-    (if_kept _ (is_some (place_named d.labels w)) _ _ refl (if_kept _ (is_full d.labels) _ _ refl
+    rw (taken w d, length-map d.labels label_apart, length-map d.lines line_apart)
+    (if_kept _ (is_taken w d) _ _ refl (if_kept _ (is_full d.labels) _ _ refl
     (one_more label_apart (λ ls. record (draft_apart d) { labels = ls }) d.labels (record { word = w; place = length d.lines }))))
+
+a_const_set : (w v : Word) (d : Said) → const_set (word_apart w) (word_apart v) (draft_apart d) ≡ kept draft_apart (const_set w v d)
+unfolding const_set
+a_const_set w v d =
+    rw (taken w d, length-map d.consts const_apart)
+    (if_kept _ (is_taken w d) _ _ refl (if_kept _ (is_full d.consts) _ _ refl
+    (one_more const_apart (λ cs. record (draft_apart d) { consts = cs }) d.consts (record { word = w; value = v }))))
+
+a_start_set : (w : Word) (n : ℕ) (d : Said) → start_set (word_apart w) n (draft_apart d) ≡ kept draft_apart (start_set w n d)
+unfolding start_set
+a_start_set w n d = if_kept _ d.start_used _ _ refl refl
 
 -- one after another
 turns : {A A' : Type 0} (add : A → Said → Result Said SourceFault) (add' : A' → Said → Result Said SourceFault) {view : A → A'}
@@ -118,6 +136,16 @@ an_initial v d = if_kept _ (is_full d.initial) _ _ refl refl
 initials : (at : Word) (first : ℕ) (values : List InitialWord) (d : Said) → initials_added (word_apart at) first (map initial_apart values) (draft_apart d) ≡ kept draft_apart (initials_added at first values d)
 unfolding initials_added
 initials at first values d = if_kept _ (nat_lt first (length d.initial)) _ _ refl (turns _ _ an_initial values _)
+
+beyond : (o : Option InitialWord) → no_value (option_map initial_apart o) ≡ no_value o
+beyond (Some v) = refl
+beyond None = refl
+
+local_initials : (name : Word) (values : List InitialWord) (d : Said) → local_initials_added (word_apart name) (map initial_apart values) (draft_apart d) ≡ kept draft_apart (local_initials_added name values d)
+unfolding local_initials_added
+local_initials name values d =
+    then_kept _ _ _ _ (local_is d.locals name) (λ n. then_in _ _ _ _ (ap no_value (slice_get-map initial_apart values n.words) ∙ beyond (slice_get values n.words)) (λ fits.
+    then_in _ (within name most_words (d.start + n.first)) _ _ refl (λ first. initials name first values (record d { start_used = true }))))
 
 operand : (o : Option Offset) (n : LocalName) → operand_with (offset_apart o) (local_apart n) ≡ operand_with o n
 operand (Some o) n = refl
@@ -194,11 +222,13 @@ unfolding added
 an_addition SaysNothing d = refl
 an_addition (SetsPacket n) d = refl
 an_addition (SetsResults n) d = refl
-an_addition (SetsStart n) d = refl
+an_addition (SetsStart word n) d = a_start_set word n d
 an_addition (SetsWorkspace n) d = refl
 an_addition (SetsVersion v) d = refl
+an_addition (NamesConst name value) d = a_const_set name value d
 an_addition (NamesLocals locals) d = turns _ _ (λ (l : NewLocal) e. names_set l.name l.size e) locals d
 an_addition (SetsInitial at first values) d = initials at first values d
+an_addition (SetsLocal name values) d = local_initials name values d
 an_addition (AddsLines lines) d = turns _ _ (λ (l : NewLine) e. a_line_pushed l.word l.line e) lines d
 an_addition (AddsInstruction i) d = an_instruction i d
 an_addition (AddsMessage word message name) d = a_message word message name d
@@ -207,11 +237,15 @@ an_addition (BeginsLoop l) d = a_loop_begun l d
 an_addition (EndsLoop word name) d = a_loop_ended word name d
 an_addition (AddsRow word row) d = a_row word row d
 
+a_statement_with : (ws : List Word) (d : Said) → statement_with (map const_apart d.consts) (map word_apart ws) ≡ kept statement_apart (statement_with d.consts ws)
+unfolding statement_with
+a_statement_with ws d = ap statement_said (values d.consts ws) ∙ a_statement (with_values d.consts ws)
+
 without_label : (ws : List Word) (d : Said) → unlabelled (map word_apart ws) (draft_apart d) ≡ kept draft_apart (unlabelled ws d)
-without_label ws d = then_kept _ _ _ _ (a_statement ws) (λ s. an_addition s d)
+without_label ws d = then_kept _ _ _ _ (a_statement_with ws d) (λ s. an_addition s d)
 
 with_label : (label : Word) (ws : List Word) (d : Said) → labelled (word_apart label) (map word_apart ws) (draft_apart d) ≡ kept draft_apart (labelled label ws d)
-with_label label ws d = then_kept _ _ _ _ (a_statement ws) (λ s. then_kept _ _ _ _ (a_label_set label d) (λ e. an_addition s e))
+with_label label ws d = then_kept _ _ _ _ (a_statement_with ws d) (λ s. then_kept _ _ _ _ (a_label_set label d) (λ e. an_addition s e))
 
 -- a line
 pub a_line : (ws : List Word) (d : Said) → line_said (map word_apart ws) (draft_apart d) ≡ kept draft_apart (line_said ws d)

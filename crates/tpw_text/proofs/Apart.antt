@@ -25,7 +25,7 @@ use Rattle.tpw_text.specs.Faults.{fault_at, then_read, each_read}
 use Rattle.tpw_text.specs.Numbers.{begins_number}
 use Rattle.tpw_text.specs.Statements.{word_said, number_read, count_read, nothing_at, end_said, one_number_said, expect_said, target_said}
 use Rattle.tpw_text.specs.Lists.{Part, is_comma, onto_part, parts, no_word, no_more_said, one_word_said, initial_word_said, byte_line_said, size_said, is_bracket, new_local_said, list_said}
-use Rattle.tpw_text.specs.Grammar.{StatementSaid, SaysNothing, SetsPacket, SetsResults, SetsStart, SetsWorkspace, SetsVersion, NamesLocals, SetsInitial, AddsLines, AddsInstruction, AddsMessage, AddsAccess, BeginsLoop, EndsLoop, AddsRow, is_word, is_word_here, version_said, initial_said, one_name_said, element_said, new_loop_said, row_said, length_at, length_said, plain_line, number_line, offset_at, offset_said, label_line, distance_said, number_said, local_instr_said, operand_said, with_operand_said, operation_said, of_operation, of_function, instruction_said, keyword_said, of_keyword, statement_said}
+use Rattle.tpw_text.specs.Grammar.{StatementSaid, SaysNothing, SetsPacket, SetsResults, SetsStart, SetsWorkspace, SetsVersion, NamesConst, NamesLocals, SetsInitial, SetsLocal, AddsLines, AddsInstruction, AddsMessage, AddsAccess, BeginsLoop, EndsLoop, AddsRow, is_word, is_word_here, version_said, is_no_name, const_said, values_said, initial_at, initial_of, initial_said, one_name_said, element_said, new_loop_said, row_said, length_at, length_said, plain_line, number_line, offset_at, offset_said, label_line, distance_said, number_said, local_instr_said, operand_said, with_operand_said, operation_said, of_operation, of_function, instruction_said, keyword_said, of_keyword, statement_said}
 use Rattle.tpw_text.specs.Apart.{word_apart, line_apart, target_apart, row_apart}
 
 -- what is read, by another view
@@ -210,11 +210,13 @@ abbrev pub statement_apart : StatementSaid → StatementSaid
 statement_apart SaysNothing = SaysNothing
 statement_apart (SetsPacket n) = SetsPacket n
 statement_apart (SetsResults n) = SetsResults n
-statement_apart (SetsStart n) = SetsStart n
+statement_apart (SetsStart word n) = SetsStart (word_apart word) n
 statement_apart (SetsWorkspace n) = SetsWorkspace n
 statement_apart (SetsVersion v) = SetsVersion v
+statement_apart (NamesConst name value) = NamesConst (word_apart name) (word_apart value)
 statement_apart (NamesLocals locals) = NamesLocals (map new_local_apart locals)
 statement_apart (SetsInitial at first values) = SetsInitial (word_apart at) first (map initial_apart values)
+statement_apart (SetsLocal name values) = SetsLocal (word_apart name) (map initial_apart values)
 statement_apart (AddsLines lines) = AddsLines (map new_line_apart lines)
 statement_apart (AddsInstruction i) = AddsInstruction (instruction_apart i)
 statement_apart (AddsMessage word message name) = AddsMessage (word_apart word) message (word_apart name)
@@ -228,11 +230,29 @@ module _ (ws : List Word) (first : Word) where
   unfolding version_said
   version = then_same _ _ _ (one_number ws first 2) (λ n. refl)
 
+  constant : const_said (map word_apart ws) (word_apart first) ≡ kept statement_apart (const_said ws first)
+  unfolding const_said
+  constant =
+      then_kept _ _ _ _ (said ws 1 first) (λ word. then_kept {f = word_apart} _ _ _ _ (if_kept word_apart (is_no_name word.text.now) _ _ refl refl) (λ name. then_kept _ _ _ _ (expected ws 2 name _) (λ equals.
+      then_kept _ _ _ _ (said ws 3 equals) (λ value. then_in _ _ _ _ (number value) (λ n. then_in _ _ _ _ (ended ws 4) (λ _. refl))))))
+
+  values : (at : Word) → values_said (map word_apart ws) (word_apart at) ≡ kept (map initial_apart) (values_said ws at)
+  unfolding values_said
+  values at =
+      then_kept _ _ _ _ (expected ws 2 at _) (λ colon.
+      ap (list_said initial_word_said (word_apart colon)) (drop-map word_apart 3 ws) ∙ listed initial_word_said initial_apart initial_word colon (drop 3 ws))
+
+  initial_from : (at : Word) → initial_at (map word_apart ws) (word_apart at) ≡ kept statement_apart (initial_at ws at)
+  unfolding initial_at
+  initial_from at = then_in _ _ _ _ (count _ at) (λ from. then_kept _ _ _ _ (values at) (λ vs. refl))
+
+  initial_local : (name : Word) → initial_of (map word_apart ws) (word_apart name) ≡ kept statement_apart (initial_of ws name)
+  unfolding initial_of
+  initial_local name = then_kept _ _ _ _ (values name) (λ vs. refl)
+
   initial : initial_said (map word_apart ws) (word_apart first) ≡ kept statement_apart (initial_said ws first)
   unfolding initial_said
-  initial =
-      then_kept _ _ _ _ (said ws 1 first) (λ at. then_in _ _ _ _ (count _ at) (λ from. then_kept _ _ _ _ (expected ws 2 at _) (λ colon.
-      then_kept _ _ _ _ (ap (list_said initial_word_said (word_apart colon)) (drop-map word_apart 3 ws) ∙ listed initial_word_said initial_apart initial_word colon (drop 3 ws)) (λ values. refl))))
+  initial = then_kept _ _ _ _ (said ws 1 first) (λ at. if_kept _ (begins_number at.text.now) _ _ (initial_from at) (initial_local at))
 
   one_name : one_name_said (map word_apart ws) (word_apart first) ≡ kept word_apart (one_name_said ws first)
   unfolding one_name_said
@@ -337,6 +357,7 @@ module _ (ws : List Word) (first : Word) where
   a_keyword keyword.Start = then_in _ _ _ _ (one_number ws first _) (λ n. refl)
   a_keyword keyword.Workspace = then_in _ _ _ _ (one_number ws first _) (λ n. refl)
   a_keyword keyword.Version = then_in _ _ _ _ (version ws first) (λ v. refl)
+  a_keyword keyword.Const = constant ws first
   a_keyword keyword.Local = then_kept _ _ _ _ (ap (list_said new_local_said (word_apart first)) (drop-map word_apart 1 ws) ∙ listed new_local_said new_local_apart new_local first (drop 1 ws)) (λ ls. refl)
   a_keyword keyword.Init = initial ws first
   a_keyword keyword.Byte = then_kept _ _ _ _ (ap (list_said byte_line_said (word_apart first)) (drop-map word_apart 1 ws) ∙ listed byte_line_said new_line_apart byte_line first (drop 1 ws)) (λ ls. refl)

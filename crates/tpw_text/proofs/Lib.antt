@@ -5,6 +5,7 @@ pub mod Turns
 pub mod Folds
 pub mod Programs
 mod Apart
+mod Constants
 mod Additions
 mod Finished
 mod Trimmed

@@ -7,6 +7,7 @@ use Rattle.tpw_text.specs.declared.draft.Target.{Target}
 use Rattle.tpw_text.specs.declared.draft.Target.TheVariants.{Place, Label, Address}
 use Rattle.tpw_text.specs.declared.draft.LabelName.{LabelName}
 use Rattle.tpw_text.specs.declared.draft.LocalName.{LocalName}
+use Rattle.tpw_text.specs.declared.draft.ConstName.{ConstName}
 use Rattle.tpw_text.specs.declared.draft.Row.{Row}
 use Rattle.tpw_text.specs.declared.draft.Begun.{Begun}
 use Rattle.tpw_text.specs.Words.{Token, token}
@@ -39,6 +40,9 @@ label_apart l = record l { word = word_apart l.word }
 abbrev pub local_apart : LocalName → LocalName
 local_apart l = record l { word = word_apart l.word }
 
+abbrev pub const_apart : ConstName → ConstName
+const_apart n = record { word = word_apart n.word; value = word_apart n.value }
+
 abbrev pub begun_apart : Begun → Begun
 begun_apart b = record b { name = word_apart b.name }
 
@@ -47,6 +51,7 @@ draft_apart d = record d {
   lines = map line_apart d.lines;
   labels = map label_apart d.labels;
   locals = map local_apart d.locals;
+  consts = map const_apart d.consts;
   rows = map row_apart d.rows;
   begun = map begun_apart d.begun;
 }

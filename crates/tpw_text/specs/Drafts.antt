@@ -1,5 +1,5 @@
 -- What is read so far of a text.
-use Rattle.std.specs.Prelude.{ℕ, ◌+◌, nat_le, nat_lt, Bool, if◌then◌else◌, List, [], ◌∷◌, ◌++◌, length, Option, None, Result, Ok, Err, is_some}
+use Rattle.std.specs.Prelude.{ℕ, ◌+◌, nat_le, nat_lt, Bool, false, true, ◌||◌, if◌then◌else◌, List, [], ◌∷◌, ◌++◌, length, Option, None, Result, Ok, Err, is_some}
 use Rattle.std.specs.List.{find}
 use Rattle.std.specs.Str.{bytes_eq}
 use Rattle.std.specs.Option.{option_map, ok_or}
@@ -9,11 +9,12 @@ use Rattle.tp_image.specs.Limits.{most_loops}
 use Rattle.tpw_text.specs.declared.words.Position.{Position}
 use Rattle.tpw_text.specs.declared.words.Word.{Word}
 use Rattle.tpw_text.specs.declared.fault.SourceFault.{SourceFault}
-use Rattle.tpw_text.specs.declared.fault.TextFault.TheVariants.{Twice, TooMany, TooManyLoops, NoLocal}
+use Rattle.tpw_text.specs.declared.fault.TextFault.TheVariants.{Twice, TooMany, TooManyLoops, NoLocal, StartBelow}
 use Rattle.tpw_text.specs.declared.draft.Draft.{Draft}
 use Rattle.tpw_text.specs.declared.draft.DraftLine.{DraftLine}
 use Rattle.tpw_text.specs.declared.draft.LabelName.{LabelName}
 use Rattle.tpw_text.specs.declared.draft.LocalName.{LocalName}
+use Rattle.tpw_text.specs.declared.draft.ConstName.{ConstName}
 use Rattle.tpw_text.specs.declared.draft.Row.{Row}
 use Rattle.tpw_text.specs.declared.draft.Begun.{Begun}
 use Rattle.tpw_text.specs.Faults.{fault_at}
@@ -21,12 +22,13 @@ use Rattle.tpw_text.specs.Limits.{most, most_words}
 use Rattle.tpw_text.specs.Words.{position_of}
 
 -- the fields of a program, its lines with labels as they stand and where the word stands that asks for each, the names
--- so far and
--- the loops that have no end yet
+-- so far, the constants, and
+-- the loops that have no end yet. The first Wptr is used where initial words of a local have taken it
 pub record Said : Type 0 where
   pub version : Version
   pub workspace : Option ℕ
   pub start : ℕ
+  pub start_used : Bool
   pub packet : ℕ
   pub results : ℕ
   pub initial : List ℕ
@@ -35,6 +37,7 @@ pub record Said : Type 0 where
   pub labels : List LabelName
   pub locals : List LocalName
   pub words : ℕ
+  pub consts : List ConstName
   pub rows : List Row
   pub begun : List Begun
 
@@ -44,6 +47,7 @@ said d = record {
   version = d.version;
   workspace = d.workspace;
   start = d.start;
+  start_used = d.start_used;
   packet = d.packet;
   results = d.results;
   initial = d.initial.items;
@@ -52,6 +56,7 @@ said d = record {
   labels = d.labels.items;
   locals = d.locals.items;
   words = d.words;
+  consts = d.consts.items;
   rows = d.rows.items;
   begun = d.begun.items;
 }
@@ -62,6 +67,7 @@ empty = record {
   version = One;
   workspace = None;
   start = 5;
+  start_used = false;
   packet = 1;
   results = 1;
   initial = [];
@@ -70,6 +76,7 @@ empty = record {
   labels = [];
   locals = [];
   words = 0;
+  consts = [];
   rows = [];
   begun = [];
 }
@@ -82,7 +89,16 @@ place_named labels word = option_map (λ n. n.place) (find (λ n. bytes_eq n.wor
 unfoldable pub local_named : List LocalName → Word → Option LocalName
 local_named locals word = find (λ n. bytes_eq n.word.text.now word.text.now) locals
 
--- no more lines, labels, locals or initial words may stand
+-- the value of the constant that a word names
+unfoldable pub const_named : List ConstName → Word → Option Word
+const_named consts word = option_map (λ n. n.value) (find (λ n. bytes_eq n.word.text.now word.text.now) consts)
+
+-- a label, a local or a constant has this name
+unfoldable pub is_taken : Word → Said → Bool
+is_taken word d =
+    is_some (place_named d.labels word) || (is_some (local_named d.locals word) || is_some (const_named d.consts word))
+
+-- no more lines, labels, locals, constants or initial words may stand
 abbrev pub is_full : {A : Type 0} → List A → Bool
 is_full xs = nat_le most (length xs)
 
@@ -95,7 +111,7 @@ pushed word line d =
 -- a name for the next local words, so many
 unfoldable pub locals_named : Word → ℕ → Said → Result Said SourceFault
 locals_named word size d =
-    if is_some (local_named d.locals word) then Err (fault_at word Twice)
+    if is_taken word d then Err (fault_at word Twice)
     else if nat_lt most_words (d.words + size) then Err (fault_at word TooMany)
     else if is_full d.locals then Err (fault_at word TooMany)
     else Ok (record d { locals = d.locals ++ (record { word = word; first = d.words; words = size }) ∷ []; words = d.words + size })
@@ -103,9 +119,20 @@ locals_named word size d =
 -- a label here
 unfoldable pub label_set : Word → Said → Result Said SourceFault
 label_set word d =
-    if is_some (place_named d.labels word) then Err (fault_at word Twice)
+    if is_taken word d then Err (fault_at word Twice)
     else if is_full d.labels then Err (fault_at word TooMany)
     else Ok (record d { labels = d.labels ++ (record { word = word; place = length d.lines }) ∷ [] })
+
+-- a constant, which keeps the word that its statement has for its value
+unfoldable pub const_set : Word → Word → Said → Result Said SourceFault
+const_set word value d =
+    if is_taken word d then Err (fault_at word Twice)
+    else if is_full d.consts then Err (fault_at word TooMany)
+    else Ok (record d { consts = d.consts ++ (record { word = word; value = value }) ∷ [] })
+
+-- the first Wptr, which stays where it is used
+unfoldable pub start_set : Word → ℕ → Said → Result Said SourceFault
+start_set word start d = if d.start_used then Err (fault_at word StartBelow) else Ok (record d { start = start })
 
 -- a loop more may stand, that a word begins: there are fewer rows, and loops that have no end yet, than an image has
 -- rows

@@ -1,5 +1,5 @@
 -- What a statement says, by its words alone.
-use Rattle.std.specs.Prelude.{ℕ, ◌+◌, ℤ, ◌==◌, ◌&&◌, not, Bool, false, if◌then◌else◌, List, [], ◌∷◌, drop, codes, Option, Some, None, option_map, Result, Ok, Err, slice_get}
+use Rattle.std.specs.Prelude.{ℕ, ◌+◌, ℤ, ◌==◌, ◌&&◌, ◌||◌, not, Bool, false, if◌then◌else◌, List, [], ◌∷◌, drop, codes, Option, Some, None, option_map, Result, Ok, Err, slice_get}
 use Rattle.std.specs.Str.{str_eq_ignore_ascii_case}
 use Rattle.std.specs.Option.{ok_or}
 use Rattle.tp_image.specs.declared.image.Version.{Version}
@@ -10,7 +10,7 @@ use Rattle.tpw_asm.specs.declared.program.Operation.TheVariants.{Plain}
 use Rattle.tpw_asm.specs.declared.program.Line.TheVariants.{Spelled}
 use Rattle.tpw_text.specs.declared.words.Word.{Word}
 use Rattle.tpw_text.specs.declared.fault.SourceFault.{SourceFault}
-use Rattle.tpw_text.specs.declared.fault.TextFault.TheVariants.{OutOfRange, NoLength, Unknown, LeftOut}
+use Rattle.tpw_text.specs.declared.fault.TextFault.TheVariants.{OutOfRange, NoLength, Unknown, LeftOut, Unexpected}
 use Rattle.tpw_text.specs.declared.draft.DraftLine.{DraftLine}
 use Rattle.tpw_text.specs.declared.draft.DraftLine.TheVariants.{Known, Jump, Cj, Distance}
 use Rattle.tpw_text.specs.declared.draft.Control.TheVariants as control
@@ -34,6 +34,7 @@ use Rattle.tpw_text.specs.declared.statement.Statement.TheVariants as statement
 use Rattle.tpw_text.specs.Limits.{most_count, most_words, most_bytes}
 use Rattle.tpw_text.specs.Faults.{fault_at, ◌>>=◌}
 use Rattle.tpw_text.specs.Numbers.{begins_number}
+use Rattle.tpw_text.specs.Words.{begins, is_mark}
 use Rattle.tpw_text.specs.Names.{function_named, operation_named, is_left_out}
 use Rattle.tpw_text.specs.Keywords.{keyword_named}
 use Rattle.tpw_text.specs.Statements.{word_said, expect_said, end_said, one_number_said, target_said, number_read, count_read, this_word}
@@ -46,13 +47,17 @@ pub data StatementSaid : Type 0 where
   -- words of the packet and of the result, the first Wptr, workspace words, and the version of the image
   SetsPacket : (words : ℕ) → StatementSaid
   SetsResults : (words : ℕ) → StatementSaid
-  SetsStart : (word : ℕ) → StatementSaid
+  SetsStart : (word : Word) (start : ℕ) → StatementSaid
   SetsWorkspace : (words : ℕ) → StatementSaid
   SetsVersion : (version : Version) → StatementSaid
+  -- a constant: its name, and the word of its value
+  NamesConst : (name : Word) (value : Word) → StatementSaid
   -- names for the next local words
   NamesLocals : (locals : List NewLocal) → StatementSaid
   -- initial words from a place on, which a word of the text writes
   SetsInitial : (at : Word) (first : ℕ) (values : List InitialWord) → StatementSaid
+  -- initial words of the local of a name
+  SetsLocal : (name : Word) (values : List InitialWord) → StatementSaid
   -- lines, and an instruction
   AddsLines : (lines : List NewLine) → StatementSaid
   AddsInstruction : (instruction : Instruction) → StatementSaid
@@ -71,11 +76,13 @@ abbrev pub statement_kept : Statement → StatementSaid
 statement_kept statement.Nothing = SaysNothing
 statement_kept (statement.Packet n) = SetsPacket n
 statement_kept (statement.Results n) = SetsResults n
-statement_kept (statement.Start n) = SetsStart n
+statement_kept (statement.Start word n) = SetsStart word n
 statement_kept (statement.Workspace n) = SetsWorkspace n
 statement_kept (statement.Version v) = SetsVersion v
+statement_kept (statement.Const name value) = NamesConst name value
 statement_kept (statement.Locals locals) = NamesLocals locals.items
 statement_kept (statement.Initial at first values) = SetsInitial at first values.items
+statement_kept (statement.InitialOf name values) = SetsLocal name values.items
 statement_kept (statement.Lines lines) = AddsLines lines.items
 statement_kept (statement.Instruction i) = AddsInstruction i
 statement_kept (statement.Message word message name) = AddsMessage word message name
@@ -105,14 +112,47 @@ version_said words first = do
   n ← one_number_said words first 2
   version_numbered first n
 
+-- a constant has no name that is a mark, or that begins as a number does
+unfoldable pub is_no_name : List ℕ → Bool
+is_no_name text = begins is_mark text || begins_number text
+
+abbrev pub const_name : Word → Result Word SourceFault
+const_name word = if is_no_name word.text.now then Err (fault_at word Unexpected) else Ok word
+
+-- const NAME = VALUE
+unfoldable pub const_said : List Word → Word → Result StatementSaid SourceFault
+const_said words first = do
+  word ← word_said words 1 first
+  name ← const_name word
+  equals ← expect_said words 2 name (codes "=")
+  value ← word_said words 3 equals
+  n ← number_read value
+  end ← end_said words 4
+  Ok (NamesConst name value)
+
+-- the values of init, behind a colon
+unfoldable pub values_said : List Word → Word → Result (List InitialWord) SourceFault
+values_said words at = do
+  colon ← expect_said words 2 at (codes ":")
+  list_said initial_word_said colon (drop 3 words)
+
 -- init WORD: VALUE, VALUE ..
+unfoldable pub initial_at : List Word → Word → Result StatementSaid SourceFault
+initial_at words at = do
+  from ← count_read most_words at
+  values ← values_said words at
+  Ok (SetsInitial at from values)
+
+-- init NAME: VALUE, VALUE ..
+unfoldable pub initial_of : List Word → Word → Result StatementSaid SourceFault
+initial_of words name = do
+  values ← values_said words name
+  Ok (SetsLocal name values)
+
 unfoldable pub initial_said : List Word → Word → Result StatementSaid SourceFault
 initial_said words first = do
   at ← word_said words 1 first
-  from ← count_read most_words at
-  colon ← expect_said words 2 at (codes ":")
-  values ← list_said initial_word_said colon (drop 3 words)
-  Ok (SetsInitial at from values)
+  if begins_number at.text.now then initial_at words at else initial_of words at
 
 -- a statement with one name: receive, send, trace and end
 unfoldable pub one_name_said : List Word → Word → Result Word SourceFault
@@ -273,9 +313,10 @@ unfoldable pub keyword_said : Keyword → List Word → Word → Result Statemen
 keyword_said keyword.Worker words first = end_said words 2 >>= λ end. Ok SaysNothing
 keyword_said keyword.Packet words first = field_said words first >>= λ n. Ok (SetsPacket n)
 keyword_said keyword.Results words first = field_said words first >>= λ n. Ok (SetsResults n)
-keyword_said keyword.Start words first = field_said words first >>= λ n. Ok (SetsStart n)
+keyword_said keyword.Start words first = field_said words first >>= λ n. Ok (SetsStart first n)
 keyword_said keyword.Workspace words first = field_said words first >>= λ n. Ok (SetsWorkspace n)
 keyword_said keyword.Version words first = version_said words first >>= λ v. Ok (SetsVersion v)
+keyword_said keyword.Const words first = const_said words first
 keyword_said keyword.Local words first =
     list_said new_local_said first (drop 1 words) >>= λ locals. Ok (NamesLocals locals)
 keyword_said keyword.Init words first = initial_said words first

@@ -3,7 +3,7 @@ use Rattle.std.specs.Prelude.{ℕ, List, [], ◌∷◌, codes, Option}
 use Rattle.std.specs.List.{find}
 use Rattle.std.specs.Str.{str_eq_ignore_ascii_case}
 use Rattle.tpw_text.specs.declared.keyword.Keyword.{Keyword}
-use Rattle.tpw_text.specs.declared.keyword.Keyword.TheVariants.{Worker, Packet, Results, Start, Workspace, Version, Local, Init, Byte, Receive, Send, Trace, Load, Store, For, End, Loop}
+use Rattle.tpw_text.specs.declared.keyword.Keyword.TheVariants.{Worker, Packet, Results, Start, Workspace, Version, Const, Local, Init, Byte, Receive, Send, Trace, Load, Store, For, End, Loop}
 
 abbrev pub keyword_name : Keyword → List ℕ
 keyword_name Worker = codes "worker"
@@ -12,6 +12,7 @@ keyword_name Results = codes "result"
 keyword_name Start = codes "start"
 keyword_name Workspace = codes "workspace"
 keyword_name Version = codes "version"
+keyword_name Const = codes "const"
 keyword_name Local = codes "local"
 keyword_name Init = codes "init"
 keyword_name Byte = codes "byte"
@@ -26,7 +27,7 @@ keyword_name Loop = codes "loop"
 
 abbrev pub keywords : List Keyword
 keywords =
-    Worker ∷ Packet ∷ Results ∷ Start ∷ Workspace ∷ Version ∷ Local ∷ Init ∷ Byte
+    Worker ∷ Packet ∷ Results ∷ Start ∷ Workspace ∷ Version ∷ Const ∷ Local ∷ Init ∷ Byte
     ∷ Receive ∷ Send ∷ Trace ∷ Load ∷ Store ∷ For ∷ End ∷ Loop ∷ []
 
 -- the keyword that a word is, in capitals or not

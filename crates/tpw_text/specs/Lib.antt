@@ -8,6 +8,7 @@ pub mod Drafts
 pub mod Statements
 pub mod Keywords
 pub mod Lists
+pub mod Consts
 pub mod Grammar
 pub mod Meaning
 pub mod Programs

@@ -1,5 +1,5 @@
 -- What a text says: each line adds to a draft.
-use Rattle.std.specs.Prelude.{ℕ, ◌+◌, ◌-◌, ◌*◌, nat_lt, ℤ, pos, ◌+ℤ◌, int_lt, ◌||◌, not, Bool, if◌then◌else◌, List, [], ◌∷◌, ◌++◌, length, take, replicate, codes, Option, Some, None, Result, Ok, Err, slice_get}
+use Rattle.std.specs.Prelude.{ℕ, ◌+◌, ◌-◌, ◌*◌, nat_lt, ℤ, pos, ◌+ℤ◌, int_lt, ◌||◌, not, Bool, if◌then◌else◌, List, [], ◌∷◌, ◌++◌, length, take, replicate, codes, Option, Some, None, Result, Ok, Err, slice_get, true}
 use Rattle.std.specs.Str.{str_eq_ignore_ascii_case, bytes_eq}
 use Rattle.tp_decode.specs.declared.instr.Instr.{Instr}
 use Rattle.tp_decode.specs.declared.instr.Instr.TheVariants.{Ldlp, Ldnl, Ldc, Ldnlp, Ldl, Stl, Stnl, Mint, Wsub, Input, Output, Lend}
@@ -13,6 +13,7 @@ use Rattle.tpw_text.specs.declared.draft.DraftLine.TheVariants.{Known}
 use Rattle.tpw_text.specs.declared.draft.Target.TheVariants.{Place}
 use Rattle.tpw_text.specs.declared.draft.Control.TheVariants as control
 use Rattle.tpw_text.specs.declared.draft.LocalName.{LocalName}
+use Rattle.tpw_text.specs.declared.draft.ConstName.{ConstName}
 use Rattle.tpw_text.specs.declared.draft.Row.{Row}
 use Rattle.tpw_text.specs.declared.draft.Begun.{Begun}
 use Rattle.tpw_text.specs.declared.statement.NewLocal.{NewLocal}
@@ -29,8 +30,11 @@ use Rattle.tpw_text.specs.declared.statement.Access.{Access}
 use Rattle.tpw_text.specs.declared.statement.Access.TheVariants.{Load, Store}
 use Rattle.tpw_text.specs.declared.statement.Element.{Element}
 use Rattle.tpw_text.specs.Faults.{fault_at, ◌>>=◌}
-use Rattle.tpw_text.specs.Drafts.{Said, is_full, pushed, locals_named, label_set, room_for_loop, local_said}
-use Rattle.tpw_text.specs.Grammar.{StatementSaid, SaysNothing, SetsPacket, SetsResults, SetsStart, SetsWorkspace, SetsVersion, NamesLocals, SetsInitial, AddsLines, AddsInstruction, AddsMessage, AddsAccess, BeginsLoop, EndsLoop, AddsRow, number_line, statement_said}
+use Rattle.tpw_text.specs.Drafts.{Said, is_full, pushed, locals_named, label_set, const_set, start_set, room_for_loop, local_said}
+use Rattle.tpw_text.specs.Limits.{most_words}
+use Rattle.tpw_text.specs.Statements.{within}
+use Rattle.tpw_text.specs.Consts.{with_values}
+use Rattle.tpw_text.specs.Grammar.{StatementSaid, SaysNothing, SetsPacket, SetsResults, SetsStart, SetsWorkspace, SetsVersion, NamesConst, NamesLocals, SetsInitial, SetsLocal, AddsLines, AddsInstruction, AddsMessage, AddsAccess, BeginsLoop, EndsLoop, AddsRow, number_line, statement_said}
 
 -- one after another, and the first fault ends it
 unfoldable pub in_turn : {A : Type 0} → (A → Said → Result Said SourceFault) → List A → Said → Result Said SourceFault
@@ -52,6 +56,20 @@ unfoldable pub initials_added : Word → ℕ → List InitialWord → Said → R
 initials_added at first values d =
     if nat_lt first (length d.initial) then Err (fault_at at OutOfRange)
     else in_turn initial_added values (record d { initial = d.initial ++ replicate (first - length d.initial) 0 })
+
+-- a value beyond the words of a local is a fault
+abbrev pub no_value : Option InitialWord → Result (Unit {0}) SourceFault
+no_value None = Ok tt
+no_value (Some v) = Err (fault_at v.word OutsideLocal)
+
+-- initial words of a local: no more than it has, from the first Wptr and the local's first word on. They use the first
+-- Wptr
+unfoldable pub local_initials_added : Word → List InitialWord → Said → Result Said SourceFault
+local_initials_added name values d = do
+  local ← local_said d.locals name
+  fits ← no_value (slice_get values local.words)
+  first ← within name most_words (d.start + local.first)
+  initials_added name first values (record d { start_used = true })
 
 -- a line that a word asks for, and lines that one word asks for
 abbrev pub line_added : NewLine → Said → Result Said SourceFault
@@ -175,11 +193,13 @@ unfoldable pub added : StatementSaid → Said → Result Said SourceFault
 added SaysNothing d = Ok d
 added (SetsPacket n) d = Ok (record d { packet = n })
 added (SetsResults n) d = Ok (record d { results = n })
-added (SetsStart n) d = Ok (record d { start = n })
+added (SetsStart word n) d = start_set word n d
 added (SetsWorkspace n) d = Ok (record d { workspace = Some n })
 added (SetsVersion v) d = Ok (record d { version = v })
+added (NamesConst name value) d = const_set name value d
 added (NamesLocals locals) d = in_turn local_added locals d
 added (SetsInitial at first values) d = initials_added at first values d
+added (SetsLocal name values) d = local_initials_added name values d
 added (AddsLines lines) d = in_turn line_added lines d
 added (AddsInstruction i) d = instruction_added i d
 added (AddsMessage word message name) d = message_added word message name d
@@ -188,13 +208,17 @@ added (BeginsLoop l) d = loop_begun l d
 added (EndsLoop word name) d = loop_ended word name d
 added (AddsRow word row) d = row_added word row d
 
+-- what a statement says, where these are the constants above it
+unfoldable pub statement_with : List ConstName → List Word → Result StatementSaid SourceFault
+statement_with consts words = statement_said (with_values consts words)
+
 -- a line: maybe a label with a colon, and a statement or none
 abbrev pub unlabelled : List Word → Said → Result Said SourceFault
-unlabelled words d = statement_said words >>= λ s. added s d
+unlabelled words d = statement_with d.consts words >>= λ s. added s d
 
 abbrev pub labelled : Word → List Word → Said → Result Said SourceFault
 labelled label words d = do
-  s ← statement_said words
+  s ← statement_with d.consts words
   e ← label_set label d
   added s e
 

@@ -1,12 +1,12 @@
 //! What a statement adds to a draft.
 
-ghost use Rattle.std.specs.Prelude.{◌≡◌, OnOk, IfErr, Ok};
+ghost use Rattle.std.specs.Prelude.{◌≡◌, OnOk, IfErr, Ok, slice_get};
 ghost use Rattle.tpw_text.specs.Faults.{IsRefusal};
 ghost use Rattle.tpw_text.specs.Drafts.{said};
 ghost use Rattle.tpw_text.specs.Grammar.{statement_kept};
-ghost use Rattle.tpw_text.specs.Meaning.{in_turn, local_added, initial_added, initials_added, line_added, lines_pushed, plain, operand_with, local_instr_added, instruction_added, message_added, accessing, access_added, loop_begun, loop_named, innermost, loop_ended, row_added, added};
+ghost use Rattle.tpw_text.specs.Meaning.{in_turn, local_added, initial_added, initials_added, no_value, local_initials_added, line_added, lines_pushed, plain, operand_with, local_instr_added, instruction_added, message_added, accessing, access_added, loop_begun, loop_named, innermost, loop_ended, row_added, added};
 
-use crate::draft::{Begun, Control, Draft, DraftLine, LocalName, MOST, Row, Target};
+use crate::draft::{Begun, Control, Draft, DraftLine, LocalName, MOST, MOST_WORDS, Row, Target};
 use crate::fault::{SourceFault, TextFault};
 use crate::instructions::number_line;
 use crate::statement::{
@@ -50,6 +50,16 @@ fn operand_with(offset: &Option<Offset<'_>>, local: &LocalName<'_>) -> Result<i3
         return Err(mark.fault(TextFault::OutsideLocal));
     }
     Ok(first + *number)
+}
+
+/// Refuses a value beyond so many.
+fn check_values(values: &[InitialWord<'_>], words: u16) -> Result<(), SourceFault>
+    ensures { result ≡ no_value (slice_get values.now words) }
+{
+    match values.get(usize::from(words)) {
+        Some(value) => Err(value.word.fault(TextFault::OutsideLocal)),
+        None => Ok(()),
+    }
 }
 
 /// The loop of this name, if it is the one that began last.
@@ -126,6 +136,26 @@ impl<'a> Draft<'a> {
         }
         self.initial.resize(first, 0)?;
         self.add_each_initial(values)
+    }
+
+    /// Adds initial words of a local.
+    #[tactic(auto, unfolding(crate::specs::Meaning::local_initials_added))]
+    fn add_local_initials(
+        &mut self,
+        name: &Word<'_>,
+        values: &[InitialWord<'_>],
+    ) -> Result<(), SourceFault>
+        ensures said { OnOk result (local_initials_added name.now values.now (said self.old) ≡ Ok (said self.new)) }
+        ensures refused { IfErr result (IsRefusal (local_initials_added name.now values.now (said self.old))) }
+    {
+        let local = self.local(name)?;
+        check_values(values, local.words)?;
+        let first = u32::from(self.start) + u32::from(local.first);
+        if first > u32::from(MOST_WORDS) {
+            return Err(name.fault(TextFault::OutOfRange));
+        }
+        self.start_used = true;
+        self.add_initials(name, first as u16, values)
     }
 
     /// Adds lines.
@@ -300,11 +330,13 @@ impl<'a> Draft<'a> {
             Statement::Nothing => {}
             Statement::Packet(words) => self.packet = *words,
             Statement::Results(words) => self.results = *words,
-            Statement::Start(word) => self.start = *word,
+            Statement::Start(word, start) => return self.set_start(word, *start),
             Statement::Workspace(words) => self.workspace = Some(*words),
             Statement::Version(version) => self.version = *version,
+            Statement::Const(name, value) => return self.set_const(name, value),
             Statement::Locals(locals) => return self.add_locals(locals),
             Statement::Initial(at, first, values) => return self.add_initials(at, *first, values),
+            Statement::InitialOf(name, values) => return self.add_local_initials(name, values),
             Statement::Lines(lines) => return self.add_lines(lines),
             Statement::Instruction(instruction) => return self.add_instruction(instruction),
             Statement::Message(word, message, name) => {

@@ -2,7 +2,7 @@
 
 ghost use Rattle.std.specs.Prelude.{◌≡◌, ◌≤◌, OnOk, IfOk, IfErr, Ok, []};
 ghost use Rattle.tpw_text.specs.Faults.{IsRefusal};
-ghost use Rattle.tpw_text.specs.Drafts.{said, empty, place_named, local_named, local_said, pushed, locals_named, label_set, room_for_loop};
+ghost use Rattle.tpw_text.specs.Drafts.{said, empty, place_named, local_named, const_named, is_taken, local_said, pushed, locals_named, label_set, const_set, start_set, room_for_loop};
 
 use crate::fault::{SourceFault, TextFault};
 use crate::words::{Position, Word};
@@ -30,6 +30,13 @@ pub struct LocalName<'a> {
     pub word: Word<'a>,
     pub first: u16,
     pub words: u16,
+}
+
+/// A constant, and the word that its statement has for its value.
+#[derive(Clone, Copy)]
+pub struct ConstName<'a> {
+    pub word: Word<'a>,
+    pub value: Word<'a>,
 }
 
 /// A line, maybe with labels.
@@ -84,6 +91,8 @@ pub struct Draft<'a> {
     pub version: Version,
     pub workspace: Option<u16>,
     pub start: u16,
+    /// Whether initial words of a local have taken `start`.
+    pub start_used: bool,
     pub packet: u16,
     pub results: u16,
     pub initial: Vec<u32>,
@@ -94,6 +103,7 @@ pub struct Draft<'a> {
     pub locals: Vec<LocalName<'a>>,
     /// How many local words have names.
     pub words: u16,
+    pub consts: Vec<ConstName<'a>>,
     pub rows: Vec<Row<'a>>,
     pub begun: Vec<Begun<'a>>,
 }
@@ -120,6 +130,17 @@ fn local_named<'a>(locals: &[LocalName<'a>], word: &Word<'_>) -> Option<LocalNam
         .find(|local| local.word.text == word.text)
 }
 
+/// The value of the constant that a word names.
+#[tactic(auto, unfolding(crate::specs::Drafts::const_named))]
+pub fn const_named<'a>(consts: &[ConstName<'a>], word: &Word<'_>) -> Option<Word<'a>>
+    ensures { result ≡ const_named consts.now word.now }
+{
+    consts
+        .iter()
+        .find(|constant| constant.word.text == word.text)
+        .map(|constant| constant.value)
+}
+
 impl<'a> Draft<'a> {
     pub fn new(alloc: Global) -> Self
         ensures { said result ≡ empty }
@@ -128,6 +149,7 @@ impl<'a> Draft<'a> {
             version: Version::One,
             workspace: None,
             start: 5,
+            start_used: false,
             packet: 1,
             results: 1,
             initial: Vec::new(alloc),
@@ -136,6 +158,7 @@ impl<'a> Draft<'a> {
             labels: Vec::new(alloc),
             locals: Vec::new(alloc),
             words: 0,
+            consts: Vec::new(alloc),
             rows: Vec::new(alloc),
             begun: Vec::new(alloc),
         }
@@ -155,6 +178,16 @@ impl<'a> Draft<'a> {
         Ok(())
     }
 
+    /// Whether a label, a local or a constant has this name.
+    #[tactic(auto, unfolding(crate::specs::Drafts::is_taken))]
+    fn is_taken(&self, word: &Word<'_>) -> bool
+        ensures { result ≡ is_taken word.now (said self.now) }
+    {
+        place_named(&self.labels, word).is_some()
+            || local_named(&self.locals, word).is_some()
+            || const_named(&self.consts, word).is_some()
+    }
+
     /// Names local words, so many. The first of them.
     #[tactic(auto, unfolding(crate::specs::Drafts::locals_named))]
     pub fn name_locals(&mut self, word: &Word<'a>, size: u16) -> Result<u16, SourceFault>
@@ -162,7 +195,7 @@ impl<'a> Draft<'a> {
         ensures said { OnOk result (locals_named word.now size (said self.old) ≡ Ok (said self.new)) }
         ensures refused { IfErr result (IsRefusal (locals_named word.now size (said self.old))) }
     {
-        if local_named(&self.locals, word).is_some() {
+        if self.is_taken(word) {
             return Err(word.fault(TextFault::Twice));
         }
         let first = self.words;
@@ -188,7 +221,7 @@ impl<'a> Draft<'a> {
         ensures said { OnOk result (label_set word.now (said self.old) ≡ Ok (said self.new)) }
         ensures refused { IfErr result (IsRefusal (label_set word.now (said self.old))) }
     {
-        if place_named(&self.labels, word).is_some() {
+        if self.is_taken(word) {
             return Err(word.fault(TextFault::Twice));
         }
         if self.labels.len() >= MOST {
@@ -196,6 +229,38 @@ impl<'a> Draft<'a> {
         }
         let place = self.lines.len();
         self.labels.push(LabelName { word: *word, place })?;
+        Ok(())
+    }
+
+    /// Sets a constant.
+    #[tactic(auto, unfolding(crate::specs::Drafts::const_set))]
+    pub fn set_const(&mut self, word: &Word<'a>, value: &Word<'a>) -> Result<(), SourceFault>
+        ensures said { OnOk result (const_set word.now value.now (said self.old) ≡ Ok (said self.new)) }
+        ensures refused { IfErr result (IsRefusal (const_set word.now value.now (said self.old))) }
+    {
+        if self.is_taken(word) {
+            return Err(word.fault(TextFault::Twice));
+        }
+        if self.consts.len() >= MOST {
+            return Err(word.fault(TextFault::TooMany));
+        }
+        self.consts.push(ConstName {
+            word: *word,
+            value: *value,
+        })?;
+        Ok(())
+    }
+
+    /// Sets the first Wptr, where it is not used.
+    #[tactic(auto, unfolding(crate::specs::Drafts::start_set))]
+    pub fn set_start(&mut self, word: &Word<'_>, start: u16) -> Result<(), SourceFault>
+        ensures said { OnOk result (start_set word.now start (said self.old) ≡ Ok (said self.new)) }
+        ensures refused { IfErr result (IsRefusal (start_set word.now start (said self.old))) }
+    {
+        if self.start_used {
+            return Err(word.fault(TextFault::StartBelow));
+        }
+        self.start = start;
         Ok(())
     }
 

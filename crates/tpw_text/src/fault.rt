@@ -23,12 +23,14 @@ pub enum TextFault {
     OutOfRange,
     #[error("this word is not expected here")]
     Unexpected,
-    #[error("a label or a local of this name stands above")]
+    #[error("a label, a local or a constant of this name stands above")]
     Twice,
     #[error("no local has this name")]
     NoLocal,
     #[error("the local of this name has fewer words")]
     OutsideLocal,
+    #[error("start comes above each init by the name of a local")]
+    StartBelow,
     #[error("the workspace that is stated has no room for this local")]
     NoRoom,
     #[error("no label has this name")]

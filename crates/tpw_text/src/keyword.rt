@@ -14,6 +14,7 @@ pub enum Keyword {
     Start,
     Workspace,
     Version,
+    Const,
     Local,
     Init,
     Byte,
@@ -27,13 +28,14 @@ pub enum Keyword {
     Loop,
 }
 
-const KEYWORDS: [Keyword; 17] = [
+const KEYWORDS: [Keyword; 18] = [
     Keyword::Worker,
     Keyword::Packet,
     Keyword::Results,
     Keyword::Start,
     Keyword::Workspace,
     Keyword::Version,
+    Keyword::Const,
     Keyword::Local,
     Keyword::Init,
     Keyword::Byte,
@@ -58,6 +60,7 @@ fn name_of(keyword: Keyword) -> &'static str
         Keyword::Start => "start",
         Keyword::Workspace => "workspace",
         Keyword::Version => "version",
+        Keyword::Const => "const",
         Keyword::Local => "local",
         Keyword::Init => "init",
         Keyword::Byte => "byte",

@@ -2,6 +2,7 @@
 #![tactic(auto)]
 
 mod adding;
+mod consts;
 mod draft;
 mod fault;
 mod finish;

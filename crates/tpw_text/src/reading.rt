@@ -6,14 +6,31 @@ ghost use Rattle.tpw_text.specs.Drafts.{said};
 ghost use Rattle.tpw_text.specs.Apart.{draft_apart};
 ghost use Rattle.tpw_text.specs.Programs.{source_said};
 ghost use Rattle.tpw_text.specs.Texts.{text_said, source_of};
-ghost use Rattle.tpw_text.specs.Meaning.{line_said};
+ghost use Rattle.tpw_text.specs.Grammar.{statement_kept};
+ghost use Rattle.tpw_text.specs.Meaning.{statement_with, line_said};
 
-use crate::draft::Draft;
+use crate::consts::with_values;
+use crate::draft::{ConstName, Draft};
 use crate::fault::SourceFault;
 use crate::finish::{Source, finish};
+use crate::statement::Statement;
 use crate::statements::read_statement;
 use crate::words::{Word, words_of};
 use std::alloc::Global;
+
+/// What a statement says, where these are the constants above it.
+#[tactic(auto, unfolding(crate::specs::Meaning::statement_with))]
+fn read_with<'a>(
+    alloc: Global,
+    consts: &[ConstName<'a>],
+    words: &[Word<'a>],
+) -> Result<Statement<'a>, SourceFault>
+    ensures said { IfOk result (λ s. statement_with consts.now words.now ≡ Ok (statement_kept s)) }
+    ensures refused { IfErr result (IsRefusal (statement_with consts.now words.now)) }
+{
+    let read = with_values(alloc, consts, words)?;
+    read_statement(alloc, &read)
+}
 
 /// A line: a label with a colon or none, and a statement or none. What the statement says is read before it is added.
 #[tactic(auto, unfolding(crate::specs::Meaning::line_said))]
@@ -27,11 +44,14 @@ fn read_line<'a>(
 {
     match words {
         [label, mark, rest @ ..] if mark.is(":") => {
-            let statement = read_statement(alloc, rest)?;
+            let statement = read_with(alloc, &draft.consts, rest)?;
             draft.set_label(label)?;
             draft.add(&statement)
         }
-        _ => draft.add(&read_statement(alloc, words)?),
+        _ => {
+            let statement = read_with(alloc, &draft.consts, words)?;
+            draft.add(&statement)
+        }
     }
 }
 

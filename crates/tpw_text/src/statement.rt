@@ -88,12 +88,17 @@ pub enum Statement<'a> {
     Nothing,
     Packet(u16),
     Results(u16),
-    Start(u16),
+    /// The first Wptr, and the word that begins the statement.
+    Start(Word<'a>, u16),
     Workspace(u16),
     Version(Version),
+    /// A constant: its name, and the word of its value.
+    Const(Word<'a>, Word<'a>),
     Locals(Vec<NewLocal<'a>>),
     /// Initial words from a place on, which a word of the text writes.
     Initial(Word<'a>, u16, Vec<InitialWord<'a>>),
+    /// Initial words of the local of a name.
+    InitialOf(Word<'a>, Vec<InitialWord<'a>>),
     Lines(Vec<NewLine<'a>>),
     Instruction(Instruction<'a>),
     /// A message, and the name of its local words.

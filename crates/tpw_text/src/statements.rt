@@ -2,17 +2,17 @@
 
 ghost use Rattle.std.specs.Prelude.{◌≡◌, ◌≤◌, IfOk, IfErr};
 ghost use Rattle.tpw_text.specs.Faults.{IsRefusal};
-ghost use Rattle.tpw_text.specs.Grammar.{statement_kept, field_said, version_said, initial_said, one_name_said, element_said, new_loop_said, row_said, keyword_said, statement_said};
+ghost use Rattle.tpw_text.specs.Grammar.{statement_kept, field_said, version_said, is_no_name, const_said, values_said, initial_at, initial_of, initial_said, one_name_said, element_said, new_loop_said, row_said, keyword_said, statement_said};
 
 use crate::draft::{Control, MOST_WORDS, Row};
 use crate::fault::{SourceFault, TextFault};
 use crate::instructions::instruction_of;
 use crate::keyword::{Keyword, keyword_of};
 use crate::lists::{byte_lines, initial_words, new_locals};
-use crate::number::{count_of, number_of};
-use crate::statement::{Access, Element, Message, NewLoop, Statement};
+use crate::number::{count_of, is_number, number_of};
+use crate::statement::{Access, Element, InitialWord, Message, NewLoop, Statement};
 use crate::wanted::{expect, expect_end, one_number, target_of, word_at};
-use crate::words::Word;
+use crate::words::{Word, is_mark};
 use std::alloc::Global;
 use tp_image::Version;
 
@@ -38,7 +38,78 @@ fn version(words: &[Word<'_>], first: &Word<'_>) -> Result<Version, SourceFault>
     }
 }
 
+/// Whether a constant cannot have this name: a mark, or what begins as a number does.
+#[tactic(auto, unfolding(crate::specs::Grammar::is_no_name))]
+fn is_no_name(word: &Word<'_>) -> bool
+    ensures { result ≡ is_no_name word.now.text.now }
+{
+    match word.text.first() {
+        Some(byte) => is_mark(*byte) || is_number(word),
+        None => false,
+    }
+}
+
+/// `const NAME = VALUE`
+#[tactic(auto, unfolding(crate::specs::Grammar::const_said))]
+fn constant<'a>(words: &[Word<'a>], first: &Word<'a>) -> Result<Statement<'a>, SourceFault>
+    ensures said { IfOk result (λ s. const_said words.now first.now ≡ Ok (statement_kept s)) }
+    ensures refused { IfErr result (IsRefusal (const_said words.now first.now)) }
+{
+    let name = word_at(words, 1, first)?;
+    if is_no_name(&name) {
+        return Err(name.fault(TextFault::Unexpected));
+    }
+    let equals = expect(words, 2, &name, "=")?;
+    let value = word_at(words, 3, &equals)?;
+    number_of(&value)?;
+    expect_end(words, 4)?;
+    Ok(Statement::Const(name, value))
+}
+
+/// The values of `init`, behind a colon.
+#[tactic(auto, unfolding(crate::specs::Grammar::values_said))]
+fn values_of<'a>(
+    alloc: Global,
+    words: &[Word<'a>],
+    at: &Word<'a>,
+) -> Result<Vec<InitialWord<'a>>, SourceFault>
+    ensures said { IfOk result (λ values. values_said words.now at.now ≡ Ok values.items) }
+    ensures refused { IfErr result (IsRefusal (values_said words.now at.now)) }
+{
+    let colon = expect(words, 2, at, ":")?;
+    initial_words(alloc, &colon, words.get(3..).unwrap_or(&[]))
+}
+
 /// `init WORD: VALUE, VALUE ..`
+#[tactic(auto, unfolding(crate::specs::Grammar::initial_at))]
+fn initial_at<'a>(
+    alloc: Global,
+    words: &[Word<'a>],
+    at: &Word<'a>,
+) -> Result<Statement<'a>, SourceFault>
+    ensures said { IfOk result (λ s. initial_at words.now at.now ≡ Ok (statement_kept s)) }
+    ensures refused { IfErr result (IsRefusal (initial_at words.now at.now)) }
+{
+    let from = count_of(at, u32::from(MOST_WORDS))? as u16;
+    let values = values_of(alloc, words, at)?;
+    Ok(Statement::Initial(*at, from, values))
+}
+
+/// `init NAME: VALUE, VALUE ..`
+#[tactic(auto, unfolding(crate::specs::Grammar::initial_of))]
+fn initial_of<'a>(
+    alloc: Global,
+    words: &[Word<'a>],
+    name: &Word<'a>,
+) -> Result<Statement<'a>, SourceFault>
+    ensures said { IfOk result (λ s. initial_of words.now name.now ≡ Ok (statement_kept s)) }
+    ensures refused { IfErr result (IsRefusal (initial_of words.now name.now)) }
+{
+    let values = values_of(alloc, words, name)?;
+    Ok(Statement::InitialOf(*name, values))
+}
+
+/// Initial words, from a workspace word on or of a local.
 #[tactic(auto, unfolding(crate::specs::Grammar::initial_said))]
 fn initial<'a>(
     alloc: Global,
@@ -49,10 +120,11 @@ fn initial<'a>(
     ensures refused { IfErr result (IsRefusal (initial_said words.now first.now)) }
 {
     let at = word_at(words, 1, first)?;
-    let from = count_of(&at, u32::from(MOST_WORDS))? as u16;
-    let colon = expect(words, 2, &at, ":")?;
-    let values = initial_words(alloc, &colon, words.get(3..).unwrap_or(&[]))?;
-    Ok(Statement::Initial(at, from, values))
+    if is_number(&at) {
+        initial_at(alloc, words, &at)
+    } else {
+        initial_of(alloc, words, &at)
+    }
 }
 
 /// The one name of a statement.
@@ -142,9 +214,10 @@ fn of_keyword<'a>(
         }
         Keyword::Packet => Statement::Packet(field(words, first)?),
         Keyword::Results => Statement::Results(field(words, first)?),
-        Keyword::Start => Statement::Start(field(words, first)?),
+        Keyword::Start => Statement::Start(word, field(words, first)?),
         Keyword::Workspace => Statement::Workspace(field(words, first)?),
         Keyword::Version => Statement::Version(version(words, first)?),
+        Keyword::Const => return constant(words, first),
         Keyword::Local => Statement::Locals(new_locals(alloc, first, rest)?),
         Keyword::Init => return initial(alloc, words, first),
         Keyword::Byte => Statement::Lines(byte_lines(alloc, first, rest)?),

@@ -68,7 +68,7 @@ impl<'a> Word<'a> {
 }
 
 /// Whether a byte is a word by itself.
-fn is_mark(byte: u8) -> bool
+pub fn is_mark(byte: u8) -> bool
     ensures { result ≡ is_mark byte }
 {
     matches!(byte, b',' | b':' | b'[' | b']' | b'=' | b'+' | b'/')

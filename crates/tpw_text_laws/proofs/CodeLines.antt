@@ -18,7 +18,7 @@ use Rattle.tpw_text.specs.declared.draft.LabelName.{LabelName}
 use Rattle.tpw_text.specs.declared.statement.NewLine.{NewLine}
 use Rattle.tpw_text.specs.declared.statement.Instruction.TheVariants as instruction
 use Rattle.tpw_text.specs.Limits.{most_bytes}
-use Rattle.tpw_text.specs.Faults.{then_read}
+use Rattle.tpw_text.specs.Faults.{then_read, ◌>>=◌}
 use Rattle.tpw_text.specs.Words.{position_of, is_plain, begins}
 use Rattle.tpw_text.specs.Numbers.{begins_number}
 use Rattle.tpw_text.specs.Names.{function_named, function_by_name, operation_named}
@@ -37,6 +37,7 @@ use Rattle.tpw_text_laws.proofs.Tests.{and_false, or_left, or_right, same_place}
 use Rattle.tpw_text_laws.proofs.Bytes.{IsWord, literal_word, decimal_word, signed_word, label_word, minus_word, name_word, hexadecimal_word}
 use Rattle.tpw_text_laws.proofs.Numbers.{count_is, signed_is, begins_signed, byte_is, byte_inner}
 use Rattle.tpw_text_laws.proofs.Pieces.{Piece, Gap, Of, Mark, write, placed, AreApart}
+use Rattle.tpw_text_laws.proofs.NoConstants.{statement_alone}
 use Rattle.tpw_text_laws.proofs.Fields.{not_labelled, other_word}
 use Rattle.tpw_text_laws.proofs.Rows.{at, AreLabels, label_placed}
 use Rattle.tpw_text_laws.proofs.InstructionNames.{IsOperation, IsFunction, no_keyword, how_named}
@@ -50,7 +51,7 @@ pub record Reads (named : ℕ → Bool) (count : ℕ) (line : Line) : Type 0 whe
   pub pieces : List Piece
   pub is : line_text line ≡ write pieces
   pub apart : AreApart pieces
-  pub says : (n : ℕ) (d : Said) → (w : Word) × (l : DraftLine) × (line_said (map word_for (placed n 1 pieces)) d ≡ pushed w l d) × IsDrafted named count l line × (position_of w ≡ record { line = n; column = column_of line })
+  pub says : (n : ℕ) (d : Said) → d.consts ≡ [] → (w : Word) × (l : DraftLine) × (line_said (map word_for (placed n 1 pieces)) d ≡ pushed w l d) × IsDrafted named count l line × (position_of w ≡ record { line = n; column = column_of line })
 
 -- how many bytes are stated
 abbrev stated_pieces : Option ℕ → List Piece → List Piece
@@ -93,9 +94,11 @@ spelled_written name bytes ps = ap (λ t. codes "        " ++ t) (append_assoc n
 spelled_apart : (name : List ℕ) (bytes : Option ℕ) (ps : List Piece) → IsWord name → begins is_plain (write ps) ≡ false → AreApart ps → AreApart (spelled name bytes ps)
 spelled_apart name bytes ps word ends apart = (word, stated_apart bytes ps ends apart)
 
-instruction_says : (first : Word) (ws : List Word) (l : NewLine) (d : Said) → keyword_named first.text.now ≡ None → instruction_said (first ∷ ws) first ≡ Ok (instruction.Line l) → unlabelled (first ∷ ws) d ≡ pushed l.word l.line d
+instruction_says : (first : Word) (ws : List Word) (l : NewLine) (d : Said) → d.consts ≡ [] → keyword_named first.text.now ≡ None → instruction_said (first ∷ ws) first ≡ Ok (instruction.Line l) → unlabelled (first ∷ ws) d ≡ pushed l.word l.line d
 unfolding statement_said added
-instruction_says first ws l d none said = rw (none, said) refl
+instruction_says first ws l d bare none said =
+    let plain : (statement_said (first ∷ ws) >>= λ s. added s d) ≡ pushed l.word l.line d = rw (none, said) refl in
+    ap (λ r. r >>= λ s. added s d) (statement_alone d.consts (first ∷ ws) bare) ∙ plain
 
 not_zero : (n : ℕ) → 0 < n → (n == 0) ≡ false
 not_zero n h = grind (arith, nat_tests)
@@ -128,11 +131,11 @@ unfolding line_said
 one_word first d = refl
 
 -- a function with its operand
-function_says : (n column : ℕ) (bytes : Option ℕ) (first w : Word) (ws : List Word) (function : ℕ) (l : NewLine) (d : Said) → MayBeStated bytes → IsWord w.text.now → keyword_named first.text.now ≡ None
+function_says : (n column : ℕ) (bytes : Option ℕ) (first w : Word) (ws : List Word) (function : ℕ) (l : NewLine) (d : Said) → d.consts ≡ [] → MayBeStated bytes → IsWord w.text.now → keyword_named first.text.now ≡ None
     → function_named first.text.now ≡ Some function → operand_said (first ∷ stated_words n column bytes (w ∷ ws)) first function bytes (operand_at bytes + 1) w ≡ Ok (instruction.Line l)
     → line_said (first ∷ stated_words n column bytes (w ∷ ws)) d ≡ pushed l.word l.line d
-function_says n column bytes first w ws function l d may word none named said =
-    is_unlabelled bytes ∙ instruction_says first (stated_words n column bytes (w ∷ ws)) l d none (of_a_function _ first function l named (with_operand _ first w function (operand_at bytes) bytes l (length_is n column bytes first w ws may word) (operand_here n column bytes first w ws) said))
+function_says n column bytes first w ws function l d bare may word none named said =
+    is_unlabelled bytes ∙ instruction_says first (stated_words n column bytes (w ∷ ws)) l d bare none (of_a_function _ first function l named (with_operand _ first w function (operand_at bytes) bytes l (length_is n column bytes first w ws may word) (operand_here n column bytes first w ws) said))
   where
     is_unlabelled : (b : Option ℕ) → line_said (first ∷ stated_words n column b (w ∷ ws)) d ≡ unlabelled (first ∷ stated_words n column b (w ∷ ws)) d
     is_unlabelled None = not_labelled first w ws d (other_word w.text.now 58 word refl)
@@ -160,7 +163,7 @@ function_read named count i bytes is fits may =
       pieces = spelled (entry i).name bytes ps;
       is = ap (λ t. codes "        " ++ ((entry i).name ++ stated_text bytes ++ t)) (is.text ∙ ap (λ t. 32 ∷ t) (sym (append-nil (signed_decimal (entry i).operand)))) ∙ spelled_written (entry i).name bytes ps;
       apart = spelled_apart (entry i).name bytes ps (name_word i) refl (signed_word (entry i).operand, (refl, tt));
-      says = λ n d.
+      says = λ n d bare.
           let first : Word = at n 9 (entry i).name in
           let c : ℕ = 9 + length (entry i).name in
           let w : Word = at n (column_behind c bytes + 1) (signed_decimal (entry i).operand) in
@@ -168,7 +171,7 @@ function_read named count i bytes is fits may =
             l.word,
             l.line,
             ap (λ ws. line_said (first ∷ ws) d) (stated_placed n c bytes ps)
-                ∙ function_says n c bytes first w [] (entry i).function l d may (signed_word (entry i).operand) (no_keyword i) is.named
+                ∙ function_says n c bytes first w [] (entry i).function l d bare may (signed_word (entry i).operand) (no_keyword i) is.named
                 (number_operand _ first w (entry i).function (operand_at bytes + 1) bytes (entry i).operand i (nothing_behind n c bytes first w) (begins_signed (entry i).operand fits) (signed_is w (entry i).operand refl fits) is.made),
             plain_drafted named count (Spelled (Plain i) bytes),
             refl,
@@ -181,10 +184,10 @@ unfolding operation_said length_said word_said end_said
 operation_length n column None first i may = refl
 operation_length n column (Some bytes) first i may = rw (count_is (at n (column + 1) (decimal bytes)) most_bytes bytes refl may.1 (omega (arith, may.1)), not_zero bytes may.0) refl
 
-operation_says : (n column : ℕ) (bytes : Option ℕ) (first : Word) (i : Instr) (d : Said) → MayBeStated bytes → keyword_named first.text.now ≡ None → function_named first.text.now ≡ None → operation_named first.text.now ≡ Some i
+operation_says : (n column : ℕ) (bytes : Option ℕ) (first : Word) (i : Instr) (d : Said) → d.consts ≡ [] → MayBeStated bytes → keyword_named first.text.now ≡ None → function_named first.text.now ≡ None → operation_named first.text.now ≡ Some i
     → line_said (first ∷ stated_words n column bytes []) d ≡ pushed first (draft.Known (Spelled (Plain i) bytes)) d
-operation_says n column bytes first i d may none no_function named =
-    is_unlabelled bytes ∙ instruction_says first (stated_words n column bytes []) (plain_line first bytes i) d none (of_an_operation _ first i (plain_line first bytes i) no_function named (operation_length n column bytes first i may))
+operation_says n column bytes first i d bare may none no_function named =
+    is_unlabelled bytes ∙ instruction_says first (stated_words n column bytes []) (plain_line first bytes i) d bare none (of_an_operation _ first i (plain_line first bytes i) no_function named (operation_length n column bytes first i may))
   where
     is_unlabelled : (b : Option ℕ) → line_said (first ∷ stated_words n column b []) d ≡ unlabelled (first ∷ stated_words n column b []) d
     is_unlabelled None = one_word first d
@@ -196,12 +199,12 @@ operation_read named count i bytes is may = record {
   pieces = spelled (entry i).name bytes [];
   is = ap (λ t. codes "        " ++ ((entry i).name ++ stated_text bytes ++ t)) is.text ∙ spelled_written (entry i).name bytes [];
   apart = spelled_apart (entry i).name bytes [] (name_word i) refl tt;
-  says = λ n d.
+  says = λ n d bare.
       let first : Word = at n 9 (entry i).name in
       let c : ℕ = 9 + length (entry i).name in (
         first,
         draft.Known (Spelled (Plain i) bytes),
-        ap (λ ws. line_said (first ∷ ws) d) (stated_placed n c bytes []) ∙ operation_says n c bytes first i d may (no_keyword i) is.named is.found,
+        ap (λ ws. line_said (first ∷ ws) d) (stated_placed n c bytes []) ∙ operation_says n c bytes first i d bare may (no_keyword i) is.named is.found,
         plain_drafted named count (Spelled (Plain i) bytes),
         refl,
       );
@@ -245,14 +248,14 @@ jump_read named count to bytes within there may =
       pieces = spelled (codes "j") bytes ps;
       is = ap (λ t. codes "        " ++ t) (behind_name (codes "j" ++ stated_text bytes) (label_text to)) ∙ spelled_written (codes "j") bytes ps;
       apart = spelled_apart (codes "j") bytes ps (literal_word _ refl) refl (label_word to, (refl, tt));
-      says = λ n d.
+      says = λ n d bare.
           let first : Word = at n 9 (codes "j") in
           let c : ℕ = column_behind 10 bytes + 1 in
           let w : Word = at n c (label_text to) in (
             first,
             draft.Jump w bytes,
             ap (λ ws. line_said (first ∷ ws) d) (stated_placed n 10 bytes ps)
-                ∙ function_says n 10 bytes first w [] 0 (record { word = first; line = draft.Jump w bytes }) d may (label_word to) refl refl
+                ∙ function_says n 10 bytes first w [] 0 (record { word = first; line = draft.Jump w bytes }) d bare may (label_word to) refl refl
                 (jump_operand _ n c (operand_at bytes + 1) to bytes (nothing_behind n 10 bytes first w)),
             jump_drafted named count to bytes w refl within there,
             refl,
@@ -267,14 +270,14 @@ cj_read named count to bytes within there may =
       pieces = spelled (codes "cj") bytes ps;
       is = ap (λ t. codes "        " ++ t) (behind_name (codes "cj" ++ stated_text bytes) (label_text to)) ∙ spelled_written (codes "cj") bytes ps;
       apart = spelled_apart (codes "cj") bytes ps (literal_word _ refl) refl (label_word to, (refl, tt));
-      says = λ n d.
+      says = λ n d bare.
           let first : Word = at n 9 (codes "cj") in
           let c : ℕ = column_behind 11 bytes + 1 in
           let w : Word = at n c (label_text to) in (
             first,
             draft.Cj w bytes,
             ap (λ ws. line_said (first ∷ ws) d) (stated_placed n 11 bytes ps)
-                ∙ function_says n 11 bytes first w [] 10 (record { word = first; line = draft.Cj w bytes }) d may (label_word to) refl refl
+                ∙ function_says n 11 bytes first w [] 10 (record { word = first; line = draft.Cj w bytes }) d bare may (label_word to) refl refl
                 (cj_operand _ n c (operand_at bytes + 1) to bytes (nothing_behind n 11 bytes first w)),
             cj_drafted named count to bytes w refl within there,
             refl,
@@ -310,7 +313,7 @@ distance_read named count from to bytes within' within there' there may =
       pieces = spelled (codes "ldc") bytes ps;
       is = ap (λ t. codes "        " ++ t) (distance_text (codes "ldc" ++ stated_text bytes) (label_text to) (label_text from)) ∙ spelled_written (codes "ldc") bytes ps;
       apart = spelled_apart (codes "ldc") bytes ps (literal_word _ refl) refl (label_word to, (refl, (minus_word [] refl, (refl, (label_word from, (refl, tt))))));
-      says = λ n d.
+      says = λ n d bare.
           let first : Word = at n 9 (codes "ldc") in
           let c : ℕ = column_behind 12 bytes + 1 in
           let w : Word = at n c (label_text to) in
@@ -319,7 +322,7 @@ distance_read named count from to bytes within' within there' there may =
             first,
             draft.Distance w v bytes,
             ap (λ ws. line_said (first ∷ ws) d) (stated_placed n 12 bytes ps)
-                ∙ function_says n 12 bytes first w (m ∷ v ∷ []) 4 (record { word = first; line = draft.Distance w v bytes }) d may (label_word to) refl refl
+                ∙ function_says n 12 bytes first w (m ∷ v ∷ []) 4 (record { word = first; line = draft.Distance w v bytes }) d bare may (label_word to) refl refl
                 (distance_operand _ n c (c + length (label_text to) + 1) (operand_at bytes + 1) to v bytes (minus_here n 12 bytes first w m v) (from_here n 12 bytes first w m v) (end_here n 12 bytes first w m v)),
             distance_drafted named count from to bytes v w refl refl within within' there there',
             refl,
@@ -337,9 +340,12 @@ unfolding in_turn
 then_done (Ok d) = refl
 then_done (Err e) = refl
 
-byte_says : (n column : ℕ) (w : Word) (l : NewLine) (d : Said) → list_said byte_line_said (at n column (codes "byte")) (w ∷ []) ≡ Ok (l ∷ []) → unlabelled (at n column (codes "byte") ∷ w ∷ []) d ≡ pushed l.word l.line d
+byte_says : (n column : ℕ) (w : Word) (l : NewLine) (d : Said) → d.consts ≡ [] → list_said byte_line_said (at n column (codes "byte")) (w ∷ []) ≡ Ok (l ∷ []) → unlabelled (at n column (codes "byte") ∷ w ∷ []) d ≡ pushed l.word l.line d
 unfolding statement_said keyword_named keyword_said added in_turn
-byte_says n column w l d said = rw said (then_done (line_added l d))
+byte_says n column w l d bare said =
+    let first : Word = at n column (codes "byte") in
+    let plain : (statement_said (first ∷ w ∷ []) >>= λ s. added s d) ≡ pushed l.word l.line d = rw said (then_done (line_added l d)) in
+    ap (λ r. r >>= λ s. added s d) (statement_alone d.consts (first ∷ w ∷ []) bare) ∙ plain
 
 byte_read : (named : ℕ → Bool) (count byte : ℕ) → byte < 2 ^ 8 → Reads named count (Byte byte)
 unfolding line_text is_plain
@@ -347,12 +353,12 @@ byte_read named count byte small = record {
   pieces = Gap ∷ Gap ∷ Gap ∷ Gap ∷ Gap ∷ Gap ∷ Gap ∷ Gap ∷ Of (codes "byte") ∷ Gap ∷ Of (35 ∷ byte_text byte) ∷ [];
   is = ap (λ t. codes "        byte #" ++ t) (sym (append-nil (byte_text byte)));
   apart = (literal_word _ refl, (refl, (hexadecimal_word (byte_text byte) (byte_inner byte (omega arith)), (refl, tt))));
-  says = λ n d.
+  says = λ n d bare.
       let first : Word = at n 9 (codes "byte") in
       let w : Word = at n 14 (35 ∷ byte_text byte) in (
         w,
         draft.Known (Byte byte),
-        not_labelled first w [] d refl ∙ byte_says n 9 w _ d (byte_said first n 14 (byte_text byte) byte (byte_is w byte refl (omega arith))),
+        not_labelled first w [] d refl ∙ byte_says n 9 w _ d bare (byte_said first n 14 (byte_text byte) byte (byte_is w byte refl (omega arith))),
         plain_drafted named count (Byte byte),
         refl,
       );

@@ -18,19 +18,21 @@ use Rattle.tpw_text.specs.declared.statement.InitialWord.{InitialWord}
 use Rattle.tpw_text.specs.Limits.{most, most_words, most_count}
 use Rattle.tpw_text.specs.Faults.{◌>>=◌}
 use Rattle.tpw_text.specs.Words.{is_mark, is_plain}
-use Rattle.tpw_text.specs.Drafts.{Said, is_full}
+use Rattle.tpw_text.specs.Drafts.{Said, is_full, start_set}
+use Rattle.tpw_text.specs.Numbers.{begins_number}
 use Rattle.tpw_text.specs.Keywords.{keyword_named}
 use Rattle.tpw_text.specs.Statements.{word_said, end_said, expect_said, one_number_said, number_read}
 use Rattle.tpw_text.specs.Lists.{parts, list_said, one_word_said, no_more_said, initial_word_said}
-use Rattle.tpw_text.specs.Grammar.{StatementSaid, SetsPacket, SetsResults, SetsStart, SetsWorkspace, SetsVersion, SetsInitial, field_said, version_numbered, version_said, initial_said, keyword_said, statement_said}
+use Rattle.tpw_text.specs.Grammar.{StatementSaid, SetsPacket, SetsResults, SetsStart, SetsWorkspace, SetsVersion, SetsInitial, field_said, version_numbered, version_said, values_said, initial_at, initial_said, keyword_said, statement_said}
 use Rattle.tpw_text.specs.Meaning.{in_turn, added, initial_added, initials_added, is_colon, unlabelled, line_said}
 use Rattle.tpw_text.specs.Apart.{word_for}
 use Rattle.tpw_text.specs.Programs.{ProgramSaid}
 use Rattle.tpw_text.specs.Written.{as_line, initial_text, sizes_text, version_text}
 use Rattle.tpw_text.proofs.Tokens.{both_true}
 use Rattle.tpw_text_laws.proofs.Bytes.{IsWord, is_literal, literal_word, decimal_word, hexadecimal_word, digits_inner}
-use Rattle.tpw_text_laws.proofs.Numbers.{count_is, hexadecimal_is}
+use Rattle.tpw_text_laws.proofs.Numbers.{count_is, hexadecimal_is, begins_decimal}
 use Rattle.tpw_text_laws.proofs.Pieces.{Piece, Gap, Of, Mark, write, placed, AreApart, no_tail}
+use Rattle.tpw_text_laws.proofs.NoConstants.{statement_alone}
 use Rattle.tpw_text_laws.proofs.Leading.{Leads, nothing, behind, leads_to, a_line}
 
 -- a line without a comment
@@ -62,33 +64,39 @@ number_alone : (first w : Word) (limit n : ℕ) → w.text.now ≡ decimal n →
 unfolding one_number_said word_said end_said
 number_alone first w limit n is few small = count_is w limit n is few small
 
-pub keyword_says : (first : Word) (ws : List Word) (k : Keyword) (s : StatementSaid) (d e : Said) → keyword_named first.text.now ≡ Some k → keyword_said k (first ∷ ws) first ≡ Ok s → added s d ≡ Ok e
+pub keyword_says : (first : Word) (ws : List Word) (k : Keyword) (s : StatementSaid) (d e : Said) → d.consts ≡ [] → keyword_named first.text.now ≡ Some k → keyword_said k (first ∷ ws) first ≡ Ok s → added s d ≡ Ok e
     → unlabelled (first ∷ ws) d ≡ Ok e
 unfolding statement_said
-keyword_says first ws k s d e named said adds = rw (named, said) adds
+keyword_says first ws k s d e none named said adds =
+    let plain : (statement_said (first ∷ ws) >>= λ s. added s d) ≡ Ok e = rw (named, said) adds in
+    ap (λ r. r >>= λ s. added s d) (statement_alone d.consts (first ∷ ws) none) ∙ plain
 
 -- a keyword and a number
-a_field : (name : List ℕ) (k : Keyword) (make : ℕ → StatementSaid) (n : ℕ) (s t : Said) → is_literal name ≡ true → keyword_named name ≡ Some k
-    → ((ws : List Word) (first : Word) → keyword_said k ws first ≡ (field_said ws first >>= λ m. Ok (make m))) → n ≤ most_count → added (make n) s ≡ Ok t
+a_field : (name : List ℕ) (k : Keyword) (make : Word → ℕ → StatementSaid) (n : ℕ) (s t : Said) → s.consts ≡ [] → is_literal name ≡ true → keyword_named name ≡ Some k
+    → ((ws : List Word) (first : Word) → keyword_said k ws first ≡ (field_said ws first >>= λ m. Ok (make first m))) → n ≤ most_count → ((w : Word) → added (make w n) s ≡ Ok t)
     → Leads (as_line (name ++ 32 ∷ decimal n)) (Is s) (Is t)
 unfolding is_plain
-a_field name k make n s t literal named is_field few adds =
+a_field name k make n s t none literal named is_field few adds =
     alone (name ++ 32 ∷ decimal n) (Of name ∷ Gap ∷ Of (decimal n) ∷ []) (simp append-nil) (literal_word name literal, (refl, (decimal_word n, (refl, tt)))) (λ front d is.
     let line : ℕ = 1 + length front in
     let first : Word = word_for (record { text = name; line = line; column = 1 }) in
     let second : Word = word_for (record { text = decimal n; line = line; column = 1 + length name + 1 }) in
-    let said : keyword_said k (first ∷ second ∷ []) first ≡ Ok (make n) = is_field (first ∷ second ∷ []) first ∙ ap (λ r. r >>= λ m. Ok (make m)) (number_alone first second most_count n refl few (omega arith)) in
-    (t, not_labelled first second [] d (other_word (decimal n) 58 (decimal_word n) refl) ∙ ap (unlabelled (first ∷ second ∷ [])) is ∙ keyword_says first (second ∷ []) k (make n) s t named said adds, refl))
+    let said : keyword_said k (first ∷ second ∷ []) first ≡ Ok (make first n) = is_field (first ∷ second ∷ []) first ∙ ap (λ r. r >>= λ m. Ok (make first m)) (number_alone first second most_count n refl few (omega arith)) in
+    (t, not_labelled first second [] d (other_word (decimal n) 58 (decimal_word n) refl) ∙ ap (unlabelled (first ∷ second ∷ [])) is ∙ keyword_says first (second ∷ []) k (make first n) s t none named said (adds first), refl))
 
-pub sizes_lead : (p : ProgramSaid) (s : Said) → p.workspace ≤ most_count → p.start ≤ most_count → p.packet ≤ most_count → p.result ≤ most_count
+start_adds : (w : Word) (n : ℕ) (s : Said) → s.start_used ≡ false → start_set w n s ≡ Ok (record s { start = n })
+unfolding start_set
+start_adds w n s unused = rw unused refl
+
+pub sizes_lead : (p : ProgramSaid) (s : Said) → s.consts ≡ [] → s.start_used ≡ false → p.workspace ≤ most_count → p.start ≤ most_count → p.packet ≤ most_count → p.result ≤ most_count
     → Leads (sizes_text p) (Is s) (Is (record s { workspace = Some p.workspace; start = p.start; packet = p.packet; results = p.result }))
 unfolding is_plain keyword_named keyword_said added
-sizes_lead p s workspace start packet result =
+sizes_lead p s none unused workspace start packet result =
     behind (behind (behind
-    (a_field (codes "workspace") keyword.Workspace SetsWorkspace p.workspace s (record s { workspace = Some p.workspace }) refl refl (λ ws first. refl) workspace refl)
-    (a_field (codes "start") keyword.Start SetsStart p.start _ (record s { workspace = Some p.workspace; start = p.start }) refl refl (λ ws first. refl) start refl))
-    (a_field (codes "packet") keyword.Packet SetsPacket p.packet _ (record s { workspace = Some p.workspace; start = p.start; packet = p.packet }) refl refl (λ ws first. refl) packet refl))
-    (a_field (codes "result") keyword.Results SetsResults p.result _ (record s { workspace = Some p.workspace; start = p.start; packet = p.packet; results = p.result }) refl refl (λ ws first. refl) result refl)
+    (a_field (codes "workspace") keyword.Workspace (λ w. SetsWorkspace) p.workspace s (record s { workspace = Some p.workspace }) none refl refl (λ ws first. refl) workspace (λ w. refl))
+    (a_field (codes "start") keyword.Start SetsStart p.start _ (record s { workspace = Some p.workspace; start = p.start }) none refl refl (λ ws first. refl) start (λ w. start_adds w p.start (record s { workspace = Some p.workspace }) unused)))
+    (a_field (codes "packet") keyword.Packet (λ w. SetsPacket) p.packet _ (record s { workspace = Some p.workspace; start = p.start; packet = p.packet }) none refl refl (λ ws first. refl) packet (λ w. refl)))
+    (a_field (codes "result") keyword.Results (λ w. SetsResults) p.result _ (record s { workspace = Some p.workspace; start = p.start; packet = p.packet; results = p.result }) none refl refl (λ ws first. refl) result (λ w. refl))
 
 -- the version
 two_said : (first w : Word) → w.text.now ≡ codes "2" → version_said (first ∷ w ∷ []) first ≡ Ok Two
@@ -96,35 +104,36 @@ unfolding version_said
 two_said first w is =
     ap (λ r. r >>= version_numbered first) (number_alone first w 2 2 (is ∙ sym (decimal_digit 2 (omega arith))) (omega arith) (omega arith))
 
-two_leads : (s : Said) → Leads (as_line (codes "version 2")) (Is s) (Is (record s { version = Two }))
+two_leads : (s : Said) → s.consts ≡ [] → Leads (as_line (codes "version 2")) (Is s) (Is (record s { version = Two }))
 unfolding is_plain keyword_named keyword_said added
-two_leads s =
+two_leads s none =
     alone (codes "version 2") (Of (codes "version") ∷ Gap ∷ Of (codes "2") ∷ []) refl (literal_word _ refl, (refl, (literal_word _ refl, (refl, tt)))) (λ front d is.
     let line : ℕ = 1 + length front in
     let first : Word = word_for (record { text = codes "version"; line = line; column = 1 }) in
     let second : Word = word_for (record { text = codes "2"; line = line; column = 9 }) in
     let said : keyword_said keyword.Version (first ∷ second ∷ []) first ≡ Ok (SetsVersion Two) = ap (λ r. r >>= λ v. Ok (SetsVersion v)) (two_said first second refl) in
-    (record s { version = Two }, not_labelled first second [] d refl ∙ ap (unlabelled (first ∷ second ∷ [])) is ∙ keyword_says first (second ∷ []) keyword.Version (SetsVersion Two) s _ refl said refl, refl))
+    (record s { version = Two }, not_labelled first second [] d refl ∙ ap (unlabelled (first ∷ second ∷ [])) is ∙ keyword_says first (second ∷ []) keyword.Version (SetsVersion Two) s _ none refl said refl, refl))
 
-pub version_leads : (v : Version) (s : Said) → s.version ≡ One → Leads (version_text v) (Is s) (Is (record s { version = v }))
+pub version_leads : (v : Version) (s : Said) → s.version ≡ One → s.consts ≡ [] → Leads (version_text v) (Is s) (Is (record s { version = v }))
 unfolding version_text
-version_leads One s is = leads_to (λ front d e. e ∙ ap (λ v. record s { version = v }) is) (nothing {P = Is s})
-version_leads Two s is = two_leads s
+version_leads One s is none = leads_to (λ front d e. e ∙ ap (λ v. record s { version = v }) is) (nothing {P = Is s})
+version_leads Two s is none = two_leads s none
 
 -- an initial word
 abbrev pub value_of : Word → ℤ → InitialWord
 value_of w z = record { word = w; value = cast_unsigned w32 z }
 
-values_said : (colon : Word) (line column : ℕ) (ds : List ℕ) (z : ℤ) → number_read (word_for (record { text = 35 ∷ ds; line = line; column = column })) ≡ Ok z
+one_value : (colon : Word) (line column : ℕ) (ds : List ℕ) (z : ℤ) → number_read (word_for (record { text = 35 ∷ ds; line = line; column = column })) ≡ Ok z
     → list_said initial_word_said colon (word_for (record { text = 35 ∷ ds; line = line; column = column }) ∷ []) ≡ Ok (value_of (word_for (record { text = 35 ∷ ds; line = line; column = column })) z ∷ [])
 unfolding parts initial_word_said one_word_said word_said no_more_said
-values_said colon line column ds z is = rw is refl
+one_value colon line column ds z is = rw is refl
 
 init_said : (first at colon value : Word) (i : ℕ) (vs : List InitialWord) → at.text.now ≡ decimal i → i ≤ most_words → expect_said (first ∷ at ∷ colon ∷ value ∷ []) 2 at (codes ":") ≡ Ok colon
     → list_said initial_word_said colon (value ∷ []) ≡ Ok vs → initial_said (first ∷ at ∷ colon ∷ value ∷ []) first ≡ Ok (SetsInitial at i vs)
-unfolding initial_said word_said
+unfolding initial_said initial_at values_said word_said
 init_said first at colon value i vs is few colon_is values =
-    rw (count_is at most_words i is few (omega arith), colon_is, values) refl
+    let begins : begins_number at.text.now ≡ true = ap begins_number is ∙ begins_decimal i (omega arith) in
+    rw (begins, count_is at most_words i is few (omega arith), colon_is, values) refl
 
 colon_said : (first at value : Word) (line column : ℕ) → expect_said (first ∷ at ∷ word_for (record { text = 58 ∷ []; line = line; column = column }) ∷ value ∷ []) 2 at (codes ":") ≡ Ok (word_for (record { text = 58 ∷ []; line = line; column = column }))
 unfolding expect_said word_said
@@ -138,10 +147,10 @@ an_initial at v s i long few =
     let space : is_full s.initial ≡ false = grind (arith, nat_tests) in
     rw (before, none, append-nil s.initial, space) refl
 
-initial_leads : (s : Said) (i word : ℕ) → length s.initial ≡ i → i < most_words → word < 2 ^ 32
+initial_leads : (s : Said) (i word : ℕ) → s.consts ≡ [] → length s.initial ≡ i → i < most_words → word < 2 ^ 32
     → Leads (as_line (codes "init " ++ decimal i ++ codes ": #" ++ digits 16 false word)) (Is s) (Is (record s { initial = s.initial ++ word ∷ [] }))
 unfolding is_plain keyword_named keyword_said added
-initial_leads s i word long few small =
+initial_leads s i word none long few small =
     alone (codes "init " ++ decimal i ++ codes ": #" ++ digits 16 false word) (Of (codes "init") ∷ Gap ∷ Of (decimal i) ∷ Mark 58 ∷ Gap ∷ Of (35 ∷ digits 16 false word) ∷ []) (simp (append_assoc, append-nil))
     (literal_word _ refl, (refl, (decimal_word i, (refl, (refl, (hexadecimal_word (digits 16 false word) (digits_inner 16 word (omega arith) (omega arith)), (refl, tt))))))) (λ front d is.
     let line : ℕ = 1 + length front in
@@ -150,19 +159,19 @@ initial_leads s i word long few small =
     let colon : Word = word_for (record { text = 58 ∷ []; line = line; column = 6 + length (decimal i) }) in
     let value : Word = word_for (record { text = 35 ∷ digits 16 false word; line = line; column = 6 + length (decimal i) + 1 + 1 }) in
     let v : InitialWord = value_of value (cast_signed w32 word) in
-    let values : list_said initial_word_said colon (value ∷ []) ≡ Ok (v ∷ []) = values_said colon line _ (digits 16 false word) _ (hexadecimal_is value word refl small) in
+    let values : list_said initial_word_said colon (value ∷ []) ≡ Ok (v ∷ []) = one_value colon line _ (digits 16 false word) _ (hexadecimal_is value word refl small) in
     let said : initial_said (first ∷ at ∷ colon ∷ value ∷ []) first ≡ Ok (SetsInitial at i (v ∷ [])) = init_said first at colon value i _ refl (omega arith) (colon_said first at value line _) values in
     let adds : initials_added at i (v ∷ []) s ≡ Ok (record s { initial = s.initial ++ word ∷ [] }) = an_initial at v s i long (omega arith) ∙ ap (λ w. Ok (record s { initial = s.initial ++ w ∷ [] })) (of_z-to_z w32 word small) in (
       record s { initial = s.initial ++ word ∷ [] },
       not_labelled first at (colon ∷ value ∷ []) d (other_word (decimal i) 58 (decimal_word i) refl) ∙ ap (unlabelled (first ∷ at ∷ colon ∷ value ∷ [])) is
-          ∙ keyword_says first (at ∷ colon ∷ value ∷ []) keyword.Init (SetsInitial at i (v ∷ [])) s _ refl said adds,
+          ∙ keyword_says first (at ∷ colon ∷ value ∷ []) keyword.Init (SetsInitial at i (v ∷ [])) s _ none refl said adds,
       refl,
     ))
 
-pub initials_lead : (s : Said) (i : ℕ) (words : List ℕ) → length s.initial ≡ i → i + length words ≤ most_words → AllByRecursion (λ word. word < 2 ^ 32) words
+pub initials_lead : (s : Said) (i : ℕ) (words : List ℕ) → s.consts ≡ [] → length s.initial ≡ i → i + length words ≤ most_words → AllByRecursion (λ word. word < 2 ^ 32) words
     → Leads (initial_text i words) (Is s) (Is (record s { initial = s.initial ++ words }))
-initials_lead s i [] long few small = leads_to (λ front d e. e ∙ ap (λ ws. record s { initial = ws }) (sym (append-nil s.initial))) (nothing {P = Is s})
-initials_lead s i (word ∷ words) long few small =
+initials_lead s i [] none long few small = leads_to (λ front d e. e ∙ ap (λ ws. record s { initial = ws }) (sym (append-nil s.initial))) (nothing {P = Is s})
+initials_lead s i (word ∷ words) none long few small =
     leads_to (λ front d e. e ∙ ap (λ ws. record s { initial = ws }) (append_assoc s.initial (word ∷ []) words))
-    (behind (initial_leads s i word long (omega arith) small.0)
-    (initials_lead (record s { initial = s.initial ++ word ∷ [] }) (i + 1) words (omega (arith, length-append s.initial (word ∷ []))) (omega arith) small.1))
+    (behind (initial_leads s i word none long (omega arith) small.0)
+    (initials_lead (record s { initial = s.initial ++ word ∷ [] }) (i + 1) words none (omega (arith, length-append s.initial (word ∷ []))) (omega arith) small.1))

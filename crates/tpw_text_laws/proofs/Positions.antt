@@ -1,5 +1,5 @@
 -- Each line that a text adds to a draft has its position.
-use Rattle.std.proofs.Common.{◌≡◌, ℕ, ◌+◌, nat_lt, Bool, true, false, if◌then◌else◌, List, [], ◌∷◌, length, map, Result, Ok, Err, is_some, refl, ap, arith, length-append}
+use Rattle.std.proofs.Common.{◌≡◌, ℕ, ◌+◌, nat_lt, Bool, true, false, if◌then◌else◌, List, [], ◌∷◌, length, map, slice_get, Result, Ok, Err, refl, ap, arith, length-append}
 use Rattle.std.specs.Str.Lines.{lines}
 use Rattle.tpw_asm.specs.declared.program.Line.{Line as ProgramLine}
 use Rattle.tpw_text.specs.declared.words.Word.{Word}
@@ -17,9 +17,10 @@ use Rattle.tpw_text.specs.declared.statement.Element.{Element}
 use Rattle.tpw_text.specs.Limits.{most_words}
 use Rattle.tpw_text.specs.Faults.{then_read, each_read}
 use Rattle.tpw_text.specs.Words.{position_of}
-use Rattle.tpw_text.specs.Drafts.{Said, empty, is_full, place_named, local_named, pushed, locals_named, label_set, room_for_loop, local_said}
-use Rattle.tpw_text.specs.Grammar.{StatementSaid, SaysNothing, SetsPacket, SetsResults, SetsStart, SetsWorkspace, SetsVersion, NamesLocals, SetsInitial, AddsLines, AddsInstruction, AddsMessage, AddsAccess, BeginsLoop, EndsLoop, AddsRow, number_line, statement_said}
-use Rattle.tpw_text.specs.Meaning.{in_turn, local_added, initial_added, initials_added, line_added, lines_pushed, operand_with, local_instr_added, instruction_added, message_lines, message_added, access_lines, access_added, loop_begins, loop_begun, loop_ends, row_of, with_row, row_added, innermost, inner_ended, loop_named, loop_ended, added, unlabelled, is_colon, line_said}
+use Rattle.tpw_text.specs.Drafts.{Said, empty, is_full, is_taken, pushed, locals_named, label_set, const_set, start_set, room_for_loop, local_said}
+use Rattle.tpw_text.specs.Statements.{within}
+use Rattle.tpw_text.specs.Grammar.{StatementSaid, SaysNothing, SetsPacket, SetsResults, SetsStart, SetsWorkspace, SetsVersion, NamesConst, NamesLocals, SetsInitial, SetsLocal, AddsLines, AddsInstruction, AddsMessage, AddsAccess, BeginsLoop, EndsLoop, AddsRow, number_line}
+use Rattle.tpw_text.specs.Meaning.{in_turn, local_added, initial_added, initials_added, no_value, local_initials_added, line_added, lines_pushed, operand_with, local_instr_added, instruction_added, message_lines, message_added, access_lines, access_added, loop_begins, loop_begun, loop_ends, row_of, with_row, row_added, innermost, inner_ended, loop_named, loop_ended, added, statement_with, unlabelled, is_colon, line_said}
 use Rattle.tpw_text.specs.Programs.{ProgramSaid, SourceSaid, line_placed, loop_placed, ended, locals_fit, program_of, finished}
 use Rattle.tpw_text.specs.Apart.{word_for}
 use Rattle.tpw_text.specs.Texts.{words_of_lines, text_said, source_of}
@@ -60,11 +61,19 @@ turns add go (x ∷ xs) d p = then_paired ArePaired ArePaired (add x d) (in_turn
 
 names : (w : Word) (size : ℕ) (d : Said) → ArePaired d → Pairs (locals_named w size d)
 unfolding locals_named
-names w size d p = if_paired (is_some (local_named d.locals w)) _ _ tt (if_paired (nat_lt most_words (d.words + size)) _ _ tt (if_paired (is_full d.locals) _ _ tt (record { pairs = p.pairs })))
+names w size d p = if_paired (is_taken w d) _ _ tt (if_paired (nat_lt most_words (d.words + size)) _ _ tt (if_paired (is_full d.locals) _ _ tt (record { pairs = p.pairs })))
 
 a_label : (w : Word) (d : Said) → ArePaired d → Pairs (label_set w d)
 unfolding label_set
-a_label w d p = if_paired (is_some (place_named d.labels w)) _ _ tt (if_paired (is_full d.labels) _ _ tt (record { pairs = p.pairs }))
+a_label w d p = if_paired (is_taken w d) _ _ tt (if_paired (is_full d.labels) _ _ tt (record { pairs = p.pairs }))
+
+a_const : (w v : Word) (d : Said) → ArePaired d → Pairs (const_set w v d)
+unfolding const_set
+a_const w v d p = if_paired (is_taken w d) _ _ tt (if_paired (is_full d.consts) _ _ tt (record { pairs = p.pairs }))
+
+a_start : (w : Word) (n : ℕ) (d : Said) → ArePaired d → Pairs (start_set w n d)
+unfolding start_set
+a_start w n d p = if_paired d.start_used _ _ tt (record { pairs = p.pairs })
 
 an_initial : (v : InitialWord) (d : Said) → ArePaired d → Pairs (initial_added v d)
 unfolding initial_added
@@ -73,6 +82,12 @@ an_initial v d p = if_paired (is_full d.initial) _ _ tt (record { pairs = p.pair
 initials : (at : Word) (first : ℕ) (values : List InitialWord) (d : Said) → ArePaired d → Pairs (initials_added at first values d)
 unfolding initials_added
 initials at first values d p = if_paired (nat_lt first (length d.initial)) _ _ tt (turns initial_added an_initial values _ (record { pairs = p.pairs }))
+
+local_initials : (name : Word) (values : List InitialWord) (d : Said) → ArePaired d → Pairs (local_initials_added name values d)
+unfolding local_initials_added
+local_initials name values d p =
+    then_any ArePaired (local_said d.locals name) _ (λ local. then_any ArePaired (no_value (slice_get values local.words)) _ (λ fits.
+    then_any ArePaired (within name most_words (d.start + local.first)) _ (λ first. initials name first values (record d { start_used = true }) (record { pairs = p.pairs }))))
 
 all_pushed : (w : Word) (ls : List DraftLine) (d : Said) → ArePaired d → Pairs (lines_pushed w ls d)
 all_pushed w ls d p = turns (pushed w) (line_pushed w) ls d p
@@ -114,11 +129,13 @@ unfolding added
 an_addition SaysNothing d p = p
 an_addition (SetsPacket n) d p = record { pairs = p.pairs }
 an_addition (SetsResults n) d p = record { pairs = p.pairs }
-an_addition (SetsStart n) d p = record { pairs = p.pairs }
+an_addition (SetsStart word n) d p = a_start word n d p
 an_addition (SetsWorkspace n) d p = record { pairs = p.pairs }
 an_addition (SetsVersion v) d p = record { pairs = p.pairs }
+an_addition (NamesConst name value) d p = a_const name value d p
 an_addition (NamesLocals locals) d p = turns local_added (λ l e q. names l.name l.size e q) locals d p
 an_addition (SetsInitial at first values) d p = initials at first values d p
+an_addition (SetsLocal name values) d p = local_initials name values d p
 an_addition (AddsLines ls) d p = turns line_added (λ l e q. line_pushed l.word l.line e q) ls d p
 an_addition (AddsInstruction i) d p = an_instruction i d p
 an_addition (AddsMessage word message name) d p = a_message word message name d p
@@ -128,7 +145,7 @@ an_addition (EndsLoop word name) d p = a_loop_ended word name d p
 an_addition (AddsRow word row) d p = a_row word row d p
 
 without_label : (ws : List Word) (d : Said) → ArePaired d → Pairs (unlabelled ws d)
-without_label ws d p = then_any ArePaired (statement_said ws) _ (λ s. an_addition s d p)
+without_label ws d p = then_any ArePaired (statement_with d.consts ws) _ (λ s. an_addition s d p)
 
 a_line : (ws : List Word) (d : Said) → ArePaired d → Pairs (line_said ws d)
 unfolding line_said
@@ -136,7 +153,7 @@ a_line [] d p = without_label [] d p
 a_line (w ∷ []) d p = without_label (w ∷ []) d p
 a_line (label ∷ mark ∷ ws) d p =
     if_paired (is_colon mark) _ _
-    (then_any ArePaired (statement_said ws) _ (λ s. then_paired ArePaired ArePaired (label_set label d) _ (a_label label d p) (λ e q. an_addition s e q)))
+    (then_any ArePaired (statement_with d.consts ws) _ (λ s. then_paired ArePaired ArePaired (label_set label d) _ (a_label label d p) (λ e q. an_addition s e q)))
     (without_label (label ∷ mark ∷ ws) d p)
 
 a_text : (text : List ℕ) → Pairs (text_said text)

@@ -16,7 +16,8 @@ use Rattle.tpw_text.specs.Faults.{then_read, each_read, IsRefusal, out_of_memory
 use Rattle.tpw_text.specs.Words.{before_comment, tokens}
 use Rattle.tpw_text.specs.Drafts.{Said, empty, place_named}
 use Rattle.tpw_text.specs.Grammar.{statement_said}
-use Rattle.tpw_text.specs.Meaning.{added, line_said}
+use Rattle.tpw_text.specs.Consts.{with_values}
+use Rattle.tpw_text.specs.Meaning.{added, statement_with, line_said}
 use Rattle.tpw_text.specs.Programs.{ProgramSaid, SourceSaid, line_placed, loop_placed, workspace_said, ended, program_of, labels_told, is_beyond, no_local, locals_told, locals_fit, finished}
 use Rattle.tpw_text.specs.Texts.{words_of_lines, words_say, text_said, source_of}
 use Rattle.tpw_text.specs.Written.{as_line, is_named, names_from_row, names_from_line, fields_text, loop_remark, legend, remarks_above, above, text_of}
@@ -36,7 +37,7 @@ unfolding before_comment tokens
 comment_alone text shown = record { minus = refl; plain = refl; none = λ line column. refl; shown = shown }
 
 says_nothing : (d : Said) → line_said [] d ≡ Ok d
-unfolding line_said statement_said added
+unfolding line_said statement_with with_values statement_said added
 says_nothing d = refl
 
 comment : {s : Said} (text rest : List ℕ) → text ≡ 59 ∷ rest → IsLine text → Leads (as_line text) (Is s) (Is s)
@@ -111,10 +112,10 @@ text_leads p remarks may =
     behind (behind (above_leads remarks)
     (leads_to (λ front d r. no_code (fields_of p) d (is_named p) (length p.lines) p.loops remarks front refl refl refl r)
     (behind (leads_to (λ front d is. no_rows (fields_of p) d (is_named p) (length p.lines) refl is)
-    (behind (behind (version_leads p.version empty refl) (sizes_lead p _ may.workspace may.start may.packet may.result))
-    (initials_lead _ 0 p.initial refl (omega (arith, may.words)) may.initial)))
-    (rows_lead (fields_of p) (is_named p) (length p.lines) [] p.loops refl (omega (arith, may.rows)) may.loops (row_named p)))))
-    (code_leads (fields_of p) (is_named p) (length p.lines) p.loops remarks [] p.lines 0 refl (omega arith) (record { lines = may.count; labels = may.labels }) may.lines (line_named p))
+    (behind (behind (version_leads p.version empty refl refl) (sizes_lead p _ refl refl may.workspace may.start may.packet may.result))
+    (initials_lead _ 0 p.initial refl refl (omega (arith, may.words)) may.initial)))
+    (rows_lead (fields_of p) (is_named p) (length p.lines) [] p.loops refl refl (omega (arith, may.rows)) may.loops (row_named p)))))
+    (code_leads (fields_of p) (is_named p) (length p.lines) p.loops remarks [] p.lines 0 (record { locals = refl; consts = refl }) refl (omega arith) (record { lines = may.count; labels = may.labels }) may.lines (line_named p))
 
 said_of : (text : List ℕ) (Q : List (List ℕ) → Said → Type 0) → Leads text (Is empty) Q → (d : Said) × (text_said text ≡ Ok d) × Q (lines text) d
 unfolding text_said

@@ -125,10 +125,10 @@ row_line l =
     ∷ Gap ∷ Of (codes "control") ∷ Gap ∷ Of (decimal l.control) ∷ Gap ∷ Of (codes "turns") ∷ Gap ∷ Of (decimal l.count)
     ∷ Gap ∷ Of (codes "start") ∷ Gap ∷ Of (signed_decimal l.start) ∷ []
 
-row_leads : (s : Said) (named : ℕ → Bool) (count : ℕ) (done : List Loop) (l : Loop) → s.begun ≡ [] → length done < most_loops → MayBeRow count l → ((p : ℕ) → names_from_row p l ≡ true → named p ≡ true)
+row_leads : (s : Said) (named : ℕ → Bool) (count : ℕ) (done : List Loop) (l : Loop) → s.consts ≡ [] → s.begun ≡ [] → length done < most_loops → MayBeRow count l → ((p : ℕ) → names_from_row p l ≡ true → named p ≡ true)
     → Leads (loop_text l) (Any (Rowed s named count done)) (Any (Rowed s named count (done ++ l ∷ [])))
 unfolding is_plain keyword_named keyword_said added loop_text row_line line_said loop_placed control_said
-row_leads s named count done l none few may all =
+row_leads s named count done l no_consts none few may all =
     alone (codes "loop head " ++ spot_text l.head ++ codes " lend " ++ spot_text l.lend ++ codes " control " ++ decimal l.control ++ codes " turns " ++ decimal l.count ++ codes " start " ++ signed_decimal l.start)
     (row_line l) (simp (append_assoc, append-nil))
     (literal_word _ refl, (refl, (literal_word _ refl, (refl, (spot_word l.head, (refl, (literal_word _ refl, (refl, (spot_word l.lend, (refl, (literal_word _ refl, (refl, (decimal_word l.control, (refl, (literal_word _ refl, (refl, (decimal_word l.count, (refl, (literal_word _ refl, (refl, (signed_word l.start, (refl, tt)))))))))))))))))))))) (λ front d p.
@@ -149,7 +149,7 @@ row_leads s named count done l none few may all =
     (target_of w2 l.head) (target_of w4 l.lend) l.control l.count l.start (target_is w2 l.head count refl may.head) (target_is w4 l.lend count refl may.lend)
     (count_is w6 most_count l.control refl may.control (omega (arith, may.control))) (count_is w8 most_count l.count refl may.turns (omega (arith, may.turns))) (signed_is w10 l.start refl may.start) in (
       record s { rows = d.rows ++ row ∷ [] },
-      keyword_says first _ keyword.Loop (AddsRow first row) d _ refl (ap (λ r. r >>= λ row. Ok (AddsRow first row)) said) (a_row first row s d done none p.is p.long few),
+      keyword_says first _ keyword.Loop (AddsRow first row) d _ (ap (λ (e : Said). e.consts) p.is ∙ no_consts) refl (ap (λ r. r >>= λ row. Ok (AddsRow first row)) said) (a_row first row s d done none p.is p.long few),
       record {
         is = refl;
         long = omega (arith, length-append d.rows (row ∷ []), length-append done (l ∷ []), p.long);
@@ -158,14 +158,14 @@ row_leads s named count done l none few may all =
       },
     ))
 
-pub rows_lead : (s : Said) (named : ℕ → Bool) (count : ℕ) (done loops : List Loop) → s.begun ≡ [] → length done + length loops ≤ most_loops → AllByRecursion (MayBeRow count) loops → ((p : ℕ) → list_any (names_from_row p) loops ≡ true → named p ≡ true)
+pub rows_lead : (s : Said) (named : ℕ → Bool) (count : ℕ) (done loops : List Loop) → s.consts ≡ [] → s.begun ≡ [] → length done + length loops ≤ most_loops → AllByRecursion (MayBeRow count) loops → ((p : ℕ) → list_any (names_from_row p) loops ≡ true → named p ≡ true)
     → Leads (flat_map loop_text loops) (Any (Rowed s named count done)) (Any (Rowed s named count (done ++ loops)))
-rows_lead s named count done [] none few may all =
+rows_lead s named count done [] no_consts none few may all =
     leads_to (λ front d r. subst (λ (ls : List Loop). Rowed s named count ls d) (sym (append-nil done)) r) (nothing {P = Any (Rowed s named count done)})
-rows_lead s named count done (l ∷ loops) none few may all =
+rows_lead s named count done (l ∷ loops) no_consts none few may all =
     leads_to (λ front d r. subst (λ (ls : List Loop). Rowed s named count ls d) (append_assoc done (l ∷ []) loops) r)
-    (behind (row_leads s named count done l none (omega arith) may.0 (λ p e. all p (or_left (names_from_row p l) (list_any (names_from_row p) loops) e)))
-    (rows_lead s named count (done ++ l ∷ []) loops none (omega (arith, length-append done (l ∷ []))) may.1 (λ p e. all p (or_right (names_from_row p l) (list_any (names_from_row p) loops) e))))
+    (behind (row_leads s named count done l no_consts none (omega arith) may.0 (λ p e. all p (or_left (names_from_row p l) (list_any (names_from_row p) loops) e)))
+    (rows_lead s named count (done ++ l ∷ []) loops no_consts none (omega (arith, length-append done (l ∷ []))) may.1 (λ p e. all p (or_right (names_from_row p l) (list_any (names_from_row p) loops) e))))
 
 -- no rows yet
 pub no_rows : (s d : Said) (named : ℕ → Bool) (count : ℕ) → s.rows ≡ [] → d ≡ s → Rowed s named count [] d
