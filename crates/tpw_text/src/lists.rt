@@ -15,7 +15,7 @@ use tpw_asm::Line;
 
 /// The words between two commas, and the word before them.
 #[derive(Clone, Copy)]
-struct Item<'w, 'a> {
+pub struct Item<'w, 'a> {
     behind: Word<'a>,
     words: &'w [Word<'a>],
 }
@@ -48,6 +48,20 @@ fn items_of<'w, 'a>(
     Ok(items)
 }
 
+/// What stands between commas: a name of local words, an initial word, or a byte.
+pub trait ListItem<'a>: Sized {
+    ghost use Rattle.std.specs.Prelude.{Result};
+    ghost use Rattle.tpw_text.specs.declared.fault.SourceFault.{SourceFault};
+    ghost use Rattle.tpw_text.specs.Lists.{Part};
+
+    /// What the words between two commas say.
+    ghost said: { Part → Result Self SourceFault };
+
+    /// Reads it.
+    fn read(item: &Item<'_, 'a>) -> Result<Self, SourceFault>
+        ensures { result ≡ said (part item.now) };
+}
+
 /// No word is here.
 #[tactic(auto, unfolding(crate::specs::Lists::no_more_said))]
 fn expect_no_more(words: &[Word<'_>], i: usize) -> Result<(), SourceFault>
@@ -70,24 +84,28 @@ fn one_word<'a>(item: &Item<'_, 'a>) -> Result<Word<'a>, SourceFault>
 }
 
 /// An initial word.
-#[tactic(auto, unfolding(crate::specs::Lists::initial_word_said))]
-fn initial_word<'a>(item: &Item<'_, 'a>) -> Result<InitialWord<'a>, SourceFault>
-    ensures { result ≡ initial_word_said (part item.now) }
-{
-    let word = one_word(item)?;
-    let value = number_of(&word)?.cast_unsigned();
-    Ok(InitialWord { word, value })
+impl<'a> ListItem<'a> for InitialWord<'a> {
+    ghost said = { initial_word_said };
+
+    #[tactic(auto, unfolding(crate::specs::Lists::initial_word_said))]
+    fn read(item: &Item<'_, 'a>) -> Result<InitialWord<'a>, SourceFault> {
+        let word = one_word(item)?;
+        let value = number_of(&word)?.cast_unsigned();
+        Ok(InitialWord { word, value })
+    }
 }
 
 /// A byte as it is.
-#[tactic(auto, unfolding(crate::specs::Lists::byte_line_said))]
-fn byte_line<'a>(item: &Item<'_, 'a>) -> Result<NewLine<'a>, SourceFault>
-    ensures { result ≡ byte_line_said (part item.now) }
-{
-    let word = one_word(item)?;
-    let byte = count_of(&word, 0xFF)? as u8;
-    let line = DraftLine::Known(Line::Byte(byte));
-    Ok(NewLine { word, line })
+impl<'a> ListItem<'a> for NewLine<'a> {
+    ghost said = { byte_line_said };
+
+    #[tactic(auto, unfolding(crate::specs::Lists::byte_line_said))]
+    fn read(item: &Item<'_, 'a>) -> Result<NewLine<'a>, SourceFault> {
+        let word = one_word(item)?;
+        let byte = count_of(&word, 0xFF)? as u8;
+        let line = DraftLine::Known(Line::Byte(byte));
+        Ok(NewLine { word, line })
+    }
 }
 
 /// How many local words a name has: `[SIZE]` behind it, or 1.
@@ -107,65 +125,33 @@ fn size_of<'a>(name: &Word<'a>, words: &[Word<'a>]) -> Result<u16, SourceFault>
 }
 
 /// A name of local words: `NAME` or `NAME[SIZE]`.
-#[tactic(auto, unfolding(crate::specs::Lists::new_local_said))]
-fn new_local<'a>(item: &Item<'_, 'a>) -> Result<NewLocal<'a>, SourceFault>
-    ensures { result ≡ new_local_said (part item.now) }
-{
-    let name = word_at(item.words, 0, &item.behind)?;
-    if name.is("[") || name.is("]") {
-        return Err(name.fault(TextFault::Unexpected));
+impl<'a> ListItem<'a> for NewLocal<'a> {
+    ghost said = { new_local_said };
+
+    #[tactic(auto, unfolding(crate::specs::Lists::new_local_said))]
+    fn read(item: &Item<'_, 'a>) -> Result<NewLocal<'a>, SourceFault> {
+        let name = word_at(item.words, 0, &item.behind)?;
+        if name.is("[") || name.is("]") {
+            return Err(name.fault(TextFault::Unexpected));
+        }
+        let size = size_of(&name, item.words)?;
+        Ok(NewLocal { name, size })
     }
-    let size = size_of(&name, item.words)?;
-    Ok(NewLocal { name, size })
 }
 
-/// The names of `local NAME[SIZE], NAME ..`, behind a word.
-pub fn new_locals<'a>(
+/// A list of a statement, behind a word: `local NAME[SIZE], NAME ..`, `init WORD: VALUE, VALUE ..` or `byte N, N ..`.
+pub fn list_of<'a, T: ListItem<'a> + Copy>(
     alloc: Global,
     behind: &Word<'a>,
     words: &[Word<'a>],
-) -> Result<Vec<NewLocal<'a>>, SourceFault>
-    ensures said { IfOk result (λ locals. list_said new_local_said behind.now words.now ≡ Ok locals.items) }
-    ensures refused { IfErr result (IsRefusal (list_said new_local_said behind.now words.now)) }
+) -> Result<Vec<T>, SourceFault>
+    ensures said { IfOk result (λ list. list_said T.said behind.now words.now ≡ Ok list.items) }
+    ensures refused { IfErr result (IsRefusal (list_said T.said behind.now words.now)) }
 {
     let items = items_of(alloc, behind, words)?;
-    let mut locals = Vec::new(alloc);
+    let mut list = Vec::new(alloc);
     for item in &items {
-        locals.push(new_local(item)?)?;
+        list.push(T::read(item)?)?;
     }
-    Ok(locals)
-}
-
-/// The values of `init WORD: VALUE, VALUE ..`, behind a word.
-pub fn initial_words<'a>(
-    alloc: Global,
-    behind: &Word<'a>,
-    words: &[Word<'a>],
-) -> Result<Vec<InitialWord<'a>>, SourceFault>
-    ensures said { IfOk result (λ values. list_said initial_word_said behind.now words.now ≡ Ok values.items) }
-    ensures refused { IfErr result (IsRefusal (list_said initial_word_said behind.now words.now)) }
-{
-    let items = items_of(alloc, behind, words)?;
-    let mut values = Vec::new(alloc);
-    for item in &items {
-        values.push(initial_word(item)?)?;
-    }
-    Ok(values)
-}
-
-/// The lines of `byte N, N ..`, behind a word.
-pub fn byte_lines<'a>(
-    alloc: Global,
-    behind: &Word<'a>,
-    words: &[Word<'a>],
-) -> Result<Vec<NewLine<'a>>, SourceFault>
-    ensures said { IfOk result (λ lines. list_said byte_line_said behind.now words.now ≡ Ok lines.items) }
-    ensures refused { IfErr result (IsRefusal (list_said byte_line_said behind.now words.now)) }
-{
-    let items = items_of(alloc, behind, words)?;
-    let mut lines = Vec::new(alloc);
-    for item in &items {
-        lines.push(byte_line(item)?)?;
-    }
-    Ok(lines)
+    Ok(list)
 }

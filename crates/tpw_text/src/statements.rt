@@ -8,7 +8,7 @@ use crate::draft::{Control, MOST_WORDS, Row};
 use crate::fault::{SourceFault, TextFault};
 use crate::instructions::instruction_of;
 use crate::keyword::{Keyword, keyword_of};
-use crate::lists::{byte_lines, initial_words, new_locals};
+use crate::lists::list_of;
 use crate::number::{count_of, is_number, number_of};
 use crate::statement::{Access, Element, InitialWord, Message, NewLoop, Statement};
 use crate::wanted::{expect, expect_end, one_number, target_of, word_at};
@@ -77,7 +77,7 @@ fn values_of<'a>(
     ensures refused { IfErr result (IsRefusal (values_said words.now at.now)) }
 {
     let colon = expect(words, 2, at, ":")?;
-    initial_words(alloc, &colon, words.get(3..).unwrap_or(&[]))
+    list_of(alloc, &colon, words.get(3..).unwrap_or(&[]))
 }
 
 /// `init WORD: VALUE, VALUE ..`
@@ -218,9 +218,9 @@ fn of_keyword<'a>(
         Keyword::Workspace => Statement::Workspace(field(words, first)?),
         Keyword::Version => Statement::Version(version(words, first)?),
         Keyword::Const => return constant(words, first),
-        Keyword::Local => Statement::Locals(new_locals(alloc, first, rest)?),
+        Keyword::Local => Statement::Locals(list_of(alloc, first, rest)?),
         Keyword::Init => return initial(alloc, words, first),
-        Keyword::Byte => Statement::Lines(byte_lines(alloc, first, rest)?),
+        Keyword::Byte => Statement::Lines(list_of(alloc, first, rest)?),
         Keyword::Receive => Statement::Message(word, Message::Receive, one_name(words, first)?),
         Keyword::Send => Statement::Message(word, Message::Send, one_name(words, first)?),
         Keyword::Trace => Statement::Message(word, Message::Trace, one_name(words, first)?),
