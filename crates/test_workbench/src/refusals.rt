@@ -6,7 +6,7 @@ use std::alloc::AllocError;
 use std::process::ExitCode;
 use test_samples::INCREMENT;
 use test_samples::streams::{Broken, Unflushed};
-use tpw_commands::{Ending, Status, TextFault, bytes_of};
+use tpw_commands::{Ending, Outcome, Refusal, TextFault, bytes_of};
 use tpw_step::End;
 
 /// One loop more than a worker has.
@@ -216,21 +216,21 @@ fn texts(rt: HostRuntime) {
 /// The status of each end of a run that is not run here, and its message where memory is missing or a word is no text.
 #[test]
 fn endings(rt: HostRuntime) {
-    assert_same(&rt, &Status::from(End::Unended), &Status::Failed);
+    assert_same(&rt, &Outcome::from(End::Unended), &Outcome::Bad);
     let endings = [
         (
-            Ending::NotText,
-            Status::Refused,
+            Ending::Refused(Refusal::NotText),
+            2,
             "error: a word of the command line is not UTF-8\n",
         ),
         (
-            Ending::NoCommand,
-            Status::Refused,
+            Ending::Refused(Refusal::NoCommand),
+            2,
             "error: no command is given\n",
         ),
         (
             Ending::from(clap::Error::from(AllocError)),
-            Status::Failed,
+            1,
             "tpw: memory\n",
         ),
     ];

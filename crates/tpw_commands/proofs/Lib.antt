@@ -1,3 +1,4 @@
 mod Positions
 mod Naming
 mod Reading
+mod Statuses

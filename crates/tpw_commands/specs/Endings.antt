@@ -1,5 +1,8 @@
 -- How the program ends.
-use Rattle.std.specs.Prelude.{ℕ, ◌-◌, List, Option, Some, None, slice_get}
+use Rattle.std.specs.Prelude.{◌≡◌, ◌≤◌, ℕ, ◌-◌, List, Option, Some, None, slice_get, Result, Ok, Err}
+use Rattle.clap.specs.declared.error.Error.{Error}
+use Rattle.clap.specs.declared.error.kind.ErrorKind.{ErrorKind}
+use Rattle.clap.specs.declared.error.kind.ErrorKind.TheVariants.{DisplayHelp, DisplayVersion, OutOfMemory}
 use Rattle.tpw_asm.specs.declared.fault.LineFault.{LineFault}
 use Rattle.tpw_asm.specs.declared.fault.AssemblyFault.{AssemblyFault}
 use Rattle.tpw_asm.specs.declared.fault.AssemblyFault.TheVariants as assembly
@@ -13,61 +16,78 @@ use Rattle.tpw_step.specs.declared.run.End.{End}
 use Rattle.tpw_step.specs.declared.run.End.TheVariants as end
 use Rattle.tpw_commands.specs.declared.ending.Ending.{Ending}
 use Rattle.tpw_commands.specs.declared.ending.Ending.TheVariants as ending
-use Rattle.tpw_commands.specs.declared.ending.Status.{Status}
-use Rattle.tpw_commands.specs.declared.ending.Status.TheVariants as status
+use Rattle.tpw_commands.specs.declared.ending.Failure.{Failure}
+use Rattle.tpw_commands.specs.declared.ending.Failure.TheVariants as failure
+use Rattle.tpw_commands.specs.declared.ending.Outcome.{Outcome}
+use Rattle.tpw_commands.specs.declared.ending.Outcome.TheVariants as outcome
+use Rattle.tpw_commands.specs.declared.ending.Refusal.TheVariants as refusal
 use Rattle.tpw_commands.specs.declared.fault.InputFault.TheVariants as input
 use Rattle.tpw_commands.specs.declared.input.TextFault.{TextFault}
 use Rattle.tpw_commands.specs.declared.input.TextFault.TheVariants as text
 use Rattle.tpw_commands.specs.Positions.{position_behind}
 
--- by a fault of an input; want of memory is an ending of its own
-abbrev pub of_text : List ℕ → TextFault → Ending
-of_text bytes (text.NotADigit column) = ending.Input (input.NotADigit (position_behind bytes (column - 1)))
-of_text bytes (text.HalfAByte column) = ending.Input (input.HalfAByte (position_behind bytes (column - 1)))
-of_text bytes text.Memory = ending.Memory
+-- by a fault of an input; want of memory is a failure of its own
+abbrev pub of_text : List ℕ → TextFault → Failure
+of_text bytes (text.NotADigit column) = failure.Input (input.NotADigit (position_behind bytes (column - 1)))
+of_text bytes (text.HalfAByte column) = failure.Input (input.HalfAByte (position_behind bytes (column - 1)))
+of_text bytes text.Memory = failure.Memory
 
-abbrev pub of_image : ImageFault → Ending
-of_image image.Memory = ending.Memory
-of_image fault = ending.Input (input.Image fault)
+abbrev pub of_image : ImageFault → Failure
+of_image image.Memory = failure.Memory
+of_image fault = failure.Input (input.Image fault)
 
-abbrev pub of_kind : SourceKind → SourceFault → Ending
-of_kind source.Memory fault = ending.Memory
-of_kind kind fault = ending.Input (input.Source fault)
+abbrev pub of_kind : SourceKind → SourceFault → Failure
+of_kind source.Memory fault = failure.Memory
+of_kind kind fault = failure.Input (input.Source fault)
 
-abbrev pub of_source : SourceFault → Ending
+abbrev pub of_source : SourceFault → Failure
 of_source fault = of_kind fault.fault fault
 
 -- by why a program has no image: of a line, with where the word of the text stands that asks for it
-abbrev pub of_line : ℕ → LineFault → Option Position → Ending
-of_line line wrong None = ending.Input (input.Assembly (assembly.Line line wrong))
-of_line line wrong (Some position) = ending.Input (input.Line position wrong)
+abbrev pub of_line : ℕ → LineFault → Option Position → Failure
+of_line line wrong None = failure.Input (input.Assembly (assembly.Line line wrong))
+of_line line wrong (Some position) = failure.Input (input.Line position wrong)
 
-abbrev pub of_narrow : ℕ → Option Position → Ending
-of_narrow line None = ending.Input (input.Assembly (assembly.Narrow line))
-of_narrow line (Some position) = ending.Input (input.Narrow position)
+abbrev pub of_narrow : ℕ → Option Position → Failure
+of_narrow line None = failure.Input (input.Assembly (assembly.Narrow line))
+of_narrow line (Some position) = failure.Input (input.Narrow position)
 
-abbrev pub of_assembly : List Position → AssemblyFault → Ending
+abbrev pub of_assembly : List Position → AssemblyFault → Failure
 of_assembly positions (assembly.Line line wrong) = of_line line wrong (slice_get positions line)
 of_assembly positions (assembly.Narrow line) = of_narrow line (slice_get positions line)
-of_assembly positions assembly.Memory = ending.Memory
-of_assembly positions fault = ending.Input (input.Assembly fault)
+of_assembly positions assembly.Memory = failure.Memory
+of_assembly positions fault = failure.Input (input.Assembly fault)
 
--- the status of a run, by its end
-abbrev pub of_run : End → Status
-of_run end.Stopped = status.Done
-of_run end.Left = status.Done
-of_run e = status.Failed
+-- by the kind of what clap answers to the words of a command line
+abbrev pub of_words : ErrorKind → Error → Ending
+of_words OutOfMemory error = ending.Failed failure.Memory
+of_words DisplayHelp error = ending.Shown error
+of_words DisplayVersion error = ending.Shown error
+of_words kind error = ending.Refused (refusal.Line error)
+
+-- what a run answers, by its end
+abbrev pub of_run : End → Outcome
+of_run end.Stopped = outcome.Good
+of_run end.Left = outcome.Good
+of_run e = outcome.Bad
+
+-- the status of what a command answers
+abbrev pub status_on : Outcome → ℕ
+status_on outcome.Good = 0
+status_on outcome.Bad = 1
 
 -- the status of an ending: a text that was asked for, a command line that is refused, or a failure
-abbrev pub status_of : Ending → Status
-status_of (ending.Shown error) = status.Done
-status_of (ending.Refused error) = status.Refused
-status_of ending.NotText = status.Refused
-status_of ending.NoCommand = status.Refused
-status_of ending.NoName = status.Refused
-status_of ending.NoPacket = status.Refused
-status_of (ending.NoPlace name) = status.Refused
-status_of ending.NoWatched = status.Refused
-status_of (ending.NoWords fault) = status.Refused
-status_of ending.NoPackets = status.Refused
-status_of e = status.Failed
+abbrev pub status_of : Ending → ℕ
+status_of (ending.Shown error) = 0
+status_of (ending.Refused why) = 2
+status_of (ending.Failed why) = 1
+
+-- the status of the program, by what a command answers or how it ends early
+abbrev pub status_by : Result Outcome Ending → ℕ
+status_by (Ok answer) = status_on answer
+status_by (Err e) = status_of e
+
+-- how the program ends where its words ask for no command: a text that was asked for is written, or that fails; else nothing is written
+abbrev pub EndsEarly : Ending → (old new : Option (List ℕ)) → ℕ → Type 0
+EndsEarly (ending.Shown error) old new status = status ≤ 1
+EndsEarly e old new status = (status ≡ status_of e) × (new ≡ old)

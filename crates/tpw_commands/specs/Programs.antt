@@ -9,7 +9,7 @@ use Rattle.tpw_text.specs.declared.remarks.Remarks.{Remarks}
 use Rattle.tpw_text.specs.declared.finish.Source.{Source}
 use Rattle.tpw_text.specs.Programs.{program_said}
 use Rattle.tpw_text.specs.Written.{text_of}
-use Rattle.tpw_commands.specs.declared.ending.Ending.{Ending}
+use Rattle.tpw_commands.specs.declared.ending.Failure.{Failure}
 use Rattle.tpw_commands.specs.Endings.{of_assembly}
 
 -- bytes are a program's image
@@ -18,8 +18,8 @@ pub record AreImageOf (program : Program) (bytes : List ℕ) : Type 0 where
   pub assembly : IsAssembly program image
   pub spelled : bytes ≡ text image
 
--- an ending tells why the program of a source has no image, or that a growth was refused
-pub record IsRefusalOf (source : Source) (e : Ending) : Type 0 where
+-- a failure says why the program of a source has no image, or that a growth was refused
+pub record IsRefusalOf (source : Source) (e : Failure) : Type 0 where
   pub fault : AssemblyFault
   pub refused : IsRefused source.program fault
   pub told : e ≡ of_assembly source.positions.items fault

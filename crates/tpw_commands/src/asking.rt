@@ -2,7 +2,7 @@
 
 ghost use Rattle.std.specs.Prelude.{◌≡◌, ◌≤◌, All, IfOk, OnOk, length};
 
-use crate::ending::Ending;
+use crate::ending::{Ending, Failure, Refusal};
 use crate::fault::InputFault;
 use crate::input::{Inputs, utf8};
 use crate::traps::note_digits;
@@ -23,8 +23,8 @@ pub struct Asking {
 /// A fault of a packet that the command line says.
 fn in_words(fault: PacketFault) -> Ending {
     match fault {
-        PacketFault::Memory => Ending::Memory,
-        _ => Ending::NoWords(fault),
+        PacketFault::Memory => Ending::Failed(Failure::Memory),
+        _ => Ending::Refused(Refusal::NoWords(fault)),
     }
 }
 
@@ -68,7 +68,7 @@ fn messages_in<T: Files, R: Read, E: Write>(
     errors: &mut E,
     name: &str,
     bytes: usize,
-) -> Result<Vec<Packet>, Ending>
+) -> Result<Vec<Packet>, Failure>
     requires { bytes ≤ 256 }
     ensures { IfOk result (λ packets. All (λ p. length p.items ≡ bytes) packets.items) }
 {
@@ -81,8 +81,8 @@ fn messages_in<T: Files, R: Read, E: Write>(
             }
             Ok(packets)
         }
-        Err(PacketFault::Memory) => Err(Ending::Memory),
-        Err(fault) => Err(Ending::Input(InputFault::Packets(fault))),
+        Err(PacketFault::Memory) => Err(Failure::Memory),
+        Err(fault) => Err(Failure::Input(InputFault::Packets(fault))),
     }
 }
 
@@ -93,13 +93,13 @@ pub fn packets_in<T: Files, R: Read, E: Write>(
     errors: &mut E,
     name: &str,
     bytes: usize,
-) -> Result<Vec<Packet>, Ending>
+) -> Result<Vec<Packet>, Failure>
     requires { bytes ≤ 256 }
     ensures { IfOk result (λ packets. All (λ p. length p.items ≡ bytes) packets.items) }
 {
     match messages_in(alloc, inputs, errors, name, bytes) {
         Ok(packets) => Ok(packets),
-        Err(ending) => Err(ending.in_file(alloc, name)?),
+        Err(failure) => Err(failure.in_file(alloc, name)?),
     }
 }
 

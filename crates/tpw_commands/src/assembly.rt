@@ -4,7 +4,7 @@ ghost use Rattle.std.specs.Prelude.{◌≡◌, IfOk, IfErr};
 ghost use Rattle.tpw_commands.specs.Endings.{of_assembly};
 ghost use Rattle.tpw_commands.specs.Programs.{AreImageOf, IsRefusalOf};
 
-use crate::ending::{Ending, Status};
+use crate::ending::{Failure, Outcome};
 use crate::fault::InputFault;
 use crate::fielding::assembled_text;
 use crate::input::utf8;
@@ -15,44 +15,44 @@ use tpw_asm::{AssemblyFault, assemble};
 use tpw_text::{Position, Source, read_source};
 
 /// Why a program has no image, by the places of the words that ask for its lines.
-fn ending_of(fault: AssemblyFault, positions: &[Position]) -> Ending
+fn failure_of(fault: AssemblyFault, positions: &[Position]) -> Failure
     ensures { result ≡ of_assembly positions.now fault }
 {
     match fault {
         AssemblyFault::Line(line, wrong) => match positions.get(line) {
-            Some(position) => Ending::Input(InputFault::Line(*position, wrong)),
-            None => Ending::Input(InputFault::Assembly(fault)),
+            Some(position) => Failure::Input(InputFault::Line(*position, wrong)),
+            None => Failure::Input(InputFault::Assembly(fault)),
         },
         AssemblyFault::Narrow(line) => match positions.get(line) {
-            Some(position) => Ending::Input(InputFault::Narrow(*position)),
-            None => Ending::Input(InputFault::Assembly(fault)),
+            Some(position) => Failure::Input(InputFault::Narrow(*position)),
+            None => Failure::Input(InputFault::Assembly(fault)),
         },
-        AssemblyFault::Memory => Ending::Memory,
-        AssemblyFault::Row(_) | AssemblyFault::TooLong | AssemblyFault::Field(_) => Ending::Input(
+        AssemblyFault::Memory => Failure::Memory,
+        AssemblyFault::Row(_) | AssemblyFault::TooLong | AssemblyFault::Field(_) => Failure::Input(
             InputFault::Assembly(fault),
         ),
     }
 }
 
 /// Writes a text, and flushes it.
-pub fn write_line<W: Write>(writer: &mut W, text: &str) -> Result<Status, Ending> {
+pub fn write_line<W: Write>(writer: &mut W, text: &str) -> Result<Outcome, Failure> {
     match writer
         .write_all(text.as_bytes())
         .and_then(|()| writer.flush())
     {
-        Ok(()) => Ok(Status::Done),
-        Err(_) => Err(Ending::Write),
+        Ok(()) => Ok(Outcome::Good),
+        Err(_) => Err(Failure::Write),
     }
 }
 
 /// The bytes of the image of a program that a text says.
-pub fn assembled(alloc: Global, source: &Source<'_>) -> Result<Vec<u8>, Ending>
+pub fn assembled(alloc: Global, source: &Source<'_>) -> Result<Vec<u8>, Failure>
     ensures image { IfOk result (λ bytes. AreImageOf source.now.program bytes.items) }
     ensures refused { IfErr result (λ e. IsRefusalOf source.now e) }
 {
     match assemble(alloc, &source.program) {
         Ok(image) => Ok(write_image(alloc, &image)?),
-        Err(fault) => Err(ending_of(fault, &source.positions)),
+        Err(fault) => Err(failure_of(fault, &source.positions)),
     }
 }
 
@@ -62,7 +62,7 @@ pub fn assemble_text<W: Write>(
     text: &[u8],
     writer: &mut W,
     name: Option<&str>,
-) -> Result<Status, Ending> {
+) -> Result<Outcome, Failure> {
     let text = utf8(text)?;
     let source = read_source(alloc, text)?;
     let image = assembled_text(alloc, text, &source)?;

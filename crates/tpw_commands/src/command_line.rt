@@ -1,7 +1,7 @@
 //! What a command line asks for.
 
 use crate::asking::Asking;
-use crate::ending::Ending;
+use crate::ending::{Ending, Failure, Refusal};
 use crate::input::Input;
 use crate::refusing::Report;
 use crate::running::Running;
@@ -312,8 +312,8 @@ fn packet_of(alloc: Global, matches: &ArgMatches<'_>) -> Result<Vec<u8>, Ending>
     };
     match hex::decode(alloc, text) {
         Ok(bytes) => Ok(bytes),
-        Err(FromHexError::OutOfMemory) => Err(Ending::Memory),
-        Err(_) => Err(Ending::NoPacket),
+        Err(FromHexError::OutOfMemory) => Err(Ending::Failed(Failure::Memory)),
+        Err(_) => Err(Ending::Refused(Refusal::NoPacket)),
     }
 }
 
@@ -360,7 +360,7 @@ fn asking(alloc: Global, matches: &ArgMatches<'_>) -> Result<Asking, Ending> {
     let words = texts_given(alloc, matches, WORDS)?;
     let file = text_given(alloc, matches, PACKETS)?;
     if words.is_empty() && file.is_none() {
-        return Err(Ending::NoPackets);
+        return Err(Ending::Refused(Refusal::NoPackets));
     }
     Ok(Asking { words, file })
 }
@@ -394,7 +394,7 @@ fn is_name(name: &str) -> bool {
 /// What `asm` is asked for.
 fn assembling(alloc: Global, matches: &ArgMatches<'_>) -> Result<Task, Ending> {
     match matches.get_str(LINE) {
-        Some(name) if !is_name(name) => Err(Ending::NoName),
+        Some(name) if !is_name(name) => Err(Ending::Refused(Refusal::NoName)),
         Some(name) => Ok(Task::Assemble(Some(String::from_str(alloc, name)?))),
         None => Ok(Task::Assemble(None)),
     }
@@ -412,7 +412,7 @@ fn input_of(alloc: Global, matches: &ArgMatches<'_>) -> Result<Input, Ending> {
 pub fn asked_by<S: AsStr>(alloc: Global, words: &[S]) -> Result<Asked, Ending> {
     let matches = command(alloc)?.try_get_matches_from(words)?;
     let Some((name, found)) = matches.subcommand() else {
-        return Err(Ending::NoCommand);
+        return Err(Ending::Refused(Refusal::NoCommand));
     };
     let task = match name {
         PROFILE => Task::Profile(asking(alloc, found)?),
@@ -422,7 +422,7 @@ pub fn asked_by<S: AsStr>(alloc: Global, words: &[S]) -> Result<Asked, Ending> {
         DIS => Task::Disassemble,
         LIST => Task::Judge(Report::List),
         WHY => Task::Judge(Report::Why),
-        _ => return Err(Ending::NoCommand),
+        _ => return Err(Ending::Refused(Refusal::NoCommand)),
     };
     Ok(Asked {
         task,

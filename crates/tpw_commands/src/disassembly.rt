@@ -4,7 +4,7 @@ ghost use Rattle.std.specs.Prelude.{IfOk, string_bytes};
 ghost use Rattle.tpw_commands.specs.Programs.{AreTextOf};
 
 use crate::assembly::write_line;
-use crate::ending::{Ending, Status};
+use crate::ending::{Failure, Outcome};
 use crate::input::hex_bytes;
 use crate::noting::places_of;
 use std::alloc::Global;
@@ -15,7 +15,7 @@ use tpw_text::{LineRemark, LoopRemark, Remarks, source_text};
 use tpw_why::{Costs, Counted, LoopCost, costs_of};
 
 /// What is remarked of each loop.
-fn loop_remarks(alloc: Global, loops: &[LoopCost]) -> Result<Vec<LoopRemark>, Ending> {
+fn loop_remarks(alloc: Global, loops: &[LoopCost]) -> Result<Vec<LoopRemark>, Failure> {
     let mut remarks = Vec::new(alloc);
     for LoopCost {
         head,
@@ -38,7 +38,7 @@ fn line_remarks(
     alloc: Global,
     places: &[u32],
     by_address: &[Option<Counted>],
-) -> Result<Vec<Option<LineRemark>>, Ending> {
+) -> Result<Vec<Option<LineRemark>>, Failure> {
     let mut remarks = Vec::new(alloc);
     for address in places {
         let remark = match by_address.get(*address as usize) {
@@ -54,7 +54,7 @@ fn line_remarks(
 }
 
 /// A program as text, and of an accepted image where its bytes go.
-fn text_of(alloc: Global, program: &Program, costs: Option<&Costs>) -> Result<String, Ending>
+fn text_of(alloc: Global, program: &Program, costs: Option<&Costs>) -> Result<String, Failure>
     ensures { IfOk result (λ text. AreTextOf program.now (string_bytes text)) }
 {
     let Some(costs) = costs else {
@@ -76,7 +76,7 @@ pub fn disassemble_image<W: Write>(
     alloc: Global,
     text: &[u8],
     writer: &mut W,
-) -> Result<Status, Ending> {
+) -> Result<Outcome, Failure> {
     let bytes = hex_bytes(alloc, text)?;
     let image = read_image(alloc, &bytes)?;
     let program = disassemble(alloc, &image)?;

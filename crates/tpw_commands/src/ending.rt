@@ -1,13 +1,15 @@
-//! How the program ends: its statuses, and the texts of what ends it early.
+//! How the program ends: what a command answers, why the program ends early, and the status and the text of each.
 
-ghost use Rattle.std.specs.Prelude.{◌≡◌};
+ghost use Rattle.std.specs.Prelude.{◌≡◌, if◌then◌else◌};
+ghost use Rattle.clap.specs.Words.{kind_of};
 ghost use Rattle.tpw_commands.specs.declared.ending.Ending.TheVariants as ending;
-ghost use Rattle.tpw_commands.specs.Endings.{of_image, of_source, of_run, status_of};
+ghost use Rattle.tpw_commands.specs.declared.ending.Failure.TheVariants as failure;
+ghost use Rattle.tpw_commands.specs.declared.ending.Outcome.TheVariants.{Good, Bad};
+ghost use Rattle.tpw_commands.specs.Endings.{of_image, of_source, of_run, of_words, status_of, status_on};
 
 use crate::fault::InputFault;
 use clap::error::ErrorKind;
 use std::alloc::{AllocError, AllocFailed, Global};
-use std::process::ExitCode;
 use thiserror::Error;
 use tp_image::ImageFault;
 use tpw_run_text::PacketFault;
@@ -16,71 +18,80 @@ use tpw_source::ShowFault;
 use tpw_step::End;
 use tpw_text::{SourceFault, TextFault as SourceKind};
 
-/// What the program ends with.
+/// What a command that has run answers.
 #[derive(Clone, Copy, Debug, PartialEq, Eq)]
-pub enum Status {
-    /// It has done what it was asked for.
-    Done,
-    /// It could not, or the run that it printed has no end.
-    Failed,
-    /// Its command line is refused.
-    Refused,
+pub enum Outcome {
+    /// It has done what it was asked for, and what it was asked about is good.
+    Good,
+    /// The run has no end, the image is refused, or a packet is lost or has another result than is expected.
+    Bad,
 }
 
-impl From<Status> for ExitCode {
-    fn from(status: Status) -> ExitCode {
-        match status {
-            Status::Done => ExitCode::SUCCESS,
-            Status::Failed => ExitCode::from(1),
-            Status::Refused => ExitCode::from(2),
+impl Outcome {
+    /// Good where a test holds, else Bad.
+    pub fn of(holds: bool) -> Outcome
+        ensures { result ≡ (if holds then Good else Bad) }
+    {
+        if holds { Outcome::Good } else { Outcome::Bad }
+    }
+
+    /// The status that the program ends with.
+    pub fn status(self) -> u8
+        ensures { result ≡ status_on self }
+    {
+        match self {
+            Outcome::Good => 0,
+            Outcome::Bad => 1,
         }
     }
 }
 
-impl From<End> for Status {
-    ghost from_gives = { λ end status. status ≡ of_run end };
+impl From<End> for Outcome {
+    ghost from_gives = { λ end outcome. outcome ≡ of_run end };
 
-    fn from(end: End) -> Status {
+    fn from(end: End) -> Outcome {
         match end {
-            End::Stopped | End::Left => Status::Done,
-            End::Stuck(_, _) | End::Refused(_) | End::Unended => Status::Failed,
+            End::Stopped | End::Left => Outcome::Good,
+            End::Stuck(_, _) | End::Refused(_) | End::Unended => Outcome::Bad,
         }
     }
 }
 
-/// Why the program ends before it has done what it was asked for, with its text.
+/// Why the command line is refused, with its text.
 #[derive(Debug, Drop, Error)]
-pub enum Ending {
-    /// The command line asks for a text alone: for help, or for the version.
+pub enum Refusal {
+    /// It is none that the program knows.
     #[error("{0}")]
-    Shown(clap::Error),
-    /// The command line is refused.
-    #[error("{0}")]
-    Refused(clap::Error),
-    /// A word of the command line is not UTF-8.
+    Line(clap::Error),
+    /// A word of it is not UTF-8.
     #[error("error: a word of the command line is not UTF-8\n")]
     NotText,
-    /// The command line has no command.
+    /// It has no command.
     #[error("error: no command is given\n")]
     NoCommand,
-    /// The packet of the command line is not hexadecimal.
+    /// Its packet is not hexadecimal.
     #[error("error: invalid value for '--packet <HEX>': it takes hexadecimal digits, an even number\n")]
     NoPacket,
-    /// The name of the command line is none that farmd takes.
+    /// Its name is none that farmd takes.
     #[error("error: invalid value for '--line <NAME>': it takes 1 to 16 letters a to z and digits\n")]
     NoName,
-    /// An option of the command line has a text that names no place.
+    /// An option has a text that names no place.
     #[error("error: invalid value for '--{0} <PLACE>': it takes an address, as 36 or 0x24, or a count of steps, as +100; in a text a label, or a line, as line:37\n")]
     NoPlace(&'static str),
-    /// An option of the command line names a word that a worker does not have.
+    /// An option names a word that a worker does not have.
     #[error("error: invalid value for '--watch <WORDS>': it takes names of local words, buf[2] for one word of a name, or w5 for a word by its number\n")]
     NoWatched,
-    /// Words of the command line say no packet.
+    /// Words of it say no packet.
     #[error("error: invalid value for '--words <WORDS>': {0}\n")]
     NoWords(PacketFault),
-    /// The command line says no packets.
+    /// It says no packets.
     #[error("error: no packets are given, by --words or --packets\n")]
     NoPackets,
+}
+
+/// Why a command fails, with its text.
+#[derive(Debug, Drop, Error)]
+pub enum Failure {
     /// The file of this name is none that the command takes.
     #[error("{0}{1}\n")]
     File(String, InputFault),
@@ -98,102 +109,140 @@ pub enum Ending {
     Memory,
 }
 
+impl Failure {
+    /// The same, where a fault of an input is one of the file of a name.
+    pub fn in_file(self, alloc: Global, name: &str) -> Result<Failure, AllocError> {
+        match self {
+            Failure::Input(fault) => Ok(Failure::File(String::from_str(alloc, name)?, fault)),
+            failure => Ok(failure),
+        }
+    }
+}
+
+/// Why the program ends before it has done what it was asked for, with its text.
+#[derive(Debug, Drop, Error)]
+pub enum Ending {
+    /// The command line asks for a text alone: for help, or for the version.
+    #[error("{0}")]
+    Shown(clap::Error),
+    /// The command line is refused.
+    #[error("{0}")]
+    Refused(Refusal),
+    /// The command fails.
+    #[error("{0}")]
+    Failed(Failure),
+}
+
 impl Ending {
     /// The status that the program ends with.
-    pub fn status(&self) -> Status
+    pub fn status(&self) -> u8
         ensures { result ≡ status_of self.now }
     {
         match self {
-            Ending::Shown(_) => Status::Done,
-            Ending::Input(_)
-            | Ending::File(_, _)
-            | Ending::Thread
-            | Ending::Write
-            | Ending::Memory => Status::Failed,
-            Ending::Refused(_)
-            | Ending::NotText
-            | Ending::NoCommand
-            | Ending::NoName
-            | Ending::NoPacket
-            | Ending::NoWatched
-            | Ending::NoWords(_)
-            | Ending::NoPackets
-            | Ending::NoPlace(_) => Status::Refused,
+            Ending::Shown(_) => 0,
+            Ending::Failed(_) => 1,
+            Ending::Refused(_) => 2,
         }
     }
+}
 
-    /// The same, where a fault of an input is one of the file of a name.
-    pub fn in_file(self, alloc: Global, name: &str) -> Result<Ending, AllocError> {
-        match self {
-            Ending::Input(fault) => Ok(Ending::File(String::from_str(alloc, name)?, fault)),
-            ending => Ok(ending),
-        }
+impl From<Failure> for Ending {
+    ghost from_gives = { λ fault e. e ≡ ending.Failed fault };
+
+    fn from(failure: Failure) -> Self {
+        Ending::Failed(failure)
+    }
+}
+
+impl From<Refusal> for Ending {
+    ghost from_gives = { λ refusal e. e ≡ ending.Refused refusal };
+
+    fn from(refusal: Refusal) -> Self {
+        Ending::Refused(refusal)
     }
 }
 
 impl From<clap::Error> for Ending {
+    ghost from_gives = { λ error e. e ≡ of_words (kind_of error) error };
+
     fn from(error: clap::Error) -> Self {
         match error.kind() {
-            ErrorKind::OutOfMemory => Ending::Memory,
+            ErrorKind::OutOfMemory => Ending::Failed(Failure::Memory),
             ErrorKind::DisplayHelp | ErrorKind::DisplayVersion => Ending::Shown(error),
-            _ => Ending::Refused(error),
-        }
-    }
-}
-
-impl From<RunFault> for Ending {
-    fn from(fault: RunFault) -> Self {
-        match fault {
-            RunFault::Thread => Ending::Thread,
-            RunFault::Memory => Ending::Memory,
-            RunFault::Write => Ending::Write,
-        }
-    }
-}
-
-impl From<ImageFault> for Ending {
-    ghost from_gives = { λ fault e. e ≡ of_image fault };
-
-    fn from(fault: ImageFault) -> Self {
-        match fault {
-            ImageFault::Memory => Ending::Memory,
-            ImageFault::Refused { .. } => Ending::Input(InputFault::Image(fault)),
-        }
-    }
-}
-
-impl From<SourceFault> for Ending {
-    ghost from_gives = { λ fault e. e ≡ of_source fault };
-
-    fn from(fault: SourceFault) -> Self {
-        match fault.fault {
-            SourceKind::Memory => Ending::Memory,
-            _ => Ending::Input(InputFault::Source(fault)),
-        }
-    }
-}
-
-impl From<ShowFault> for Ending {
-    fn from(fault: ShowFault) -> Self {
-        match fault {
-            ShowFault::Memory => Ending::Memory,
-            ShowFault::Write => Ending::Write,
+            _ => Ending::Refused(Refusal::Line(error)),
         }
     }
 }
 
 impl From<AllocError> for Ending {
-    ghost from_gives = { λ _ e. e ≡ ending.Memory };
+    ghost from_gives = { λ _ e. e ≡ ending.Failed failure.Memory };
 
     fn from(_: AllocError) -> Self {
-        Ending::Memory
+        Ending::Failed(Failure::Memory)
     }
 }
 
 impl<T: Drop> From<AllocFailed<T>> for Ending {
-    ghost from_gives = { λ _ e. e ≡ ending.Memory };
+    ghost from_gives = { λ _ e. e ≡ ending.Failed failure.Memory };
 
     fn from(_: AllocFailed<T>) -> Self {
-        Ending::Memory
+        Ending::Failed(Failure::Memory)
+    }
+}
+
+impl From<RunFault> for Failure {
+    fn from(fault: RunFault) -> Self {
+        match fault {
+            RunFault::Thread => Failure::Thread,
+            RunFault::Memory => Failure::Memory,
+            RunFault::Write => Failure::Write,
+        }
+    }
+}
+
+impl From<ImageFault> for Failure {
+    ghost from_gives = { λ fault e. e ≡ of_image fault };
+
+    fn from(fault: ImageFault) -> Self {
+        match fault {
+            ImageFault::Memory => Failure::Memory,
+            ImageFault::Refused { .. } => Failure::Input(InputFault::Image(fault)),
+        }
+    }
+}
+
+impl From<SourceFault> for Failure {
+    ghost from_gives = { λ fault e. e ≡ of_source fault };
+
+    fn from(fault: SourceFault) -> Self {
+        match fault.fault {
+            SourceKind::Memory => Failure::Memory,
+            _ => Failure::Input(InputFault::Source(fault)),
+        }
+    }
+}
+
+impl From<ShowFault> for Failure {
+    fn from(fault: ShowFault) -> Self {
+        match fault {
+            ShowFault::Memory => Failure::Memory,
+            ShowFault::Write => Failure::Write,
+        }
+    }
+}
+
+impl From<AllocError> for Failure {
+    ghost from_gives = { λ _ e. e ≡ failure.Memory };
+
+    fn from(_: AllocError) -> Self {
+        Failure::Memory
+    }
+}
+
+impl<T: Drop> From<AllocFailed<T>> for Failure {
+    ghost from_gives = { λ _ e. e ≡ failure.Memory };
+
+    fn from(_: AllocFailed<T>) -> Self {
+        Failure::Memory
     }
 }

@@ -1,7 +1,7 @@
 //! Fields of an image that a text says out of range: by the statement that says them.
 
 use crate::assembly::assembled;
-use crate::ending::Ending;
+use crate::ending::Failure;
 use crate::fault::InputFault;
 use std::alloc::Global;
 use tp_image::{ImageCode, Version};
@@ -32,7 +32,7 @@ fn asked_of(code: ImageCode, version: Version) -> Option<(&'static str, &'static
 }
 
 /// Where the last statement of a text that begins with a word stands.
-fn position_of(alloc: Global, text: &str, word: &str) -> Result<Option<Position>, Ending> {
+fn position_of(alloc: Global, text: &str, word: &str) -> Result<Option<Position>, Failure> {
     let mut found = None;
     for (i, line) in text.lines().enumerate() {
         let statement = statement_of(alloc, line)?;
@@ -50,34 +50,34 @@ fn position_of(alloc: Global, text: &str, word: &str) -> Result<Option<Position>
     Ok(found)
 }
 
-/// The same ending, of a field that is out of range at the statement that says it: a workspace that none says is as large as its locals
+/// The same failure, of a field that is out of range at the statement that says it: a workspace that none says is as large as its locals
 /// need.
 fn at_statement(
     alloc: Global,
     text: &str,
     version: Version,
-    ending: Ending,
-) -> Result<Ending, Ending> {
-    let Ending::Input(InputFault::Assembly(AssemblyFault::Field(code))) = ending else {
-        return Ok(ending);
+    failure: Failure,
+) -> Result<Failure, Failure> {
+    let Failure::Input(InputFault::Assembly(AssemblyFault::Field(code))) = failure else {
+        return Ok(failure);
     };
     let Some((word, range)) = asked_of(code, version) else {
-        return Ok(ending);
+        return Ok(failure);
     };
     let position = match position_of(alloc, text, word)? {
         None if code == ImageCode::F4 => position_of(alloc, text, "local")?,
         position => position,
     };
     match position {
-        Some(position) => Ok(Ending::Input(InputFault::Field(position, range))),
-        None => Ok(ending),
+        Some(position) => Ok(Failure::Input(InputFault::Field(position, range))),
+        None => Ok(failure),
     }
 }
 
 /// The bytes of the image of a program that a text says. A field that is out of range is reported at the statement that says it.
-pub fn assembled_text(alloc: Global, text: &str, source: &Source<'_>) -> Result<Vec<u8>, Ending> {
+pub fn assembled_text(alloc: Global, text: &str, source: &Source<'_>) -> Result<Vec<u8>, Failure> {
     match assembled(alloc, source) {
         Ok(bytes) => Ok(bytes),
-        Err(ending) => Err(at_statement(alloc, text, source.program.version, ending)?),
+        Err(failure) => Err(at_statement(alloc, text, source.program.version, failure)?),
     }
 }

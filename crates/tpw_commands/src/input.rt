@@ -8,7 +8,7 @@ ghost use Rattle.tpw_commands.specs.declared.input.TextFault.{TextFault};
 ghost use Rattle.tpw_commands.specs.declared.input.TextFault.TheVariants.{Memory, NotADigit};
 ghost use Rattle.tpw_commands.specs.Texts.{IsFault, Says, is_line_end, may_stand};
 
-use crate::ending::Ending;
+use crate::ending::Failure;
 use crate::fault::{InputFault, position_behind};
 use std::alloc::{AllocError, AllocFailed, Global};
 use std::fmt;
@@ -94,27 +94,27 @@ pub fn bytes_of(alloc: Global, text: &[u8]) -> Result<Vec<u8>, TextFault>
 }
 
 /// The bytes that a text says in hexadecimal.
-pub fn hex_bytes(alloc: Global, text: &[u8]) -> Result<Vec<u8>, Ending>
+pub fn hex_bytes(alloc: Global, text: &[u8]) -> Result<Vec<u8>, Failure>
     ensures bytes { IfOk result (λ bytes. Says text.now bytes.items) }
     ensures fault { IfErr result (λ e. (fault : TextFault) × IsFault text.now fault × (e ≡ of_text text.now fault)) }
 {
     match bytes_of(alloc, text) {
         Ok(bytes) => Ok(bytes),
-        Err(TextFault::NotADigit(column)) => Err(Ending::Input(InputFault::NotADigit(
+        Err(TextFault::NotADigit(column)) => Err(Failure::Input(InputFault::NotADigit(
             position_behind(text, column - 1),
         ))),
-        Err(TextFault::HalfAByte(column)) => Err(Ending::Input(InputFault::HalfAByte(
+        Err(TextFault::HalfAByte(column)) => Err(Failure::Input(InputFault::HalfAByte(
             position_behind(text, column - 1),
         ))),
-        Err(TextFault::Memory) => Err(Ending::Memory),
+        Err(TextFault::Memory) => Err(Failure::Memory),
     }
 }
 
 /// The text that bytes are.
-pub fn utf8(bytes: &[u8]) -> Result<&str, Ending> {
+pub fn utf8(bytes: &[u8]) -> Result<&str, Failure> {
     match str::from_utf8(bytes) {
         Ok(text) => Ok(text),
-        Err(error) => Err(Ending::Input(InputFault::NotUtf8(position_behind(
+        Err(error) => Err(Failure::Input(InputFault::NotUtf8(position_behind(
             bytes,
             error.valid_up_to(),
         )))),
@@ -139,12 +139,12 @@ impl fmt::Display for Input {
 }
 
 /// Reads all that there is.
-fn read_all<R: Read>(alloc: Global, reader: &mut R) -> Result<Vec<u8>, Ending> {
+fn read_all<R: Read>(alloc: Global, reader: &mut R) -> Result<Vec<u8>, Failure> {
     let mut text = Vec::new(alloc);
     match reader.read_to_end(&mut text) {
         Ok(_) => Ok(text),
-        Err(error) if error.kind() == ErrorKind::OutOfMemory => Err(Ending::Memory),
-        Err(error) => Err(Ending::Input(InputFault::Unread(error))),
+        Err(error) if error.kind() == ErrorKind::OutOfMemory => Err(Failure::Memory),
+        Err(error) => Err(Failure::Input(InputFault::Unread(error))),
     }
 }
 
@@ -157,7 +157,7 @@ pub struct Inputs<'a, T, R> {
 
 impl<T: Files, R: Read> Inputs<'_, T, R> {
     /// Reads all of an input.
-    pub fn read(&mut self, alloc: Global, input: &Input) -> Result<Vec<u8>, Ending> {
+    pub fn read(&mut self, alloc: Global, input: &Input) -> Result<Vec<u8>, Failure> {
         match input {
             Input::Standard => read_all(alloc, self.standard),
             Input::File(name) => self.read_file(alloc, name.as_str()),
@@ -165,10 +165,10 @@ impl<T: Files, R: Read> Inputs<'_, T, R> {
     }
 
     /// Reads all of the file of a name.
-    pub fn read_file(&mut self, alloc: Global, name: &str) -> Result<Vec<u8>, Ending> {
+    pub fn read_file(&mut self, alloc: Global, name: &str) -> Result<Vec<u8>, Failure> {
         match File::open(self.files, name) {
             Ok(mut file) => read_all(alloc, &mut file),
-            Err(error) => Err(Ending::Input(InputFault::Unread(error))),
+            Err(error) => Err(Failure::Input(InputFault::Unread(error))),
         }
     }
 }

@@ -20,8 +20,9 @@ mod stepping;
 mod terminal;
 mod traps;
 mod words;
+mod worker;
 
-pub use ending::{Ending, Status};
+pub use ending::{Ending, Failure, Outcome, Refusal};
 pub use fault::InputFault;
 pub use input::{TextFault, bytes_of};
 pub use place::place_of;

@@ -1,6 +1,6 @@
 //! What an assembly text says of its code, by address and by word.
 
-use crate::ending::Ending;
+use crate::ending::Failure;
 use crate::fault::InputFault;
 use std::alloc::Global;
 use tpw_asm::{AssemblyFault, Program, addresses};
@@ -16,11 +16,11 @@ pub struct Notes<'a> {
 }
 
 /// The address of each place of a program.
-pub fn places_of(alloc: Global, program: &Program) -> Result<Vec<u32>, Ending> {
+pub fn places_of(alloc: Global, program: &Program) -> Result<Vec<u32>, Failure> {
     match addresses(alloc, program) {
         Ok(places) => Ok(places),
-        Err(AssemblyFault::Memory) => Err(Ending::Memory),
-        Err(fault) => Err(Ending::Input(InputFault::Assembly(fault))),
+        Err(AssemblyFault::Memory) => Err(Failure::Memory),
+        Err(fault) => Err(Failure::Input(InputFault::Assembly(fault))),
     }
 }
 
@@ -30,7 +30,7 @@ fn statements_of<'a>(
     text: &'a str,
     positions: &[Position],
     places: &[u32],
-) -> Result<Vec<Statement<'a>>, Ending> {
+) -> Result<Vec<Statement<'a>>, Failure> {
     let mut lines = Vec::new(alloc);
     for line in text.lines() {
         lines.push(line)?;
@@ -53,7 +53,7 @@ fn labels_of<'a>(
     alloc: Global,
     source: &Source<'a>,
     places: &[u32],
-) -> Result<Vec<Label<'a>>, Ending> {
+) -> Result<Vec<Label<'a>>, Failure> {
     let mut labels = Vec::new(alloc);
     for label in &source.labels {
         if let Some(at) = places.get(label.place) {
@@ -67,7 +67,7 @@ fn labels_of<'a>(
 }
 
 /// The names of local words, as names of workspace words.
-fn words_of<'a>(alloc: Global, source: &Source<'a>) -> Result<Vec<Named<'a>>, Ending> {
+fn words_of<'a>(alloc: Global, source: &Source<'a>) -> Result<Vec<Named<'a>>, Failure> {
     let start = source.program.start as usize;
     let mut words = Vec::new(alloc);
     for Local {
@@ -86,7 +86,7 @@ fn words_of<'a>(alloc: Global, source: &Source<'a>) -> Result<Vec<Named<'a>>, En
 
 impl<'a> Notes<'a> {
     /// What a text says of its code.
-    pub fn new(alloc: Global, text: &'a str, source: &Source<'a>) -> Result<Notes<'a>, Ending> {
+    pub fn new(alloc: Global, text: &'a str, source: &Source<'a>) -> Result<Notes<'a>, Failure> {
         let places = places_of(alloc, &source.program)?;
         Ok(Notes {
             statements: statements_of(alloc, text, &source.positions, &places)?,

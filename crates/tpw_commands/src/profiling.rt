@@ -1,26 +1,32 @@
 //! The command `profile`: where the steps of packets' runs go.
 
+ghost use Rattle.std.specs.Prelude.{◌≡◌, ◌*◌, All, IfOk, IfErr, length};
 ghost use Rattle.tpw_step.specs.Profiles.{AddsUp};
+ghost use Rattle.tpw_commands.specs.Endings.{status_of};
 
 use crate::asking::Asking;
-use crate::ending::{Ending, Status};
+use crate::ending::{Ending, Failure, Outcome};
 use crate::input::{Inputs, TextFault, bytes_of, utf8};
 use crate::noting::Notes;
-use crate::refusing::image_bytes;
 use crate::shares::{Shares, write_shares};
 use crate::terminal::Terminal;
+use crate::worker::image_of;
 use std::alloc::Global;
 use std::io::{Read, Write};
 use std::rt::Files;
 use tp_board::Packet;
+use tp_image::Image;
 use tp_image::layout::WORD_BYTES;
-use tp_image::{Image, read_image};
 use tpw_source::SourceText;
 use tpw_step::{Profile, RunEnd, Stepper, count_run};
 use tpw_text::read_source;
 
-/// The most words of a packet.
-const PACKET_WORDS: usize = 64;
+/// What is counted: the runs of packets of an image.
+#[derive(Drop)]
+struct Counted {
+    image: Image,
+    packets: Vec<Packet>,
+}
 
 /// Writes how the run of a packet has ended, if the worker has not stopped.
 fn note_end<E: Write>(errors: &mut E, number: usize, end: RunEnd) {
@@ -39,7 +45,7 @@ fn count_packets<E: Write>(
     packets: &[Packet],
     profile: &mut Profile,
     errors: &mut E,
-) -> Result<bool, Ending>
+) -> Result<bool, Failure>
     requires { AddsUp profile.old }
     ensures { AddsUp profile.new }
 {
@@ -59,7 +65,7 @@ fn write_profile<'x, W: Write>(
     image: &'x Image,
     profile: &'x Profile,
     writer: &mut W,
-) -> Result<(), Ending> {
+) -> Result<(), Failure> {
     match bytes_of(alloc, text) {
         Ok(_) => {
             let shares = Shares {
@@ -69,7 +75,7 @@ fn write_profile<'x, W: Write>(
             };
             write_shares(alloc, shares, writer)
         }
-        Err(TextFault::Memory) => Err(Ending::Memory),
+        Err(TextFault::Memory) => Err(Failure::Memory),
         Err(TextFault::NotADigit(_) | TextFault::HalfAByte(_)) => {
             let text = utf8(text)?;
             let source = read_source(alloc, text)?;
@@ -84,6 +90,41 @@ fn write_profile<'x, W: Write>(
     }
 }
 
+/// What is to be counted: the packets that are asked for, each as long as those of the image that a text says.
+fn prepare_profile<T: Files, R: Read, E: Write>(
+    alloc: Global,
+    inputs: &mut Inputs<'_, T, R>,
+    text: &[u8],
+    errors: &mut E,
+    asking: &Asking,
+) -> Result<Counted, Ending>
+    ensures { IfOk result (λ counted. All (λ p. length p.items ≡ 4 * counted.image.packet) counted.packets.items) }
+{
+    let image = image_of(alloc, text)?;
+    let bytes = WORD_BYTES * image.packet as usize;
+    let packets = asking.packets(alloc, inputs, errors, bytes)?;
+    Ok(Counted { image, packets })
+}
+
+/// Counts the steps of packets' runs, and writes where they go.
+fn write_counted<W: Write, E: Write>(
+    alloc: Global,
+    text: &[u8],
+    counted: Counted,
+    writer: &mut W,
+    errors: &mut E,
+) -> Result<Outcome, Failure> {
+    let Counted { image, packets } = counted;
+    let mut profile = Profile::new(alloc, &image)?;
+    let mut stepper = Stepper::new(image);
+    let all = count_packets(alloc, &mut stepper, &packets, &mut profile, errors)?;
+    write_profile(alloc, text, stepper.image(), &profile, writer)?;
+    match writer.flush() {
+        Ok(()) => Ok(Outcome::of(all)),
+        Err(_) => Err(Failure::Write),
+    }
+}
+
 /// Runs packets on the worker that a text says, accepted or not, and writes where their steps go.
 pub fn profile_worker<T: Files, R: Read, W: Write, E: Write>(
     alloc: Global,
@@ -92,18 +133,9 @@ pub fn profile_worker<T: Files, R: Read, W: Write, E: Write>(
     writer: &mut W,
     terminal: &mut Terminal<'_, E>,
     asking: &Asking,
-) -> Result<Status, Ending> {
-    let bytes = image_bytes(alloc, text)?;
-    let image = read_image(alloc, &bytes)?;
-    let bytes_each = WORD_BYTES * (image.packet as usize).min(PACKET_WORDS);
-    let packets = asking.packets(alloc, inputs, terminal.errors, bytes_each)?;
-    let mut profile = Profile::new(alloc, &image)?;
-    let mut stepper = Stepper::new(image);
-    let all = count_packets(alloc, &mut stepper, &packets, &mut profile, terminal.errors)?;
-    write_profile(alloc, text, stepper.image(), &profile, writer)?;
-    match writer.flush() {
-        Ok(()) if all => Ok(Status::Done),
-        Ok(()) => Ok(Status::Failed),
-        Err(_) => Err(Ending::Write),
-    }
+) -> Result<Outcome, Ending>
+    ensures { IfErr result (λ e. status_of e ≡ 2 → W.contents writer.new ≡ W.contents writer.old) }
+{
+    let counted = prepare_profile(alloc, inputs, text, terminal.errors, asking)?;
+    Ok(write_counted(alloc, text, counted, writer, terminal.errors)?)
 }

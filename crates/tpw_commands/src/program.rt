@@ -1,9 +1,13 @@
 //! The program, from its words and streams to its status.
 
+ghost use Rattle.std.specs.Prelude.{◌≡◌, ◌≤◌, IfErr};
+ghost use Rattle.std.specs.Process.{exit_status};
+ghost use Rattle.tpw_commands.specs.Endings.{EndsEarly, status_by, status_of};
+
 use crate::assembly::assemble_text;
 use crate::command_line::{Asked, Task, asked_by};
 use crate::disassembly::disassemble_image;
-use crate::ending::{Ending, Status};
+use crate::ending::{Ending, Failure, Outcome};
 use crate::input::{Input, Inputs};
 use crate::profiling::profile_worker;
 use crate::refusing::judge;
@@ -21,6 +25,21 @@ use std::sync::Wait;
 use std::thread::Threads;
 use std::time::Clock;
 
+/// Notes what is written otherwise than it may be meant in a text that is to be a worker.
+fn note_asked<E: Write>(
+    alloc: Global,
+    errors: &mut E,
+    asked: &Asked,
+    text: &[u8],
+) -> Result<(), Failure> {
+    match &asked.task {
+        Task::Run(_) | Task::Profile(_) | Task::Judge(_) | Task::Assemble(_) => {
+            note_traps(alloc, errors, &asked.input, text)
+        }
+        Task::Step(_) | Task::Disassemble => Ok(()),
+    }
+}
+
 /// Reads the input that is asked for, and does what is asked with its text.
 fn perform<T, R: Read, W: Write, E: Write>(
     rt: &T,
@@ -29,33 +48,31 @@ fn perform<T, R: Read, W: Write, E: Write>(
     writer: &mut W,
     terminal: &mut Terminal<'_, E>,
     asked: &Asked,
-) -> Result<Status, Ending>
+) -> Result<Outcome, Ending>
 where
     T: Files + Threads + Wait + Clock + Eprint + Sync,
+    ensures { IfErr result (λ e. status_of e ≡ 2 → W.contents writer.new ≡ W.contents writer.old) }
 {
     let text = inputs.read(alloc, &asked.input)?;
-    match &asked.task {
-        Task::Run(_) | Task::Profile(_) | Task::Judge(_) | Task::Assemble(_) => {
-            note_traps(alloc, terminal.errors, &asked.input, &text)?;
-        }
-        Task::Step(_) | Task::Disassemble => {}
-    }
+    note_asked(alloc, terminal.errors, asked, &text)?;
     match &asked.task {
         Task::Profile(asking) => profile_worker(alloc, inputs, &text, writer, terminal, asking),
         Task::Run(running) => run_worker(rt, alloc, inputs, &text, writer, terminal, running),
         Task::Step(stepping) => step(alloc, &text, writer, terminal.errors, stepping),
-        Task::Judge(report) => judge(alloc, &text, *report, writer),
-        Task::Assemble(Some(name)) => assemble_text(alloc, &text, writer, Some(name.as_str())),
-        Task::Assemble(None) => assemble_text(alloc, &text, writer, None),
-        Task::Disassemble => disassemble_image(alloc, &text, writer),
+        Task::Judge(report) => Ok(judge(alloc, &text, *report, writer)?),
+        Task::Assemble(Some(name)) => Ok(assemble_text(alloc, &text, writer, Some(name.as_str()))?),
+        Task::Assemble(None) => Ok(assemble_text(alloc, &text, writer, None)?),
+        Task::Disassemble => Ok(disassemble_image(alloc, &text, writer)?),
     }
 }
 
 /// Writes the text that a command line asks for, and flushes it.
-fn show<W: Write>(writer: &mut W, text: &clap::Error) -> Result<Status, Ending> {
+fn show<W: Write>(writer: &mut W, text: &clap::Error) -> Result<Outcome, Ending>
+    ensures { status_by result ≤ 1 }
+{
     match write!(writer, "{text}").and_then(|()| writer.flush()) {
-        Ok(()) => Ok(Status::Done),
-        Err(_) => Err(Ending::Write),
+        Ok(()) => Ok(Outcome::Good),
+        Err(_) => Err(Ending::Failed(Failure::Write)),
     }
 }
 
@@ -68,9 +85,54 @@ fn read_words(words: &impl Env, alloc: Global) -> Result<Asked, Ending> {
 /// Writes why the program ends early. A fault of the command's input comes behind its name.
 fn write_ending<E: Write>(errors: &mut E, input: &Input, ending: &Ending) {
     let _ = match ending {
-        Ending::Input(fault) => write!(errors, "{input}{fault}\n"),
+        Ending::Failed(Failure::Input(fault)) => write!(errors, "{input}{fault}\n"),
         _ => write!(errors, "{ending}"),
     };
+}
+
+/// The status of what a command answers, or of how the program ends early, which is written.
+fn end_with<E: Write>(errors: &mut E, input: &Input, ended: Result<Outcome, Ending>) -> ExitCode
+    ensures { exit_status result ≡ status_by ended }
+{
+    match ended {
+        Ok(outcome) => ExitCode::from(outcome.status()),
+        Err(ending) => {
+            write_ending(errors, input, &ending);
+            ExitCode::from(ending.status())
+        }
+    }
+}
+
+/// Does what is asked for. Where no command is, or it ends early, it says why on the terminal.
+fn run_asked<T, R: Read, W: Write, E: Write>(
+    rt: &T,
+    asked: Result<Asked, Ending>,
+    alloc: Global,
+    reader: &mut R,
+    writer: &mut W,
+    terminal: &mut Terminal<'_, E>,
+) -> ExitCode
+where
+    T: Files + Threads + Wait + Clock + Eprint + Sync,
+    ensures status { exit_status result ≤ 2 }
+    ensures refused { exit_status result ≡ 2 → W.contents writer.new ≡ W.contents writer.old }
+    ensures early { IfErr asked (λ e. EndsEarly e (W.contents writer.old) (W.contents writer.new) (exit_status result)) }
+{
+    let mut inputs = Inputs {
+        files: rt,
+        standard: reader,
+    };
+    match asked {
+        Ok(asked) => {
+            let ended = perform(rt, &mut inputs, alloc, writer, terminal, &asked);
+            end_with(terminal.errors, &asked.input, ended)
+        }
+        Err(Ending::Shown(text)) => {
+            let ended = show(writer, &text);
+            end_with(terminal.errors, &Input::Standard, ended)
+        }
+        Err(ending) => end_with(terminal.errors, &Input::Standard, Err(ending)),
+    }
 }
 
 /// Does what the words ask for. Where that ends early, it says why on the terminal.
@@ -84,25 +146,9 @@ pub fn run<T, R: Read, W: Write, E: Write>(
 ) -> ExitCode
 where
     T: Files + Threads + Wait + Clock + Eprint + Sync,
+    ensures status { exit_status result ≤ 2 }
+    ensures refused { exit_status result ≡ 2 → W.contents writer.new ≡ W.contents writer.old }
 {
-    let mut inputs = Inputs {
-        files: rt,
-        standard: reader,
-    };
-    let (input, ended) = match read_words(words, alloc) {
-        Ok(asked) => {
-            let ended = perform(rt, &mut inputs, alloc, writer, terminal, &asked);
-            (asked.input, ended)
-        }
-        Err(Ending::Shown(text)) => (Input::Standard, show(writer, &text)),
-        Err(ending) => (Input::Standard, Err(ending)),
-    };
-    let status = match ended {
-        Ok(status) => status,
-        Err(ending) => {
-            write_ending(terminal.errors, &input, &ending);
-            ending.status()
-        }
-    };
-    ExitCode::from(status)
+    let asked = read_words(words, alloc);
+    run_asked(rt, asked, alloc, reader, writer, terminal)
 }

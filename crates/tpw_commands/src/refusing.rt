@@ -1,6 +1,6 @@
 //! The commands `why` and `list`: the verdict on an image, why it is refused, and its code with what it costs.
 
-use crate::ending::{Ending, Status};
+use crate::ending::{Failure, Outcome};
 use crate::fielding::assembled_text;
 use crate::input::{TextFault, bytes_of, utf8};
 use crate::noting::Notes;
@@ -26,7 +26,7 @@ fn judge_bytes<W: Write>(
     source: SourceText<'_>,
     report: Report,
     writer: &mut W,
-) -> Result<bool, Ending> {
+) -> Result<bool, Failure> {
     match report {
         Report::Why => Ok(explain(alloc, bytes, source, writer)?),
         Report::List => Ok(list(alloc, bytes, source, writer)?),
@@ -39,7 +39,7 @@ fn judge_source<W: Write>(
     text: &str,
     report: Report,
     writer: &mut W,
-) -> Result<bool, Ending> {
+) -> Result<bool, Failure> {
     let source = read_source(alloc, text)?;
     let image = assembled_text(alloc, text, &source)?;
     let notes = Notes::new(alloc, text, &source)?;
@@ -52,10 +52,10 @@ fn judge_text<W: Write>(
     text: &[u8],
     report: Report,
     writer: &mut W,
-) -> Result<bool, Ending> {
+) -> Result<bool, Failure> {
     match bytes_of(alloc, text) {
         Ok(bytes) => judge_bytes(alloc, &bytes, SourceText::NONE, report, writer),
-        Err(TextFault::Memory) => Err(Ending::Memory),
+        Err(TextFault::Memory) => Err(Failure::Memory),
         Err(TextFault::NotADigit(_) | TextFault::HalfAByte(_)) => {
             judge_source(alloc, utf8(text)?, report, writer)
         }
@@ -63,10 +63,10 @@ fn judge_text<W: Write>(
 }
 
 /// The bytes of the image that a text says: in hexadecimal, or else as assembly text.
-pub fn image_bytes(alloc: Global, text: &[u8]) -> Result<Vec<u8>, Ending> {
+pub fn image_bytes(alloc: Global, text: &[u8]) -> Result<Vec<u8>, Failure> {
     match bytes_of(alloc, text) {
         Ok(bytes) => Ok(bytes),
-        Err(TextFault::Memory) => Err(Ending::Memory),
+        Err(TextFault::Memory) => Err(Failure::Memory),
         Err(TextFault::NotADigit(_) | TextFault::HalfAByte(_)) => {
             let text = utf8(text)?;
             let source = read_source(alloc, text)?;
@@ -82,13 +82,12 @@ pub fn judge<W: Write>(
     text: &[u8],
     report: Report,
     writer: &mut W,
-) -> Result<Status, Ending> {
+) -> Result<Outcome, Failure> {
     let judged = judge_text(alloc, text, report, writer);
     let flushed = writer.flush();
     let is_accepted = judged?;
     match flushed {
-        Ok(()) if is_accepted => Ok(Status::Done),
-        Ok(()) => Ok(Status::Failed),
-        Err(_) => Err(Ending::Write),
+        Ok(()) => Ok(Outcome::of(is_accepted)),
+        Err(_) => Err(Failure::Write),
     }
 }

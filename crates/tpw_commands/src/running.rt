@@ -1,19 +1,20 @@
 //! The command `run`: packets on an accepted worker.
 
-ghost use Rattle.std.specs.Prelude.{◌≡◌, ◌≤◌, ◌*◌, All, length};
+ghost use Rattle.std.specs.Prelude.{◌≡◌, ◌≤◌, ◌*◌, All, IfOk, IfErr, IfSome, length};
+ghost use Rattle.tpw_commands.specs.Endings.{status_of};
 
 use crate::asking::{Asking, packets_in};
-use crate::ending::{Ending, Status};
+use crate::ending::{Ending, Failure, Outcome};
 use crate::input::Inputs;
-use crate::refusing::{Report, image_bytes, judge};
 use crate::terminal::Terminal;
+use crate::worker::accepted_of;
 use std::alloc::Global;
 use std::io::{Eprint, Read, Write};
 use std::rt::Files;
 use std::sync::Wait;
 use std::thread::Threads;
 use std::time::Clock;
-use tp_accept::{Accepted, Refusal, accept};
+use tp_accept::Accepted;
 use tp_board::Packet;
 use tpw_run_text::{Form, StepRange, Style, Tally};
 use tpw_runs::{Progress, run_on_members};
@@ -43,6 +44,14 @@ impl Running {
     }
 }
 
+/// What is run: packets on an accepted worker, and the results that are expected, where they are asked for.
+#[derive(Drop)]
+struct Prepared {
+    image: Accepted,
+    packets: Vec<Packet>,
+    expected: Option<Vec<Packet>>,
+}
+
 /// The results that are expected, where they are asked for.
 fn results_expected<T: Files, R: Read, E: Write>(
     alloc: Global,
@@ -50,7 +59,7 @@ fn results_expected<T: Files, R: Read, E: Write>(
     errors: &mut E,
     asked: &Running,
     bytes: usize,
-) -> Result<Option<Vec<Packet>>, Ending>
+) -> Result<Option<Vec<Packet>>, Failure>
     requires { bytes ≤ 256 }
 {
     match &asked.expect {
@@ -62,25 +71,8 @@ fn results_expected<T: Files, R: Read, E: Write>(
     }
 }
 
-/// The image that a worker's text says, where it is accepted. Where it is refused, `errors` has the explanation of `why`.
-fn worker<E: Write>(
-    alloc: Global,
-    text: &[u8],
-    errors: &mut E,
-) -> Result<Option<Accepted>, Ending> {
-    let bytes = image_bytes(alloc, text)?;
-    match accept(alloc, bytes) {
-        Ok(accepted) => Ok(Some(accepted)),
-        Err(Refusal::Memory) => Err(Ending::Memory),
-        Err(Refusal::Refused { .. }) => {
-            judge(alloc, text, Report::Why, errors)?;
-            Ok(None)
-        }
-    }
-}
-
 /// Writes how many packets were run, how many of them were lost, and their steps.
-fn write_summary<W: Write>(writer: &mut W, budget: u32, tally: &Tally) -> Result<(), Ending> {
+fn write_summary<W: Write>(writer: &mut W, budget: u32, tally: &Tally) -> Result<(), Failure> {
     let lost = tally.lost;
     let packets = tally.done.saturating_add(lost);
     let written = match tally.steps {
@@ -97,7 +89,7 @@ fn write_summary<W: Write>(writer: &mut W, budget: u32, tally: &Tally) -> Result
     };
     match written.and_then(|()| writer.flush()) {
         Ok(()) => Ok(()),
-        Err(_) => Err(Ending::Write),
+        Err(_) => Err(Failure::Write),
     }
 }
 
@@ -111,7 +103,7 @@ fn run_shown<T, W: Write, E: Write>(
     form: Form<'_>,
     writer: &mut W,
     terminal: &mut Terminal<'_, E>,
-) -> Result<Status, Ending>
+) -> Result<Outcome, Failure>
 where
     T: Threads + Wait + Clock + Eprint + Sync,
     requires { All (λ p. length p.items ≡ 4 * image.now.image.packet) packets.now }
@@ -127,10 +119,59 @@ where
         Form::Raw => write_summary(terminal.errors, image.budget(), &tally)?,
         Form::Lines(_) | Form::Differences(_, _) => write_summary(writer, image.budget(), &tally)?,
     }
-    if tally.lost == 0 && !tally.differs {
-        Ok(Status::Done)
-    } else {
-        Ok(Status::Failed)
+    Ok(Outcome::of(tally.lost == 0 && !tally.differs))
+}
+
+/// What is to be run: on the worker that a text says, where it is accepted, the packets that are asked for, each as long as its own.
+fn prepare_run<T: Files, R: Read, E: Write>(
+    alloc: Global,
+    inputs: &mut Inputs<'_, T, R>,
+    text: &[u8],
+    errors: &mut E,
+    asked: &Running,
+) -> Result<Option<Prepared>, Ending>
+    ensures { IfOk result (λ found. IfSome found (λ run.
+        All (λ p. length p.items ≡ 4 * run.image.image.packet) run.packets.items)) }
+{
+    let Some(image) = accepted_of(alloc, text, errors)? else {
+        return Ok(None);
+    };
+    let packets = asked
+        .asking
+        .packets(alloc, inputs, errors, image.packet_bytes())?;
+    let expected = results_expected(alloc, inputs, errors, asked, image.result_bytes())?;
+    Ok(Some(Prepared {
+        image,
+        packets,
+        expected,
+    }))
+}
+
+/// Runs what is prepared, and writes what becomes of each packet.
+fn write_run<T, W: Write, E: Write>(
+    rt: &T,
+    alloc: Global,
+    prepared: &Prepared,
+    asked: &Running,
+    writer: &mut W,
+    terminal: &mut Terminal<'_, E>,
+) -> Result<Outcome, Failure>
+where
+    T: Threads + Wait + Clock + Eprint + Sync,
+    requires { All (λ p. length p.items ≡ 4 * prepared.now.image.image.packet) prepared.now.packets.items }
+{
+    let image = &prepared.image;
+    let packets = &prepared.packets;
+    let members = asked.members;
+    match &prepared.expected {
+        Some(expected) => {
+            let form = Form::Differences(asked.style, expected);
+            run_shown(rt, alloc, image, packets, members, form, writer, terminal)
+        }
+        None => {
+            let form = asked.form();
+            run_shown(rt, alloc, image, packets, members, form, writer, terminal)
+        }
     }
 }
 
@@ -143,27 +184,13 @@ pub fn run_worker<T, R: Read, W: Write, E: Write>(
     writer: &mut W,
     terminal: &mut Terminal<'_, E>,
     asked: &Running,
-) -> Result<Status, Ending>
+) -> Result<Outcome, Ending>
 where
     T: Files + Threads + Wait + Clock + Eprint + Sync,
+    ensures { IfErr result (λ e. status_of e ≡ 2 → W.contents writer.new ≡ W.contents writer.old) }
 {
-    let Some(image) = worker(alloc, text, terminal.errors)? else {
-        return Ok(Status::Failed);
-    };
-    let errors = &mut *terminal.errors;
-    let packets = asked
-        .asking
-        .packets(alloc, inputs, errors, image.packet_bytes())?;
-    let expected = results_expected(alloc, inputs, errors, asked, image.result_bytes())?;
-    let members = asked.members;
-    match &expected {
-        Some(expected) => {
-            let form = Form::Differences(asked.style, expected);
-            run_shown(rt, alloc, &image, &packets, members, form, writer, terminal)
-        }
-        None => {
-            let form = asked.form();
-            run_shown(rt, alloc, &image, &packets, members, form, writer, terminal)
-        }
+    match prepare_run(alloc, inputs, text, terminal.errors, asked)? {
+        Some(prepared) => Ok(write_run(rt, alloc, &prepared, asked, writer, terminal)?),
+        None => Ok(Outcome::Bad),
     }
 }

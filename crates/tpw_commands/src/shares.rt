@@ -1,6 +1,6 @@
 //! A profile as lines: the steps of each line of a text, or of each instruction, and of each loop, the most first.
 
-use crate::ending::Ending;
+use crate::ending::Failure;
 use std::alloc::Global;
 use std::fmt;
 use std::io::Write;
@@ -28,7 +28,7 @@ struct Share {
 }
 
 /// Adds steps to the share of a place.
-fn add(shares: &mut Vec<Share>, place: usize, steps: u64) -> Result<(), Ending> {
+fn add(shares: &mut Vec<Share>, place: usize, steps: u64) -> Result<(), Failure> {
     for share in shares.iter_mut() {
         if share.place == place {
             share.steps = share.steps.saturating_add(steps);
@@ -40,7 +40,7 @@ fn add(shares: &mut Vec<Share>, place: usize, steps: u64) -> Result<(), Ending> 
 }
 
 /// The shares by line, or by address where no text says the code.
-fn shares_of(alloc: Global, shares: Shares<'_, '_>) -> Result<Vec<Share>, Ending> {
+fn shares_of(alloc: Global, shares: Shares<'_, '_>) -> Result<Vec<Share>, Failure> {
     let mut found = Vec::new(alloc);
     for (at, steps) in shares.profile.counts.iter().enumerate() {
         if *steps != 0 {
@@ -85,7 +85,7 @@ fn write_share<W: Write>(
     share: Share,
     part: Part,
     writer: &mut W,
-) -> Result<(), Ending> {
+) -> Result<(), Failure> {
     let place = share.place;
     let lines = shares.source.statements;
     let written = match lines.iter().find(|statement| statement.line == place) {
@@ -98,7 +98,7 @@ fn write_share<W: Write>(
             None => writeln!(writer, "{part}  {place}"),
         },
     };
-    written.map_err(|_| Ending::Write)
+    written.map_err(|_| Failure::Write)
 }
 
 /// The steps of the addresses from a loop's head to the instruction of its lend.
@@ -113,7 +113,7 @@ fn steps_within(profile: &Profile, row: &LoopRow) -> u64 {
 }
 
 /// Writes the share of each loop, in the order of rows.
-fn write_loops<W: Write>(shares: Shares<'_, '_>, writer: &mut W) -> Result<(), Ending> {
+fn write_loops<W: Write>(shares: Shares<'_, '_>, writer: &mut W) -> Result<(), Failure> {
     let image = shares.image;
     let all = shares.profile.steps;
     for (number, row) in image.loops.iter().enumerate() {
@@ -125,16 +125,16 @@ fn write_loops<W: Write>(shares: Shares<'_, '_>, writer: &mut W) -> Result<(), E
         let name = shares.source.loop_name(number, row);
         let head = row.head;
         let lend = row.lend;
-        writeln!(writer, "{part}  loop {name}, {head} to {lend}").map_err(|_| Ending::Write)?;
+        writeln!(writer, "{part}  loop {name}, {head} to {lend}").map_err(|_| Failure::Write)?;
     }
     Ok(())
 }
 
 /// The instructions of an image, if its code is cut into such.
-fn listing_of(alloc: Global, image: &Image) -> Result<Option<Listing>, Ending> {
+fn listing_of(alloc: Global, image: &Image) -> Result<Option<Listing>, Failure> {
     match decode(alloc, &image.code) {
         Ok(listing) => Ok(Some(listing)),
-        Err(DecodeFault::Memory) => Err(Ending::Memory),
+        Err(DecodeFault::Memory) => Err(Failure::Memory),
         Err(DecodeFault::Refused { .. }) => Ok(None),
     }
 }
@@ -144,9 +144,9 @@ pub fn write_shares<W: Write>(
     alloc: Global,
     shares: Shares<'_, '_>,
     writer: &mut W,
-) -> Result<(), Ending> {
+) -> Result<(), Failure> {
     let all = shares.profile.steps;
-    writeln!(writer, "steps {all}").map_err(|_| Ending::Write)?;
+    writeln!(writer, "steps {all}").map_err(|_| Failure::Write)?;
     let found = shares_of(alloc, shares)?;
     let most = match found.first() {
         Some(first) => first.steps,

@@ -1,14 +1,18 @@
 //! The command `step`: a run, an instruction at a time.
 
-use crate::ending::{Ending, Status};
+ghost use Rattle.std.specs.Prelude.{◌≡◌, IfErr};
+ghost use Rattle.tpw_commands.specs.Endings.{status_of};
+
+use crate::ending::{Ending, Failure, Outcome, Refusal};
 use crate::fielding::assembled_text;
 use crate::input::{TextFault, bytes_of, utf8};
 use crate::noting::Notes;
 use crate::place::place_of;
+use crate::worker::image_in;
 use std::alloc::Global;
 use std::io::Write;
+use tp_image::Image;
 use tp_image::layout::WORD_BYTES;
-use tp_image::{Image, read_image};
 use tpw_source::{Named, SourceText};
 use tpw_step::{Place, Shown, Span, show_run};
 use tpw_text::read_source;
@@ -28,6 +32,13 @@ pub struct Stepping {
     pub from: Option<String>,
     pub until: Option<String>,
     pub watch: Option<String>,
+}
+
+/// What is shown of a run: from where and as far as what, and the words whose changes are shown.
+#[derive(Drop)]
+struct Prepared<'a> {
+    span: Span,
+    watched: Vec<Named<'a>>,
 }
 
 /// The address of the first instruction that a line of a text says, as `line:37` names it.
@@ -53,7 +64,7 @@ fn place_named(
     source: SourceText<'_>,
     option: &'static str,
     word: &Option<String>,
-) -> Result<Option<Place>, Ending> {
+) -> Result<Option<Place>, Refusal> {
     let Some(word) = word else {
         return Ok(None);
     };
@@ -63,7 +74,7 @@ fn place_named(
         .or(place_of_label(source, word));
     match place {
         Some(place) => Ok(Some(place)),
-        None => Err(Ending::NoPlace(option)),
+        None => Err(Refusal::NoPlace(option)),
     }
 }
 
@@ -119,39 +130,10 @@ fn watched_of<'a>(
             .find(|named| named.name == item);
         match named.or(indexed(source, item)).or(numbered(image, item)) {
             Some(named) => watched.push(named)?,
-            None => return Err(Ending::NoWatched),
+            None => return Err(Ending::Refused(Refusal::NoWatched)),
         }
     }
     Ok(watched)
-}
-
-/// Runs an image with the packet, and writes its lines.
-fn step_image<W: Write, E: Write>(
-    alloc: Global,
-    image: Image,
-    source: SourceText<'_>,
-    writer: &mut W,
-    errors: &mut E,
-    stepping: &Stepping,
-) -> Result<Status, Ending> {
-    let span = Span {
-        from: place_named(source, FROM, &stepping.from)?,
-        until: place_named(source, UNTIL, &stepping.until)?,
-    };
-    let watched = watched_of(alloc, &image, source, &stepping.watch)?;
-    note_length(errors, stepping.packet.len(), &image);
-    let shown = Shown {
-        span,
-        watched: &watched,
-        source,
-    };
-    let shown = show_run(alloc, image, &stepping.packet, shown, writer);
-    let flushed = writer.flush();
-    let end = shown?;
-    match flushed {
-        Ok(()) => Ok(Status::from(end)),
-        Err(_) => Err(Ending::Write),
-    }
 }
 
 /// Notes that a packet that is given is not as long as those of an image.
@@ -165,6 +147,70 @@ fn note_length<E: Write>(errors: &mut E, bytes: usize, image: &Image) {
     }
 }
 
+/// What is to be shown of the run of an image: from where and as far as what, and the changes of which words.
+fn prepare_step<'a, E: Write>(
+    alloc: Global,
+    image: &Image,
+    source: SourceText<'a>,
+    errors: &mut E,
+    stepping: &Stepping,
+) -> Result<Prepared<'a>, Ending> {
+    let span = Span {
+        from: place_named(source, FROM, &stepping.from)?,
+        until: place_named(source, UNTIL, &stepping.until)?,
+    };
+    let watched = watched_of(alloc, image, source, &stepping.watch)?;
+    note_length(errors, stepping.packet.len(), image);
+    Ok(Prepared { span, watched })
+}
+
+/// Runs an image with a packet, and writes what is to be shown.
+fn write_step<W: Write>(
+    alloc: Global,
+    image: Image,
+    packet: &[u8],
+    shown: Shown<'_>,
+    writer: &mut W,
+) -> Result<Outcome, Failure> {
+    let ran = show_run(alloc, image, packet, shown, writer);
+    let flushed = writer.flush();
+    let end = ran?;
+    match flushed {
+        Ok(()) => Ok(Outcome::from(end)),
+        Err(_) => Err(Failure::Write),
+    }
+}
+
+/// Runs an image with the packet, and writes its lines.
+fn step_image<W: Write, E: Write>(
+    alloc: Global,
+    image: Image,
+    source: SourceText<'_>,
+    writer: &mut W,
+    errors: &mut E,
+    stepping: &Stepping,
+) -> Result<Outcome, Ending>
+    ensures { IfErr result (λ e. status_of e ≡ 2 → W.contents writer.new ≡ W.contents writer.old) }
+{
+    let prepared = prepare_step(alloc, &image, source, errors, stepping)?;
+    let shown = Shown {
+        span: prepared.span,
+        watched: &prepared.watched,
+        source,
+    };
+    Ok(write_step(alloc, image, &stepping.packet, shown, writer)?)
+}
+
+/// The image that an assembly text says, and its notes.
+fn read_text<'a>(alloc: Global, text: &'a [u8]) -> Result<(Image, Notes<'a>), Failure> {
+    let text = utf8(text)?;
+    let source = read_source(alloc, text)?;
+    let bytes = assembled_text(alloc, text, &source)?;
+    let image = image_in(alloc, &bytes)?;
+    let notes = Notes::new(alloc, text, &source)?;
+    Ok((image, notes))
+}
+
 /// Runs the image that a text says, in hexadecimal or as assembly text, with the packet, and writes its lines.
 pub fn step<W: Write, E: Write>(
     alloc: Global,
@@ -172,19 +218,17 @@ pub fn step<W: Write, E: Write>(
     writer: &mut W,
     errors: &mut E,
     stepping: &Stepping,
-) -> Result<Status, Ending> {
+) -> Result<Outcome, Ending>
+    ensures { IfErr result (λ e. status_of e ≡ 2 → W.contents writer.new ≡ W.contents writer.old) }
+{
     match bytes_of(alloc, text) {
         Ok(bytes) => {
-            let image = read_image(alloc, &bytes)?;
+            let image = image_in(alloc, &bytes)?;
             step_image(alloc, image, SourceText::NONE, writer, errors, stepping)
         }
-        Err(TextFault::Memory) => Err(Ending::Memory),
+        Err(TextFault::Memory) => Err(Ending::Failed(Failure::Memory)),
         Err(TextFault::NotADigit(_) | TextFault::HalfAByte(_)) => {
-            let text = utf8(text)?;
-            let source = read_source(alloc, text)?;
-            let bytes = assembled_text(alloc, text, &source)?;
-            let image = read_image(alloc, &bytes)?;
-            let notes = Notes::new(alloc, text, &source)?;
+            let (image, notes) = read_text(alloc, text)?;
             step_image(alloc, image, notes.source_text(), writer, errors, stepping)
         }
     }

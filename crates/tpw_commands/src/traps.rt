@@ -1,6 +1,6 @@
 //! Notes on what is written otherwise than it may be meant. They go to standard error, and change no status.
 
-use crate::ending::Ending;
+use crate::ending::Failure;
 use crate::input::{Input, TextFault, bytes_of, utf8};
 use std::alloc::Global;
 use std::fmt;
@@ -119,7 +119,7 @@ fn note_statement<E: Write>(
     source: &Source<'_>,
     number: usize,
     line: &str,
-) -> Result<(), Ending> {
+) -> Result<(), Failure> {
     let statement = statement_of(alloc, line)?;
     let Some((first, rest)) = statement.split_once(|c: char| c.is_ascii_whitespace()) else {
         return Ok(());
@@ -131,11 +131,11 @@ fn note_statement<E: Write>(
 }
 
 /// Whether a text says a statement by itself, but for names that others give.
-fn is_statement(alloc: Global, text: &str) -> Result<bool, Ending> {
+fn is_statement(alloc: Global, text: &str) -> Result<bool, Failure> {
     match read_source(alloc, text) {
         Ok(_) => Ok(!text.is_empty()),
         Err(SourceFault { fault, .. }) => match fault {
-            SourceKind::Memory => Err(Ending::Memory),
+            SourceKind::Memory => Err(Failure::Memory),
             SourceKind::NoLocal | SourceKind::NoLabel | SourceKind::NoLoop | SourceKind::NoEnd => {
                 Ok(true)
             }
@@ -151,7 +151,7 @@ fn note_comment<E: Write>(
     input: &Input,
     number: usize,
     line: &str,
-) -> Result<(), Ending> {
+) -> Result<(), Failure> {
     let said = match line.split_once("--") {
         Some((said, _)) => said,
         None => line,
@@ -178,7 +178,7 @@ fn note_source<E: Write>(
     errors: &mut E,
     input: &Input,
     text: &str,
-) -> Result<(), Ending> {
+) -> Result<(), Failure> {
     let source = match read_source(alloc, text) {
         Ok(source) => source,
         Err(fault) => return if_memory(fault.fault),
@@ -192,9 +192,9 @@ fn note_source<E: Write>(
 }
 
 /// A text that says no worker has no notes.
-fn if_memory(fault: SourceKind) -> Result<(), Ending> {
+fn if_memory(fault: SourceKind) -> Result<(), Failure> {
     match fault {
-        SourceKind::Memory => Err(Ending::Memory),
+        SourceKind::Memory => Err(Failure::Memory),
         _ => Ok(()),
     }
 }
@@ -205,10 +205,10 @@ pub fn note_traps<E: Write>(
     errors: &mut E,
     input: &Input,
     text: &[u8],
-) -> Result<(), Ending> {
+) -> Result<(), Failure> {
     match bytes_of(alloc, text) {
         Ok(_) => Ok(()),
-        Err(TextFault::Memory) => Err(Ending::Memory),
+        Err(TextFault::Memory) => Err(Failure::Memory),
         Err(TextFault::NotADigit(_) | TextFault::HalfAByte(_)) => match utf8(text) {
             Ok(text) => note_source(alloc, errors, input, text),
             Err(_) => Ok(()),

@@ -1,6 +1,6 @@
 //! The words of a command line.
 
-use crate::ending::Ending;
+use crate::ending::{Ending, Failure, Refusal};
 use std::alloc::Global;
 use std::env;
 use std::env::Env;
@@ -10,8 +10,10 @@ use std::io::ErrorKind;
 pub fn words_of<E: Env>(environment: &E, alloc: Global) -> Result<Vec<String>, Ending> {
     let words = match env::args(&(environment, alloc)) {
         Ok(words) => words,
-        Err(error) if error.kind() == ErrorKind::OutOfMemory => return Err(Ending::Memory),
-        Err(_) => return Err(Ending::NotText),
+        Err(error) if error.kind() == ErrorKind::OutOfMemory => return Err(Ending::Failed(
+            Failure::Memory,
+        )),
+        Err(_) => return Err(Ending::Refused(Refusal::NotText)),
     };
     let mut all = Vec::new(alloc);
     for word in words {
