@@ -82,21 +82,28 @@ const CASES: [(&str, usize, usize, TextFault); 58] = [
     ("workspace 5\nlocal a\nj b", 2, 7, TextFault::NoRoom),
 ];
 
-#[test]
-fn faults(rt: HostRuntime) {
-    for (text, line, column, fault) in CASES {
-        match read_source(rt.alloc(), text) {
+/// Each text is refused with its fault, at its line and column.
+pub(crate) fn assert_faults(
+    rt: &impl Abort,
+    alloc: Global,
+    cases: &[(&str, usize, usize, TextFault)],
+) {
+    for (text, line, column, fault) in cases {
+        let expected = SourceFault {
+            line: *line,
+            column: *column,
+            fault: *fault,
+        };
+        match read_source(alloc, text) {
             Ok(_) => assert!(rt; false, "{text}"),
-            Err(found) => {
-                let wanted = SourceFault {
-                    line,
-                    column,
-                    fault,
-                };
-                assert_eq!(rt; found, wanted, "{text}");
-            }
+            Err(found) => assert_eq!(rt; found, expected, "{text}"),
         }
     }
+}
+
+#[test]
+fn faults(rt: HostRuntime) {
+    assert_faults(&rt, rt.alloc(), &CASES);
 }
 
 /// A line of a million bytes, and a hundred thousand lines: a fault with its place.

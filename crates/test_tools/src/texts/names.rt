@@ -1,11 +1,12 @@
 //! Constants, and initial words of a local.
 
 use crate::asserts::{assert_same, unwrap};
+use crate::texts::faults::assert_faults;
 use std::alloc::Global;
 use std::process::Abort;
 use tp_image::write_image;
 use tpw_asm::assemble;
-use tpw_text::{Position, SourceFault, TextFault, read_source};
+use tpw_text::{Position, TextFault, read_source};
 
 /// A constant in each kind of operand.
 const CONSTS: &str = "\
@@ -198,17 +199,5 @@ const CASES: [(&str, usize, usize, TextFault); 45] = [
 
 #[test]
 fn faults(rt: HostRuntime) {
-    for (text, line, column, fault) in CASES {
-        match read_source(rt.alloc(), text) {
-            Ok(_) => assert!(rt; false, "{text}"),
-            Err(found) => {
-                let wanted = SourceFault {
-                    line,
-                    column,
-                    fault,
-                };
-                assert_eq!(rt; found, wanted, "{text}");
-            }
-        }
-    }
+    assert_faults(&rt, rt.alloc(), &CASES);
 }
