@@ -156,7 +156,7 @@ fn refuses_bytes_left_over(rt: HostRuntime) {
 
 #[test]
 fn refuses_fields_out_of_range(rt: HostRuntime) {
-    // Behind the single fields stand those with two neighbours that are both bad: the first is answered.
+    // Behind the single fields come those with two neighbours that are both bad: the first is answered.
     let refusals: [(&[u8], usize, &[u8], ImageCode, usize); 23] = [
         (INCREMENT, 3, b"3", ImageCode::F1, 0),
         (INCREMENT, 4, b"\x00\x00", ImageCode::F3, 4),

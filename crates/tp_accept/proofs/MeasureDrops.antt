@@ -28,7 +28,7 @@ use Rattle.tp_accept.proofs.LoopSums.{sums_le, part_le, sum_zero, begun_sum, sam
 use Rattle.tp_accept.proofs.LookedUp.{behind_least, behind_is, found, found_none, map_contains}
 use Rattle.tp_accept.proofs.LoopSteps.{one_turn, forward_step, back_step}
 
--- what a test or an edge tells
+-- what follows from a test or an edge
 pub some_is : {X : Type 0} (o : Option X) → is_some o ≡ true → (x : X) × (o ≡ Some x)
 some_is None is = absurd cc
 some_is (Some x) is = (x, refl)

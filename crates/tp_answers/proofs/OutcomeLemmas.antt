@@ -1,4 +1,4 @@
--- What is told of outcomes.
+-- Lemmas about outcomes.
 use Rattle.std.proofs.Common.{◌≡◌, ℕ, zero, suc, ◌+◌, Bool, List, [], ◌∷◌, ◌++◌, take, map, slice_get, Some, ap, sym, ◌∙◌, arith}
 use Rattle.std.proofs.Common.{append_assoc, add-one, codes, Option}
 use Rattle.std.specs.List.{flat_map}

@@ -79,7 +79,7 @@ fault_place number (Code code place) = place
 fault_place number (Image code place) = place
 fault_place number fault = number
 
--- ---- the answer to a line of a number, which tells traces or not
+-- ---- the answer to a line of a number, with traces or without
 
 unfoldable pub answer_text : (trace : Bool) → (number : ℕ) → Answer → List ℕ
 answer_text trace number (Listed cuts) = flat_map written (lines_from 0 cuts) ++ done_line (length cuts)

@@ -63,7 +63,7 @@ by_name k words w w' views views' id event r is next told =
     subst (λ ws. Told k ws (words_after event ws) views views' id event r) (sym is)
     (subst (λ ws. Told k (words_of w) ws views views' id event r) (sym next) told)
 
--- what is told of an event is its law, since each step keeps the rule and finds its word fresh
+-- an event's law holds, since each step keeps the rule and finds its word fresh
 event_law : (event : Event) (k : Size) (words : List ℕ) (views : List View) (id : ℕ) (v : View) → IsSeatAt k words views id v
     → MayStep event v
     → let n = found_by event words in

@@ -139,7 +139,7 @@ module _ (image : ImageValue) (are : All IsRow image.loops) (good : All (IsGood 
       in_turn (Ok t) (Err f) kept h go = absurd h
       in_turn (Err e) (Ok o) kept h go = absurd h
 
-  -- A pass over a table comes to what the pass with carried outcomes comes to, from what stands where edges join: the
+  -- A pass over a table gives what the pass with carried outcomes gives, from what is known where edges join: the
   -- same refusal, or the same whole table.
   pub carried_pass : (es : List (Placed × Edge)) → ((i : ℕ) (e : Placed × Edge) → slice_get es i ≡ Some e → IsEdge e) → ((e : Placed × Edge) → IsEdge e → IsAmong es e) → LeadsOn image is_join es → (table : Table) → HasTrails table
       → along_edges image es table ≡ over image is_join es (only_joins is_join table)

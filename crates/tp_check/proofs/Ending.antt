@@ -72,7 +72,7 @@ module _ (image : ImageValue) (places : ℕ) where
       onward (Err e) m = tt
       onward (Ok t) m = record { new = m.new; is = m.is; kept = m.kept; sinks = both_sink states l.new m.new l.sinks m.sinks }
 
-  -- ---- a state comes to an address
+  -- ---- a state reaches an address
 
   module _ (states : List (Option State)) (kept : IsKept image places states) (to : ℕ) (inside : to < length states) (s : State) (fits : IsPlacedAt image to s) (sound : IsSound image s) where
     module _ (new : Table) (e : Entered (table_of states) to s new) where

@@ -175,7 +175,7 @@ module _ (image : ImageValue) (cuts : List Cut) (range : InRange image) (spelled
       differ : (x : Table) (e : StateFault) → ◌≡◌ {A = Result Table StateFault} (Ok x) (Err e) → ⊥
       differ x e is = cc
 
--- a fault of the passes tells that there is none
+-- where the passes have a fault, there is none
 pub none_respected : {X : Type 0} (image : ImageValue) (cuts : List Cut) → InRange image → KeepsNest image.loops image.workspace cuts → AllByRecursion IsSpelled cuts → (r : Result X StateFault) → IfErr r (IsRefusalOf image cuts)
     → IfErr r (λ e. e ≢ state_fault.Memory → HasNoTable image cuts)
 none_respected image cuts range nest spelled (Ok x) says = tt

@@ -62,7 +62,7 @@ module _ (image : ImageValue) (are : All IsRow image.loops) (good : All (IsGood 
   abbrev HasTrails : Table → Type 0
   HasTrails table = Trails image are good is_join IsEdge MayOccur lone states table
 
-  -- where a state comes to an address, what stood there is below what stands there then, and so is the state
+  -- where a state reaches an address, what was known there is below what is known there then, and so is the state
   arrived : (to : ℕ) (t : State) (table new : Table) → HasTrails table → MayOccur to t → enter (Some to) t table ≡ Ok new → IsUnder table new × HasAbove new to t
   unfolding enter
   arrived to t table new kept stands is = by_state (table to) refl is

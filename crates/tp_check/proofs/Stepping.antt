@@ -36,7 +36,6 @@ use Rattle.tp_check.proofs.Waiting.{itself, leads_there, waiting, marked_waits, 
 -- of all that is not kept where edges join the state that is carried alone has changed
 pub record IsMoved (v : State) (old new : Passes) : Type 0 where
   pub carried : new.carried ≡ v
-  pub saved : new.saved ≡ old.saved
   pub is_again : new.is_again ≡ old.is_again
   pub taken : new.taken.items ≡ old.taken.items
 
@@ -135,7 +134,6 @@ module _ (image : ImageValue) (is_join : ℕ → Bool) (old : Passes) (place : P
           flags = ap length changed ∙ on.way.keeps.flags ∙ ap length (sym states);
           takes = ap length rest.taken ∙ on.way.keeps.takes ∙ ap length (sym states);
           carried = rw rest.carried fits;
-          saved = rw rest.saved on.way.keeps.saved;
           states = λ at is. on.way.keeps.states at is ∙ ap (λ items. table_of items at) (sym states);
           grown = on.way.keeps.grown;
           sound = on.way.keeps.sound;
@@ -260,7 +258,6 @@ module _ (image : ImageValue) (is_join : ℕ → Bool) (old : Passes) (place : P
                 flags = ap length flags ∙ long moved ∙ on.way.keeps.flags ∙ sym moves.sized;
                 takes = ap length rest.taken ∙ on.way.keeps.takes ∙ sym moves.sized;
                 carried = rw rest.carried fits;
-                saved = rw rest.saved on.way.keeps.saved;
                 states = made;
                 grown = grows image on.whole to v on.way.keeps.grown stands_there table it;
                 sound = sound_joined image on.whole to v table it on.way.keeps.sound sound_v;
@@ -437,7 +434,6 @@ module _ (image : ImageValue) (is_join : ℕ → Bool) (old : Passes) (place : P
               flags = ap length changed ∙ on.way.keeps.flags ∙ ap length (sym states);
               takes = ap length rest.taken ∙ on.way.keeps.takes ∙ ap length (sym states);
               carried = rw rest.carried fits;
-              saved = rw rest.saved on.way.keeps.saved;
               states = λ at is. with_elsewhere to v on.whole at (differ_too is_join at to is is_alone) ∙ on.way.keeps.states at is ∙ ap (λ items. table_of items at) (sym states);
               grown = grown;
               sound = sound_alone image on.whole to v on.way.keeps.sound sound_v;
@@ -469,7 +465,7 @@ module _ (image : ImageValue) (is_join : ℕ → Bool) (old : Passes) (place : P
 
       module _ (r : Result Bool StateFault) (rest : SameButStates led new) where
         moved_so : IsMoved v old new
-        moved_so = record { carried = rest.carried ∙ led_carried; saved = rest.saved ∙ ap (λ (p : Passes). p.saved) led_on.same; is_again = rest.is_again ∙ ap (λ (p : Passes). p.is_again) led_on.same; taken = rest.taken ∙ ap (λ (p : Passes). p.taken.items) led_on.same }
+        moved_so = record { carried = rest.carried ∙ led_carried; is_again = rest.is_again ∙ ap (λ (p : Passes). p.is_again) led_on.same; taken = rest.taken ∙ ap (λ (p : Passes). p.taken.items) led_on.same }
 
         pub arrived : (is_join to ≡ true → Gives r (table_of new.states.items) (enter (Some to) led.carried (table_of led.states.items))) → (is_join to ≡ true → IfOk r (λ moved. new.changed.items ≡ marked moved to led.changed.items)) → (is_join to ≡ false → (r ≡ Ok false) × (new ≡ led)) → IfOk r (λ moved. Moves image moved led.states.items new.states.items)
             → Carries r (over image is_join ((place, edge) ∷ []) on.whole) (IsAfterEdge image on.cuts is_join old new place edge later on.whole)
@@ -486,7 +482,7 @@ module _ (image : ImageValue) (is_join : ℕ → Bool) (old : Passes) (place : P
                 subst (λ a. Carries a (over image is_join ((place, edge) ∷ []) on.whole) (IsAfterEdge image on.cuts is_join old new place edge later on.whole)) (sym stays.0)
                 (to_next is new (ap (λ (p : Passes). p.states.items) stays.1 ∙ led_states) (ap (λ (p : Passes). p.changed.items) stays.1 ∙ led_changed) moved_so (λ same. rest.is_carried ∙ led_on.next same))
 
-      -- what is told of a change tells that fewer are left
+      -- where a change is reported, fewer are left
       pub moves_led : (r : Result Bool StateFault) → (is_join to ≡ true → Gives r (table_of new.states.items) (enter (Some to) led.carried (table_of led.states.items))) → (is_join to ≡ true → IfOk r (λ moved. TellsChange moved led.states.items new.states.items)) → (is_join to ≡ false → (r ≡ Ok false) × (new ≡ led))
           → length new.states.items ≡ length led.states.items → IfOk r (λ moved. Moves image moved led.states.items new.states.items)
       moves_led r gives tells alone sized = by_join (is_join to) refl

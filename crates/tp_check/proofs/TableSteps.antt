@@ -1,4 +1,4 @@
--- What a table becomes where a state comes to an address.
+-- What a table becomes where a state reaches an address.
 use Rattle.std.proofs.Common.{◌≡◌, ℕ, zero, suc, ◌<◌, ◌==◌, nat_eq, if◌then◌else◌, Bool, true, false, List, [], ◌∷◌, length, replicate, ◌++◌, slice_set, slice_index_or, Option, Some, None, Result, Ok, Err, refl, sym, ap, ◌∙◌, subst, arith}
 use mathlib.Core.Path.{fun_ext}
 use Rattle.std.specs.Option.{option_and_then}
@@ -22,7 +22,7 @@ use Rattle.tp_check.specs.Comes.{Gives}
 use Rattle.tp_check.proofs.Entering.{Becomes, Entered, entered}
 use Rattle.tp_check.proofs.Heights.{Sinks, HasWords, state_sinks, state_light, table_sinks}
 
--- an answer is the definition's where a state comes to an address, or a want of memory
+-- an answer is the definition's where a state reaches an address, or a want of memory
 abbrev pub GivesState : {X : Type 0} → Result X StateFault → Option State → Result State StateFault → Type 0
 GivesState (Ok x) new wanted = (t : State) × (new ≡ Some t) × (wanted ≡ Ok t)
 GivesState (Err (Refused code place)) new wanted = wanted ≡ Err (Refused code place)
@@ -53,7 +53,7 @@ set_there (o ∷ states) (suc i) t (suc x) h =
 pub table_set : (states : List (Option State)) (i : ℕ) (t : State) → i < length states → table_of (slice_set states i (Some t)) ≡ with_state i t (table_of states)
 table_set states i t h = fun_ext λ x. set_there states i t x h
 
--- ---- a state comes to an address
+-- ---- a state reaches an address
 
 pub enter_gives : (states : List (Option State)) (i : ℕ) (there new : Option State) (s : State) (r : Result Bool StateFault) → i < length states → there ≡ slice_index_or states i None → GivesState r new (with_place i (meeting_if_any there s)) → Gives r (table_of (slice_set states i new)) (enter (Some i) s (table_of states))
 unfolding enter
@@ -64,7 +64,7 @@ enter_gives states i there new s r h is given = by_answer r (with_place i (meeti
     by_answer (Err (Refused code place)) wanted e gives = ap (λ r. r >>= (λ t. Ok (with_state i t (table_of states)))) (e ∙ gives)
     by_answer (Err Memory) wanted e gives = tt
 
--- a list tells a change where an address does
+-- a list reports a change where an address does
 set_tells : (states : List (Option State)) (i : ℕ) (there new : Option State) (moved : Bool) → i < length states → there ≡ slice_index_or states i None → TellsChange moved there new → TellsChange moved states (slice_set states i new)
 set_tells states i there new moved h is tells = record {
   stays = λ same. ap (slice_set states i) (tells.stays same ∙ is) ∙ set-get_or states i None;
@@ -86,7 +86,7 @@ same_lists (x ∷ xs) (y ∷ ys) sized each =
     let others : xs ≡ ys = same_lists xs ys (omega (arith, sized)) (λ n. each (suc n)) in
     ap (λ o. o ∷ xs) first ∙ ap (λ items. y ∷ items) others
 
--- where a state comes to an address, the table is as before or has fewer changes left
+-- where a state reaches an address, the table is as before or has fewer changes left
 pub enter_sinks : (image : ImageValue) (states : List (Option State)) (to : ℕ) (s t : State) → to < length states → HasWords s → length s.cells ≡ image.workspace → IfSome (table_of states to) (λ u. length s.cells ≡ length u.cells) → Becomes (table_of states to) s t
     → Sinks (table_height image) states (slice_set states to (Some t))
 enter_sinks image states to s t inside words long sized becomes = by_state (table_of states to) refl sized becomes
@@ -102,7 +102,7 @@ enter_sinks image states to s t inside words long sized becomes = by_state (tabl
         by_sink (inl stays) = inl (ap (λ o. slice_set states to o) (ap Some (same ∙ stays) ∙ sym (there_is ∙ is)) ∙ set-get_or states to None)
         by_sink (inr less) = inr (table_sinks image states to (Some t) inside (rw (there_is ∙ is, same) less))
 
--- so a list that tells a change has fewer changes left
+-- so a list that reports a change has fewer changes left
 pub enter_moves : (image : ImageValue) (moved : Bool) (old new : List (Option State)) (to : ℕ) (s : State) → to < length old → length new ≡ length old → enter (Some to) s (table_of old) ≡ Ok (table_of new) → TellsChange moved old new → HasWords s → length s.cells ≡ image.workspace
     → IfSome (table_of old to) (λ u. length s.cells ≡ length u.cells) → Moves image moved old new
 enter_moves image moved old new to s inside sized gives tells words long alike = record { sized = sized; stays = tells.stays; falls = λ differs. by_sink differs (subst (Sinks (table_height image) old) (sym set) sinks) }
@@ -120,7 +120,7 @@ enter_moves image moved old new to s inside sized gives tells words long alike =
     by_sink differs (inl same) = absurd (tells.moves differs same)
     by_sink differs (inr less) = less
 
--- ---- a state comes to another
+-- ---- a state is joined to another
 
 same_test : (n m : ℕ) → n ≡ m → (n == m) ≡ true
 same_test n m e = grind (arith, nat_tests)

@@ -108,7 +108,7 @@ module _ (image : ImageValue) (are : All IsRow image.loops) (good : All (IsGood 
 
   -- ---- one edge
 
-  -- a meeting tells what it makes
+  -- what a meeting makes
   pub met_is : (x t v : State) → meeting x t ≡ Ok v → (x.wptr ≡ t.wptr) × (x.phase ≡ t.phase) × (v ≡ join x t)
   met_is x t v is = by_tests (x.wptr == t.wptr) refl (x.phase == t.phase) refl is
     where

@@ -72,7 +72,6 @@ module _ (image : ImageValue) (cuts : List Cut) (is_join : ℕ → Bool) (old mi
       flags = ap length st.changed ∙ length-set old.changed.items at false ∙ before.way.keeps.flags ∙ ap length (sym st.states);
       takes = long mid.is_carried refl ∙ before.way.keeps.takes ∙ ap length (sym st.states);
       carried = by_flag mid.is_carried refl;
-      saved = rw st.saved before.way.keeps.saved;
       states = λ x sure. before.way.keeps.states x sure ∙ ap (λ items. table_of items x) (sym st.states);
       grown = before.way.keeps.grown;
       sound = before.way.keeps.sound;
@@ -216,14 +215,13 @@ module _ (image : ImageValue) (cuts : List Cut) (is_join : ℕ → Bool) (old mi
 
   -- ---- a state is carried
 
-  module _ (new : Passes) (states : new.states.items ≡ mid.states.items) (changed : new.changed.items ≡ mid.changed.items) (carried : new.carried ≡ mid.carried) (saved : new.saved ≡ mid.saved) (takes : new.taken.items ≡ mid.taken.items) (is_again : new.is_again ≡ mid.is_again) (rests : new.is_carried ≡ false) (on : mid.is_carried ≡ true) where
+  module _ (new : Passes) (states : new.states.items ≡ mid.states.items) (changed : new.changed.items ≡ mid.changed.items) (carried : new.carried ≡ mid.carried) (takes : new.taken.items ≡ mid.taken.items) (is_again : new.is_again ≡ mid.is_again) (rests : new.is_carried ≡ false) (on : mid.is_carried ≡ true) where
     pub begun : IsUnderWay image cuts is_join new (edges_of place) place.next whole
     begun = record {
       keeps = record {
         flags = ap length changed ∙ now.keeps.flags ∙ ap length (sym states);
         takes = ap length takes ∙ now.keeps.takes ∙ ap length (sym states);
         carried = rw carried now.keeps.carried;
-        saved = rw saved now.keeps.saved;
         states = λ x is. now.keeps.states x is ∙ ap (λ items. table_of items x) (sym states);
         grown = now.keeps.grown;
         sound = now.keeps.sound;

@@ -23,24 +23,13 @@ use Rattle.tp_check.proofs.Waiting.{leads_there}
 
 -- ---- one edge after the other
 
--- whatever is carried, and whatever is saved
-pub way_with : (image : ImageValue) (cuts : List Cut) (is_join : ℕ → Bool) (p : Passes) (left : List (Placed × Edge)) (ahead : ℕ) (whole : Table) (x y : State) → IsPlaced image x → IsPlaced image y → IsUnderWay image cuts is_join p left ahead whole → IsUnderWay image cuts is_join (record p { carried = x; saved = y }) left ahead whole
-way_with image cuts is_join p left ahead whole x y fits also way = record {
-  keeps = record { flags = way.keeps.flags; takes = way.keeps.takes; carried = fits; saved = also; states = way.keeps.states; grown = way.keeps.grown; sound = way.keeps.sound };
+-- whatever is carried
+pub way_with : (image : ImageValue) (cuts : List Cut) (is_join : ℕ → Bool) (p : Passes) (left : List (Placed × Edge)) (ahead : ℕ) (whole : Table) (x : State) → IsPlaced image x → IsUnderWay image cuts is_join p left ahead whole → IsUnderWay image cuts is_join (record p { carried = x }) left ahead whole
+way_with image cuts is_join p left ahead whole x fits way = record {
+  keeps = record { flags = way.keeps.flags; takes = way.keeps.takes; carried = fits; states = way.keeps.states; grown = way.keeps.grown; sound = way.keeps.sound };
   each = way.each;
   again = way.again;
   left_again = way.left_again;
-}
-
--- whatever is saved
-abbrev pub with_saved : (image : ImageValue) (is_join : ℕ → Bool) (p : Passes) (place : Placed) (left : List Edge) (s : State) → IsPlaced image s → AreLeft image is_join p place left → AreLeft image is_join (record p { saved = s }) place left
-with_saved image is_join p place left s fits way = record {
-  cuts = way.cuts;
-  join = way.join;
-  among = way.among;
-  whole = way.whole;
-  way = way_with image way.cuts is_join p (edges_from place left) place.next way.whole p.carried s way.way.keeps.carried fits way.way;
-  here = way.here;
 }
 
 -- an edge that leads to the next instruction was taken last, or it was not
@@ -107,14 +96,14 @@ module _ (image : ImageValue) (is_join : ℕ → Bool) (p : Passes) (place : Pla
 
   -- ---- after the first edge: what was carried before is carried again
 
-  module _ (fallen : Passes) (middle : Table) (goes : over image is_join ((place, first) ∷ []) way.whole ≡ Ok middle) (it : IsAfterEdge image way.cuts is_join p fallen place first (last ∷ []) way.whole middle) (back : Passes) (is_back : back ≡ record fallen { carried = p.carried; saved = fallen.carried }) where
+  module _ (fallen : Passes) (middle : Table) (goes : over image is_join ((place, first) ∷ []) way.whole ≡ Ok middle) (it : IsAfterEdge image way.cuts is_join p fallen place first (last ∷ []) way.whole middle) (back : Passes) (is_back : back ≡ record fallen { carried = p.carried }) where
     abbrev pub on_last : AreLeft image is_join back place (last ∷ [])
     on_last = record {
       cuts = way.cuts;
       join = way.join;
       among = λ e (i, is). on_first.among e (suc i, is);
       whole = middle;
-      way = subst (λ q. IsUnderWay image way.cuts is_join q (edges_from place (last ∷ [])) place.next middle) (sym is_back) (way_with image way.cuts is_join fallen (edges_from place (last ∷ [])) place.next middle p.carried fallen.carried way.way.keeps.carried it.way.keeps.carried it.way);
+      way = subst (λ q. IsUnderWay image way.cuts is_join q (edges_from place (last ∷ [])) place.next middle) (sym is_back) (way_with image way.cuts is_join fallen (edges_from place (last ∷ [])) place.next middle p.carried way.way.keeps.carried it.way);
       here = it.here ∙ way.here ∙ ap Some (sym (ap (λ (q : Passes). q.carried) is_back));
     }
 
@@ -140,7 +129,7 @@ module _ (image : ImageValue) (is_join : ℕ → Bool) (p : Passes) (place : Pla
       )
 
       -- the first one leads there
-      module _ (rests : p.is_carried ≡ false) (on : fallen.is_carried ≡ true) (new : Passes) (is_new : new ≡ record jumped { carried = fallen.carried; saved = jumped.carried }) where
+      module _ (rests : p.is_carried ≡ false) (on : fallen.is_carried ≡ true) (new : Passes) (is_new : new ≡ record jumped { carried = fallen.carried }) where
         leads : target_of image (place, first) ≡ Some place.next
         leads = came_on image way.cuts is_join p fallen place first (last ∷ []) way.whole middle it rests on
 
@@ -155,7 +144,7 @@ module _ (image : ImageValue) (is_join : ℕ → Bool) (p : Passes) (place : Pla
           taken.0,
           over_last ∙ taken.1,
           subst (λ q. IsBefore image way.cuts is_join q place.next taken.0) (sym is_new) (record {
-            way = way_with image way.cuts is_join jumped [] place.next taken.0 fallen.carried jumped.carried it.way.keeps.carried taken.2.way.keeps.carried taken.2.way;
+            way = way_with image way.cuts is_join jumped [] place.next taken.0 fallen.carried it.way.keeps.carried taken.2.way;
             here = λ _. still_there;
           }),
         )

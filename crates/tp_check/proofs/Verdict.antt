@@ -144,9 +144,9 @@ module _ (image : ImageValue) (cuts : List Cut) (is_join : ℕ → Bool) where
           passed j q lt there (inr other) = let less = on.past j q (omega (arith, lt, other)) there in let here = on.next p is in omega (arith, longer, less, here)
 
   -- after all of them
-  pub come_all : (first now new : Passes) (i : ℕ) (begun : Table) → length cuts ≤ i → Comes first now i begun → new.states.items ≡ now.states.items → new.changed.items ≡ now.changed.items → new.carried ≡ now.carried → new.saved ≡ now.saved → new.taken.items ≡ now.taken.items → new.is_carried ≡ false → (moved : Bool)
+  pub come_all : (first now new : Passes) (i : ℕ) (begun : Table) → length cuts ≤ i → Comes first now i begun → new.states.items ≡ now.states.items → new.changed.items ≡ now.changed.items → new.carried ≡ now.carried → new.taken.items ≡ now.taken.items → new.is_carried ≡ false → (moved : Bool)
       → Carries (Ok moved) (over image is_join (edges_in cuts) begun) (IsBefore image cuts is_join new 0)
-  come_all first now new i begun end on states changed carried saved takes rests moved = (
+  come_all first now new i begun end on states changed carried takes rests moved = (
     on.whole,
     on.gives ∙ ap (λ ps. over image is_join (flat_map edges_of ps) on.whole) none,
     record {
@@ -155,7 +155,6 @@ module _ (image : ImageValue) (cuts : List Cut) (is_join : ℕ → Bool) where
           flags = ap length changed ∙ on.before.way.keeps.flags ∙ ap length (sym states);
           takes = ap length takes ∙ on.before.way.keeps.takes ∙ ap length (sym states);
           carried = rw carried on.before.way.keeps.carried;
-          saved = rw saved on.before.way.keeps.saved;
           states = λ x is. on.before.way.keeps.states x is ∙ ap (λ items. table_of items x) (sym states);
           grown = on.before.way.keeps.grown;
           sound = on.before.way.keeps.sound;
@@ -229,8 +228,8 @@ module _ (image : ImageValue) (cuts : List Cut) (is_join : ℕ → Bool) (join :
   -- before the first pass
   pub none_made : InRange image → KeepsNest image.loops image.workspace cuts → (p : Passes) (places : ℕ) → HasPlaces cuts places → places ≤ 2 ^ 32 → length p.states.items ≡ places → length p.changed.items ≡ places
       → table_of p.states.items ≡ first_table image → is_in p.changed.items 0 ≡ true → length p.taken.items ≡ places → ((at : ℕ) → at < places → is_in p.taken.items at ≡ false)
-      → p.is_carried ≡ false → IsPlaced image p.carried → IsPlaced image p.saved → IsAfter image cuts is_join p 0
-  none_made range kept p places inside few sized flags table marked takes fresh rests carried saved = record {
+      → p.is_carried ≡ false → IsPlaced image p.carried → IsAfter image cuts is_join p 0
+  none_made range kept p places inside few sized flags table marked takes fresh rests carried = record {
     places = λ at starts. rw sized (inside at starts);
     few = rw sized few;
     rests = rests;
@@ -241,7 +240,6 @@ module _ (image : ImageValue) (cuts : List Cut) (is_join : ℕ → Bool) (join :
           flags = flags ∙ sym sized;
           takes = takes ∙ sym sized;
           carried = carried;
-          saved = saved;
           states = λ x is. sym (ap (λ (t : Table). t x) table);
           grown = first_grown image (first_table image) kept.begins (entry_sound image range).placed refl;
           sound = λ x s stood. sound_first x s stood (cases_eq x 0);

@@ -23,7 +23,7 @@ target_of image e = target (ranges image.loops) e.0.at e.0.next e.0.instr e.1
 abbrev pub outcome_of : ImageValue → Placed × Edge → State → Result State StateFault
 outcome_of image e s = with_place e.0.at (after image e.0.at e.0.next e.0.instr e.1 s)
 
--- a state comes to an address: it joins what is known there, or takes its place
+-- a state reaches an address: it joins what is known there, or takes its place
 abbrev pub arrive : (ℕ → Bool) → Option ℕ → State → Table → Result Table StateFault
 arrive is_join None s table = Ok table
 arrive is_join (Some to) s table = if is_join to then enter (Some to) s table else Ok (with_state to s table)
@@ -36,7 +36,7 @@ abbrev pub over : ImageValue → (ℕ → Bool) → List (Placed × Edge) → Ta
 over image is_join [] table = Ok table
 over image is_join (e ∷ more) table = go_over image is_join e (table e.0.at) table >>= over image is_join more
 
--- what stands where edges join, and nothing elsewhere
+-- what is known where edges join, and nothing elsewhere
 abbrev pub only_joins : (ℕ → Bool) → Table → Table
 only_joins is_join table at = if is_join at then table at else None
 
@@ -73,7 +73,7 @@ pub record IsLone (image : ImageValue) (is_join : ℕ → Bool) (IsEdge : Placed
 
 -- ---- passes with one state carried
 
--- a pass from what stands where edges join; it tells the whole table
+-- a pass from what is known where edges join; it gives the whole table
 abbrev pub carried_pass : ImageValue → List Cut → (ℕ → Bool) → Table → Result Table StateFault
 carried_pass image cuts is_join table = over image is_join (edges_in cuts) (only_joins is_join table)
 

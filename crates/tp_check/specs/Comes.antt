@@ -1,4 +1,4 @@
--- What a state that comes to an address makes of a table.
+-- What a state that reaches an address makes of a table.
 use Rattle.std.specs.Prelude.{◌≡◌, ℕ, ◌<◌, List, Option, Some, Result, Ok, Err, IsTrue}
 use Rattle.tp_decode.specs.Cutting.{Cut}
 use Rattle.tp_flow.specs.RowRules.{is_start}

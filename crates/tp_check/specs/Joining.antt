@@ -1,4 +1,4 @@
--- How control comes to addresses, as the passes find it.
+-- How control reaches addresses, as the passes find it.
 use Rattle.std.specs.Prelude.{◌≡◌, ℕ, suc, ◌==◌, Bool, true, false, if◌then◌else◌, List, slice_index_or, Some}
 use Rattle.std.specs.List.{count_by}
 use Rattle.tp_decode.specs.declared.placed.Placed.{Placed}

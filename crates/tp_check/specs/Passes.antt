@@ -24,19 +24,19 @@ abbrev pub with_place : {A : Type 0} → ℕ → Result A StateCode → Result A
 with_place place (Ok x) = Ok x
 with_place place (Err code) = Err (Refused code place)
 
--- what is known where a state comes to another: its first state, or what holds of both
+-- what is known where a state reaches an address: its first state, or what holds of both
 abbrev pub meeting_if_any : Option State → State → Result State StateCode
 meeting_if_any None s = Ok s
 meeting_if_any (Some t) s = meeting t s
 
--- a state comes to an edge's target, if it has one: S6 and S9 at the target
+-- a state reaches an edge's target, if it has one: S6 and S9 at the target
 unfoldable pub enter : Option ℕ → State → Table → Result Table StateFault
 enter None s table = Ok table
 enter (Some to) s table = do
   t ← with_place to (meeting_if_any (table to) s)
   Ok (with_state to t table)
 
--- what is known after an instruction comes to an edge's target, if there is a state before it
+-- what is known after an instruction reaches an edge's target, if there is a state before it
 unfoldable pub go_along : ImageValue → Placed → Edge → Option State → Table → Result Table StateFault
 go_along image p edge None table = Ok table
 go_along image p edge (Some s) table = do

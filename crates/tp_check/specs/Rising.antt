@@ -37,7 +37,7 @@ height image (Some s) = state_height s
 unfoldable pub table_height : ImageValue → List (Option State) → ℕ
 table_height image states = sum_by (height image) states
 
--- it tells whether a table has changed, and where it has, fewer changes are left
+-- it answers whether a table has changed, and where it has, fewer changes are left
 pub record Moves (image : ImageValue) (moved : Bool) (old new : List (Option State)) : Type 0 where
   pub sized : length new ≡ length old
   pub stays : moved ≡ false → new ≡ old

@@ -48,7 +48,7 @@ pub record IsAfterEdge (image : ImageValue) (cuts : List Cut) (is_join : ℕ →
   pub goes : target_of image (place, edge) ≡ Some place.next → new.is_carried ≡ true
   pub rests : target_of image (place, edge) ≢ Some place.next → new.is_carried ≡ old.is_carried
 
--- what is carried is carried on, if it comes to the next instruction
+-- what is carried is carried on, if it reaches the next instruction
 pub record IsLedOn (to there : ℕ) (old new : Passes) : Type 0 where
   pub same : new ≡ record old { is_carried = new.is_carried }
   pub next : to ≡ there → new.is_carried ≡ true
@@ -62,7 +62,6 @@ marked moved to flags = if moved then slice_set flags to true else flags
 pub record SameButStates (old new : Passes) : Type 0 where
   pub is_carried : new.is_carried ≡ old.is_carried
   pub carried : new.carried ≡ old.carried
-  pub saved : new.saved ≡ old.saved
   pub is_again : new.is_again ≡ old.is_again
   pub taken : new.taken.items ≡ old.taken.items
 
@@ -71,7 +70,6 @@ pub record SameButStates (old new : Passes) : Type 0 where
 pub record IsStarted (at : ℕ) (old new : Passes) : Type 0 where
   pub states : new.states.items ≡ old.states.items
   pub changed : new.changed.items ≡ slice_set old.changed.items at false
-  pub saved : new.saved ≡ old.saved
   pub yes : new.is_carried ≡ true → table_of old.states.items at ≡ Some new.carried
   pub again : new.is_carried ≡ true → new.is_again ≡ is_in old.taken.items at
   pub takes : new.is_carried ≡ true → new.taken.items ≡ slice_set old.taken.items at true

@@ -57,7 +57,7 @@ pub record AreJoins (image : ImageValue) (cuts : List Cut) (is_join : ℕ → Bo
 
 -- ---- an edge
 
--- a state has come to an address: where edges join, one above it stands there, and elsewhere it stands there itself
+-- a state has reached an address: where edges join, one above it is known there, and elsewhere it is known there itself
 pub record HasCome (is_join : ℕ → Bool) (table : Table) (to : ℕ) (s : State) : Type 0 where
   pub joined : is_join to ≡ true → HasAbove table to s
   pub alone : is_join to ≡ false → table to ≡ Some s
@@ -69,11 +69,11 @@ pub record IsPropagated (image : ImageValue) (is_join : ℕ → Bool) (table : T
   pub goes_on : after image e.0.at e.0.next e.0.instr e.1 s ≡ Ok outcome
   pub comes : (to : ℕ) → target_of image e ≡ Some to → HasCome is_join table to outcome
 
--- an edge is done: what stands before its instruction has been propagated along it
+-- an edge is done: what is known before its instruction has been propagated along it
 abbrev pub IsDone : ImageValue → (ℕ → Bool) → Table → Placed × Edge → Type 0
 IsDone image is_join table e = (s : State) → table e.0.at ≡ Some s → IsPropagated image is_join table e s
 
--- an edge was taken before: a state below what stands before its instruction has been propagated along it
+-- an edge was taken before: a state below what is known before its instruction has been propagated along it
 pub record WasTaken (image : ImageValue) (is_join : ℕ → Bool) (table : Table) (e : Placed × Edge) : Type 0 where
   pub before : State
   pub sound : IsSound image before
@@ -103,7 +103,6 @@ pub record KeepsWhole (image : ImageValue) (is_join : ℕ → Bool) (p : Passes)
   pub flags : length p.changed.items ≡ length p.states.items
   pub takes : length p.taken.items ≡ length p.states.items
   pub carried : IsPlaced image p.carried
-  pub saved : IsPlaced image p.saved
   pub states : (at : ℕ) → is_join at ≡ true → whole at ≡ table_of p.states.items at
   pub grown : HasGrown image whole
   pub sound : (at : ℕ) (s : State) → whole at ≡ Some s → IsSound image s

@@ -101,8 +101,6 @@ pub(crate) struct Passes {
     is_again: bool,
     /// What is known before the instruction that is being taken, and then after its edge.
     carried: State,
-    /// What is known before an instruction of two edges, saved while the first of them is taken. Else it is of no use.
-    saved: State,
 }
 
 impl Passes {
@@ -114,10 +112,9 @@ impl Passes {
         // This is known of every image.
         ensures in_range { InRange image.now }
     {
-        // A look into the image tells that it is in range.
+        // Naming a field of the image gives that it is in range.
         let _ = &image.code;
         let carried = State::entry(alloc, image)?;
-        let saved = State::entry(alloc, image)?;
         let states = first_states(alloc, image, places)?;
         let changed = first_marked(alloc, places)?;
         let taken = none_marked(alloc, places)?;
@@ -128,7 +125,6 @@ impl Passes {
             is_carried: false,
             is_again: false,
             carried,
-            saved,
         })
     }
 
@@ -281,8 +277,8 @@ impl Passes {
         }
     }
 
-    /// Two edges are taken, each from the state that is carried: the second from a copy, which takes no memory. Of what comes of
-    /// both, that is carried on which goes on to the next instruction.
+    /// Two edges are taken, each from the state that is carried: the second from a copy. Of what comes of both, that is carried on
+    /// which goes on to the next instruction.
     fn take_two(
         &mut self,
         alloc: Global,
@@ -304,15 +300,15 @@ impl Passes {
             (IsBefore image.now way.cuts (is_join_at predecessors.now) self.new place.next) }
         ensures moves { IfOk result (λ moved. Moves image.now moved self.old.states.items self.new.states.items) }
     {
-        self.saved.set_to(&self.carried);
+        let mut other = self.carried.copy_of(alloc)?;
         let moved = self.take_edge(alloc, image, nest, predecessors, place, first)?;
         let is_next = self.is_carried;
-        mem::swap(&mut self.carried, &mut self.saved);
+        mem::swap(&mut self.carried, &mut other);
         let also = self.take_edge(alloc, image, nest, predecessors, place, last)?;
         if is_next {
-            mem::swap(&mut self.carried, &mut self.saved);
+            mem::swap(&mut self.carried, &mut other);
         }
-        Ok(moved | also)
+        Ok(moved || also)
     }
 
     /// An edge is taken: what is carried becomes what is known after it, and arrives at its target.
@@ -334,7 +330,6 @@ impl Passes {
             (way : AreLeft image.now (is_join_at predecessors.now) self.old place (edge ∷ later)) →
             Carries result (over image.now (is_join_at predecessors.now) ((place, edge) ∷ []) way.whole)
             (IsAfterEdge image.now way.cuts (is_join_at predecessors.now) self.old self.new place edge later way.whole) }
-        ensures saved { self.new.saved ≡ self.old.saved }
         ensures moves { IfOk result (λ moved. Moves image.now moved self.old.states.items self.new.states.items) }
     {
         let Placed { at, instr, next } = place;

@@ -80,8 +80,8 @@ pub fn state_at(states: &[Option<State>], at: usize) -> Option<&State>
     }
 }
 
-/// A state takes the value of that which stands at an address, if one does: one above it, where it comes there, or any. It answers
-/// whether one stands there.
+/// A state takes the value of what is known at an address, if anything is: where it reaches the address, one above it; else any. True
+/// where something is known there.
 pub(crate) fn read_into(states: &[Option<State>], at: usize, state: &mut State, comes: bool) -> bool
     requires sized { IfSome (table_of states.now at) (λ s. length s.cells ≡ length state.old.cells) }
     requires below { comes ≡ true → IfSome (table_of states.now at) (IsBelow state.old) }

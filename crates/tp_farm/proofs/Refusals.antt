@@ -27,7 +27,7 @@ use Rattle.tp_farm.specs.Losses.{HasCause, MayLose, TracesMore}
 use Rattle.tp_farm.specs.Stages.{IsReady, HasTraced}
 use Rattle.tp_farm.specs.Handled.{HasReason}
 
--- ---- what a refusal tells of a device
+-- ---- what follows of a device that refuses
 
 same_Err : (e f : DeviceFault) → ◌≡◌ {A = Answer} (Err e) (Err f) → e ≡ f
 same_Err e f is = cc

@@ -8,7 +8,7 @@ pub trait Gate: Sync {
     // It will answer true, whenever it is asked.
     ghost open_for_good: { Self → Bool };
 
-    // It has answered the member of this number so. No other call than `ask` tells it, whatever an impl says here.
+    // It has answered the member of this number so. No other call than `ask` makes it so, whatever an impl says here.
     ghost has_answered: { Self → ℕ → Bool → Type 0 };
 
     /// Whether the member may take another packet. Where not, it stops the batch.

@@ -67,7 +67,7 @@ impl Nest {
         self.loops.as_slice()
     }
 
-    /// Where an edge goes from an instruction that stands at an address, where the next one stands
+    /// Where an edge goes from an instruction at an address, with the next one
     /// behind it; all are byte addresses. None where the instruction has no such edge, or where its
     /// target is no address: a Taken edge to below 0, a Back edge of a lend that no row names.
     pub fn target(&self, at: usize, next: usize, instr: Instr, edge: Edge) -> Option<usize>

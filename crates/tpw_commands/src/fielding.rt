@@ -31,7 +31,7 @@ fn asked_of(code: ImageCode, version: Version) -> Option<(&'static str, &'static
     }
 }
 
-/// Where the last statement of a text that begins with a word stands.
+/// The place of a text's last statement that begins with a word.
 fn position_of(alloc: Global, text: &str, word: &str) -> Result<Option<Position>, Failure> {
     let mut found = None;
     for (i, line) in text.lines().enumerate() {

@@ -21,7 +21,7 @@ enum Trap<'a> {
         instr: &'a str,
         local: Local<'a>,
     },
-    /// A statement stands in a comment.
+    /// A statement is in a comment.
     Comment {
         statement: &'a str,
     },
@@ -88,7 +88,7 @@ fn long<'a>(source: &Source<'a>, verb: &'a str, words: u32, name: &str) -> Optio
     }
 }
 
-/// The trap of a statement: its first word, and what stands behind that.
+/// The trap of a statement: its first word, and what follows it.
 fn trap_of<'a>(source: &Source<'a>, first: &str, rest: &str) -> Option<Trap<'a>> {
     if first.eq_ignore_ascii_case("receive") {
         return long(source, "receive", source.program.packet, rest);

@@ -48,7 +48,7 @@ fn items_of<'w, 'a>(
     Ok(items)
 }
 
-/// What stands between commas: a name of local words, an initial word, or a byte.
+/// What commas separate: a name of local words, an initial word, or a byte.
 pub trait ListItem<'a>: Sized {
     ghost use Rattle.std.specs.Prelude.{Result};
     ghost use Rattle.tpw_text.specs.declared.fault.SourceFault.{SourceFault};

@@ -1,4 +1,4 @@
--- What is told of an image is read back from its text.
+-- An image is read back from its text.
 use Rattle.std.proofs.Common.{◌≡◌, ℕ, ◌+◌, ◌%◌, ◌<◌, ◌^◌, Bool, true, false, if◌then◌else◌, ℤ, List, [], ◌∷◌, ◌++◌, length, map, Option, Some, None, Ok, refl, ap, sym, ◌∙◌, subst, arith}
 use Rattle.std.specs.Int.{w32, cast_signed}
 use Rattle.std.specs.Int.RustNames.{FitsSigned}

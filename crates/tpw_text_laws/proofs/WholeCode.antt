@@ -149,7 +149,7 @@ label_line : (n : ℕ) (k : ℕ) (d e : Said) → label_set (at n 1 (label_text 
 unfolding line_said statement_with with_values statement_said added
 label_line n k d e set = rw set refl
 
--- what is told of labels
+-- lemmas about labels
 label_ascii : (k : ℕ) → k < 2 ^ 64 → IsAscii (label_text k)
 label_ascii k few zero = omega arith
 label_ascii k few (suc i) = IsAscii-decimal k few i

@@ -80,7 +80,7 @@ fn list_text<W: Write>(
     written.map_err(|_| ShowFault::Write)
 }
 
-/// Writes each instruction. Without costs a dash stands in their place.
+/// Writes each instruction. Without costs a dash takes their place.
 fn list_code<W: Write>(
     alloc: Global,
     listed: Listed<'_>,

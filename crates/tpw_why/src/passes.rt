@@ -41,7 +41,7 @@ pub fn first_refusal(
     ensures none { IfOk result
         (λ found. found ≡ None → (table : Table) × IsVerdict image.now listing.now (Ok table)) }
 {
-    // A look into the image tells that it is in range: its passes are fewer than 2^128.
+    // Naming a field of the image gives that it is in range: its passes are fewer than 2^128.
     let _ = &image.code;
     let asked = edges_of_code(alloc, listing)?;
     let mut table = first_states(alloc, image, places_of(listing))?;

@@ -1,5 +1,5 @@
 //! The three words of a stream beside its queue: how many numbers are done, how many are lost, and
-//! the stop mark. The seats' steps and what they tell are the board's.
+//! the stop mark. The seats' steps and their events are the board's.
 ghost use Rattle.std.specs.Prelude.{◌≡◌, ◌+◌, ◌-◌, ◌<◌, ◌≤◌, ◌∷◌, [], ℕ, length, IfOk};
 ghost use Rattle.tp_board.specs.declared.event.Event.TheVariants as event;
 ghost use Rattle.tp_board.specs.declared.event.Shown.TheVariants as shown;

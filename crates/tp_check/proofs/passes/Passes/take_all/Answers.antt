@@ -66,4 +66,4 @@ loop-i-preserved c =
 
 pub returns-clause-gives : goal.returns-clause-gives
 returns-clause-gives c begun before =
-    come_all c.args.image.now c.args.listing.now (is_join_at c.args.predecessors.now) c.args.self.now c.loop-i.self _ c.loop-i.i begun (let e = c.len-i-end.ensures in let f = c.loop-i-test.false in omega (arith, e, f)) (c.loop-i.invariant.gives begun before) refl refl refl refl refl refl c.loop-i.moved
+    come_all c.args.image.now c.args.listing.now (is_join_at c.args.predecessors.now) c.args.self.now c.loop-i.self _ c.loop-i.i begun (let e = c.len-i-end.ensures in let f = c.loop-i-test.false in omega (arith, e, f)) (c.loop-i.invariant.gives begun before) refl refl refl refl refl c.loop-i.moved

@@ -54,7 +54,7 @@ returns-in-Some-clause-moves c =
 pub returns-in-None-clause-gives : goal.returns-in-None-clause-gives
 returns-in-None-clause-gives c later apart way =
     nowhere c.args.image.now (is_join_at c.args.predecessors.now) c.args.self.now c.args.place c.args.edge later apart way c.requires.place c.requires.sound c.go_on.new.self goes c.go_on.ensures.placed
-    _ refl refl (record { carried = refl; saved = refl; is_again = refl; taken = refl }) refl leads
+    _ refl refl (record { carried = refl; is_again = refl; taken = refl }) refl leads
   where
     goes : after c.args.image.now c.args.place.at c.args.place.next c.args.place.instr c.args.edge c.args.self.now.carried ≡ Ok c.go_on.new.self
     goes = left c.go_on.result c.in_default.field-0 c.go_on.new.self _ c.in_default.is c.go_on.ensures.value
