@@ -81,10 +81,10 @@ module _ (Judges : List ℕ → Verdict → Type 0) where
 
 -- ---- <name> RUN, RUN *
 
-module _ (ComesTo : ImageValue → List ℕ → Option RunResult → Type 0) where
+module _ (HasOutcome : ImageValue → List ℕ → Option RunResult → Type 0) where
   -- what the packets of a session come to, in order of number
   abbrev pub AreOutcomes : Session → List (Option RunResult) → Type 0
-  AreOutcomes s outcomes = AllZip (ComesTo s.image) s.packets outcomes
+  AreOutcomes s outcomes = AllZip (HasOutcome s.image) s.packets outcomes
 
   abbrev pub IsAnswerToRun : Option Session → Answer → Type 0
   IsAnswerToRun None answer = answer ≡ Refused P2
@@ -102,14 +102,14 @@ module _ (ComesTo : ImageValue → List ℕ → Option RunResult → Type 0) whe
 -- ---- each line, by what it asks for
 
 -- the answer
-module _ (Judges : List ℕ → Verdict → Type 0) (ComesTo : ImageValue → List ℕ → Option RunResult → Type 0) where
+module _ (Judges : List ℕ → Verdict → Type 0) (HasOutcome : ImageValue → List ℕ → Option RunResult → Type 0) where
   abbrev pub IsAnswer : Option Asked → List Session → Answer → Type 0
   IsAnswer None sessions answer = answer ≡ Refused E1
   IsAnswer (Some (ToList code)) sessions answer = IsAnswerToList (cutting code) answer
   IsAnswer (Some (ToOpen name text)) sessions answer = IsAnswerToImage Judges (is_full name sessions) text answer
   IsAnswer (Some (ToKeep name packet)) sessions answer = answer ≡ answer_to_packet (named name sessions) packet
-  IsAnswer (Some (ToRun name)) sessions answer = IsAnswerToRun ComesTo (named name sessions) answer
-  IsAnswer (Some ToRunAll) sessions answer = IsAnswerToRunAll ComesTo sessions answer
+  IsAnswer (Some (ToRun name)) sessions answer = IsAnswerToRun HasOutcome (named name sessions) answer
+  IsAnswer (Some ToRunAll) sessions answer = IsAnswerToRunAll HasOutcome sessions answer
   IsAnswer (Some (ToDrop name)) sessions answer = answer ≡ answer_to_drop (named name sessions)
 
 -- the sessions after it

@@ -12,7 +12,7 @@ use Rattle.tp_board.specs.Words.{place_of, size, words_of}
 use Rattle.tp_board.specs.Views.{newcomer, nothing_seen, join_of}
 use Rattle.tp_board.specs.Rule.{Fits}
 use Rattle.tp_board.specs.Steps.{row_of, MayStep, found_by}
-use Rattle.tp_board.specs.Plays.{Holds, Tells}
+use Rattle.tp_board.specs.Plays.{Holds, HasStepped}
 use Rattle.tp_board.proofs.Counting.{none_below}
 use Rattle.tp_board.proofs.Moves.{moves, word_fresh}
 use Rattle.tp_board.proofs.Steps.{Whole, split_rule, join_rule, whole_rule, newcomer_fits}
@@ -21,7 +21,7 @@ use Rattle.tp_board.proofs.Totals.{le_total}
 module _ {S : Type 0} (k : Size) (slots id : ℕ) (me : Me S View) where
   -- a step of a seat that may make it
   pub allowed : (event : Event) → MayStep event me.0 → me.0.parts ≡ 1
-      → Allows (Holds k) slots id me (place_of (row_of event).word) (row_of event).change (Tells event (step 0 0 0 0 none) me)
+      → Allows (Holds k) slots id me (place_of (row_of event).word) (row_of event).change (HasStepped event (step 0 0 0 0 none) me)
   allowed event may one s h _ at _ = (
     (row_of event).view me.0 (found_by event s.words),
     keeps,

@@ -15,7 +15,7 @@ use Rattle.tp_board.specs.Words.{size, counters, tally_words_of, place_of, tally
 use Rattle.tp_board.specs.Views.{newcomer, nothing_seen, join_of}
 use Rattle.tp_board.specs.Rule.{total, AtMost}
 use Rattle.tp_board.specs.Steps.{after_finish, after_abandon, after_stop, after_look, with_seen}
-use Rattle.tp_board.specs.Plays.{Tells}
+use Rattle.tp_board.specs.Plays.{HasStepped}
 use Rattle.tp_board.specs.Tallies.{FitsTally, TallyRule, KeepsTally, TallyHolds, holding, Reports}
 use Rattle.tp_board.proofs.Moves.{added, one_or, set_same}
 use Rattle.tp_board.proofs.Steps.{wider, both_at_most}
@@ -194,7 +194,7 @@ module _ {S : Type 0} (k : Size) (slots id : ℕ) (me : Me S View) where
     (refl, (n, refl), lost_fresh k s.words s.views id me.0 h at),
   )
 
-  pub stops : me.0.parts ≡ 1 → Allows (TallyHolds k) slots id me 2 (λ n. bit_or n 1) (Tells Stop (step slots 2 1 0 none) me)
+  pub stops : me.0.parts ≡ 1 → Allows (TallyHolds k) slots id me 2 (λ n. bit_or n 1) (HasStepped Stop (step slots 2 1 0 none) me)
   stops one s h _ at _ = (
     after_stop me.0,
     keeps,
@@ -203,7 +203,7 @@ module _ {S : Type 0} (k : Size) (slots id : ℕ) (me : Me S View) where
     (refl, tt, stop_fresh k s.words s.views id me.0 h at),
   )
 
-  pub looks : Allows (TallyHolds k) slots id me 2 (λ n. n) (Tells (Look shown.Stop) (step slots 2 0 0 none) me)
+  pub looks : Allows (TallyHolds k) slots id me 2 (λ n. n) (HasStepped (Look shown.Stop) (step slots 2 0 0 none) me)
   looks s h _ at _ = (
     after_look me.0 shown.Stop (slice_index s.words 2),
     keeps,

@@ -13,8 +13,8 @@ module _ {S : Type 0} where
   Holds k s = KeepsRule k s.words s.views
 
   -- the seat might make the step, its word was n, which is fresh, and its view is changed as by it
-  abbrev pub Tells : Event → Step S → Me S View → ℕ → Me S View → Type 0
-  Tells event st m n m' =
+  abbrev pub HasStepped : Event → Step S → Me S View → ℕ → Me S View → Type 0
+  HasStepped event st m n m' =
       (m' ≡ ((row_of event).view m.0 n, m.1))
       × MayStep event m.0
       × IsFresh m.0 (row_of event).word n

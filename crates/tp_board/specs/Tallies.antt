@@ -12,7 +12,7 @@ use Rattle.tp_board.specs.Words.{tally_words_of}
 use Rattle.tp_board.specs.Rule.{total, AtMost}
 use Rattle.tp_board.specs.Freshness.{IsFresh}
 use Rattle.tp_board.specs.Steps.{row_of, MayStep}
-use Rattle.tp_board.specs.Plays.{Tells}
+use Rattle.tp_board.specs.Plays.{HasStepped}
 
 -- of one view: it reports no more numbers than there are; one that is no seat, as a joining leaves
 -- it, has made no step
@@ -54,4 +54,4 @@ module _ {S : Type 0} where
 
   -- the step of a seat that has this number in its hand
   abbrev pub Reports : Event → ℕ → Step S → Me S View → ℕ → Me S View → Type 0
-  Reports event number st m = Tells event st (holding m.0 (number ∷ []), m.1)
+  Reports event number st m = HasStepped event st (holding m.0 (number ∷ []), m.1)

@@ -26,9 +26,9 @@ pub struct Draw;
 
 impl Play<(), View> for Draw {
     ghost use Rattle.tp_board.specs.declared.event.Event.TheVariants as event;
-    ghost use Rattle.tp_board.specs.Plays.{Tells};
+    ghost use Rattle.tp_board.specs.Plays.{HasStepped};
 
-    ghost then = { Tells event.Claim };
+    ghost then = { HasStepped event.Claim };
 }
 
 /// An addition to `done`.
@@ -36,9 +36,9 @@ pub struct Finish;
 
 impl Play<(), View> for Finish {
     ghost use Rattle.tp_board.specs.declared.event.Event.TheVariants as event;
-    ghost use Rattle.tp_board.specs.Plays.{Tells};
+    ghost use Rattle.tp_board.specs.Plays.{HasStepped};
 
-    ghost then = { Tells event.Finish };
+    ghost then = { HasStepped event.Finish };
 }
 
 /// An addition to `lost`.
@@ -46,9 +46,9 @@ pub struct Abandon;
 
 impl Play<(), View> for Abandon {
     ghost use Rattle.tp_board.specs.declared.event.Event.TheVariants as event;
-    ghost use Rattle.tp_board.specs.Plays.{Tells};
+    ghost use Rattle.tp_board.specs.Plays.{HasStepped};
 
-    ghost then = { Tells event.Abandon };
+    ghost then = { HasStepped event.Abandon };
 }
 
 /// A setting of `stop`.
@@ -56,9 +56,9 @@ pub struct Halt;
 
 impl Play<(), View> for Halt {
     ghost use Rattle.tp_board.specs.declared.event.Event.TheVariants as event;
-    ghost use Rattle.tp_board.specs.Plays.{Tells};
+    ghost use Rattle.tp_board.specs.Plays.{HasStepped};
 
-    ghost then = { Tells event.Stop };
+    ghost then = { HasStepped event.Stop };
 }
 
 /// A load of `claimed`.
@@ -67,9 +67,9 @@ pub struct LookClaimed;
 impl Play<(), View> for LookClaimed {
     ghost use Rattle.tp_board.specs.declared.event.Event.TheVariants.{Look};
     ghost use Rattle.tp_board.specs.declared.event.Shown.TheVariants.{Claimed};
-    ghost use Rattle.tp_board.specs.Plays.{Tells};
+    ghost use Rattle.tp_board.specs.Plays.{HasStepped};
 
-    ghost then = { Tells (Look Claimed) };
+    ghost then = { HasStepped (Look Claimed) };
 }
 
 /// A load of `done`.
@@ -78,9 +78,9 @@ pub struct LookDone;
 impl Play<(), View> for LookDone {
     ghost use Rattle.tp_board.specs.declared.event.Event.TheVariants.{Look};
     ghost use Rattle.tp_board.specs.declared.event.Shown.TheVariants.{Done};
-    ghost use Rattle.tp_board.specs.Plays.{Tells};
+    ghost use Rattle.tp_board.specs.Plays.{HasStepped};
 
-    ghost then = { Tells (Look Done) };
+    ghost then = { HasStepped (Look Done) };
 }
 
 /// A load of `lost`.
@@ -89,9 +89,9 @@ pub struct LookLost;
 impl Play<(), View> for LookLost {
     ghost use Rattle.tp_board.specs.declared.event.Event.TheVariants.{Look};
     ghost use Rattle.tp_board.specs.declared.event.Shown.TheVariants.{Lost};
-    ghost use Rattle.tp_board.specs.Plays.{Tells};
+    ghost use Rattle.tp_board.specs.Plays.{HasStepped};
 
-    ghost then = { Tells (Look Lost) };
+    ghost then = { HasStepped (Look Lost) };
 }
 
 /// A load of `stop`.
@@ -100,9 +100,9 @@ pub struct LookStop;
 impl Play<(), View> for LookStop {
     ghost use Rattle.tp_board.specs.declared.event.Event.TheVariants.{Look};
     ghost use Rattle.tp_board.specs.declared.event.Shown.TheVariants.{Stop};
-    ghost use Rattle.tp_board.specs.Plays.{Tells};
+    ghost use Rattle.tp_board.specs.Plays.{HasStepped};
 
-    ghost then = { Tells (Look Stop) };
+    ghost then = { HasStepped (Look Stop) };
 }
 
 /// The cut of one seat from those that are still in one, and the joining of two.

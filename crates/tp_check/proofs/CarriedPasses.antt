@@ -67,16 +67,16 @@ module _ (image : ImageValue) (cuts : List Cut) (range : InRange image) (spelled
 
   -- a pass that leaves what stands where edges join has come to the verdict: the whole table of that pass
   pub ends : (n : ℕ) (table new : Table) → carried image cuts is_join n ≡ Ok table → carried_pass image cuts is_join table ≡ Ok new → only_joins is_join new ≡ only_joins is_join table → IsVerdict image cuts (Ok new)
-  ends n table new comes gives stays =
-      let first : passes image cuts n ≡ Ok table = (all_passes n).0 ∙ comes in
+  ends n table new arrives gives stays =
+      let first : passes image cuts n ≡ Ok table = (all_passes n).0 ∙ arrives in
       let next : passes image cuts (suc n) ≡ Ok new = ap (λ r. r >>= pass image cuts) first ∙ (one_pass table (good_after n table first)).0 ∙ gives in
       record {
         number = suc n;
-        comes = next;
+        arrives = next;
         stays = (one_pass new (good_after (suc n) new next)).0 ∙ ap (over image is_join (edges_in cuts)) stays ∙ gives;
       }
 
   pub refuses : (n : ℕ) (table : Table) (fault : StateFault) → carried image cuts is_join n ≡ Ok table → carried_pass image cuts is_join table ≡ Err fault → IsVerdict image cuts (Err fault)
-  refuses n table fault comes gives =
-      let first : passes image cuts n ≡ Ok table = (all_passes n).0 ∙ comes in
-      record { number = suc n; comes = ap (λ r. r >>= pass image cuts) first ∙ (one_pass table (good_after n table first)).0 ∙ gives; stays = refl }
+  refuses n table fault arrives gives =
+      let first : passes image cuts n ≡ Ok table = (all_passes n).0 ∙ arrives in
+      record { number = suc n; arrives = ap (λ r. r >>= pass image cuts) first ∙ (one_pass table (good_after n table first)).0 ∙ gives; stays = refl }

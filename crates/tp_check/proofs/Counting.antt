@@ -21,9 +21,9 @@ use Rattle.tp_check.specs.declared.predecessors.Predecessor.{Predecessor}
 use Rattle.tp_check.specs.declared.predecessors.Predecessor.TheVariants as predecessor
 use Rattle.tp_check.specs.Passes.{edges_from, edges_of, edges_in}
 use Rattle.tp_check.specs.Carried.{IsAmong, target_of, leads_to, reached, is_head, is_kept}
-use Rattle.tp_check.specs.Joining.{predecessor_at, is_join, is_joined, is_join_at, is_kept_at, with_edge, IsInner, leading, Tells, TellPredecessors}
+use Rattle.tp_check.specs.Joining.{predecessor_at, is_join, is_joined, is_join_at, is_kept_at, with_edge, IsInner, leading, IsPredecessor, ArePredecessors}
 use Rattle.tp_check.specs.UnderWay.{AreJoins}
-use Rattle.tp_check.specs.Comes.{HasPlaces}
+use Rattle.tp_check.specs.Arrivals.{HasPlaces}
 use Rattle.tp_check.proofs.Moving.{next_way}
 use Rattle.tp_check.proofs.Nests.{lone, count_one}
 
@@ -38,11 +38,11 @@ leads_elsewhere image at e rest is = leading_cons image at e rest ∙ ap (λ b. 
     none : (n : ℕ) → 0 + n ≡ n
     none n = omega arith
 
-tells_same : (image : ImageValue) (cuts : List Cut) (at : ℕ) (more rest : List (Placed × Edge)) → leading image at more ≡ leading image at rest → (w : Predecessor) → Tells image cuts more at w → Tells image cuts rest at w
-tells_same image cuts at more rest same predecessor.Joined tells = tells
-tells_same image cuts at more rest same predecessor.Unreached tells = (tells.0, tells.1 ∙ same)
-tells_same image cuts at more rest same predecessor.Jump tells = (tells.0, tells.1 ∙ ap suc same)
-tells_same image cuts at more rest same predecessor.FallThrough tells = (tells.0, tells.1 ∙ ap suc same, tells.2)
+tells_same : (image : ImageValue) (cuts : List Cut) (at : ℕ) (more rest : List (Placed × Edge)) → leading image at more ≡ leading image at rest → (w : Predecessor) → IsPredecessor image cuts more at w → IsPredecessor image cuts rest at w
+tells_same image cuts at more rest same predecessor.Joined reports = reports
+tells_same image cuts at more rest same predecessor.Unreached reports = (reports.0, reports.1 ∙ same)
+tells_same image cuts at more rest same predecessor.Jump reports = (reports.0, reports.1 ∙ ap suc same)
+tells_same image cuts at more rest same predecessor.FallThrough reports = (reports.0, reports.1 ∙ ap suc same, reports.2)
 
 or_last : (p q r : Bool) → r ≡ true → (p || q || r) ≡ true
 or_last true q r is = refl
@@ -55,9 +55,9 @@ two_kept image cuts at n is = or_last (at == 0) (is_head image at) (nat_le 2 (re
     two : (m : ℕ) → m ≡ suc (suc n) → nat_le 2 m ≡ true
     two m is = grind (arith, nat_tests)
 
-module _ (image : ImageValue) (cuts : List Cut) (e : Placed × Edge) (rest : List (Placed × Edge)) (predecessors : List Predecessor) (tells : TellPredecessors image cuts (e ∷ rest) predecessors) where
-  pub counted_nowhere : target_of image e ≡ None → TellPredecessors image cuts rest predecessors
-  counted_nowhere leads at = tells_same image cuts at (e ∷ rest) rest (leads_elsewhere image at e rest (ap (leads_to at) leads)) (predecessor_at predecessors at) (tells at)
+module _ (image : ImageValue) (cuts : List Cut) (e : Placed × Edge) (rest : List (Placed × Edge)) (predecessors : List Predecessor) (reports : ArePredecessors image cuts (e ∷ rest) predecessors) where
+  pub counted_nowhere : target_of image e ≡ None → ArePredecessors image cuts rest predecessors
+  counted_nowhere leads at = tells_same image cuts at (e ∷ rest) rest (leads_elsewhere image at e rest (ap (leads_to at) leads)) (predecessor_at predecessors at) (reports at)
 
   module _ (one : IsAmong (edges_in cuts) e) (to : ℕ) (leads : target_of image e ≡ Some to) (inside : to < length predecessors) where
     one_more : leading image to (e ∷ rest) ≡ suc (leading image to rest)
@@ -69,32 +69,32 @@ module _ (image : ImageValue) (cuts : List Cut) (e : Placed × Edge) (rest : Lis
         counts : (n : ℕ) → 1 + n ≡ suc n
         counts n = omega arith
 
-    there : (w : Predecessor) → Tells image cuts (e ∷ rest) to w → (b : Bool) → (to == e.0.next) ≡ b → Tells image cuts rest to (with_edge b w)
-    there predecessor.Joined tells b is = tells
-    there predecessor.Jump tells b is = two_kept image cuts to (leading image to rest) (tells.1 ∙ ap suc one_more)
-    there predecessor.FallThrough tells b is = two_kept image cuts to (leading image to rest) (tells.1 ∙ ap suc one_more)
-    there predecessor.Unreached tells false is = (tells.0, tells.1 ∙ one_more)
-    there predecessor.Unreached tells true is = (tells.0, tells.1 ∙ one_more, record { edge = e; is = one; leads = leads; falls = same })
+    there : (w : Predecessor) → IsPredecessor image cuts (e ∷ rest) to w → (b : Bool) → (to == e.0.next) ≡ b → IsPredecessor image cuts rest to (with_edge b w)
+    there predecessor.Joined reports b is = reports
+    there predecessor.Jump reports b is = two_kept image cuts to (leading image to rest) (reports.1 ∙ ap suc one_more)
+    there predecessor.FallThrough reports b is = two_kept image cuts to (leading image to rest) (reports.1 ∙ ap suc one_more)
+    there predecessor.Unreached reports false is = (reports.0, reports.1 ∙ one_more)
+    there predecessor.Unreached reports true is = (reports.0, reports.1 ∙ one_more, record { edge = e; is = one; leads = leads; falls = same })
       where
         same : to ≡ e.0.next
         same = grind (arith, nat_tests)
 
-    pub counted_there : TellPredecessors image cuts rest (slice_set predecessors to (with_edge (to == e.0.next) (predecessor_at predecessors to)))
+    pub counted_there : ArePredecessors image cuts rest (slice_set predecessors to (with_edge (to == e.0.next) (predecessor_at predecessors to)))
     counted_there at = by_place (cases_eq at to)
       where
-        by_place : (at ≡ to) ⊎ (at ≡ to → ⊥) → Tells image cuts rest at (predecessor_at (slice_set predecessors to (with_edge (to == e.0.next) (predecessor_at predecessors to))) at)
+        by_place : (at ≡ to) ⊎ (at ≡ to → ⊥) → IsPredecessor image cuts rest at (predecessor_at (slice_set predecessors to (with_edge (to == e.0.next) (predecessor_at predecessors to))) at)
         by_place (inl same) =
-            subst (λ x. Tells image cuts rest x (predecessor_at (slice_set predecessors to (with_edge (to == e.0.next) (predecessor_at predecessors to))) x)) (sym same)
-            (subst (Tells image cuts rest to) (sym (get_or-set_same predecessors to (with_edge (to == e.0.next) (predecessor_at predecessors to)) predecessor.Unreached inside)) (there (predecessor_at predecessors to) (tells to) (to == e.0.next) refl))
+            subst (λ x. IsPredecessor image cuts rest x (predecessor_at (slice_set predecessors to (with_edge (to == e.0.next) (predecessor_at predecessors to))) x)) (sym same)
+            (subst (IsPredecessor image cuts rest to) (sym (get_or-set_same predecessors to (with_edge (to == e.0.next) (predecessor_at predecessors to)) predecessor.Unreached inside)) (there (predecessor_at predecessors to) (reports to) (to == e.0.next) refl))
         by_place (inr other) =
-            subst (Tells image cuts rest at) (sym (get_or-set_other predecessors to at (with_edge (to == e.0.next) (predecessor_at predecessors to)) predecessor.Unreached other))
-            (tells_same image cuts at (e ∷ rest) rest (leads_elsewhere image at e rest (ap (leads_to at) leads ∙ no other)) (predecessor_at predecessors at) (tells at))
+            subst (IsPredecessor image cuts rest at) (sym (get_or-set_other predecessors to at (with_edge (to == e.0.next) (predecessor_at predecessors to)) predecessor.Unreached other))
+            (tells_same image cuts at (e ∷ rest) rest (leads_elsewhere image at e rest (ap (leads_to at) leads ∙ no other)) (predecessor_at predecessors at) (reports at))
           where
             no : (at ≡ to → ⊥) → (to == at) ≡ false
             no other = grind (arith, nat_tests)
 
-next_counted : (image : ImageValue) (cuts : List Cut) (p : Placed) (edges : List Edge) (i : ℕ) (d : Edge) → i < length edges → (rest : List (Placed × Edge)) (predecessors : List Predecessor) → TellPredecessors image cuts (edges_from p (drop i edges) ++ rest) predecessors → TellPredecessors image cuts ((p, get_or edges i d) ∷ (edges_from p (drop (i + 1) edges) ++ rest)) predecessors
-next_counted image cuts p edges i d inside rest predecessors tells = subst (λ es. TellPredecessors image cuts (es ++ rest) predecessors) (next_way p edges i d inside) tells
+next_counted : (image : ImageValue) (cuts : List Cut) (p : Placed) (edges : List Edge) (i : ℕ) (d : Edge) → i < length edges → (rest : List (Placed × Edge)) (predecessors : List Predecessor) → ArePredecessors image cuts (edges_from p (drop i edges) ++ rest) predecessors → ArePredecessors image cuts ((p, get_or edges i d) ∷ (edges_from p (drop (i + 1) edges) ++ rest)) predecessors
+next_counted image cuts p edges i d inside rest predecessors reports = subst (λ es. ArePredecessors image cuts (es ++ rest) predecessors) (next_way p edges i d inside) reports
 
 any_way : (predecessors : List Predecessor) (to : ℕ) (d : Predecessor) → to < length predecessors → slice_index_or predecessors to d ≡ predecessor_at predecessors to
 any_way [] to d lt = absurd (omega (arith, lt))
@@ -103,7 +103,7 @@ any_way (w ∷ predecessors) (suc to) d lt = any_way predecessors to d (omega (a
 
 -- an edge of an instruction, among those that are asked
 module _ (image : ImageValue) (cuts : List Cut) (p : Placed) (edges asks : List Edge) (same : edges ≡ asks) (i : ℕ) (d : Edge) (inside : i < length edges) (rest : List (Placed × Edge)) (predecessors : List Predecessor)
-    (among : (e : Placed × Edge) → IsAmong (edges_from p asks) e → IsAmong (edges_in cuts) e) (tells : TellPredecessors image cuts (edges_from p (drop i asks) ++ rest) predecessors) where
+    (among : (e : Placed × Edge) → IsAmong (edges_from p asks) e → IsAmong (edges_in cuts) e) (reports : ArePredecessors image cuts (edges_from p (drop i asks) ++ rest) predecessors) where
   same_edge : slice_index_or edges i d ≡ get_or asks i d
   same_edge = ap (λ xs. slice_index_or xs i d) same
 
@@ -113,15 +113,15 @@ module _ (image : ImageValue) (cuts : List Cut) (p : Placed) (edges asks : List 
   one : IsAmong (edges_in cuts) (p, slice_index_or edges i d)
   one = subst (λ e. IsAmong (edges_in cuts) (p, e)) (sym same_edge) (among (p, get_or asks i d) (i, way_there p asks i d less))
 
-  here : TellPredecessors image cuts ((p, slice_index_or edges i d) ∷ (edges_from p (drop (i + 1) asks) ++ rest)) predecessors
-  here = subst (λ e. TellPredecessors image cuts ((p, e) ∷ (edges_from p (drop (i + 1) asks) ++ rest)) predecessors) (sym same_edge) (next_counted image cuts p asks i d less rest predecessors tells)
+  here : ArePredecessors image cuts ((p, slice_index_or edges i d) ∷ (edges_from p (drop (i + 1) asks) ++ rest)) predecessors
+  here = subst (λ e. ArePredecessors image cuts ((p, e) ∷ (edges_from p (drop (i + 1) asks) ++ rest)) predecessors) (sym same_edge) (next_counted image cuts p asks i d less rest predecessors reports)
 
-  pub next_nowhere : target_of image (p, slice_index_or edges i d) ≡ None → TellPredecessors image cuts (edges_from p (drop (i + 1) asks) ++ rest) predecessors
+  pub next_nowhere : target_of image (p, slice_index_or edges i d) ≡ None → ArePredecessors image cuts (edges_from p (drop (i + 1) asks) ++ rest) predecessors
   next_nowhere leads = counted_nowhere image cuts (p, slice_index_or edges i d) (edges_from p (drop (i + 1) asks) ++ rest) predecessors here leads
 
-  pub next_there : (to : ℕ) → target_of image (p, slice_index_or edges i d) ≡ Some to → ((edge : Edge) (to : ℕ) → target_of image (p, edge) ≡ Some to → to < length predecessors) → (w new default : Predecessor) → w ≡ slice_index_or predecessors to default → new ≡ with_edge (to == p.next) w → TellPredecessors image cuts (edges_from p (drop (i + 1) asks) ++ rest) (slice_set predecessors to new)
+  pub next_there : (to : ℕ) → target_of image (p, slice_index_or edges i d) ≡ Some to → ((edge : Edge) (to : ℕ) → target_of image (p, edge) ≡ Some to → to < length predecessors) → (w new default : Predecessor) → w ≡ slice_index_or predecessors to default → new ≡ with_edge (to == p.next) w → ArePredecessors image cuts (edges_from p (drop (i + 1) asks) ++ rest) (slice_set predecessors to new)
   next_there to leads within w new default was is =
-      subst (λ x. TellPredecessors image cuts (edges_from p (drop (i + 1) asks) ++ rest) (slice_set predecessors to x)) (sym (is ∙ ap (with_edge (to == p.next)) (was ∙ any_way predecessors to default (within (slice_index_or edges i d) to leads))))
+      subst (λ x. ArePredecessors image cuts (edges_from p (drop (i + 1) asks) ++ rest) (slice_set predecessors to x)) (sym (is ∙ ap (with_edge (to == p.next)) (was ∙ any_way predecessors to default (within (slice_index_or edges i d) to leads))))
       (counted_there image cuts (p, slice_index_or edges i d) (edges_from p (drop (i + 1) asks) ++ rest) predecessors here one to leads (within (slice_index_or edges i d) to leads))
 
 -- the edges of an instruction are those of a code
@@ -209,23 +209,23 @@ begun_next image cuts rows same k d lt predecessors places sized loops inside be
     less : k < length image.loops
     less = subst (λ xs. k < length xs) same lt
 
-pub begun_all : (image : ImageValue) (cuts : List Cut) (k : ℕ) → length image.loops ≤ k → (predecessors : List Predecessor) → ((at : ℕ) → Begun image k at (predecessor_at predecessors at)) → TellPredecessors image cuts (edges_in cuts) predecessors
-begun_all image cuts k end predecessors begun at = tells (predecessor_at predecessors at) (begun at)
+pub begun_all : (image : ImageValue) (cuts : List Cut) (k : ℕ) → length image.loops ≤ k → (predecessors : List Predecessor) → ((at : ℕ) → Begun image k at (predecessor_at predecessors at)) → ArePredecessors image cuts (edges_in cuts) predecessors
+begun_all image cuts k end predecessors begun at = reports (predecessor_at predecessors at) (begun at)
   where
     or_both : (p q r : Bool) → (p || q) ≡ true → (p || q || r) ≡ true
     or_both true q r is = refl
     or_both false true r is = refl
     or_both false false r is = absurd cc
 
-    tells : (w : Predecessor) → Begun image k at w → Tells image cuts (edges_in cuts) at w
-    tells predecessor.Joined is = or_both (at == 0) (is_head image at) (nat_le 2 (reached image cuts at)) is
-    tells predecessor.Unreached is = (record { first = is.0; head = no_head image.loops at (λ i d lt. is.1 i d (omega (arith, lt, end))) }, refl)
-    tells predecessor.FallThrough is = absurd is
-    tells predecessor.Jump is = absurd is
+    reports : (w : Predecessor) → Begun image k at w → IsPredecessor image cuts (edges_in cuts) at w
+    reports predecessor.Joined is = or_both (at == 0) (is_head image at) (nat_le 2 (reached image cuts at)) is
+    reports predecessor.Unreached is = (record { first = is.0; head = no_head image.loops at (λ i d lt. is.1 i d (omega (arith, lt, end))) }, refl)
+    reports predecessor.FallThrough is = absurd is
+    reports predecessor.Jump is = absurd is
 
 -- ---- after all edges
 
-module _ (image : ImageValue) (cuts : List Cut) (predecessors : List Predecessor) (tells : TellPredecessors image cuts [] predecessors) where
+module _ (image : ImageValue) (cuts : List Cut) (predecessors : List Predecessor) (reports : ArePredecessors image cuts [] predecessors) where
   not_kept : (at n : ℕ) → IsInner image at → reached image cuts at ≡ n → n < 2 → false ≡ is_kept image cuts at
   not_kept at n inner is few = rw (inner.first, inner.head, is) (sym (less n few))
     where
@@ -233,9 +233,9 @@ module _ (image : ImageValue) (cuts : List Cut) (predecessors : List Predecessor
       less n few = grind (arith, nat_tests)
 
   pub are_kept : (at : ℕ) → is_kept_at predecessors at ≡ is_kept image cuts at
-  are_kept at = by_way (predecessor_at predecessors at) (tells at)
+  are_kept at = by_way (predecessor_at predecessors at) (reports at)
     where
-      by_way : (w : Predecessor) → Tells image cuts [] at w → is_joined w ≡ is_kept image cuts at
+      by_way : (w : Predecessor) → IsPredecessor image cuts [] at w → is_joined w ≡ is_kept image cuts at
       by_way predecessor.Joined is = sym is
       by_way predecessor.Unreached is = not_kept at 0 is.0 is.1 (omega arith)
       by_way predecessor.Jump is = not_kept at 1 is.0 is.1 (omega arith)
@@ -251,9 +251,9 @@ module _ (image : ImageValue) (cuts : List Cut) (predecessors : List Predecessor
       by_way predecessor.Joined is = absurd cc
 
   pub are_joins : KeepsNest image.loops image.workspace cuts → AreJoins image cuts (is_join_at predecessors)
-  are_joins kept = record { wide = are_wide; lone = lone image cuts kept (is_join_at predecessors) are_wide; falls = λ e to one alone leads. by_way e to one alone leads (predecessor_at predecessors to) refl (tells to) }
+  are_joins kept = record { wide = are_wide; lone = lone image cuts kept (is_join_at predecessors) are_wide; falls = λ e to one alone leads. by_way e to one alone leads (predecessor_at predecessors to) refl (reports to) }
     where
-      by_way : (e : Placed × Edge) (to : ℕ) → IsAmong (edges_in cuts) e → is_join_at predecessors to ≡ false → target_of image e ≡ Some to → (w : Predecessor) → predecessor_at predecessors to ≡ w → Tells image cuts [] to w → to ≡ e.0.next
+      by_way : (e : Placed × Edge) (to : ℕ) → IsAmong (edges_in cuts) e → is_join_at predecessors to ≡ false → target_of image e ≡ Some to → (w : Predecessor) → predecessor_at predecessors to ≡ w → IsPredecessor image cuts [] to w → to ≡ e.0.next
       by_way e to one alone leads predecessor.Unreached same is =
           let here : leads_to to (target_of image e) ≡ true = ap (leads_to to) leads ∙ itself in
           let some = count_one (λ g. leads_to to (target_of image g)) (edges_in cuts) one.0 e one.1 here in

@@ -114,8 +114,8 @@ module _ (image : ImageValue) (places : ℕ) where
         sinks = enter_sinks image states to s e.state inside (sound_words image s sound) sound.placed.sized (alike (table_of states to) refl) e.becomes;
       }
 
-    comes : IfOk (enter (Some to) s (table_of states)) (Leads image places states)
-    comes = by_answer (enter (Some to) s (table_of states)) refl
+    arrives : IfOk (enter (Some to) s (table_of states)) (Leads image places states)
+    arrives = by_answer (enter (Some to) s (table_of states)) refl
       where
         by_answer : (r : Result Table StateFault) → enter (Some to) s (table_of states) ≡ r → IfOk r (Leads image places states)
         by_answer (Err e) is = tt
@@ -141,7 +141,7 @@ module _ (image : ImageValue) (cuts : List Cut) (range : InRange image) (spelled
         by_target s v here is sound None leads = subst (λ r. IfOk r (Leads image places states)) (sym (enter_none v (table_of states))) (stays image places states kept)
         by_target s v here is sound (Some to) leads =
             let inside : to < length states = (let lt = ready.may.targets edge to leads in omega (arith, lt, kept.sized)) in
-            comes image places states kept to inside v (arrives_at image p edge places to (table_of states) s v ready.may kept.grown here is sound.placed leads) sound
+            arrives image places states kept to inside v (arrives_at image p edge places to (table_of states) s v ready.may kept.grown here is sound.placed leads) sound
 
         by_outcome : (s : State) → table_of states p.at ≡ Some s → (r : Result State StateCode) → after image p.at p.next p.instr edge s ≡ r → IfOk r (IsSound image)
             → IfOk (with_place p.at r >>= (λ t. enter (target (ranges image.loops) p.at p.next p.instr edge) t (table_of states))) (Leads image places states)
@@ -182,23 +182,23 @@ module _ (image : ImageValue) (cuts : List Cut) (range : InRange image) (spelled
     one_more : (states : List (Option State)) → IsKept image places states → (number : ℕ) → passes image cuts number ≡ Ok (table_of states)
         → ((l : List (Option State)) → IsKept image places l → passes image cuts (suc number) ≡ Ok (table_of l) → table_height image l < table_height image states → (verdict : Result Table StateFault) × IsVerdict image cuts verdict)
         → (verdict : Result Table StateFault) × IsVerdict image cuts verdict
-    one_more states kept number comes go = by_answer (pass image cuts (table_of states)) refl (pass_leads states kept)
+    one_more states kept number arrives go = by_answer (pass image cuts (table_of states)) refl (pass_leads states kept)
       where
         comes_on : passes image cuts (suc number) ≡ pass image cuts (table_of states)
-        comes_on = ap (λ r. r >>= pass image cuts) comes
+        comes_on = ap (λ r. r >>= pass image cuts) arrives
 
         by_sink : (new : List (Option State)) → IsKept image places new → pass image cuts (table_of states) ≡ Ok (table_of new) → Sinks (table_height image) states new → (verdict : Result Table StateFault) × IsVerdict image cuts verdict
-        by_sink new kept is (inl same) = (Ok (table_of states), record { number = number; comes = comes; stays = is ∙ ap (λ states. Ok (table_of states)) same })
+        by_sink new kept is (inl same) = (Ok (table_of states), record { number = number; arrives = arrives; stays = is ∙ ap (λ states. Ok (table_of states)) same })
         by_sink new kept is (inr fewer) = go new kept (comes_on ∙ is) fewer
 
         by_answer : (r : Result Table StateFault) → pass image cuts (table_of states) ≡ r → IfOk r (Leads image places states) → (verdict : Result Table StateFault) × IsVerdict image cuts verdict
-        by_answer (Err e) is l = (Err e, record { number = suc number; comes = comes_on ∙ is; stays = refl })
+        by_answer (Err e) is l = (Err e, record { number = suc number; arrives = comes_on ∙ is; stays = refl })
         by_answer (Ok table) is l = by_sink l.new l.kept (is ∙ ap Ok l.is) l.sinks
 
     ends : (n : ℕ) (states : List (Option State)) → IsKept image places states → (number : ℕ) → passes image cuts number ≡ Ok (table_of states) → table_height image states < n
         → (verdict : Result Table StateFault) × IsVerdict image cuts verdict
-    ends zero states kept number comes less = absurd (omega (arith, less))
-    ends (suc n) states kept number comes less = one_more states kept number comes λ new kept comes fewer. ends n new kept (suc number) comes (omega (arith, less, fewer))
+    ends zero states kept number arrives less = absurd (omega (arith, less))
+    ends (suc n) states kept number arrives less = one_more states kept number arrives λ new kept arrives fewer. ends n new kept (suc number) arrives (omega (arith, less, fewer))
 
 -- ---- the first table
 

@@ -161,7 +161,7 @@ module _ (image : ImageValue) (cuts : List Cut) (range : InRange image) (spelled
   pub least : (table : Table) → IsVerdict image cuts (Ok table) → (at : ℕ) (s : State) → table at ≡ Some s → HasAbove respected at s
   least table verdict at s there =
       let made = passes_lower verdict.number in
-      let same : made.0 ≡ table = same_tables made.0 table (sym made.1 ∙ verdict.comes) in
+      let same : made.0 ≡ table = same_tables made.0 table (sym made.1 ∙ verdict.arrives) in
       made.2.below at s (ap (λ (t : Table). t at) same ∙ there)
     where
       same_tables : (x y : Table) → ◌≡◌ {A = Result Table StateFault} (Ok x) (Ok y) → x ≡ y
@@ -170,7 +170,7 @@ module _ (image : ImageValue) (cuts : List Cut) (range : InRange image) (spelled
   pub no_refusal : (fault : StateFault) → IsVerdict image cuts (Err fault) → ⊥
   no_refusal fault verdict =
       let made = passes_lower verdict.number in
-      differ made.0 fault (sym made.1 ∙ verdict.comes)
+      differ made.0 fault (sym made.1 ∙ verdict.arrives)
     where
       differ : (x : Table) (e : StateFault) → ◌≡◌ {A = Result Table StateFault} (Ok x) (Err e) → ⊥
       differ x e is = cc

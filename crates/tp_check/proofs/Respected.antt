@@ -81,8 +81,8 @@ module _ (image : ImageValue) (cuts : List Cut) (range : InRange image) (spelled
 
   pub respected : (table : Table) → IsVerdict image cuts (Ok table) → EveryEdgeRespects image cuts table
   respected table verdict = record {
-    begins = begins_after verdict.number table verdict.comes;
-    each = respects_from table (good_after image cuts range spelled kept (is_kept image cuts) (λ at e. e) verdict.number table verdict.comes) verdict.stays;
+    begins = begins_after verdict.number table verdict.arrives;
+    each = respects_from table (good_after image cuts range spelled kept (is_kept image cuts) (λ at e. e) verdict.number table verdict.arrives) verdict.stays;
   }
 
   pub stands_there : (n : ℕ) (table : Table) → passes image cuts n ≡ Ok table → (at : ℕ) (s : State) → table at ≡ Some s → IsStateAt image at s

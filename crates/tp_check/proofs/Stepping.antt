@@ -10,7 +10,7 @@ use Rattle.tp_state.specs.declared.state.State.{State}
 use Rattle.tp_state.specs.declared.fault.StateFault.{StateFault}
 use Rattle.tp_state.specs.declared.fault.StateFault.TheVariants.{Refused, Memory}
 use Rattle.tp_state.specs.Conditions.{IsPlaced}
-use Rattle.tp_state.specs.Order.{IsBelow, TellsChange}
+use Rattle.tp_state.specs.Order.{IsBelow, ReportsChange}
 use Rattle.tp_state.specs.Sound.{IsSound}
 use Rattle.tp_state.proofs.StateOrder.{is_below-self, is_below-trans}
 use Rattle.tp_state.specs.After.{after}
@@ -19,10 +19,10 @@ use Rattle.tp_check.specs.Tables.{Table, table_of, with_state}
 use Rattle.tp_check.specs.EdgesRespect.{HasAbove}
 use Rattle.tp_check.specs.Passes.{enter, edges_from, edges_in}
 use Rattle.tp_check.specs.Carried.{target_of, over, is_head, IsAmong}
-use Rattle.tp_check.specs.UnderWay.{IsPlacedAt, HasGrown, MayBeTaken, is_in, IsPropagated, IsDone, WasTaken, KeepsSound, HasCome, waits, repeats, Waits, KeepsWhole, AreLeft, IsApart}
+use Rattle.tp_check.specs.UnderWay.{IsPlacedAt, HasGrown, MayBeTaken, is_in, IsPropagated, IsDone, WasTaken, KeepsSound, HasArrived, waits, repeats, Waits, KeepsWhole, AreLeft, IsApart}
 use Rattle.tp_check.specs.Steps.{IsAfterEdge, IsLedOn, SameButStates, Carries, marked}
 use Rattle.tp_check.specs.Rising.{Moves}
-use Rattle.tp_check.specs.Comes.{CameBefore, Gives}
+use Rattle.tp_check.specs.Arrivals.{ArrivedBefore, Gives}
 use Rattle.tp_check.proofs.Again.{rises_after, sound_after, sound_joined, sound_alone}
 use Rattle.tp_check.proofs.Entering.{Entered, entered, elsewhere, grows, comes_below, rises}
 use Rattle.tp_check.proofs.Heights.{HasWords, sound_words}
@@ -75,16 +75,16 @@ module _ (image : ImageValue) (is_join : ℕ → Bool) (old : Passes) (place : P
         rises_after image sure.range may.around.good place.at place.next place.instr edge taken_before.before old.carried taken_before.propagated.outcome v taken_before.sound
         (subst (IsBelow taken_before.before) (same_Some _ _ (sym taken_before.above.there ∙ on.here)) taken_before.above.below) taken_before.propagated.goes_on goes
 
-    came_before : (to : ℕ) → target_of image (place, edge) ≡ Some to → is_join to ≡ true → CameBefore (table_of old.states.items to) v
+    came_before : (to : ℕ) → target_of image (place, edge) ≡ Some to → is_join to ≡ true → ArrivedBefore (table_of old.states.items to) v
     came_before to leads is =
-        let above = (taken_before.propagated.comes to leads).joined is in
+        let above = (taken_before.propagated.arrives to leads).joined is in
         record { before = taken_before.propagated.outcome; state = above.state; is = sym (on.way.keeps.states to is) ∙ above.there; rose = above.below; below = rose }
 
   -- ---- a table to which what is known after it has come
 
-  module _ (table : Table) (same : table place.at ≡ on.whole place.at) (come : (x : ℕ) → target_of image (place, edge) ≡ Some x → HasCome is_join table x v) where
+  module _ (table : Table) (same : table place.at ≡ on.whole place.at) (come : (x : ℕ) → target_of image (place, edge) ≡ Some x → HasArrived is_join table x v) where
     along : IsPropagated image is_join table (place, edge) old.carried
-    along = record { outcome = v; goes_on = goes; comes = come }
+    along = record { outcome = v; goes_on = goes; arrives = come }
 
     now_done : (f : Placed × Edge) → ◌≡◌ {A = Placed × Edge} (place, edge) f → IsDone image is_join table f
     now_done f is = subst (IsDone image is_join table) is (λ s there. subst (IsPropagated image is_join table (place, edge)) (same_Some _ _ (sym (same ∙ on.here) ∙ there)) along)
@@ -142,7 +142,7 @@ module _ (image : ImageValue) (is_join : ℕ → Bool) (old : Passes) (place : P
         again = again on.whole refl none new grow (λ f among done. inr done) repeated;
         left_again = λ is f among. on.way.left_again (sym rest.is_again ∙ is) f (suc among.0, among.1);
       };
-      comes = λ to also. absurd (let no : None ≡ Some to = sym leads ∙ also in cc);
+      arrives = λ to also. absurd (let no : None ≡ Some to = sym leads ∙ also in cc);
       here = refl;
       rises = λ x s _ above. above;
       stays = λ x _ _. refl;
@@ -151,7 +151,7 @@ module _ (image : ImageValue) (is_join : ℕ → Bool) (old : Passes) (place : P
     },
   )
     where
-      none : (x : ℕ) → target_of image (place, edge) ≡ Some x → HasCome is_join on.whole x v
+      none : (x : ℕ) → target_of image (place, edge) ≡ Some x → HasArrived is_join on.whole x v
       none x also = absurd (let no : None ≡ Some x = sym leads ∙ also in cc)
 
       grow : (x : ℕ) → waits is_join old place.next x ≡ true → waits is_join new place.next x ≡ true
@@ -174,7 +174,7 @@ module _ (image : ImageValue) (is_join : ℕ → Bool) (old : Passes) (place : P
       same_carried : (x : ℕ) → is_join x ≡ false → x ≡ place.next → new.is_carried ≡ old.is_carried
       same_carried x alone same = off_next (λ also. absurd (let no : false ≡ true = sym alone ∙ ap is_join (same ∙ sym also) ∙ is_joined in cc))
 
-      module _ (moved : Bool) (comes : enter (Some to) v (table_of old.states.items) ≡ Ok (table_of new.states.items)) (flags : new.changed.items ≡ marked moved to old.changed.items) (moves : Moves image moved old.states.items new.states.items) where
+      module _ (moved : Bool) (arrives : enter (Some to) v (table_of old.states.items) ≡ Ok (table_of new.states.items)) (flags : new.changed.items ≡ marked moved to old.changed.items) (moves : Moves image moved old.states.items new.states.items) where
         same_there : on.whole to ≡ table_of old.states.items to
         same_there = on.way.keeps.states to is_joined
 
@@ -189,8 +189,8 @@ module _ (image : ImageValue) (is_join : ℕ → Bool) (old : Passes) (place : P
               by_place (inl same) = ap table same ∙ made to is_joined ∙ ap (λ states. table_of states to) (moves.stays still) ∙ sym same_there ∙ ap on.whole (sym same)
               by_place (inr other) = elsewhere on.whole to v table x it other
 
-          come_joined : (x : ℕ) → target_of image (place, edge) ≡ Some x → HasCome is_join table x v
-          come_joined x also = subst (λ y. HasCome is_join table y v) (same_Some to x (sym leads ∙ also)) (record {
+          come_joined : (x : ℕ) → target_of image (place, edge) ≡ Some x → HasArrived is_join table x v
+          come_joined x also = subst (λ y. HasArrived is_join table y v) (same_Some to x (sym leads ∙ also)) (record {
             joined = λ _. comes_below image on.whole to v on.way.keeps.grown stands_there table it;
             alone = λ alone. absurd (let no : false ≡ true = sym alone ∙ is_joined in cc);
           })
@@ -217,9 +217,9 @@ module _ (image : ImageValue) (is_join : ℕ → Bool) (old : Passes) (place : P
           propagated_joined f s r = record {
             outcome = r.outcome;
             goes_on = r.goes_on;
-            comes = λ x also. record {
-              joined = λ is. rises image on.whole to v on.way.keeps.grown stands_there table it x r.outcome ((r.comes x also).joined is);
-              alone = λ alone. elsewhere on.whole to v table x it (differ is_join x to alone is_joined) ∙ (r.comes x also).alone alone;
+            arrives = λ x also. record {
+              joined = λ is. rises image on.whole to v on.way.keeps.grown stands_there table it x r.outcome ((r.arrives x also).joined is);
+              alone = λ alone. elsewhere on.whole to v table x it (differ is_join x to alone is_joined) ∙ (r.arrives x also).alone alone;
             };
           }
 
@@ -266,7 +266,7 @@ module _ (image : ImageValue) (is_join : ℕ → Bool) (old : Passes) (place : P
               again = again table here_joined come_joined new grow_joined still_joined repeated_joined;
               left_again = λ is f among. was_joined f (on.way.left_again (sym rest.is_again ∙ is) f (suc among.0, among.1));
             };
-            comes = λ x also. subst (HasCome is_join table x) (sym rest.carried) (come_joined x also);
+            arrives = λ x also. subst (HasArrived is_join table x) (sym rest.carried) (come_joined x also);
             here = here_joined;
             rises = λ x s _ above. rises image on.whole to v on.way.keeps.grown stands_there table it x s above;
             stays = λ x _ other. elsewhere on.whole to v table x it (λ same. other (leads ∙ ap Some (sym same)));
@@ -280,7 +280,7 @@ module _ (image : ImageValue) (is_join : ℕ → Bool) (old : Passes) (place : P
 
         at_join : Carries {X = Bool} (Ok moved) (over image is_join ((place, edge) ∷ []) on.whole) (IsAfterEdge image on.cuts is_join old new place edge later on.whole)
         at_join =
-            let alike = enters_alike to v on.whole (table_of old.states.items) (table_of new.states.items) same_there comes in
+            let alike = enters_alike to v on.whole (table_of old.states.items) (table_of new.states.items) same_there arrives in
             let gives = over_joined image is_join place edge on.whole old.carried on.here v goes to leads is_joined ∙ alike.enters in
             let e = entered on.whole to v (with_state to alike.state on.whole) alike.enters in
             (with_state to alike.state on.whole, gives, after_joined (with_state to alike.state on.whole) e (λ x is. at_place alike.state alike.is x is (cases_eq x to)))
@@ -308,8 +308,8 @@ module _ (image : ImageValue) (is_join : ℕ → Bool) (old : Passes) (place : P
       abbrev table : Table
       table = with_state to v on.whole
 
-      come : (x : ℕ) → target_of image (place, edge) ≡ Some x → HasCome is_join table x v
-      come x also = subst (λ y. HasCome is_join table y v) (same_Some to x (sym leads ∙ also)) (record {
+      come : (x : ℕ) → target_of image (place, edge) ≡ Some x → HasArrived is_join table x v
+      come x also = subst (λ y. HasArrived is_join table y v) (same_Some to x (sym leads ∙ also)) (record {
         joined = λ is. absurd (let no : true ≡ false = sym is ∙ is_alone in cc);
         alone = λ _. with_there to v on.whole;
       })
@@ -332,9 +332,9 @@ module _ (image : ImageValue) (is_join : ℕ → Bool) (old : Passes) (place : P
       propagated f s other r = record {
         outcome = r.outcome;
         goes_on = r.goes_on;
-        comes = λ x also. record {
-          joined = λ is. above_still x r.outcome (differ_too is_join x to is is_alone) ((r.comes x also).joined is);
-          alone = λ alone. with_elsewhere to v on.whole x (λ same. other (also ∙ ap Some same)) ∙ (r.comes x also).alone alone;
+        arrives = λ x also. record {
+          joined = λ is. above_still x r.outcome (differ_too is_join x to is is_alone) ((r.arrives x also).joined is);
+          alone = λ alone. with_elsewhere to v on.whole x (λ same. other (also ∙ ap Some same)) ∙ (r.arrives x also).alone alone;
         };
       }
 
@@ -365,7 +365,7 @@ module _ (image : ImageValue) (is_join : ℕ → Bool) (old : Passes) (place : P
       was_next again f among same = by_old (on.way.each f among)
         where
           stood : on.whole f.0.at ≡ Some (taken_before again).propagated.outcome
-          stood = ap on.whole same ∙ ((taken_before again).propagated.comes to leads).alone is_alone
+          stood = ap on.whole same ∙ ((taken_before again).propagated.arrives to leads).alone is_alone
 
           other : target_of image f ≡ Some to → ⊥
           other also = off to leads (ap (λ (e : Placed × Edge). e.0.at) (same_edge f among also) ∙ same)
@@ -442,7 +442,7 @@ module _ (image : ImageValue) (is_join : ℕ → Bool) (old : Passes) (place : P
             again = again table here come new grow still repeated;
             left_again = left_again;
           };
-          comes = λ x also. subst (HasCome is_join table x) (sym rest.carried) (come x also);
+          arrives = λ x also. subst (HasArrived is_join table x) (sym rest.carried) (come x also);
           here = here;
           rises = λ x s is above. above_still x s (differ_too is_join x to is is_alone) above;
           stays = λ x _ other. with_elsewhere to v on.whole x (λ same. other (leads ∙ ap Some (sym same)));
@@ -483,23 +483,23 @@ module _ (image : ImageValue) (is_join : ℕ → Bool) (old : Passes) (place : P
                 (to_next is new (ap (λ (p : Passes). p.states.items) stays.1 ∙ led_states) (ap (λ (p : Passes). p.changed.items) stays.1 ∙ led_changed) moved_so (λ same. rest.is_carried ∙ led_on.next same))
 
       -- where a change is reported, fewer are left
-      pub moves_led : (r : Result Bool StateFault) → (is_join to ≡ true → Gives r (table_of new.states.items) (enter (Some to) led.carried (table_of led.states.items))) → (is_join to ≡ true → IfOk r (λ moved. TellsChange moved led.states.items new.states.items)) → (is_join to ≡ false → (r ≡ Ok false) × (new ≡ led))
+      pub moves_led : (r : Result Bool StateFault) → (is_join to ≡ true → Gives r (table_of new.states.items) (enter (Some to) led.carried (table_of led.states.items))) → (is_join to ≡ true → IfOk r (λ moved. ReportsChange moved led.states.items new.states.items)) → (is_join to ≡ false → (r ≡ Ok false) × (new ≡ led))
           → length new.states.items ≡ length led.states.items → IfOk r (λ moved. Moves image moved led.states.items new.states.items)
-      moves_led r gives tells alone sized = by_join (is_join to) refl
+      moves_led r gives reports alone sized = by_join (is_join to) refl
         where
-          by_answer : (r : Result Bool StateFault) → is_join to ≡ true → Gives r (table_of new.states.items) (enter (Some to) led.carried (table_of led.states.items)) → IfOk r (λ moved. TellsChange moved led.states.items new.states.items) → IfOk r (λ moved. Moves image moved led.states.items new.states.items)
-          by_answer (Ok moved) is gives tells =
-              enter_moves image moved led.states.items new.states.items to led.carried (let le = may.targets edge to leads in let same = ap length led_states in omega (arith, le, same)) sized gives tells (subst HasWords (sym led_carried) (sound_words image v sound_v)) (ap (λ (s : State). length s.cells) led_carried ∙ fits.sized)
+          by_answer : (r : Result Bool StateFault) → is_join to ≡ true → Gives r (table_of new.states.items) (enter (Some to) led.carried (table_of led.states.items)) → IfOk r (λ moved. ReportsChange moved led.states.items new.states.items) → IfOk r (λ moved. Moves image moved led.states.items new.states.items)
+          by_answer (Ok moved) is gives reports =
+              enter_moves image moved led.states.items new.states.items to led.carried (let le = may.targets edge to leads in let same = ap length led_states in omega (arith, le, same)) sized gives reports (subst HasWords (sym led_carried) (sound_words image v sound_v)) (ap (λ (s : State). length s.cells) led_carried ∙ fits.sized)
               (as_many_words image (table_of led.states.items to) led.carried (subst (λ items. IfSome (table_of items to) (IsPlaced image)) (sym led_states) (kept_is_placed image is_join old on.whole on.way.keeps to is)) (subst (IsPlaced image) (sym led_carried) fits))
-          by_answer (Err e) is gives tells = tt
+          by_answer (Err e) is gives reports = tt
 
           by_join : (b : Bool) → is_join to ≡ b → IfOk r (λ moved. Moves image moved led.states.items new.states.items)
-          by_join true is = by_answer r is (gives is) (tells is)
+          by_join true is = by_answer r is (gives is) (reports is)
           by_join false is =
               let stays = alone is in
               subst (λ a. IfOk a (λ moved. Moves image moved led.states.items new.states.items)) (sym stays.0) (subst (λ (p : Passes). Moves image false led.states.items p.states.items) (sym stays.1) (moves_none image led.states.items))
 
-      pub came_led : is_join to ≡ true → led.is_again ≡ true → CameBefore (table_of led.states.items to) led.carried
+      pub came_led : is_join to ≡ true → led.is_again ≡ true → ArrivedBefore (table_of led.states.items to) led.carried
       came_led is again =
-          subst (λ s. CameBefore (table_of led.states.items to) s) (sym led_carried)
-          (subst (λ items. CameBefore (table_of items to) v) (sym led_states) (came_before (sym (ap (λ (p : Passes). p.is_again) led_on.same) ∙ again) to leads is))
+          subst (λ s. ArrivedBefore (table_of led.states.items to) s) (sym led_carried)
+          (subst (λ items. ArrivedBefore (table_of items to) v) (sym led_states) (came_before (sym (ap (λ (p : Passes). p.is_again) led_on.same) ∙ again) to leads is))

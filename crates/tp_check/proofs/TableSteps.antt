@@ -10,7 +10,7 @@ use Rattle.std.proofs.lemmas.List.{set-get_or, length-replicate}
 use Rattle.tp_image.specs.Image.{ImageValue}
 use Rattle.tp_state.specs.declared.state.State.{State}
 use Rattle.tp_state.specs.declared.fault.StateCode.{StateCode}
-use Rattle.tp_state.specs.Order.{IsBelow, join, TellsChange}
+use Rattle.tp_state.specs.Order.{IsBelow, join, ReportsChange}
 use Rattle.tp_state.specs.declared.fault.StateFault.{StateFault}
 use Rattle.tp_state.specs.declared.fault.StateFault.TheVariants.{Refused, Memory}
 use Rattle.tp_state.specs.Answer.{◌>>=◌}
@@ -18,7 +18,7 @@ use Rattle.tp_state.specs.Entry.{entry}
 use Rattle.tp_check.specs.Tables.{table_of, with_state, no_states}
 use Rattle.tp_check.specs.Passes.{enter, first_table, with_place, meeting_if_any}
 use Rattle.tp_check.specs.Rising.{Moves, state_height, table_height}
-use Rattle.tp_check.specs.Comes.{Gives}
+use Rattle.tp_check.specs.Arrivals.{Gives}
 use Rattle.tp_check.proofs.Entering.{Becomes, Entered, entered}
 use Rattle.tp_check.proofs.Heights.{Sinks, HasWords, state_sinks, state_light, table_sinks}
 
@@ -65,16 +65,16 @@ enter_gives states i there new s r h is given = by_answer r (with_place i (meeti
     by_answer (Err Memory) wanted e gives = tt
 
 -- a list reports a change where an address does
-set_tells : (states : List (Option State)) (i : ℕ) (there new : Option State) (moved : Bool) → i < length states → there ≡ slice_index_or states i None → TellsChange moved there new → TellsChange moved states (slice_set states i new)
-set_tells states i there new moved h is tells = record {
-  stays = λ same. ap (slice_set states i) (tells.stays same ∙ is) ∙ set-get_or states i None;
-  moves = λ differs same. tells.moves differs (sym (get_or-set_same states i new None h) ∙ ap (λ items. slice_index_or items i None) same ∙ sym is);
+set_tells : (states : List (Option State)) (i : ℕ) (there new : Option State) (moved : Bool) → i < length states → there ≡ slice_index_or states i None → ReportsChange moved there new → ReportsChange moved states (slice_set states i new)
+set_tells states i there new moved h is reports = record {
+  stays = λ same. ap (slice_set states i) (reports.stays same ∙ is) ∙ set-get_or states i None;
+  moves = λ differs same. reports.moves differs (sym (get_or-set_same states i new None h) ∙ ap (λ items. slice_index_or items i None) same ∙ sym is);
 }
 
-pub some_tells : (moved : Bool) (t new : State) → TellsChange moved t new → TellsChange moved (Some t) (Some new)
-some_tells moved t new tells = record { stays = λ same. ap Some (tells.stays same); moves = λ differs same. tells.moves differs (same_Some new t same) }
+pub some_tells : (moved : Bool) (t new : State) → ReportsChange moved t new → ReportsChange moved (Some t) (Some new)
+some_tells moved t new reports = record { stays = λ same. ap Some (reports.stays same); moves = λ differs same. reports.moves differs (same_Some new t same) }
 
-pub first_tells : (s : State) → TellsChange true None (Some s)
+pub first_tells : (s : State) → ReportsChange true None (Some s)
 first_tells s = record { stays = λ e. absurd cc; moves = λ e same. cc }
 
 same_lists : (xs ys : List (Option State)) → length xs ≡ length ys → ((x : ℕ) → table_of xs x ≡ table_of ys x) → xs ≡ ys
@@ -103,9 +103,9 @@ enter_sinks image states to s t inside words long sized becomes = by_state (tabl
         by_sink (inr less) = inr (table_sinks image states to (Some t) inside (rw (there_is ∙ is, same) less))
 
 -- so a list that reports a change has fewer changes left
-pub enter_moves : (image : ImageValue) (moved : Bool) (old new : List (Option State)) (to : ℕ) (s : State) → to < length old → length new ≡ length old → enter (Some to) s (table_of old) ≡ Ok (table_of new) → TellsChange moved old new → HasWords s → length s.cells ≡ image.workspace
+pub enter_moves : (image : ImageValue) (moved : Bool) (old new : List (Option State)) (to : ℕ) (s : State) → to < length old → length new ≡ length old → enter (Some to) s (table_of old) ≡ Ok (table_of new) → ReportsChange moved old new → HasWords s → length s.cells ≡ image.workspace
     → IfSome (table_of old to) (λ u. length s.cells ≡ length u.cells) → Moves image moved old new
-enter_moves image moved old new to s inside sized gives tells words long alike = record { sized = sized; stays = tells.stays; falls = λ differs. by_sink differs (subst (Sinks (table_height image) old) (sym set) sinks) }
+enter_moves image moved old new to s inside sized gives reports words long alike = record { sized = sized; stays = reports.stays; falls = λ differs. by_sink differs (subst (Sinks (table_height image) old) (sym set) sinks) }
   where
     it : Entered (table_of old) to s (table_of new)
     it = entered (table_of old) to s (table_of new) gives
@@ -117,7 +117,7 @@ enter_moves image moved old new to s inside sized gives tells words long alike =
     sinks = enter_sinks image old to s it.state inside words long alike it.becomes
 
     by_sink : moved ≡ true → Sinks (table_height image) old new → table_height image new < table_height image old
-    by_sink differs (inl same) = absurd (tells.moves differs same)
+    by_sink differs (inl same) = absurd (reports.moves differs same)
     by_sink differs (inr less) = less
 
 -- ---- a state is joined to another
@@ -141,8 +141,8 @@ module _ (states : List (Option State)) (i : ℕ) (inside : i < length states) (
     pub comes_to : with_place i (meeting_if_any there s) ≡ Ok new → enter (Some i) s (table_of states) ≡ Ok (table_of (slice_set states i (Some new)))
     comes_to e = enter_gives states i there (Some new) s (Ok true) inside (slot_is states i d there inside is) (new, refl, e)
 
-    pub changes : (moved : Bool) → TellsChange moved there (Some new) → TellsChange moved states (slice_set states i (Some new))
-    changes moved tells = set_tells states i there (Some new) moved inside (slot_is states i d there inside is) tells
+    pub changes : (moved : Bool) → ReportsChange moved there (Some new) → ReportsChange moved states (slice_set states i (Some new))
+    changes moved reports = set_tells states i there (Some new) moved inside (slot_is states i d there inside is) reports
 
   pub refused_there : (s : State) (code : StateCode) → with_place i (meeting_if_any there s) ≡ Err (Refused code i) → enter (Some i) s (table_of states) ≡ Err (Refused code i)
   refused_there s code e = enter_gives states i there there s (Err (Refused code i)) inside (slot_is states i d there inside is) e

@@ -15,7 +15,7 @@ use Rattle.tp_check.specs.declared.passes.Passes.{Passes}
 use Rattle.tp_check.specs.Tables.{Table, table_of, asked}
 use Rattle.tp_check.specs.Passes.{edges_of, edges_in}
 use Rattle.tp_check.specs.Carried.{target_of, over, go_over, IsAmong}
-use Rattle.tp_check.specs.UnderWay.{is_in, AreJoins, AreLeft, IsDone, IsPropagated, WasTaken, waits, repeats, Waits, KeepsWhole, IsUnderWay, IsBefore, StandsIn}
+use Rattle.tp_check.specs.UnderWay.{is_in, AreJoins, AreLeft, IsDone, IsPropagated, WasTaken, waits, repeats, Waits, KeepsWhole, IsUnderWay, IsBefore, IsInCode}
 use Rattle.tp_check.specs.Steps.{Carries, IsStarted}
 use Rattle.tp_check.proofs.Entering.{enters_below, same_there}
 use Rattle.tp_check.proofs.Nests.{ways_at}
@@ -37,8 +37,8 @@ module _ (image : ImageValue) (is_join : ℕ → Bool) (table : Table) where
   edge_stays p edge done = by_state (table p.at) refl
     where
       by_join : (s : State) (here : table p.at ≡ Some s) (r : IsPropagated image is_join table (p, edge) s) (to : ℕ) → target_of image (p, edge) ≡ Some to → (b : Bool) → is_join to ≡ b → over image is_join ((p, edge) ∷ []) table ≡ Ok table
-      by_join s here r to leads true e = over_joined image is_join p edge table s here r.outcome r.goes_on to leads e ∙ enters_below table to r.outcome ((r.comes to leads).joined e)
-      by_join s here r to leads false e = over_alone image is_join p edge table s here r.outcome r.goes_on to leads e ∙ ap Ok (same_there table to r.outcome ((r.comes to leads).alone e))
+      by_join s here r to leads true e = over_joined image is_join p edge table s here r.outcome r.goes_on to leads e ∙ enters_below table to r.outcome ((r.arrives to leads).joined e)
+      by_join s here r to leads false e = over_alone image is_join p edge table s here r.outcome r.goes_on to leads e ∙ ap Ok (same_there table to r.outcome ((r.arrives to leads).alone e))
 
       by_target : (s : State) (here : table p.at ≡ Some s) (r : IsPropagated image is_join table (p, edge) s) (o : Option ℕ) → target_of image (p, edge) ≡ o → over image is_join ((p, edge) ∷ []) table ≡ Ok table
       by_target s here r None leads = over_nowhere image is_join p edge table s here r.outcome r.goes_on leads
@@ -143,7 +143,7 @@ as_long image is_join p whole keeps at is = by_state (table_of p.states.items at
     by_state None e = search rules
     by_state (Some s) e = (keeps.grown.states at s (keeps.states at is ∙ e)).placed.sized ∙ sym keeps.carried.sized
 
-module _ (image : ImageValue) (cuts : List Cut) (is_join : ℕ → Bool) (old mid : Passes) (place : Placed) (stands : StandsIn cuts place) (whole : Table) (before : IsBefore image cuts is_join old place.at whole) (now : IsReady image is_join old mid place.at whole) where
+module _ (image : ImageValue) (cuts : List Cut) (is_join : ℕ → Bool) (old mid : Passes) (place : Placed) (stands : IsInCode cuts place) (whole : Table) (before : IsBefore image cuts is_join old place.at whole) (now : IsReady image is_join old mid place.at whole) where
   source : (e : Placed × Edge) → IsAmong (edges_of place) e → e.0.at ≡ place.at
   source e among = ap (λ (p : Placed). p.at) (ways_at place (asked place.instr) e among)
 

@@ -14,7 +14,7 @@ use Rattle.tp_check.specs.declared.passes.Passes.{Passes}
 use Rattle.tp_check.specs.Tables.{Table, asked}
 use Rattle.tp_check.specs.Passes.{edges_from, edges_of, edges_in}
 use Rattle.tp_check.specs.Carried.{target_of, over, IsAmong}
-use Rattle.tp_check.specs.UnderWay.{HasCome, IsUnderWay, IsBefore, AreLeft, IsApart}
+use Rattle.tp_check.specs.UnderWay.{HasArrived, IsUnderWay, IsBefore, AreLeft, IsApart}
 use Rattle.tp_check.specs.Steps.{IsAfterEdge, Carries}
 use Rattle.tp_check.proofs.Again.{asked_apart}
 use Rattle.tp_check.proofs.HandedOn.{then_more}
@@ -73,7 +73,7 @@ module _ (image : ImageValue) (is_join : ℕ → Bool) (p : Passes) (place : Pla
       → Carries r (over image is_join (edges_of place) way.whole) (IsBefore image way.cuts is_join new place.next)
   one_done rests new (Err (Refused code at)) gives = over_it ∙ gives
   one_done rests new (Err Memory) gives = tt
-  one_done rests new (Ok moved) (table, is, it) = (table, over_it ∙ is, record { way = it.way; here = λ sure. it.comes place.next (came_on image way.cuts is_join p new place edge [] way.whole table it rests sure) })
+  one_done rests new (Ok moved) (table, is, it) = (table, over_it ∙ is, record { way = it.way; here = λ sure. it.arrives place.next (came_on image way.cuts is_join p new place edge [] way.whole table it rests sure) })
 
 -- ---- an instruction of two
 
@@ -124,7 +124,7 @@ module _ (image : ImageValue) (is_join : ℕ → Bool) (p : Passes) (place : Pla
         over_last ∙ taken.1,
         record {
           way = taken.2.way;
-          here = λ sure. taken.2.comes place.next (came_on image way.cuts is_join back jumped place last [] middle taken.0 taken.2 (ap (λ (q : Passes). q.is_carried) is_back ∙ rests) sure);
+          here = λ sure. taken.2.arrives place.next (came_on image way.cuts is_join back jumped place last [] middle taken.0 taken.2 (ap (λ (q : Passes). q.is_carried) is_back ∙ rests) sure);
         },
       )
 
@@ -133,8 +133,8 @@ module _ (image : ImageValue) (is_join : ℕ → Bool) (p : Passes) (place : Pla
         leads : target_of image (place, first) ≡ Some place.next
         leads = came_on image way.cuts is_join p fallen place first (last ∷ []) way.whole middle it rests on
 
-        still_there : HasCome is_join taken.0 place.next fallen.carried
-        still_there = let came = it.comes place.next leads in record {
+        still_there : HasArrived is_join taken.0 place.next fallen.carried
+        still_there = let came = it.arrives place.next leads in record {
           joined = λ is. taken.2.rises place.next fallen.carried is (came.joined is);
           alone = λ alone. taken.2.stays place.next alone (λ also. unlike (ap (λ (e : Placed × Edge). e.1) (way.join.lone.one (place, first) (place, last) place.next (on_first.among (place, first) (0, refl)) (on_first.among (place, last) (1, refl)) alone leads also))) ∙ came.alone alone;
         }

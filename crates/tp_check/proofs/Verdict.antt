@@ -28,10 +28,10 @@ use Rattle.tp_check.specs.Tables.{Table, table_of, asked}
 use Rattle.tp_check.specs.Passes.{edges_of, edges_in, first_table, pass, passes, IsVerdict, IsRefusalOf}
 use Rattle.tp_check.specs.Carried.{IsAmong, over, only_joins, is_kept, is_head, reached, AreStatesOf, IsTableOf}
 use Rattle.tp_check.specs.StatesThere.{AreStatesThere}
-use Rattle.tp_check.specs.UnderWay.{is_in, AreJoins, IsDone, waits, repeats, Waits, IsBefore, StandsIn}
+use Rattle.tp_check.specs.UnderWay.{is_in, AreJoins, IsDone, waits, repeats, Waits, IsBefore, IsInCode}
 use Rattle.tp_check.specs.Steps.{Carries, IsAfter, Leaves, IsSettled}
 use Rattle.tp_check.specs.Rising.{table_height}
-use Rattle.tp_check.specs.Comes.{HasPlaces}
+use Rattle.tp_check.specs.Arrivals.{HasPlaces}
 use Rattle.tp_check.proofs.Places.{stands_at}
 use Rattle.tp_check.proofs.Entering.{first_grown}
 use Rattle.tp_check.proofs.Nests.{or_left}
@@ -57,7 +57,7 @@ own_among (p ∷ ps) e among = by_way (own_among ps e) (among_either (edges_of p
     by_way go (inl here) = subst (λ q. IsAmong (edges_of q) e) (sym (ways_at p (asked p.instr) e here)) here
     by_way go (inr later) = go later
 
-pub stands_in : (cuts : List Cut) (i : ℕ) (p : Placed) → AllByRecursion (λ c. 0 < length c.bytes) cuts → slice_get (placed_from 0 cuts) i ≡ Some p → StandsIn cuts p
+pub stands_in : (cuts : List Cut) (i : ℕ) (p : Placed) → AllByRecursion (λ c. 0 < length c.bytes) cuts → slice_get (placed_from 0 cuts) i ≡ Some p → IsInCode cuts p
 stands_in cuts i p spelled is = record { all = among_of (placed_from 0 cuts) i p is; only = λ e among same. subst (λ q. IsAmong (edges_of q) e) (same_place e among same) (own_among (placed_from 0 cuts) e among) }
   where
     same_place : (e : Placed × Edge) → IsAmong (edges_in cuts) e → e.0.at ≡ p.at → e.0 ≡ p
@@ -250,7 +250,7 @@ module _ (image : ImageValue) (cuts : List Cut) (is_join : ℕ → Bool) (join :
       };
       here = λ sure. absurd (let no : false ≡ true = sym rests ∙ sure in cc);
     };
-    comes = refl;
+    arrives = refl;
   }
     where
       sound_first : (x : ℕ) (s : State) → first_table image x ≡ Some s → (x ≡ 0) ⊎ (x ≡ 0 → ⊥) → IsSound image s
@@ -283,10 +283,10 @@ module _ (image : ImageValue) (cuts : List Cut) (range : InRange image) (spelled
 
   -- one pass more
   pub one_as_defined : (n : ℕ) (table : Table) → passes image cuts n ≡ Ok table → passes image cuts (suc n) ≡ over image is_join (edges_in cuts) table
-  one_as_defined n table comes =
-      ap (λ r. r >>= pass image cuts) comes
+  one_as_defined n table arrives =
+      ap (λ r. r >>= pass image cuts) arrives
       ∙ (edge_by_edge image range.rows kept.good is_join (IsOne image cuts kept is_join join.wide) (IsStateAt image) (lone image cuts kept is_join join.wide) (are_states image cuts kept is_join join.wide range spelled) (edges_in cuts) (λ i e is. (i, is)) table
-      (good_after image cuts range spelled kept is_join join.wide n table comes)).0
+      (good_after image cuts range spelled kept is_join join.wide n table arrives)).0
 
   pub one_after : (old new : Passes) (n : ℕ) (m : Bool) → IsAfter image cuts is_join old n → new.is_carried ≡ false → Leaves image m old new
       → ((whole : Table) → IsBefore image cuts is_join old 0 whole → Carries (Ok m) (over image is_join (edges_in cuts) whole) (IsBefore image cuts is_join new 0))
@@ -298,7 +298,7 @@ module _ (image : ImageValue) (cuts : List Cut) (range : InRange image) (spelled
       rests = rests;
       whole = done.0;
       before = done.2;
-      comes = comes;
+      arrives = arrives;
     },
     stays,
   )
@@ -306,11 +306,11 @@ module _ (image : ImageValue) (cuts : List Cut) (range : InRange image) (spelled
       done : (new_whole : Table) × (over image is_join (edges_in cuts) on.whole ≡ Ok new_whole) × IsBefore image cuts is_join new 0 new_whole
       done = gives on.whole on.before
 
-      comes : passes image cuts (suc n) ≡ Ok done.0
-      comes = one_as_defined n on.whole on.comes ∙ done.1
+      arrives : passes image cuts (suc n) ≡ Ok done.0
+      arrives = one_as_defined n on.whole on.arrives ∙ done.1
 
       stays : m ≡ false → IsVerdict image cuts (Ok done.0)
-      stays e = record { number = suc n; comes = comes; stays = by_end (leaves.ends e) }
+      stays e = record { number = suc n; arrives = arrives; stays = by_end (leaves.ends e) }
         where
           alike : new.states.items ≡ old.states.items → (x : ℕ) (b : Bool) → is_join x ≡ b → only_joins is_join done.0 x ≡ only_joins is_join on.whole x
           alike same x true is =
@@ -319,12 +319,12 @@ module _ (image : ImageValue) (cuts : List Cut) (range : InRange image) (spelled
 
           by_end : (new.states.items ≡ old.states.items) ⊎ ((at : ℕ) → is_in new.changed.items at ≡ false) → pass image cuts done.0 ≡ Ok done.0
           by_end (inl same) =
-              (one_pass image cuts range spelled kept is_join join.wide done.0 (good_after image cuts range spelled kept is_join join.wide (suc n) done.0 comes)).0
+              (one_pass image cuts range spelled kept is_join join.wide done.0 (good_after image cuts range spelled kept is_join join.wide (suc n) done.0 arrives)).0
               ∙ ap (over image is_join (edges_in cuts)) (fun_ext λ x. alike same x (is_join x) refl)
-              ∙ sym (one_pass image cuts range spelled kept is_join join.wide on.whole (good_after image cuts range spelled kept is_join join.wide n on.whole on.comes)).0
-              ∙ sym (ap (λ r. r >>= pass image cuts) on.comes) ∙ comes
+              ∙ sym (one_pass image cuts range spelled kept is_join join.wide on.whole (good_after image cuts range spelled kept is_join join.wide n on.whole on.arrives)).0
+              ∙ sym (ap (λ r. r >>= pass image cuts) on.arrives) ∙ arrives
           by_end (inr none) =
-              sym (ap (λ r. r >>= pass image cuts) comes) ∙ one_as_defined (suc n) done.0 comes ∙ nothing_marked image cuts is_join new done.0 done.2 rests none
+              sym (ap (λ r. r >>= pass image cuts) arrives) ∙ one_as_defined (suc n) done.0 arrives ∙ nothing_marked image cuts is_join new done.0 done.2 rests none
 
   pub one_more : (old new : Passes) (was m : Bool) → IsBetween image cuts is_join old was → new.is_carried ≡ false → Leaves image m old new
       → ((whole : Table) → IsBefore image cuts is_join old 0 whole → Carries (Ok m) (over image is_join (edges_in cuts) whole) (IsBefore image cuts is_join new 0)) → IsBetween image cuts is_join new m
@@ -334,7 +334,7 @@ module _ (image : ImageValue) (cuts : List Cut) (range : InRange image) (spelled
 
   -- the refusal of a pass is the verdict
   pub is_refusal : (old : Passes) (moved : Bool) (on : IsBetween image cuts is_join old moved) (e : StateFault) (P : Table → Type 0) → Carries {X = Bool} (Err e) (over image is_join (edges_in cuts) on.after.whole) P → IsRefusalOf image cuts e
-  is_refusal old moved on (Refused code place) P gives = record { number = suc on.number; comes = one_as_defined on.number on.after.whole on.after.comes ∙ gives; stays = refl }
+  is_refusal old moved on (Refused code place) P gives = record { number = suc on.number; arrives = one_as_defined on.number on.after.whole on.after.arrives ∙ gives; stays = refl }
   is_refusal old moved on Memory P gives = tt
 
   -- after the last pass
@@ -360,7 +360,7 @@ module _ (image : ImageValue) (cuts : List Cut) (range : InRange image) (spelled
           by_join false e = absurd (let no : true ≡ false = sym is ∙ join.wide at e in cc)
 
   pub are_states_there : (states : List (ℕ × State)) → IsTableOf image cuts states → AreStatesThere image states
-  are_states_there states t i a there = stands_there image cuts range spelled kept t.verdict.number t.whole t.verdict.comes a.0 a.1 (t.kept.each i a there).1
+  are_states_there states t i a there = stands_there image cuts range spelled kept t.verdict.number t.whole t.verdict.arrives a.0 a.1 (t.kept.each i a there).1
 
 pub refusal_handed_on : {X : Type 0} (image : ImageValue) (cuts : List Cut) (r : Result X StateFault) (e : StateFault) → IsErrAnd r (λ x. x ≡ e) → IsRefusalOf image cuts e → IfErr r (IsRefusalOf image cuts)
 refusal_handed_on image cuts (Ok x) e is refusal = search rules

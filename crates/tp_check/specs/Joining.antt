@@ -52,12 +52,12 @@ pub record HasFallThrough (image : ImageValue) (cuts : List Cut) (at : ℕ) : Ty
   pub falls : at ≡ edge.0.next
 
 -- what is known of an address where these edges have still to be counted
-abbrev pub Tells : ImageValue → List Cut → List (Placed × Edge) → ℕ → Predecessor → Type 0
-Tells image cuts rest at predecessor.Joined = is_kept image cuts at ≡ true
-Tells image cuts rest at predecessor.Unreached = IsInner image at × (reached image cuts at ≡ leading image at rest)
-Tells image cuts rest at predecessor.Jump = IsInner image at × (reached image cuts at ≡ suc (leading image at rest))
-Tells image cuts rest at predecessor.FallThrough =
+abbrev pub IsPredecessor : ImageValue → List Cut → List (Placed × Edge) → ℕ → Predecessor → Type 0
+IsPredecessor image cuts rest at predecessor.Joined = is_kept image cuts at ≡ true
+IsPredecessor image cuts rest at predecessor.Unreached = IsInner image at × (reached image cuts at ≡ leading image at rest)
+IsPredecessor image cuts rest at predecessor.Jump = IsInner image at × (reached image cuts at ≡ suc (leading image at rest))
+IsPredecessor image cuts rest at predecessor.FallThrough =
     IsInner image at × (reached image cuts at ≡ suc (leading image at rest)) × HasFallThrough image cuts at
 
-abbrev pub TellPredecessors : ImageValue → List Cut → List (Placed × Edge) → List Predecessor → Type 0
-TellPredecessors image cuts rest predecessors = (at : ℕ) → Tells image cuts rest at (predecessor_at predecessors at)
+abbrev pub ArePredecessors : ImageValue → List Cut → List (Placed × Edge) → List Predecessor → Type 0
+ArePredecessors image cuts rest predecessors = (at : ℕ) → IsPredecessor image cuts rest at (predecessor_at predecessors at)

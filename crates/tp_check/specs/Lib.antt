@@ -2,7 +2,7 @@
 pub mod Tables
 pub mod EdgesRespect
 pub mod Passes
-pub mod Comes
+pub mod Arrivals
 pub mod Carried
 pub mod StatesThere
 pub use Rattle.tp_state.specs.After

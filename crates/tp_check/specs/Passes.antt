@@ -81,7 +81,7 @@ passes image cuts (suc n) = passes image cuts n >>= pass image cuts
 -- that a pass does not change.
 pub record IsVerdict (image : ImageValue) (cuts : List Cut) (verdict : Result Table StateFault) : Type 0 where
   pub number : ℕ
-  pub comes : passes image cuts number ≡ verdict
+  pub arrives : passes image cuts number ≡ verdict
   pub stays : (verdict >>= pass image cuts) ≡ verdict
 
 -- a fault is the passes' refusal, or a want of memory

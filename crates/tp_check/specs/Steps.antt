@@ -13,9 +13,9 @@ use Rattle.tp_check.specs.Tables.{Table, table_of}
 use Rattle.tp_check.specs.EdgesRespect.{HasAbove}
 use Rattle.tp_check.specs.Passes.{edges_from, passes, IsVerdict}
 use Rattle.tp_check.specs.Carried.{over, target_of}
-use Rattle.tp_check.specs.Comes.{HasPlaces}
+use Rattle.tp_check.specs.Arrivals.{HasPlaces}
 use Rattle.tp_check.specs.Rising.{table_height}
-use Rattle.tp_check.specs.UnderWay.{AreJoins, HasCome, IsUnderWay, IsBefore, is_in}
+use Rattle.tp_check.specs.UnderWay.{AreJoins, HasArrived, IsUnderWay, IsBefore, is_in}
 
 -- ---- one step
 
@@ -41,7 +41,7 @@ TakesEdges image cuts is_join edges old at result new next =
 pub record IsAfterEdge (image : ImageValue) (cuts : List Cut) (is_join : ℕ → Bool) (old new : Passes)
     (place : Placed) (edge : Edge) (later : List Edge) (whole table : Table) : Type 0 where
   pub way : IsUnderWay image cuts is_join new (edges_from place later) place.next table
-  pub comes : (to : ℕ) → target_of image (place, edge) ≡ Some to → HasCome is_join table to new.carried
+  pub arrives : (to : ℕ) → target_of image (place, edge) ≡ Some to → HasArrived is_join table to new.carried
   pub here : table place.at ≡ whole place.at
   pub rises : (x : ℕ) (s : State) → is_join x ≡ true → HasAbove whole x s → HasAbove table x s
   pub stays : (x : ℕ) → is_join x ≡ false → target_of image (place, edge) ≢ Some x → table x ≡ whole x
@@ -86,7 +86,7 @@ pub record IsAfter (image : ImageValue) (cuts : List Cut) (is_join : ℕ → Boo
   pub rests : p.is_carried ≡ false
   pub whole : Table
   pub before : IsBefore image cuts is_join p 0 whole
-  pub comes : passes image cuts number ≡ Ok whole
+  pub arrives : passes image cuts number ≡ Ok whole
 
 -- none has, over a code whose instructions stand at so many addresses
 abbrev pub IsBeginning : ImageValue → ℕ → Passes → Type 0

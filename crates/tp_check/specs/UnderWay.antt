@@ -44,7 +44,7 @@ pub record KeepsSound (image : ImageValue) (place : Placed) : Type 0 where
   pub loads : LoadsWord place.instr
 
 -- the edges of an instruction are those of a code that leave its address
-pub record StandsIn (cuts : List Cut) (place : Placed) : Type 0 where
+pub record IsInCode (cuts : List Cut) (place : Placed) : Type 0 where
   pub all : (e : Placed × Edge) → IsAmong (edges_of place) e → IsAmong (edges_in cuts) e
   pub only : (e : Placed × Edge) → IsAmong (edges_in cuts) e → e.0.at ≡ place.at → IsAmong (edges_of place) e
 
@@ -58,7 +58,7 @@ pub record AreJoins (image : ImageValue) (cuts : List Cut) (is_join : ℕ → Bo
 -- ---- an edge
 
 -- a state has reached an address: where edges join, one above it is known there, and elsewhere it is known there itself
-pub record HasCome (is_join : ℕ → Bool) (table : Table) (to : ℕ) (s : State) : Type 0 where
+pub record HasArrived (is_join : ℕ → Bool) (table : Table) (to : ℕ) (s : State) : Type 0 where
   pub joined : is_join to ≡ true → HasAbove table to s
   pub alone : is_join to ≡ false → table to ≡ Some s
 
@@ -67,7 +67,7 @@ pub record IsPropagated (image : ImageValue) (is_join : ℕ → Bool) (table : T
     (s : State) : Type 0 where
   pub outcome : State
   pub goes_on : after image e.0.at e.0.next e.0.instr e.1 s ≡ Ok outcome
-  pub comes : (to : ℕ) → target_of image e ≡ Some to → HasCome is_join table to outcome
+  pub arrives : (to : ℕ) → target_of image e ≡ Some to → HasArrived is_join table to outcome
 
 -- an edge is done: what is known before its instruction has been propagated along it
 abbrev pub IsDone : ImageValue → (ℕ → Bool) → Table → Placed × Edge → Type 0
@@ -122,7 +122,7 @@ pub record IsUnderWay (image : ImageValue) (cuts : List Cut) (is_join : ℕ → 
 pub record IsBefore (image : ImageValue) (cuts : List Cut) (is_join : ℕ → Bool) (p : Passes) (at : ℕ)
     (whole : Table) : Type 0 where
   pub way : IsUnderWay image cuts is_join p [] at whole
-  pub here : p.is_carried ≡ true → HasCome is_join whole at p.carried
+  pub here : p.is_carried ≡ true → HasArrived is_join whole at p.carried
 
 -- the state that is carried stands before an instruction, of whose edges these are left
 pub record AreLeft (image : ImageValue) (is_join : ℕ → Bool) (p : Passes) (place : Placed)

@@ -7,7 +7,7 @@ ghost use Rattle.tp_flow.specs.declared.edge.Edge.{Edge as AnEdge};
 ghost use Rattle.tp_flow.specs.NestRanges.{ranges};
 ghost use Rattle.tp_flow.specs.NestKept.{KeepsNest};
 ghost use Rattle.tp_image.specs.Image.{InRange};
-ghost use Rattle.tp_state.specs.Order.{IsBelow, TellsChange};
+ghost use Rattle.tp_state.specs.Order.{IsBelow, ReportsChange};
 ghost use Rattle.tp_state.specs.declared.fault.StateFault.TheVariants as fault;
 ghost use Rattle.tp_check.specs.Tables.{table_of, asked};
 ghost use Rattle.tp_check.specs.EdgesRespect.{HasNoTable};
@@ -15,10 +15,10 @@ ghost use Rattle.tp_check.specs.Passes.{enter, edges_of, edges_in, IsRefusalOf};
 ghost use Rattle.tp_check.specs.Carried.{over, IsTableOf};
 ghost use Rattle.tp_check.specs.StatesThere.{AreStatesThere};
 ghost use Rattle.tp_check.specs.Joining.{is_join_at};
-ghost use Rattle.tp_check.specs.UnderWay.{is_in, AreJoins, AreLeft, IsApart, MayBeTaken, StandsIn, IsBefore, KeepsSound};
+ghost use Rattle.tp_check.specs.UnderWay.{is_in, AreJoins, AreLeft, IsApart, MayBeTaken, IsInCode, IsBefore, KeepsSound};
 ghost use Rattle.tp_check.specs.Steps.{IsBeginning, Leaves, HasWhole, Carries, TakesEdges, marked, SameButStates, IsStarted, IsAfterEdge, IsLedOn, IsSettled};
 ghost use Rattle.tp_check.specs.Rising.{Moves};
-ghost use Rattle.tp_check.specs.Comes.{HasPlaces, Gives, CameBefore};
+ghost use Rattle.tp_check.specs.Arrivals.{HasPlaces, Gives, ArrivedBefore};
 
 use crate::predecessors::Predecessors;
 use crate::states::{enter, first_states, read_into};
@@ -205,9 +205,9 @@ impl Passes {
         requires nest { nest.now ≡ ranges image.now.loops }
         requires place { MayBeTaken image.now (length self.old.states.items) place }
         requires sound { KeepsSound image.now place }
-        requires way { (cuts : List Cut) × StandsIn cuts place × AreJoins image.now cuts (is_join_at predecessors.now) ×
+        requires way { (cuts : List Cut) × IsInCode cuts place × AreJoins image.now cuts (is_join_at predecessors.now) ×
             HasWhole image.now cuts (is_join_at predecessors.now) self.old place.at }
-        ensures gives { (cuts : List Cut) → StandsIn cuts place → AreJoins image.now cuts (is_join_at predecessors.now) →
+        ensures gives { (cuts : List Cut) → IsInCode cuts place → AreJoins image.now cuts (is_join_at predecessors.now) →
             TakesEdges image.now cuts (is_join_at predecessors.now) (edges_of place) self.old place.at
             result self.new place.next }
         ensures moves { IfOk result (λ moved. Moves image.now moved self.old.states.items self.new.states.items) }
@@ -237,14 +237,14 @@ impl Passes {
         if !predecessors.is_join(at) {
             return;
         }
-        let comes = self.is_carried;
+        let arrives = self.is_carried;
         let is_marked = self.changed[at];
         self.changed[at] = false;
         self.is_carried = false;
         if !is_marked {
             return;
         }
-        if read_into(&self.states, at, &mut self.carried, comes) {
+        if read_into(&self.states, at, &mut self.carried, arrives) {
             self.is_carried = true;
             self.is_again = self.taken[at];
             self.taken[at] = true;
@@ -367,7 +367,7 @@ impl Passes {
         requires sized { is_join_at predecessors.now to ≡ true →
             IfSome (table_of self.old.states.items to) (λ s. length self.old.carried.cells ≡ length s.cells) }
         requires again { is_join_at predecessors.now to ≡ true → self.old.is_again ≡ true →
-            CameBefore (table_of self.old.states.items to) self.old.carried }
+            ArrivedBefore (table_of self.old.states.items to) self.old.carried }
         ensures is_join { is_join_at predecessors.now to ≡ true →
             Gives result (table_of self.new.states.items) (enter (Some to) self.old.carried (table_of self.old.states.items)) }
         ensures marks { is_join_at predecessors.now to ≡ true →
@@ -375,8 +375,8 @@ impl Passes {
         ensures rest { SameButStates self.old self.new }
         ensures alone { is_join_at predecessors.now to ≡ false → (result ≡ Ok false) × (self.new ≡ self.old) }
         ensures sized { length self.new.states.items ≡ length self.old.states.items }
-        ensures tells { is_join_at predecessors.now to ≡ true →
-            IfOk result (λ moved. TellsChange moved self.old.states.items self.new.states.items) }
+        ensures reports { is_join_at predecessors.now to ≡ true →
+            IfOk result (λ moved. ReportsChange moved self.old.states.items self.new.states.items) }
     {
         if !predecessors.is_join(to) {
             return Ok(false);

@@ -9,8 +9,8 @@ ghost use Rattle.tp_flow.specs.NestKept.{KeepsNest};
 ghost use Rattle.tp_check.specs.Passes.{edges_in, edges_of};
 ghost use Rattle.tp_check.specs.Carried.{is_kept, IsAmong};
 ghost use Rattle.tp_check.specs.UnderWay.{AreJoins, MayBeTaken};
-ghost use Rattle.tp_check.specs.Comes.{HasPlaces};
-ghost use Rattle.tp_check.specs.Joining.{is_join, is_join_at, is_kept_at, with_edge, TellPredecessors};
+ghost use Rattle.tp_check.specs.Arrivals.{HasPlaces};
+ghost use Rattle.tp_check.specs.Joining.{is_join, is_join_at, is_kept_at, with_edge, ArePredecessors};
 
 use crate::passes::asked;
 use std::alloc::{AllocError, Global};
@@ -96,7 +96,7 @@ impl Predecessors {
         requires some { 0 < places }
         requires places { HasPlaces listing.now places }
         ensures sized { IfOk result (λ predecessors. length predecessors ≡ places) }
-        ensures tells { IfOk result (TellPredecessors image.now listing.now (edges_in listing.now)) }
+        ensures reports { IfOk result (ArePredecessors image.now listing.now (edges_in listing.now)) }
     {
         let mut predecessors = vec![in alloc; Predecessor::Unreached; places]?;
         predecessors[0] = Predecessor::Joined;
@@ -111,9 +111,9 @@ impl Predecessors {
         requires nest { nest.now ≡ ranges image.now.loops }
         requires place { MayBeTaken image.now (length self.old) place }
         ensures sized { length self.new ≡ length self.old }
-        ensures tells { (cuts : List Cut) (rest : List (APlace × AnEdge)) →
+        ensures reports { (cuts : List Cut) (rest : List (APlace × AnEdge)) →
             ((e : APlace × AnEdge) → IsAmong (edges_of place) e → IsAmong (edges_in cuts) e) →
-            TellPredecessors image.now cuts (edges_of place ++ rest) self.old → TellPredecessors image.now cuts rest self.new }
+            ArePredecessors image.now cuts (edges_of place ++ rest) self.old → ArePredecessors image.now cuts rest self.new }
     {
         let edges = asked(place.instr);
         for edge in edges {

@@ -1,10 +1,10 @@
 //! What is known before the instructions of a code, by address.
 
 ghost use Rattle.std.specs.Prelude.{◌≡◌, ◌<◌, length, replicate, true, false, Some, None, IfOk, IfSome, OnErr};
-ghost use Rattle.tp_state.specs.Order.{IsBelow, TellsChange};
+ghost use Rattle.tp_state.specs.Order.{IsBelow, ReportsChange};
 ghost use Rattle.tp_check.specs.Tables.{table_of, HasPlacedStates};
 ghost use Rattle.tp_check.specs.Passes.{enter, first_table};
-ghost use Rattle.tp_check.specs.Comes.{Gives, CameBefore};
+ghost use Rattle.tp_check.specs.Arrivals.{Gives, ArrivedBefore};
 
 use std::alloc::{AllocError, Global};
 use tp_image::Image;
@@ -49,10 +49,10 @@ pub fn enter(
 ) -> Result<bool, StateFault>
     requires inside { to < length states.old }
     requires sized { IfSome (table_of states.old to) (λ t. length state.now.cells ≡ length t.cells) }
-    requires again { is_again ≡ true → CameBefore (table_of states.old to) state.now }
+    requires again { is_again ≡ true → ArrivedBefore (table_of states.old to) state.now }
     ensures gives { Gives result (table_of states.new) (enter (Some to) state.now (table_of states.old)) }
     ensures sized { length states.new ≡ length states.old }
-    ensures tells { IfOk result (λ moved. TellsChange moved states.old states.new) }
+    ensures reports { IfOk result (λ moved. ReportsChange moved states.old states.new) }
     ensures kept { OnErr result (states.new ≡ states.old) }
 {
     let slot = &mut states[to];
@@ -82,16 +82,21 @@ pub fn state_at(states: &[Option<State>], at: usize) -> Option<&State>
 
 /// A state takes the value of what is known at an address, if anything is: where it reaches the address, one above it; else any. True
 /// where something is known there.
-pub(crate) fn read_into(states: &[Option<State>], at: usize, state: &mut State, comes: bool) -> bool
+pub(crate) fn read_into(
+    states: &[Option<State>],
+    at: usize,
+    state: &mut State,
+    arrives: bool,
+) -> bool
     requires sized { IfSome (table_of states.now at) (λ s. length s.cells ≡ length state.old.cells) }
-    requires below { comes ≡ true → IfSome (table_of states.now at) (IsBelow state.old) }
+    requires below { arrives ≡ true → IfSome (table_of states.now at) (IsBelow state.old) }
     ensures some { result ≡ true → table_of states.now at ≡ Some state.new }
     ensures none { result ≡ false → (table_of states.now at ≡ None) × (state.new ≡ state.old) }
 {
     let Some(there) = state_at(states, at) else {
         return false;
     };
-    if comes {
+    if arrives {
         state.raise_to(there);
     } else {
         state.set_to(there);

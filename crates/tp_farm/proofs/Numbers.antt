@@ -14,7 +14,7 @@ use Rattle.tp_farm.specs.declared.member.Filed.{Filed}
 use Rattle.tp_farm.specs.declared.member.Filed.TheVariants as filed
 use Rattle.tp_farm.specs.Members.{filed_failed, done_numbers, lost_numbers}
 use Rattle.tp_farm.specs.Gathering.{number_of, entry_of, filed_in, FindVacant}
-use Rattle.tp_farm.specs.Batches.{tells_failure}
+use Rattle.tp_farm.specs.Batches.{reports_failure}
 
 abbrev pub numbers : List Filed → List ℕ
 numbers fs = map number_of fs
@@ -82,22 +82,22 @@ find_vacant entries (f ∷ more) once free =
 
 -- ---- how often entries tell of a failure
 
-tells_filed : (which : Link) (f : Filed) → tells_failure which (entry_of f) ≡ filed_failed which f
+tells_filed : (which : Link) (f : Filed) → reports_failure which (entry_of f) ≡ filed_failed which f
 tells_filed which (filed.Done d) = refl
 tells_filed which (filed.Lost n f) = refl
 
 pub tells_all : (which : Link) (entries : List Entry) (fs : List Filed) → FindVacant entries fs
-    → sum_by (tells_failure which) (filed_in entries fs) ≡ sum_by (tells_failure which) entries + sum_by (filed_failed which) fs
+    → sum_by (reports_failure which) (filed_in entries fs) ≡ sum_by (reports_failure which) entries + sum_by (filed_failed which) fs
 tells_all which entries [] v = omega arith
 tells_all which entries (f ∷ more) v =
     let within : number_of f < length entries = slice_get_within entries (number_of f) vacant v.0 in
     let was : get_or entries (number_of f) vacant ≡ vacant = get_or_from_slice_get entries (number_of f) vacant vacant v.0 in
-    let set = sum_by-set (tells_failure which) entries (number_of f) (entry_of f) vacant within in
+    let set = sum_by-set (reports_failure which) entries (number_of f) (entry_of f) vacant within in
     omega (
       arith,
       tells_all which (slice_set entries (number_of f) (entry_of f)) more v.1,
       set,
-      ap (tells_failure which) was,
+      ap (reports_failure which) was,
       tells_filed which f,
       sum_by-cons (filed_failed which) f more,
     )

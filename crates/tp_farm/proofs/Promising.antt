@@ -21,7 +21,7 @@ use Rattle.tp_collect.specs.DoneValue.{DoneValue, run_of_done, most_trace}
 use Rattle.tp_collect.specs.Collected.{JobValue, IsResult}
 use Rattle.tp_farm.specs.Losses.{HasCause, MayLose, TracesMore}
 use Rattle.tp_farm.specs.Batches.{IsBatch}
-use Rattle.tp_farm.specs.Promised.{GivesRun, GoesWell, Takes, TakeAll, ComesTo, LosesLongTracesAlone}
+use Rattle.tp_farm.specs.Promised.{GivesRun, GoesWell, Takes, TakeAll, IsEntryOf, LosesLongTracesAlone}
 
 one_of : {A : Type 0} (P : A → Type 0) (xs : List A) (i : ℕ) (x : A) → All P xs → slice_get xs i ≡ Some x → P x
 one_of P xs i x all at = subst P (get_or_from_slice_get xs i x x at) (all i x (slice_get_within xs i x at))
@@ -102,7 +102,7 @@ module _ (batch : JobValue) (budget : ℕ) (never : ending.NeverGoesWrong batch.
     gives (entry.Lost cause) is = tt
 
     comes : open_for_good ≡ true → All (TakeAll batch.image) before → (e : Entry) → slice_get entries i ≡ Some e
-        → ComesTo ends.run e
+        → IsEntryOf ends.run e
     comes opened take (entry.Done done) is =
         let r = b.collected.each i (entry.Done done) is in
         let same = result_is done r in

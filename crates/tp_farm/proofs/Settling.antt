@@ -29,7 +29,7 @@ use Rattle.tp_farm.specs.Members.{KeepsAccounts, EndsBy, IsFiled, filed_failed}
 use Rattle.tp_farm.specs.Closing.{all_finished, all_abandoned, put_down, IsBorneOut, AddsUp}
 use Rattle.tp_farm.specs.Gathering.{number_of, entry_of, filed_in, FindVacant, all_filed, fault_of_end}
 use Rattle.tp_farm.specs.Jobs.{AreWhole}
-use Rattle.tp_farm.specs.Batches.{device_at, failures_at, tells_failure, LostBySome, IsBatch}
+use Rattle.tp_farm.specs.Batches.{device_at, failures_at, reports_failure, LostBySome, IsBatch}
 use Rattle.tp_farm.proofs.Numbers.{numbers, times-append, times_parts, find_vacant, tells_all, none_filed}
 use Rattle.tp_farm.proofs.Origins.{Comes, comes_from}
 
@@ -142,9 +142,9 @@ module _ (batch : JobValue) (o : Bool) where
       lost_from (map (λ m. m.before) ms) 0 ms (λ i m is. subst (λ k. slice_get (map (λ m. m.before) ms) k ≡ Some m.before)
       (omega arith) (before_at ms i m is)) h
 
-  none_of : (which : Link) (k : ℕ) → sum_by (tells_failure which) (replicate k vacant) ≡ 0
+  none_of : (which : Link) (k : ℕ) → sum_by (reports_failure which) (replicate k vacant) ≡ 0
   none_of which zero = refl
-  none_of which (suc k) = omega (arith, sum_by-cons (tells_failure which) vacant (replicate k vacant), none_of which k)
+  none_of which (suc k) = omega (arith, sum_by-cons (reports_failure which) vacant (replicate k vacant), none_of which k)
 
   -- ---- the entries
 
@@ -179,17 +179,17 @@ module _ (batch : JobValue) (o : Bool) where
             slice_get-get_or (replicate n vacant) x vacant (omega (arith, length-replicate n vacant, lt, b.within))
             ∙ ap Some (get_or-replicate n x vacant vacant (omega (arith, lt, b.within)))
 
-    none_told : (which : Link) → sum_by (tells_failure which) (replicate n vacant) ≡ 0
+    none_told : (which : Link) → sum_by (reports_failure which) (replicate n vacant) ≡ 0
     none_told which = none_of which n
 
     failures : (which : Link) (entries : List Entry) → entries ≡ filed_in (replicate n vacant) (everything ms)
         → failures_at which (map (λ m. m.after) ms) ≡ failures_at which (map (λ m. m.before) ms) + sum_by
-        (tells_failure which) entries
+        (reports_failure which) entries
     failures which entries is =
         omega (
           arith,
           failed_all which ms h,
-          ap (sum_by (tells_failure which)) is,
+          ap (sum_by (reports_failure which)) is,
           tells_all which (replicate n vacant) (everything ms) all_vacant,
           none_told which,
         )

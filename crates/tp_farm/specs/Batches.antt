@@ -28,10 +28,10 @@ abbrev pub failures_at : Link → List Devices → ℕ
 failures_at which all = sum_by (λ devices. (device_at which devices).faults) all
 
 -- 1 where an entry is a failure of the link's device, else 0
-abbrev pub tells_failure : Link → Entry → ℕ
-tells_failure which (entry.Done done) = 0
-tells_failure which (entry.Lost (cause.Link fault)) = failed_by which fault
-tells_failure which (entry.Lost cause.Stopped) = 0
+abbrev pub reports_failure : Link → Entry → ℕ
+reports_failure which (entry.Done done) = 0
+reports_failure which (entry.Lost (cause.Link fault)) = failed_by which fault
+reports_failure which (entry.Lost cause.Stopped) = 0
 
 -- the devices of some member may have lost packet i of the batch so
 pub record LostBySome (batch : JobValue) (members : List Devices) (i : ℕ) (fault : LinkFault) : Type 0 where
@@ -53,7 +53,7 @@ pub record IsBatch (batch : JobValue) (open_for_good : Bool) (before after : Lis
   pub settings : AllZip SameSettings before after
   -- as many entries tell of a failure of a link as its devices have failed in all
   pub failures : (which : Link)
-      → failures_at which after ≡ failures_at which before + sum_by (tells_failure which) entries
+      → failures_at which after ≡ failures_at which before + sum_by (reports_failure which) entries
   -- each loss by a device has its cause
   pub losses : (i : ℕ) (fault : LinkFault) → slice_get entries i ≡ Some (entry.Lost (cause.Link fault))
       → LostBySome batch before i fault

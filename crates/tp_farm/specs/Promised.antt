@@ -48,18 +48,18 @@ pub record TakeAll (image : ImageValue) (devices : Devices) : Type 0 where
   pub trace : Takes most_trace devices.trace
 
 -- the outcome of a run: its result, or where its trace is longer than it may be, a loss for want of room in the trace
-abbrev pub ComesTo : Run → Entry → Type 0
-ComesTo run (entry.Done done) = (run_of_done done ≡ run) × (length run.trace ≤ most_trace)
-ComesTo run (entry.Lost (cause.Link fault)) =
+abbrev pub IsEntryOf : Run → Entry → Type 0
+IsEntryOf run (entry.Done done) = (run_of_done done ≡ run) × (length run.trace ≤ most_trace)
+IsEntryOf run (entry.Lost (cause.Link fault)) =
     (fault ≡ record { link = Trace; code = Full }) × (most_trace < length run.trace)
-ComesTo run (entry.Lost cause.Stopped) = ⊥
+IsEntryOf run (entry.Lost cause.Stopped) = ⊥
 
 -- packet i has the outcome of its run alone
 pub record IsComplete (batch : JobValue) (budget : ℕ) (entries : List Entry) (i : ℕ) (packet : List ℕ) : Type 0 where
   pub ends : EndsWithin batch.image budget packet
   pub entry : Entry
   pub there : slice_get entries i ≡ Some entry
-  pub comes : ComesTo ends.run entry
+  pub comes : IsEntryOf ends.run entry
 
 -- so does each packet
 abbrev pub LosesLongTracesAlone : JobValue → (budget : ℕ) → List Entry → Type 0

@@ -17,7 +17,7 @@ use Rattle.tp_requests.specs.Lines.{Line}
 use Rattle.tp_answers.specs.Results.{RunResult}
 use Rattle.tp_answers.specs.Sessions.{Session}
 use Rattle.tp_answers.specs.Rules.{IsVerdict, IsOutcome}
-use Rattle.tp_session.specs.Protocol.{AreTold}
+use Rattle.tp_session.specs.Protocol.{AreAnswered}
 use Rattle.tp_session.specs.InTime.{IsBudgetOf, IsOutcomeInTime}
 use Rattle.tp_session.proofs.OtherRules.{told_so}
 
@@ -29,7 +29,7 @@ AllowedAlone = (text : List ℕ) (image : ImageValue) (budget : ℕ) → IsTextO
 -- a session whose image was accepted, and whose packets are packets
 record IsGood (s : Session) : Type 0 where
   budget : ℕ
-  told : IsBudgetOf s.image budget
+  is_stated : IsBudgetOf s.image budget
   packets : AllByRecursion (IsPacket s.image) s.packets
 
 one_more : (image : ImageValue) (packets : List (List ℕ)) (p : List ℕ) → AllByRecursion (IsPacket image) packets → IsPacket image p
@@ -44,29 +44,29 @@ bytes_below (b ∷ packet) is = All-cons (λ byte. byte < 256) b packet (is 0) (
 module _ (alone : AllowedAlone) where
   in_time : (image : ImageValue) (budget : ℕ) → IsBudgetOf image budget → (packet : List ℕ) → IsPacket image packet → (o : Option RunResult)
       → IsOutcome image packet o → IsOutcomeInTime image packet o
-  in_time image budget told packet is (Some run) outcome =
-      let ends = never_goes_wrong image budget (alone told.0 image budget told.1.0 told.1.1) packet is in
+  in_time image budget is_stated packet is (Some run) outcome =
+      let ends = never_goes_wrong image budget (alone is_stated.0 image budget is_stated.1.0 is_stated.1.1) packet is in
       let same = one_run image packet ends.run (run_giving run.result run.error run.steps run.trace) ends.alone outcome.0 in
-      record { is = outcome; budget = budget; told = told; ends = ends; steps = subst (λ (r : Run). r.steps ≤ budget) same ends.within }
-  in_time image budget told packet is None outcome =
-      let ends = never_goes_wrong image budget (alone told.0 image budget told.1.0 told.1.1) packet is in
-      record { is = outcome; budget = budget; told = told; ends = ends; steps = tt }
+      record { is = outcome; budget = budget; is_stated = is_stated; ends = ends; steps = subst (λ (r : Run). r.steps ≤ budget) same ends.within }
+  in_time image budget is_stated packet is None outcome =
+      let ends = never_goes_wrong image budget (alone is_stated.0 image budget is_stated.1.0 is_stated.1.1) packet is in
+      record { is = outcome; budget = budget; is_stated = is_stated; ends = ends; steps = tt }
 
   all_in_time : (image : ImageValue) (budget : ℕ) → IsBudgetOf image budget → (packets : List (List ℕ)) (os : List (Option RunResult))
       → AllByRecursion (IsPacket image) packets → AllZip (IsOutcome image) packets os → AllZip (IsOutcomeInTime image) packets os
-  all_in_time image budget told [] [] all are = tt
-  all_in_time image budget told [] (o ∷ os) all are = absurd are
-  all_in_time image budget told (p ∷ packets) [] all are = absurd are
-  all_in_time image budget told (p ∷ packets) (o ∷ os) all are =
-      (in_time image budget told p all.0 o are.0, all_in_time image budget told packets os all.1 are.1)
+  all_in_time image budget is_stated [] [] all are = tt
+  all_in_time image budget is_stated [] (o ∷ os) all are = absurd are
+  all_in_time image budget is_stated (p ∷ packets) [] all are = absurd are
+  all_in_time image budget is_stated (p ∷ packets) (o ∷ os) all are =
+      (in_time image budget is_stated p all.0 o are.0, all_in_time image budget is_stated packets os all.1 are.1)
 
-  pub told_in_time : (trace : Bool) (lines : List Line) (told : List ℕ) → AreTold IsVerdict IsOutcome trace lines told
-      → AreTold IsVerdict IsOutcomeInTime trace lines told
-  told_in_time =
+  pub served_in_time : (trace : Bool) (lines : List Line) (output : List ℕ) → AreAnswered IsVerdict IsOutcome trace lines output
+      → AreAnswered IsVerdict IsOutcomeInTime trace lines output
+  served_in_time =
       told_so IsVerdict IsVerdict IsOutcome IsOutcomeInTime (λ text v judged. judged) IsGood
-      (λ name text image budget judged. record { budget = budget; told = (text, judged); packets = tt })
+      (λ name text image budget judged. record { budget = budget; is_stated = (text, judged); packets = tt })
       (λ s packet bytes long g.
       let is : IsPacket s.image packet = record { long = long; bytes = bytes_below packet bytes } in
-      record { budget = g.budget; told = g.told; packets = one_more s.image s.packets packet g.packets is })
-      (λ s g. record { budget = g.budget; told = g.told; packets = tt })
-      (λ s os g are. all_in_time s.image g.budget g.told s.packets os g.packets are)
+      record { budget = g.budget; is_stated = g.is_stated; packets = one_more s.image s.packets packet g.packets is })
+      (λ s g. record { budget = g.budget; is_stated = g.is_stated; packets = tt })
+      (λ s os g are. all_in_time s.image g.budget g.is_stated s.packets os g.packets are)

@@ -21,7 +21,7 @@ use Rattle.tp_answers.specs.Texts.{answer_text}
 use Rattle.tp_answers.specs.Answers.{Verdict, Accepts, Refuses, answer_by, after_verdict, IsAnswerToList, IsAnswerToImage, IsAfterImage, IsRun}
 use Rattle.tp_answers.specs.Answers.{IsAnswerToRun, IsAnswer, IsAfter}
 use Rattle.tp_answers.specs.Rules.{IsVerdict, IsOutcome}
-use Rattle.tp_session.specs.Protocol.{most_line, next_number, IsAsked, IsAnswered, AreAnswers, AreTold}
+use Rattle.tp_session.specs.Protocol.{most_line, next_number, IsAsked, IsAnswered, AreAnswers, AreAnswered}
 
 -- ---- a line asks for one thing
 
@@ -37,14 +37,14 @@ list_once (Ok cuts) a b is is' = is ∙ sym is'
 list_once (Err (decode_fault.Refused code place)) a b is is' = is ∙ sym is'
 list_once (Err decode_fault.Memory) a b is is' = absurd is
 
-module _ (Judges : List ℕ → Verdict → Type 0) (ComesTo : ImageValue → List ℕ → Option RunResult → Type 0) where
+module _ (Judges : List ℕ → Verdict → Type 0) (HasOutcome : ImageValue → List ℕ → Option RunResult → Type 0) where
   -- ---- under verdicts and outcomes of which there is one each
 
   module _ (one_verdict : (text : List ℕ) (v w : Verdict) → Judges text v → Judges text w → v ≡ w)
-      (one_outcome : (image : ImageValue) (packet : List ℕ) (o p : Option RunResult) → ComesTo image packet o → ComesTo image packet p → o ≡ p)
+      (one_outcome : (image : ImageValue) (packet : List ℕ) (o p : Option RunResult) → HasOutcome image packet o → HasOutcome image packet p → o ≡ p)
     where
-      outcomes_once : (image : ImageValue) (packets : List (List ℕ)) (os ps : List (Option RunResult)) → AllZip (ComesTo image) packets os
-          → AllZip (ComesTo image) packets ps → os ≡ ps
+      outcomes_once : (image : ImageValue) (packets : List (List ℕ)) (os ps : List (Option RunResult)) → AllZip (HasOutcome image) packets os
+          → AllZip (HasOutcome image) packets ps → os ≡ ps
       outcomes_once image [] [] [] is is' = refl
       outcomes_once image [] (o ∷ os) ps is is' = absurd is
       outcomes_once image [] [] (p ∷ ps) is is' = absurd is'
@@ -53,8 +53,8 @@ module _ (Judges : List ℕ → Verdict → Type 0) (ComesTo : ImageValue → Li
       outcomes_once image (packet ∷ packets) (o ∷ os) (p ∷ ps) is is' =
           ap (λ x. x ∷ os) (one_outcome image packet o p is.0 is'.0) ∙ ap (λ xs. p ∷ xs) (outcomes_once image packets os ps is.1 is'.1)
 
-      runs_once : (sessions : List Session) (rs qs : List (List ℕ × List (Option RunResult))) → AllZip (IsRun ComesTo) sessions rs
-          → AllZip (IsRun ComesTo) sessions qs → rs ≡ qs
+      runs_once : (sessions : List Session) (rs qs : List (List ℕ × List (Option RunResult))) → AllZip (IsRun HasOutcome) sessions rs
+          → AllZip (IsRun HasOutcome) sessions qs → rs ≡ qs
       runs_once [] [] [] is is' = refl
       runs_once [] (r ∷ rs) qs is is' = absurd is
       runs_once [] [] (q ∷ qs) is is' = absurd is'
@@ -71,13 +71,13 @@ module _ (Judges : List ℕ → Verdict → Type 0) (ComesTo : ImageValue → Li
       image_once false text a b (v, judged, is) (w, judged', is') =
           is ∙ ap answer_by (one_verdict text v w judged judged') ∙ sym is'
 
-      run_once : (o : Option Session) (a b : Answer) → IsAnswerToRun ComesTo o a → IsAnswerToRun ComesTo o b → a ≡ b
+      run_once : (o : Option Session) (a b : Answer) → IsAnswerToRun HasOutcome o a → IsAnswerToRun HasOutcome o b → a ≡ b
       run_once None a b is is' = is ∙ sym is'
       run_once (Some s) a b (os, each, is) (ps, each', is') =
           is ∙ ap Ran (outcomes_once s.image s.packets os ps each each') ∙ sym is'
 
-      answer_once : (asked : Option Asked) (before : List Session) (a b : Answer) → IsAnswer Judges ComesTo asked before a
-          → IsAnswer Judges ComesTo asked before b → a ≡ b
+      answer_once : (asked : Option Asked) (before : List Session) (a b : Answer) → IsAnswer Judges HasOutcome asked before a
+          → IsAnswer Judges HasOutcome asked before b → a ≡ b
       answer_once None before a b is is' = is ∙ sym is'
       answer_once (Some (ToList code)) before a b is is' = list_once (cutting code) a b is is'
       answer_once (Some (ToOpen name text)) before a b is is' = image_once (is_full name before) text a b is is'
@@ -101,27 +101,27 @@ module _ (Judges : List ℕ → Verdict → Type 0) (ComesTo : ImageValue → Li
       after_once (Some ToRunAll) before s t is is' = is ∙ sym is'
       after_once (Some (ToDrop name)) before s t is is' = is ∙ sym is'
 
-      pub one_line : (line : Line) (before : List Session) (a b : Answer) (s t : List Session) → IsAnswered Judges ComesTo line before a s
-          → IsAnswered Judges ComesTo line before b t → (a ≡ b) × (s ≡ t)
+      pub one_line : (line : Line) (before : List Session) (a b : Answer) (s t : List Session) → IsAnswered Judges HasOutcome line before a s
+          → IsAnswered Judges HasOutcome line before b t → (a ≡ b) × (s ≡ t)
       one_line line before a b s t is is' =
           let asked = asked_once (nat_lt most_line (length line.bytes)) (said_in line) is.asked is'.asked is.asks is'.asks in
-          let same = subst (λ o. IsAnswer Judges ComesTo o before a × IsAfter Judges o before s) asked (is.answer_is, is.after_is) in
+          let same = subst (λ o. IsAnswer Judges HasOutcome o before a × IsAfter Judges o before s) asked (is.answer_is, is.after_is) in
           (answer_once is'.asked before a b same.0 is'.answer_is, after_once is'.asked before s t same.1 is'.after_is)
 
-      one_list : (trace : Bool) (number : ℕ) (before : List Session) (lines : List Line) (told told' : List ℕ) (s t : List Session)
-          → AreAnswers Judges ComesTo trace number before lines told s → AreAnswers Judges ComesTo trace number before lines told' t
-          → told ≡ told'
-      one_list trace number before [] told told' s t is is' = is.0 ∙ sym is'.0
-      one_list trace n before (line ∷ lines) told told' s t (a, next, rest, one, each, is) (b, next', rest', one', each', is') =
+      one_list : (trace : Bool) (number : ℕ) (before : List Session) (lines : List Line) (output output' : List ℕ) (s t : List Session)
+          → AreAnswers Judges HasOutcome trace number before lines output s → AreAnswers Judges HasOutcome trace number before lines output' t
+          → output ≡ output'
+      one_list trace number before [] output output' s t is is' = is.0 ∙ sym is'.0
+      one_list trace n before (line ∷ lines) output output' s t (a, next, rest, one, each, is) (b, next', rest', one', each', is') =
           let first = one_line line before a b next next' one one' in
           let then =
           one_list trace (next_number n) next' lines rest rest' s t
-          (subst (λ between. AreAnswers Judges ComesTo trace (next_number n) between lines rest s) first.1 each) each' in
+          (subst (λ between. AreAnswers Judges HasOutcome trace (next_number n) between lines rest s) first.1 each) each' in
           is ∙ ap (λ x. answer_text trace n x ++ rest) first.0 ∙ ap (λ l. answer_text trace n b ++ l) then ∙ sym is'
 
-      pub one_told : (trace : Bool) (lines : List Line) (told told' : List ℕ) → AreTold Judges ComesTo trace lines told
-          → AreTold Judges ComesTo trace lines told' → told ≡ told'
-      one_told trace lines told told' (s, is) (t, is') = one_list trace 1 [] lines told told' s t is is'
+      pub one_told : (trace : Bool) (lines : List Line) (output output' : List ℕ) → AreAnswered Judges HasOutcome trace lines output
+          → AreAnswered Judges HasOutcome trace lines output' → output ≡ output'
+      one_told trace lines output output' (s, is) (t, is') = one_list trace 1 [] lines output output' s t is is'
 
 -- ---- the rules of the product: one verdict, and one outcome
 

@@ -17,16 +17,16 @@ use Rattle.tp_answers.specs.Results.{RunResult}
 use Rattle.tp_answers.specs.Sessions.{Session, is_of, named, is_full, with_session, with_changed, without_session, with_packet, without_packets}
 use Rattle.tp_answers.specs.Answers.{Verdict, Accepts, Refuses, answer_to_packet, unless_refused}
 use Rattle.tp_answers.specs.Answers.{IsAnswerToImage, IsAfterImage, IsRun, IsAnswerToRun, IsAnswer, IsAfter}
-use Rattle.tp_session.specs.Protocol.{most_line, next_number, IsAsked, AreAnswers, AreTold}
+use Rattle.tp_session.specs.Protocol.{most_line, next_number, IsAsked, AreAnswers, AreAnswered}
 
-module _ (Judges Judges' : List ℕ → Verdict → Type 0) (ComesTo ComesTo' : ImageValue → List ℕ → Option RunResult → Type 0)
+module _ (Judges Judges' : List ℕ → Verdict → Type 0) (HasOutcome HasOutcome' : ImageValue → List ℕ → Option RunResult → Type 0)
     (verdicts : (text : List ℕ) (v : Verdict) → Judges text v → Judges' text v) (Good : Session → Type 0)
     (opens : (name text : List ℕ) (image : ImageValue) (budget : ℕ) → Judges text (Accepts image budget)
     → Good record { name = name; image = image; packets = [] })
     (keeps : (s : Session) (packet : List ℕ) → IsBytes packet → length packet ≡ 4 * s.image.packet → Good s → Good (with_packet packet s))
     (forgets : (s : Session) → Good s → Good (without_packets s))
-    (outcomes : (s : Session) (os : List (Option RunResult)) → Good s → AllZip (ComesTo s.image) s.packets os
-    → AllZip (ComesTo' s.image) s.packets os)
+    (outcomes : (s : Session) (os : List (Option RunResult)) → Good s → AllZip (HasOutcome s.image) s.packets os
+    → AllZip (HasOutcome' s.image) s.packets os)
   where
     -- ---- sessions that can be open
 
@@ -126,19 +126,19 @@ module _ (Judges Judges' : List ℕ → Verdict → Type 0) (ComesTo ComesTo' : 
     image_so false text a (v, judged, is) = (v, verdicts text v judged, is)
 
     run_so : (name : List ℕ) (before : List Session) (a : Answer) → AreGood before → (o : Option Session) → named name before ≡ o
-        → IsAnswerToRun ComesTo o a → IsAnswerToRun ComesTo' o a
+        → IsAnswerToRun HasOutcome o a → IsAnswerToRun HasOutcome' o a
     run_so name before a all None e is = is
     run_so name before a all (Some s) e (os, each, is) = (os, outcomes s os (good_named name before all s e) each, is)
 
     runs_so : (sessions : List Session) (runs : List (List ℕ × List (Option RunResult))) → AreGood sessions
-        → AllZip (IsRun ComesTo) sessions runs → AllZip (IsRun ComesTo') sessions runs
+        → AllZip (IsRun HasOutcome) sessions runs → AllZip (IsRun HasOutcome') sessions runs
     runs_so [] [] all is = tt
     runs_so [] (r ∷ runs) all is = absurd is
     runs_so (s ∷ sessions) [] all is = absurd is
     runs_so (s ∷ sessions) (r ∷ runs) all is = ((is.0.0, outcomes s r.1 all.0 is.0.1), runs_so sessions runs all.1 is.1)
 
-    answer_so : (asked : Option Asked) (before : List Session) (a : Answer) → AreGood before → IsAnswer Judges ComesTo asked before a
-        → IsAnswer Judges' ComesTo' asked before a
+    answer_so : (asked : Option Asked) (before : List Session) (a : Answer) → AreGood before → IsAnswer Judges HasOutcome asked before a
+        → IsAnswer Judges' HasOutcome' asked before a
     answer_so None before a all is = is
     answer_so (Some (ToList code)) before a all is = is
     answer_so (Some (ToOpen name text)) before a all is = image_so (is_full name before) text a is
@@ -163,10 +163,10 @@ module _ (Judges Judges' : List ℕ → Verdict → Type 0) (ComesTo ComesTo' : 
 
     -- ---- an input
 
-    answers_so : (trace : Bool) (number : ℕ) (before : List Session) (lines : List Line) (told : List ℕ) (after : List Session) → AreGood before
-        → AreAnswers Judges ComesTo trace number before lines told after → AreAnswers Judges' ComesTo' trace number before lines told after
-    answers_so trace number before [] told after all is = is
-    answers_so trace number before (line ∷ lines) told after all (a, between, rest, one, each, is) =
+    answers_so : (trace : Bool) (number : ℕ) (before : List Session) (lines : List Line) (output : List ℕ) (after : List Session) → AreGood before
+        → AreAnswers Judges HasOutcome trace number before lines output after → AreAnswers Judges' HasOutcome' trace number before lines output after
+    answers_so trace number before [] output after all is = is
+    answers_so trace number before (line ∷ lines) output after all (a, between, rest, one, each, is) =
         let next = good_after (nat_lt most_line (length line.bytes)) (said_in line) one.asked before between all one.asks one.after_is in (
           a,
           between,
@@ -181,6 +181,6 @@ module _ (Judges Judges' : List ℕ → Verdict → Type 0) (ComesTo ComesTo' : 
           is,
         )
 
-    pub told_so : (trace : Bool) (lines : List Line) (told : List ℕ) → AreTold Judges ComesTo trace lines told
-        → AreTold Judges' ComesTo' trace lines told
-    told_so trace lines told (after, is) = (after, answers_so trace 1 [] lines told after tt is)
+    pub told_so : (trace : Bool) (lines : List Line) (output : List ℕ) → AreAnswered Judges HasOutcome trace lines output
+        → AreAnswered Judges' HasOutcome' trace lines output
+    told_so trace lines output (after, is) = (after, answers_so trace 1 [] lines output after tt is)

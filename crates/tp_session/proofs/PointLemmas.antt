@@ -9,19 +9,19 @@ use Rattle.tp_answers.specs.Sessions.{Session}
 use Rattle.tp_answers.specs.Rules.{IsVerdict, IsOutcome}
 use Rattle.tp_answers.specs.Texts.{answer_text}
 use Rattle.tp_session.specs.Protocol.{next_number, AreAnswers}
-use Rattle.tp_session.specs.Served.{AreTold}
+use Rattle.tp_session.specs.Served.{AreAnswered}
 use Rattle.tp_session.specs.Services.{AnswersLine}
 use Rattle.tp_session.specs.Points.{Point, number_after, IsPlain, HasReached}
 use Rattle.tp_session.proofs.LineLemmas.{plain_more, lines_plain, lines_none, lines_ended, ended_plain, filter-append}
 
 -- ---- the answers to one line more
 
-pub answers_more : (trace : Bool) (number : ℕ) (before : List Session) (lines : List Line) (told : List ℕ) (between : List Session)
+pub answers_more : (trace : Bool) (number : ℕ) (before : List Session) (lines : List Line) (output : List ℕ) (between : List Session)
     (line : Line) (answer : Answer) (after : List Session)
-    → AreAnswers IsVerdict IsOutcome trace number before lines told between → AnswersLine line between answer after
+    → AreAnswers IsVerdict IsOutcome trace number before lines output between → AnswersLine line between answer after
     → AreAnswers IsVerdict IsOutcome trace number before (lines ++ line ∷ [])
-    (told ++ answer_text trace (number_after number lines) answer) after
-answers_more trace number before [] told between line answer after all one = (
+    (output ++ answer_text trace (number_after number lines) answer) after
+answers_more trace number before [] output between line answer after all one = (
   answer,
   after,
   [],
@@ -29,7 +29,7 @@ answers_more trace number before [] told between line answer after all one = (
   (refl, refl),
   ap (λ l. l ++ answer_text trace number answer) all.0 ∙ sym (append-nil (answer_text trace number answer)),
 )
-answers_more trace number before (first ∷ lines) told between line answer after (front, next, rest, is, others, told_is) one = (
+answers_more trace number before (first ∷ lines) output between line answer after (front, next, rest, is, others, told_is) one = (
   front,
   next,
   rest ++ answer_text trace (number_after (next_number number) lines) answer,
@@ -47,7 +47,7 @@ number_more number (first ∷ lines) line = number_more (next_number number) lin
 -- ---- points
 
 abbrev pub start : Point
-start = record { taken = []; lines = []; line = []; told = []; sessions = [] }
+start = record { taken = []; lines = []; line = []; output = []; sessions = [] }
 
 pub starts : (trace : Bool) → HasReached trace start
 starts trace = record { ended = refl; goes = λ more. refl; plain = tt; answered = (refl, refl) }
@@ -84,7 +84,7 @@ with_line trace s answer after = record {
   taken = s.taken ++ line_feed ∷ [];
   lines = lines_now s true;
   line = [];
-  told = s.told ++ text_now trace s answer;
+  output = s.output ++ text_now trace s answer;
   sessions = after;
 }
 
@@ -102,7 +102,7 @@ reached_line trace s answer after reached is = record {
   ended = filter-append (λ line. line.ended) s.lines (line_now s true ∷ []) ∙ ap (λ l. l ++ line_now s true ∷ []) reached.ended;
   goes = begins_line trace s reached;
   plain = tt;
-  answered = answers_more trace 1 [] s.lines s.told s.sessions (line_now s true) answer after reached.answered is;
+  answered = answers_more trace 1 [] s.lines s.output s.sessions (line_now s true) answer after reached.answered is;
 }
 
 -- the lines that the taken bytes end
@@ -114,7 +114,7 @@ ended_so_far trace s reached =
     ∙ ap (λ l. filter (λ line. line.ended) s.lines ++ l) (ended_plain s.line reached.plain)
     ∙ append-nil (filter (λ line. line.ended) s.lines) ∙ reached.ended
 
-pub told_ended : (trace : Bool) (s : Point) → HasReached trace s → AreTold trace (ended_lines s.taken) s.told
+pub told_ended : (trace : Bool) (s : Point) → HasReached trace s → AreAnswered trace (ended_lines s.taken) s.output
 told_ended trace s reached = (s.sessions, rw (ended_so_far trace s reached) reached.answered)
 
 -- all lines, where nothing is left
@@ -123,7 +123,7 @@ lines_whole trace s reached none =
     ap lines_of (sym (append-nil s.taken)) ∙ reached.goes [] ∙ ap (λ l. s.lines ++ lines_of (l ++ [])) none
     ∙ ap (λ l. s.lines ++ l) lines_none ∙ append-nil s.lines
 
-pub told_whole : (trace : Bool) (s : Point) → HasReached trace s → s.line ≡ [] → AreTold trace (lines_of s.taken) s.told
+pub told_whole : (trace : Bool) (s : Point) → HasReached trace s → s.line ≡ [] → AreAnswered trace (lines_of s.taken) s.output
 told_whole trace s reached none = (s.sessions, rw (lines_whole trace s reached none) reached.answered)
 
 -- all lines, where a rest is left

@@ -20,7 +20,7 @@ use Rattle.tp_session.specs.declared.fault.ServeFault.TheVariants.{Read, Write, 
 use Rattle.tp_session.specs.declared.progress.Progress.{Progress}
 use Rattle.tp_session.specs.declared.service.Service.{Service}
 use Rattle.tp_session.specs.Protocol.{most_line, next_number}
-use Rattle.tp_session.specs.Served.{AreTold, AreWritten, AreWrittenBefore}
+use Rattle.tp_session.specs.Served.{AreAnswered, AreWritten, AreWrittenBefore}
 use Rattle.tp_session.specs.Services.{StaysOn, IsResourceFault, AnswersText, AnswersLine, IsSentInPart}
 use Rattle.tp_session.specs.Points.{Point, number_after, IsPlain, Keeps, IsAt, Fails, GoesOn}
 use Rattle.tp_session.proofs.KnownBytes.{appends_same, appends_front}
@@ -127,23 +127,23 @@ module _ {D : Type 0} (state : D → DeviceState) (trace : Bool) (begun now : Op
       → AnswersLine (line_now s ended) s.sessions answer after
   answer_at ended answer after is = subst (λ sessions. AnswersLine (line_now s ended) sessions answer after) at.sessions is
 
-  pub text_at : (told : Bool) (answer : Answer) → told ≡ service.trace → answer_text told p.number answer ≡ text_now trace s answer
-  text_at told answer same =
+  pub text_at : (output : Bool) (answer : Answer) → output ≡ service.trace → answer_text output p.number answer ≡ text_now trace s answer
+  text_at output answer same =
       ap (λ t. answer_text t p.number answer) (same ∙ at.trace_is) ∙ ap (λ n. answer_text trace n answer) at.keeps.number_is
 
   -- what was told is written, and the answer to the line that is being read is told
   written : (now' : Option (List ℕ)) → Appends now now' [] → AreWritten trace (ended_lines s.taken) begun now'
   written now' nothing =
       record {
-        told = s.told;
+        output = s.output;
         is = told_ended trace s at.reached;
-        wrote = appends_same _ _ _ _ (append-nil s.told) (Appends-trans begun now now' s.told [] at.wrote nothing);
+        wrote = appends_same _ _ _ _ (append-nil s.output) (Appends-trans begun now now' s.output [] at.wrote nothing);
       }
 
   told_now : (ended : Bool) (answer : Answer) (after : List Session) → AnswersLine (line_now s ended) s.sessions answer after
-      → AreTold trace (lines_now s ended) (s.told ++ text_now trace s answer)
+      → AreAnswered trace (lines_now s ended) (s.output ++ text_now trace s answer)
   told_now ended answer after is =
-      (after, answers_more trace 1 [] s.lines s.told s.sessions (line_now s ended) answer after at.reached.answered is)
+      (after, answers_more trace 1 [] s.lines s.output s.sessions (line_now s ended) answer after at.reached.answered is)
 
   -- ---- within the last of the bytes that were taken of an input
 
@@ -170,15 +170,15 @@ module _ {D : Type 0} (state : D → DeviceState) (trace : Bool) (begun now : Op
         let here = text_now trace s answer in
         let first : take (length (lines_now s ended)) (lines_of input) ≡ lines_now s ended =
         ap (take (length (lines_now s ended))) lines ∙ take-append_seam (lines_now s ended) more in
-        let all : s.told ++ here ≡ (s.told ++ take n here) ++ drop n here =
-        ap (λ l. s.told ++ l) (sym (take-append-drop n here)) ∙ sym (append_assoc s.told (take n here) (drop n here)) in
+        let all : s.output ++ here ≡ (s.output ++ take n here) ++ drop n here =
+        ap (λ l. s.output ++ l) (sym (take-append-drop n here)) ∙ sym (append_assoc s.output (take n here) (drop n here)) in
         let some =
-        appends_front begun now' (s.told ++ take n here) (drop n here) (s.told ++ here) all
-        (Appends-trans begun now now' s.told (take n here) at.wrote wrote) in (
+        appends_front begun now' (s.output ++ take n here) (drop n here) (s.output ++ here) all
+        (Appends-trans begun now now' s.output (take n here) at.wrote wrote) in (
           length (lines_now s ended),
           record {
-            told = s.told ++ here;
-            is = subst (λ l. AreTold trace l (s.told ++ here)) (sym first) (told_now ended answer after is);
+            output = s.output ++ here;
+            is = subst (λ l. AreAnswered trace l (s.output ++ here)) (sym first) (told_now ended answer after is);
             some = some.0;
             wrote = some.1;
           },
@@ -202,7 +202,7 @@ module _ {D : Type 0} (state : D → DeviceState) (trace : Bool) (begun now : Op
       sessions = refl;
       trace_is = stays.trace ∙ at.trace_is;
       fit = stays.fit at.fit;
-      wrote = Appends-trans begun now now' s.told (text_now trace s answer) at.wrote wrote;
+      wrote = Appends-trans begun now now' s.output (text_now trace s answer) at.wrote wrote;
     };
   }
 
@@ -224,14 +224,14 @@ module _ {D : Type 0} (state : D → DeviceState) (trace : Bool) (begun now : Op
 
   -- the end of the input
   pub written_whole : s.line ≡ [] → AreWritten trace (lines_of s.taken) begun now
-  written_whole none = record { told = s.told; is = told_whole trace s at.reached none; wrote = at.wrote }
+  written_whole none = record { output = s.output; is = told_whole trace s at.reached none; wrote = at.wrote }
 
   pub written_last : 0 < length s.line → (answer : Answer) (after : List Session) → AnswersLine (line_now s false) s.sessions answer after
       → (now' : Option (List ℕ)) → Appends now now' (text_now trace s answer) → AreWritten trace (lines_of s.taken) begun now'
   written_last some answer after is now' wrote = record {
-    told = s.told ++ text_now trace s answer;
-    is = subst (λ l. AreTold trace l (s.told ++ text_now trace s answer)) (sym (lines_rest trace s at.reached some)) (told_now false answer after is);
-    wrote = Appends-trans begun now now' s.told (text_now trace s answer) at.wrote wrote;
+    output = s.output ++ text_now trace s answer;
+    is = subst (λ l. AreAnswered trace l (s.output ++ text_now trace s answer)) (sym (lines_rest trace s at.reached some)) (told_now false answer after is);
+    wrote = Appends-trans begun now now' s.output (text_now trace s answer) at.wrote wrote;
   }
 
 -- ---- some bytes

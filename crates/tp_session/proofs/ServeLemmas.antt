@@ -47,7 +47,7 @@ module _ {D : Type 0} (state : D → DeviceState) (trace : Bool) (input left beg
   serves_read left' so_far keeps = record {
     taken = so_far.point.taken;
     read = Consumes-kept input left left' so_far.point.taken so_far.read keeps;
-    answers = record { told = so_far.point.told; is = told_ended trace so_far.point so_far.is.reached; wrote = so_far.is.wrote };
+    answers = record { output = so_far.point.output; is = told_ended trace so_far.point so_far.is.reached; wrote = so_far.is.wrote };
   }
 
   -- some bytes more were taken

@@ -15,6 +15,6 @@ IsBudgetOf image budget = (text : List ℕ) × IsVerdict text (Accepts image bud
 pub record IsOutcomeInTime (image : ImageValue) (packet : List ℕ) (outcome : Option RunResult) : Type 0 where
   pub is : IsOutcome image packet outcome
   pub budget : ℕ
-  pub told : IsBudgetOf image budget
+  pub is_stated : IsBudgetOf image budget
   pub ends : EndsWithin image budget packet
   pub steps : IfSome outcome (λ run. run.steps ≤ budget)

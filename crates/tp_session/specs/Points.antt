@@ -21,7 +21,7 @@ pub record Point : Type 0 where
   pub taken : List ℕ
   pub lines : List Line
   pub line : List ℕ
-  pub told : List ℕ
+  pub output : List ℕ
   pub sessions : List Session
 
 -- the number of the line that follows these, the first of which has a number
@@ -38,7 +38,7 @@ pub record HasReached (trace : Bool) (s : Point) : Type 0 where
   pub ended : filter (λ line. line.ended) s.lines ≡ s.lines
   pub goes : (more : List ℕ) → lines_of (s.taken ++ more) ≡ s.lines ++ lines_of (s.line ++ more)
   pub plain : IsPlain s.line
-  pub answered : AreAnswers IsVerdict IsOutcome trace 1 [] s.lines s.told s.sessions
+  pub answered : AreAnswers IsVerdict IsOutcome trace 1 [] s.lines s.output s.sessions
 
 -- The progress that is kept: of a line that is too long, its first bytes.
 pub record Keeps (p : Progress) (number : ℕ) (line : List ℕ) : Type 0 where
@@ -54,7 +54,7 @@ pub record IsAt {D : Type 0} (state : D → DeviceState) (trace : Bool) (begun :
   pub sessions : service.sessions ≡ s.sessions
   pub trace_is : service.trace ≡ trace
   pub fit : AreFit state service.links.items
-  pub wrote : Appends begun now s.told
+  pub wrote : Appends begun now s.output
 
 -- it is so of each point that this may be
 abbrev pub AtEachPoint : {D : Type 0} → (D → DeviceState) → Progress → Service D → (now : Option (List ℕ))

@@ -29,27 +29,27 @@ IsAsked false says asked = AsksFor says asked
 abbrev pub IsAskedIn : Line → Option Asked → Type 0
 IsAskedIn line asked = IsAsked (nat_lt most_line (length line.bytes)) (said_in line) asked
 
-module _ (Judges : List ℕ → Verdict → Type 0) (ComesTo : ImageValue → List ℕ → Option RunResult → Type 0) where
+module _ (Judges : List ℕ → Verdict → Type 0) (HasOutcome : ImageValue → List ℕ → Option RunResult → Type 0) where
   -- what a line is answered with, and the sessions after it
   pub record IsAnswered (line : Line) (before : List Session) (answer : Answer) (after : List Session) : Type 0 where
     pub asked : Option Asked
     pub asks : IsAskedIn line asked
-    pub answer_is : IsAnswer Judges ComesTo asked before answer
+    pub answer_is : IsAnswer Judges HasOutcome asked before answer
     pub after_is : IsAfter Judges asked before after
 
   -- the texts of the answers to lines, the first of which has a number
   abbrev pub AreAnswers : Bool → ℕ → List Session → List Line → List ℕ → List Session → Type 0
-  AreAnswers trace number before [] told after = (told ≡ []) × (after ≡ before)
-  AreAnswers trace number before (line ∷ lines) told after =
+  AreAnswers trace number before [] output after = (output ≡ []) × (after ≡ before)
+  AreAnswers trace number before (line ∷ lines) output after =
       (answer : Answer) × (between : List Session) × (rest : List ℕ) × IsAnswered line before answer between
       × AreAnswers trace (next_number number) between lines rest after
-      × (told ≡ answer_text trace number answer ++ rest)
+      × (output ≡ answer_text trace number answer ++ rest)
 
   -- what is answered to the first lines of an input: before them no session is open
-  abbrev pub AreTold : Bool → List Line → List ℕ → Type 0
-  AreTold trace lines told = (after : List Session) × AreAnswers trace 1 [] lines told after
+  abbrev pub AreAnswered : Bool → List Line → List ℕ → Type 0
+  AreAnswered trace lines output = (after : List Session) × AreAnswers trace 1 [] lines output after
 
 -- what is written for an input, where this is the verdict on each text and this is the outcome of each packet
 abbrev pub IsServedBy : (List ℕ → Verdict) → (ImageValue → List ℕ → Option RunResult) → Bool → List ℕ → List ℕ → Type 0
-IsServedBy verdict outcome trace input told =
-    AreTold (λ text v. v ≡ verdict text) (λ image packet o. o ≡ outcome image packet) trace (lines_of input) told
+IsServedBy verdict outcome trace input output =
+    AreAnswered (λ text v. v ≡ verdict text) (λ image packet o. o ≡ outcome image packet) trace (lines_of input) output

@@ -13,25 +13,25 @@ abbrev pub most_read : ℕ
 most_read = 4096
 
 -- what is answered to the first lines of an input, by the verifier's verdicts and the runs of packets alone
-abbrev pub AreTold : Bool → List Line → List ℕ → Type 0
-AreTold trace lines told = protocol.AreTold IsVerdict IsOutcome trace lines told
+abbrev pub AreAnswered : Bool → List Line → List ℕ → Type 0
+AreAnswered trace lines output = protocol.AreAnswered IsVerdict IsOutcome trace lines output
 
 -- what is written for an input
 abbrev pub IsServed : Bool → List ℕ → List ℕ → Type 0
-IsServed trace input told = AreTold trace (lines_of input) told
+IsServed trace input output = AreAnswered trace (lines_of input) output
 
 -- the answers to these lines are written
 pub record AreWritten (trace : Bool) (lines : List Line) (old new : Option (List ℕ)) : Type 0 where
-  pub told : List ℕ
-  pub is : AreTold trace lines told
-  pub wrote : Appends old new told
+  pub output : List ℕ
+  pub is : AreAnswered trace lines output
+  pub wrote : Appends old new output
 
 -- some of the first bytes of these answers are
 pub record AreWrittenInPart (trace : Bool) (lines : List Line) (old new : Option (List ℕ)) : Type 0 where
-  pub told : List ℕ
-  pub is : AreTold trace lines told
+  pub output : List ℕ
+  pub is : AreAnswered trace lines output
   pub some : ℕ
-  pub wrote : Appends old new (take some told)
+  pub wrote : Appends old new (take some output)
 
 -- the answers to the whole lines before a byte are, which is among the last of those that were taken, or behind them
 pub record AreWrittenBefore (trace : Bool) (taken : List ℕ) (last : ℕ) (old new : Option (List ℕ)) : Type 0 where

@@ -16,8 +16,8 @@ use tp_accept::laws::one_text_has_one_answer;
 
 /// What is served for an input is a function of the input, and of whether traces are written.
 pub fn one_input_has_one_answer()
-    ensures { (trace : Bool) (input told told' : List ℕ) → IsServed trace input told → IsServed trace input told' →
-        told ≡ told' }
+    ensures { (trace : Bool) (input output output' : List ℕ) → IsServed trace input output → IsServed trace input output' →
+        output ≡ output' }
 {
     one_text_has_one_answer();
 }
@@ -26,17 +26,17 @@ pub fn one_input_has_one_answer()
 /// So a reader of the protocol needs neither the rules of the verifier nor those of the machine.
 pub fn what_is_served_follows_the_protocol()
     ensures follows { (verdict : List ℕ → Verdict) (outcome : ImageValue → List ℕ → Option RunResult) → AreRuled verdict outcome →
-        (trace : Bool) (input told : List ℕ) → IsServed trace input told → IsServedBy verdict outcome trace input told }
+        (trace : Bool) (input output : List ℕ) → IsServed trace input output → IsServedBy verdict outcome trace input output }
     ensures one { (verdict : List ℕ → Verdict) (outcome : ImageValue → List ℕ → Option RunResult)
-        (trace : Bool) (input told told' : List ℕ) → IsServedBy verdict outcome trace input told →
-        IsServedBy verdict outcome trace input told' → told ≡ told' }
+        (trace : Bool) (input output output' : List ℕ) → IsServedBy verdict outcome trace input output →
+        IsServedBy verdict outcome trace input output' → output ≡ output' }
 {}
 
 /// The headline, read off what is written: each result that is served is that of a run which ends within the budget that `YES`
 /// answered for its image, and no state on the run's way is stuck.
 pub fn results_are_in_time()
-    ensures { (trace : Bool) (input told : List ℕ) → IsServed trace input told →
-        protocol.AreTold IsVerdict IsOutcomeInTime trace (lines_of input) told }
+    ensures { (trace : Bool) (input output : List ℕ) → IsServed trace input output →
+        protocol.AreAnswered IsVerdict IsOutcomeInTime trace (lines_of input) output }
 {
     acceptable_images_alone_may_be_run();
 }

@@ -8,7 +8,7 @@ use Rattle.std.specs.List.{zip}
 use Rattle.tp_state.specs.declared.cell.Cell.{Cell}
 use Rattle.tp_state.specs.declared.cell.Cell.TheVariants.{Undef}
 use Rattle.tp_state.specs.CellRules.{cell_at}
-use Rattle.tp_state.specs.Order.{join_cells, joined_cells, TellsChange}
+use Rattle.tp_state.specs.Order.{join_cells, joined_cells, ReportsChange}
 use Rattle.tp_state.specs.declared.kind.Kind.{Kind}
 use Rattle.tp_state.specs.declared.state.State.{State}
 
@@ -37,17 +37,17 @@ cell_at-joined cells others i long = by_place (cases_lt i (length cells))
         ∙ sym (ap (λ c. join_cells c (cell_at others i)) (get_or-eq_default cells Undef past) ∙ ap (λ c. join_cells Undef c) (get_or-eq_default others Undef past_others))
 
 -- whether any register of a state changed
-pub tells_any : (s : State) (a' b' c' : Kind) (a b c : Bool) → TellsChange a s.a a' → TellsChange b s.b b' → TellsChange c s.c c'
-    → TellsChange (a || b || c) s (record s { a = a'; b = b'; c = c' })
+pub tells_any : (s : State) (a' b' c' : Kind) (a b c : Bool) → ReportsChange a s.a a' → ReportsChange b s.b b' → ReportsChange c s.c c'
+    → ReportsChange (a || b || c) s (record s { a = a'; b = b'; c = c' })
 tells_any s a' b' c' true b c ha hb hc = record { stays = λ e. absurd (cc); moves = λ e all. ha.moves refl (ap (λ t. t.a) all) }
 tells_any s a' b' c' false true c ha hb hc = record { stays = λ e. absurd (cc); moves = λ e all. hb.moves refl (ap (λ t. t.b) all) }
 tells_any s a' b' c' false false true ha hb hc = record { stays = λ e. absurd (cc); moves = λ e all. hc.moves refl (ap (λ t. t.c) all) }
 tells_any s a' b' c' false false false ha hb hc = record { stays = λ e. rw (ha.stays refl, hb.stays refl, hc.stays refl) refl; moves = λ e. absurd (cc) }
 
 -- whether any part of a state changed
-pub tells_either : (s : State) (a' b' c' : Kind) (cells' : List Cell) (registers cells : Bool) → TellsChange cells s.cells cells'
-    → TellsChange registers (record s { cells = cells' }) (record s { a = a'; b = b'; c = c'; cells = cells' })
-    → TellsChange (registers || cells) s (record s { a = a'; b = b'; c = c'; cells = cells' })
+pub tells_either : (s : State) (a' b' c' : Kind) (cells' : List Cell) (registers cells : Bool) → ReportsChange cells s.cells cells'
+    → ReportsChange registers (record s { cells = cells' }) (record s { a = a'; b = b'; c = c'; cells = cells' })
+    → ReportsChange (registers || cells) s (record s { a = a'; b = b'; c = c'; cells = cells' })
 tells_either s a' b' c' cells' true cells h hr = record {
   stays = λ e. absurd (cc);
   moves = λ e all.

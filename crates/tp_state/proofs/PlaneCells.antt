@@ -171,41 +171,41 @@ join_any_live u (inr (is, _)) = rw is refl
 
 -- a join is an OR, and the first bit of words whose second bits or values differ
 pub join_bit : (p q p' q' d : Bool) (v u : ℕ) → v < 2 ^ 32 → u < 2 ^ 32 → (p ≡ false → p' ≡ false → d ≡ not (v == u)) → cell_of (((p || p') || one_of q q') || d) (q || q') v ≡ join_cells (cell_of p q v) (cell_of p' q' u)
-join_bit true true p' q' d v u small small' tells = refl
-join_bit true false true true d v u small small' tells = refl
-join_bit true false true false d v u small small' tells = refl
-join_bit true false false false d v u small small' tells = refl
-join_bit true false false true d v u small small' tells = sym (join_any_live u (live_ways u))
-join_bit false true true true d v u small small' tells = sym (join_live_undef v (live_ways v))
-join_bit false true true false d v u small small' tells = sym (join_live_any v (live_ways v))
-join_bit false true false false d v u small small' tells = sym (join_live_known v (signed u) (live_ways v))
-join_bit false true false true d v u small small' tells = by_values (cases_eq v u)
+join_bit true true p' q' d v u small small' reports = refl
+join_bit true false true true d v u small small' reports = refl
+join_bit true false true false d v u small small' reports = refl
+join_bit true false false false d v u small small' reports = refl
+join_bit true false false true d v u small small' reports = sym (join_any_live u (live_ways u))
+join_bit false true true true d v u small small' reports = sym (join_live_undef v (live_ways v))
+join_bit false true true false d v u small small' reports = sym (join_live_any v (live_ways v))
+join_bit false true false false d v u small small' reports = sym (join_live_known v (signed u) (live_ways v))
+join_bit false true false true d v u small small' reports = by_values (cases_eq v u)
   where
     by_values : (v ≡ u) ⊎ (v ≡ u → ⊥) → cell_of d true v ≡ join_cells (live_of v) (live_of u)
     by_values (inl same) =
-        let off : d ≡ false = tells refl refl ∙ ap (λ n. not (v == n)) (sym same) ∙ same_test v in
+        let off : d ≡ false = reports refl refl ∙ ap (λ n. not (v == n)) (sym same) ∙ same_test v in
         rw (off, ← same) (sym (join_live_same v (live_ways v)))
     by_values (inr other) =
-        let on : d ≡ true = tells refl refl ∙ other_test v u other in
+        let on : d ≡ true = reports refl refl ∙ other_test v u other in
         rw on (sym (join_live_other v u (live_ways v) (live_ways u) other))
-join_bit false false true true d v u small small' tells = refl
-join_bit false false true false d v u small small' tells = refl
-join_bit false false false true d v u small small' tells = sym (join_known_live (signed v) u (live_ways u))
-join_bit false false false false d v u small small' tells = by_values (cases_eq v u)
+join_bit false false true true d v u small small' reports = refl
+join_bit false false true false d v u small small' reports = refl
+join_bit false false false true d v u small small' reports = sym (join_known_live (signed v) u (live_ways u))
+join_bit false false false false d v u small small' reports = by_values (cases_eq v u)
   where
     by_values : (v ≡ u) ⊎ (v ≡ u → ⊥) → cell_of d false v ≡ join_cells (Known (signed v)) (Known (signed u))
     by_values (inl same) =
-        let off : d ≡ false = tells refl refl ∙ ap (λ n. not (v == n)) (sym same) ∙ same_test v in
+        let off : d ≡ false = reports refl refl ∙ ap (λ n. not (v == n)) (sym same) ∙ same_test v in
         rw (off, ← same) (sym (join_known_same v))
     by_values (inr other) =
-        let on : d ≡ true = tells refl refl ∙ other_test v u other in
+        let on : d ≡ true = reports refl refl ∙ other_test v u other in
         rw on (sym (join_known_other v u small small' other))
 
 pub joined_where : (d : ℕ) (b c : Bits) (j v u : ℕ) → v < 2 ^ 32 → u < 2 ^ 32 → (is_set b.first j ≡ false → is_set c.first j ≡ false → is_set d j ≡ not (v == u)) → bits_cell (joined_bits d b c) j v ≡ join_cells (bits_cell b j v) (bits_cell c j u)
-joined_where d b c j v u small small' tells =
+joined_where d b c j v u small small' reports =
     ap (λ t. cell_of t (is_set (bit_or b.second c.second) j) v) first
     ∙ ap (λ t. cell_of (((is_set b.first j || is_set c.first j) || one_of (is_set b.second j) (is_set c.second j)) || is_set d j) t v) (set-or b.second c.second j)
-    ∙ join_bit (is_set b.first j) (is_set b.second j) (is_set c.first j) (is_set c.second j) (is_set d j) v u small small' tells
+    ∙ join_bit (is_set b.first j) (is_set b.second j) (is_set c.first j) (is_set c.second j) (is_set d j) v u small small' reports
   where
     first : is_set (bit_or (bit_or (bit_or b.first c.first) (bit_xor b.second c.second)) d) j ≡ (((is_set b.first j || is_set c.first j) || one_of (is_set b.second j) (is_set c.second j)) || is_set d j)
     first =
@@ -251,43 +251,43 @@ abbrev pub fails : (p q p' q' d : Bool) → Bool
 fails p q p' q' d = one_of ((p || one_of q q') || d) (((p || one_of q q') || d) && p') || one_of (p' && q) (((p' && q) && q') && p)
 
 pub below_bit : (p q p' q' d : Bool) (v u : ℕ) → v < 2 ^ 32 → u < 2 ^ 32 → (p ≡ false → p' ≡ false → d ≡ not (v == u)) → fails p q p' q' d ≡ not (cell_below (cell_of p q v) (cell_of p' q' u))
-below_bit true true true true d v u small small' tells = refl
-below_bit true true true false d v u small small' tells = refl
-below_bit true true false false d v u small small' tells = refl
-below_bit true true false true d v u small small' tells = rw (below_undef_live u (live_ways u)) refl
-below_bit true false true true d v u small small' tells = refl
-below_bit true false true false d v u small small' tells = refl
-below_bit true false false false d v u small small' tells = refl
-below_bit true false false true d v u small small' tells = rw (below_any_live u (live_ways u)) refl
-below_bit false true true true true v u small small' tells = rw (live_not_free v (live_ways v)) refl
-below_bit false true true true false v u small small' tells = rw (live_not_free v (live_ways v)) refl
-below_bit false true true false d v u small small' tells = rw (below_live_any v (live_ways v)) refl
-below_bit false true false false d v u small small' tells = rw (below_live_known v (signed u) (live_ways v)) refl
-below_bit false true false true d v u small small' tells = by_values (cases_eq v u)
+below_bit true true true true d v u small small' reports = refl
+below_bit true true true false d v u small small' reports = refl
+below_bit true true false false d v u small small' reports = refl
+below_bit true true false true d v u small small' reports = rw (below_undef_live u (live_ways u)) refl
+below_bit true false true true d v u small small' reports = refl
+below_bit true false true false d v u small small' reports = refl
+below_bit true false false false d v u small small' reports = refl
+below_bit true false false true d v u small small' reports = rw (below_any_live u (live_ways u)) refl
+below_bit false true true true true v u small small' reports = rw (live_not_free v (live_ways v)) refl
+below_bit false true true true false v u small small' reports = rw (live_not_free v (live_ways v)) refl
+below_bit false true true false d v u small small' reports = rw (below_live_any v (live_ways v)) refl
+below_bit false true false false d v u small small' reports = rw (below_live_known v (signed u) (live_ways v)) refl
+below_bit false true false true d v u small small' reports = by_values (cases_eq v u)
   where
     by_values : (v ≡ u) ⊎ (v ≡ u → ⊥) → fails false true false true d ≡ not (cell_below (live_of v) (live_of u))
     by_values (inl same) =
-        let off : d ≡ false = tells refl refl ∙ ap (λ n. not (v == n)) (sym same) ∙ same_test v in
+        let off : d ≡ false = reports refl refl ∙ ap (λ n. not (v == n)) (sym same) ∙ same_test v in
         rw (off, ← same, below_live_same v (live_ways v)) refl
     by_values (inr other) =
-        let on : d ≡ true = tells refl refl ∙ other_test v u other in
+        let on : d ≡ true = reports refl refl ∙ other_test v u other in
         rw (on, below_live_other v u (live_ways v) (live_ways u) other) refl
-below_bit false false true true d v u small small' tells = refl
-below_bit false false true false true v u small small' tells = refl
-below_bit false false true false false v u small small' tells = refl
-below_bit false false false true d v u small small' tells = rw (below_known_live (signed v) u (live_ways u)) refl
-below_bit false false false false d v u small small' tells = by_values (cases_eq v u)
+below_bit false false true true d v u small small' reports = refl
+below_bit false false true false true v u small small' reports = refl
+below_bit false false true false false v u small small' reports = refl
+below_bit false false false true d v u small small' reports = rw (below_known_live (signed v) u (live_ways u)) refl
+below_bit false false false false d v u small small' reports = by_values (cases_eq v u)
   where
     by_values : (v ≡ u) ⊎ (v ≡ u → ⊥) → fails false false false false d ≡ not (cell_below (Known (signed v)) (Known (signed u)))
     by_values (inl same) =
-        let off : d ≡ false = tells refl refl ∙ ap (λ n. not (v == n)) (sym same) ∙ same_test v in
+        let off : d ≡ false = reports refl refl ∙ ap (λ n. not (v == n)) (sym same) ∙ same_test v in
         rw (off, ← same, true_test (int_eq (signed v) (signed v)) (int_self (signed v))) refl
     by_values (inr other) =
-        let on : d ≡ true = tells refl refl ∙ other_test v u other in
+        let on : d ≡ true = reports refl refl ∙ other_test v u other in
         rw (on, other_int (signed v) (signed u) (λ e. other (same_signed v u small small' e))) refl
 
 set-failing : (d : ℕ) (b c : Bits) (j : ℕ) → is_set (failing_bits d b c) j ≡ fails (is_set b.first j) (is_set b.second j) (is_set c.first j) (is_set c.second j) (is_set d j)
 set-failing d b c j = simp (set-or, set-and, set-xor)
 
 pub failing_where : (d : ℕ) (b c : Bits) (j v u : ℕ) → v < 2 ^ 32 → u < 2 ^ 32 → (is_set b.first j ≡ false → is_set c.first j ≡ false → is_set d j ≡ not (v == u)) → is_set (failing_bits d b c) j ≡ not (cell_below (bits_cell b j v) (bits_cell c j u))
-failing_where d b c j v u small small' tells = set-failing d b c j ∙ below_bit (is_set b.first j) (is_set b.second j) (is_set c.first j) (is_set c.second j) (is_set d j) v u small small' tells
+failing_where d b c j v u small small' reports = set-failing d b c j ∙ below_bit (is_set b.first j) (is_set b.second j) (is_set c.first j) (is_set c.second j) (is_set d j) v u small small' reports

@@ -153,7 +153,7 @@ pub joined_more : (values other_values : List ℕ) (old others mid : List Bits) 
     → ChangesPlanes values old mid (λ i c. join_cells c (cell_in other_values others i)) 0 (min (64 * length old) (64 * w))
     → b ≡ joined_bits d (get_or mid w no_bits) (get_or others w no_bits)
     → ChangesPlanes values old (slice_set mid w b) (λ i c. join_cells c (cell_in other_values others i)) 0 (min (64 * length old) (64 * (w + 1)))
-joined_more values other_values old others mid w d b words other_words tells room h is = changes_more values old mid (λ i c. join_cells c (cell_in other_values others i)) 0 (64 * length old) w b h room takes keeps
+joined_more values other_values old others mid w d b words other_words reports room h is = changes_more values old mid (λ i c. join_cells c (cell_in other_values others i)) 0 (64 * length old) w b h room takes keeps
   where
     was : Bits
     was = get_or mid w no_bits
@@ -161,7 +161,7 @@ joined_more values other_values old others mid w d b words other_words tells roo
     takes : (p : ℕ) → p / 64 ≡ w → 0 ≤ p → p < 64 * length old → bits_cell b (p % 64) (get_or values p 0) ≡ join_cells (bits_cell was (p % 64) (get_or values p 0)) (cell_in other_values others p)
     takes p here low high =
         ap (λ c. bits_cell c (p % 64) (get_or values p 0)) is
-        ∙ joined_where d was (get_or others w no_bits) (p % 64) (get_or values p 0) (get_or other_values p 0) (words p) (other_words p) (tells p here)
+        ∙ joined_where d was (get_or others w no_bits) (p % 64) (get_or values p 0) (get_or other_values p 0) (words p) (other_words p) (reports p here)
         ∙ ap (λ c. join_cells (bits_cell was (p % 64) (get_or values p 0)) c) (sym (cell_in-word other_values others p w here))
 
     keeps : (p : ℕ) → p / 64 ≡ w → (p < 0) ⊎ (64 * length old ≤ p) → bits_cell b (p % 64) (get_or values p 0) ≡ bits_cell was (p % 64) (get_or values p 0)
@@ -194,8 +194,8 @@ pub joins_moved : (values other_values : List ℕ) (old others mid : List Bits) 
     → JoinsPlanes values other_values old others mid w changed
     → b ≡ joined_bits d (get_or mid w no_bits) (get_or others w no_bits) → Moves (get_or mid w no_bits) b
     → JoinsPlanes values other_values old others (slice_set mid w b) (w + 1) true
-joins_moved values other_values old others mid w d b changed words other_words tells room h is moves = record {
-  joined = joined_more values other_values old others mid w d b words other_words tells room h.joined is;
+joins_moved values other_values old others mid w d b changed words other_words reports room h is moves = record {
+  joined = joined_more values other_values old others mid w d b words other_words reports room h.joined is;
   stays = λ e. absurd (false≢true (sym e));
   moves = λ _. here (moved_cell values mid w b room moves);
 }
@@ -209,8 +209,8 @@ pub joins_kept : (values other_values : List ℕ) (old others mid : List Bits) (
     → JoinsPlanes values other_values old others mid w changed
     → b ≡ joined_bits d (get_or mid w no_bits) (get_or others w no_bits) → b ≡ get_or mid w no_bits
     → JoinsPlanes values other_values old others (slice_set mid w b) (w + 1) changed
-joins_kept values other_values old others mid w d b changed words other_words tells room h is kept = record {
-  joined = joined_more values other_values old others mid w d b words other_words tells room h.joined is;
+joins_kept values other_values old others mid w d b changed words other_words reports room h is kept = record {
+  joined = joined_more values other_values old others mid w d b words other_words reports room h.joined is;
   stays = λ e. same ∙ h.stays e;
   moves = λ e. before (h.moves e);
 }
@@ -234,11 +234,11 @@ pub joins_more : (values other_values : List ℕ) (old others mid : List Bits) (
     → b ≡ joined_bits d (get_or mid w no_bits) (get_or others w no_bits)
     → (moved ≡ 0 → b ≡ get_or mid w no_bits) → (0 < moved → Moves (get_or mid w no_bits) b)
     → JoinsPlanes values other_values old others (slice_set mid w b) (w + 1) (not (bit_or before moved == 0))
-joins_more values other_values old others mid w d b before zero words other_words tells room h is stays moves =
-    rw (or_zero_r before) (joins_kept values other_values old others mid w d b (not (before == 0)) words other_words tells room h is (stays refl))
-joins_more values other_values old others mid w d b before (suc m) words other_words tells room h is stays moves =
+joins_more values other_values old others mid w d b before zero words other_words reports room h is stays moves =
+    rw (or_zero_r before) (joins_kept values other_values old others mid w d b (not (before == 0)) words other_words reports room h is (stays refl))
+joins_more values other_values old others mid w d b before (suc m) words other_words reports room h is stays moves =
     let some : 0 < bit_or before (suc m) = omega (arith, le_or_r before (suc m)) in
-    rw (is_positive (bit_or before (suc m)) some) (joins_moved values other_values old others mid w d b (not (before == 0)) words other_words tells room h is (moves (omega arith)))
+    rw (is_positive (bit_or before (suc m)) some) (joins_moved values other_values old others mid w d b (not (before == 0)) words other_words reports room h is (moves (omega arith)))
 
 pub joined_end : (values other_values : List ℕ) (old others new : List Bits) (w : ℕ) (changed : Bool) → JoinsPlanes values other_values old others new w changed → w ≡ length old → ChangesPlanes values old new (λ i c. join_cells c (cell_in other_values others i)) 0 (64 * length old)
 joined_end values other_values old others new w changed h end =
@@ -251,9 +251,9 @@ fails_here : (values other_values : List ℕ) (planes others : List Bits) (w d n
     → AreWords values → AreWords other_values → TellsDiffer values other_values w d (get_or planes w no_bits) (get_or others w no_bits) → w < length others
     → n ≡ failing_bits d (get_or planes w no_bits) (get_or others w no_bits) → p / 64 ≡ w
     → is_set n (p % 64) ≡ not (cell_below (cell_in values planes p) (cell_in other_values others p))
-fails_here values other_values planes others w d n p words other_words tells room is here =
+fails_here values other_values planes others w d n p words other_words reports room is here =
     ap (λ m. is_set m (p % 64)) is
-    ∙ failing_where d (get_or planes w no_bits) (get_or others w no_bits) (p % 64) (get_or values p 0) (get_or other_values p 0) (words p) (other_words p) (tells p here)
+    ∙ failing_where d (get_or planes w no_bits) (get_or others w no_bits) (p % 64) (get_or values p 0) (get_or other_values p 0) (words p) (other_words p) (reports p here)
     ∙ ap (λ c. not (cell_below c (bits_cell (get_or others w no_bits) (p % 64) (get_or other_values p 0)))) (sym (cell_in-word values planes p w here))
     ∙ ap (λ c. not (cell_below (cell_in values planes p) c)) (sym (cell_in-word other_values others p w here))
 
@@ -262,17 +262,17 @@ pub below_more : (values other_values : List ℕ) (planes others : List Bits) (w
     → n ≡ failing_bits d (get_or planes w no_bits) (get_or others w no_bits) → n ≡ 0
     → ((i : ℕ) → i < 64 * w → cell_below (cell_in values planes i) (cell_in other_values others i) ≡ true)
     → (i : ℕ) → i < 64 * (w + 1) → cell_below (cell_in values planes i) (cell_in other_values others i) ≡ true
-below_more values other_values planes others w d n words other_words tells room is none h i lt = by_word (cases_eq (i / 64) w)
+below_more values other_values planes others w d n words other_words reports room is none h i lt = by_word (cases_eq (i / 64) w)
   where
     by_word : (i / 64 ≡ w) ⊎ (i / 64 ≡ w → ⊥) → cell_below (cell_in values planes i) (cell_in other_values others i) ≡ true
-    by_word (inl at) = not_false (cell_below (cell_in values planes i) (cell_in other_values others i)) (sym (fails_here values other_values planes others w d n i words other_words tells room is at) ∙ ap (λ m. is_set m (i % 64)) none ∙ none_set (i % 64))
+    by_word (inl at) = not_false (cell_below (cell_in values planes i) (cell_in other_values others i)) (sym (fails_here values other_values planes others w d n i words other_words reports room is at) ∙ ap (λ m. is_set m (i % 64)) none ∙ none_set (i % 64))
     by_word (inr other) = h i (omega (arith, lt, other))
 
 pub below_found : (values other_values : List ℕ) (planes others : List Bits) (w d n : ℕ)
     → AreWords values → AreWords other_values → TellsDiffer values other_values w d (get_or planes w no_bits) (get_or others w no_bits) → w < length others
     → n ≡ failing_bits d (get_or planes w no_bits) (get_or others w no_bits) → n < 2 ^ 64 → (n ≡ 0 → ⊥)
     → (i : ℕ) × (i < 64 * length others) × (cell_below (cell_in values planes i) (cell_in other_values others i) ≡ false)
-below_found values other_values planes others w d n words other_words tells room is small some =
+below_found values other_values planes others w d n words other_words reports room is small some =
     let found = some_set n (omega (arith, some)) small in
     at found.0 found.1 found.2
   where
@@ -280,7 +280,7 @@ below_found values other_values planes others w d n words other_words tells room
     at j lt on =
         let word_of : (64 * w + j) / 64 ≡ w = omega (arith, lt) in
         let bit_of : (64 * w + j) % 64 ≡ j = omega (arith, lt) in
-        let fails : not (cell_below (cell_in values planes (64 * w + j)) (cell_in other_values others (64 * w + j))) ≡ true = sym (fails_here values other_values planes others w d n (64 * w + j) words other_words tells room is word_of) ∙ ap (λ k. is_set n k) bit_of ∙ on in
+        let fails : not (cell_below (cell_in values planes (64 * w + j)) (cell_in other_values others (64 * w + j))) ≡ true = sym (fails_here values other_values planes others w d n (64 * w + j) words other_words reports room is word_of) ∙ ap (λ k. is_set n k) bit_of ∙ on in
         (64 * w + j, omega (arith, lt, room), not_true (cell_below (cell_in values planes (64 * w + j)) (cell_in other_values others (64 * w + j))) fails)
 
 -- bits that say Undef say it with any value

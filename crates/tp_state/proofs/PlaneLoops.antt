@@ -160,7 +160,7 @@ pub tested_more : (word : Bits → ℕ) (test : Cell → Bool) → ((b : Bits) (
     → bit_and n mask ≡ 0
     → ((i : ℕ) → x ≤ i → i < min end (64 * w) → test (cell_in values planes i) ≡ true)
     → (i : ℕ) → x ≤ i → i < min end (64 * (w + 1)) → test (cell_in values planes i) ≡ true
-tested_more word test tells values planes x end w mask n e masks none h i low high = by_word (cases_eq (i / 64) w)
+tested_more word test reports values planes x end w mask n e masks none h i low high = by_word (cases_eq (i / 64) w)
   where
     j : ℕ
     j = i % 64
@@ -173,7 +173,7 @@ tested_more word test tells values planes x end w mask n e masks none h i low hi
         let on : is_set mask (i % 64) ≡ true = is_within mask w x end i masks at low (omega (arith, high)) in
         let clear : (is_set n (i % 64) && is_set mask (i % 64)) ≡ false = sym (set-and n mask (i % 64)) ∙ ap (λ m. is_set m (i % 64)) none ∙ none_set (i % 64) in
         let off : is_set n (i % 64) ≡ false = and_true (is_set n (i % 64)) (sym (ap (λ t. is_set n (i % 64) && t) on) ∙ clear) in
-        let not_so : not (test (bits_cell was (i % 64) (get_or values i 0))) ≡ false = sym (tells was (i % 64) (get_or values i 0)) ∙ ap (λ m. is_set m (i % 64)) (sym e) ∙ off in
+        let not_so : not (test (bits_cell was (i % 64) (get_or values i 0))) ≡ false = sym (reports was (i % 64) (get_or values i 0)) ∙ ap (λ m. is_set m (i % 64)) (sym e) ∙ off in
         ap test (cell_in-word values planes i w at) ∙ not_false (test (bits_cell was (i % 64) (get_or values i 0))) not_so
 
     by_word : (i / 64 ≡ w) ⊎ (i / 64 ≡ w → ⊥) → test (cell_in values planes i) ≡ true
@@ -185,7 +185,7 @@ pub tested_found : (word : Bits → ℕ) (test : Cell → Bool) → ((b : Bits) 
     → ((j : ℕ) → j < 64 → is_set mask j ≡ (nat_le x (64 * w + j) && nat_lt (64 * w + j) end))
     → n < 2 ^ 64 → (bit_and n mask ≡ 0 → ⊥)
     → (i : ℕ) × (x ≤ i) × (i < end) × (test (cell_in values planes i) ≡ false)
-tested_found word test tells values planes x end w mask n e masks small some =
+tested_found word test reports values planes x end w mask n e masks small some =
     let found = some_set (bit_and n mask) (omega (arith, some)) (omega (arith, and_le_l n mask, small)) in
     at found.0 found.1 found.2
   where
@@ -198,7 +198,7 @@ tested_found word test tells values planes x end w mask n e masks small some =
         let inside = found_within mask w x end j masks lt both.1 in
         let word_of : (64 * w + j) / 64 ≡ w = omega (arith, lt) in
         let bit_of : (64 * w + j) % 64 ≡ j = omega (arith, lt) in
-        let not_so : not (test (bits_cell was j (get_or values (64 * w + j) 0))) ≡ true = sym (tells was j (get_or values (64 * w + j) 0)) ∙ ap (λ m. is_set m j) (sym e) ∙ both.0 in
+        let not_so : not (test (bits_cell was j (get_or values (64 * w + j) 0))) ≡ true = sym (reports was j (get_or values (64 * w + j) 0)) ∙ ap (λ m. is_set m j) (sym e) ∙ both.0 in
         (64 * w + j, inside.0, inside.1, ap test (cell_in-word values planes (64 * w + j) w word_of ∙ ap (λ k. bits_cell was k (get_or values (64 * w + j) 0)) bit_of) ∙ not_true (test (bits_cell was j (get_or values (64 * w + j) 0))) not_so)
 
 -- the mask of one word

@@ -12,7 +12,7 @@ use Rattle.tp_state.specs.declared.cell.Cell.{Cell}
 use Rattle.tp_state.specs.declared.cell.Cell.TheVariants.{Undef, Any, Known, Index, Count}
 use Rattle.tp_state.specs.declared.planes.Bits.{Bits}
 use Rattle.tp_state.specs.CellRules.{cell_at, cells_from, with_cells, blurred}
-use Rattle.tp_state.specs.Order.{join_cells, joined_cells, cell_below, TellsChange}
+use Rattle.tp_state.specs.Order.{join_cells, joined_cells, cell_below, ReportsChange}
 use Rattle.tp_state.specs.Planes.{cell_of, bits_cell, no_bits, HasByteRow, cell_in, seen, IsWhole, ChangesPlanes}
 use Rattle.tp_state.proofs.CellLemmas.{ChangesFrom, changes_all, length-cells_from, cell_at-cells_from, blurred_part}
 use Rattle.tp_state.proofs.PlaneBits.{none_set}
@@ -259,7 +259,7 @@ seen_joined values other_values old others new h long joins = seen_is values new
 
 pub tells_seen : (values : List ℕ) (old new : List Bits) (changed : Bool) → IsWhole values old → IsWhole values new → length new ≡ length old
     → (changed ≡ false → new ≡ old) → (changed ≡ true → (i : ℕ) × (i < 64 * length old) × ¬ (cell_in values new i ≡ cell_in values old i))
-    → TellsChange changed (seen values old) (seen values new)
+    → ReportsChange changed (seen values old) (seen values new)
 tells_seen values old new changed h g longer stays moves = record {
   stays = λ e. ap (seen values) (stays e);
   moves = λ e all. at (moves e) all;

@@ -93,7 +93,7 @@ abbrev pub joined_cells : List Cell → List Cell → List Cell
 joined_cells cells others = map (λ pair. join_cells pair.0 pair.1) (zip cells others)
 
 -- whether a value changed is answered
-pub record TellsChange {X : Type 0} (changed : Bool) (old new : X) : Type 0 where
+pub record ReportsChange {X : Type 0} (changed : Bool) (old new : X) : Type 0 where
   pub stays : changed ≡ false → new ≡ old
   pub moves : changed ≡ true → new ≢ old
 

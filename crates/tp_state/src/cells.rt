@@ -3,7 +3,7 @@
 ghost use Rattle.std.specs.Prelude.{◌≡◌, ◌+◌, ◌≤◌, ◌<◌, length, map, replicate, take, drop, slice_set, min, IsTrue, IfOk, ◌++◌, ◌-◌, true, false};
 ghost use Rattle.tp_state.specs.CellRules.{cell_at, cells_from, with_cells, are_free, are_defined, blurred, copied};
 ghost use Rattle.tp_state.specs.Rules.{are_apart};
-ghost use Rattle.tp_state.specs.Order.{joined_cells, TellsChange, AreBelow, OneIsNotBelow, AgreeOnValues};
+ghost use Rattle.tp_state.specs.Order.{joined_cells, ReportsChange, AreBelow, OneIsNotBelow, AgreeOnValues};
 ghost use Rattle.tp_state.specs.Planes.{seen, IsWhole};
 ghost use Rattle.tp_state.specs.Entry.{first_cells};
 
@@ -127,7 +127,7 @@ impl Cells {
         requires sized { length others.now ≡ length self.old }
         requires agree { agree ≡ true → AgreeOnValues self.old others.now }
         ensures value { self.new ≡ joined_cells self.old others.now }
-        ensures changed { TellsChange result self.old self.new }
+        ensures changed { ReportsChange result self.old self.new }
     {
         join_words(
             &self.values,
@@ -266,7 +266,7 @@ fn join_words(
     ensures whole { IsWhole values.now planes.new }
     ensures value { seen values.now planes.new ≡
         joined_cells (seen values.now planes.old) (seen other_values.now others.now) }
-    ensures changed { TellsChange result (seen values.now planes.old) (seen values.now planes.new) }
+    ensures changed { ReportsChange result (seen values.now planes.old) (seen values.now planes.new) }
 {
     join_planes(planes, others, values, other_values, agree)
 }

@@ -3,7 +3,7 @@
 ghost use Rattle.std.specs.Prelude.{◌≡◌, ◌≤◌, ◌<◌, length, IfOk, OnErr, true, false};
 ghost use Rattle.tp_state.specs.Answer.{answered};
 ghost use Rattle.tp_state.specs.Conditions.{KeepsPlace, IsPlaced};
-ghost use Rattle.tp_state.specs.Order.{AgreeOnValues, IsBelow, join, join_kinds, meeting, TellsChange};
+ghost use Rattle.tp_state.specs.Order.{AgreeOnValues, IsBelow, join, join_kinds, meeting, ReportsChange};
 ghost use Rattle.tp_state.specs.Entry.{entry};
 ghost use Rattle.tp_state.specs.Rules.{push, pop, pop_two, set_areg, replace_pair, no_registers, one_number, two_numbers, local, below_wptr, suspended, descheduled};
 ghost use Rattle.tp_state.specs.CellRules.{are_free};
@@ -108,7 +108,7 @@ impl State {
     pub fn join(&mut self, other: &State) -> Result<bool, StateCode>
         requires { length other.now.cells ≡ length self.old.cells }
         ensures value { answered result self.new ≡ meeting self.old other.now }
-        ensures changed { IfOk result (λ changed. TellsChange changed self.old self.new) }
+        ensures changed { IfOk result (λ changed. ReportsChange changed self.old self.new) }
         ensures kept { OnErr result (self.new ≡ self.old) }
     {
         if self.wptr != other.wptr {
@@ -125,7 +125,7 @@ impl State {
     pub fn join_compatible(&mut self, other: &State) -> bool
         requires { (t : State) × IsBelow t self.old × IsBelow t other.now }
         ensures value { self.new ≡ join self.old other.now }
-        ensures changed { TellsChange result self.old self.new }
+        ensures changed { ReportsChange result self.old self.new }
     {
         self.join_known(other, true)
     }
@@ -150,7 +150,7 @@ impl State {
         requires sized { length other.now.cells ≡ length self.old.cells }
         requires agree { agree ≡ true → AgreeOnValues self.old.cells other.now.cells }
         ensures value { self.new ≡ join self.old other.now }
-        ensures changed { TellsChange result self.old self.new }
+        ensures changed { ReportsChange result self.old self.new }
     {
         let cells = self.cells.join(&other.cells, agree);
         self.join_registers(other) || cells
@@ -163,7 +163,7 @@ impl State {
           b = join_kinds self.old.b other.now.b;
           c = join_kinds self.old.c other.now.c;
         } }
-        ensures changed { TellsChange result self.old self.new }
+        ensures changed { ReportsChange result self.old self.new }
     {
         let a = join_kind(&mut self.a, other.a);
         let b = join_kind(&mut self.b, other.b);
@@ -292,7 +292,7 @@ impl State {
 #[inline(always)]
 pub(crate) fn join_kind(kind: &mut Kind, other: Kind) -> bool
     ensures value { kind.new ≡ join_kinds kind.old other }
-    ensures changed { TellsChange result kind.old kind.new }
+    ensures changed { ReportsChange result kind.old kind.new }
 {
     if *kind == other {
         return false;
@@ -304,7 +304,7 @@ pub(crate) fn join_kind(kind: &mut Kind, other: Kind) -> bool
 #[inline(never)]
 fn join_unlike(kind: &mut Kind, other: Kind) -> bool
     ensures value { kind.new ≡ join_kinds kind.old other }
-    ensures changed { TellsChange result kind.old kind.new }
+    ensures changed { ReportsChange result kind.old kind.new }
 {
     let joined = kind.join(other);
     let changed = joined != *kind;

@@ -13,7 +13,7 @@ use Rattle.tp_decode.specs.declared.fault.DecodeFault.TheVariants.{Refused}
 use Rattle.tp_decode.specs.Cutting.{Cut, IsSpelled, code_of}
 use Rattle.tp_decode.specs.Front.{BeginsWith, Stops}
 use Rattle.tpw_asm.specs.declared.program.Line.{Line}
-use Rattle.tpw_asm.specs.Telling.{told_cut}
+use Rattle.tpw_asm.specs.CodeLines.{cut_lines}
 
 -- where no spelling is read, none is cut
 pub stops_unread : (bytes : List ℕ) (at : ℕ) (r : Result Spelled PrefixFault) (e : PrefixFault) → r ≡ Err e → IfErr r (λ e. (e ≡ prefix.D1 at) ⊎ (e ≡ prefix.D2 at))
@@ -39,22 +39,22 @@ all_push : (cuts : List Cut) (cut : Cut) → AllByRecursion IsSpelled cuts → I
 all_push [] cut all is = (is, tt)
 all_push (c ∷ cuts) cut all is = (all.0, all_push cuts cut all.1 is)
 
-lines-push : (cuts : List Cut) (cut : Cut) → flat_map told_cut (cuts ++ cut ∷ []) ≡ flat_map told_cut cuts ++ told_cut cut
-lines-push cuts cut = flat_map-append told_cut cuts (cut ∷ []) ∙ ap (λ xs. flat_map told_cut cuts ++ xs) (append_nil (told_cut cut))
+lines-push : (cuts : List Cut) (cut : Cut) → flat_map cut_lines (cuts ++ cut ∷ []) ≡ flat_map cut_lines cuts ++ cut_lines cut
+lines-push cuts cut = flat_map-append cut_lines cuts (cut ∷ []) ∙ ap (λ xs. flat_map cut_lines cuts ++ xs) (append_nil (cut_lines cut))
 
 -- the lines of a code up to an address
 pub record LinesTo (code : List ℕ) (at : ℕ) (lines : List Line) : Type 0 where
   pub cuts : List Cut
   pub joined : code_of cuts ≡ take at code
   pub each : AllByRecursion IsSpelled cuts
-  pub are : lines ≡ flat_map told_cut cuts
+  pub are : lines ≡ flat_map cut_lines cuts
 
 -- one instruction more
 pub lines_more : (code : List ℕ) (at next : ℕ) (lines : List Line) (cut : Cut) → at ≤ next → next ≤ length code → LinesTo code at lines → BeginsWith (drop at code) cut → length cut.bytes ≡ next - at
-    → LinesTo code next (lines ++ told_cut cut)
+    → LinesTo code next (lines ++ cut_lines cut)
 lines_more code at next lines cut h h' so_far begins size = record {
   cuts = so_far.cuts ++ cut ∷ [];
   joined = code_of-push so_far.cuts cut ∙ ap (λ xs. xs ++ cut.bytes) so_far.joined ∙ ap (λ xs. take at code ++ xs) (sym begins.front ∙ ap (λ n. take n (drop at code)) size) ∙ take_range code at next h;
   each = all_push so_far.cuts cut so_far.each begins.spelled;
-  are = ap (λ xs. xs ++ told_cut cut) so_far.are ∙ sym (lines-push so_far.cuts cut);
+  are = ap (λ xs. xs ++ cut_lines cut) so_far.are ∙ sym (lines-push so_far.cuts cut);
 }

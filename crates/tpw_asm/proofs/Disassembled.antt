@@ -11,7 +11,7 @@ use Rattle.tpw_asm.specs.declared.program.Program.{Program}
 use Rattle.tpw_asm.specs.Layout.{addresses_from, code_of, IsLayout, IsLeastLayout}
 use Rattle.tpw_asm.specs.Faults.{is_behind, first_row, first_fault, first_narrow}
 use Rattle.tpw_asm.specs.Assembly.{address_of, row_of, assembled, IsAssembly}
-use Rattle.tpw_asm.specs.Telling.{IsTold}
+use Rattle.tpw_asm.specs.CodeLines.{AreLinesOf}
 use Rattle.tpw_asm.specs.Labelling.{spot_from, spot_of, loop_of, labelled_from}
 use Rattle.tpw_asm.proofs.LayoutLemmas.{length-addresses}
 use Rattle.tpw_asm.proofs.AssemblyLemmas.{layout_count, length-code}
@@ -83,7 +83,7 @@ fields_said program image lengths has rows code =
     } ≡ made = cc in
     same
 
-pub disassembly_is_assembly : (program : Program) (image : ImageValue) (unlabelled : List Line) (lengths : List ℕ) → InRange image → HasFields program image → IsTold image.code unlabelled → IsLeastLayout unlabelled lengths
+pub disassembly_is_assembly : (program : Program) (image : ImageValue) (unlabelled : List Line) (lengths : List ℕ) → InRange image → HasFields program image → AreLinesOf image.code unlabelled → IsLeastLayout unlabelled lengths
     → program.lines.items ≡ labelled_from (addresses_from 0 lengths) 0 unlabelled → program.loops.items ≡ map (loop_of (addresses_from 0 lengths)) image.loops → IsAssembly program image
 disassembly_is_assembly program image unlabelled lengths in_range has are_lines least lines loops =
     let addresses = addresses_from 0 lengths in

@@ -11,7 +11,7 @@ use Rattle.tpw_asm.specs.declared.program.Line.{Line}
 use Rattle.tpw_asm.specs.declared.program.Line.TheVariants.{Byte, Spelled}
 use Rattle.tpw_asm.specs.Layout.{spelled_at, spelled_from}
 use Rattle.tpw_asm.specs.Faults.{line_fault, is_stated}
-use Rattle.tpw_asm.specs.Telling.{is_filled, stated, told_cut, IsTold}
+use Rattle.tpw_asm.specs.CodeLines.{is_filled, stated, cut_lines, AreLinesOf}
 use Rattle.std.proofs.lemmas.Bool.{and_parts}
 use Rattle.std.proofs.lemmas.Slice.Eq.{bytes_eq-Decides}
 use Rattle.std.proofs.lemmas.List.{length-take-le, take-append-drop}
@@ -130,7 +130,7 @@ bytes_own (b ∷ bytes) = (own_byte b, bytes_own bytes)
 spells_bytes : (bytes : List ℕ) → Spells (map Byte bytes) bytes
 spells_bytes bytes = record { own = bytes_own bytes; code = λ addresses number. bytes_code addresses number bytes }
 
-spells_cut : (cut : Cut) → IsSpelled cut → Spells (told_cut cut) cut.bytes
+spells_cut : (cut : Cut) → IsSpelled cut → Spells (cut_lines cut) cut.bytes
 spells_cut cut is = by_test (is_filled cut.bytes (shortest cut.instr)) refl
   where
     by_test : (p : Bool) → is_filled cut.bytes (shortest cut.instr) ≡ p
@@ -140,9 +140,9 @@ spells_cut cut is = by_test (is_filled cut.bytes (shortest cut.instr)) refl
         record { own = (own, tt); code = λ addresses number. append_nil _ ∙ own_spelled cut.bytes cut.instr e (canonical_least _ _ _ is) is.short addresses number }
     by_test false e = spells_bytes cut.bytes
 
-spells_cuts : (cuts : List Cut) → AllByRecursion IsSpelled cuts → Spells (flat_map told_cut cuts) (code_of_cuts cuts)
+spells_cuts : (cuts : List Cut) → AllByRecursion IsSpelled cuts → Spells (flat_map cut_lines cuts) (code_of_cuts cuts)
 spells_cuts [] all = record { own = tt; code = λ addresses number. refl }
-spells_cuts (cut ∷ cuts) all = spells-append (told_cut cut) (flat_map told_cut cuts) cut.bytes (code_of_cuts cuts) (spells_cut cut all.0) (spells_cuts cuts all.1)
+spells_cuts (cut ∷ cuts) all = spells-append (cut_lines cut) (flat_map cut_lines cuts) cut.bytes (code_of_cuts cuts) (spells_cut cut all.0) (spells_cuts cuts all.1)
 
-pub spells_code : (code : List ℕ) (lines : List Line) → IsTold code lines → Spells lines code
-spells_code code lines is = rw (is.are, is.joined) (spells-append (flat_map told_cut is.cuts) (map Byte is.rest) (code_of_cuts is.cuts) is.rest (spells_cuts is.cuts is.each) (spells_bytes is.rest))
+pub spells_code : (code : List ℕ) (lines : List Line) → AreLinesOf code lines → Spells lines code
+spells_code code lines is = rw (is.are, is.joined) (spells-append (flat_map cut_lines is.cuts) (map Byte is.rest) (code_of_cuts is.cuts) is.rest (spells_cuts is.cuts is.each) (spells_bytes is.rest))

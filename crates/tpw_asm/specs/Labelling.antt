@@ -14,7 +14,7 @@ use Rattle.tpw_asm.specs.declared.program.Spot.TheVariants.{Place, Address}
 use Rattle.tpw_asm.specs.declared.program.Loop.{Loop}
 use Rattle.tpw_asm.specs.declared.program.Program.{Program}
 use Rattle.tpw_asm.specs.Layout.{addresses_from, IsLeastLayout}
-use Rattle.tpw_asm.specs.Telling.{IsTold}
+use Rattle.tpw_asm.specs.CodeLines.{AreLinesOf}
 
 -- the place that lies so many bytes behind another
 abbrev pub place_ahead : List ℕ → ℕ → ℤ → Option ℕ
@@ -65,9 +65,9 @@ loop_of addresses row = record {
 -- a program's lines are those of the image's code, and its loops those of the image's rows, with places for addresses
 -- that have one
 pub record IsDisassembly (image : ImageValue) (program : Program) : Type 0 where
-  pub told : List Line
+  pub code_lines : List Line
   pub lengths : List ℕ
-  pub telling : IsTold image.code told
-  pub layout : IsLeastLayout told lengths
-  pub lines : program.lines.items ≡ labelled_from (addresses_from 0 lengths) 0 told
+  pub are_code_lines : AreLinesOf image.code code_lines
+  pub layout : IsLeastLayout code_lines lengths
+  pub lines : program.lines.items ≡ labelled_from (addresses_from 0 lengths) 0 code_lines
   pub loops : program.loops.items ≡ map (loop_of (addresses_from 0 lengths)) image.loops

@@ -3,5 +3,5 @@ pub mod Layout
 pub mod Faults
 pub mod Outcome
 pub mod Assembly
-pub mod Telling
+pub mod CodeLines
 pub mod Labelling

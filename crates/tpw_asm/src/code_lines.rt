@@ -5,7 +5,7 @@ ghost use Rattle.std.specs.List.{list_all};
 ghost use Rattle.tp_decode.specs.declared.fault.DecodeFault.{DecodeFault};
 ghost use Rattle.tp_decode.specs.Lines.{shortest};
 ghost use Rattle.tp_decode.specs.Front.{BeginsWith, Stops};
-ghost use Rattle.tpw_asm.specs.Telling.{is_filled, told, IsTold};
+ghost use Rattle.tpw_asm.specs.CodeLines.{is_filled, spelling_lines, AreLinesOf};
 ghost use Rattle.tpw_asm.specs.declared.program.Line.TheVariants.{Byte};
 
 use crate::layout::PFIX_0;
@@ -52,7 +52,7 @@ fn push_bytes(lines: &mut Vec<Line>, bytes: &[u8]) -> Result<(), AllocError>
 fn push_instr(lines: &mut Vec<Line>, instr: Instr, spelling: &[u8]) -> Result<(), AllocError>
     requires least { length (shortest instr) ≤ length spelling.now }
     requires short { length spelling.now ≤ 8 }
-    ensures { OnOk result (lines.new.items ≡ lines.old.items ++ told spelling.now instr) }
+    ensures { OnOk result (lines.new.items ≡ lines.old.items ++ spelling_lines spelling.now instr) }
 {
     let least = shortest(instr);
     if !is_filled(spelling, least.as_slice()) {
@@ -92,7 +92,7 @@ fn found_at(code: &[u8], at: usize) -> Option<Found>
 
 /// The lines of a code.
 pub fn lines_of(alloc: Global, code: &[u8]) -> Result<Vec<Line>, AllocError>
-    ensures { IfOk result (λ lines. IsTold code.now lines.items) }
+    ensures { IfOk result (λ lines. AreLinesOf code.now lines.items) }
 {
     let mut lines = Vec::new(alloc);
     let mut at = 0;

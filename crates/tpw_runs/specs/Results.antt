@@ -10,7 +10,7 @@ use Rattle.tp_accept.specs.declared.accepted.Accepted.{Accepted}
 use Rattle.tp_accept.specs.Ending.{EndsWithin}
 use Rattle.tp_board.specs.Limits.{most_members}
 use Rattle.tp_collect.specs.declared.collected.Entry.{Entry}
-use Rattle.tp_farm.specs.Promised.{ComesTo, TakeAll}
+use Rattle.tp_farm.specs.Promised.{IsEntryOf, TakeAll}
 use Rattle.tpw_run_text.specs.declared.form.Form.{Form}
 use Rattle.tpw_run_text.specs.declared.tally.Tally.{Tally}
 use Rattle.tpw_run_text.specs.Lines.{entries_text}
@@ -20,7 +20,7 @@ use Rattle.tpw_run_text.specs.Tallies.{nothing_counted, with_entries}
 -- its trace is longer than it may be.
 pub record IsResultOf (image : ImageValue) (budget : ℕ) (packet : List ℕ) (entry : Entry) : Type 0 where
   pub ends : EndsWithin image budget packet
-  pub comes : ComesTo ends.run entry
+  pub comes : IsEntryOf ends.run entry
 
 -- so it is of each packet, in order: none is missing, and none stands twice
 abbrev pub AreResults : ImageValue → ℕ → List (List ℕ) → List Entry → Type 0

@@ -20,7 +20,7 @@ use Rattle.tpw_machine.specs.Phases.{is_stopped}
 use Rattle.tpw_machine.specs.Meaning.{Messages, state_of, HasExchanged, Turned}
 use Rattle.tpw_machine.proofs.RunLemmas.{begins}
 use Rattle.tpw_machine.proofs.TurnLemmas.{not_stopped}
-use Rattle.tpw_step.specs.Stepping.{has_prefix, ArePrefixes, Came}
+use Rattle.tpw_step.specs.Stepping.{has_prefix, ArePrefixes, Advances}
 
 -- a prefix's step goes on by a byte, and does not stop
 pub prefix_keeps : (image : ImageValue) (s t : State) → has_prefix image.code s.iptr ≡ true → step image s ≡ Some t → (t.iptr ≡ s.iptr +ℤ pos 1) × (t.stopped ≡ s.stopped)
@@ -80,7 +80,7 @@ module _ (image : ImageValue) (prefixes : ℕ) (first : Machine) (phase : Phase)
       }
 
   pub is_made : (are : ArePrefixes image.code first.iptr prefixes) (i : ℕ) (m : Machine) (later : Phase) (after : Devices) → i ≡ prefixes + 1
-      → Along i m later after → Came image (state_of first) (state_of m) phase later now after (Some turn.Made)
+      → Along i m later after → Advances image (state_of first) (state_of m) phase later now after (Some turn.Made)
   is_made are i m later after all h = λ before p stands.
       let x = h.goes before p stands in
       (x.0, record { prefixes = prefixes; are = are; leads = ap (λ k. steps image k (state_of first p)) (omega (arith, all)) ∙ x.1 }, x.2)
@@ -94,7 +94,7 @@ module _ (image : ImageValue) (prefixes : ℕ) (first : Machine) (phase : Phase)
 
   pub is_stuck : (are : ArePrefixes image.code first.iptr prefixes) (i : ℕ) (m n : Machine) (later last : Phase) (after left : Devices) → i ≤ prefixes
       → Along i m later after → Turned image (step image) (state_of m) (state_of n) later last after left turn.Stuck
-      → Came image (state_of first) (state_of n) phase last now left (Some turn.Stuck)
+      → Advances image (state_of first) (state_of n) phase last now left (Some turn.Stuck)
   is_stuck are i m n later last after left within h turned = λ before p stands.
       let x = h.goes before p stands in
       record {
@@ -107,7 +107,7 @@ module _ (image : ImageValue) (prefixes : ℕ) (first : Machine) (phase : Phase)
 
   pub is_refused : (are : ArePrefixes image.code first.iptr prefixes) (i : ℕ) (m n : Machine) (later last : Phase) (after left : Devices) (fault : LinkFault) → i ≤ prefixes
       → Along i m later after → Turned image (step image) (state_of m) (state_of n) later last after left (turn.Refused fault)
-      → Came image (state_of first) (state_of n) phase last now left (Some (turn.Refused fault))
+      → Advances image (state_of first) (state_of n) phase last now left (Some (turn.Refused fault))
   is_refused are i m n later last after left fault within h turned = λ before p stands.
       let x = h.goes before p stands in
       let y = turned before x.0 x.2 in

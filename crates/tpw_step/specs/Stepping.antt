@@ -57,15 +57,15 @@ pub record RefusedFrom (image : ImageValue) (s : State) (before : Devices) (faul
 
 -- What becomes of a worker by its next instruction, whatever came and went before. None: it had stopped, and nothing
 -- moves.
-abbrev pub Came : ImageValue → (old new : Messages → State) → (phase later : Phase) → (now after : Devices)
+abbrev pub Advances : ImageValue → (old new : Messages → State) → (phase later : Phase) → (now after : Devices)
     → Option Turn → Type 0
-Came image old new phase later now after None =
+Advances image old new phase later now after None =
     (phase ≡ Stopped) × (later ≡ phase) × (after ≡ now) × ((p : Messages) → new p ≡ old p)
-Came image old new phase later now after (Some turn.Made) =
+Advances image old new phase later now after (Some turn.Made) =
     (before : Devices) (p : Messages) → HasExchanged image before phase p now →
     (q : Messages) × IsInstruction image (old p) (new q) × HasExchanged image before later q after
-Came image old new phase later now after (Some turn.Stuck) =
+Advances image old new phase later now after (Some turn.Stuck) =
     (before : Devices) (p : Messages) → HasExchanged image before phase p now → StuckFrom image (old p) before after
-Came image old new phase later now after (Some (turn.Refused fault)) =
+Advances image old new phase later now after (Some (turn.Refused fault)) =
     (before : Devices) (p : Messages) → HasExchanged image before phase p now
     → RefusedFrom image (old p) before fault after

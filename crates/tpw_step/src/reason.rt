@@ -14,7 +14,7 @@ use tpw_machine::{Phase, Registers};
 /// The bytes below Wptr that are undefined where a worker may give way.
 const BELOW: u32 = FRAME_WORDS * WORD_BYTES;
 
-/// Why a worker is stuck.
+/// Why a worker is snapshot.
 #[derive(Clone, Copy, Debug, PartialEq, Eq, Error)]
 pub enum Reason {
     #[error("no code byte stands there")]
@@ -73,9 +73,9 @@ fn registers_read(instr: Instr) -> u8 {
     }
 }
 
-/// Where a run stood before an instruction that has no step.
+/// A run before its next instruction.
 #[derive(Clone, Copy)]
-pub(crate) struct Stood<'a> {
+pub(crate) struct Snapshot<'a> {
     pub(crate) image: &'a Image,
     pub(crate) registers: Registers,
     pub(crate) phase: Phase,
@@ -88,12 +88,12 @@ fn words_on(address: u32, words: i32) -> u32 {
 }
 
 /// A word's address, or why there is none.
-fn word(stood: Stood<'_>, address: u32, is_read: bool) -> Option<Reason> {
-    if !stood.workspace.holds(address, WORD_BYTES) {
+fn word(snapshot: Snapshot<'_>, address: u32, is_read: bool) -> Option<Reason> {
+    if !snapshot.workspace.holds(address, WORD_BYTES) {
         Some(Reason::OutsideWorkspace)
     } else if address % WORD_BYTES != 0 {
         Some(Reason::NotAWord)
-    } else if is_read && stood.workspace.at(address).is_none() {
+    } else if is_read && snapshot.workspace.at(address).is_none() {
         Some(Reason::Undefined)
     } else {
         None
@@ -101,13 +101,13 @@ fn word(stood: Stood<'_>, address: u32, is_read: bool) -> Option<Reason> {
 }
 
 /// Why the packet cannot be received so: so many bytes, over a channel, to an address.
-fn input_reason(stood: Stood<'_>, bytes: u32, channel: u32, address: u32) -> Reason {
-    let image = stood.image;
+fn input_reason(snapshot: Snapshot<'_>, bytes: u32, channel: u32, address: u32) -> Reason {
+    let image = snapshot.image;
     let length = image.packet.wrapping_mul(WORD_BYTES);
-    let is_first = stood.phase == Phase::BeforePacket;
+    let is_first = snapshot.phase == Phase::BeforePacket;
     if channel != LINK0_INPUT || bytes != length || !is_first {
         Reason::NotThePacket
-    } else if stood.workspace.holds(address, bytes) {
+    } else if snapshot.workspace.holds(address, bytes) {
         Reason::Below
     } else {
         Reason::OutsideWorkspace
@@ -115,10 +115,10 @@ fn input_reason(stood: Stood<'_>, bytes: u32, channel: u32, address: u32) -> Rea
 }
 
 /// Why no message can be sent so.
-fn output_reason(stood: Stood<'_>, bytes: u32, channel: u32, address: u32) -> Reason {
-    let image = stood.image;
+fn output_reason(snapshot: Snapshot<'_>, bytes: u32, channel: u32, address: u32) -> Reason {
+    let image = snapshot.image;
     let length = image.result.wrapping_mul(WORD_BYTES);
-    let is_next = stood.phase == Phase::BeforeResult;
+    let is_next = snapshot.phase == Phase::BeforeResult;
     let is_result = channel == LINK0_OUTPUT && bytes == length && is_next;
     let is_trace = channel == LINK1_OUTPUT
         && bytes % WORD_BYTES == 0
@@ -126,11 +126,11 @@ fn output_reason(stood: Stood<'_>, bytes: u32, channel: u32, address: u32) -> Re
         && bytes <= TRACE_BYTES;
     if !is_result && !is_trace {
         Reason::NotAMessage
-    } else if !stood.workspace.holds(address, bytes) {
+    } else if !snapshot.workspace.holds(address, bytes) {
         Reason::OutsideWorkspace
-    } else if stood
+    } else if snapshot
         .workspace
-        .holds(stood.registers.wptr.wrapping_sub(BELOW), BELOW)
+        .holds(snapshot.registers.wptr.wrapping_sub(BELOW), BELOW)
     {
         Reason::Undefined
     } else {
@@ -139,13 +139,13 @@ fn output_reason(stood: Stood<'_>, bytes: u32, channel: u32, address: u32) -> Re
 }
 
 /// Why no words can be moved so.
-fn move_reason(stood: Stood<'_>, bytes: u32, target: u32, source: u32) -> Reason {
+fn move_reason(snapshot: Snapshot<'_>, bytes: u32, target: u32, source: u32) -> Reason {
     let is_length = bytes % WORD_BYTES == 0 && 0 < bytes && bytes <= MOVE_BYTES;
-    if stood.image.version() == 1 {
+    if snapshot.image.version() == 1 {
         Reason::NoMove
     } else if !is_length {
         Reason::NotAMove
-    } else if !stood.workspace.holds(target, bytes) || !stood.workspace.holds(source, bytes) {
+    } else if !snapshot.workspace.holds(target, bytes) || !snapshot.workspace.holds(source, bytes) {
         Reason::OutsideWorkspace
     } else if target.abs_diff(source) < bytes {
         Reason::NotAMove
@@ -155,19 +155,19 @@ fn move_reason(stood: Stood<'_>, bytes: u32, target: u32, source: u32) -> Reason
 }
 
 /// Why an instruction has no step, all of whose registers are defined.
-fn reason_of(stood: Stood<'_>, instr: Instr, a: u32, b: u32, c: u32) -> Reason {
-    let wptr = stood.registers.wptr;
+fn reason_of(snapshot: Snapshot<'_>, instr: Instr, a: u32, b: u32, c: u32) -> Reason {
+    let wptr = snapshot.registers.wptr;
     let found = match instr {
-        Instr::Ldl(n) => word(stood, words_on(wptr, n), true),
-        Instr::Stl(n) => word(stood, words_on(wptr, n), false),
-        Instr::Ldnl(n) => word(stood, words_on(a, n), true),
-        Instr::Stnl(n) => word(stood, words_on(a, n), false),
-        Instr::Lend => word(stood, b, true).or(word(stood, words_on(b, 1), true)),
-        Instr::Lb if stood.workspace.holds(a, 1) => Some(Reason::Undefined),
+        Instr::Ldl(n) => word(snapshot, words_on(wptr, n), true),
+        Instr::Stl(n) => word(snapshot, words_on(wptr, n), false),
+        Instr::Ldnl(n) => word(snapshot, words_on(a, n), true),
+        Instr::Stnl(n) => word(snapshot, words_on(a, n), false),
+        Instr::Lend => word(snapshot, b, true).or(word(snapshot, words_on(b, 1), true)),
+        Instr::Lb if snapshot.workspace.holds(a, 1) => Some(Reason::Undefined),
         Instr::Lb | Instr::Sb => Some(Reason::OutsideWorkspace),
-        Instr::Input => Some(input_reason(stood, a, b, c)),
-        Instr::Output => Some(output_reason(stood, a, b, c)),
-        Instr::MoveBytes => Some(move_reason(stood, a, b, c)),
+        Instr::Input => Some(input_reason(snapshot, a, b, c)),
+        Instr::Output => Some(output_reason(snapshot, a, b, c)),
+        Instr::MoveBytes => Some(move_reason(snapshot, a, b, c)),
         Instr::Stopp => Some(Reason::StopsEarly),
         Instr::Shl | Instr::Shr => Some(Reason::ShiftCount),
         _ => None,
@@ -185,9 +185,9 @@ pub(crate) fn instruction_at(code: &[u8], at: i64) -> Option<Instr> {
 }
 
 /// Why there is no step from where a run stood.
-pub(crate) fn why(stood: Stood<'_>) -> Reason {
-    let at = stood.registers.iptr;
-    let image = stood.image;
+pub(crate) fn why(snapshot: Snapshot<'_>) -> Reason {
+    let at = snapshot.registers.iptr;
+    let image = snapshot.image;
     let code = image.code.as_slice();
     let Some(instr) = instruction_at(code, at) else {
         let end = at.saturating_add(prefixes_at(code, at) as i64);
@@ -200,13 +200,19 @@ pub(crate) fn why(stood: Stood<'_>) -> Reason {
     };
     let read = registers_read(instr);
     match (
-        stood.registers.areg,
-        stood.registers.breg,
-        stood.registers.creg,
+        snapshot.registers.areg,
+        snapshot.registers.breg,
+        snapshot.registers.creg,
     ) {
         (None, _, _) if 0 < read => Reason::Areg,
         (_, None, _) if 1 < read => Reason::Breg,
         (_, _, None) if 2 < read => Reason::Creg,
-        (a, b, c) => reason_of(stood, instr, a.unwrap_or(0), b.unwrap_or(0), c.unwrap_or(0)),
+        (a, b, c) => reason_of(
+            snapshot,
+            instr,
+            a.unwrap_or(0),
+            b.unwrap_or(0),
+            c.unwrap_or(0),
+        ),
     }
 }

@@ -1,7 +1,7 @@
 //! A whole run, printed line by line.
 
 use crate::prefixes::prefixes_at;
-use crate::reason::{Reason, Stood, instruction_at, why};
+use crate::reason::{Reason, Snapshot, instruction_at, why};
 use crate::span::Span;
 use crate::stepper::Stepper;
 use crate::value::Value;
@@ -131,12 +131,12 @@ impl Progress {
 }
 
 /// How a run is left by what became of an instruction, if it is.
-fn left(turn: Option<Turn>, stood: Stood<'_>) -> Option<End> {
+fn left(turn: Option<Turn>, snapshot: Snapshot<'_>) -> Option<End> {
     match turn {
         None => Some(End::Stopped),
         Some(Turn::Made) => None,
         Some(Turn::Refused(fault)) => Some(End::Refused(fault)),
-        Some(Turn::Stuck) => Some(End::Stuck(stood.registers.iptr, why(stood))),
+        Some(Turn::Stuck) => Some(End::Stuck(snapshot.registers.iptr, why(snapshot))),
     }
 }
 
@@ -156,13 +156,13 @@ fn show_one<D: LinkDevice, W: Write>(
     let at = registers.iptr;
     let phase = stepper.phase();
     let turn = stepper.next(links);
-    let stood = Stood {
+    let snapshot = Snapshot {
         image: stepper.image(),
         registers,
         phase,
         workspace: stands,
     };
-    if let Some(end) = left(turn, stood) {
+    if let Some(end) = left(turn, snapshot) {
         return Ok(Some(end));
     }
     let code = stepper.image().code.as_slice();

@@ -7,7 +7,7 @@ ghost use Rattle.tp_step.specs.Runs.{start};
 ghost use Rattle.tp_outcome.specs.Devices.{devices_of};
 ghost use Rattle.tpw_machine.specs.declared.phase.Phase.TheVariants.{BeforePacket};
 ghost use Rattle.tpw_machine.specs.Meaning.{memory_of, state_of};
-ghost use Rattle.tpw_step.specs.Stepping.{Came};
+ghost use Rattle.tpw_step.specs.Stepping.{Advances};
 
 use crate::prefixes::prefixes_at;
 use tp_image::Image;
@@ -63,7 +63,7 @@ impl Stepper {
     ///
     /// Where there is no step, or a device refuses its call, the run has ended, and the machine is left between two states.
     pub fn next<D: LinkDevice>(&mut self, links: &mut Links<D>) -> Option<Turn>
-        ensures comes { Came self.old.image (state_of self.old.machine)
+        ensures comes { Advances self.old.image (state_of self.old.machine)
             (state_of self.new.machine) self.old.phase self.new.phase
             (devices_of D.state links.old)
             (devices_of D.state links.new) result }

@@ -20,7 +20,7 @@ use Rattle.tpw_text.specs.declared.draft.Row.{Row}
 use Rattle.tpw_text.specs.declared.draft.Begun.{Begun}
 use Rattle.tpw_text.specs.Faults.{fault_at, then_read, each_read}
 use Rattle.tpw_text.specs.Drafts.{Said}
-use Rattle.tpw_text.specs.Programs.{place_of_label, line_placed, spot_placed, loop_placed, no_loop, ended, is_beyond, no_local, locals_fit, program_of, label_told, labels_told, local_told, locals_told, workspace_said, finished}
+use Rattle.tpw_text.specs.Programs.{place_of_label, line_placed, spot_placed, loop_placed, no_loop, ended, is_beyond, no_local, locals_fit, program_of, label_listed, labels_listed, local_listed, locals_listed, workspace_said, finished}
 use Rattle.tpw_text.specs.Apart.{word_apart, line_apart, target_apart, label_apart, local_apart, row_apart, begun_apart, draft_apart}
 use Rattle.tpw_text.specs.Texts.{text_said, source_of}
 use Rattle.tpw_text.proofs.Apart.{then_same}
@@ -64,15 +64,15 @@ ends_are begun =
     by None = refl
     by (Some loop) = refl
 
-labels_are : (labels : List LabelName) → labels_told (map label_apart labels) ≡ labels_told labels
-unfolding label_told
+labels_are : (labels : List LabelName) → labels_listed (map label_apart labels) ≡ labels_listed labels
+unfolding label_listed
 labels_are [] = refl
-labels_are (n ∷ labels) = ap (λ more. label_told n ++ more) (labels_are labels)
+labels_are (n ∷ labels) = ap (λ more. label_listed n ++ more) (labels_are labels)
 
-locals_are : (locals : List LocalName) → locals_told (map local_apart locals) ≡ locals_told locals
-unfolding local_told
+locals_are : (locals : List LocalName) → locals_listed (map local_apart locals) ≡ locals_listed locals
+unfolding local_listed
 locals_are [] = refl
-locals_are (n ∷ locals) = ap (λ more. local_told n ++ more) (locals_are locals)
+locals_are (n ∷ locals) = ap (λ more. local_listed n ++ more) (locals_are locals)
 
 beyond : (workspace start : ℕ) (locals : List LocalName) → no_local (find (is_beyond workspace start) (map local_apart locals)) ≡ no_local (find (is_beyond workspace start) locals)
 beyond workspace start [] = refl
@@ -99,8 +99,8 @@ finished_apart d =
     then_same (ended d.begun) _ _ (ends_are d.begun) (λ end.
     then_same (locals_fit d) _ _ (room_is d) (λ room.
     then_same (program_of d) _ _ (program_is d) (λ program.
-    ap (λ told. Ok (record { program = program; positions = d.positions; labels = told; locals = locals_told (map local_apart d.locals) })) (labels_are d.labels)
-    ∙ ap (λ told. Ok (record { program = program; positions = d.positions; labels = labels_told d.labels; locals = told })) (locals_are d.locals))))
+    ap (λ told. Ok (record { program = program; positions = d.positions; labels = told; locals = locals_listed (map local_apart d.locals) })) (labels_are d.labels)
+    ∙ ap (λ told. Ok (record { program = program; positions = d.positions; labels = labels_listed d.labels; locals = told })) (locals_are d.locals))))
 
 -- where a text says a draft, its source is what that comes to
 pub source_is : (text : List ℕ) (d : Said) → text_said text ≡ Ok (draft_apart d) → finished d ≡ source_of text

@@ -154,17 +154,17 @@ local_of local = record { name = local.name.now; first = local.first; words = lo
 abbrev pub under : {A : Type 0} → List ℕ → A → List A
 under name a = if is_utf8 name then a ∷ [] else []
 
-unfoldable pub label_told : LabelName → List LabelSaid
-label_told n = under n.word.text.now (record { name = n.word.text.now; place = n.place })
+unfoldable pub label_listed : LabelName → List LabelSaid
+label_listed n = under n.word.text.now (record { name = n.word.text.now; place = n.place })
 
-abbrev pub labels_told : List LabelName → List LabelSaid
-labels_told names = flat_map label_told names
+abbrev pub labels_listed : List LabelName → List LabelSaid
+labels_listed names = flat_map label_listed names
 
-unfoldable pub local_told : LocalName → List LocalSaid
-local_told n = under n.word.text.now (record { name = n.word.text.now; first = n.first; words = n.words })
+unfoldable pub local_listed : LocalName → List LocalSaid
+local_listed n = under n.word.text.now (record { name = n.word.text.now; first = n.first; words = n.words })
 
-abbrev pub locals_told : List LocalName → List LocalSaid
-locals_told names = flat_map local_told names
+abbrev pub locals_listed : List LocalName → List LocalSaid
+locals_listed names = flat_map local_listed names
 
 -- a program, where the word stands that asks for each of its lines, and the names that are handed out
 pub record SourceSaid : Type 0 where
@@ -187,6 +187,6 @@ finished d =
     then_read (ended d.begun) (λ _. then_read (locals_fit d) (λ _. then_read (program_of d) (λ program. Ok (record {
       program = program;
       positions = d.positions;
-      labels = labels_told d.labels;
-      locals = locals_told d.locals;
+      labels = labels_listed d.labels;
+      locals = locals_listed d.locals;
     }))))

@@ -90,5 +90,5 @@ unfoldable pub statement_text : List ℕ → List ℕ
 statement_text line = without_trailing (without_leading (behind_label (words_of_line 1 line) (before_comment line)))
 
 -- what is handed out as a line's statement; it is UTF-8 where the line is, else the line would be handed out
-unfoldable pub statement_told : List ℕ → List ℕ
-statement_told line = if is_utf8 (statement_text line) then statement_text line else line
+unfoldable pub statement_or_line : List ℕ → List ℕ
+statement_or_line line = if is_utf8 (statement_text line) then statement_text line else line

@@ -4,7 +4,7 @@ ghost use Rattle.std.specs.Prelude.{◌≡◌, Ok, IfOk, IfErr, OnOk, map, ◌++
 ghost use Rattle.std.specs.List.{find};
 ghost use Rattle.tpw_text.specs.Faults.{IsRefusal, each_read};
 ghost use Rattle.tpw_text.specs.Drafts.{said};
-ghost use Rattle.tpw_text.specs.Programs.{place_of_label, line_placed, spot_placed, control_said, loop_placed, ended, workspace_said, is_beyond, locals_fit, program_said, program_of, label_of, label_told, labels_told, local_of, local_told, locals_told, source_said, finished};
+ghost use Rattle.tpw_text.specs.Programs.{place_of_label, line_placed, spot_placed, control_said, loop_placed, ended, workspace_said, is_beyond, locals_fit, program_said, program_of, label_of, label_listed, labels_listed, local_of, local_listed, locals_listed, source_said, finished};
 
 use crate::draft::{
     Begun, Control, Draft, DraftLine, LabelName, LocalName, Row, Target, place_named,
@@ -139,9 +139,9 @@ fn loops_of(
 }
 
 /// Appends a label, if its name is UTF-8.
-#[tactic(auto, unfolding(crate::specs::Programs::label_told))]
+#[tactic(auto, unfolding(crate::specs::Programs::label_listed))]
 fn push_label<'a>(labels: &mut Vec<Label<'a>>, name: &LabelName<'a>) -> Result<(), AllocError>
-    ensures { OnOk result (map label_of labels.new.items ≡ map label_of labels.old.items ++ label_told name.now) }
+    ensures { OnOk result (map label_of labels.new.items ≡ map label_of labels.old.items ++ label_listed name.now) }
 {
     if let Ok(text) = str::from_utf8(name.word.text) {
         labels.push(Label {
@@ -154,7 +154,7 @@ fn push_label<'a>(labels: &mut Vec<Label<'a>>, name: &LabelName<'a>) -> Result<(
 
 /// The labels of a text.
 fn labels_of<'a>(alloc: Global, names: &[LabelName<'a>]) -> Result<Vec<Label<'a>>, AllocError>
-    ensures { IfOk result (λ labels. map label_of labels.items ≡ labels_told names.now) }
+    ensures { IfOk result (λ labels. map label_of labels.items ≡ labels_listed names.now) }
 {
     let mut labels = Vec::new(alloc);
     for name in names {
@@ -164,9 +164,9 @@ fn labels_of<'a>(alloc: Global, names: &[LabelName<'a>]) -> Result<Vec<Label<'a>
 }
 
 /// Appends a name of local words, if it is UTF-8.
-#[tactic(auto, unfolding(crate::specs::Programs::local_told))]
+#[tactic(auto, unfolding(crate::specs::Programs::local_listed))]
 fn push_local<'a>(locals: &mut Vec<Local<'a>>, name: &LocalName<'a>) -> Result<(), AllocError>
-    ensures { OnOk result (map local_of locals.new.items ≡ map local_of locals.old.items ++ local_told name.now) }
+    ensures { OnOk result (map local_of locals.new.items ≡ map local_of locals.old.items ++ local_listed name.now) }
 {
     if let Ok(text) = str::from_utf8(name.word.text) {
         locals.push(Local {
@@ -180,7 +180,7 @@ fn push_local<'a>(locals: &mut Vec<Local<'a>>, name: &LocalName<'a>) -> Result<(
 
 /// The names of local words of a text.
 fn locals_of<'a>(alloc: Global, names: &[LocalName<'a>]) -> Result<Vec<Local<'a>>, AllocError>
-    ensures { IfOk result (λ locals. map local_of locals.items ≡ locals_told names.now) }
+    ensures { IfOk result (λ locals. map local_of locals.items ≡ locals_listed names.now) }
 {
     let mut locals = Vec::new(alloc);
     for name in names {

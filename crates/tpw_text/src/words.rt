@@ -4,7 +4,7 @@ ghost use Rattle.std.specs.Prelude.{◌≡◌, ◌≤◌, ◌<◌, ◌+◌, leng
 ghost use Rattle.std.specs.List.{slice_range, list_all};
 ghost use Rattle.std.specs.Str.{str_eq_ignore_ascii_case};
 ghost use Rattle.tpw_text.specs.Faults.{fault_at};
-ghost use Rattle.tpw_text.specs.Words.{position_of, token, tokens, is_mark, is_plain, begins_comment, before_comment, words_of_line, word_if_any, behind_label, statement_told};
+ghost use Rattle.tpw_text.specs.Words.{position_of, token, tokens, is_mark, is_plain, begins_comment, before_comment, words_of_line, word_if_any, behind_label, statement_or_line};
 
 use crate::fault::{SourceFault, TextFault};
 use std::alloc::{AllocError, Global};
@@ -176,7 +176,7 @@ fn behind_label<'a>(words: &[Word<'_>], text: &'a [u8]) -> &'a [u8]
 
 /// The statement of a line: without its label and its comment, and without white space at its ends.
 pub fn statement_of<'a>(alloc: Global, line: &'a str) -> Result<&'a str, AllocError>
-    ensures { IfOk result (λ statement. statement.now ≡ statement_told line.now) }
+    ensures { IfOk result (λ statement. statement.now ≡ statement_or_line line.now) }
 {
     let words = words_of(alloc, line.as_bytes(), 1)?;
     let statement = behind_label(&words, before_comment(line.as_bytes()));

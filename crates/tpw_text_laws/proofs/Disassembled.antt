@@ -19,7 +19,7 @@ use Rattle.tpw_asm.specs.declared.program.Program.{Program}
 use Rattle.tpw_asm.specs.Layout.{addresses_from, code_of, IsLeastLayout}
 use Rattle.tpw_asm.specs.Faults.{AreSound, first_row, first_narrow}
 use Rattle.tpw_asm.specs.Assembly.{row_of, IsAssembly}
-use Rattle.tpw_asm.specs.Telling.{is_filled, stated, told, told_cut, IsTold}
+use Rattle.tpw_asm.specs.CodeLines.{is_filled, stated, spelling_lines, cut_lines, AreLinesOf}
 use Rattle.tpw_asm.specs.Labelling.{place_ahead, to_place, placed, labelled, labelled_from, IsDisassembly}
 use Rattle.tp_image.specs.Limits.{most_code}
 use Rattle.tpw_text.specs.declared.remarks.Remarks.{Remarks}
@@ -69,7 +69,7 @@ operand_fits oreg (b ∷ c ∷ rest) f e is spells =
     (operand_fits (shifted (oreg + digit_of b)) (c ∷ rest) f e (shifted_is (oreg + digit_of b)))
     (operand_fits (shifted_complement (oreg + digit_of b)) (c ∷ rest) f e (shifted_is (complement (oreg + digit_of b)))) spells
 
--- lines that are told
+-- the lines of a code
 bytes_have : (bytes : List ℕ) → AllByRecursion HasOperand (map Byte bytes)
 bytes_have [] = tt
 bytes_have (b ∷ bytes) = (tt, bytes_have bytes)
@@ -78,19 +78,19 @@ both_have : (xs ys : List Line) → AllByRecursion HasOperand xs → AllByRecurs
 both_have [] ys all more = more
 both_have (x ∷ xs) ys all more = (all.0, both_have xs ys all.1 more)
 
-cut_has : (cut : Cut) → IsSpelled cut → AllByRecursion HasOperand (told_cut cut)
+cut_has : (cut : Cut) → IsSpelled cut → AllByRecursion HasOperand (cut_lines cut)
 cut_has cut is = by (is_filled cut.bytes (shortest cut.instr))
   where
     by : (t : Bool) → AllByRecursion HasOperand (if t then Spelled (Plain cut.instr) (stated cut.bytes (shortest cut.instr)) ∷ [] else map Byte cut.bytes)
     by true = (operand_fits 0 cut.bytes (entry cut.instr).function (entry cut.instr).operand (record { even = refl; small = omega arith }) is.spells, tt)
     by false = bytes_have cut.bytes
 
-cuts_have : (cuts : List Cut) → AllByRecursion IsSpelled cuts → AllByRecursion HasOperand (flat_map told_cut cuts)
+cuts_have : (cuts : List Cut) → AllByRecursion IsSpelled cuts → AllByRecursion HasOperand (flat_map cut_lines cuts)
 cuts_have [] all = tt
-cuts_have (cut ∷ cuts) all = both_have (told_cut cut) (flat_map told_cut cuts) (cut_has cut all.0) (cuts_have cuts all.1)
+cuts_have (cut ∷ cuts) all = both_have (cut_lines cut) (flat_map cut_lines cuts) (cut_has cut all.0) (cuts_have cuts all.1)
 
-told_has : (code : List ℕ) (lines : List Line) → IsTold code lines → AllByRecursion HasOperand lines
-told_has code lines is = subst (AllByRecursion HasOperand) (sym is.are) (both_have (flat_map told_cut is.cuts) (map Byte is.rest) (cuts_have is.cuts is.each) (bytes_have is.rest))
+code_has : (code : List ℕ) (lines : List Line) → AreLinesOf code lines → AllByRecursion HasOperand lines
+code_has code lines is = subst (AllByRecursion HasOperand) (sym is.are) (both_have (flat_map cut_lines is.cuts) (map Byte is.rest) (cuts_have is.cuts is.each) (bytes_have is.rest))
 
 -- with places for distances
 place_has : (jump : ℕ → Operation) (plain : Operation) (bytes : Option ℕ) (o : Option ℕ) → ((p : ℕ) → HasOperand (Spelled (jump p) bytes)) → HasOperand (Spelled plain bytes) → HasOperand (Spelled (to_place jump plain o) bytes)
@@ -111,7 +111,7 @@ lines_have addresses number [] all = tt
 lines_have addresses number (line ∷ lines) all = (line_has addresses number line all.0, lines_have addresses (number + 1) lines all.1)
 
 disassembly_has : (image : ImageValue) (program : Program) → IsDisassembly image program → AllByRecursion HasOperand program.lines.items
-disassembly_has image program is = subst (AllByRecursion HasOperand) (sym is.lines) (lines_have (addresses_from 0 is.lengths) 0 is.told (told_has image.code is.told is.telling))
+disassembly_has image program is = subst (AllByRecursion HasOperand) (sym is.lines) (lines_have (addresses_from 0 is.lengths) 0 is.code_lines (code_has image.code is.code_lines is.are_code_lines))
 
 -- programs that say the same have the same image
 pub same_assembly : (a b : Program) (image : ImageValue) → program_said a ≡ program_said b → IsAssembly a image → IsAssembly b image
@@ -146,8 +146,8 @@ same_assembly a b image same is =
       code = code_of lengths s.lines;
     }
 
-pub told_back : (image : ImageValue) (program : Program) (remarks : Option Remarks) → IsDisassembly image program → IsAssembly program image
+pub disassembled_back : (image : ImageValue) (program : Program) (remarks : Option Remarks) → IsDisassembly image program → IsAssembly program image
     → (source : SourceSaid) × (source_of (text_of (program_said program) remarks) ≡ Ok source) × IsSource (program_said program) remarks source × ((again : Program) → program_said again ≡ source.program → IsAssembly again image)
-told_back image program remarks told is =
-    let back = read_back (program_said program) remarks (image_may program image is (disassembly_has image program told)) in
+disassembled_back image program remarks from is =
+    let back = read_back (program_said program) remarks (image_may program image is (disassembly_has image program from)) in
     (back.0, back.1, back.2, λ again same. same_assembly program again image (sym (same ∙ back.2.program)) is)

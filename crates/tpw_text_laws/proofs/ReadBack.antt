@@ -18,7 +18,7 @@ use Rattle.tpw_text.specs.Drafts.{Said, empty, place_named}
 use Rattle.tpw_text.specs.Grammar.{statement_said}
 use Rattle.tpw_text.specs.Consts.{with_values}
 use Rattle.tpw_text.specs.Meaning.{added, statement_with, line_said}
-use Rattle.tpw_text.specs.Programs.{ProgramSaid, SourceSaid, line_placed, loop_placed, workspace_said, ended, program_of, labels_told, is_beyond, no_local, locals_told, locals_fit, finished}
+use Rattle.tpw_text.specs.Programs.{ProgramSaid, SourceSaid, line_placed, loop_placed, workspace_said, ended, program_of, labels_listed, is_beyond, no_local, locals_listed, locals_fit, finished}
 use Rattle.tpw_text.specs.Texts.{words_of_lines, words_say, text_said, source_of}
 use Rattle.tpw_text.specs.Written.{as_line, is_named, names_from_row, names_from_line, fields_text, loop_remark, legend, remarks_above, above, text_of}
 use Rattle.tpw_text_laws.specs.Sources.{labels_below, labels_of, written_lines, ArePositions, IsSource}
@@ -93,7 +93,7 @@ no_code s d named count loops remarks front no_lines no_positions no_labels rowe
       placed = λ ls are. ap (each_read (line_placed ls)) lines;
       labels = none_below named count d.labels labels;
       few = omega (arith, ap length labels);
-      told = ap labels_told labels;
+      listed = ap labels_listed labels;
       positions = subst (λ (ps : List Position). ArePositions front 0 ps []) (sym positions) tt;
     }
 
@@ -135,7 +135,7 @@ record HasProgram (p : ProgramSaid) (remarks : Option Remarks) (d : Said) : Type
   begun : d.begun ≡ []
   locals : d.locals ≡ []
   positions : ArePositions (lines (text_of p remarks)) 0 d.positions (written_lines remarks 0 p.lines)
-  labels : labels_told d.labels ≡ labels_of p
+  labels : labels_listed d.labels ≡ labels_of p
   lines : each_read (line_placed d.labels) d.lines ≡ Ok p.lines
   loops : each_read (loop_placed d.labels d.start) d.rows ≡ Ok p.loops
 
@@ -173,12 +173,12 @@ program_is p remarks d has =
 source_is : (p : ProgramSaid) (remarks : Option Remarks) (d : Said) → HasProgram p remarks d → (source : SourceSaid) × (finished d ≡ Ok source) × IsSource p remarks source
 unfolding finished ended locals_fit
 source_is p remarks d has =
-    let make : ProgramSaid → Result SourceSaid SourceFault = λ program. Ok (record { program = program; positions = d.positions; labels = labels_told d.labels; locals = locals_told d.locals }) in (
-      record { program = p; positions = d.positions; labels = labels_told d.labels; locals = locals_told d.locals },
+    let make : ProgramSaid → Result SourceSaid SourceFault = λ program. Ok (record { program = program; positions = d.positions; labels = labels_listed d.labels; locals = locals_listed d.locals }) in (
+      record { program = p; positions = d.positions; labels = labels_listed d.labels; locals = locals_listed d.locals },
       ap (λ b. then_read (ended b) (λ _. then_read (locals_fit d) (λ _. then_read (program_of d) make))) has.begun
           ∙ ap (λ ls. then_read (no_local (find (is_beyond (workspace_said d) d.start) ls)) (λ _. then_read (program_of d) make)) has.locals
           ∙ ap (λ r. then_read r make) (program_is p remarks d has),
-      record { program = refl; positions = has.positions; labels = has.labels; locals = ap locals_told has.locals },
+      record { program = refl; positions = has.positions; labels = has.labels; locals = ap locals_listed has.locals },
     )
 
 are_labels : (named : ℕ → Bool) (count : ℕ) (labels : List LabelName) → AreBelow named count (count + 1) labels → AreLabels named count labels
@@ -201,7 +201,7 @@ has_program p remarks d coded =
       begun = ap (λ (e : Said). e.begun) is;
       locals = ap (λ (e : Said). e.locals) is;
       positions = coded.positions;
-      labels = coded.told ∙ ap (labels_below (is_named p)) (add-one (length p.lines));
+      labels = coded.listed ∙ ap (labels_below (is_named p)) (add-one (length p.lines));
       lines = coded.placed d.labels labels;
       loops =
           ap (λ n. each_read (loop_placed d.labels n) d.rows) (ap (λ (e : Said). e.start) is) ∙ ap (each_read (loop_placed d.labels p.start)) (ap (λ (e : Said). e.rows) is)

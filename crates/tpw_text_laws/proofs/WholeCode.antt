@@ -26,7 +26,7 @@ use Rattle.tpw_text.specs.Drafts.{Said, is_full, pushed, label_set, place_named,
 use Rattle.tpw_text.specs.Consts.{with_values}
 use Rattle.tpw_text.specs.Grammar.{statement_said}
 use Rattle.tpw_text.specs.Meaning.{added, statement_with, line_said}
-use Rattle.tpw_text.specs.Programs.{line_placed, under, label_told, labels_told}
+use Rattle.tpw_text.specs.Programs.{line_placed, under, label_listed, labels_listed}
 use Rattle.tpw_text.specs.Written.{as_line, label_text, line_text, label_there, line_remark, behind as remark_behind, lines_text, names_from_line}
 use Rattle.tpw_text_laws.specs.Sources.{label_at, labels_below, WrittenLine, column_of, written_line, written_lines, ArePositions}
 use Rattle.tpw_text_laws.specs.Conditions.{MayBeLine}
@@ -117,7 +117,7 @@ pub record Coded (s : Said) (named : ℕ → Bool) (count : ℕ) (loops : List L
   pub placed : (labels : List LabelName) → AreLabels named count labels → each_read (line_placed labels) d.lines ≡ Ok done
   pub labels : AreBelow named count below d.labels
   pub few : length d.labels ≡ length (labels_below named below)
-  pub told : labels_told d.labels ≡ labels_below named below
+  pub listed : labels_listed d.labels ≡ labels_below named below
   pub positions : ArePositions front 0 d.positions (written_lines remarks 0 done)
 
 -- where there are no other names
@@ -157,19 +157,19 @@ label_ascii k few (suc i) = IsAscii-decimal k few i
 label_is_text : (k : ℕ) → k < 2 ^ 64 → is_utf8 (label_text k) ≡ true
 label_is_text k few = is_utf8-from_IsUtf8 (label_text k) (IsUtf8-from_ascii (label_text k) (label_ascii k few))
 
-told-append : (labels : List LabelName) (l : LabelName) → labels_told (labels ++ l ∷ []) ≡ labels_told labels ++ label_told l
-told-append [] l = append-nil (label_told l)
-told-append (m ∷ labels) l = ap (λ ls. label_told m ++ ls) (told-append labels l) ∙ sym (append_assoc (label_told m) (labels_told labels) (label_told l))
+listed-append : (labels : List LabelName) (l : LabelName) → labels_listed (labels ++ l ∷ []) ≡ labels_listed labels ++ label_listed l
+listed-append [] l = append-nil (label_listed l)
+listed-append (m ∷ labels) l = ap (λ ls. label_listed m ++ ls) (listed-append labels l) ∙ sym (append_assoc (label_listed m) (labels_listed labels) (label_listed l))
 
-one_told : (w : Word) (k place : ℕ) → k < 2 ^ 64 → w.text.now ≡ label_text k → place ≡ k → label_told (record { word = w; place = place }) ≡ label_at k ∷ []
-unfolding label_told
-one_told w k place few is same =
+one_listed : (w : Word) (k place : ℕ) → k < 2 ^ 64 → w.text.now ≡ label_text k → place ≡ k → label_listed (record { word = w; place = place }) ≡ label_at k ∷ []
+unfolding label_listed
+one_listed w k place few is same =
     ap (λ t. under t (record { name = t; place = place })) is ∙ ap (λ n. under (label_text k) (record { name = label_text k; place = n })) same
     ∙ ap (λ b. if b then label_at k ∷ [] else []) (label_is_text k few)
 
-told_more : (named : ℕ → Bool) (k : ℕ) (labels : List LabelName) (new : List LabelName) → labels_told labels ≡ labels_below named k → labels_told new ≡ labels_told labels ++ (if named k then label_at k ∷ [] else [])
-    → labels_told new ≡ labels_below named (k + 1)
-told_more named k labels new told more = more ∙ ap (λ ls. ls ++ (if named k then label_at k ∷ [] else [])) told ∙ ap (labels_below named) (sym (add-one k))
+listed_more : (named : ℕ → Bool) (k : ℕ) (labels : List LabelName) (new : List LabelName) → labels_listed labels ≡ labels_below named k → labels_listed new ≡ labels_listed labels ++ (if named k then label_at k ∷ [] else [])
+    → labels_listed new ≡ labels_below named (k + 1)
+listed_more named k labels new listed more = more ∙ ap (λ ls. ls ++ (if named k then label_at k ∷ [] else [])) listed ∙ ap (labels_below named) (sym (add-one k))
 
 -- there are not too many lines, and not too many labels
 pub record HasRoom (named : ℕ → Bool) (count : ℕ) : Type 0 where
@@ -254,8 +254,8 @@ named_leads s named count loops remarks done k only long small within there =
         placed = p.placed;
         labels = label_more named count k d.labels l small.lines refl (p.long ∙ long) within there p.labels;
         few = omega (arith, length-append d.labels (l ∷ []), p.few, more, ap (λ n. length (labels_below named n)) (add-one k));
-        told = told_more named k d.labels (d.labels ++ l ∷ []) p.told
-            (told-append d.labels l ∙ ap (λ ls. labels_told d.labels ++ ls) (one_told w k (length d.lines) (omega arith) refl (p.long ∙ long) ∙ ap (λ t. if t then label_at k ∷ [] else []) (sym there)));
+        listed = listed_more named k d.labels (d.labels ++ l ∷ []) p.listed
+            (listed-append d.labels l ∙ ap (λ ls. labels_listed d.labels ++ ls) (one_listed w k (length d.lines) (omega arith) refl (p.long ∙ long) ∙ ap (λ t. if t then label_at k ∷ [] else []) (sym there)));
         positions = positions_behind front ((label_text k ++ codes ":") ∷ []) 0 d.positions (written_lines remarks 0 done) p.positions;
       },
     ))
@@ -275,7 +275,7 @@ label_leads s named count loops remarks done k only long small within = by (name
       placed = p.placed;
       labels = no_label_more named count k d.labels none p.labels;
       few = p.few ∙ sym (ap (λ n. length (labels_below named n)) (add-one k) ∙ ap (λ t. length (labels_below named k ++ (if t then label_at k ∷ [] else []))) none ∙ ap length (append-nil (labels_below named k)));
-      told = told_more named k d.labels d.labels p.told (sym (append-nil (labels_told d.labels)) ∙ ap (λ t. labels_told d.labels ++ (if t then label_at k ∷ [] else [])) (sym none));
+      listed = listed_more named k d.labels d.labels p.listed (sym (append-nil (labels_listed d.labels)) ∙ ap (λ t. labels_listed d.labels ++ (if t then label_at k ∷ [] else [])) (sym none));
       positions = p.positions;
     }) (nothing {P = Coded s named count loops remarks done k})
 
@@ -317,7 +317,7 @@ line_leads s named count loops done line below remarks k only here few reads =
         placed = λ labels are. one_more_read (line_placed labels) d.lines r.1 done line (p.placed labels are) (r.3 labels are);
         labels = p.labels;
         few = p.few;
-        told = p.told;
+        listed = p.listed;
         positions = position_more front remarks done line k (position_of r.0) d.positions here r.4 p.positions;
       },
     ))

@@ -27,7 +27,7 @@ use Rattle.tp_state.specs.Entry.{entry}
 use Rattle.tp_check.specs.Tables.{HasPlacedStates}
 use Rattle.tp_check.proofs.Heights.{HasWords, state_light}
 use Rattle.tp_check.specs.Rising.{Moves, height, state_height, table_height}
-use Rattle.tp_check.specs.Comes.{Gives}
+use Rattle.tp_check.specs.Arrivals.{Gives}
 use Rattle.tp_state.proofs.AgreeLemmas.{written}
 use Rattle.tp_check.specs.Tables.{Table}
 use Rattle.tp_check.specs.Passes.{go_along, along_edges, first_table, pass, passes}
@@ -48,9 +48,9 @@ use Rattle.tpw_why.specs.FirstRefusals.{IsRefusedAmong, IsFirstRefusal}
 
 -- edges behind others
 pub along_append : (image : ImageValue) (xs ys : List (Placed × Edge)) (table there : Table) → along_edges image xs table ≡ Ok there → along_edges image (xs ++ ys) table ≡ along_edges image ys there
-along_append image [] ys table there comes = ap (λ t. along_edges image ys t) (let same : table ≡ there = cc in same)
-along_append image (x ∷ xs) ys table there comes =
-    let first = ok_first (go_along image x.0 x.1 (table x.0.at) table) (along_edges image xs) there comes in
+along_append image [] ys table there arrives = ap (λ t. along_edges image ys t) (let same : table ≡ there = cc in same)
+along_append image (x ∷ xs) ys table there arrives =
+    let first = ok_first (go_along image x.0 x.1 (table x.0.at) table) (along_edges image xs) there arrives in
     ap (λ r. r >>= along_edges image (xs ++ ys)) first.1 ∙ along_append image xs ys first.0 there first.2
 
 -- ---- one more of a list
@@ -78,7 +78,7 @@ refused_here image es i r first table inside read so_far refused = record {
   earlier = take i es;
   later = drop (suc i) es;
   split = split_at es i (r.instruction, r.edge) inside ∙ ap (λ e. take i es ++ e ∷ drop (suc i) es) read;
-  comes = so_far;
+  arrives = so_far;
   refused = refused;
 }
 
@@ -110,7 +110,7 @@ taken_there image cuts places kept inside es is k d lt =
 refused_along : (image : ImageValue) (es : List (Placed × Edge)) (table there : Table) (r : EdgeRefusal) → IsRefusedAmong image es table there r → along_edges image es table ≡ Err (Refused r.code r.place)
 refused_along image es table there r is =
     ap (λ xs. along_edges image xs table) is.split
-    ∙ along_append image is.earlier ((r.instruction, r.edge) ∷ is.later) table there is.comes
+    ∙ along_append image is.earlier ((r.instruction, r.edge) ∷ is.later) table there is.arrives
     ∙ ap (λ q. q >>= along_edges image is.later) is.refused
 
 -- before a pass: so many have refused nothing, and these are the states of their table
@@ -128,14 +128,14 @@ one_more image cuts number next es states new more is before goes = ap (passes i
 pub is_first : (image : ImageValue) (cuts : List Cut) (es : List (Placed × Edge)) (states : Table) (r : FirstRefusal) → es ≡ edges_in cuts → IsBefore image cuts r.passes states → IsRefusedAmong image es states (table_of r.table.items) r.refusal → IsFirstRefusal image cuts r
 is_first image cuts es states r is before among = record {
   table = states;
-  comes = before;
+  arrives = before;
   among = subst (λ xs. IsRefusedAmong image xs states (table_of r.table.items) r.refusal) is among;
 }
 
 pub is_verdict : (image : ImageValue) (cuts : List Cut) (r : FirstRefusal) → IsFirstRefusal image cuts r → IsVerdict image cuts (Err (Refused r.refusal.code r.refusal.place))
 is_verdict image cuts r first = record {
   number = suc r.passes;
-  comes = ap (λ q. q >>= pass image cuts) first.comes ∙ refused_along image (edges_in cuts) first.table (table_of r.table.items) r.refusal first.among;
+  arrives = ap (λ q. q >>= pass image cuts) first.arrives ∙ refused_along image (edges_in cuts) first.table (table_of r.table.items) r.refusal first.among;
   stays = refl;
 }
 
@@ -187,7 +187,7 @@ fewer_left image was true old new now is same moves = rw (is, same) (omega (arit
 fewer_left image was false old new now is same moves = rw is (omega arith)
 
 pub is_settled : (image : ImageValue) (cuts : List Cut) (counted : ℕ) (states : Table) → IsBefore image cuts counted states → pass image cuts states ≡ Ok states → (table : Table) × IsVerdict image cuts (Ok table)
-is_settled image cuts counted states before stays = (states, record { number = counted; comes = before; stays = stays })
+is_settled image cuts counted states before stays = (states, record { number = counted; arrives = before; stays = stays })
 
 -- a step after others
 pub moves_on : (image : ImageValue) (moved more : Bool) (first then_ last : List (Option State)) → Moves image moved first then_ → Moves image more then_ last → Moves image (moved || more) first last

@@ -14,7 +14,7 @@ use Rattle.tp_state.specs.declared.fault.StateFault.{StateFault}
 use Rattle.tp_state.specs.declared.fault.StateFault.TheVariants.{Refused, Memory}
 use Rattle.tp_state.specs.Answer.{◌>>=◌, ◌>>◌, unless}
 use Rattle.tp_state.specs.Conditions.{IsPlaced}
-use Rattle.tp_state.specs.Order.{join, meeting, TellsChange}
+use Rattle.tp_state.specs.Order.{join, meeting, ReportsChange}
 use Rattle.tp_state.specs.StateCodes.{IsFaultAt}
 use Rattle.tp_state.specs.After.{after}
 use Rattle.tp_state.proofs.JoinLemmas.{length-joined}
@@ -23,7 +23,7 @@ use Rattle.tp_check.specs.Rising.{Moves}
 use Rattle.tp_check.proofs.Heights.{HasWords}
 use Rattle.tp_check.proofs.TableSteps.{enter_moves}
 use Rattle.tp_check.specs.Passes.{with_place, meeting_if_any, enter, go_along}
-use Rattle.tp_check.specs.Comes.{Gives}
+use Rattle.tp_check.specs.Arrivals.{Gives}
 
 -- ---- what an edge makes of a table
 
@@ -60,42 +60,42 @@ meets_to t s u is = by_test (t.wptr == s.wptr) (t.phase == s.phase) is
     by_test false q e = absurd cc
 
 stays_placed : (image : ImageValue) (t s u : State) → IsPlaced image t → IsPlaced image s → meeting t s ≡ Ok u → IsPlaced image u
-stays_placed image t s u there comes is =
+stays_placed image t s u there arrives is =
     subst (IsPlaced image) (sym (meets_to t s u is))
-    (record { roomy = there.roomy; inside = there.inside; sized = length-joined t.cells s.cells (comes.sized ∙ sym there.sized) ∙ there.sized })
+    (record { roomy = there.roomy; inside = there.inside; sized = length-joined t.cells s.cells (arrives.sized ∙ sym there.sized) ∙ there.sized })
 
 placed_ok : (at : ℕ) (r : Result State StateCode) (t : State) → with_place at r ≡ Ok t → r ≡ Ok t
 placed_ok at (Ok x) t e = cc
 placed_ok at (Err code) t e = absurd cc
 
 met_placed : (image : ImageValue) (o : Option State) (s u : State) → ((t : State) → o ≡ Some t → IsPlaced image t) → IsPlaced image s → meeting_if_any o s ≡ Ok u → IsPlaced image u
-met_placed image None s u there comes is = subst (IsPlaced image) (let same : s ≡ u = cc in same) comes
-met_placed image (Some t) s u there comes is = stays_placed image t s u (there t refl) comes is
+met_placed image None s u there arrives is = subst (IsPlaced image) (let same : s ≡ u = cc in same) arrives
+met_placed image (Some t) s u there arrives is = stays_placed image t s u (there t refl) arrives is
 
 put_placed : (image : ImageValue) (table : Table) (to : ℕ) (u : State) → HasPlacedStates image table → IsPlaced image u → HasPlacedStates image (with_state to u table)
-put_placed image table to u all comes at s = by_test (at == to)
+put_placed image table to u all arrives at s = by_test (at == to)
   where
     by_test : (b : Bool) → (if b then Some u else table at) ≡ Some s → IsPlaced image s
-    by_test true is = subst (IsPlaced image) (same_Some _ _ is) comes
+    by_test true is = subst (IsPlaced image) (same_Some _ _ is) arrives
     by_test false is = all at s is
 
 pub entered_placed : (image : ImageValue) (table new : Table) (to : ℕ) (u : State) (r : Result Bool StateFault) → HasPlacedStates image table → IsPlaced image u → Gives r new (enter (Some to) u table) → OnErr r (new ≡ table) → HasPlacedStates image new
 unfolding enter
-entered_placed image table new to u (Err e) all comes gives kept = subst (HasPlacedStates image) (sym kept) all
-entered_placed image table new to u (Ok x) all comes gives kept = by_met (with_place to (meeting_if_any (table to) u)) refl gives
+entered_placed image table new to u (Err e) all arrives gives kept = subst (HasPlacedStates image) (sym kept) all
+entered_placed image table new to u (Ok x) all arrives gives kept = by_met (with_place to (meeting_if_any (table to) u)) refl gives
   where
     by_met : (m : Result State StateFault) → with_place to (meeting_if_any (table to) u) ≡ m → (m >>= (λ t. Ok (with_state to t table))) ≡ Ok new → HasPlacedStates image new
     by_met (Ok t) is e =
-        let t_placed = met_placed image (table to) u t (all to) comes (placed_ok to _ t is) in
+        let t_placed = met_placed image (table to) u t (all to) arrives (placed_ok to _ t is) in
         subst (HasPlacedStates image) (let same : with_state to t table ≡ new = cc in same) (put_placed image table to t all t_placed)
     by_met (Err e) is same = absurd cc
 
 -- ---- fewer changes are left
 
-pub entered_moves : (image : ImageValue) (r : Result Bool StateFault) (old new : List (Option State)) (to : ℕ) (s : State) → to < length old → length new ≡ length old → Gives r (table_of new) (enter (Some to) s (table_of old)) → IfOk r (λ moved. TellsChange moved old new) → HasWords s → IsPlaced image s
+pub entered_moves : (image : ImageValue) (r : Result Bool StateFault) (old new : List (Option State)) (to : ℕ) (s : State) → to < length old → length new ≡ length old → Gives r (table_of new) (enter (Some to) s (table_of old)) → IfOk r (λ moved. ReportsChange moved old new) → HasWords s → IsPlaced image s
     → HasPlacedStates image (table_of old) → IfOk r (λ moved. Moves image moved old new)
-entered_moves image (Err e) old new to s inside sized gives tells words fits placed = tt
-entered_moves image (Ok moved) old new to s inside sized gives tells words fits placed = enter_moves image moved old new to s inside sized gives tells words fits.sized (alike (table_of old to) refl)
+entered_moves image (Err e) old new to s inside sized gives reports words fits placed = tt
+entered_moves image (Ok moved) old new to s inside sized gives reports words fits placed = enter_moves image moved old new to s inside sized gives reports words fits.sized (alike (table_of old to) refl)
   where
     alike : (o : Option State) → table_of old to ≡ o → IfSome o (λ u. length s.cells ≡ length u.cells)
     alike None is = tt

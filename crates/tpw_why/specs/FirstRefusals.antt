@@ -17,14 +17,14 @@ pub record IsRefusedAmong (image : ImageValue) (edges : List (Placed × Edge)) (
   pub earlier : List (Placed × Edge)
   pub later : List (Placed × Edge)
   pub split : edges ≡ earlier ++ (r.instruction, r.edge) ∷ later
-  pub comes : along_edges image earlier table ≡ Ok there
+  pub arrives : along_edges image earlier table ≡ Ok there
   pub refused : go_along image r.instruction r.edge (there r.instruction.at) there ≡ Err (Refused r.code r.place)
 
 -- So many passes refuse nothing, and this is the first edge that the next one refuses; the states are those that it has
 -- met.
 pub record IsFirstRefusal (image : ImageValue) (cuts : List Cut) (r : FirstRefusal) : Type 0 where
   pub table : Table
-  pub comes : passes image cuts r.passes ≡ Ok table
+  pub arrives : passes image cuts r.passes ≡ Ok table
   pub among : IsRefusedAmong image (edges_in cuts) table (table_of r.table.items) r.refusal
 
 -- of what was found, where anything was, this holds

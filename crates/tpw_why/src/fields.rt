@@ -1,6 +1,6 @@
 //! The explanation of an image's fields and bytes.
 
-use crate::known::ToldRow;
+use crate::known::ShownRow;
 use std::alloc::Global;
 use std::io::Write;
 use tp_image::{Image, ImageCode};
@@ -79,7 +79,7 @@ pub(crate) fn write_bytes<W: Write>(
 /// Writes the loops of an image.
 pub(crate) fn write_turns<W: Write>(image: &Image, writer: &mut W) -> Result<(), ShowFault> {
     for (number, row) in image.loops.iter().enumerate() {
-        let row = ToldRow(*row);
+        let row = ShownRow(*row);
         writeln!(writer, "known    row {number}: {row}").map_err(|_| ShowFault::Write)?;
     }
     Ok(())

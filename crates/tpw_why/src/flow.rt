@@ -1,6 +1,6 @@
 //! The explanation of a refusal of flow.
 
-use crate::known::ToldRow;
+use crate::known::ShownRow;
 use crate::lines::write_around;
 use std::alloc::Global;
 use std::io::Write;
@@ -116,7 +116,7 @@ pub(crate) fn write_flow<W: Write>(
     }
     if let Some(row) = image.loops.get(place) {
         let name = source.loop_name(place, row);
-        let row = ToldRow(*row);
+        let row = ShownRow(*row);
         write!(writer, "known    row {place}: {row}").map_err(|_| ShowFault::Write)?;
         if source.statements.is_empty() {
             writeln!(writer).map_err(|_| ShowFault::Write)?;

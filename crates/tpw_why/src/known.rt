@@ -55,9 +55,9 @@ impl fmt::Display for KnownPhase {
 
 /// A loop row.
 #[derive(Clone, Copy, Debug, PartialEq, Eq)]
-pub struct ToldRow(pub LoopRow);
+pub struct ShownRow(pub LoopRow);
 
-impl fmt::Display for ToldRow {
+impl fmt::Display for ShownRow {
     fn fmt<W: fmt::Write>(&self, f: &mut fmt::Formatter<W>) -> fmt::Result {
         let LoopRow {
             head,

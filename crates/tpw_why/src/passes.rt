@@ -9,7 +9,7 @@ ghost use Rattle.tp_check.specs.Tables.{Table, asked, table_of, HasPlacedStates}
 ghost use Rattle.tp_check.specs.Passes.{edges_in, edges_of, go_along, IsVerdict};
 ghost use Rattle.tp_check.specs.UnderWay.{MayBeTaken};
 ghost use Rattle.tp_check.specs.Rising.{Moves};
-ghost use Rattle.tp_check.specs.Comes.{Gives};
+ghost use Rattle.tp_check.specs.Arrivals.{Gives};
 ghost use Rattle.tpw_why.specs.FirstRefusals.{IfFound, IsFirstRefusal, EndsAs};
 
 use crate::refusal::{EdgeRefusal, FirstRefusal};

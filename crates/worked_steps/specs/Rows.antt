@@ -29,19 +29,19 @@ abbrev pub seen_after : ImageValue → ℕ → List ℕ → State → Option (�
 seen_after image n numbers s = option_map (λ t. (t.iptr, words_at numbers t)) (steps image n s)
 
 -- the outcome of a worker's run from a state
-abbrev pub ComesTo : ImageValue → State → Expected → Type 0
-ComesTo image s (expected.Leads to) =
+abbrev pub IsMet : ImageValue → State → Expected → Type 0
+IsMet image s (expected.Leads to) =
     steps image (length image.code) s ≡ Some (set_all to.now (record bare { iptr = pos (length image.code) }))
-ComesTo image s expected.Sticks = SticksAtLast image s
-ComesTo image s (expected.SticksAtOnce address) = IsStuckAt image address (Some s)
-ComesTo image s expected.LacksPacket = SticksAtLast image s
-ComesTo image s (expected.Shows n iptr words) =
+IsMet image s expected.Sticks = SticksAtLast image s
+IsMet image s (expected.SticksAtOnce address) = IsStuckAt image address (Some s)
+IsMet image s expected.LacksPacket = SticksAtLast image s
+IsMet image s (expected.Shows n iptr words) =
     seen_after image n (map (λ w. w.0) words.now) s ≡ Some (iptr, map (λ w. w.1) words.now)
-ComesTo image s (expected.Ends n) = IsTheEnd image (steps image n s)
+IsMet image s (expected.Ends n) = IsTheEnd image (steps image n s)
 
 -- the run of a row has the row's outcome
 abbrev pub IsSo : Row → Type 0
-IsSo row = ComesTo (image_of row.worker row.code.now) (set_all row.from.now bare) row.expected
+IsSo row = IsMet (image_of row.worker row.code.now) (set_all row.from.now bare) row.expected
 
 abbrev pub AreSo : List Row → Type 0
 AreSo [] = Unit {0}

@@ -13,8 +13,8 @@ returns-in-Some-clause-gives c =
     comes_to c.args.states.now c.args.to c.requires.inside c.index-states-to.result (Some c.in-Some.there) c.in-Some.is c.args.state.now c.join_compatible.new.self
     (meets_agreeing c.args.to came.before c.in-Some.there c.args.state.now (subst (IsBelow came.before) there came.rose) came.below ∙ ap Ok (sym c.join_compatible.ensures.value))
 
-pub returns-in-Some-clause-tells : goal.returns-in-Some-clause-tells
-returns-in-Some-clause-tells c =
+pub returns-in-Some-clause-reports : goal.returns-in-Some-clause-reports
+returns-in-Some-clause-reports c =
     changes c.args.states.now c.args.to c.requires.inside c.index-states-to.result (Some c.in-Some.there) c.in-Some.is c.args.state.now c.join_compatible.new.self c.join_compatible.result (some_tells c.join_compatible.result c.in-Some.there c.join_compatible.new.self c.join_compatible.ensures.changed)
 
 pub returns-in-Ok-clause-gives : goal.returns-in-Ok-clause-gives
@@ -22,8 +22,8 @@ returns-in-Ok-clause-gives c =
     comes_to c.args.states.now c.args.to c.requires.inside c.index-states-to.result (Some c.in-Some.there) c.in-Some.is c.args.state.now c.join.new.self
     (ap (with_place c.args.to) (sym c.join.ensures.value ∙ ap (λ r. answered r c.join.new.self) c.in-Ok.is))
 
-pub returns-in-Ok-clause-tells : goal.returns-in-Ok-clause-tells
-returns-in-Ok-clause-tells c =
+pub returns-in-Ok-clause-reports : goal.returns-in-Ok-clause-reports
+returns-in-Ok-clause-reports c =
     changes c.args.states.now c.args.to c.requires.inside c.index-states-to.result (Some c.in-Some.there) c.in-Some.is c.args.state.now c.join.new.self c.in-Ok.moved (some_tells c.in-Ok.moved c.in-Some.there c.join.new.self c.in-Ok.ensures.changed)
 
 pub returns-in-Err-clause-gives : goal.returns-in-Err-clause-gives
@@ -35,6 +35,6 @@ pub returns-in_ok-copy_of-in-None-clause-gives : goal.returns-in_ok-copy_of-in-N
 returns-in_ok-copy_of-in-None-clause-gives c =
     comes_to c.args.states.now c.args.to c.requires.inside c.index-states-to.result None c.in-None.is c.args.state.now c.in_ok-copy_of-in-None.field-0 (ap Ok (sym c.in_ok-copy_of-in-None.ensures))
 
-pub returns-in_ok-copy_of-in-None-clause-tells : goal.returns-in_ok-copy_of-in-None-clause-tells
-returns-in_ok-copy_of-in-None-clause-tells c =
+pub returns-in_ok-copy_of-in-None-clause-reports : goal.returns-in_ok-copy_of-in-None-clause-reports
+returns-in_ok-copy_of-in-None-clause-reports c =
     changes c.args.states.now c.args.to c.requires.inside c.index-states-to.result None c.in-None.is c.args.state.now c.in_ok-copy_of-in-None.field-0 true (first_tells c.in_ok-copy_of-in-None.field-0)

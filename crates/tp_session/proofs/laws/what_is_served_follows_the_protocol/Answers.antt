@@ -13,11 +13,11 @@ all_so P Q so (x ∷ xs) [] is = absurd is
 all_so P Q so (x ∷ xs) (y ∷ ys) is = (so x y is.0, all_so P Q so xs ys is.1)
 
 pub returns-clause-follows : goal.returns-clause-follows
-returns-clause-follows c verdict outcome ruled trace input told =
+returns-clause-follows c verdict outcome ruled trace input output =
     told_so IsVerdict (λ text v. v ≡ verdict text) IsOutcome (λ image packet o. o ≡ outcome image packet) ruled.verdicts (λ s. Unit {0})
     (λ name text image budget judged. tt) (λ s packet bytes long good. good) (λ s good. good)
     (λ s os good. all_so (IsOutcome s.image) (λ packet o. o ≡ outcome s.image packet) (ruled.outcomes s.image) s.packets os)
-    trace (lines_of input) told
+    trace (lines_of input) output
 
 pub returns-clause-one : goal.returns-clause-one
 returns-clause-one c verdict outcome trace input =

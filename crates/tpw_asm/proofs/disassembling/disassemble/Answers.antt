@@ -2,7 +2,7 @@ use Rattle.std.proofs.Common.{◌≡◌, ℕ, List, length, map, sym, ap, subst,
 use Rattle.tp_image.specs.Image.{ImageValue, InRange}
 use Rattle.tpw_asm.specs.declared.program.Line.{Line}
 use Rattle.tpw_asm.specs.Layout.{addresses_from}
-use Rattle.tpw_asm.specs.Telling.{IsTold}
+use Rattle.tpw_asm.specs.CodeLines.{AreLinesOf}
 use Rattle.tpw_asm.specs.Labelling.{labelled_from, loop_of}
 use Rattle.tpw_asm.proofs.LayoutLemmas.{are_addresses, length-addresses}
 use Rattle.tpw_asm.proofs.AssemblyLemmas.{layout_count}
@@ -31,9 +31,9 @@ returns-clause-assembled c =
     let image = c.args.image.now in
     let view = c.image.view_is in
     let lengths = c.in-Ok.layout.lengths.items in
-    let are_lines : IsTold image.code c.deref-2.result.now =
-    subst (λ (xs : List ℕ). IsTold xs c.deref-2.result.now) (c.deref.ensures.value ∙ ap (λ (i : ImageValue). i.code) view)
-    (subst (λ (ls : List Line). IsTold c.deref.result.now ls) (sym c.deref-2.ensures.value) c.in_ok-unlabelled.ensures) in
+    let are_lines : AreLinesOf image.code c.deref-2.result.now =
+    subst (λ (xs : List ℕ). AreLinesOf xs c.deref-2.result.now) (c.deref.ensures.value ∙ ap (λ (i : ImageValue). i.code) view)
+    (subst (λ (ls : List Line). AreLinesOf c.deref.result.now ls) (sym c.deref-2.ensures.value) c.in_ok-unlabelled.ensures) in
     let lines : c.in_ok-lines.lines.items ≡ labelled_from (addresses_from 0 lengths) 0 c.deref-2.result.now =
     c.in_ok-lines.ensures ∙ ap (λ xs. labelled_from xs 0 c.deref-4.result.now) (c.deref-3.ensures.value ∙ laid_out.addresses)
     ∙ ap (labelled_from (addresses_from 0 lengths) 0) (c.deref-4.ensures.value ∙ sym c.deref-2.ensures.value) in

@@ -1,5 +1,5 @@
-use Rattle.tpw_text_laws.proofs.Disassembled.{told_back}
+use Rattle.tpw_text_laws.proofs.Disassembled.{disassembled_back}
 use Rattle.tpw_text_laws.proofs.laws.disassembled_image_is_read_back.Goals as goal
 
 pub returns : goal.returns
-returns c = told_back
+returns c = disassembled_back

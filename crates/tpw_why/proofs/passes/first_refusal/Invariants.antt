@@ -1,7 +1,7 @@
 use Rattle.std.proofs.Common.{◌≡◌, ◌+◌, ◌≤◌, ◌^◌, length, false, Ok}
 use Rattle.tp_check.specs.Tables.{table_of, HasPlacedStates}
 use Rattle.tp_check.specs.Passes.{pass}
-use Rattle.tp_check.specs.Comes.{HasPlaces}
+use Rattle.tp_check.specs.Arrivals.{HasPlaces}
 use Rattle.tpw_why.proofs.Passing.{IsBefore, left_of}
 use Rattle.tpw_why.proofs.passes.first_refusal.Given as goal
 

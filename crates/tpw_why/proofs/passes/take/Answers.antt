@@ -3,7 +3,7 @@ use Rattle.tp_flow.specs.NestRanges.{ranges}
 use Rattle.tp_flow.specs.Edges.{target}
 use Rattle.tp_check.specs.Tables.{table_of}
 use Rattle.tp_check.specs.Passes.{enter}
-use Rattle.tp_check.specs.Comes.{Gives}
+use Rattle.tp_check.specs.Arrivals.{Gives}
 use Rattle.tpw_why.proofs.Taking.{none_goes, outcome_goes, refused_goes, nowhere_goes, entered_placed, entered_moves}
 use Rattle.tpw_why.proofs.passes.take.Goals as goal
 
@@ -38,7 +38,7 @@ returns-clause-gives c =
 
 pub returns-in-Some-target-clause-moves : goal.returns-in-Some-target-clause-moves
 returns-in-Some-target-clause-moves c =
-    entered_moves c.args.image.now c.enter.result c.args.table.now c.enter.new.states c.in-Some-target.to c.in_ok-outcome.outcome (c.requires.places.targets c.args.edge c.in-Some-target.to leads) c.enter.ensures.sized c.enter.ensures.gives c.enter.ensures.tells
+    entered_moves c.args.image.now c.enter.result c.args.table.now c.enter.new.states c.in-Some-target.to c.in_ok-outcome.outcome (c.requires.places.targets c.args.edge c.in-Some-target.to leads) c.enter.ensures.sized c.enter.ensures.gives c.enter.ensures.reports
     (record { a = c.has_word_ends.ensures.a; b = c.has_word_ends.ensures.b; c = c.has_word_ends.ensures.c }) c.in_ok-outcome.ensures.placed c.requires.placed
   where
     leads : target (ranges c.args.image.now.loops) c.args.instruction.at c.args.instruction.next c.args.instruction.instr c.args.edge ≡ Some c.in-Some-target.to

@@ -31,7 +31,7 @@ pub returns-in-Some-clause-gives : goal.returns-in-Some-clause-gives
 returns-in-Some-clause-gives c later apart way =
     arrived c.args.image.now (is_join_at c.args.predecessors.now) c.args.self.now c.args.place c.args.edge later apart way c.requires.place c.requires.sound c.go_on.new.self goes c.go_on.ensures.placed c.in-Some.to leads
     c.lead_on.new.self c.arrive.new.self c.lead_on.ensures c.arrive.result c.arrive.ensures.rest c.arrive.ensures.is_join c.arrive.ensures.marks c.arrive.ensures.alone (moves_led c.args.image.now (is_join_at c.args.predecessors.now) c.args.self.now c.args.place c.args.edge c.requires.way.0 c.requires.way.1 c.requires.way.2 c.requires.place c.requires.sound c.go_on.new.self goes c.go_on.ensures.placed c.in-Some.to leads
-    c.lead_on.new.self c.arrive.new.self c.lead_on.ensures c.arrive.result c.arrive.ensures.is_join c.arrive.ensures.tells c.arrive.ensures.alone c.arrive.ensures.sized)
+    c.lead_on.new.self c.arrive.new.self c.lead_on.ensures c.arrive.result c.arrive.ensures.is_join c.arrive.ensures.reports c.arrive.ensures.alone c.arrive.ensures.sized)
   where
     goes : after c.args.image.now c.args.place.at c.args.place.next c.args.place.instr c.args.edge c.args.self.now.carried ≡ Ok c.go_on.new.self
     goes = left c.go_on.result c.in_default.field-0 c.go_on.new.self _ c.in_default.is c.go_on.ensures.value
@@ -43,7 +43,7 @@ pub returns-in-Some-clause-moves : goal.returns-in-Some-clause-moves
 returns-in-Some-clause-moves c =
     subst (λ items. IfOk c.arrive.result (λ moved. Moves c.args.image.now moved items c.arrive.new.self.states.items)) (ap (λ (p : Passes). p.states.items) c.lead_on.ensures.same)
     (moves_led c.args.image.now (is_join_at c.args.predecessors.now) c.args.self.now c.args.place c.args.edge c.requires.way.0 c.requires.way.1 c.requires.way.2 c.requires.place c.requires.sound c.go_on.new.self goes c.go_on.ensures.placed c.in-Some.to leads
-    c.lead_on.new.self c.arrive.new.self c.lead_on.ensures c.arrive.result c.arrive.ensures.is_join c.arrive.ensures.tells c.arrive.ensures.alone c.arrive.ensures.sized)
+    c.lead_on.new.self c.arrive.new.self c.lead_on.ensures c.arrive.result c.arrive.ensures.is_join c.arrive.ensures.reports c.arrive.ensures.alone c.arrive.ensures.sized)
   where
     goes : after c.args.image.now c.args.place.at c.args.place.next c.args.place.instr c.args.edge c.args.self.now.carried ≡ Ok c.go_on.new.self
     goes = left c.go_on.result c.in_default.field-0 c.go_on.new.self _ c.in_default.is c.go_on.ensures.value

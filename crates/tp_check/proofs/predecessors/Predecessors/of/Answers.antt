@@ -1,5 +1,5 @@
 use Rattle.std.proofs.Common.{sym, subst, ◌∙◌, arith}
-use Rattle.tp_check.specs.Joining.{TellPredecessors}
+use Rattle.tp_check.specs.Joining.{ArePredecessors}
 use Rattle.tp_check.proofs.Counting.{among_of, next_instruction, no_instructions, are_joins, are_kept}
 use Rattle.tp_check.proofs.Passing.{may_be_taken, no_instruction}
 use Rattle.tp_check.proofs.Places.{stands_at}
@@ -17,16 +17,16 @@ loop-i-preserved c =
     elim c.match-get.branch [
       | in-Some w ↦ (rw w.predecessors-is (record {
         sized = w.count.ensures.sized ∙ c.loop-i.invariant.sized;
-        tells = w.count.ensures.tells c.args.listing.now _ (among_of (placed_from 0 c.args.listing.now) c.loop-i.i w.in-Some.place (sym w.in-Some.ensures))
-            (subst (λ es. TellPredecessors c.args.image.now c.args.listing.now es c.loop-i.predecessors) (next_instruction c.args.listing.now c.loop-i.i w.in-Some.place (sym w.in-Some.ensures)) c.loop-i.invariant.tells);
+        reports = w.count.ensures.reports c.args.listing.now _ (among_of (placed_from 0 c.args.listing.now) c.loop-i.i w.in-Some.place (sym w.in-Some.ensures))
+            (subst (λ es. ArePredecessors c.args.image.now c.args.listing.now es c.loop-i.predecessors) (next_instruction c.args.listing.now c.loop-i.i w.in-Some.place (sym w.in-Some.ensures)) c.loop-i.invariant.reports);
       }))
       | in_default w ↦ absurd (no_instruction c.args.listing.now c.loop-i.i (let e = c.len-i-end.ensures in let f = c.loop-i-test.true in omega (arith, e, f)) (sym w.in_default.ensures))
     ]
 
 pub returns-clause-is_join : goal.returns-clause-is_join
 returns-clause-is_join c =
-    are_joins c.args.image.now c.args.listing.now c.loop-i.predecessors (subst (λ es. TellPredecessors c.args.image.now c.args.listing.now es c.loop-i.predecessors) (no_instructions c.args.listing.now c.loop-i.i (let e = c.len-i-end.ensures in let f = c.loop-i-test.false in omega (arith, e, f))) c.loop-i.invariant.tells) c.requires.kept
+    are_joins c.args.image.now c.args.listing.now c.loop-i.predecessors (subst (λ es. ArePredecessors c.args.image.now c.args.listing.now es c.loop-i.predecessors) (no_instructions c.args.listing.now c.loop-i.i (let e = c.len-i-end.ensures in let f = c.loop-i-test.false in omega (arith, e, f))) c.loop-i.invariant.reports) c.requires.kept
 
 pub returns-clause-is_kept : goal.returns-clause-is_kept
 returns-clause-is_kept c =
-    are_kept c.args.image.now c.args.listing.now c.loop-i.predecessors (subst (λ es. TellPredecessors c.args.image.now c.args.listing.now es c.loop-i.predecessors) (no_instructions c.args.listing.now c.loop-i.i (let e = c.len-i-end.ensures in let f = c.loop-i-test.false in omega (arith, e, f))) c.loop-i.invariant.tells)
+    are_kept c.args.image.now c.args.listing.now c.loop-i.predecessors (subst (λ es. ArePredecessors c.args.image.now c.args.listing.now es c.loop-i.predecessors) (no_instructions c.args.listing.now c.loop-i.i (let e = c.len-i-end.ensures in let f = c.loop-i-test.false in omega (arith, e, f))) c.loop-i.invariant.reports)

@@ -22,19 +22,19 @@ abbrev pub stated : List ℕ → List ℕ → Option ℕ
 stated spelling least = if length spelling == length least then None else Some (length spelling)
 
 -- the lines of an instruction that is spelled so: one, or its bytes where another spelling could not be had from it
-abbrev pub told : List ℕ → Instr → List Line
-told spelling instr =
+abbrev pub spelling_lines : List ℕ → Instr → List Line
+spelling_lines spelling instr =
     if is_filled spelling (shortest instr) then Spelled (Plain instr) (stated spelling (shortest instr)) ∷ []
     else map Byte spelling
 
-abbrev pub told_cut : Cut → List Line
-told_cut cut = told cut.bytes cut.instr
+abbrev pub cut_lines : Cut → List Line
+cut_lines cut = spelling_lines cut.bytes cut.instr
 
 -- the lines of a code: those of the instructions that it is cut into, as far as it can be, and bytes behind them
-pub record IsTold (code : List ℕ) (lines : List Line) : Type 0 where
+pub record AreLinesOf (code : List ℕ) (lines : List Line) : Type 0 where
   pub cuts : List Cut
   pub rest : List ℕ
   pub joined : code ≡ code_of_cuts cuts ++ rest
   pub each : AllByRecursion IsSpelled cuts
   pub ends : (rest ≡ []) ⊎ ((e : DecodeFault) × Stops rest (length (code_of_cuts cuts)) e)
-  pub are : lines ≡ flat_map told_cut cuts ++ map Byte rest
+  pub are : lines ≡ flat_map cut_lines cuts ++ map Byte rest

@@ -13,7 +13,7 @@ abbrev pub HasPlaces : List Cut → ℕ → Type 0
 HasPlaces cuts places = (at : ℕ) → IsTrue (is_start cuts at) → at < places
 
 -- something came to an address before that is below what comes now
-pub record CameBefore (there : Option State) (s : State) : Type 0 where
+pub record ArrivedBefore (there : Option State) (s : State) : Type 0 where
   pub before : State
   pub state : State
   pub is : there ≡ Some state
