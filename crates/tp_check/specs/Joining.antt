@@ -54,10 +54,13 @@ pub record HasFallThrough (image : ImageValue) (cuts : List Cut) (at : ℕ) : Ty
 -- what is known of an address where these edges have still to be counted
 abbrev pub IsPredecessor : ImageValue → List Cut → List (Placed × Edge) → ℕ → Predecessor → Type 0
 IsPredecessor image cuts rest at predecessor.Joined = is_kept image cuts at ≡ true
-IsPredecessor image cuts rest at predecessor.Unreached = IsInner image at × (reached image cuts at ≡ leading image at rest)
-IsPredecessor image cuts rest at predecessor.Jump = IsInner image at × (reached image cuts at ≡ suc (leading image at rest))
+IsPredecessor image cuts rest at predecessor.Unreached =
+    IsInner image at × (reached image cuts at ≡ leading image at rest)
+IsPredecessor image cuts rest at predecessor.Jump =
+    IsInner image at × (reached image cuts at ≡ suc (leading image at rest))
 IsPredecessor image cuts rest at predecessor.FallThrough =
     IsInner image at × (reached image cuts at ≡ suc (leading image at rest)) × HasFallThrough image cuts at
 
 abbrev pub ArePredecessors : ImageValue → List Cut → List (Placed × Edge) → List Predecessor → Type 0
-ArePredecessors image cuts rest predecessors = (at : ℕ) → IsPredecessor image cuts rest at (predecessor_at predecessors at)
+ArePredecessors image cuts rest predecessors =
+    (at : ℕ) → IsPredecessor image cuts rest at (predecessor_at predecessors at)

@@ -56,7 +56,8 @@ IsStatusBy kinds status = ((kind : ErrorKind) × IsAmong kind kinds × (status �
 -- ---- what the words ask for is done
 
 -- from streams whose bytes are known or not, as they were and as they are left
-pub record Performs (words : List Text) (input left old new errors errors' : Option (List ℕ)) (status : ℕ) : Type 0 where
+pub record Performs (words : List Text) (input left old new errors errors' : Option (List ℕ))
+    (status : ℕ) : Type 0 where
   pub serves : fault_of farmd words ≡ [] → HasServed (asks_traces words) input left old new errors errors' status
   pub other : fault_of farmd words ≢ [] → IsStatusBy (fault_of farmd words) status × (left ≡ input)
   pub refused : status ≡ 2 → new ≡ old
@@ -65,7 +66,8 @@ pub record Performs (words : List Text) (input left old new errors errors' : Opt
 
 -- for want of memory, which is reported as far as that can be written; else a word is no text
 abbrev pub EndsWordless : IoKind → (errors errors' : Option (List ℕ)) → (status : ℕ) → Type 0
-EndsWordless OutOfMemory errors errors' status = (some : ℕ) × Appends errors errors' (take some (fault_text Memory)) × (status ≡ 1)
+EndsWordless OutOfMemory errors errors' status =
+    (some : ℕ) × Appends errors errors' (take some (fault_text Memory)) × (status ≡ 1)
 EndsWordless kind errors errors' status = status ≡ 2
 
 -- then nothing is read, and nothing is written to standard output

@@ -63,7 +63,8 @@ pub record ServesBefore (trace : Bool) (input left old new : Option (List ℕ)) 
 
 -- some of the first bytes of the answers to the first lines are
 abbrev pub ServesSome : Bool → (input old new : Option (List ℕ)) → Type 0
-ServesSome trace input old new = IfSome input (λ bytes. (lines : ℕ) × AreWrittenInPart trace (take lines (lines_of bytes)) old new)
+ServesSome trace input old new =
+    IfSome input (λ bytes. (lines : ℕ) × AreWrittenInPart trace (take lines (lines_of bytes)) old new)
 
 -- functions that give the verifier's verdict on each text, and the outcome of each packet
 pub record AreRuled (verdict : List ℕ → Verdict) (outcome : ImageValue → List ℕ → Option RunResult) : Type 0 where
