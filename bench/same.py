@@ -5,7 +5,7 @@ and drops, of which some are changed at random. Two programs that were built fro
     bench/same.py FARMD OTHER_FARMD [INPUTS [SEED]]
 
 INPUTS is 1,000 where it is not given, and SEED 1. Ends with status 1 where an answer, a message or a status differs; the input is
-then written to a file whose name is told.
+then written to a file whose name is printed.
 """
 
 import collections
