@@ -24,7 +24,7 @@ use Rattle.tp_collect.specs.declared.collected.Entry.TheVariants as entry
 use Rattle.tp_collect.specs.declared.collected.LostCause.TheVariants as cause
 use Rattle.tp_farm.specs.Settings.{SameSettings}
 use Rattle.tp_farm.specs.Refused.{job_fault}
-use Rattle.tp_farm.specs.Promised.{TakeAll, HasOutcome, LosesLongTracesAlone}
+use Rattle.tp_farm.specs.Promised.{TakeAll, IsEntryOf, LosesLongTracesAlone}
 use Rattle.tp_collect.specs.DoneValue.{most_trace}
 use Rattle.tp_answers.specs.Rules.{IsOutcome}
 use Rattle.tp_answers.specs.Outcomes.{outcome_of}
@@ -161,7 +161,7 @@ too_much image packet run alone more =
       more = subst (λ r. most_trace < length r.trace) end.1.gives more;
     }
 
-is_outcome : (image : ImageValue) (packet : List ℕ) (run : Run) (e : Entry) → RunsAlone image packet run → HasOutcome run e
+is_outcome : (image : ImageValue) (packet : List ℕ) (run : Run) (e : Entry) → RunsAlone image packet run → IsEntryOf run e
     → IsOutcome image packet (outcome_of e)
 is_outcome image packet run (entry.Done done) alone comes =
     (subst (RunsAlone image packet) (sym comes.0) alone, subst (λ r. length r.trace ≤ most_trace) (sym comes.0) comes.1)
