@@ -116,7 +116,7 @@ length-concat (xs ∷ xss) = length-append xs (concat xss) ∙ omega (arith, len
 pub length-code : (lengths : List ℕ) (lines : List Line) → IsLayout lines lengths → length (code_of lengths lines) ≡ sum lengths
 length-code lengths lines is = length-concat (spellings lengths lines) ∙ ap sum is
 
--- what each check answers is a refusal of its kind
+-- the fault of each check is a refusal of its kind
 is_line : (count number : ℕ) (lines : List Line) (e : AssemblyFault) → first_fault count number lines ≡ Some e → (n : ℕ) × (f : LineFault) × (e ≡ LineRefused n f)
 is_line count number [] e is = cc
 is_line count number (line ∷ lines) e is = by_case (is_line count (number + 1) lines e) (line_fault count number line) is

@@ -18,7 +18,7 @@ use Rattle.tpw_asm.proofs.AssemblyLemmas.{layout_count, length-code}
 use Rattle.tpw_asm.proofs.RoundTrip.{spells_code}
 use Rattle.tpw_asm.proofs.Labelled.{all_spelled_same, length-labelled, lines_sound, none_narrow, lines_ahead, least_ahead}
 
--- a spot's address, which is no place behind the last
+-- a spot's address; its place is not behind the last
 spot_is : (addresses : List ℕ) (count address : ℕ) → length addresses ≡ count + 1 → (address_of addresses (spot_of addresses address) ≡ address) × (is_behind count (spot_of addresses address) ≡ false)
 unfolding spot_of
 spot_is addresses count address size = by_case (position (λ a. nat_eq a address) addresses) refl

@@ -74,7 +74,7 @@ pub length-labelled : (addresses : List ℕ) (number : ℕ) (lines : List Line) 
 length-labelled addresses number [] = refl
 length-labelled addresses number (line ∷ lines) = ap suc (length-labelled addresses (number + 1) lines)
 
--- no fault comes of a place that was found
+-- a place that was found causes no fault
 way_sound : (count from to : ℕ) → from ≤ to → to ≤ count → way_fault count from to ≡ None
 way_sound count from to h h' =
     let within : nat_lt count to ≡ false = grind (arith, nat_tests) in
@@ -164,7 +164,7 @@ shift at [] (suc k) h = absurd (omega arith)
 shift at (z ∷ zs) zero h = omega arith
 shift at (z ∷ zs) (suc k) h = omega (arith, shift (at + z) zs k (omega arith), shift (0 + z) zs k (omega arith))
 
--- a way from the place behind a line is as long as the lines behind it say
+-- the lines behind a line decide how long a way from the place behind it is
 way_behind : (front : List ℕ) (x : ℕ) (xs : List ℕ) (to : ℕ) → length front + 1 ≤ to → to ≤ length front + 1 + length xs
     → distance (addresses_from 0 (front ++ x ∷ xs)) (length front + 1) to ≡ get_or (addresses_from 0 xs) (to - (length front + 1)) 0
 way_behind front x xs to h h' =
@@ -188,7 +188,7 @@ ways a b x y rest n to ea eb sound =
     let right = way_behind b y rest to (omega arith) (omega arith) in
     ap (λ m. distance (addresses_from 0 (a ++ x ∷ rest)) (m + 1) to) (sym ea) ∙ left ∙ ap (λ m. get_or (addresses_from 0 rest) (to - (m + 1)) 0) (ea ∙ sym eb) ∙ sym right ∙ ap (λ m. distance (addresses_from 0 (b ++ y ∷ rest)) (m + 1) to) eb
 
--- a line that has no distance is spelled by the lines behind it
+-- the lines behind a line that has no distance decide how it is spelled
 operation_behind : (a b : List ℕ) (x y : ℕ) (rest : List ℕ) (n : ℕ) (operation : Operation) → length a ≡ n → length b ≡ n → IsAheadOperation operation → operation_fault (n + 1 + length rest) n operation ≡ None
     → instr_at (addresses_from 0 (a ++ x ∷ rest)) n operation ≡ instr_at (addresses_from 0 (b ++ y ∷ rest)) n operation
 operation_behind a b x y rest n (Plain instr) ea eb ahead sound = refl

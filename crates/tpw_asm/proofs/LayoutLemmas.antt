@@ -52,7 +52,7 @@ addresses_rise at (x ∷ lengths) zero to h h' = address_above at (x ∷ lengths
 addresses_rise at (x ∷ lengths) (suc from) zero h h' = absurd (omega arith)
 addresses_rise at (x ∷ lengths) (suc from) (suc to) h h' = addresses_rise (at + x) lengths from to (omega arith) (omega arith)
 
--- the last address is behind all
+-- the last address is where the lines end
 pub last_address : (at : ℕ) (lengths : List ℕ) → get_or (addresses_from at lengths) (length lengths) 0 ≡ at + sum lengths
 last_address at [] = omega arith
 last_address at (x ∷ lengths) = last_address (at + x) lengths ∙ omega (arith, sum-cons x lengths)
@@ -144,7 +144,7 @@ lines_grow xs ys number (line ∷ lines) most sound =
     let parts = sound_first (length xs) number line lines sound in
     (line_grows xs ys number line most parts.0, lines_grow xs ys (number + 1) lines most parts.1)
 
--- lines that are longer need not less
+-- longer lines need no fewer bytes
 pub needed_grows : (lines : List Line) (xs ys : List ℕ) → length xs ≡ length lines → AreSound lines → AreAtMost xs ys → AreAtMost (needed lines xs) (needed lines ys)
 needed_grows lines xs ys count sound most = lines_grow xs ys 0 lines most (rw count sound)
 
@@ -152,7 +152,7 @@ pub length-needed : (addresses : List ℕ) (number : ℕ) (lines : List Line) �
 length-needed addresses number [] = refl
 length-needed addresses number (line ∷ lines) = ap suc (length-needed addresses (number + 1) lines)
 
--- what is longer somewhere is longer in all
+-- where no line is longer, all together are no longer
 pub sum_grows : (xs ys : List ℕ) → AreAtMost xs ys → sum xs ≤ sum ys
 sum_grows [] [] most = omega arith
 sum_grows [] (y ∷ ys) most = absurd most
@@ -169,7 +169,7 @@ same_sum (x ∷ xs) (y ∷ ys) most h =
     let rest = same_sum xs ys most.1 (omega (arith, sum-cons x xs, sum-cons y ys, most.0)) in
     cc
 
--- a spelling has a byte
+-- a spelling has at least one byte
 natural_some : (f e : ℕ) → 1 ≤ length (natural_spelling 8 f e)
 unfolding natural_spelling
 natural_some f e = omega (arith, natural_grows 8 f f 0 e (omega arith))
@@ -185,7 +185,7 @@ line_some addresses number (Spelled operation bytes) =
     let instr = instr_at addresses number operation in
     omega (arith, length-filled (unwrap_or bytes 0) (shortest instr), canonical_some (entry instr).function (entry instr).operand)
 
--- a byte a line is at most what any lines need
+-- every line needs at least one byte
 pub ones_least : (addresses : List ℕ) (number : ℕ) (lines : List Line) → AreAtMost (replicate (length lines) 1) (map length (spelled_from addresses number lines))
 ones_least addresses number [] = tt
 ones_least addresses number (line ∷ lines) = (line_some addresses number line, ones_least addresses (number + 1) lines)
@@ -199,7 +199,7 @@ ones_at_most lines lengths is = rw is at (ones_least (addresses_from 0 lengths) 
 pub ones_sum : (lines : List Line) (lengths : List ℕ) → IsLayout lines lengths → length lines ≤ sum lengths
 ones_sum lines lengths is = omega (arith, sum-ones (length lines), sum_grows _ lengths (ones_at_most lines lengths is))
 
--- the last address is how long all lines are
+-- the last address is the sum of the lengths
 pub last_read : (addresses lengths : List ℕ) (n r : ℕ) → addresses ≡ addresses_from 0 lengths → n ≡ length lengths → r ≡ get_or addresses n r → r ≡ sum lengths
 last_read addresses lengths n r is count read =
     let within : n < length addresses = omega (arith, ap length is, length-addresses 0 lengths) in

@@ -11,17 +11,17 @@ use Rattle.tpw_asm.specs.declared.program.Operation.TheVariants.{Plain}
 use Rattle.tpw_asm.specs.declared.program.Line.{Line}
 use Rattle.tpw_asm.specs.declared.program.Line.TheVariants.{Byte, Spelled}
 
--- a spelling that is the shortest, or that behind pfix 0
+-- the spelling is the shortest, or the shortest behind pfix 0
 abbrev pub is_filled : List ℕ → List ℕ → Bool
 is_filled spelling least =
     list_all (λ byte. byte == 0x20) (take (length spelling - length least) spelling)
     && bytes_eq (drop (length spelling - length least) spelling) least
 
--- no length is stated of the shortest spelling
+-- the length that is stated: none for the shortest spelling
 abbrev pub stated : List ℕ → List ℕ → Option ℕ
 stated spelling least = if length spelling == length least then None else Some (length spelling)
 
--- the lines of an instruction that is spelled so: one, or its bytes where another spelling could not be had from it
+-- the lines of an instruction with this spelling: one, or its bytes where no stated length gives the spelling
 abbrev pub spelling_lines : List ℕ → Instr → List Line
 spelling_lines spelling instr =
     if is_filled spelling (shortest instr) then Spelled (Plain instr) (stated spelling (shortest instr)) ∷ []
@@ -30,7 +30,7 @@ spelling_lines spelling instr =
 abbrev pub cut_lines : Cut → List Line
 cut_lines cut = spelling_lines cut.bytes cut.instr
 
--- the lines of a code: those of the instructions that it is cut into, as far as it can be, and bytes behind them
+-- the lines of a code: those of the instructions that it is cut into, as far as it can be cut, and bytes behind them
 pub record AreLinesOf (code : List ℕ) (lines : List Line) : Type 0 where
   pub cuts : List Cut
   pub rest : List ℕ

@@ -28,7 +28,7 @@ line_fault count number (Byte byte) = None
 line_fault count number (Spelled operation bytes) =
     if nat_lt 8 (unwrap_or bytes 0) then Some TooWide else operation_fault count number operation
 
--- the fault of the first line that has one, among so many lines; the first of these lines has a number
+-- the fault of the first line that has one, in a program of so many lines; the first of these has a number
 abbrev pub first_fault : ℕ → ℕ → List Line → Option AssemblyFault
 first_fault count number [] = None
 first_fault count number (line ∷ lines) =

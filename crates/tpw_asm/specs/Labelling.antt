@@ -23,7 +23,7 @@ place_ahead addresses from (pos bytes) =
     (position (λ address. address == slice_index addresses from + bytes) (drop from addresses))
 place_ahead addresses from (negsuc bytes) = None
 
--- a jump to a place, if there is one
+-- a jump to the place, if there is one
 abbrev pub to_place : (ℕ → Operation) → Operation → Option ℕ → Operation
 to_place jump plain None = plain
 to_place jump plain (Some place) = jump place

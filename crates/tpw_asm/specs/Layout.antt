@@ -56,7 +56,7 @@ AreAtMost [] (y ∷ ys) = ⊥
 AreAtMost (x ∷ xs) [] = ⊥
 AreAtMost (x ∷ xs) (y ∷ ys) = (x ≤ y) × AreAtMost xs ys
 
--- the layout in which no line is longer than in any
+-- the layout in which no line is longer than in any other
 pub record IsLeastLayout (lines : List Line) (lengths : List ℕ) : Type 0 where
   pub layout : IsLayout lines lengths
   pub least : (others : List ℕ) → IsLayout lines others → AreAtMost lengths others

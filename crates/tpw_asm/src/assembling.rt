@@ -28,7 +28,7 @@ fn layout_of(alloc: Global, program: &Program) -> Result<Layout, AssemblyFault>
     Ok(layout)
 }
 
-/// The address of each place of a program, in its least layout: one more than there are lines. Or else why it has no such layout.
+/// The address of each place of a program, in its least layout: one more than there are lines. Or why it has no such layout.
 pub fn addresses(alloc: Global, program: &Program) -> Result<Vec<u32>, AssemblyFault>
     ensures addresses { IfOk result (λ found. AreItsAddresses program.now found.items) }
     ensures refused { IfErr result (λ fault. IsRefused program.now fault) }
@@ -50,13 +50,13 @@ fn assembly_of(alloc: Global, program: &Program) -> Result<Image, AssemblyFault>
     Ok(image_of(alloc, program, loops, code)?)
 }
 
-/// The image of a program: its instructions are, one by one, those that the lines say, each jump to a label by the distance to the
-/// address of the label, each in its canonical spelling where no other length is stated; its rows are those of the loops.
-/// Of the layouts for which that holds it is the least. Or else the first fault.
+/// The image of a program, or the first fault. Its instructions are those of the lines, one by one: each in its canonical spelling
+/// where no other length is stated, and a jump to a label with the distance to the label's address. Its rows are those of the loops.
+/// Of all layouts for which this holds, it has the least.
 pub fn assemble(alloc: Global, program: &Program) -> Result<Image, AssemblyFault>
     ensures image { IfOk result (λ image. IsAssembly program.now image) }
     ensures refused { IfErr result (λ fault. IsRefused program.now fault) }
-    // A program has no other image, and none that is refused.
+    // A program has no other image, and one that is refused has none.
     ensures only { (image : ImageValue) → IsAssembly program.now image
         → MatchResult result (λ found. found ≡ image) (λ fault. fault ≡ AssemblyFault.Memory) }
 {

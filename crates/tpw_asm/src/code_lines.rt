@@ -29,7 +29,7 @@ fn is_filling(bytes: &[u8]) -> bool
     bytes.iter().all(|byte| *byte == PFIX_0)
 }
 
-/// Whether a spelling is this one, or this one behind `pfix 0`.
+/// Whether a spelling is the least one, or the least one behind bytes of `pfix 0`.
 fn is_filled(spelling: &[u8], least: &[u8]) -> bool
     requires { length least.now ≤ length spelling.now }
     ensures { result ≡ is_filled spelling.now least.now }

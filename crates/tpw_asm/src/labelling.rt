@@ -32,7 +32,7 @@ fn place_behind(addresses: &[u32], from: usize, bytes: u32) -> Option<usize>
     }
 }
 
-/// The same, where the bytes may be less than none.
+/// The same for any distance: behind a negative one there is no place ahead.
 fn place_ahead(addresses: &[u32], from: usize, bytes: i32) -> Option<usize>
     requires addresses { AreAddresses addresses.now }
     requires within { from < length addresses.now }

@@ -1,4 +1,4 @@
-//! What can be said of lines and loops before there is a layout.
+//! Checks of lines and loops.
 
 ghost use Rattle.std.specs.Prelude.{◌≡◌, ◌<◌, length};
 ghost use Rattle.std.specs.Result.{result_err};
@@ -62,7 +62,7 @@ pub fn check_lines(lines: &[Line]) -> Result<(), AssemblyFault>
     Ok(())
 }
 
-/// Whether it is a place behind the last one.
+/// Whether a spot is a place behind the last one.
 fn is_behind(count: usize, spot: Spot) -> bool
     ensures { result ≡ is_behind count spot }
 {
@@ -103,7 +103,7 @@ fn is_stated(line: Line, length: u8) -> bool
     }
 }
 
-/// Finds the first line that is not as long as it states, where lines have these lengths.
+/// Finds the first line that is not as long as it states, where these are the lengths of lines.
 pub fn check_lengths(lines: &[Line], lengths: &[u8]) -> Result<(), AssemblyFault>
     requires { length lengths.now ≡ length lines.now }
     ensures { result_err result ≡ first_narrow 0 lines.now lengths.now }

@@ -3,8 +3,8 @@
 use tp_decode::Instr;
 use tp_image::Version;
 
-/// An instruction, or how one is had from places. A place is a number of lines: the place `n` is before line `n`, counted from 0,
-/// and the last is behind the last line.
+/// An instruction as it is, or one whose operand is a distance between places. Places lie between lines: place `n` is before line `n`,
+/// counted from 0, and the last place is behind the last line.
 #[derive(Clone, Copy, Debug, PartialEq, Eq)]
 pub enum Operation {
     /// An instruction as it is.
