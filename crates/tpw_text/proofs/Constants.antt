@@ -1,6 +1,6 @@
 -- Words with the values of constants do not depend on where they lie in memory.
 use Rattle.std.proofs.Common.{◌≡◌, ◌&&◌, Bool, true, false, if◌then◌else◌, List, [], ◌∷◌, map, Option, Some, None, option_map, refl, ap, ◌∙◌}
-use Rattle.std.specs.List.{find}
+use Rattle.std.specs.List.{find, zip}
 use Rattle.std.specs.Str.{bytes_eq}
 use Rattle.tpw_text.specs.declared.words.Word.{Word}
 use Rattle.tpw_text.specs.declared.draft.ConstName.{ConstName}
@@ -34,14 +34,17 @@ a_word consts false w = ap (as_value (word_apart w)) (constant consts w) ∙ by 
     by (Some v) = refl
     by None = refl
 
-words : (consts : List ConstName) (gives stays : Bool) (ws : List Word) → words_read (map const_apart consts) gives stays (map word_apart ws) ≡ map word_apart (words_read consts gives stays ws)
-unfolding words_read
-words consts gives stays [] = refl
-words consts gives stays (w ∷ ws) =
-    ap (λ v. v ∷ words_read (map const_apart consts) gives (gives && is_comma w) (map word_apart ws)) (a_word consts stays w)
-    ∙ ap (λ vs. word_apart (word_read consts stays w) ∷ vs) (words consts gives (gives && is_comma w) ws)
+-- the last words of a statement, as they are read; whether the first of them is behind the statement's first word or a comma
+abbrev pub rest_read : List ConstName → Bool → Bool → List Word → List Word
+rest_read consts gives at_name ws = map (λ w. word_read consts (gives && w.1) w.0) (zip ws (at_name ∷ map is_comma ws))
+
+words : (consts : List ConstName) (gives at_name : Bool) (ws : List Word) → rest_read (map const_apart consts) gives at_name (map word_apart ws) ≡ map word_apart (rest_read consts gives at_name ws)
+words consts gives at_name [] = refl
+words consts gives at_name (w ∷ ws) =
+    ap (λ v. v ∷ rest_read (map const_apart consts) gives (is_comma w) (map word_apart ws)) (a_word consts (gives && at_name) w)
+    ∙ ap (λ vs. word_apart (word_read consts (gives && at_name) w) ∷ vs) (words consts gives (is_comma w) ws)
 
 pub values : (consts : List ConstName) (ws : List Word) → with_values (map const_apart consts) (map word_apart ws) ≡ map word_apart (with_values consts ws)
-unfolding with_values
+unfolding with_values words_read
 values consts [] = refl
-values consts (first ∷ ws) = ap (λ vs. word_apart first ∷ vs) (words consts (gives_names first) (gives_names first) ws)
+values consts (first ∷ ws) = ap (λ vs. word_apart first ∷ vs) (words consts (gives_names first) true ws)

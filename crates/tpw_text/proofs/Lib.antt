@@ -5,7 +5,7 @@ pub mod Turns
 pub mod Folds
 pub mod Programs
 mod Apart
-mod Constants
+pub mod Constants
 mod Additions
 mod Finished
 mod Trimmed

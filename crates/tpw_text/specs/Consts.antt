@@ -1,5 +1,6 @@
 -- The words of a statement, with the values of constants.
-use Rattle.std.specs.Prelude.{◌&&◌, ◌||◌, Bool, if◌then◌else◌, List, [], ◌∷◌, codes, Option, Some, None}
+use Rattle.std.specs.Prelude.{◌&&◌, ◌||◌, Bool, true, if◌then◌else◌, List, [], ◌∷◌, map, codes, Option, Some, None}
+use Rattle.std.specs.List.{zip}
 use Rattle.std.specs.Str.{str_eq_ignore_ascii_case}
 use Rattle.tpw_text.specs.declared.words.Word.{Word}
 use Rattle.tpw_text.specs.declared.draft.ConstName.{ConstName}
@@ -23,12 +24,11 @@ word_read consts stays word = if stays then word else as_value word (const_named
 
 -- the words behind the first. Of a statement that gives names, the word behind the first and the word behind each comma
 -- is a name, and stays
-unfoldable pub words_read : List ConstName → Bool → Bool → List Word → List Word
-words_read consts gives stays [] = []
-words_read consts gives stays (word ∷ words) =
-    word_read consts stays word ∷ words_read consts gives (gives && is_comma word) words
+unfoldable pub words_read : List ConstName → Bool → List Word → List Word
+words_read consts gives words =
+    map (λ w. word_read consts (gives && w.1) w.0) (zip words (true ∷ map is_comma words))
 
 -- the words of a statement as they are read, with the values of constants: the first stays too
 unfoldable pub with_values : List ConstName → List Word → List Word
 with_values consts [] = []
-with_values consts (first ∷ words) = first ∷ words_read consts (gives_names first) (gives_names first) words
+with_values consts (first ∷ words) = first ∷ words_read consts (gives_names first) words

@@ -32,7 +32,8 @@ fn word_read<'a>(consts: &[ConstName<'a>], stays: bool, word: &Word<'a>) -> Word
     }
 }
 
-/// Appends the words behind the first of a statement as they are read. Names that the statement gives stay.
+/// Appends the words behind the first of a statement as they are read. If it gives names, the word behind the first and the word
+/// behind each comma stay.
 #[tactic(auto, unfolding(crate::specs::Consts::words_read))]
 fn push_read<'a>(
     read: &mut Vec<Word<'a>>,
@@ -40,12 +41,12 @@ fn push_read<'a>(
     gives: bool,
     words: &[Word<'a>],
 ) -> Result<(), AllocError>
-    ensures { OnOk result (read.new.items ≡ read.old.items ++ words_read consts.now gives gives words.now) }
+    ensures { OnOk result (read.new.items ≡ read.old.items ++ words_read consts.now gives words.now) }
 {
-    let mut stays = gives;
+    let mut at_name = true;
     for word in words {
-        read.push(word_read(consts, stays, word))?;
-        stays = gives && word.is(",");
+        read.push(word_read(consts, gives && at_name, word))?;
+        at_name = word.is(",");
     }
     Ok(())
 }
