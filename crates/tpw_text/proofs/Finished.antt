@@ -99,8 +99,8 @@ finished_apart d =
     then_same (ended d.begun) _ _ (ends_are d.begun) (λ end.
     then_same (locals_fit d) _ _ (room_is d) (λ room.
     then_same (program_of d) _ _ (program_is d) (λ program.
-    ap (λ told. Ok (record { program = program; positions = d.positions; labels = told; locals = locals_listed (map local_apart d.locals) })) (labels_are d.labels)
-    ∙ ap (λ told. Ok (record { program = program; positions = d.positions; labels = labels_listed d.labels; locals = told })) (locals_are d.locals))))
+    ap (λ listed. Ok (record { program = program; positions = d.positions; labels = listed; locals = locals_listed (map local_apart d.locals) })) (labels_are d.labels)
+    ∙ ap (λ listed. Ok (record { program = program; positions = d.positions; labels = labels_listed d.labels; locals = listed })) (locals_are d.locals))))
 
 -- where a text says a draft, its source is what that comes to
 pub source_is : (text : List ℕ) (d : Said) → text_said text ≡ Ok (draft_apart d) → finished d ≡ source_of text

@@ -73,24 +73,24 @@ pub item_ends : (items new : List Item) (x : Item) (d : Word) (words : List Word
     → x.words.now ≡ slice_range words start i → start ≤ i → i < length words → list_all is_other (slice_range words start i) ≡ true
     → is_comma (get_or words i d) ≡ true → map part items ++ parts x.behind (drop start words) ≡ all
     → map part new ++ parts (get_or words i d) (drop (i + 1) words) ≡ all
-item_ends items new x d words start i all is words_are order within plain comma told =
+item_ends items new x d words start i all is words_are order within plain comma listed =
     let rest : List Part = parts (get_or words i d) (drop (i + 1) words) in
     let here : part x ≡ record { behind = x.behind; words = slice_range words start i } = ap (λ ws. record { behind = x.behind; words = ws }) words_are in
     ap (λ ps. ps ++ rest) (one_more items new x is)
     ∙ append_assoc (map part items) (part x ∷ []) rest
     ∙ ap (λ p. map part items ++ p ∷ rest) here
     ∙ ap (λ ps. map part items ++ ps) (sym (comma_here x.behind d words start i order within plain comma))
-    ∙ told
+    ∙ listed
 
 -- the last item
 pub item_is_last : (items new : List Item) (x : Item) (words : List Word) (start i : ℕ) (all : List Part) → new ≡ items ++ x ∷ []
     → x.words.now ≡ slice_range words start (length words) → i ≡ length words → start ≤ i → list_all is_other (slice_range words start i) ≡ true
     → map part items ++ parts x.behind (drop start words) ≡ all → map part new ≡ all
-item_is_last items new x words start i all is words_are end order plain told =
+item_is_last items new x words start i all is words_are end order plain listed =
     let whole : slice_range words start (length words) ≡ drop start words = take_all (length words - start) (drop start words) (omega (arith, length-drop start words)) in
     let other : list_all is_other (drop start words) ≡ true = subst (λ ws. list_all is_other ws ≡ true) (ap (slice_range words start) end ∙ whole) plain in
     let here : part x ≡ record { behind = x.behind; words = drop start words } = ap (λ ws. record { behind = x.behind; words = ws }) (words_are ∙ whole) in
     one_more items new x is
     ∙ ap (λ p. map part items ++ p ∷ []) here
     ∙ ap (λ ps. map part items ++ ps) (sym (no_comma x.behind (drop start words) other))
-    ∙ told
+    ∙ listed

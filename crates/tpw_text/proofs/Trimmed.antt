@@ -10,15 +10,15 @@ unfolding statement_text
 statement_is line front trimmed is trims =
     trim_ascii_is front trimmed (without_leading front) refl trims ∙ ap (λ bytes. without_trailing (without_leading bytes)) is
 
-pub told : (line trimmed : List ℕ) → trimmed ≡ statement_text line → IsUtf8 trimmed → trimmed ≡ statement_or_line line
+pub is_statement : (line trimmed : List ℕ) → trimmed ≡ statement_text line → IsUtf8 trimmed → trimmed ≡ statement_or_line line
 unfolding statement_or_line
-told line trimmed is text =
+is_statement line trimmed is text =
     let same : is_utf8 (statement_text line) ≡ true = ap is_utf8 (sym is) ∙ is_utf8-from_IsUtf8 trimmed text in
     is ∙ sym (ap (λ t. if t then statement_text line else line) same)
 
-pub not_told : (line trimmed : List ℕ) → trimmed ≡ statement_text line → ¬ (IsUtf8 trimmed) → line ≡ statement_or_line line
+pub is_line : (line trimmed : List ℕ) → trimmed ≡ statement_text line → ¬ (IsUtf8 trimmed) → line ≡ statement_or_line line
 unfolding statement_or_line
-not_told line trimmed is other = by (is_utf8 (statement_text line)) (ap is_utf8 is)
+is_line line trimmed is other = by (is_utf8 (statement_text line)) (ap is_utf8 is)
   where
     by : (t : Bool) → is_utf8 trimmed ≡ t → line ≡ (if t then statement_text line else line)
     by true text = absurd (other (IsUtf8-from_is_utf8 trimmed text))

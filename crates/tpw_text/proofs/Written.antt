@@ -15,9 +15,9 @@ use Rattle.tpw_text.specs.declared.remarks.Remarks.{Remarks}
 use Rattle.tpw_text.specs.Written.{IsMarked, AreMarks, as_line, line_text, label_there, behind, lines_text, operand_text}
 
 -- a text that has bytes has those that equal them
-pub told_on : {S E : Type 0} (r : Result S E) (new x y : List ℕ) → OnOk r (new ≡ x) → x ≡ y → OnOk r (new ≡ y)
-told_on (Ok s) new x y h e = h ∙ e
-told_on (Err f) new x y h e = tt
+pub written_on : {S E : Type 0} (r : Result S E) (new x y : List ℕ) → OnOk r (new ≡ x) → x ≡ y → OnOk r (new ≡ y)
+written_on (Ok s) new x y h e = h ∙ e
+written_on (Err f) new x y h e = tt
 
 -- a text that was appended
 pub appended_on : {S E : Type 0} (r : Result S E) (new x y z : List ℕ) → new ≡ (if is_ok r then x else y) → x ≡ z → OnOk r (new ≡ z)
@@ -205,22 +205,22 @@ unfolding operand_text
 instr_parted i shown is there = parted _ (entry i).name _ shown (name_plain i) is there
 
 -- a name, how many bytes are stated, and an operand or none
-pub parted_told : (old stated name name' operand operand' shown : List ℕ) {a : List ℕ} → a ≡ ((old ++ name') ++ stated) ++ codes " " → name' ≡ name → operand' ≡ operand → shown ≡ codes " " ++ operand → a ++ operand' ≡ old ++ (name ++ stated ++ shown)
-parted_told old stated name name' operand operand' shown at same same' is =
+pub parted_written : (old stated name name' operand operand' shown : List ℕ) {a : List ℕ} → a ≡ ((old ++ name') ++ stated) ++ codes " " → name' ≡ name → operand' ≡ operand → shown ≡ codes " " ++ operand → a ++ operand' ≡ old ++ (name ++ stated ++ shown)
+parted_written old stated name name' operand operand' shown at same same' is =
     ap (λ t. t ++ operand') at ∙ ap (λ n. (((old ++ n) ++ stated) ++ codes " ") ++ operand') same ∙ ap (λ o. (((old ++ name) ++ stated) ++ codes " ") ++ o) same'
     ∙ (simp append_assoc) ∙ ap (λ o. old ++ (name ++ stated ++ o)) (sym is)
 
-pub alone_told : (old stated name name' shown : List ℕ) {a : List ℕ} → a ≡ old ++ name' → name' ≡ name → shown ≡ [] → a ++ stated ≡ old ++ (name ++ stated ++ shown)
-alone_told old stated name name' shown at same is =
+pub alone_written : (old stated name name' shown : List ℕ) {a : List ℕ} → a ≡ old ++ name' → name' ≡ name → shown ≡ [] → a ++ stated ≡ old ++ (name ++ stated ++ shown)
+alone_written old stated name name' shown at same is =
     ap (λ t. t ++ stated) (at ∙ ap (λ n. old ++ n) same) ∙ append_assoc old name stated ∙ ap (λ t. old ++ t) (sym (append-nil (name ++ stated)) ∙ ap (λ o. name ++ stated ++ o) (sym is))
 
 -- a part of a text that is as_line by options
-pub part_told : {S E : Type 0} (r : Result S E) (old new front part : List ℕ) (o : Option (List ℕ)) → o ≡ Some part → OnOk r (AppendsText old new (Some front ++? o)) → OnOk r (new ≡ old ++ (front ++ part))
-part_told r old new front part o is wrote = subst (λ (x : Option (List ℕ)). OnOk r (AppendsText old new (Some front ++? x))) is wrote
+pub part_written : {S E : Type 0} (r : Result S E) (old new front part : List ℕ) (o : Option (List ℕ)) → o ≡ Some part → OnOk r (AppendsText old new (Some front ++? o)) → OnOk r (new ≡ old ++ (front ++ part))
+part_written r old new front part o is wrote = subst (λ (x : Option (List ℕ)). OnOk r (AppendsText old new (Some front ++? x))) is wrote
 
 -- a row, part by part
-pub row_told : (old head lend control count start : List ℕ) → ((old ++ codes "loop head " ++ head ++ codes " lend " ++ lend) ++ (codes " control " ++ (control ++ (codes " turns " ++ (count ++ codes " start "))))) ++ start ++ codes "\n" ≡ old ++ as_line (codes "loop head " ++ head ++ codes " lend " ++ lend ++ codes " control " ++ control ++ codes " turns " ++ count ++ codes " start " ++ start)
-row_told old head lend control count start = simp append_assoc
+pub row_written : (old head lend control count start : List ℕ) → ((old ++ codes "loop head " ++ head ++ codes " lend " ++ lend) ++ (codes " control " ++ (control ++ (codes " turns " ++ (count ++ codes " start "))))) ++ start ++ codes "\n" ≡ old ++ as_line (codes "loop head " ++ head ++ codes " lend " ++ lend ++ codes " control " ++ control ++ codes " turns " ++ count ++ codes " start " ++ start)
+row_written old head lend control count start = simp append_assoc
 
 -- so many marks that are not set
 pub fresh_marks : (n lines len : ℕ) (none : List Bool) → none ≡ [] → len ≡ 0 → n ≡ lines → take (n + 1) none ++ replicate ((n + 1) - len) false ≡ replicate (lines + 1) false

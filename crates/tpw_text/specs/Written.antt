@@ -97,7 +97,7 @@ AreMarks test marks lines = (k : ℕ) → k ≤ lines → slice_index_or marks k
 unfoldable pub label_there : Bool → ℕ → List ℕ
 label_there named place = if named then as_line (label_text place ++ codes ":") else []
 
--- version 1 is not told
+-- version 1 is not written
 unfoldable pub version_text : Version → List ℕ
 version_text One = []
 version_text Two = as_line (codes "version 2")
@@ -117,7 +117,7 @@ sizes_text p =
 unfoldable pub fields_text : ProgramSaid → List ℕ
 fields_text p = version_text p.version ++ sizes_text p ++ initial_text 0 p.initial ++ flat_map loop_text p.loops
 
--- what is remarked of a loop: the bytes in all are told up to 2^64 - 1
+-- what is remarked of a loop: the bytes in all are written up to 2^64 - 1
 unfoldable pub loop_remark : LoopRemark → List ℕ
 loop_remark r =
     as_line (codes "; loop " ++ decimal r.head ++ codes " to " ++ decimal r.lend ++ codes ": " ++ decimal r.turns

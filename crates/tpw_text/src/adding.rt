@@ -1,6 +1,6 @@
 //! What a statement adds to a draft.
 
-ghost use Rattle.std.specs.Prelude.{◌≡◌, OnOk, IfErr, Ok, slice_get};
+ghost use Rattle.std.specs.Prelude.{◌≡◌, OnOk, OnErr, IfErr, Ok, slice_get};
 ghost use Rattle.tpw_text.specs.Faults.{IsRefusal};
 ghost use Rattle.tpw_text.specs.Drafts.{said};
 ghost use Rattle.tpw_text.specs.Grammar.{statement_kept};
@@ -100,6 +100,7 @@ impl<'a> Draft<'a> {
     fn add_initial(&mut self, initial: &InitialWord<'_>) -> Result<(), SourceFault>
         ensures said { OnOk result (initial_added initial.now (said self.old) ≡ Ok (said self.new)) }
         ensures refused { IfErr result (IsRefusal (initial_added initial.now (said self.old))) }
+        ensures kept { OnErr result (said self.new ≡ said self.old) }
     {
         if self.initial.len() >= MOST {
             return Err(initial.word.fault(TextFault::TooMany));
@@ -286,6 +287,7 @@ impl<'a> Draft<'a> {
     fn push_row(&mut self, word: &Word<'_>, row: Row<'a>) -> Result<(), SourceFault>
         ensures said { OnOk result (row_added word.now row.entry (said self.old) ≡ Ok (said self.new)) }
         ensures refused { IfErr result (IsRefusal (row_added word.now row.entry (said self.old))) }
+        ensures kept { OnErr result (said self.new ≡ said self.old) }
     {
         self.check_loops(word)?;
         self.rows.push(row)?;

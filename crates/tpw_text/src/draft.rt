@@ -1,8 +1,8 @@
 //! What is read of a text, with labels as they are in it.
 
-ghost use Rattle.std.specs.Prelude.{◌≡◌, ◌≤◌, OnOk, IfOk, IfErr, Ok, []};
+ghost use Rattle.std.specs.Prelude.{◌≡◌, ◌≤◌, OnOk, OnErr, IfOk, IfErr, Ok, true, []};
 ghost use Rattle.tpw_text.specs.Faults.{IsRefusal};
-ghost use Rattle.tpw_text.specs.Drafts.{said, empty, place_named, local_named, const_named, is_taken, local_said, pushed, locals_named, label_set, const_set, start_set, room_for_loop};
+ghost use Rattle.tpw_text.specs.Drafts.{said, empty, is_full, place_named, local_named, const_named, is_taken, local_said, pushed, locals_named, label_set, const_set, start_set, room_for_loop};
 
 use crate::fault::{SourceFault, TextFault};
 use crate::words::{Position, Word};
@@ -169,6 +169,7 @@ impl<'a> Draft<'a> {
     pub fn push(&mut self, word: &Word<'_>, line: DraftLine<'a>) -> Result<(), SourceFault>
         ensures said { OnOk result (pushed word.now line.entry (said self.old) ≡ Ok (said self.new)) }
         ensures refused { IfErr result (IsRefusal (pushed word.now line.entry (said self.old))) }
+        ensures kept { is_full self.old.lines.items ≡ true → self.new ≡ self.old }
     {
         if self.lines.len() >= MOST {
             return Err(word.fault(TextFault::TooMany));
@@ -194,6 +195,7 @@ impl<'a> Draft<'a> {
         ensures first { IfOk result (λ first. first ≡ self.old.words) }
         ensures said { OnOk result (locals_named word.now size (said self.old) ≡ Ok (said self.new)) }
         ensures refused { IfErr result (IsRefusal (locals_named word.now size (said self.old))) }
+        ensures kept { OnErr result (said self.new ≡ said self.old) }
     {
         if self.is_taken(word) {
             return Err(word.fault(TextFault::Twice));
@@ -220,6 +222,7 @@ impl<'a> Draft<'a> {
     pub fn set_label(&mut self, word: &Word<'a>) -> Result<(), SourceFault>
         ensures said { OnOk result (label_set word.now (said self.old) ≡ Ok (said self.new)) }
         ensures refused { IfErr result (IsRefusal (label_set word.now (said self.old))) }
+        ensures kept { OnErr result (said self.new ≡ said self.old) }
     {
         if self.is_taken(word) {
             return Err(word.fault(TextFault::Twice));
@@ -237,6 +240,7 @@ impl<'a> Draft<'a> {
     pub fn set_const(&mut self, word: &Word<'a>, value: &Word<'a>) -> Result<(), SourceFault>
         ensures said { OnOk result (const_set word.now value.now (said self.old) ≡ Ok (said self.new)) }
         ensures refused { IfErr result (IsRefusal (const_set word.now value.now (said self.old))) }
+        ensures kept { OnErr result (said self.new ≡ said self.old) }
     {
         if self.is_taken(word) {
             return Err(word.fault(TextFault::Twice));
@@ -256,6 +260,7 @@ impl<'a> Draft<'a> {
     pub fn set_start(&mut self, word: &Word<'_>, start: u16) -> Result<(), SourceFault>
         ensures said { OnOk result (start_set word.now start (said self.old) ≡ Ok (said self.new)) }
         ensures refused { IfErr result (IsRefusal (start_set word.now start (said self.old))) }
+        ensures kept { OnErr result (self.new ≡ self.old) }
     {
         if self.start_used {
             return Err(word.fault(TextFault::StartBelow));

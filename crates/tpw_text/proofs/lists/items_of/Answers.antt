@@ -9,19 +9,19 @@ loop-i-preserved c =
       | then-is+in_ok-push w ↦ record {
         order = omega (arith, w.start-is);
         plain = rw w.start-is (none_yet c.args.words.now (c.loop-i.i + 1));
-        told = rw (w.items-is, w.before-is, w.start-is)
+        listed = rw (w.items-is, w.before-is, w.start-is)
             (item_ends c.loop-i.items.items w.push.new.self.items _ _ c.args.words.now c.loop-i.start c.loop-i.i _ w.in_ok-push.ensures.items refl
-            c.loop-i.invariant.order c.loop-i-test.true c.loop-i.invariant.plain (sym c.is.ensures ∙ w.if-is.true) c.loop-i.invariant.told);
+            c.loop-i.invariant.order c.loop-i-test.true c.loop-i.invariant.plain (sym c.is.ensures ∙ w.if-is.true) c.loop-i.invariant.listed);
       }
       | else-is w ↦ record {
         order = omega (arith, w.start-is, c.loop-i.invariant.order);
         plain = rw w.start-is
             (no_comma_here _ c.args.words.now c.loop-i.start c.loop-i.i c.loop-i.invariant.order c.loop-i-test.true c.loop-i.invariant.plain (sym c.is.ensures ∙ w.if-is.false));
-        told = rw (w.items-is, w.before-is, w.start-is) c.loop-i.invariant.told;
+        listed = rw (w.items-is, w.before-is, w.start-is) c.loop-i.invariant.listed;
       }
     ]
 
 pub returns : goal.returns
 returns c =
     item_is_last c.loop-i.items.items c.push-2.new.self.items _ c.args.words.now c.loop-i.start c.loop-i.i _ c.in_ok-push-2.ensures.items refl
-    (omega arith) c.loop-i.invariant.order c.loop-i.invariant.plain c.loop-i.invariant.told
+    (omega arith) c.loop-i.invariant.order c.loop-i.invariant.plain c.loop-i.invariant.listed

@@ -1,6 +1,6 @@
 use Rattle.std.proofs.Common.{◌≡◌, List, ℕ, map, ap, ◌∙◌}
 use Rattle.tpw_text.specs.Words.{token, words_of_line, before_comment, behind_label, statement_text}
-use Rattle.tpw_text.proofs.Trimmed.{statement_is, told, not_told}
+use Rattle.tpw_text.proofs.Trimmed.{statement_is, is_statement, is_line}
 use Rattle.tpw_text.proofs.words.statement_of.Goals as goal
 
 pub returns-in-Ok : goal.returns-in-Ok
@@ -12,7 +12,7 @@ returns-in-Ok c =
     c.behind_label-statement.ensures ∙ ap (λ ws. behind_label ws c.before_comment.result.now) words
     ∙ ap (behind_label (words_of_line 1 line)) (c.before_comment.ensures ∙ ap before_comment c.as_bytes-2.ensures.value) in
     let is : c.trim_ascii.result.now ≡ statement_text line = statement_is line c.behind_label-statement.result.now c.trim_ascii.result.now front c.trim_ascii.ensures.value in
-    c.in-Ok.ensures.cases.0 ∙ told line c.trim_ascii.result.now is c.in-Ok.ensures.cases.1
+    c.in-Ok.ensures.cases.0 ∙ is_statement line c.trim_ascii.result.now is c.in-Ok.ensures.cases.1
 
 pub returns : goal.returns
 returns c =
@@ -22,4 +22,4 @@ returns c =
     let front : c.behind_label-statement.result.now ≡ behind_label (words_of_line 1 line) (before_comment line) =
     c.behind_label-statement.ensures ∙ ap (λ ws. behind_label ws c.before_comment.result.now) words
     ∙ ap (behind_label (words_of_line 1 line)) (c.before_comment.ensures ∙ ap before_comment c.as_bytes-2.ensures.value) in
-    not_told line c.trim_ascii.result.now (statement_is line c.behind_label-statement.result.now c.trim_ascii.result.now front c.trim_ascii.ensures.value) c.in-Err.ensures.cases.0
+    is_line line c.trim_ascii.result.now (statement_is line c.behind_label-statement.result.now c.trim_ascii.result.now front c.trim_ascii.ensures.value) c.in-Err.ensures.cases.0

@@ -1,7 +1,7 @@
 use Rattle.std.proofs.Common.{ℕ, Bool, ◌+◌, ◌++◌, drop, get_or, false, string_bytes, sym, ap, ◌∙◌, arith}
 use Rattle.std.specs.Option.{option_copied}
 use Rattle.tpw_text.specs.Written.{lines_text}
-use Rattle.tpw_text.proofs.Written.{told_on, lines_more, line_more, lines_end}
+use Rattle.tpw_text.proofs.Written.{written_on, lines_more, line_more, lines_end}
 use Rattle.tpw_text.proofs.writing.put_lines.Goals as goal
 
 pub loop-place-preserved : goal.loop-place-preserved
@@ -16,5 +16,5 @@ pub returns : goal.returns
 returns c =
     let t : ℕ → Bool = λ k. get_or c.args.marks.now k false in
     let remarks = option_copied c.args.remarks in
-    told_on c.put_label-2.result _ _ _ c.put_label-2.ensures
+    written_on c.put_label-2.result _ _ _ c.put_label-2.ensures
     (ap (λ l. string_bytes c.loop-place.text ++ l) (lines_end t remarks c.loop-place.place c.args.lines.now (omega arith)) ∙ c.loop-place.invariant)

@@ -4,7 +4,7 @@ use mir.Val.{SFits}
 use mir.Syntax.{w32}
 use Rattle.std.specs.Fmt.{decimal, signed_decimal}
 use Rattle.tpw_text.specs.Written.{spot_text, loop_text}
-use Rattle.tpw_text.proofs.Written.{appended_on, row_told}
+use Rattle.tpw_text.proofs.Written.{appended_on, row_written}
 use Rattle.tpw_text.proofs.writing.put_loop.Goals as goal
 
 pub returns : goal.returns
@@ -22,4 +22,4 @@ returns c =
     ∙ ap (λ t. t ++ signed_decimal row.start) c.in_ok-write.ensures.bytes in
     appended_on c.push_str-3.result _ _ _ _ c.push_str-3.ensures.bytes
     (ap (λ t. t ++ codes "\n") (start ∙ ap (λ t. (t ++ numbers) ++ signed_decimal row.start) lend)
-    ∙ row_told (string_bytes c.args.text.now) (spot_text row.head) (spot_text row.lend) (decimal row.control) (decimal row.count) (signed_decimal row.start))
+    ∙ row_written (string_bytes c.args.text.now) (spot_text row.head) (spot_text row.lend) (decimal row.control) (decimal row.count) (signed_decimal row.start))

@@ -13,8 +13,8 @@ returns c =
     let marked : ℕ → Bool = λ k. get_or c.deref.result.now k false in
     let front : string_bytes c.put_fields.new.text ≡ above remarks ++ fields_text p =
     c.in_ok-put_fields.ensures ∙ ap (λ t. t ++ fields_text p) (c.in_ok-put_above.ensures ∙ ap (λ t. t ++ above remarks) c.new-text.ensures.bytes) in
-    let told : string_bytes c.put_lines.new.text ≡ string_bytes c.put_fields.new.text ++ lines_text marked remarks 0 c.deref-2.result.now = c.in_ok-put_lines.ensures in
+    let written : string_bytes c.put_lines.new.text ≡ string_bytes c.put_fields.new.text ++ lines_text marked remarks 0 c.deref-2.result.now = c.in_ok-put_lines.ensures in
     let lines : lines_text marked remarks 0 c.deref-2.result.now ≡ lines_text (is_named p) remarks 0 p.lines =
     ap (lines_text marked remarks 0) c.deref-2.ensures.value
     ∙ lines_same marked (is_named p) remarks 0 p.lines (λ k low high. ap (λ l. get_or l k false) c.deref.ensures.value ∙ c.in_ok-marks.ensures k (omega arith)) in
-    told ∙ ap (λ t. t ++ lines_text marked remarks 0 c.deref-2.result.now) front ∙ ap (λ l. (above remarks ++ fields_text p) ++ l) lines
+    written ∙ ap (λ t. t ++ lines_text marked remarks 0 c.deref-2.result.now) front ∙ ap (λ l. (above remarks ++ fields_text p) ++ l) lines
