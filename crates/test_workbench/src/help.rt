@@ -18,7 +18,7 @@ Commands:
   profile  Runs packets on a worker, and writes where their steps go
   run      Runs packets on a worker, and writes each result
   step     Runs an image an instruction at a time, accepted by the verifier or not
-  why      Judges an image as the verifier does, and tells why it is refused
+  why      Judges an image as the verifier does, and explains why it is refused
   help     Print this message or the help of the given subcommand(s)
 
 Options:
@@ -51,7 +51,7 @@ docs/WORKERS.md reads a run.
 
 /// All that `why --help` says.
 const WHY_HELP: &str = "\
-Judges an image as the verifier does, and tells why it is refused
+Judges an image as the verifier does, and explains why it is refused
 
 Usage: tpw why [FILE]
 

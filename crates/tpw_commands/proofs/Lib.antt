@@ -1,4 +1,4 @@
 mod Positions
 mod Naming
 mod Reading
-mod Statuses
+mod Lines

@@ -9,7 +9,7 @@ use Rattle.std.proofs.lemmas.Str.Ascii.{trim_ascii_start_is, trim_ascii_end_is}
 use Rattle.hex.specs.Hex.{decode_of}
 use Rattle.tpw_commands.specs.declared.input.TextFault.{TextFault}
 use Rattle.tpw_commands.specs.declared.input.TextFault.TheVariants.{NotADigit, HalfAByte, Memory}
-use Rattle.tpw_commands.specs.Texts.{IsFault, Says, inner, leading, may_stand, without_trailing}
+use Rattle.tpw_commands.specs.Texts.{IsFault, Says, inner, leading, is_digit_or_line_end, without_trailing}
 
 -- what the two trims leave, and how much the first has taken
 pub between : (text rest middle : List ℕ) → IsTrimAsciiStart text rest → IsTrimAsciiEnd rest middle → middle ≡ inner text
@@ -21,7 +21,7 @@ before text rest start =
     omega (arith, long, prefix_len-le-length is_ascii_whitespace text)
 
 pub not_a_digit : (text middle : List ℕ) (begins : ℕ) (e : TextFault) → middle ≡ inner text → begins ≡ leading text
-    → (e ≡ Memory) ⊎ ((prefix_len may_stand middle < length middle) × (e ≡ NotADigit (begins + prefix_len may_stand middle + 1))) → IsFault text e
+    → (e ≡ Memory) ⊎ ((prefix_len is_digit_or_line_end middle < length middle) × (e ≡ NotADigit (begins + prefix_len is_digit_or_line_end middle + 1))) → IsFault text e
 not_a_digit text middle begins e same behind (inl memory) = rw memory tt
 not_a_digit text middle begins e same behind (inr h) = rw (h.1, behind) (rw same at h.0, rw same refl)
 
@@ -31,11 +31,11 @@ handed_on text (Ok bytes) e is fault = tt
 handed_on text (Err x) e is fault = subst (IsFault text) (sym is) fault
 
 pub half_a_byte : (text middle digits : List ℕ) (begins : ℕ) → middle ≡ inner text → begins ≡ leading text
-    → (prefix_len may_stand middle ≡ length middle) × (digits ≡ filter is_ascii_hexdigit middle) → length digits % 2 ≡ 1
+    → (prefix_len is_digit_or_line_end middle ≡ length middle) × (digits ≡ filter is_ascii_hexdigit middle) → length digits % 2 ≡ 1
     → IsFault text (HalfAByte (begins + length middle + 1))
 half_a_byte text middle digits begins same behind h odd =
     (rw same at h.0, rw (h.1, same) at odd, rw (behind, same) refl)
 
 pub says : (text middle digits bytes : List ℕ) → middle ≡ inner text
-    → (prefix_len may_stand middle ≡ length middle) × (digits ≡ filter is_ascii_hexdigit middle) → decode_of digits ≡ Ok bytes → Says text bytes
+    → (prefix_len is_digit_or_line_end middle ≡ length middle) × (digits ≡ filter is_ascii_hexdigit middle) → decode_of digits ≡ Ok bytes → Says text bytes
 says text middle digits bytes same h is = record { each = rw same at h.0; decoded = rw (h.1, same) at is }

@@ -43,7 +43,7 @@ of_kind kind fault = failure.Input (input.Source fault)
 abbrev pub of_source : SourceFault → Failure
 of_source fault = of_kind fault.fault fault
 
--- by why a program has no image: of a line, with where the word of the text stands that asks for it
+-- by why a program has no image: a line's fault comes with the place of the word that asks for the line
 abbrev pub of_line : ℕ → LineFault → Option Position → Failure
 of_line line wrong None = failure.Input (input.Assembly (assembly.Line line wrong))
 of_line line wrong (Some position) = failure.Input (input.Line position wrong)

@@ -10,9 +10,9 @@ use Rattle.tpw_commands.specs.declared.input.TextFault.TheVariants.{NotADigit, H
 abbrev pub is_line_end : ℕ → Bool
 is_line_end b = (b == 10) || (b == 13)
 
--- what may stand between the white space at a text's ends
-abbrev pub may_stand : ℕ → Bool
-may_stand b = is_ascii_hexdigit b || is_line_end b
+-- what a text may have between the white space at its ends
+abbrev pub is_digit_or_line_end : ℕ → Bool
+is_digit_or_line_end b = is_ascii_hexdigit b || is_line_end b
 
 -- how many bytes of white space a text begins with
 abbrev pub leading : List ℕ → ℕ
@@ -26,9 +26,9 @@ without_trailing text = take (length text - suffix_len is_ascii_whitespace text)
 abbrev pub inner : List ℕ → List ℕ
 inner text = without_trailing (drop (leading text) text)
 
--- how many bytes of a text may stand where they do, up to the first that may not
+-- how many bytes a text has between the white space at its ends before the first that is not allowed there
 abbrev pub sound : List ℕ → ℕ
-sound text = prefix_len may_stand (inner text)
+sound text = prefix_len is_digit_or_line_end (inner text)
 
 abbrev pub digits_of : List ℕ → List ℕ
 digits_of text = filter is_ascii_hexdigit (inner text)
@@ -38,7 +38,7 @@ pub record Says (text bytes : List ℕ) : Type 0 where
   pub each : sound text ≡ length (inner text)
   pub decoded : decode_of (digits_of text) ≡ Ok bytes
 
--- A text's first fault, by its column: a byte that may not stand there, else the place behind an odd number of digits.
+-- A text's first fault, by its column: a byte that is not allowed there, else the place behind an odd number of digits.
 abbrev pub IsFault : List ℕ → TextFault → Type 0
 IsFault text (NotADigit column) = (sound text < length (inner text)) × (column ≡ leading text + sound text + 1)
 IsFault text (HalfAByte column) = (sound text ≡ length (inner text)) × (length (digits_of text) % 2 ≡ 1)

@@ -258,7 +258,7 @@ fn list_command<'a>(alloc: Global) -> Result<Command<'a>, Error> {
 /// `why`, as the command line has it.
 fn why_command<'a>(alloc: Global) -> Result<Command<'a>, Error> {
     let command = Command::new(alloc, WHY)
-        .about("Judges an image as the verifier does, and tells why it is refused")
+        .about("Judges an image as the verifier does, and explains why it is refused")
         .after_help(WHY_LINES)
         .arg(file_argument(alloc))?;
     Ok(command)

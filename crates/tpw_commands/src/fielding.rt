@@ -1,5 +1,9 @@
 //! Fields of an image that a text says out of range: by the statement that says them.
 
+ghost use Rattle.std.specs.Prelude.{◌≡◌, ◌⊎◌, IfOk, IfErr};
+ghost use Rattle.tpw_commands.specs.declared.ending.Failure.TheVariants as failure;
+ghost use Rattle.tpw_commands.specs.Programs.{AreImageOf, IsAtStatement, IsRefusalIn};
+
 use crate::assembly::assembled;
 use crate::ending::Failure;
 use crate::fault::InputFault;
@@ -32,7 +36,9 @@ fn asked_of(code: ImageCode, version: Version) -> Option<(&'static str, &'static
 }
 
 /// The place of a text's last statement that begins with a word.
-fn position_of(alloc: Global, text: &str, word: &str) -> Result<Option<Position>, Failure> {
+fn position_of(alloc: Global, text: &str, word: &str) -> Result<Option<Position>, Failure>
+    ensures { IfErr result (λ e. e ≡ failure.Memory) }
+{
     let mut found = None;
     for (i, line) in text.lines().enumerate() {
         let statement = statement_of(alloc, line)?;
@@ -56,13 +62,16 @@ fn at_statement(
     alloc: Global,
     text: &str,
     version: Version,
-    failure: Failure,
-) -> Result<Failure, Failure> {
-    let Failure::Input(InputFault::Assembly(AssemblyFault::Field(code))) = failure else {
-        return Ok(failure);
+    whole: Failure,
+) -> Result<Failure, Failure>
+    ensures reported { IfOk result (λ e. (e ≡ whole) ⊎ IsAtStatement whole e) }
+    ensures memory { IfErr result (λ e. e ≡ failure.Memory) }
+{
+    let Failure::Input(InputFault::Assembly(AssemblyFault::Field(code))) = whole else {
+        return Ok(whole);
     };
     let Some((word, range)) = asked_of(code, version) else {
-        return Ok(failure);
+        return Ok(whole);
     };
     let position = match position_of(alloc, text, word)? {
         None if code == ImageCode::F4 => position_of(alloc, text, "local")?,
@@ -70,12 +79,15 @@ fn at_statement(
     };
     match position {
         Some(position) => Ok(Failure::Input(InputFault::Field(position, range))),
-        None => Ok(failure),
+        None => Ok(whole),
     }
 }
 
 /// The bytes of the image of a program that a text says. A field that is out of range is reported at the statement that says it.
-pub fn assembled_text(alloc: Global, text: &str, source: &Source<'_>) -> Result<Vec<u8>, Failure> {
+pub fn assembled_text(alloc: Global, text: &str, source: &Source<'_>) -> Result<Vec<u8>, Failure>
+    ensures image { IfOk result (λ bytes. AreImageOf source.now.program bytes.items) }
+    ensures refused { IfErr result (IsRefusalIn source.now) }
+{
     match assembled(alloc, source) {
         Ok(bytes) => Ok(bytes),
         Err(failure) => Err(at_statement(alloc, text, source.program.version, failure)?),

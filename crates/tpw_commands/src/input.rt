@@ -6,7 +6,8 @@ ghost use Rattle.std.specs.Char.{is_ascii_hexdigit};
 ghost use Rattle.tpw_commands.specs.Endings.{of_text};
 ghost use Rattle.tpw_commands.specs.declared.input.TextFault.{TextFault};
 ghost use Rattle.tpw_commands.specs.declared.input.TextFault.TheVariants.{Memory, NotADigit};
-ghost use Rattle.tpw_commands.specs.Texts.{IsFault, Says, is_line_end, may_stand};
+ghost use Rattle.tpw_commands.specs.Programs.{IsNotUtf8};
+ghost use Rattle.tpw_commands.specs.Texts.{IsFault, Says, is_line_end, is_digit_or_line_end};
 
 use crate::ending::Failure;
 use crate::fault::{InputFault, position_behind};
@@ -57,10 +58,10 @@ fn is_line_end(byte: u8) -> bool
 /// The digits of a text that begins behind `leading` bytes and has line ends beside its digits; or its first other byte.
 fn digits_of(alloc: Global, inner: &[u8], leading: usize) -> Result<Vec<u8>, TextFault>
     requires { leading + length inner.now < 2 ^ 63 }
-    ensures digits { IfOk result (λ digits. (prefix_len may_stand inner.now ≡ length inner.now)
+    ensures digits { IfOk result (λ digits. (prefix_len is_digit_or_line_end inner.now ≡ length inner.now)
         × (digits.items ≡ filter is_ascii_hexdigit inner.now)) }
-    ensures fault { IfErr result (λ e. (e ≡ Memory) ⊎ ((prefix_len may_stand inner.now < length inner.now)
-        × (e ≡ NotADigit (leading + prefix_len may_stand inner.now + 1)))) }
+    ensures fault { IfErr result (λ e. (e ≡ Memory) ⊎ ((prefix_len is_digit_or_line_end inner.now < length inner.now)
+        × (e ≡ NotADigit (leading + prefix_len is_digit_or_line_end inner.now + 1)))) }
 {
     let mut digits = Vec::new(alloc);
     for (i, &byte) in inner.iter().enumerate() {
@@ -111,7 +112,10 @@ pub fn hex_bytes(alloc: Global, text: &[u8]) -> Result<Vec<u8>, Failure>
 }
 
 /// The text that bytes are.
-pub fn utf8(bytes: &[u8]) -> Result<&str, Failure> {
+pub fn utf8(bytes: &[u8]) -> Result<&str, Failure>
+    ensures text { IfOk result (λ text. text.now ≡ bytes.now) }
+    ensures fault { IfErr result (IsNotUtf8 bytes.now) }
+{
     match str::from_utf8(bytes) {
         Ok(text) => Ok(text),
         Err(error) => Err(Failure::Input(InputFault::NotUtf8(position_behind(
