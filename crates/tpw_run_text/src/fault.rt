@@ -1,16 +1,16 @@
-//! Why a text says no packets.
+//! Why a text gives no packets.
 
 use std::alloc::{AllocError, AllocFailed};
 use thiserror::Error;
 use tpw_text::Position;
 
-/// Why a text says no packets, and where.
+/// Why a text gives no packets, and where.
 #[derive(Clone, Copy, Debug, PartialEq, Eq, Error)]
 pub enum PacketFault {
-    /// Here is no number.
+    /// There is no number here.
     #[error("{0}: a number is wanted: decimal, #2A or 0x2A, of 32 bits")]
     NoNumber(Position),
-    /// A line that begins here says no message of so many words.
+    /// The line that begins here is no message of so many words.
     #[error("{0}: a line of {1} words is wanted: numbers, or all in hexadecimal as they are sent")]
     Length(Position, usize),
     #[error("memory")]

@@ -18,6 +18,6 @@ pub enum Form<'e> {
     Lines(Style),
     /// The bytes of its result alone; nothing of a packet that is lost.
     Raw,
-    /// As lines, but only those whose result is another than is expected of the packet of their number.
+    /// As lines, but only of packets whose result is not the one that is expected of their number.
     Differences(Style, &'e [Packet]),
 }

@@ -1,4 +1,4 @@
-//! Packets as text, and results as text: what an author gives a run by hand, and what is shown of it.
+//! Packets and results as text: what an author writes for a run, and what is shown of the run.
 #![tactic(auto)]
 
 mod fault;

@@ -1,9 +1,8 @@
 //! What became of a packet, as a line.
 
-ghost use Rattle.std.specs.Prelude.{◌≡◌, ◌++◌, ◌+◌, ◌^◌, ◌≤◌, ◌<◌, OnOk, length};
+ghost use Rattle.std.specs.Prelude.{◌≡◌, ◌++◌, ◌+◌, ◌^◌, ◌<◌, OnOk, length};
 ghost use Rattle.std.specs.Option.{option_map};
 ghost use Rattle.hex.specs.Hex.{encode_lower};
-ghost use Rattle.tp_collect.specs.DoneValue.{most_message};
 ghost use Rattle.tpw_run_text.specs.Lines.{cause_text, words_text, message_text, head_text, trace_text, done_text, line_of, whole_line};
 ghost use Rattle.tpw_run_text.specs.Lines.{is_expected, expected_text, difference_text, raw_text, entry_text, entries_text, is_other};
 
@@ -32,15 +31,10 @@ fn cause_text(cause: LostCause) -> &'static str
 
 /// Writes bytes in hexadecimal.
 fn write_hexadecimal(out: &mut Vec<u8>, bytes: &[u8]) -> Result<(), AllocError>
-    requires { length bytes.now ≤ most_message }
     ensures { OnOk result (out.new.items ≡ out.old.items ++ encode_lower bytes.now) }
 {
-    let start = out.len();
-    out.resize(start + 2 * bytes.len(), 0)?;
-    match hex::encode_to_slice(bytes, &mut out[start..]) {
-        Ok(()) => Ok(()),
-        Err(_) => unreachable!(),
-    }
+    let digits = hex::encode(*out.allocator(), bytes)?;
+    out.extend_from_slice(digits.as_bytes())
 }
 
 /// Writes the words of a message as signed numbers, each behind a space.
@@ -58,7 +52,6 @@ fn write_words(out: &mut Vec<u8>, bytes: &[u8]) -> Result<(), AllocError>
 
 /// Writes a message.
 fn write_message(out: &mut Vec<u8>, style: Style, bytes: &[u8]) -> Result<(), AllocError>
-    requires { length bytes.now ≤ most_message }
     ensures { OnOk result (out.new.items ≡ out.old.items ++ message_text style bytes.now) }
 {
     if style.hexadecimal {
@@ -85,7 +78,6 @@ fn write_head(
 
 /// Writes a trace, where it is asked for.
 fn write_trace(out: &mut Vec<u8>, style: Style, trace: &[u8]) -> Result<(), AllocError>
-    requires { length trace.now ≤ most_message }
     ensures { OnOk result (out.new.items ≡ out.old.items ++ trace_text style trace.now) }
 {
     if !style.trace {
@@ -172,7 +164,7 @@ fn write_expected(
     Ok(())
 }
 
-/// Writes the line of a packet that has another result than is expected of it, and the result that was.
+/// Writes the line of a packet whose result is not the expected one, and the expected result. Of other packets it writes nothing.
 fn write_difference(
     out: &mut Vec<u8>,
     style: Style,
@@ -201,7 +193,7 @@ fn write_raw(out: &mut Vec<u8>, entry: &Entry) -> Result<(), AllocError>
     }
 }
 
-/// Writes what became of the packet of a number, in a form, behind what is in `out`. Where a growth is refused, some of it is
+/// Writes what became of the packet of a number, in a form, behind what is in `out`. Where a growth is refused, part of it may be
 /// written.
 pub fn write_entry(
     out: &mut Vec<u8>,

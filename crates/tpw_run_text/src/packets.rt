@@ -12,7 +12,7 @@ use tp_collect::limits::MESSAGE_BYTES;
 use tp_image::layout::WORD_BYTES;
 use tpw_text::{Position, signed_of};
 
-/// What is between white space, and where it begins.
+/// A text between white space, and where it begins.
 #[derive(Clone, Copy)]
 pub struct Field<'t> {
     pub text: &'t [u8],
