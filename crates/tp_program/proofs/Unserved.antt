@@ -16,6 +16,6 @@ nothing_served trace input known = record {
         rest = [];
         split = refl;
         short = omega arith;
-        answers = record { told = []; is = ([], (refl, refl)); wrote = Appends-nil known };
+        answers = record { output = []; is = ([], (refl, refl)); wrote = Appends-nil known };
       };
 }

@@ -38,7 +38,7 @@ const LINE: &str = "line";
 /// What `tpw asm --help` says below the options.
 const ASM_LINES: &str = "\
 Reads a text, and writes its image as hexadecimal on one line.
-Status 1: the text says no worker; where and why is told, as FILE:LINE:COLUMN.
+Status 1: the text says no worker; standard error names the place, FILE:LINE:COLUMN, and the fault.
 docs/WORKERS.md shows a text.";
 
 /// What `tpw dis --help` says below the options.

@@ -114,6 +114,13 @@ fn sizes(rt: HostRuntime) {
     unwrap(&rt, program.lines.push(last));
     match assemble(rt.alloc(), &program) {
         Ok(_) => assert!(rt; false),
-        Err(found) => assert_same(&rt, &found, &AssemblyFault::TooLong),
+        Err(found) => {
+            assert_same(&rt, &found, &AssemblyFault::TooLong);
+            assert_same(
+                &rt,
+                &unwrap(&rt, format!(in rt.alloc(); "{found}")).as_str(),
+                &"the code is too long: at most 2048 bytes in version 1, 8192 in version 2",
+            );
+        }
     }
 }
