@@ -71,7 +71,7 @@ const RUN_LINES: &str = "\
 Reads a worker as assembly text, or an image as hexadecimal. Packets and results are a line each: their words as numbers,
 or one field of hexadecimal, two digits for each byte, as they are sent. For each packet it writes its number, the error
 flag, the steps of the budget, and its words; or that it was lost, and why. The last line counts them.
-Status 0: each packet has a result, the one expected. Status 1: not so, or the worker is refused, as `why` tells it.";
+Status 0: each packet has a result, the one expected. Status 1: not so, or the worker is refused, as `why` explains it.";
 
 /// The name of the argument of each command that is read in place of standard input.
 const FILE: &str = "file";
