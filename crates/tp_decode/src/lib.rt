@@ -14,6 +14,6 @@ mod placed;
 
 pub use decoding::{MAX_CODE, decode};
 pub use fault::{DecodeCode, DecodeFault};
-pub use instr::{Instr, OPR};
+pub use instr::{FUNCTIONS, Instr, OPERATIONS, OPR};
 pub use listing::Listing;
 pub use placed::Placed;

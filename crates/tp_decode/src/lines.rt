@@ -8,16 +8,14 @@ use crate::instr::{Instr, OPR};
 use crate::piece::Piece;
 use std::alloc::{AllocError, Global};
 use std::fmt;
-use tp_prefix::encode;
 
 impl fmt::Display for Instr {
     ghost output = { λ i. Some (instruction_text i) };
 
     fn fmt<W: fmt::Write>(&self, f: &mut fmt::Formatter<W>) -> fmt::Result {
-        let row = self.row();
-        let name = row.name;
-        let operand = row.operand;
-        if row.function == OPR {
+        let name = self.name();
+        let operand = self.operand();
+        if self.function() == OPR {
             write!(f, "{name}")
         } else {
             write!(f, "{name} {operand}")
@@ -30,8 +28,7 @@ pub(crate) fn line(alloc: Global, at: u32, piece: &Piece) -> Result<String, Allo
     ensures { IfOk result (λ text. string_bytes text ≡ line at (cut_of piece.now)) }
 {
     let mut text = plain_line(alloc, at, piece)?;
-    let row = piece.instr.row();
-    let least = encode(row.function, row.operand);
+    let least = piece.instr.spelling();
     if least.as_slice() != piece.spelling.as_slice() {
         text.push_str(" least ")?;
         text.push_str(hex::encode(alloc, least.as_slice())?.as_str())?;

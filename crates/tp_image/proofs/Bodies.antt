@@ -10,9 +10,9 @@ use Rattle.tp_image.specs.declared.image.Version.TheVariants.{One, Two}
 use Rattle.tp_image.specs.Image.{ImageValue, InRange, IsRow, most_initial}
 use Rattle.tp_image.specs.Limits.{most_code, most_workspace}
 use Rattle.tp_image.specs.Text.{word, row_text, header_text, header_of, text, IsTextOf}
-use Rattle.tp_image.specs.Faults.{version_of, header_at, image_bytes, header_fault, first_fault, IsWholeHeader}
+use Rattle.tp_image.specs.Faults.{version_of, header_at, image_bytes, field_fault, header_fault, first_fault, IsWholeHeader}
 use Rattle.tp_image.specs.Layout.{header_bytes}
-use Rattle.tp_image.proofs.Headers.{AreBytes, passes_tests, no_header_fault, first_fault-whole}
+use Rattle.tp_image.proofs.Headers.{AreBytes, HasRanges, ranges_hold, passes_fields, no_header_fault, first_fault-whole}
 use Rattle.tp_image.proofs.Spelled.{IsHeader, header_spelled, header_at-text, version_of-text, length-header_text}
 
 -- ---- pieces of one size
@@ -52,31 +52,46 @@ length-text image =
     let words = flat_map word image.initial in
     omega (arith, length-append (front ++ rows ++ words) image.code, length-append (front ++ rows) words, length-append front rows, length-header_text (header_of image), length-rows image.loops, length-words image.initial)
 
+-- an image in range has a header in range, and the other way round
+pub ranges_of : (image : ImageValue) → InRange image → HasRanges (header_of image)
+ranges_of image r = record {
+  code = r.code;
+  workspace = r.workspace;
+  start_least = r.start_least;
+  start_most = r.start_most;
+  packet = r.packet;
+  result = r.result;
+  loops = r.loops;
+  initial = r.initial;
+}
+
+pub in_range : (image : ImageValue) → field_fault (header_of image) ≡ None → All IsRow image.loops → All (λ word. word < 2 ^ 32) image.initial → All (λ byte. byte < 256) image.code → InRange image
+in_range image e rows words bytes =
+    let p = ranges_hold (header_of image) e in
+    record {
+      code = p.code;
+      workspace = p.workspace;
+      start_least = p.start_least;
+      start_most = p.start_most;
+      packet = p.packet;
+      result = p.result;
+      loops = p.loops;
+      initial = p.initial;
+      rows = rows;
+      words = words;
+      bytes = bytes;
+    }
+
 -- a header in range, and what its sizes say, are an image's
 pub assembled : (bytes : List ℕ) (image : ImageValue) → AreBytes bytes → IsWholeHeader (header_of image) bytes → rest_of image ≡ drop (header_bytes image.version) bytes
     → All IsRow image.loops → All (λ word. word < 2 ^ 32) image.initial → All (λ byte. byte < 256) image.code → IsTextOf bytes image
 assembled bytes image fits whole rest rows words code =
     let h = header_of image in
-    let p = passes_tests h (length bytes) whole.passes in
     let parts : bytes ≡ header_text h ++ rest_of image =
     header_spelled image.version bytes fits whole.version whole.long
     ∙ ap (λ (k : Header). header_text k ++ drop (header_bytes image.version) bytes) (sym whole.fields)
-    ∙ ap (λ (r : List ℕ). header_text h ++ r) (sym rest) in (
-      record {
-        code = p.code;
-        workspace = p.workspace;
-        start_least = p.start_least;
-        start_most = p.start_most;
-        packet = p.packet;
-        result = p.result;
-        loops = p.loops;
-        initial = p.initial;
-        rows = rows;
-        words = words;
-        bytes = code;
-      },
-      parts ∙ sym (text_parts image),
-    )
+    ∙ ap (λ (r : List ℕ). header_text h ++ r) (sym rest) in
+    (in_range image (passes_fields h (length bytes) whole.passes) rows words code, parts ∙ sym (text_parts image))
 
 -- the fields of an image fit 16 bits
 narrow : (v : Version) (code workspace : ℕ) → code ≤ most_code v → workspace ≤ most_workspace v → (code < 2 ^ 16) × (workspace < 2 ^ 16)
@@ -116,17 +131,7 @@ IsWholeHeader-text bytes image t =
       version = ap version_of parts ∙ version_of-text h (rest_of image);
       long = long;
       fields = sym (ap (header_at image.version) parts ∙ header_at-text h (rest_of image) (IsHeader-in_range image r) r.initial);
-      passes = no_header_fault h (length bytes) record {
-        code = r.code;
-        workspace = r.workspace;
-        start_least = r.start_least;
-        start_most = r.start_most;
-        packet = r.packet;
-        result = r.result;
-        loops = r.loops;
-        initial = r.initial;
-        size = ap length t.1 ∙ length-text image;
-      };
+      passes = no_header_fault h (length bytes) (ranges_of image r) (ap length t.1 ∙ length-text image);
     }
 
 -- bytes that an image has meet each test

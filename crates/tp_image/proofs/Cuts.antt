@@ -8,7 +8,7 @@ use Rattle.tp_image.specs.Image.{ImageValue, IsRow}
 use Rattle.tp_image.specs.Text.{row_text, word, header_of, IsTextOf}
 use Rattle.tp_image.specs.Faults.{IsWholeHeader}
 use Rattle.tp_image.specs.Layout.{header_bytes}
-use Rattle.tp_image.proofs.Headers.{AreBytes, passes_tests}
+use Rattle.tp_image.proofs.Headers.{AreBytes, passes_size}
 use Rattle.tp_image.proofs.Bodies.{assembled, flat_map-first_chunks, two_cuts}
 
 -- the bytes behind the header, cut into rows, words and code
@@ -44,7 +44,7 @@ All-AreBytes bytes fits = λ k d lt. rw (get_or_default bytes k d 0 lt) (fits k)
 
 pub IsTextOf-cuts : (h : Header) (bytes table words code : List ℕ) (image : ImageValue) → AreBytes bytes → IsWholeHeader h bytes → AreCuts h bytes table words code → IsReadFrom h table words code image → IsTextOf bytes image
 IsTextOf-cuts h bytes table words code image fits whole cuts read =
-    let size = (passes_tests h (length bytes) whole.passes).size in
+    let size = passes_size h (length bytes) whole.passes in
     let body = drop (header_bytes h.version) bytes in
     let rest = drop (12 * h.loops) body in
     let body_length : length body ≡ 12 * h.loops + 4 * h.initial + h.code = omega (arith, length-drop (header_bytes h.version) bytes) in

@@ -17,7 +17,7 @@ use Rattle.tp_image.specs.Text.{word, row_text, header_of, IsTextOf}
 use Rattle.tp_image.specs.Faults.{version_of, half_word_at, header_at, header_fault, fault_of, first_fault, IsWholeHeader}
 use Rattle.tp_image.specs.Layout.{header_bytes}
 use Rattle.tp_image.proofs.Cells.{drop-cells}
-use Rattle.tp_image.proofs.Headers.{AreBytes, passes_tests}
+use Rattle.tp_image.proofs.Headers.{AreBytes, passes_size}
 use Rattle.tp_image.proofs.Spelled.{half-half_word_at}
 use Rattle.tp_image.proofs.Rows.{row_spelled}
 use Rattle.tp_image.proofs.Bodies.{two_cuts, assembled}
@@ -132,7 +132,7 @@ Found bytes = (image : ImageValue) × IsTextOf bytes image
 
 image_of_header : (h : Header) (bytes : List ℕ) → AreBytes bytes → IsWholeHeader h bytes → Found bytes
 image_of_header h bytes fits whole =
-    let size = (passes_tests h (length bytes) whole.passes).size in
+    let size = passes_size h (length bytes) whole.passes in
     let body = drop (header_bytes h.version) bytes in
     let body_fits : AreBytes body = AreBytes-drop (header_bytes h.version) bytes fits in
     let rest = drop (12 * h.loops) body in

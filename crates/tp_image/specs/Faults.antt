@@ -1,5 +1,5 @@
 -- The first test that bytes fail.
-use Rattle.std.specs.Prelude.{◌≡◌, ◌≤◌, ℕ, ◌+◌, ◌*◌, Bool, List, [], ◌∷◌, length, slice_index, Option, Some, None, nat_eq, nat_lt, nat_le, ◌||◌, if◌then◌else◌}
+use Rattle.std.specs.Prelude.{◌≡◌, ◌≤◌, ℕ, ◌+◌, ◌*◌, Bool, List, [], ◌∷◌, ◌++◌, length, slice_index, Option, Some, None, nat_eq, nat_lt, nat_le, ◌||◌, if◌then◌else◌}
 use Rattle.std.specs.List.{starts_with}
 use Rattle.tp_image.specs.declared.fault.ImageCode.{ImageCode}
 use Rattle.tp_image.specs.declared.fault.ImageCode.TheVariants.{F1, F2, F3, F4, F5, F6, F7, F8, F9, F10}
@@ -58,9 +58,9 @@ test fails code place = record { fails = fails; code = code; place = place }
 abbrev pub is_outside : ℕ → ℕ → ℕ → Bool
 is_outside least most n = nat_lt n least || nat_lt most n
 
--- The tests on a header of an image of so many bytes, in their order.
-abbrev pub header_tests : Header → ℕ → List Test
-header_tests h bytes =
+-- the tests on the fields of a header, in their order
+abbrev pub field_tests : Header → List Test
+field_tests h =
     test (is_outside 1 (most_code h.version) h.code) F3 code_at
     ∷ test (is_outside least_workspace (most_workspace h.version) h.workspace) F4 workspace_at
     ∷ test (nat_lt h.start least_start || nat_le h.workspace h.start) F5 start_at
@@ -68,7 +68,13 @@ header_tests h bytes =
     ∷ test (is_outside 1 most_message h.result) F7 result_at
     ∷ test (nat_lt most_loops h.loops) F8 loops_at
     ∷ test (nat_lt (most_initial h.version h.workspace) h.initial) F10 initial_at
-    ∷ test (nat_lt bytes (image_bytes h)) F2 bytes
+    ∷ []
+
+-- the tests on a header of an image of so many bytes: its fields, then the size
+abbrev pub header_tests : Header → ℕ → List Test
+header_tests h bytes =
+    field_tests h
+    ++ test (nat_lt bytes (image_bytes h)) F2 bytes
     ∷ test (nat_lt (image_bytes h) bytes) F9 (image_bytes h)
     ∷ []
 
@@ -76,6 +82,10 @@ header_tests h bytes =
 abbrev pub first_refusal : List Test → Option ImageFault
 first_refusal [] = None
 first_refusal (t ∷ ts) = if t.fails then Some (Refused t.code t.place) else first_refusal ts
+
+-- the refusal of a header for one of its fields
+abbrev pub field_fault : Header → Option ImageFault
+field_fault h = first_refusal (field_tests h)
 
 -- the refusal of a header of an image of so many bytes
 abbrev pub header_fault : Header → ℕ → Option ImageFault

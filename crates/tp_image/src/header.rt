@@ -1,35 +1,34 @@
 //! The header, which says how long the other parts are.
 
-ghost use Rattle.std.specs.Prelude.{◌≡◌, ◌+◌, ◌≤◌, ◌<◌, ◌++◌, length, OnOk, MatchResult, None, Some, Err};
+ghost use Rattle.std.specs.Prelude.{◌≡◌, ◌+◌, ◌≤◌, ◌<◌, length, MatchResult, None, Some, Err};
 ghost use Rattle.tp_image.specs.Image.{most_initial};
-ghost use Rattle.tp_image.specs.Text.{header_of, header_text};
-ghost use Rattle.tp_image.specs.Faults.{half_word_at, header_at, version_of, image_bytes, is_outside, header_fault, first_fault, IsWholeHeader};
+ghost use Rattle.tp_image.specs.Text.{header_of};
+ghost use Rattle.tp_image.specs.Faults.{half_word_at, header_at, version_of, image_bytes, is_outside, field_fault, header_fault, first_fault, IsWholeHeader};
 ghost use Rattle.tp_image.specs.Layout.{header_bytes};
 
 use crate::fault::{ImageCode, ImageFault};
 use crate::image::{Image, Version};
 use crate::layout::*;
 use crate::limits::*;
-use std::alloc::AllocError;
 
 /// What a header says.
 #[derive(Clone, Copy, Debug, PartialEq, Eq)]
 pub struct Header {
     pub version: Version,
     /// Code bytes.
-    pub code: u16,
+    pub code: usize,
     /// Workspace words.
-    pub workspace: u16,
+    pub workspace: u32,
     /// A workspace word.
-    pub start: u16,
+    pub start: u32,
     /// Packet words.
-    pub packet: u16,
+    pub packet: u32,
     /// Result words.
-    pub result: u16,
+    pub result: u32,
     /// Loop rows.
-    pub loops: u16,
+    pub loops: usize,
     /// Initial words. Version 1 has none.
-    pub initial: u16,
+    pub initial: usize,
 }
 
 /// The field at a place.
@@ -54,10 +53,10 @@ fn version_of(bytes: &[u8]) -> Option<Version>
 }
 
 /// Whether a field is out of its range, both ends of which belong to it.
-fn is_outside(least: u32, most: u32, n: u16) -> bool
+fn is_outside(least: u32, most: u32, n: u32) -> bool
     ensures { result ≡ is_outside least most n }
 {
-    !(least..=most).contains(&u32::from(n))
+    !(least..=most).contains(&n)
 }
 
 /// The refusal of a test.
@@ -68,40 +67,21 @@ fn refused<T>(code: ImageCode, place: usize) -> Result<T, ImageFault>
 }
 
 impl Header {
-    /// What an image's header says.
+    /// The header of an image.
     pub fn of(image: &Image) -> Self
-        ensures { result ≡ header_of image.now }
+        ensures header { result ≡ header_of image.now }
+        ensures passes { field_fault result ≡ None }
     {
         Header {
             version: image.version,
-            code: image.code.len() as u16,
-            workspace: image.workspace as u16,
-            start: image.start as u16,
-            packet: image.packet as u16,
-            result: image.result as u16,
-            loops: image.loops.len() as u16,
-            initial: image.initial.len() as u16,
+            code: image.code.len(),
+            workspace: image.workspace,
+            start: image.start,
+            packet: image.packet,
+            result: image.result,
+            loops: image.loops.len(),
+            initial: image.initial.len(),
         }
-    }
-
-    /// Writes the header at the end.
-    pub fn put(&self, out: &mut Vec<u8>) -> Result<(), AllocError>
-        ensures { OnOk result (out.new.items ≡ out.old.items ++ header_text self.now) }
-    {
-        out.extend_from_slice(match self.version {
-            Version::One => b"TPW1",
-            Version::Two => b"TPW2",
-        })?;
-        out.extend_from_slice(&self.code.to_le_bytes())?;
-        out.extend_from_slice(&self.workspace.to_le_bytes())?;
-        out.extend_from_slice(&self.start.to_le_bytes())?;
-        out.extend_from_slice(&self.packet.to_le_bytes())?;
-        out.extend_from_slice(&self.result.to_le_bytes())?;
-        out.extend_from_slice(&self.loops.to_le_bytes())?;
-        if self.version == Version::Two {
-            out.extend_from_slice(&self.initial.to_le_bytes())?;
-        }
-        Ok(())
     }
 
     /// What the bytes say of the header of an image of this version.
@@ -111,42 +91,39 @@ impl Header {
     {
         Header {
             version,
-            code: half_word_at(bytes, CODE_AT),
-            workspace: half_word_at(bytes, WORKSPACE_AT),
-            start: half_word_at(bytes, START_AT),
-            packet: half_word_at(bytes, PACKET_AT),
-            result: half_word_at(bytes, RESULT_AT),
-            loops: half_word_at(bytes, LOOPS_AT),
+            code: usize::from(half_word_at(bytes, CODE_AT)),
+            workspace: u32::from(half_word_at(bytes, WORKSPACE_AT)),
+            start: u32::from(half_word_at(bytes, START_AT)),
+            packet: u32::from(half_word_at(bytes, PACKET_AT)),
+            result: u32::from(half_word_at(bytes, RESULT_AT)),
+            loops: usize::from(half_word_at(bytes, LOOPS_AT)),
             initial: match version {
                 Version::One => 0,
-                Version::Two => half_word_at(bytes, INITIAL_AT),
+                Version::Two => usize::from(half_word_at(bytes, INITIAL_AT)),
             },
         }
     }
 
     /// How many bytes the whole image has.
     pub fn image_bytes(&self) -> usize
+        requires { field_fault self.now ≡ None }
         ensures { result ≡ image_bytes self.now }
     {
-        self.version.header_bytes()
-            + ROW_BYTES * usize::from(self.loops)
-            + WORD_BYTES * usize::from(self.initial)
-            + usize::from(self.code)
+        self.version.header_bytes() + ROW_BYTES * self.loops + WORD_BYTES * self.initial + self.code
     }
 
-    /// Makes the tests on the header of an image of so many bytes.
-    fn check(&self, bytes: usize) -> Result<(), ImageFault>
-        ensures { MatchResult result (λ _. header_fault self.now bytes ≡ None)
-            (λ fault. header_fault self.now bytes ≡ Some fault) }
+    /// Tests each field against the range of its version.
+    pub fn check_fields(&self) -> Result<(), ImageFault>
+        ensures { MatchResult result (λ _. field_fault self.now ≡ None) (λ fault. field_fault self.now ≡ Some fault) }
     {
         let (most_code, most_workspace) = self.version.most();
-        if is_outside(1, most_code, self.code) {
+        if !(1..=most_code as usize).contains(&self.code) {
             return refused(ImageCode::F3, CODE_AT);
         }
         if is_outside(LEAST_WORKSPACE, most_workspace, self.workspace) {
             return refused(ImageCode::F4, WORKSPACE_AT);
         }
-        if u32::from(self.start) < LEAST_START || self.workspace <= self.start {
+        if self.start < LEAST_START || self.workspace <= self.start {
             return refused(ImageCode::F5, START_AT);
         }
         if is_outside(1, MESSAGE_WORDS, self.packet) {
@@ -155,23 +132,33 @@ impl Header {
         if is_outside(1, MESSAGE_WORDS, self.result) {
             return refused(ImageCode::F7, RESULT_AT);
         }
-        if u32::from(self.loops) > LOOP_ROWS {
+        if self.loops > LOOP_ROWS as usize {
             return refused(ImageCode::F8, LOOPS_AT);
         }
-        if self.initial > self.most_initial() {
+        if self.initial > self.most_initial() as usize {
             return refused(ImageCode::F10, INITIAL_AT);
         }
-        if bytes < self.image_bytes() {
+        Ok(())
+    }
+
+    /// Tests the header of an image of so many bytes: each field, then the size.
+    fn check(&self, bytes: usize) -> Result<(), ImageFault>
+        ensures { MatchResult result (λ _. header_fault self.now bytes ≡ None)
+            (λ fault. header_fault self.now bytes ≡ Some fault) }
+    {
+        self.check_fields()?;
+        let whole = self.image_bytes();
+        if bytes < whole {
             return refused(ImageCode::F2, bytes);
         }
-        if bytes > self.image_bytes() {
-            return refused(ImageCode::F9, self.image_bytes());
+        if bytes > whole {
+            return refused(ImageCode::F9, whole);
         }
         Ok(())
     }
 
     /// The most initial words of an image with this workspace.
-    fn most_initial(&self) -> u16
+    fn most_initial(&self) -> u32
         ensures { result ≡ most_initial self.now.version self.now.workspace }
     {
         match self.version {

@@ -31,7 +31,7 @@ impl Version {
     }
 
     /// The most code bytes and the most workspace words.
-    pub(crate) fn most(self) -> (u32, u32)
+    pub fn most(self) -> (u32, u32)
         ensures code { result.0 ≡ most_code self }
         ensures workspace { result.1 ≡ most_workspace self }
     {

@@ -2,6 +2,7 @@
 #![tactic(auto)]
 
 mod fault;
+mod fields;
 mod header;
 mod image;
 pub mod laws;
@@ -12,6 +13,7 @@ mod upgrading;
 mod write;
 
 pub use fault::{ImageCode, ImageFault};
+pub use fields::Fields;
 pub use image::{Image, LoopRow, Version};
 pub use read::read_image;
 pub use upgrading::upgrade;

@@ -73,16 +73,16 @@ fn image_of(alloc: Global, header: &Header, bytes: &[u8]) -> Result<Image, Alloc
     ensures { IfOk result (λ image. IsTextOf bytes.now image) }
 {
     let (_, body) = bytes.split_at(header.version.header_bytes());
-    let (table, body) = body.split_at(ROW_BYTES * usize::from(header.loops));
-    let (words, code) = body.split_at(WORD_BYTES * usize::from(header.initial));
+    let (table, body) = body.split_at(ROW_BYTES * header.loops);
+    let (words, code) = body.split_at(WORD_BYTES * header.initial);
     let (rows, _) = table.as_chunks::<ROW_BYTES>();
     let (words, _) = words.as_chunks::<WORD_BYTES>();
     Ok(Image {
         version: header.version,
-        workspace: u32::from(header.workspace),
-        start: u32::from(header.start),
-        packet: u32::from(header.packet),
-        result: u32::from(header.result),
+        workspace: header.workspace,
+        start: header.start,
+        packet: header.packet,
+        result: header.result,
         loops: rows_of(alloc, rows)?,
         initial: words_of(alloc, words)?,
         code: Vec::from_slice(alloc, code)?,

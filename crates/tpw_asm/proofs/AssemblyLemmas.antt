@@ -7,8 +7,8 @@ use Rattle.tp_image.specs.declared.header.Header.{Header}
 use Rattle.tp_image.specs.Limits.{most_code}
 use Rattle.tp_image.specs.Image.{ImageValue, InRange, IsRow}
 use Rattle.tp_image.specs.Text.{header_of}
-use Rattle.tp_image.specs.Faults.{Test, header_tests, header_fault, first_refusal, image_bytes}
-use Rattle.tp_image.proofs.Headers.{Passes, passes_tests, no_header_fault}
+use Rattle.tp_image.proofs.Headers.{no_field_fault}
+use Rattle.tp_image.proofs.Bodies.{ranges_of}
 use Rattle.tp_image.specs.declared.image.LoopRow.{LoopRow}
 use Rattle.tp_image.specs.declared.image.Version.{Version}
 use Rattle.tp_image.specs.declared.image.Version.TheVariants.{One, Two}
@@ -21,7 +21,7 @@ use Rattle.tpw_asm.specs.declared.program.Program.{Program}
 use Rattle.tpw_asm.specs.declared.fault.AssemblyFault.{AssemblyFault}
 use Rattle.tpw_asm.specs.declared.fault.AssemblyFault.TheVariants.{Line as LineRefused, Row, TooLong, Narrow, Field, Memory}
 use Rattle.tpw_asm.specs.Layout.{addresses_from, spelled_from, spellings, code_of, IsLayout, IsLeastLayout}
-use Rattle.tpw_asm.specs.Assembly.{assembled, said, header_said, code_of_fault, field_refusal, HasLayout, HasLengths, IsAssembly, IsRefused}
+use Rattle.tpw_asm.specs.Assembly.{assembled, code_of_fault, field_refusal, HasLayout, HasLengths, IsAssembly, IsRefused}
 use Rattle.tpw_asm.specs.Outcome.{AreAddresses}
 use Rattle.tpw_asm.proofs.LayoutLemmas.{sum-cons, sum_grows, same_sum, length-addresses, length-needed, are_addresses}
 
@@ -36,54 +36,10 @@ pub one_assembly : (program : Program) (a b : ImageValue) → IsAssembly program
 one_assembly program a b is is' =
     is.said ∙ ap (assembled program) (one_layout program.lines.items is.lengths is'.lengths is.laid_out.layout.least is'.laid_out.layout.least) ∙ sym is'.said
 
--- the format refuses by a test alone
-refusal_none : (ts : List Test) → option_and_then code_of_fault (first_refusal ts) ≡ None → first_refusal ts ≡ None
-refusal_none [] e = refl
-refusal_none (t ∷ ts) e = by_test (refusal_none ts) t.fails refl e
-  where
-    by_test : (option_and_then code_of_fault (first_refusal ts) ≡ None → first_refusal ts ≡ None) → (p : Bool) → t.fails ≡ p
-        → option_and_then code_of_fault (if p then Some (fault.Refused t.code t.place) else first_refusal ts) ≡ None → (if p then Some (fault.Refused t.code t.place) else first_refusal ts) ≡ None
-    by_test go true is e = cc
-    by_test go false is e = go e
-
-pub accepted : (header : Header) → field_refusal header ≡ None → Passes header (image_bytes header)
-unfolding field_refusal
-accepted header e = passes_tests header (image_bytes header) (refusal_none (header_tests header (image_bytes header)) e)
-
 -- no field of an image is refused
 pub not_refused : (image : ImageValue) → InRange image → field_refusal (header_of image) ≡ None
 unfolding field_refusal
-not_refused image r =
-    let h = header_of image in
-    let none : header_fault h (image_bytes h) ≡ None = no_header_fault h (image_bytes h) record {
-      code = r.code;
-      workspace = r.workspace;
-      start_least = r.start_least;
-      start_most = r.start_most;
-      packet = r.packet;
-      result = r.result;
-      loops = r.loops;
-      initial = r.initial;
-      size = refl;
-    } in
-    ap (option_and_then code_of_fault) none
-
-pub in_range : (image : ImageValue) → field_refusal (header_of image) ≡ None → All IsRow image.loops → All (λ word. word < 2 ^ 32) image.initial → All (λ byte. byte < 256) image.code → InRange image
-in_range image e rows words bytes =
-    let p = accepted (header_of image) e in
-    record {
-      code = p.code;
-      workspace = p.workspace;
-      start_least = p.start_least;
-      start_most = p.start_most;
-      packet = p.packet;
-      result = p.result;
-      loops = p.loops;
-      initial = p.initial;
-      rows = rows;
-      words = words;
-      bytes = bytes;
-    }
+not_refused image r = ap (option_and_then code_of_fault) (no_field_fault (header_of image) (ranges_of image r))
 
 -- a program that has an image is not refused
 pub assembly_refused : (program : Program) (image : ImageValue) (e : AssemblyFault) → IsAssembly program image → IsRefused program e → e ≡ Memory
@@ -173,21 +129,3 @@ has_count program addresses lengths has is = omega (arith, ap length is, length-
 
 pub code_is : (program : Program) (addresses lengths code : List ℕ) → addresses ≡ addresses_from 0 lengths → code ≡ concat (spelled_from addresses 0 program.lines.items) → code ≡ code_of lengths program.lines.items
 code_is program addresses lengths code is made = made ∙ ap (λ xs. concat (spelled_from xs 0 program.lines.items)) is
-
-pub code_short : (program : Program) (lengths code : List ℕ) → HasLengths program lengths → code ≡ code_of lengths program.lines.items → length code ≤ 8192
-code_short program lengths code has made =
-    omega (arith, ap length made, length-code lengths program.lines.items has.layout.least.layout, has.layout.short, most_small program.version)
-
-pub header_same : (program : Program) (rows : List LoopRow) (code : List ℕ) (bytes : ℕ) → bytes ≡ length code → length rows ≡ length program.loops.items → header_said program bytes ≡ header_of (said program rows code)
-header_same program rows code bytes e e' =
-    ap (header_said program) e
-    ∙ ap (λ n. record {
-      version = program.version;
-      code = length code;
-      workspace = program.workspace;
-      start = program.start;
-      packet = program.packet;
-      result = program.result;
-      loops = n;
-      initial = length program.initial.items;
-    }) (sym e')

@@ -9,7 +9,7 @@ use Rattle.tp_image.specs.declared.header.Header.{Header}
 use Rattle.tp_image.specs.Limits.{most_code}
 use Rattle.tp_image.specs.Image.{ImageValue, InRange}
 use Rattle.tp_image.specs.Text.{header_of}
-use Rattle.tp_image.specs.Faults.{image_bytes, header_fault}
+use Rattle.tp_image.specs.Faults.{field_fault}
 use Rattle.tpw_asm.specs.declared.program.Spot.{Spot}
 use Rattle.tpw_asm.specs.declared.program.Spot.TheVariants.{Place, Address}
 use Rattle.tpw_asm.specs.declared.program.Loop.{Loop}
@@ -75,26 +75,13 @@ pub record AreItsAddresses (program : Program) (addresses : List ℕ) : Type 0 w
   pub laid_out : HasLengths program lengths
   pub placed : addresses ≡ addresses_from 0 lengths
 
--- the header of a program with so many code bytes
-abbrev pub header_said : Program → ℕ → Header
-header_said program bytes = record {
-  version = program.version;
-  code = bytes;
-  workspace = program.workspace;
-  start = program.start;
-  packet = program.packet;
-  result = program.result;
-  loops = length program.loops.items;
-  initial = length program.initial.items;
-}
-
 abbrev pub code_of_fault : ImageFault → Option ImageCode
 code_of_fault (Refused code place) = Some code
 code_of_fault Memory = None
 
--- the format's first refusal of a header, of an image that is as long as the header says
+-- the format's first refusal of the fields of a header
 unfoldable pub field_refusal : Header → Option ImageCode
-field_refusal header = option_and_then code_of_fault (header_fault header (image_bytes header))
+field_refusal header = option_and_then code_of_fault (field_fault header)
 
 -- the image is the one that the program is assembled to
 pub record IsAssembly (program : Program) (image : ImageValue) : Type 0 where

@@ -6,13 +6,12 @@ ghost use Rattle.tpw_asm.specs.Layout.{addresses_from};
 ghost use Rattle.tpw_asm.specs.Assembly.{AreItsAddresses, HasLengths, IsAssembly, IsRefused};
 
 use crate::fault::AssemblyFault;
-use crate::fields::{field_fault, image_of, most_of};
 use crate::layout::{Layout, code_of, least_layout};
 use crate::placing::{check_lengths, check_lines, check_rows};
 use crate::program::Program;
 use crate::rows::rows_of;
 use std::alloc::Global;
-use tp_image::Image;
+use tp_image::{Fields, Image, ImageFault};
 
 /// The least layout of a program whose lines and loops are sound, and whose lines are as long as they state.
 fn layout_of(alloc: Global, program: &Program) -> Result<Layout, AssemblyFault>
@@ -22,7 +21,7 @@ fn layout_of(alloc: Global, program: &Program) -> Result<Layout, AssemblyFault>
 {
     check_lines(&program.lines)?;
     check_rows(program.lines.len(), &program.loops)?;
-    let (most, _) = most_of(program.version);
+    let (most, _) = program.version.most();
     let layout = least_layout(alloc, &program.lines, most as usize)?;
     check_lengths(&program.lines, &layout.lengths)?;
     Ok(layout)
@@ -43,11 +42,22 @@ fn assembly_of(alloc: Global, program: &Program) -> Result<Image, AssemblyFault>
 {
     let layout = layout_of(alloc, program)?;
     let code = code_of(alloc, &layout.addresses, &program.lines)?;
-    if let Some(refusal) = field_fault(program, code.len() as u32) {
-        return Err(AssemblyFault::Field(refusal));
-    }
     let loops = rows_of(alloc, &layout.addresses, &program.loops)?;
-    Ok(image_of(alloc, program, loops, code)?)
+    let fields = Fields {
+        version: program.version,
+        workspace: program.workspace,
+        start: program.start,
+        packet: program.packet,
+        result: program.result,
+        loops,
+        initial: Vec::from_slice(alloc, &program.initial)?,
+        code,
+    };
+    match Image::new(fields) {
+        Ok(image) => Ok(image),
+        Err(ImageFault::Refused { code, .. }) => Err(AssemblyFault::Field(code)),
+        Err(ImageFault::Memory) => Err(AssemblyFault::Memory),
+    }
 }
 
 /// The image of a program, or the first fault. Its instructions are those of the lines, one by one: each in its canonical spelling

@@ -10,7 +10,6 @@ ghost use Rattle.tpw_asm.specs.declared.program.Line.TheVariants.{Byte};
 
 use crate::layout::PFIX_0;
 use crate::program::{Line, Operation};
-use crate::spelling::shortest;
 use std::alloc::{AllocError, Global};
 use tp_decode::Instr;
 use tp_prefix::read_one;
@@ -54,7 +53,7 @@ fn push_instr(lines: &mut Vec<Line>, instr: Instr, spelling: &[u8]) -> Result<()
     requires short { length spelling.now ≤ 8 }
     ensures { OnOk result (lines.new.items ≡ lines.old.items ++ spelling_lines spelling.now instr) }
 {
-    let least = shortest(instr);
+    let least = instr.spelling();
     if !is_filled(spelling, least.as_slice()) {
         return push_bytes(lines, spelling);
     }

@@ -8,7 +8,6 @@ ghost use Rattle.tpw_asm.specs.Outcome.{AreAddresses, IsLaidOut, IsTooLong};
 
 use crate::fault::AssemblyFault;
 use crate::program::{Line, Operation};
-use crate::spelling::shortest;
 use std::alloc::{AllocError, Global};
 use tp_decode::Instr;
 
@@ -74,7 +73,7 @@ fn length_of(addresses: &[u32], number: usize, line: Line) -> u8
     match line {
         Line::Byte(_) => 1,
         Line::Spelled { operation, bytes } => {
-            let least = shortest(instr_at(addresses, number, operation)).len() as u8;
+            let least = instr_at(addresses, number, operation).spelling().len() as u8;
             least.max(bytes.unwrap_or(0))
         }
     }
@@ -133,7 +132,7 @@ fn put_line(
     match line {
         Line::Byte(byte) => code.push(byte)?,
         Line::Spelled { operation, bytes } => {
-            let spelling = shortest(instr_at(addresses, number, operation));
+            let spelling = instr_at(addresses, number, operation).spelling();
             let room = usize::from(bytes.unwrap_or(0)).saturating_sub(spelling.len());
             code.resize(code.len() + room, PFIX_0)?;
             code.extend_from_slice(spelling.as_slice())?;

@@ -8,13 +8,11 @@ mod assembling;
 mod code_lines;
 mod disassembling;
 mod fault;
-mod fields;
 mod labelling;
 mod layout;
 mod placing;
 mod program;
 mod rows;
-mod spelling;
 
 pub use assembling::{addresses, assemble};
 pub use disassembling::disassemble;

@@ -1,9 +1,4 @@
-use Rattle.std.proofs.Common.{◌≡◌, ◌++◌, codes, string_bytes, sym, ap, refl, ◌∙◌, append_assoc, rules}
-use Rattle.std.proofs.lemmas.Int.{to_z-of_z}
-use mir.Val.{SFits}
-use mir.Syntax.{w32}
-use Rattle.tp_prefix.specs.Canonical.{canonical}
-use Rattle.tp_decode.specs.Table.{entry}
+use Rattle.std.proofs.Common.{◌≡◌, ◌++◌, codes, string_bytes, sym, ap, refl, ◌∙◌, append_assoc}
 use Rattle.std.specs.Str.{bytes_eq}
 use Rattle.hex.specs.Hex.{encode_lower}
 use Rattle.tp_decode.specs.Lines.{plain_line, shortest}
@@ -15,11 +10,8 @@ use Rattle.tp_decode.proofs.lines.line.Goals.{then-ne+in_ok-push_str+in_ok-encod
 pub returns : goal.returns
 returns c =
     let cut = cut_of c.args.piece.now in
-    let row = c.row-row.result in
-    let fits : SFits w32 row.operand = search rules in
     let plain : string_bytes c.in_ok-text.text ≡ plain_line c.args.at cut = c.in_ok-text.ensures in
-    let least : c.encode-least.result.items ≡ shortest cut.instr =
-    c.encode-least.ensures.canonical ∙ ap (canonical row.function) (to_z-of_z w32 row.operand fits) ∙ ap (λ f. canonical f row.operand) c.row-row.ensures.function ∙ ap (canonical (entry cut.instr).function) c.row-row.ensures.operand in
+    let least : c.spelling-least.result.items ≡ shortest cut.instr = c.spelling-least.ensures in
     let test : bytes_eq c.as_slice.result.now c.as_slice-2.result.now ≡ bytes_eq (shortest cut.instr) cut.bytes =
     rw (c.as_slice.ensures.value, c.as_slice-2.ensures.value, least) refl in
     elim c.if-ne.branch [

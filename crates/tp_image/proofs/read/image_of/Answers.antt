@@ -3,28 +3,28 @@ use Rattle.std.specs.List.{flat_map}
 use Rattle.tp_image.specs.Image.{ImageValue}
 use Rattle.tp_image.specs.Text.{IsTextOf}
 use Rattle.tp_image.specs.Layout.{header_bytes}
-use Rattle.tp_image.proofs.Headers.{passes_tests}
+use Rattle.tp_image.proofs.Headers.{passes_size}
 use Rattle.tp_image.proofs.Cuts.{IsTextOf-cuts}
 use Rattle.tp_image.proofs.read.image_of.Goals as goal
 
 pub split_at-requires-2 : goal.split_at-requires-2
 split_at-requires-2 c =
-    let size = (passes_tests c.args.header.now (length c.args.bytes.now) c.requires.passes).size in
+    let size = passes_size c.args.header.now (length c.args.bytes.now) c.requires.passes in
     omega arith
 
 pub split_at-requires-3 : goal.split_at-requires-3
 split_at-requires-3 c =
-    let size = (passes_tests c.args.header.now (length c.args.bytes.now) c.requires.passes).size in
+    let size = passes_size c.args.header.now (length c.args.bytes.now) c.requires.passes in
     omega arith
 
 -- the fields that were read, as a value
 abbrev image : goal.In_ok-from_slice → ImageValue
 image c = record {
   version = c.args.header.now.version;
-  workspace = c.from-3.result;
-  start = c.from-4.result;
-  packet = c.from-5.result;
-  result = c.from-6.result;
+  workspace = c.args.header.now.workspace;
+  start = c.args.header.now.start;
+  packet = c.args.header.now.packet;
+  result = c.args.header.now.result;
   loops = c.in_ok-rows_of.field-0.items;
   initial = c.in_ok-words_of.field-0.items;
   code = c.in_ok-from_slice.field-0.items;
@@ -37,8 +37,8 @@ is_text c =
     let words = c.split_at-3.result.0.now in
     let code = c.split_at-3.result.1.now in
     let body : c.split_at.result.1.now ≡ drop (header_bytes h.version) c.args.bytes.now = c.split_at.ensures.back ∙ ap (λ (n : ℕ). drop n c.args.bytes.now) c.header_bytes.ensures in
-    let loops : 12 * c.from.result ≡ 12 * h.loops = omega arith in
-    let initial : 4 * c.from-2.result ≡ 4 * h.initial = omega arith in
+    let loops : 12 * c.args.header.now.loops ≡ 12 * h.loops = omega arith in
+    let initial : 4 * c.args.header.now.initial ≡ 4 * h.initial = omega arith in
     let table_is : table ≡ take (12 * h.loops) (drop (header_bytes h.version) c.args.bytes.now) = c.split_at-2.ensures.front ∙ rw (loops, body) refl in
     let rest : c.split_at-2.result.1.now ≡ drop (12 * h.loops) (drop (header_bytes h.version) c.args.bytes.now) = c.split_at-2.ensures.back ∙ rw (loops, body) refl in
     IsTextOf-cuts h c.args.bytes.now table words code (image c) (λ i. omega (arith, c.type_inv.bytes i)) c.requires
@@ -49,10 +49,10 @@ is_text c =
     }
     record {
       version = refl;
-      workspace = c.from-3.ensures;
-      start = c.from-4.ensures;
-      packet = c.from-5.ensures;
-      result = c.from-6.ensures;
+      workspace = refl;
+      start = refl;
+      packet = refl;
+      result = refl;
       loops = c.in_ok-rows_of.ensures.text ∙ ap (flat_map (λ (piece : List ℕ). piece)) c.as_chunks.ensures.front;
       loops_count = c.in_ok-rows_of.ensures.count ∙ c.as_chunks.ensures.front_len;
       initial = c.in_ok-words_of.ensures.text ∙ ap (flat_map (λ (piece : List ℕ). piece)) c.as_chunks-2.ensures.front;

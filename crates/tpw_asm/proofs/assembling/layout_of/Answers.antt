@@ -38,7 +38,7 @@ returns-in_err-check_lengths-clause-refused c =
     let has : HasLayout c.args.program.now lengths = record {
       places = record { lines = sound; rows = rows };
       least = subst (λ (xs : List Line). IsLeastLayout xs lengths) c.deref-3.ensures.value c.in_ok-layout.ensures.laid_out.least;
-      short = omega (arith, c.in_ok-layout.ensures.laid_out.short, c.most_of-most.ensures.code);
+      short = omega (arith, c.in_ok-layout.ensures.laid_out.short, c.most-most.ensures.code);
     } in
     let is : first_narrow 0 c.args.program.now.lines.items lengths ≡ Some c.in_err-check_lengths.field-0.0 =
     ap (λ xs. first_narrow 0 xs lengths) (sym c.deref-4.ensures.value) ∙ ap (first_narrow 0 c.deref-4.result.now) (sym c.deref-5.ensures.value) ∙ sym c.in_err-check_lengths.ensures in
