@@ -61,7 +61,8 @@ pub struct LoopRow {
 /// the image's version, so there is no image out of range.
 #[derive(Debug, Drop)]
 pub struct Image {
-    pub(crate) version: Version,
+    /// The version of the format: its number is `version()`.
+    pub version: Version,
     /// Workspace words.
     pub workspace: u32,
     /// The first value of Wptr, as a workspace word.

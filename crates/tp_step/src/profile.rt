@@ -3,7 +3,7 @@
 ghost use Rattle.std.specs.Prelude.{◌≡◌};
 ghost use Rattle.tp_step.specs.Effects.{has_move};
 
-use tp_image::{Image, layout};
+use tp_image::{Image, Version, layout};
 
 /// The bytes of a word.
 pub const WORD_BYTES: u32 = layout::WORD_BYTES as u32;
@@ -33,5 +33,5 @@ pub const FRAME_WORDS: u32 = 5;
 pub fn has_move(image: &Image) -> bool
     ensures { result ≡ has_move image.now.version }
 {
-    image.version() == 2
+    image.version == Version::Two
 }

@@ -1,15 +1,12 @@
 -- A program has one image, or one kind of fault.
-use Rattle.std.proofs.Common.{◌≡◌, ℕ, ◌+◌, ◌<◌, ◌≤◌, ◌^◌, Bool, true, false, if◌then◌else◌, List, [], ◌∷◌, length, map, sum, All, Option, Some, None, Result, Ok, Err, MatchResult, IfOk, IfErr, refl, sym, ap, subst, ◌∙◌, arith, length-append}
+use Rattle.std.proofs.Common.{◌≡◌, ℕ, ◌+◌, ◌≤◌, Bool, true, false, if◌then◌else◌, List, [], ◌∷◌, length, map, sum, Option, Some, None, Result, Ok, Err, MatchResult, IfOk, IfErr, refl, sym, ap, subst, ◌∙◌, arith, length-append}
 use Rattle.std.specs.List.{concat}
 use Rattle.std.specs.Option.{option_and_then, option_or, option_map}
-use Rattle.tp_image.specs.declared.fault.ImageFault.TheVariants as fault
-use Rattle.tp_image.specs.declared.header.Header.{Header}
 use Rattle.tp_image.specs.Limits.{most_code}
-use Rattle.tp_image.specs.Image.{ImageValue, InRange, IsRow}
+use Rattle.tp_image.specs.Image.{ImageValue, InRange}
 use Rattle.tp_image.specs.Text.{header_of}
 use Rattle.tp_image.proofs.Headers.{no_field_fault}
 use Rattle.tp_image.proofs.Bodies.{ranges_of}
-use Rattle.tp_image.specs.declared.image.LoopRow.{LoopRow}
 use Rattle.tp_image.specs.declared.image.Version.{Version}
 use Rattle.tp_image.specs.declared.image.Version.TheVariants.{One, Two}
 use Rattle.std.proofs.lemmas.Option.{same_Some}

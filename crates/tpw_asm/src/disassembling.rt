@@ -1,6 +1,6 @@
 //! Disassembling.
 
-ghost use Rattle.std.specs.Prelude.{◌≡◌, IfOk};
+ghost use Rattle.std.specs.Prelude.{IfOk};
 ghost use Rattle.tpw_asm.specs.Assembly.{IsAssembly};
 ghost use Rattle.tpw_asm.specs.Labelling.{IsDisassembly};
 
@@ -9,18 +9,7 @@ use crate::labelling::{labelled_lines, loops_of};
 use crate::layout::{MOST_BYTES, least_layout};
 use crate::program::Program;
 use std::alloc::{AllocError, Global};
-use tp_image::{Image, Version};
-
-/// The version of an image.
-fn version_of(image: &Image) -> Version
-    ensures { result ≡ image.now.version }
-{
-    if image.version() == 1 {
-        Version::One
-    } else {
-        Version::Two
-    }
-}
+use tp_image::Image;
 
 /// A program that is assembled to the image: a line for each instruction, and a jump to a place has that place as its target. A
 /// spelling longer than the canonical one has its length stated. A spelling that no stated length gives is written as bytes, and so
@@ -35,7 +24,7 @@ pub fn disassemble(alloc: Global, image: &Image) -> Result<Program, AllocError>
     };
     let lines = labelled_lines(alloc, &layout.addresses, &unlabelled)?;
     Ok(Program {
-        version: version_of(image),
+        version: image.version,
         workspace: image.workspace,
         start: image.start,
         packet: image.packet,

@@ -4,7 +4,7 @@ use crate::prefixes::prefixes_at;
 use crate::workspace::Workspace;
 use thiserror::Error;
 use tp_decode::Instr;
-use tp_image::Image;
+use tp_image::{Image, Version};
 use tp_prefix::read_one;
 use tp_step::profile::{
     FRAME_WORDS, LINK0_INPUT, LINK0_OUTPUT, LINK1_OUTPUT, MOVE_BYTES, TRACE_BYTES, WORD_BYTES,
@@ -141,7 +141,7 @@ fn output_reason(snapshot: Snapshot<'_>, bytes: u32, channel: u32, address: u32)
 /// Why no words can be moved so.
 fn move_reason(snapshot: Snapshot<'_>, bytes: u32, target: u32, source: u32) -> Reason {
     let is_length = bytes % WORD_BYTES == 0 && 0 < bytes && bytes <= MOVE_BYTES;
-    if snapshot.image.version() == 1 {
+    if snapshot.image.version == Version::One {
         Reason::NoMove
     } else if !is_length {
         Reason::NotAMove

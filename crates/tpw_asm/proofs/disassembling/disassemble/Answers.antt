@@ -42,7 +42,7 @@ returns-clause-assembled c =
     ∙ ap (map (loop_of (addresses_from 0 lengths))) (c.deref-6.ensures.value ∙ ap (λ (i : ImageValue). i.loops) view) in
     disassembly_is_assembly _ image c.deref-2.result.now lengths (subst (λ (i : ImageValue). InRange i) view c.image.invariant)
     record {
-      version = c.version_of.ensures;
+      version = ap (λ (i : ImageValue). i.version) view;
       workspace = ap (λ (i : ImageValue). i.workspace) view;
       start = ap (λ (i : ImageValue). i.start) view;
       packet = ap (λ (i : ImageValue). i.packet) view;
