@@ -179,3 +179,28 @@ fn stopped_at_once(rt: HostRuntime) {
     let ledger = ledger_after(&rt, rt.alloc(), 100, &STOPPED);
     assert_same(&rt, &ledger, &Some(wanted));
 }
+
+/// Seat 0 has learnt the end before it sees the stop, seat 1 the stop alone.
+const ENDED_BEFORE_THE_STOP: [(u8, Step); 8] = [
+    (0, Step::Claim(Claim::Packet(0))),
+    (0, Step::Finish(Ok(0))),
+    (0, Step::Claim(Claim::NoMore)),
+    (1, Step::Stop),
+    (0, Step::Look(Shown::Stop, 1)),
+    (0, Step::Claim(Claim::NoMore)),
+    (1, Step::Look(Shown::Stop, 1)),
+    (1, Step::Claim(Claim::Stopped)),
+];
+
+#[test]
+fn the_end_is_answered_before_the_stop(rt: HostRuntime) {
+    let wanted = Ledger {
+        drawn: 1,
+        done: 1,
+        lost: 0,
+        in_hand: 0,
+        stopped: true,
+    };
+    let ledger = ledger_after(&rt, rt.alloc(), 1, &ENDED_BEFORE_THE_STOP);
+    assert_same(&rt, &ledger, &Some(wanted));
+}

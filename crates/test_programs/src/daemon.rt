@@ -366,8 +366,10 @@ fn endings(rt: HostRuntime) {
         (Ending::Fault(ServeFault::Thread), 1, "farmd: thread\n"),
     ];
     for (ending, status, text) in &endings {
+        let mut output = Vec::new(rt.alloc());
         let mut errors = Vec::new(rt.alloc());
-        assert_same(&rt, &ending.report(&mut errors), &ExitCode::from(*status));
-        assert!(rt; errors.as_slice() == text.as_bytes());
+        let ended = ending.conclude(&mut output, &mut errors);
+        assert_same(&rt, &ended, &ExitCode::from(*status));
+        assert!(rt; output.is_empty() && errors.as_slice() == text.as_bytes());
     }
 }

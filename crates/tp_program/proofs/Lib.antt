@@ -1,3 +1,5 @@
+mod Reading
+mod AskedLemmas
 mod Fitting
 mod Unserved
 mod Performing

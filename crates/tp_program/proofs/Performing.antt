@@ -1,18 +1,18 @@
 -- What the program has done, by how it ends.
-use Rattle.std.proofs.Common.{◌≡◌, ◌⊎◌, ℕ, List, [], take, Option, Result, Ok, Err, OnOk, inl, inr, refl, sym, subst, ap, ◌∙◌}
+use Rattle.std.proofs.Common.{◌≡◌, ◌⊎◌, ℕ, List, [], take, Option, Result, Ok, Err, OnOk, inl, inr, refl, sym, subst, ◌∙◌, arith}
 use Rattle.std.specs.Io.KnownBytes.{Appends}
 use Rattle.std.specs.declared.io.ErrorKind.{ErrorKind as IoKind}
 use Rattle.std.specs.declared.io.ErrorKind.TheVariants.{OutOfMemory}
 use Rattle.clap.specs.Words.{Text, IsAmong, fault_of, kind_of}
-use Rattle.tp_options.specs.CommandLine.{farmd, AsksFor}
-use Rattle.tp_options.specs.declared.chosen.Options.{Options}
+use Rattle.tp_program.specs.CommandLine.{farmd, AsksFor}
+use Rattle.tp_program.specs.declared.chosen.Options.{Options}
 use Rattle.tp_session.specs.declared.fault.ServeFault.{ServeFault}
 use Rattle.tp_session.specs.declared.fault.ServeFault.TheVariants.{Read, Write, Memory, Thread}
 use Rattle.tp_session.specs.Served.{ServesAll, ServesRead, ServesBefore, ServesSome}
 use Rattle.tp_program.specs.declared.ending.Ending.{Ending}
 use Rattle.tp_program.specs.declared.ending.Ending.TheVariants.{Shown, Refused, NotText, Fault}
-use Rattle.tp_program.specs.Program.{asks_traces, status_of, fault_text, reported, Performs, EndsWordless, DoesNothing}
-use Rattle.tp_program.specs.Endings.{ending_status, ending_without, IsEndingBy}
+use Rattle.tp_program.specs.Program.{asks_traces, status_of, reported, Performs, EndsWordless, DoesNothing}
+use Rattle.tp_program.specs.Endings.{ending_without, IsConcluded, IsEndingBy}
 use Rattle.tp_program.proofs.Unserved.{nothing_served}
 
 -- a fault is reported, as far as it can be written
@@ -47,42 +47,77 @@ module _ (words : List Text) where
       never_two (Err e) two = cc
 
   -- nothing was served
-  pub ended : (input old errors errors' : Option (List ℕ)) (ending : Ending) → IsEndingBy (fault_of farmd words) ending → (status : ℕ)
-      → status ≡ ending_status ending → Reports errors errors' ending → Performs words input input old old errors errors' status
-  ended input old errors errors' (Shown error) by status is reports = record {
+  pub ended : (input old new errors errors' : Option (List ℕ)) (ending : Ending) → IsEndingBy (fault_of farmd words) ending → (status : ℕ)
+      → IsConcluded ending old new errors errors' status → Performs words input input old new errors errors' status
+  ended input old new errors errors' (Shown error) by status is = record {
     serves = λ none. absurd (subst (λ kinds. IsAmong (kind_of error) kinds) none by.0);
-    other = λ faults. (inl (kind_of error, by.0, is ∙ sym by.1), refl);
-    refused = λ two. refl;
+    other = λ faults.
+        elim is [
+          | inl shown ↦ (let zero = shown.0 in record {
+            status_is = inl (kind_of error, by.0, shown.0 ∙ sym by.1);
+            unread = refl;
+            silent = λ _. shown.1;
+            reports = λ one. absurd (omega arith);
+          })
+          | inr failed ↦ (let one = failed.0 in record {
+            status_is = inr failed.0;
+            unread = refl;
+            silent = λ zero. absurd (omega arith);
+            reports = λ _. (Write, failed.1);
+          })
+        ];
+    refused = λ two.
+        elim is [
+          | inl shown ↦ (let zero = shown.0 in absurd (omega arith))
+          | inr failed ↦ (let one = failed.0 in absurd (omega arith))
+        ];
   }
-  ended input old errors errors' (Refused error) by status is reports = record {
-    serves = λ none. absurd (subst (λ kinds. IsAmong (kind_of error) kinds) none by.0);
-    other = λ faults. (inl (kind_of error, by.0, is ∙ sym by.1), refl);
-    refused = λ two. refl;
-  }
-  ended input old errors errors' (Fault fault) by status is reports =
-      let text = reports fault refl in
+  ended input old new errors errors' (Refused error) by status is =
+      let refusal = is.0 in
+      record {
+        serves = λ none. absurd (subst (λ kinds. IsAmong (kind_of error) kinds) none by.0);
+        other = λ faults. record {
+          status_is = inl (kind_of error, by.0, is.0 ∙ sym by.1);
+          unread = refl;
+          silent = λ zero. absurd (omega arith);
+          reports = λ one. absurd (omega arith);
+        };
+        refused = λ two. is.1;
+      }
+  ended input old new errors errors' (Fault fault) by status is =
+      let one = is.0 in
       record {
         serves = λ none. record {
           result = Err fault;
           all = tt;
           read = λ e. cc;
-          want = λ e. nothing_served (asks_traces words) input old;
+          want = λ e. subst (λ left. ServesBefore (asks_traces words) input input old left) (sym is.1.0) (nothing_served (asks_traces words) input old);
           write = λ e. cc;
-          status_is = is;
-          some = text.0;
-          reports = text.1;
+          status_is = is.0;
+          some = is.1.1.0;
+          reports = is.1.1.1;
         };
-        other = λ faults. (inr is, refl);
-        refused = λ two. refl;
+        other = λ faults. record {
+          status_is = inr is.0;
+          unread = refl;
+          silent = λ zero. absurd (omega arith);
+          reports = λ _. (fault, is.1.1);
+        };
+        refused = λ two. is.1.0;
       }
-  ended input old errors errors' NotText by status is reports = absurd by
+  ended input old new errors errors' NotText by status is = absurd by
 
 -- no words could be had
-pub did_nothing : (kind : IoKind) (input old errors errors' : Option (List ℕ)) (ending : Ending) → ending ≡ ending_without kind → (status : ℕ)
-    → status ≡ ending_status ending → Reports errors errors' ending → DoesNothing kind input input old old errors errors' status
-did_nothing kind input old errors errors' ending same status is reports =
-    record { unread = refl; unwritten = refl; ends = by_kind kind same }
+pub did_nothing : (kind : IoKind) (input old new errors errors' : Option (List ℕ)) (ending : Ending) → ending ≡ ending_without kind → (status : ℕ)
+    → IsConcluded ending old new errors errors' status → DoesNothing kind input input old new errors errors' status
+did_nothing kind input old new errors errors' ending same status is =
+    let concluded = subst (λ e. IsConcluded e old new errors errors' status) same is in
+    record { unread = refl; unwritten = unwritten kind concluded; ends = by_kind kind concluded }
   where
-    by_kind : (kind : IoKind) → ending ≡ ending_without kind → EndsWordless kind errors errors' status
-    by_kind OutOfMemory same = let text = reports Memory same in (text.0, text.1, is ∙ ap ending_status same)
-    by_kind kind same = is ∙ ap ending_status same
+    unwritten : (kind : IoKind) → IsConcluded (ending_without kind) old new errors errors' status → new ≡ old
+    unwritten OutOfMemory is = is.1.0
+    unwritten kind is = is.1
+
+    by_kind : (kind : IoKind) → IsConcluded (ending_without kind) old new errors errors' status → EndsWordless kind errors errors' status
+    by_kind OutOfMemory is = (is.1.1.0, is.1.1.1, is.0)
+    by_kind kind is = is.0

@@ -1,6 +1,6 @@
 -- The farm that a command line asks for.
 use Rattle.std.specs.Prelude.{◌≡◌, vec_len}
-use Rattle.tp_options.specs.declared.chosen.Options.{Options}
+use Rattle.tp_program.specs.declared.chosen.Options.{Options}
 use Rattle.tp_session.specs.declared.farm.Farm.{Farm}
 
 -- it has as many members as are asked for, and traces are written where they are asked for

@@ -1,14 +1,12 @@
 //! Why the program ends before the end of its input.
 
-ghost use Rattle.std.specs.Prelude.{◌≡◌, ℕ, take};
-ghost use Rattle.std.specs.Io.KnownBytes.{Appends};
+ghost use Rattle.std.specs.Prelude.{◌≡◌, IfErr};
 ghost use Rattle.std.specs.Process.{exit_status};
 ghost use Rattle.clap.specs.Words.{kind_of};
-ghost use Rattle.tp_session.specs.declared.fault.ServeFault.{ServeFault};
 ghost use Rattle.tp_session.specs.declared.fault.ServeFault.TheVariants.{Memory};
 ghost use Rattle.tp_program.specs.declared.ending.Ending.TheVariants.{Fault};
-ghost use Rattle.tp_program.specs.Program.{fault_text};
-ghost use Rattle.tp_program.specs.Endings.{ending_status, ending_by};
+ghost use Rattle.tp_program.specs.Program.{fault_line};
+ghost use Rattle.tp_program.specs.Endings.{Reports, IsConcluded, ending_by};
 
 use clap::error::ErrorKind;
 use std::alloc::{AllocError, AllocFailed};
@@ -29,9 +27,9 @@ pub enum Ending {
     Fault(ServeFault),
 }
 
-/// The text of a fault.
-fn fault_text(fault: ServeFault) -> &'static [u8]
-    ensures { result.now ≡ fault_text fault }
+/// The line that reports a fault.
+fn fault_line(fault: ServeFault) -> &'static [u8]
+    ensures { result.now ≡ fault_line fault }
 {
     match fault {
         ServeFault::Read => b"farmd: read\n".as_slice(),
@@ -41,55 +39,60 @@ fn fault_text(fault: ServeFault) -> &'static [u8]
     }
 }
 
-/// Writes a fault, as far as the stream takes it.
+/// Writes the line that reports a fault, as far as the stream takes it.
 fn write_fault<E: Write>(errors: &mut E, fault: ServeFault)
-    ensures { (n : ℕ) × Appends (E.contents errors.old) (E.contents errors.new) (take n (fault_text fault)) }
+    ensures { Reports (E.contents errors.old) (E.contents errors.new) fault }
 {
-    match write_whole(errors, fault_text(fault)) {
+    match write_whole(errors, fault_line(fault)) {
         Ok(()) => (),
         // There is nowhere left to report it.
         Err(_) => (),
     }
 }
 
-impl Ending {
-    /// The status that the program ends with.
-    pub fn status(&self) -> u8
-        ensures { result ≡ ending_status self.now }
-    {
-        match self {
-            Ending::Shown(_) => 0,
-            Ending::Fault(_) => 1,
-            Ending::Refused(_) | Ending::NotText => 2,
-        }
-    }
+/// Reports a fault, as far as the stream takes it, and returns the status that it ends with.
+pub(crate) fn report<E: Write>(errors: &mut E, fault: ServeFault) -> ExitCode
+    ensures status { exit_status result ≡ 1 }
+    ensures text { Reports (E.contents errors.old) (E.contents errors.new) fault }
+{
+    write_fault(errors, fault);
+    ExitCode::FAILURE
+}
 
-    /// Writes why, as far as the stream takes it.
-    fn write<E: Write>(&self, errors: &mut E)
-        ensures { (fault : ServeFault) → self.now ≡ Fault fault →
-            (n : ℕ) × Appends (E.contents errors.old) (E.contents errors.new) (take n (fault_text fault)) }
+/// Writes the text that a command line asks for, and flushes it.
+fn show<W: Write>(writer: &mut W, text: &clap::Error) -> Result<(), ServeFault>
+    ensures { IfErr result (λ fault. fault ≡ ServeFault.Write) }
+{
+    match write!(writer, "{text}").and_then(|()| writer.flush()) {
+        Ok(()) => Ok(()),
+        Err(_) => Err(ServeFault::Write),
+    }
+}
+
+impl Ending {
+    /// Writes the text that the command line asks for to `writer`, or why the program ends to `errors`, as far as the streams
+    /// take it, and returns the status: 0 where a text was asked for, 1 after a fault, 2 where the command line is refused.
+    pub fn conclude<W: Write, E: Write>(&self, writer: &mut W, errors: &mut E) -> ExitCode
+        ensures { IsConcluded self.now (W.contents writer.old) (W.contents writer.new) (E.contents errors.old) (E.contents errors.new)
+            (exit_status result) }
     {
         match self {
-            Ending::Fault(fault) => write_fault(errors, *fault),
-            Ending::Shown(error) | Ending::Refused(error) => {
+            Ending::Shown(text) => match show(writer, text) {
+                Ok(()) => ExitCode::SUCCESS,
+                Err(fault) => report(errors, fault),
+            },
+            Ending::Fault(fault) => report(errors, *fault),
+            Ending::Refused(error) => {
                 let _ = write!(errors, "{error}");
+                ExitCode::from(2)
             }
             Ending::NotText => {
                 let _ = errors.write_all(
                     b"error: a word of the command line is not UTF-8\n".as_slice(),
                 );
+                ExitCode::from(2)
             }
         }
-    }
-
-    /// Writes why, as far as the stream takes it, and returns the status.
-    pub fn report<E: Write>(&self, errors: &mut E) -> ExitCode
-        ensures status { exit_status result ≡ ending_status self.now }
-        ensures text { (fault : ServeFault) → self.now ≡ Fault fault →
-            (n : ℕ) × Appends (E.contents errors.old) (E.contents errors.new) (take n (fault_text fault)) }
-    {
-        self.write(errors);
-        ExitCode::from(self.status())
     }
 }
 

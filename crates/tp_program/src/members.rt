@@ -7,13 +7,13 @@ ghost use Rattle.tp_session.specs.Served.{ServesAll, ServesRead, ServesBefore, S
 ghost use Rattle.tp_program.specs.Media.{HaveRoom};
 ghost use Rattle.tp_program.specs.Asked.{IsAsked};
 
+use crate::chosen::Options;
 use std::alloc::{AllocError, Global};
 use std::io::{Read, Write};
 use std::sync::Wait;
 use std::thread::Threads;
 use tp_collect::limits::MESSAGE_BYTES;
 use tp_link::{LinkDevice, Links, Media, Wire};
-use tp_options::Options;
 use tp_session::{Farm, ServeFault, serve};
 
 /// The media of so many members.

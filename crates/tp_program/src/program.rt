@@ -5,11 +5,13 @@ ghost use Rattle.std.specs.Vec.Iter.{into_iter_items};
 ghost use Rattle.std.specs.IoError.{error_kind};
 ghost use Rattle.std.specs.Process.{exit_status};
 ghost use Rattle.clap.specs.Words.{fault_of};
-ghost use Rattle.tp_options.specs.CommandLine.{farmd, AsksFor};
+ghost use Rattle.tp_program.specs.CommandLine.{farmd, AsksFor};
 ghost use Rattle.tp_program.specs.Program.{Performs, DoesNothing};
 ghost use Rattle.tp_program.specs.Endings.{IsEndingBy};
 
-use crate::ending::Ending;
+use crate::chosen::Options;
+use crate::command_line::options;
+use crate::ending::{Ending, report};
 use crate::members::serve_members;
 use crate::words::words_of;
 use std::alloc::Global;
@@ -20,8 +22,6 @@ use std::io::{Read, Write};
 use std::process::ExitCode;
 use std::sync::Wait;
 use std::thread::Threads;
-use tp_options::{Options, options};
-use tp_session::ServeFault;
 
 /// The options that the words ask for.
 fn asked<S: AsStr>(alloc: Global, words: &[S]) -> Result<Options, Ending>
@@ -35,15 +35,8 @@ fn asked<S: AsStr>(alloc: Global, words: &[S]) -> Result<Options, Ending>
     }
 }
 
-/// Writes the text that a command line asks for, and flushes it.
-fn show<W: Write>(writer: &mut W, text: &clap::Error) -> Result<(), ServeFault> {
-    match write!(writer, "{text}").and_then(|()| writer.flush()) {
-        Ok(()) => Ok(()),
-        Err(_) => Err(ServeFault::Write),
-    }
-}
-
-/// Does what these words ask for, the first of which names the program. Writes to `errors` why it ends early, if it does.
+/// Does what these words ask for, the first of which names the program: serves, or shows a text. Writes to `errors` why it ends
+/// early, if it does.
 pub fn run_words<T: Threads + Wait + Sync, S: AsStr, R: Read, W: Write, E: Write>(
     rt: &T,
     words: &[S],
@@ -58,13 +51,9 @@ pub fn run_words<T: Threads + Wait + Sync, S: AsStr, R: Read, W: Write, E: Write
     match asked(alloc, words) {
         Ok(asked) => match serve_members(rt, alloc, reader, writer, asked) {
             Ok(()) => ExitCode::SUCCESS,
-            Err(fault) => Ending::Fault(fault).report(errors),
+            Err(fault) => report(errors, fault),
         },
-        Err(Ending::Shown(text)) => match show(writer, &text) {
-            Ok(()) => ExitCode::SUCCESS,
-            Err(fault) => Ending::Fault(fault).report(errors),
-        },
-        Err(ending) => ending.report(errors),
+        Err(ending) => ending.conclude(writer, errors),
     }
 }
 
@@ -86,6 +75,6 @@ pub fn run<T: Threads + Wait + Sync, R: Read, W: Write, E: Write>(
 {
     match words_of(words, alloc) {
         Ok(words) => run_words(rt, &words, alloc, reader, writer, errors),
-        Err(ending) => ending.report(errors),
+        Err(ending) => ending.conclude(writer, errors),
     }
 }

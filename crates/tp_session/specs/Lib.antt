@@ -3,6 +3,7 @@ pub mod Protocol
 pub mod InTime
 pub mod Served
 pub mod Fitness
+pub mod Faults
 pub use Rattle.tp_board.specs.Limits
 pub use Rattle.tp_answers.specs.Sessions
 pub use Rattle.tp_answers.specs.Texts

@@ -1,6 +1,6 @@
 //! The service: what is kept between two lines, and the answer to each.
 
-ghost use Rattle.std.specs.Prelude.{◌≡◌, ◌≤◌, ◌<◌, [], Some, map, length, slice_get, slice_set, IfOk, IfErr, OnOk};
+ghost use Rattle.std.specs.Prelude.{◌≡◌, ◌≤◌, ◌<◌, ◌+◌, ◌%◌, ◌^◌, [], Some, map, length, slice_get, slice_set, IfOk, IfErr, OnOk};
 ghost use Rattle.tp_requests.specs.Requests.{asked};
 ghost use Rattle.tp_answers.specs.Sessions.{Session, named, with_changed, without_packets};
 ghost use Rattle.tp_answers.specs.Rules.{IsOutcome};
@@ -26,7 +26,7 @@ pub(crate) struct Service<D> {
     pub(crate) sessions: Sessions,
     pub(crate) links: Vec<Links<D>>,
     pub(crate) trace: bool,
-    /// The number of the next batch.
+    /// The number of the next batch: 0 at first, and one more after each, modulo 2^64.
     batches: u64,
 }
 
@@ -36,6 +36,7 @@ impl<D> Service<D> {
         ensures sessions { result.sessions ≡ [] }
         ensures links { result.links ≡ links }
         ensures trace { result.trace ≡ trace }
+        ensures batches { result.batches ≡ 0 }
     {
         Service {
             sessions: Sessions::new(alloc),
@@ -61,6 +62,7 @@ impl<D: LinkDevice + Send> Service<D> {
         ensures sessions { (s : Session) → slice_get self.old.sessions index ≡ Some s →
             OnOk result (self.new.sessions ≡ slice_set self.old.sessions index (without_packets s)) }
         ensures stays { OnOk result (StaysOn D.state self.old self.new) }
+        ensures batches { OnOk result (self.new.batches ≡ (self.old.batches + 1) % 2 ^ 64) }
         ensures want { IfErr result IsResourceFault }
     {
         let batch = self.batches;

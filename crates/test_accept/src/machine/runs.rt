@@ -77,3 +77,17 @@ fn runs_whatever_the_machine_held(rt: HostRuntime) {
         assert!(rt; is_so(&rt, rt.alloc(), &mut machine, case), "case {i}");
     }
 }
+
+/// The state in which the increment stops is left in the machine: Iptr behind stopp, Oreg 0, Wptr as it began (word 8 of the
+/// workspace at 80000048), and the flag of an addition that overflows.
+#[test]
+fn leaves_the_state_in_which_the_worker_stopped(rt: HostRuntime) {
+    let accepted = accepted(&rt, rt.alloc(), INCREMENT);
+    for (packet, error) in [([1, 0, 0, 0], false), (MOST, true)] {
+        let mut machine = all_bits_set();
+        let (answered, _media) = run_packet(&rt, rt.alloc(), &mut machine, &accepted, &packet);
+        assert!(rt; answered == Ok(Outcome { error, steps: 16 }));
+        let left = (machine.iptr, machine.oreg, machine.wptr, machine.error);
+        assert!(rt; left == (16, 0, 0x8000_0068, error));
+    }
+}

@@ -3,7 +3,7 @@
 use crate::asserts::assert_same;
 use clap::error::ErrorKind as Kind;
 use std::alloc::Global;
-use tp_options::options;
+use tp_program::options;
 
 /// The members and the trace flag that words ask for, or the kind of their error. Nothing is said of it here: the
 /// tests compare it when they run.

@@ -3,7 +3,7 @@ use Rattle.std.specs.Vec.Iter.{into_iter_items}
 use Rattle.std.specs.IoError.{error_kind}
 use Rattle.std.proofs.lemmas.Result.{IfOk-weaker, IfErr-weaker}
 use Rattle.clap.specs.Words.{Text, fault_of}
-use Rattle.tp_options.specs.CommandLine.{farmd}
+use Rattle.tp_program.specs.CommandLine.{farmd}
 use Rattle.tp_session.specs.declared.fault.ServeFault.TheVariants.{Memory}
 use Rattle.tp_program.specs.declared.ending.Ending.TheVariants.{Fault}
 use Rattle.tp_program.specs.Program.{Performs}
@@ -28,10 +28,10 @@ returns-in-Ok g c = record {
 pub returns-in-Err : goal.returns-in-Err
 returns-in-Err g c = record {
   words = IfOk-weaker c.args.words (λ given. c.in-Err.ending ≡ Fault Memory) _
-      (λ given is. ended (map string_bytes (into_iter_items given)) _ _ _ _ c.in-Err.ending
-      (subst (IsEndingBy (fault_of farmd (map string_bytes (into_iter_items given)))) (sym is) refl) _ c.report.ensures.status c.report.ensures.text)
+      (λ given is. ended (map string_bytes (into_iter_items given)) _ _ _ _ _ c.in-Err.ending
+      (subst (IsEndingBy (fault_of farmd (map string_bytes (into_iter_items given)))) (sym is) refl) _ c.conclude.ensures)
       c.in-Err.ensures.want;
   none = IfErr-weaker c.args.words _ _
-      (λ error is. did_nothing (error_kind error) _ _ _ _ c.in-Err.ending
-      (let same : c.in-Err.ending ≡ ending_without (error_kind error) = cc in same) _ c.report.ensures.status c.report.ensures.text) c.in-Err.ensures.none;
+      (λ error is. did_nothing (error_kind error) _ _ _ _ _ c.in-Err.ending
+      (let same : c.in-Err.ending ≡ ending_without (error_kind error) = cc in same) _ c.conclude.ensures) c.in-Err.ensures.none;
 }

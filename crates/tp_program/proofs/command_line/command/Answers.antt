@@ -4,7 +4,7 @@ use Rattle.std.proofs.lemmas.List.Elements.{All-nil}
 use Rattle.clap.specs.Facts.{args_of}
 use Rattle.clap.specs.Built.{IsPlainArg}
 use Rattle.clap.proofs.CallerLemmas.{added_plain}
-use Rattle.tp_options.proofs.command_line.command.Goals as goal
+use Rattle.tp_program.proofs.command_line.command.Goals as goal
 
 pub returns-clause-arguments : goal.returns-clause-arguments
 returns-clause-arguments c =

@@ -22,9 +22,9 @@ use Rattle.clap.specs.declared.parser.matches.ArgMatches.{ArgMatches}
 use Rattle.clap.specs.declared.parser.matches.Found.{Found}
 use Rattle.clap.specs.declared.parser.matches.MatchedArg.{MatchedArg}
 use Rattle.clap.proofs.WalkLemmas.{one_text-rows}
-use Rattle.tp_options.specs.CommandLine.{farmd, is_up, AsksFor, HasArguments}
-use Rattle.tp_options.specs.declared.chosen.Options.{Options}
-use Rattle.tp_options.proofs.Reading.{default_has_value, value_reads}
+use Rattle.tp_program.specs.CommandLine.{farmd, is_up, AsksFor, HasArguments}
+use Rattle.tp_program.specs.declared.chosen.Options.{Options}
+use Rattle.tp_program.proofs.Reading.{default_has_value, value_reads}
 
 -- of the two arguments, the one of this id is the first
 is_first : (a b : Arg) → b.id.now ≡ codes "trace" → (j : ℕ) (e : Arg) → j < length (a ∷ b ∷ [])

@@ -2,9 +2,9 @@ use Rattle.std.proofs.Common.{rules, ◌≡◌, ◌∙◌, List, map, refl, ap, 
 use Rattle.std.specs.Str.Parse.{ParsesUnsigned, ExplainsUnsignedError, HasUnsignedDigitsIfOk}
 use Rattle.clap.specs.Matches.{found_of, one_text}
 use Rattle.clap.specs.Words.{App, HasKind, Text, fault_of, is_simple, is_simple_and_free, matches_of, rows_of, takes}
-use Rattle.tp_options.specs.CommandLine.{farmd}
-use Rattle.tp_options.proofs.Asked.{alone_so, asks, asks_alone, fails_so, flag_reads, members_text, number_reads, some_is, taken_so}
-use Rattle.tp_options.proofs.command_line.options.Goals as goal
+use Rattle.tp_program.specs.CommandLine.{farmd}
+use Rattle.tp_program.proofs.AskedLemmas.{alone_so, asks, asks_alone, fails_so, flag_reads, members_text, number_reads, some_is, taken_so}
+use Rattle.tp_program.proofs.command_line.options.Goals as goal
 
 pub returns-in_err-matches-clause-fails : goal.returns-in_err-matches-clause-fails
 returns-in_err-matches-clause-fails g c =

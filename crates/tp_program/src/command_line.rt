@@ -3,7 +3,7 @@
 ghost use Rattle.std.specs.Prelude.{◌≡◌, ◌∷◌, [], List, ℕ, map, IfOk, MatchResult, IfErr, true, false};
 ghost use Rattle.clap.specs.Words.{app_of, fault_of, kind_of, takes, FailsBy};
 ghost use Rattle.clap.specs.declared.error.ErrorKind.TheVariants.{OutOfMemory};
-ghost use Rattle.tp_options.specs.CommandLine.{farmd, AsksFor, HasArguments, IsMembers, IsTrace};
+ghost use Rattle.tp_program.specs.CommandLine.{farmd, AsksFor, HasArguments, IsMembers, IsTrace};
 
 use crate::chosen::Options;
 use clap::{Arg, ArgAction, Command, Error, value_parser};

@@ -10,7 +10,7 @@ use Rattle.clap.specs.declared.builder.arg.Arg.{Arg}
 use Rattle.clap.specs.declared.builder.command.Command.{Command}
 use Rattle.clap.specs.declared.builder.command.Command.TheViews.{out-Command}
 use Rattle.clap.specs.declared.builder.value_parser.ValueParser.TheVariants as parser
-use Rattle.tp_options.specs.declared.chosen.Options.{Options}
+use Rattle.tp_program.specs.declared.chosen.Options.{Options}
 
 -- --members N: a number from 1 to 64, and 4 where none is given
 abbrev pub members_rule : Rule

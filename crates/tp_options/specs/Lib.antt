@@ -1,2 +1,0 @@
--- What a reader must believe: clauses of public calls cite it.
-pub mod CommandLine
