@@ -11,6 +11,7 @@ day (37.8 seconds beside 293 minutes, 37.2 beside 314). With the word calibrate 
 import os
 import resource
 import shutil
+import signal
 import subprocess
 import sys
 import tempfile
@@ -54,4 +55,6 @@ def main(command):
 
 
 if __name__ == "__main__":
+    for it in (signal.SIGTERM, signal.SIGHUP, signal.SIGINT):
+        signal.signal(it, lambda number, _: sys.exit(128 + number))
     sys.exit(main(sys.argv[1:]))

@@ -1,6 +1,7 @@
 """What the benchmarks have in common: the programs that they run, and what a run takes."""
 
 import os
+import shutil
 import subprocess
 import sys
 from collections import namedtuple
@@ -22,6 +23,8 @@ def farmd():
 
 def benchmark(crate):
     """A benchmark's program, built where it is missing or older than its sources."""
+    if not shutil.which("rt"):
+        sys.exit("the Rattle kit's command rt is not on the PATH")
     subprocess.run(["rt", "run"], cwd=f"{TOP}/crates/{crate}", stdin=subprocess.DEVNULL, stdout=subprocess.DEVNULL, check=True)
     return f"{TOP}/crates/{crate}/out/{crate}"
 
