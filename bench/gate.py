@@ -23,11 +23,10 @@ EXAMPLE = "rope"
 
 
 def timed(words, **how):
-    """Runs a command; its status and output, and the processor seconds and the wall time of it and of all that it waited for."""
-    before, began = resource.getrusage(resource.RUSAGE_CHILDREN), time.monotonic()
+    """Runs a command: what ran, its processor seconds with those of all that it waited for, and its wall time."""
+    before, began = sum(resource.getrusage(resource.RUSAGE_CHILDREN)[:2]), time.monotonic()
     ran = subprocess.run(words, **how)
-    after = resource.getrusage(resource.RUSAGE_CHILDREN)
-    return ran, sum(after[:2]) - sum(before[:2]), time.monotonic() - began
+    return ran, sum(resource.getrusage(resource.RUSAGE_CHILDREN)[:2]) - before, time.monotonic() - began
 
 
 def calibrate():

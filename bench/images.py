@@ -32,19 +32,11 @@ END_BYTES = 9
 STRIDE = 67
 ROUND = 208
 
-# What fills a loop in the place of its jumps: jumps with what they test, or a store that a jump passes by. (bench/search.py of commit
-# 79976110 mixed these at random.)
-PIECES = [
-    "40a040a040a0",  # ldc 0, cj 0, three times
-    "40a440a240a0",  # ldc 0, cj 4, ldc 0, cj 2, ldc 0, cj 0
-    "404040a0a0a0",  # ldc 0, ldc 0, ldc 0, cj 0, cj 0, cj 0
-    "70a071a072a0",  # ldl 0, cj 0, ldl 1, cj 0, ldl 2, cj 0
-    "70a471a272a0",  # ldl 0, cj 4, ldl 1, cj 2, ldl 2, cj 0
-    "40a4402120d0",  # ldc 0, cj 4, ldc 0, stl 256
-    "40a4402127df",  # ldc 0, cj 4, ldc 0, stl 383
-    "40a240d340a0",  # ldc 0, cj 2, ldc 0, stl 3, ldc 0, cj 0
-    "7071f0a0a040",  # ldl 0, ldl 1, rev, cj 0, cj 0, ldc 0
-]
+# What fills a loop in the place of its jumps: `ldc 0`, `ldl n` or `rev` and jumps that test it, or a store that a jump passes by.
+# bench/search.py of commit 79976110 mixed these at random.
+PIECES = """
+    40a040a040a0 40a440a240a0 404040a0a0a0 70a071a072a0 70a471a272a0 40a4402120d0 40a4402127df 40a240d340a0 7071f0a0a040
+""".split()
 
 CJ, LDLP, LDC, LDL, STL = 0xA, 0x1, 0x4, 0x7, 0xD
 
