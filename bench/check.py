@@ -1,12 +1,13 @@
 #!/usr/bin/env python3
-"""How long check_states takes, beside check_flow of the same image in the same run: the increment, a straight code of 8,000 bytes, 4,000
-conditional jumps, and codes made to keep the passes going (images.py says what they do). Then the processor time (user and system) and
-the peak of memory of each, judged in a process of its own: the least of five, less what a process takes that only makes the image.
+"""How long check_states takes, beside check_flow of the same image in the same run: the increment, a straight code of
+8,000 bytes, 4,000 conditional jumps, and codes made to keep the passes going (images.py says what they do). Then the
+processor time (user and system) and the peak of memory of each, judged in a process of its own: the least of five, less
+what a process takes that only makes the image.
 
 usage: bench/check.py
 
-Ends with status 1 where an image takes more than half a second of processor time or a process more than 25 MiB; a quarter of a second
-is wanted.
+Ends with status 1 where an image takes more than half a second of processor time or a process more than 25 MiB; a
+quarter of a second is wanted.
 """
 
 import os
@@ -36,11 +37,12 @@ def main():
     found = {}
     for name in images.CHECKED:
         image, times = images.named(name), TIMES.get(name, 1)
-        output = subprocess.run([bench, "check", name, image.hex()], stdout=subprocess.PIPE, check=True, text=True).stdout
+        output = subprocess.check_output([bench, "check", name, image.hex()], text=True)
         print(*measure.check(output), sep="\n")
         made, whole = judged(bench, image, 0), judged(bench, image, times)
         found[name] = running.Taken(max(whole.seconds - made.seconds, 0) / times, whole.peak)
-        print(f"{name}: {found[name].seconds * 1e6:.1f} microseconds of processor time, peak {found[name].peak} KiB", flush=True)
+        seconds, peak = found[name]
+        print(f"{name}: {seconds * 1e6:.1f} microseconds of processor time, peak {peak} KiB", flush=True)
     slowest, largest = (max(it) for it in zip(*found.values()))
     print(f"the slowest {slowest:.3f} seconds, the largest peak {largest} KiB")
     if slowest > MOST_SECONDS:

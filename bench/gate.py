@@ -1,11 +1,13 @@
 #!/usr/bin/env python3
-"""What the gate costs: runs ./test, or the command given, and prints its processor minutes (user and system) and its wall time.
+"""What the gate costs: runs ./test, or the command given, and prints its processor minutes (user and system) and its
+wall time.
 
 usage: bench/gate.py [COMMAND WORD..]
 
-Before that it proves an example of the kit from nothing, a piece of work that is the same each day, and prints the processor seconds
-that this took. What a machine takes differs from day to day; these seconds show a machine that is slow for all work, and not each such
-day (37.8 seconds beside 293 minutes, 37.2 beside 314). With the word calibrate it does that alone.
+Before that it proves an example of the kit from nothing, a piece of work that is the same each day, and prints the
+processor seconds that this took. What a machine takes differs from day to day; these seconds show a machine that is
+slow for all work, and not each such day (37.8 seconds beside 293 minutes, 37.2 beside 314). With the word calibrate it
+does that alone.
 """
 
 import os

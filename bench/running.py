@@ -13,7 +13,7 @@ Taken = namedtuple("Taken", "seconds peak")
 
 
 def farmd():
-    """The program that PROGRAM names, else the proved one of this checkout, which is built first where it is missing."""
+    """The program that PROGRAM names, else the proved one of this checkout, built first where it is missing."""
     if os.environ.get("PROGRAM"):
         return os.environ["PROGRAM"]
     if subprocess.run([f"{TOP}/farmd"], stdin=subprocess.DEVNULL).returncode:
@@ -25,12 +25,13 @@ def benchmark(crate):
     """A benchmark's program, built where it is missing or older than its sources."""
     if not shutil.which("rt"):
         sys.exit("the Rattle kit's command rt is not on the PATH")
-    subprocess.run(["rt", "run"], cwd=f"{TOP}/crates/{crate}", stdin=subprocess.DEVNULL, stdout=subprocess.DEVNULL, check=True)
+    how = {"stdin": subprocess.DEVNULL, "stdout": subprocess.DEVNULL}
+    subprocess.run(["rt", "run"], cwd=f"{TOP}/crates/{crate}", check=True, **how)
     return f"{TOP}/crates/{crate}/out/{crate}"
 
 
 def run(words, given, answers):
-    """Runs a program on a file, and its answers go to another: its processor seconds (user and system) and its peak in KiB.
+    """Runs a program on a file, its answers to another: the processor seconds (user and system) and the peak in KiB.
 
     A program's peak includes that of the process that starts it: keep that small.
     """

@@ -1,12 +1,13 @@
 #!/usr/bin/env python3
-"""What a line costs: for each kind of work the processor time of the program, in milliseconds, best of five, and its peak of memory
-(at the least that of this script, some 10 MiB).
+"""What a line costs: for each kind of work the processor time of the program, in milliseconds, best of five, and its
+peak of memory (at the least that of this script, some 10 MiB).
 
 usage: bench/serve.py [OTHER_FARMD]
 
-Another program, as one that was built from another commit, is measured beside it, in turn, and its times and the ratio are printed.
-PROGRAM=FARMD measures that in place of the proved program of this checkout, and ROUNDS=N is the best of N in place of five. Ends with
-status 1 where an answer is not the expected one, or where listing takes more than its limits.
+Another program, as one that was built from another commit, is measured beside it, in turn, and its times and the ratio
+are printed. PROGRAM=FARMD measures that in place of the proved program of this checkout, and ROUNDS=N is the best of N
+in place of five. Ends with status 1 where an answer is not the expected one, or where listing takes more than its
+limits.
 """
 
 import re
@@ -37,6 +38,10 @@ def kept_and_run(name):
     yield f"{name} RUN\n"
 
 
+def one_packet():
+    return [f"a IMAGE {INCREMENT}\n", "a PACKET 01000000\n", "a RUN\n"]
+
+
 def full_sessions():
     for n in range(64):
         yield from kept(f"s{n}")
@@ -47,14 +52,14 @@ def listed(instructions):
     yield f"LIST {'41' * instructions}\n"
 
 
-# What is measured, by so many members, with what input, how often that; how many lines are answered in all, and how many of
-# these begin with what.
+# What is measured, by so many members, with what input, how often that; how many lines are answered in all, and how
+# many of these begin with what.
 WORKS = [
     ("60,000 images of 16 code bytes", 1, lambda: [f"a IMAGE {INCREMENT}\n"], 60_000, 60_000, 60_000, b"YES 16 16"),
     ("300 images of 1,813 code bytes", 1, lambda: [f"a IMAGE {JUMPS}\n"], 300, 300, 300, b"YES 1813 1813"),
     ("100 x 1,024 packets kept", 1, lambda: kept("a"), 100, 102_500, 102_400, b"KEPT "),
     ("100 x 1,024 packets kept and run", 1, lambda: kept_and_run("a"), 100, 205_000, 102_400, b"R "),
-    ("2,000 runs of one packet", 4, lambda: [f"a IMAGE {INCREMENT}\n", "a PACKET 01000000\n", "a RUN\n"], 2000, 8000, 2000, b"R 0 0 16 02"),
+    ("2,000 runs of one packet", 4, one_packet, 2000, 8000, 2000, b"R 0 0 16 02"),
     ("64 full sessions, RUN *", 4, full_sessions, 1, 131_265, 65_536, b"R "),
     ("1,024,000 instructions listed, 4,000 a line", 1, lambda: listed(4000), 256, 1_024_256, 256, b"DONE 4000\n"),
     ("1,024,000 instructions listed, 16,000 a line", 1, lambda: listed(16_000), 64, 1_024_064, 64, b"DONE 16000\n"),

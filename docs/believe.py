@@ -1,7 +1,7 @@
 #!/usr/bin/env python3
-"""What must be believed of some definitions: the files that these import, one by another, with their lines, and the types of the code that they
-name, with the definitions by which contracts see those types. Prints the part of docs/PROOFS.md that says it; --write puts it there,
-and --check ends with status 1 where another one stands there."""
+"""What must be believed of some definitions: the files that these import, one by another, with their lines, and the
+types of the code that they name, with the definitions by which contracts see those types. Prints the part of
+docs/PROOFS.md that says it; --write puts it there, and --check ends with status 1 where another one stands there."""
 import argparse, collections, pathlib, re, sys
 
 TOP = pathlib.Path(__file__).resolve().parent.parent
