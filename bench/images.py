@@ -5,6 +5,7 @@
 """
 
 import sys
+from functools import partial
 
 # ldlp 0, mint, ldnlp 4, ldc 4, in
 TAKE = bytes.fromhex("1024f25444f7")
@@ -30,6 +31,12 @@ END_BYTES = 9
 # How far a store is from the next, in words, and how many words they go round in.
 STRIDE = 67
 ROUND = 208
+
+# What fills a loop in the place of its jumps: `ldc 0`, `ldl n` or `rev` and jumps that test it, or a store that a jump passes by.
+# bench/search.py of commit 79976110 mixed these at random.
+PIECES = """
+    40a040a040a0 40a440a240a0 404040a0a0a0 70a071a072a0 70a471a272a0 40a4402120d0 40a4402127df 40a240d340a0 7071f0a0a040
+""".split()
 
 CJ, LDLP, LDC, LDL, STL = 0xA, 0x1, 0x4, 0x7, 0xD
 
@@ -111,6 +118,10 @@ def filled(filling):
     return image(code + SEND, rows)
 
 
+def filled_by(piece):
+    return filled(lambda code, end: bytes.fromhex(piece) * (max(end - len(code), 0) * 2 // len(piece)))
+
+
 def behind():
     """One loop that moves the words on, and the conditional jumps behind it."""
     rows = []
@@ -142,7 +153,12 @@ IMAGES = {
     "strided stores": lambda: filled(stores_up_to),
     "growing range": lambda: filled(sum_up_to),
     "refused in the last pass": refused,
+    **{f"one loop of {it}": partial(filled_by, it) for it in PIECES},
 }
+
+
+# What check.py judges.
+CHECKED = [it for it in IMAGES if it not in ("short and straight", "jumps over few words")]
 
 
 def named(name):

@@ -22,19 +22,14 @@ import re
 import statistics
 import subprocess
 import sys
+import tempfile
 
 sys.dont_write_bytecode = True
 import images  # noqa: E402
+import running  # noqa: E402
 
-TOP = os.path.dirname(os.path.dirname(os.path.realpath(__file__)))
 # What is accepted, and how often: an image that is judged quickly is judged more often.
 ACCEPTED = {"increment": 2000, "short and straight": 200, "jumps over few words": 20, "one loop": 1}
-
-
-def program(crate):
-    """A benchmark's program, built where it is missing or older than its sources."""
-    subprocess.run(["rt", "run"], cwd=f"{TOP}/crates/{crate}", stdin=subprocess.DEVNULL, stdout=subprocess.DEVNULL, check=True)
-    return f"{TOP}/crates/{crate}/out/{crate}"
 
 
 def lines(output):
@@ -50,7 +45,7 @@ def lines(output):
 
 def measured(crate, *words):
     """The lines of a benchmark."""
-    return lines(subprocess.run([program(crate), *words], stdout=subprocess.PIPE, check=True, text=True).stdout)
+    return lines(subprocess.run([running.benchmark(crate), *words], stdout=subprocess.PIPE, check=True, text=True).stdout)
 
 
 def flow():
@@ -72,7 +67,7 @@ def states():
 
 
 def check(output):
-    """What bench/check.sh prints of an image."""
+    """What bench/check.py prints of an image."""
     for name, counts, text, times in lines(output):
         judged, flow = times["judged"], times["check_flow 100 times"] / 100
         yield f"{name}: {judged // 1000} microseconds, {judged / flow:.0f} times check_flow; {text.partition(', judged')[0]}"
@@ -118,12 +113,9 @@ def farm():
     for (worker, members), found in best_and_median.items():
         percent = [100 * a // b for a, b in zip(found, best_and_median[worker, "members 1"])]
         print(f"{worker}, {members}: {found[0]} packets a second, median {found[1]}; {percent[0]} and {percent[1]} percent of one member")
-    child = subprocess.Popen([program("bench_farm"), "farm-once"], stdout=subprocess.PIPE, text=True)
-    counted = child.stdout.read().strip()
-    _, status, usage = os.wait4(child.pid, 0)
-    if status:
-        sys.exit("measure.py: farm-once has failed")
-    print(f"{counted}; peak {usage.ru_maxrss} KiB")
+    with open(os.devnull, "rb") as given, tempfile.TemporaryFile() as answers:
+        taken = running.run([running.benchmark("bench_farm"), "farm-once"], given, answers)
+        print(f"{answers.read().decode().strip()}; peak {taken.peak} KiB")
 
 
 WORDS = {it.__name__: it for it in (flow, states, accept, machine, board, farm)}

@@ -5,7 +5,7 @@ and drops, of which some are changed at random. Two programs that were built fro
     bench/same.py FARMD OTHER_FARMD [INPUTS [SEED]]
 
 INPUTS is 1,000 where it is not given, and SEED 1. Ends with status 1 where an answer, a message or a status differs; the input is
-then written to a file whose name is printed.
+then written to a file whose name is printed. A program that takes more than two minutes gives no answer.
 """
 
 import collections
@@ -16,7 +16,8 @@ import subprocess
 import sys
 import tempfile
 
-import images
+sys.dont_write_bytecode = True
+import images  # noqa: E402
 
 EXAMPLES = pathlib.Path(__file__).resolve().parent.parent / "examples"
 NAMES = ["a", "b", "farm0", "z9"]
@@ -106,7 +107,10 @@ def generated(chance, known):
 
 
 def answer(program, options, given):
-    it = subprocess.run([program, *options], input=given, capture_output=True, timeout=120)
+    try:
+        it = subprocess.run([program, *options], input=given, capture_output=True, timeout=120)
+    except subprocess.TimeoutExpired:
+        return None
     return it.returncode, it.stdout, it.stderr
 
 
@@ -121,10 +125,10 @@ def main():
     for number in range(inputs):
         given, options = generated(chance, known)
         first, second = answer(one, options, given), answer(other, options, given)
-        if first != second:
+        if first is None or first != second:
             with tempfile.NamedTemporaryFile(delete=False, suffix=".lines") as kept:
                 kept.write(given)
-            sys.exit(f"input {number} is answered otherwise: {kept.name}, {' '.join(options)}")
+            sys.exit(f"input {number} is answered otherwise, or not in two minutes: {kept.name}, {' '.join(options)}")
         words.update(b" ".join(it.split(b" ")[:2]) if it.startswith(b"NO") else it.split(b" ")[0] for it in first[1].split(b"\n"))
     counts = {it.decode(errors="replace"): n for it, n in words.items() if re.fullmatch(rb"[A-Z]+( [A-Z]\d+)?", it)}
     print(f"{inputs} inputs, the same answers: " + ", ".join(f"{n} {it}" for it, n in sorted(counts.items())))

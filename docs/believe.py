@@ -1,8 +1,8 @@
 #!/usr/bin/env python3
-"""What must be believed of some definitions: the files that these import, one by another, with their lines, and the types of the code that they
-name, with the definitions by which contracts see those types. Prints the part of docs/PROOFS.md that says it; --write puts it there,
-and --check ends with status 1 where another one stands there."""
-import collections, pathlib, re, sys
+"""What must be believed of some definitions: the files that these import, one by another, with their lines, and the
+types of the code that they name, with the definitions by which contracts see those types. Prints the part of
+docs/PROOFS.md that says it; --write puts it there, and --check ends with status 1 where another one stands there."""
+import argparse, collections, pathlib, re, sys
 
 TOP = pathlib.Path(__file__).resolve().parent.parent
 ROOTS = {
@@ -55,13 +55,23 @@ def part():
             yield f"| {crate} | {', '.join(by_crate[crate])} | {named} |"
 
 
-page = TOP / "docs/PROOFS.md"
-first, last = "<!-- docs/believe.py -->\n", "<!-- /docs/believe.py -->"
-before, _, rest = page.read_text().partition(first)
-new = before + first + "\n".join(part()) + "\n" + last + rest.partition(last)[2]
-if "--write" in sys.argv:
-    page.write_text(new)
-elif "--check" in sys.argv:
-    sys.exit(page.read_text() != new)
-else:
-    print(*part(), sep="\n")
+def main():
+    parser = argparse.ArgumentParser(description=__doc__)
+    either = parser.add_mutually_exclusive_group()
+    either.add_argument("--write", action="store_true")
+    either.add_argument("--check", action="store_true")
+    words = parser.parse_args()
+    page = TOP / "docs/PROOFS.md"
+    first, last = "<!-- docs/believe.py -->\n", "<!-- /docs/believe.py -->"
+    before, _, rest = page.read_text().partition(first)
+    new = before + first + "\n".join(part()) + "\n" + last + rest.partition(last)[2]
+    if words.write:
+        page.write_text(new)
+    elif words.check:
+        sys.exit("docs/PROOFS.md is out of date: docs/believe.py --write" if page.read_text() != new else 0)
+    else:
+        print(*part(), sep="\n")
+
+
+if __name__ == "__main__":
+    main()

@@ -1,10 +1,17 @@
 #!/usr/bin/env python3
-"""Writes NAME.packets and NAME.expected for each worker that ../NAME.tps has: packets, and what Python makes of them."""
-import hashlib, random, struct, zlib
+"""Writes NAME.packets and NAME.expected for each worker that ../NAME.tps has: packets, and what Python makes of them.
+
+usage: make.py [FOLDER]
+
+It writes into its own folder where no other is named.
+"""
+import hashlib, os, random, struct, sys, zlib
+
+folder = sys.argv[1] if len(sys.argv) > 1 else os.path.dirname(os.path.realpath(__file__))
 
 def write(name, packets, results):
     for kind, lines in ('packets', packets), ('expected', results):
-        with open(f'{name}.{kind}', 'w') as file:
+        with open(f'{folder}/{name}.{kind}', 'w') as file:
             file.writelines(line + '\n' for line in lines)
 
 def words(numbers):

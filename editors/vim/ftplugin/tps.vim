@@ -1,0 +1,2 @@
+" Texts of workers are assembled by :make.
+compiler tpw
