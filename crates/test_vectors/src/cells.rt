@@ -1,6 +1,6 @@
 //! The words of a state, as a fill and the words that differ from it, and the words that an outcome changes.
 
-ghost use Rattle.std.specs.Prelude.{◌≡◌, ◌≤◌, IfOk, length};
+ghost use Rattle.std.specs.Prelude.{◌≡◌, ◌≤◌, IfOk, OnOk, length};
 
 use crate::fields::{NOTHING, number};
 use crate::kinds::{cell, cell_text};
@@ -37,7 +37,8 @@ fn put(cells: &mut [Cell], named: &str) -> Result<()>
 
 /// So many words, which hold the fill but for those that are named.
 pub(crate) fn cells(alloc: Global, words: u32, fill: &str, named: &str) -> Result<Vec<Cell>>
-    ensures { IfOk result (λ cells. length cells.items ≤ 512) }
+    ensures count { IfOk result (λ cells. length cells.items ≡ words) }
+    ensures few { OnOk result (words ≤ 512) }
 {
     ensure!(words <= MOST_WORDS, "more words than a workspace has");
     let mut cells = Vec::from_elem(alloc, cell(fill)?, words as usize)?;

@@ -13,7 +13,9 @@ use tp_image::read_image;
 use tp_state::{Cells, State, StateFault, after};
 
 /// A state of seven fields, with so many words.
-fn state(alloc: Global, words: u32, fields: &[&str]) -> Result<State> {
+fn state(alloc: Global, words: u32, fields: &[&str]) -> Result<State>
+    ensures { IfOk result (λ state. length state.cells ≡ words) }
+{
     let [wptr, phase, a, b, c, fill, named] = fields else {
         return Err(anyhow!("no state"));
     };
@@ -69,10 +71,6 @@ pub(crate) fn after_case(alloc: Global, asked: &str) -> Result<String> {
         5 <= before.wptr && before.wptr < image.workspace,
         "Wptr is out of its range"
     );
-    ensure!(
-        before.cells.to_vec(alloc)?.len() == image.workspace as usize,
-        "not all words"
-    );
     match after(alloc, &before, at, next, instr, edge(taken)?, &image, &nest) {
         Ok(known) => outcome(alloc, &before, &known),
         Err(StateFault::Refused { code, place }) => Ok(format!(in alloc; "{code} {place}")?),
@@ -81,7 +79,9 @@ pub(crate) fn after_case(alloc: Global, asked: &str) -> Result<String> {
 }
 
 /// Two states of so many words.
-fn two_states(alloc: Global, asked: &str) -> Result<(State, State)> {
+fn two_states(alloc: Global, asked: &str) -> Result<(State, State)>
+    ensures { IfOk result (λ states. length states.1.cells ≡ length states.0.cells) }
+{
     let fields = parted(alloc, asked)?;
     let [words, states @ ..] = fields.as_slice() else {
         return Err(anyhow!("no case"));

@@ -12,12 +12,8 @@ use Rattle.tp_session.specs.Served.{ServesAll, ServesRead, ServesBefore, ServesS
 use Rattle.tp_program.specs.declared.ending.Ending.{Ending}
 use Rattle.tp_program.specs.declared.ending.Ending.TheVariants.{Shown, Refused, NotText, Fault}
 use Rattle.tp_program.specs.Program.{asks_traces, status_of, reported, Performs, EndsWordless, DoesNothing}
-use Rattle.tp_program.specs.Endings.{ending_without, IsConcluded, IsEndingBy}
+use Rattle.tp_program.specs.Endings.{ending_without, Reports, IsConcluded, IsEndingBy}
 use Rattle.tp_program.proofs.Unserved.{nothing_served}
-
--- a fault is reported, as far as it can be written
-abbrev pub Reports : (errors errors' : Option (List ℕ)) → Ending → Type 0
-Reports errors errors' ending = (fault : ServeFault) → ending ≡ Fault fault → (n : ℕ) × Appends errors errors' (take n (fault_text fault))
 
 module _ (words : List Text) where
   -- the members have served
@@ -59,11 +55,11 @@ module _ (words : List Text) where
             silent = λ _. shown.1;
             reports = λ one. absurd (omega arith);
           })
-          | inr failed ↦ (let one = failed.0 in record {
+          | inr failed ↦ (let one = failed.0 in let written : Reports errors errors' Write = failed.1 in record {
             status_is = inr failed.0;
             unread = refl;
             silent = λ zero. absurd (omega arith);
-            reports = λ _. (Write, failed.1);
+            reports = λ _. (Write, written.0, written.1);
           })
         ];
     refused = λ two.
@@ -86,24 +82,25 @@ module _ (words : List Text) where
       }
   ended input old new errors errors' (Fault fault) by status is =
       let one = is.0 in
+      let written : Reports errors errors' fault = is.2 in
       record {
         serves = λ none. record {
           result = Err fault;
           all = tt;
           read = λ e. cc;
-          want = λ e. subst (λ left. ServesBefore (asks_traces words) input input old left) (sym is.1.0) (nothing_served (asks_traces words) input old);
+          want = λ e. subst (λ left. ServesBefore (asks_traces words) input input old left) (sym is.1) (nothing_served (asks_traces words) input old);
           write = λ e. cc;
           status_is = is.0;
-          some = is.1.1.0;
-          reports = is.1.1.1;
+          some = written.0;
+          reports = written.1;
         };
         other = λ faults. record {
           status_is = inr is.0;
           unread = refl;
           silent = λ zero. absurd (omega arith);
-          reports = λ _. (fault, is.1.1);
+          reports = λ _. (fault, written.0, written.1);
         };
-        refused = λ two. is.1.0;
+        refused = λ two. is.1;
       }
   ended input old new errors errors' NotText by status is = absurd by
 
@@ -115,9 +112,9 @@ did_nothing kind input old new errors errors' ending same status is =
     record { unread = refl; unwritten = unwritten kind concluded; ends = by_kind kind concluded }
   where
     unwritten : (kind : IoKind) → IsConcluded (ending_without kind) old new errors errors' status → new ≡ old
-    unwritten OutOfMemory is = is.1.0
+    unwritten OutOfMemory is = is.1
     unwritten kind is = is.1
 
     by_kind : (kind : IoKind) → IsConcluded (ending_without kind) old new errors errors' status → EndsWordless kind errors errors' status
-    by_kind OutOfMemory is = (is.1.1.0, is.1.1.1, is.0)
+    by_kind OutOfMemory is = let written : Reports errors errors' Memory = is.2 in (written.0, written.1, is.0)
     by_kind kind is = is.0
