@@ -11,7 +11,10 @@ import threading
 
 def answers(lines, command):
     """Sends lines to a farm, and yields each line of its answers."""
-    farm = subprocess.Popen(command, stdin=subprocess.PIPE, stdout=subprocess.PIPE, text=True)
+    try:
+        farm = subprocess.Popen(command, stdin=subprocess.PIPE, stdout=subprocess.PIPE, text=True)
+    except OSError as fault:
+        sys.exit(f"client: {command[0]}: {fault.strerror}")
 
     def send():
         with contextlib.suppress(BrokenPipeError), farm.stdin as stream:
@@ -30,8 +33,11 @@ def answers(lines, command):
 
 
 def main(words):
-    command = words[words.index("--") + 1 :] if "--" in words else ["farmd"]
-    image, *packets = words[: words.index("--")] if "--" in words else words
+    end = words.index("--") if "--" in words else len(words)
+    command = words[end + 1 :] or ["farmd"]
+    if end == 0:
+        sys.exit(__doc__.strip())
+    image, *packets = words[:end]
     lines = [f"a IMAGE {image}", *(f"a PACKET {it}" for it in packets), "a RUN"]
     with contextlib.closing(answers(lines, command)) as lines_back:
         for answer in lines_back:
