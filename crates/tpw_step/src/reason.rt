@@ -141,7 +141,8 @@ fn output_reason(snapshot: Snapshot<'_>, bytes: u32, channel: u32, address: u32)
 /// Why no words can be moved so.
 fn move_reason(snapshot: Snapshot<'_>, bytes: u32, target: u32, source: u32) -> Reason {
     let is_length = bytes % WORD_BYTES == 0 && 0 < bytes && bytes <= MOVE_BYTES;
-    if snapshot.image.version == Version::One {
+    let image = snapshot.image;
+    if image.version == Version::One {
         Reason::NoMove
     } else if !is_length {
         Reason::NotAMove
