@@ -1,0 +1,4 @@
+-- What a reader must believe: the meaning of a worker.
+pub mod Arithmetic
+pub mod Arrays
+pub mod Meaning
