@@ -14,7 +14,7 @@ abbrev pub element : Kind → List ℕ → ℕ → ℕ
 element Word bytes i =
     from_le_bytes w32
     (slice_index bytes (4 * i) ∷ slice_index bytes (4 * i + 1) ∷ slice_index bytes (4 * i + 2)
-        ∷ slice_index bytes (4 * i + 3) ∷ [])
+    ∷ slice_index bytes (4 * i + 3) ∷ [])
 element Byte bytes i = slice_index bytes i
 
 -- what a place of a kind takes of a word: a byte its low byte

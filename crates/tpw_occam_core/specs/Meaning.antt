@@ -1,5 +1,5 @@
 -- What a worker means: of a packet it makes a result, an error flag and traces, or the packet is lost for its traces.
-use Rattle.std.specs.Prelude.{ℕ, zero, suc, Bool, true, false, ◌||◌, ◌==◌, nat_lt, if◌then◌else◌, pos, ◌+ℤ◌, List, [], ◌∷◌, ◌++◌, length, map, replicate, slice_index, slice_index_or, slice_set, Option, Some, None}
+use Rattle.std.specs.Prelude.{◌≡◌, ℕ, zero, suc, Bool, true, false, ◌||◌, ◌==◌, nat_lt, if◌then◌else◌, pos, ◌+ℤ◌, List, [], ◌∷◌, ◌++◌, length, map, replicate, slice_index, slice_index_or, slice_set, Option, Some, None}
 use Rattle.std.specs.Int.{w32, to_le_bytes}
 use Rattle.tp_decode.specs.Words.{low_word, complement}
 use Rattle.tp_step.specs.Numbers.{truth}
@@ -20,6 +20,7 @@ use Rattle.tpw_occam_core.specs.declared.worker.Storage.TheVariants.{Zeros, Tabl
 use Rattle.tpw_occam_core.specs.declared.worker.Place.{Place}
 use Rattle.tpw_occam_core.specs.declared.worker.Place.TheVariants as place
 use Rattle.tpw_occam_core.specs.declared.worker.Worker.{Worker}
+use Rattle.tpw_occam_core.specs.declared.evaluated.Given.{Given}
 use Rattle.tpw_occam_core.specs.Arithmetic.{answer, plain, subscript, low_byte, applied}
 use Rattle.tpw_occam_core.specs.Arrays.{size, element, kept, with_element}
 
@@ -168,7 +169,7 @@ abbrev pub after : Worker → List ℕ → Store
 after w packet = run w.variables.items w.body (received w.receive packet (first w))
 
 -- what a packet gives
-pub record Given : Type 0 where
+pub record Meant : Type 0 where
   pub result : List ℕ
   pub flag : Bool
   pub traced : List ℕ
@@ -177,11 +178,17 @@ pub record Given : Type 0 where
 abbrev pub most_traced : ℕ
 most_traced = 256
 
-abbrev pub given : Message → Store → Given
-given m s = record { result = bytes_of m s; flag = s.flag || flag_of m s; traced = s.traced }
+abbrev pub meant : Message → Store → Meant
+meant m s = record { result = bytes_of m s; flag = s.flag || flag_of m s; traced = s.traced }
 
 -- what a worker makes of a packet: nothing where it has traced too much
-unfoldable pub meaning : Worker → List ℕ → Option Given
+unfoldable pub meaning : Worker → List ℕ → Option Meant
 meaning w packet =
     if nat_lt most_traced (length (after w packet).traced) then None
-    else Some (given w.send (after w packet))
+    else Some (meant w.send (after w packet))
+
+-- this is given of a packet
+abbrev pub IsMeaning : Worker → List ℕ → Option Given → Type 0
+IsMeaning w packet None = meaning w packet ≡ None
+IsMeaning w packet (Some g) =
+    meaning w packet ≡ Some (record { result = g.result.items; flag = g.flag; traced = g.traced.items })

@@ -17,7 +17,7 @@ pub struct Answer {
 }
 
 /// A word that sets no flag.
-fn plain(word: u32) -> Answer
+pub(crate) fn plain(word: u32) -> Answer
     ensures { result ≡ plain word }
 {
     Answer { word, flag: false }

@@ -6,14 +6,19 @@
 
 mod arithmetic;
 mod arrays;
+mod evaluated;
+mod evaluation;
 mod expression;
 mod kind;
 mod process;
+mod running;
 mod state;
 mod worker;
 
 pub use arithmetic::{Answer, applied, checked_subscript};
+pub use evaluated::{Given, evaluate};
 pub use expression::{Expression, Operator};
 pub use kind::Kind;
 pub use process::{Assignment, Message, Process, Target};
+pub use state::MOST_TRACED;
 pub use worker::{Place, Storage, Worker};

@@ -1,13 +1,16 @@
 //! What a worker knows while it is evaluated.
 
-ghost use Rattle.std.specs.Prelude.{◌≡◌, ◌++◌, slice_index, IfOk, OnOk, length, replicate};
-ghost use Rattle.tpw_occam_core.specs.Meaning.{array_of, with_value, with_array, flagged};
+ghost use Rattle.std.specs.Prelude.{◌≡◌, ◌++◌, false, map, nat_lt, slice_index, IfOk, OnOk, length, replicate};
+ghost use Rattle.tpw_occam_core.specs.Meaning.{array_of, with_value, with_array, flagged, most_traced};
 ghost use Rattle.tpw_occam_core.specs.Arrays.{with_element};
 
 use crate::arrays::put_element;
 use crate::kind::Kind;
 use std::alloc::{AllocError, Global};
 use std::marker::Model;
+
+/// The most bytes that a worker may trace.
+pub const MOST_TRACED: usize = 256;
 
 /// The words of variables, the bytes of arrays, the error flag and what was traced.
 #[derive(Drop)]
@@ -25,14 +28,29 @@ impl Model for State {
     ghost Value = { Store };
 
     ghost view = { λ s. record {
-        values = s.values.items;
-        arrays = map (λ v. v.items) s.arrays.items;
-        flag = s.flag;
-        traced = s.traced.items;
+      values = s.values.items;
+      arrays = map (λ v. v.items) s.arrays.items;
+      flag = s.flag;
+      traced = s.traced.items;
     } };
 }
 
 impl State {
+    /// A state in which the flag is clear.
+    pub(crate) fn new(values: Vec<u32>, arrays: Vec<Vec<u8>>, traced: Vec<u8>) -> State
+        ensures values { result.values ≡ values.items }
+        ensures arrays { result.arrays ≡ map (λ v. v.items) arrays.items }
+        ensures flag { result.flag ≡ false }
+        ensures traced { result.traced ≡ traced.items }
+    {
+        State {
+            values,
+            arrays,
+            flag: false,
+            traced,
+        }
+    }
+
     pub(crate) fn flag(&self) -> bool
         ensures { result ≡ self.now.flag }
     {
@@ -43,6 +61,13 @@ impl State {
         ensures { result.now ≡ self.now.traced }
     {
         &self.traced
+    }
+
+    /// Whether more is traced than may be.
+    pub(crate) fn has_traced_too_much(&self) -> bool
+        ensures { result ≡ nat_lt most_traced (length self.now.traced) }
+    {
+        self.traced.len() > MOST_TRACED
     }
 
     /// The word of a variable.
@@ -87,6 +112,16 @@ impl State {
         if a < self.arrays.len() {
             self.arrays[a] = bytes;
         }
+    }
+
+    /// Every byte of an array becomes 0.
+    pub(crate) fn clear_array(&mut self, alloc: Global, a: usize) -> Result<(), AllocError>
+        ensures { OnOk result (self.new ≡ with_array a (replicate (length (array_of self.old a)) 0) self.old) }
+    {
+        let mut zeros = Vec::new(alloc);
+        zeros.resize(self.array(a).len(), 0)?;
+        self.set_array(a, zeros);
+        Ok(())
     }
 
     /// Sets the flag where it is to be set.
