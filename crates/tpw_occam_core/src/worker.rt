@@ -12,6 +12,16 @@ pub enum Storage {
     Table(Vec<u8>),
 }
 
+impl Storage {
+    /// How many bytes there are. More than a number of 32 bits can say are taken for the most that it can.
+    pub fn bytes(&self) -> u32 {
+        match self {
+            Storage::Zeros(count) => *count,
+            Storage::Table(bytes) => u32::try_from(bytes.len()).unwrap_or(u32::MAX),
+        }
+    }
+}
+
 /// Where the packet goes.
 #[derive(Clone, Copy, Debug, PartialEq, Eq)]
 pub enum Place {
