@@ -1,7 +1,9 @@
 //! Parts of workers.
 
 use std::alloc::{AllocError, Global};
-use tpw_occam_core::{Assignment, Expression, Kind, Message, Operator, Place, Process, Storage, Target, Worker};
+use tpw_occam_core::{
+    Assignment, Expression, Kind, Message, Operator, Place, Process, Storage, Target, Worker,
+};
 
 /// Makes parts of workers.
 #[derive(Clone, Copy)]
@@ -20,7 +22,12 @@ pub(crate) fn name(x: usize) -> Expression {
 }
 
 impl Build {
-    pub(crate) fn binary(self, operator: Operator, left: Expression, right: Expression) -> Made<Expression> {
+    pub(crate) fn binary(
+        self,
+        operator: Operator,
+        left: Expression,
+        right: Expression,
+    ) -> Made<Expression> {
         Ok(Expression::Binary {
             operator,
             left: Box::new(self.alloc, left)?,
@@ -28,7 +35,12 @@ impl Build {
         })
     }
 
-    pub(crate) fn element(self, array: usize, kind: Kind, subscript: Expression) -> Made<Expression> {
+    pub(crate) fn element(
+        self,
+        array: usize,
+        kind: Kind,
+        subscript: Expression,
+    ) -> Made<Expression> {
         Ok(Expression::Element {
             array,
             kind,
@@ -63,7 +75,12 @@ impl Build {
         Ok(Expression::Or(Box::new(self.alloc, left)?, Box::new(self.alloc, right)?))
     }
 
-    pub(crate) fn bound(self, name: usize, value: Expression, within: Expression) -> Made<Expression> {
+    pub(crate) fn bound(
+        self,
+        name: usize,
+        value: Expression,
+        within: Expression,
+    ) -> Made<Expression> {
         Ok(Expression::Let {
             name,
             value: Box::new(self.alloc, value)?,
@@ -77,7 +94,13 @@ impl Build {
     }
 
     /// `array[subscript] := value`.
-    pub(crate) fn put(self, array: usize, kind: Kind, subscript: Expression, value: Expression) -> Made<Process> {
+    pub(crate) fn put(
+        self,
+        array: usize,
+        kind: Kind,
+        subscript: Expression,
+        value: Expression,
+    ) -> Made<Process> {
         let target = Target::Element {
             array,
             kind,
@@ -93,7 +116,13 @@ impl Build {
     }
 
     /// `x, y := value, other`.
-    pub(crate) fn set_two(self, x: usize, value: Expression, y: usize, other: Expression) -> Made<Process> {
+    pub(crate) fn set_two(
+        self,
+        x: usize,
+        value: Expression,
+        y: usize,
+        other: Expression,
+    ) -> Made<Process> {
         let mut list = Vec::new(self.alloc);
         list.push(Assignment {
             target: Target::Variable(x),
@@ -110,7 +139,13 @@ impl Build {
         Ok(Process::Sequence(Box::new(self.alloc, first)?, Box::new(self.alloc, second)?))
     }
 
-    pub(crate) fn repeat(self, index: usize, start: i32, count: u32, body: Process) -> Made<Process> {
+    pub(crate) fn repeat(
+        self,
+        index: usize,
+        start: i32,
+        count: u32,
+        body: Process,
+    ) -> Made<Process> {
         Ok(Process::Repeat {
             index,
             start: start.cast_unsigned(),
@@ -120,7 +155,12 @@ impl Build {
     }
 
     /// An IF of one guard and of what is done where it is FALSE.
-    pub(crate) fn choice(self, guard: Expression, guarded: Process, rest: Process) -> Made<Process> {
+    pub(crate) fn choice(
+        self,
+        guard: Expression,
+        guarded: Process,
+        rest: Process,
+    ) -> Made<Process> {
         Ok(Process::If {
             guard,
             guarded: Box::new(self.alloc, guarded)?,
@@ -162,7 +202,13 @@ impl Build {
     }
 
     /// A worker of so many INTs, whose packet and result are INTs.
-    pub(crate) fn worker(self, variables: usize, globals: usize, body: Process, send: Expression) -> Made<Worker> {
+    pub(crate) fn worker(
+        self,
+        variables: usize,
+        globals: usize,
+        body: Process,
+        send: Expression,
+    ) -> Made<Worker> {
         let mut kinds = Vec::new(self.alloc);
         kinds.resize(variables, Kind::Word)?;
         let mut global_variables = Vec::new(self.alloc);

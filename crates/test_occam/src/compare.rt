@@ -20,13 +20,21 @@ pub(crate) fn accepted(rt: &impl Abort, alloc: Global, compiled: &Compiled) -> A
 }
 
 /// What the image of a worker makes of a packet, and how many steps that takes.
-pub(crate) fn run(rt: &impl Abort, alloc: Global, accepted: &Accepted, packet: &[u8]) -> (Option<Given>, u32) {
+pub(crate) fn run(
+    rt: &impl Abort,
+    alloc: Global,
+    accepted: &Accepted,
+    packet: &[u8],
+) -> (Option<Given>, u32) {
     let mut media = unwrap(rt, Media::with_rooms(alloc, 256, 256, 65536));
     let mut machine = Machine::new();
     let outcome: Outcome = {
         let mut links = media.wires();
         unwrap(rt, links.source.send(packet));
-        unwrap(rt, machine.run_image(accepted.image(), &mut links, accepted.budget()))
+        unwrap(
+            rt,
+            machine.run_image(accepted.image(), &mut links, accepted.budget()),
+        )
     };
     if media.trace.bytes().len() > MOST_TRACED {
         return (None, outcome.steps);
@@ -52,7 +60,12 @@ pub(crate) fn assert_given(rt: &impl Abort, one: &Option<Given>, other: &Option<
 }
 
 /// What a worker makes of a packet, by its meaning and by its image, which are the same.
-pub(crate) fn meant(rt: &impl Abort, alloc: Global, worker: &Worker, packet: &[u8]) -> Option<Given> {
+pub(crate) fn meant(
+    rt: &impl Abort,
+    alloc: Global,
+    worker: &Worker,
+    packet: &[u8],
+) -> Option<Given> {
     let compiled = unwrap(rt, compile(alloc, worker));
     let accepted = accepted(rt, alloc, &compiled);
     let meaning = unwrap(rt, evaluate(alloc, worker, packet));

@@ -1,7 +1,9 @@
 //! Random workers, from a seed.
 
 use crate::build::{Build, Made, number};
-use tpw_occam_core::{Assignment, Expression, Kind, Message, Operator, Place, Process, Storage, Target, Worker};
+use tpw_occam_core::{
+    Assignment, Expression, Kind, Message, Operator, Place, Process, Storage, Target, Worker,
+};
 
 /// Numbers that look random (Marsaglia, "Xorshift RNGs").
 #[derive(Clone, Copy)]
@@ -82,8 +84,30 @@ const OPERATORS: [Operator; 24] = [
 ];
 
 const NUMBERS: [u32; 24] = [
-    0, 1, 2, 3, 4, 5, 7, 8, 15, 16, 31, 32, 33, 63, 127, 128, 255, 256, 257, 0xFFFF_FFFF,
-    0xFFFF_FF00, 0x7FFF_FFFF, 0x8000_0000, 0x8000_0001,
+    0,
+    1,
+    2,
+    3,
+    4,
+    5,
+    7,
+    8,
+    15,
+    16,
+    31,
+    32,
+    33,
+    63,
+    127,
+    128,
+    255,
+    256,
+    257,
+    0xFFFF_FFFF,
+    0xFFFF_FF00,
+    0x7FFF_FFFF,
+    0x8000_0000,
+    0x8000_0001,
 ];
 
 const SIZES: [u32; 14] = [4, 8, 12, 16, 20, 28, 64, 100, 256, 1, 3, 7, 10, 300];
@@ -121,7 +145,11 @@ impl Maker {
     }
 
     fn kind(&mut self) -> Kind {
-        if self.random.below(4) == 0 { Kind::Byte } else { Kind::Word }
+        if self.random.below(4) == 0 {
+            Kind::Byte
+        } else {
+            Kind::Word
+        }
     }
 
     /// An entry of the scope that passes, if one is found.
@@ -187,7 +215,11 @@ impl Maker {
             3 => {
                 let e = self.expression(false, depth)?;
                 let masked = b.binary(Operator::BitAnd, e, Expression::Constant(0x7FFF_FFFF))?;
-                b.binary(Operator::Remainder, masked, Expression::Constant(size.max(1)))
+                b.binary(
+                    Operator::Remainder,
+                    masked,
+                    Expression::Constant(size.max(1)),
+                )
             }
             4 => match self.readable() {
                 Some(x) => Ok(Expression::Variable(x)),
@@ -196,7 +228,11 @@ impl Maker {
             _ => {
                 let e = self.expression(false, depth)?;
                 let mask = size.max(1).next_power_of_two() / 2;
-                b.binary(Operator::BitAnd, e, Expression::Constant(mask.saturating_sub(1)))
+                b.binary(
+                    Operator::BitAnd,
+                    e,
+                    Expression::Constant(mask.saturating_sub(1)),
+                )
             }
         }
     }
@@ -381,7 +417,11 @@ impl Maker {
         let b = self.build;
         match self.random.below(20) {
             0 => Ok(Process::Skip),
-            1 => Ok(if self.random.below(12) == 0 { Process::Stop } else { Process::Skip }),
+            1 => Ok(if self.random.below(12) == 0 {
+                Process::Stop
+            } else {
+                Process::Skip
+            }),
             2 => Ok(self.copy()),
             3 => Ok(Process::Trace(self.message()?)),
             4 | 5 => {

@@ -1,11 +1,32 @@
 //! Code of assignments.
 
-use crate::code::Code;
-use crate::emitter::Emitter;
+use crate::code::{Code, Step};
+use crate::emitter::{Emitter, Room};
 use crate::fault::CodeFault;
+use crate::items::Item;
 use crate::order::order;
+use crate::range::FULL;
+use crate::subscripts::{checked, indexed, kept_byte, settled};
 use tp_decode::Instr;
 use tpw_occam_core::{Assignment, Expression, Kind, Target};
+
+/// Stores Areg in a variable.
+fn store_variable(code: &mut Code, line: u32, x: usize) -> Result<(), CodeFault> {
+    code.emit(line, Step::Store(Item::Variable(x), 0))
+}
+
+/// Stores Areg in a word of an array.
+fn store_word(code: &mut Code, line: u32, array: usize, word: u32) -> Result<(), CodeFault> {
+    code.emit(line, Step::Store(Item::Array(array), word))
+}
+
+/// Stores Breg at the address in Areg.
+fn store_at(code: &mut Code, line: u32, kind: Kind) -> Result<(), CodeFault> {
+    match kind {
+        Kind::Word => code.instr(line, Instr::Stnl(0)),
+        Kind::Byte => code.instr(line, Instr::Sb),
+    }
+}
 
 impl Emitter<'_> {
     /// Makes assignments that are made together: one by one where an order allows that, else with the values in registers, else with the
@@ -14,101 +35,112 @@ impl Emitter<'_> {
         &mut self,
         code: &mut Code,
         all: &[Assignment],
+        line: u32,
     ) -> Result<(), CodeFault> {
         if let Some(ordered) = order(self.alloc, all)? {
-            for i in &ordered {
-                if let Some(assignment) = all.get(*i) {
-                    self.assign(code, &assignment.target, &assignment.value)?;
-                }
-            }
-            return Ok(());
+            return self.assign_in_order(code, all, &ordered, line);
         }
         if self.fit_in_registers(all) {
-            self.assign_by_registers(code, all)
+            self.assign_by_registers(code, all, line)
         } else {
-            self.assign_by_words(code, all)
+            self.assign_by_words(code, all, line)
         }
+    }
+
+    /// Makes assignments one by one.
+    fn assign_in_order(
+        &mut self,
+        code: &mut Code,
+        all: &[Assignment],
+        ordered: &[usize],
+        line: u32,
+    ) -> Result<(), CodeFault> {
+        for i in ordered {
+            if let Some(assignment) = all.get(*i) {
+                self.assign(code, assignment, line)?;
+            }
+        }
+        Ok(())
     }
 
     /// Makes one assignment.
     fn assign(
         &mut self,
         code: &mut Code,
-        target: &Target,
-        value: &Expression,
+        assignment: &Assignment,
+        line: u32,
     ) -> Result<(), CodeFault> {
-        match target {
+        match &assignment.target {
             Target::Variable(x) => {
-                let value = self.expression(code, value, 3)?;
-                if self.kind(*x) == Kind::Byte {
-                    self.kept_byte(code, value)?;
-                }
-                self.store_variable(code, *x)
+                self.kept_value(code, *x, &assignment.value, line)?;
+                store_variable(code, line, *x)
             }
             Target::Element {
                 array,
                 kind,
                 subscript,
-            } => match self.word_of(*array, *kind, subscript) {
+            } => match self.fixed_word(*array, *kind, subscript) {
                 Some(word) => {
-                    self.expression(code, value, 3)?;
-                    self.store_word(code, *array, word)
+                    self.expression(code, &assignment.value, Room::from_word(0, line))?;
+                    store_word(code, line, *array, word)
                 }
-                None => self.assign_element(code, *array, *kind, subscript, value),
+                None => {
+                    let size = self.elements(*array, *kind);
+                    self.value_and_subscript(code, &assignment.value, subscript, size, line)?;
+                    indexed(code, line, *array, *kind)?;
+                    store_at(code, line, *kind)
+                }
             },
         }
     }
 
+    /// Pushes a value as a variable takes it.
+    fn kept_value(
+        &mut self,
+        code: &mut Code,
+        x: usize,
+        e: &Expression,
+        line: u32,
+    ) -> Result<(), CodeFault> {
+        let value = self.expression(code, e, Room::from_word(0, line))?;
+        match self.kind(x) {
+            Kind::Word => Ok(()),
+            Kind::Byte => kept_byte(code, line, value),
+        }
+    }
+
     /// The word of an element of words with a constant subscript.
-    fn word_of(&self, array: usize, kind: Kind, subscript: &Expression) -> Option<u32> {
+    fn fixed_word(&self, array: usize, kind: Kind, subscript: &Expression) -> Option<u32> {
         match kind {
-            Kind::Word => self.constant_subscript(array, kind, subscript),
+            Kind::Word => self.fixed_subscript(array, kind, subscript),
             Kind::Byte => None,
         }
     }
 
-    fn store_variable(&mut self, code: &mut Code, x: usize) -> Result<(), CodeFault> {
-        let local = self.variable(x)?;
-        self.emit(code, Instr::Stl(local))
-    }
-
-    fn store_word(&mut self, code: &mut Code, array: usize, word: u32) -> Result<(), CodeFault> {
-        let local = self.array(array, word)?;
-        self.emit(code, Instr::Stl(local))
-    }
-
-    /// Stores Breg at the address in Areg.
-    fn store_at(&mut self, code: &mut Code, kind: Kind) -> Result<(), CodeFault> {
-        match kind {
-            Kind::Word => self.emit(code, Instr::Stnl(0)),
-            Kind::Byte => self.emit(code, Instr::Sb),
-        }
-    }
-
-    /// Makes an assignment to an element: its value first, where the address needs no more than two registers; else its address, where the
-    /// value needs no more; else its value in a word.
-    fn assign_element(
+    /// Pushes a value, and above it a subscript that leaves a register for the array's address. A value whose subscript needs all registers
+    /// is kept in a word.
+    fn value_and_subscript(
         &mut self,
         code: &mut Code,
-        array: usize,
-        kind: Kind,
-        subscript: &Expression,
         value: &Expression,
+        subscript: &Expression,
+        size: u32,
+        line: u32,
     ) -> Result<(), CodeFault> {
+        let room = Room::from_word(0, line);
         if self.need(subscript) <= 2 {
-            self.expression(code, value, 3)?;
-            self.address(code, array, kind, subscript, 2)?;
-        } else if self.need(value) <= 2 {
-            self.address(code, array, kind, subscript, 3)?;
-            self.expression(code, value, 2)?;
-            self.emit(code, Instr::Rev)?;
-        } else {
-            self.keep(code, value, 3)?;
-            self.address(code, array, kind, subscript, 3)?;
-            self.recall(code)?;
-            self.emit(code, Instr::Rev)?;
+            self.expression(code, value, room)?;
+            self.subscript(code, subscript, size, room.above())?;
+            return Ok(());
         }
-        self.store_at(code, kind)
+        self.expression(code, value, room)?;
+        code.emit(line, Step::Store(room.word(), 0))?;
+        let i = self.expression(code, subscript, room.beside())?;
+        let i = checked(code, line, i, size)?;
+        code.emit(line, Step::Load(room.word(), 0))?;
+        code.instr(line, Instr::Rev)?;
+        settled(code, line, i, size)?;
+        Ok(())
     }
 
     /// Whether a target is a word that takes any value as it is.
@@ -119,20 +151,29 @@ impl Emitter<'_> {
                 array,
                 kind,
                 subscript,
-            } => self.word_of(*array, *kind, subscript).is_some(),
+            } => self.fixed_word(*array, *kind, subscript).is_some(),
         }
     }
 
     /// Whether all values can be in registers at once.
     fn fit_in_registers(&self, all: &[Assignment]) -> bool {
-        let mut registers = 3u32;
-        for assignment in all {
-            if self.need(&assignment.value) > registers || !self.is_word(&assignment.target) {
-                return false;
+        match all {
+            [one, two] => {
+                self.need(&one.value) <= 3
+                    && self.need(&two.value) <= 2
+                    && self.is_word(&one.target)
+                    && self.is_word(&two.target)
             }
-            registers = registers.saturating_sub(1);
+            [one, two, three] => {
+                self.need(&one.value) <= 3
+                    && self.need(&two.value) <= 2
+                    && self.need(&three.value) <= 1
+                    && self.is_word(&one.target)
+                    && self.is_word(&two.target)
+                    && self.is_word(&three.target)
+            }
+            _ => false,
         }
-        true
     }
 
     /// Pushes all values, and stores them from the last to the first.
@@ -140,93 +181,106 @@ impl Emitter<'_> {
         &mut self,
         code: &mut Code,
         all: &[Assignment],
+        line: u32,
     ) -> Result<(), CodeFault> {
-        let mut registers = 3u32;
+        let mut room = Room::from_word(0, line);
         for assignment in all {
-            self.expression(code, &assignment.value, registers)?;
-            registers = registers.saturating_sub(1);
+            self.expression(code, &assignment.value, room)?;
+            room = room.above();
         }
         for assignment in all.iter().rev() {
-            match &assignment.target {
-                Target::Variable(x) => self.store_variable(code, *x)?,
-                Target::Element {
-                    array,
-                    kind,
-                    subscript,
-                } => {
-                    let word = self.word_of(*array, *kind, subscript).unwrap_or(0);
-                    self.store_word(code, *array, word)?;
-                }
-            }
+            self.store_in_word(code, &assignment.target, line)?;
         }
         Ok(())
     }
 
-    /// Keeps all values and subscripts in words, and stores the values from the last to the first.
-    fn assign_by_words(&mut self, code: &mut Code, all: &[Assignment]) -> Result<(), CodeFault> {
-        for assignment in all {
-            self.keep_subscript(code, &assignment.target)?;
-            self.keep_value(code, assignment)?;
-        }
-        for assignment in all.iter().rev() {
-            self.recall(code)?;
-            self.store_recalled(code, &assignment.target)?;
-        }
-        Ok(())
-    }
-
-    /// Keeps a value, as its target takes it.
-    fn keep_value(&mut self, code: &mut Code, assignment: &Assignment) -> Result<(), CodeFault> {
-        let value = self.expression(code, &assignment.value, 3)?;
-        if let Target::Variable(x) = &assignment.target {
-            if self.kind(*x) == Kind::Byte {
-                self.kept_byte(code, value)?;
-            }
-        }
-        self.put_away(code)
-    }
-
-    /// Keeps the subscript of a target that has one, checked.
-    fn keep_subscript(&mut self, code: &mut Code, target: &Target) -> Result<(), CodeFault> {
-        if let Target::Element {
-            array,
-            kind,
-            subscript,
-        } = target
-        {
-            if self.word_of(*array, *kind, subscript).is_none() {
-                let size = self.elements(*array, *kind);
-                self.checked_subscript(code, subscript, size, 3)?;
-                self.put_away(code)?;
-            }
-        }
-        Ok(())
-    }
-
-    /// Stores Areg in a target whose subscript, if it has one, was kept last.
-    fn store_recalled(&mut self, code: &mut Code, target: &Target) -> Result<(), CodeFault> {
+    /// Stores Areg in a target that is a word.
+    fn store_in_word(
+        &mut self,
+        code: &mut Code,
+        target: &Target,
+        line: u32,
+    ) -> Result<(), CodeFault> {
         match target {
-            Target::Variable(x) => self.store_variable(code, *x),
+            Target::Variable(x) => store_variable(code, line, *x),
             Target::Element {
                 array,
                 kind,
                 subscript,
-            } => match self.word_of(*array, *kind, subscript) {
-                Some(word) => self.store_word(code, *array, word),
-                None => {
-                    self.recall(code)?;
-                    self.reduce_kept(code, *array, *kind)?;
-                    self.indexed(code, *array, *kind)?;
-                    self.store_at(code, *kind)
-                }
-            },
+            } => {
+                let word = self.fixed_word(*array, *kind, subscript).unwrap_or(0);
+                store_word(code, line, *array, word)
+            }
         }
     }
 
-    /// Shows the verifier that Areg, a subscript that was checked, is below the size of an array.
-    fn reduce_kept(&mut self, code: &mut Code, array: usize, kind: Kind) -> Result<(), CodeFault> {
-        let size = self.elements(array, kind);
-        self.reduce(code, crate::range::FULL, size)?;
+    /// Keeps all values and subscripts in words, two for each assignment, and stores the values from the last to the first.
+    fn assign_by_words(
+        &mut self,
+        code: &mut Code,
+        all: &[Assignment],
+        line: u32,
+    ) -> Result<(), CodeFault> {
+        for (number, assignment) in all.iter().enumerate() {
+            self.keep_parts(code, assignment, number, line)?;
+        }
+        for (number, assignment) in all.iter().enumerate().rev() {
+            self.store_parts(code, &assignment.target, number, line)?;
+        }
         Ok(())
+    }
+
+    /// Keeps a value as its target takes it, and the target's subscript, checked, if it has one.
+    fn keep_parts(
+        &mut self,
+        code: &mut Code,
+        assignment: &Assignment,
+        number: usize,
+        line: u32,
+    ) -> Result<(), CodeFault> {
+        let room = Room::from_word(number.saturating_mul(2), line);
+        let value = self.expression(code, &assignment.value, room)?;
+        if let Target::Variable(x) = &assignment.target {
+            if self.kind(*x) == Kind::Byte {
+                kept_byte(code, line, value)?;
+            }
+        }
+        code.emit(line, Step::Store(room.word(), 0))?;
+        if let Target::Element {
+            array,
+            kind,
+            subscript,
+        } = &assignment.target
+        {
+            let i = self.expression(code, subscript, room.beside())?;
+            checked(code, line, i, self.elements(*array, *kind))?;
+            code.emit(line, Step::Store(room.beside().word(), 0))?;
+        }
+        Ok(())
+    }
+
+    /// Stores a value that was kept in its target.
+    fn store_parts(
+        &mut self,
+        code: &mut Code,
+        target: &Target,
+        number: usize,
+        line: u32,
+    ) -> Result<(), CodeFault> {
+        let room = Room::from_word(number.saturating_mul(2), line);
+        code.emit(line, Step::Load(room.word(), 0))?;
+        match target {
+            Target::Variable(x) => store_variable(code, line, *x),
+            Target::Element {
+                array,
+                kind,
+                subscript: _,
+            } => {
+                code.emit(line, Step::Load(room.beside().word(), 0))?;
+                crate::subscripts::reduce(code, line, FULL, self.elements(*array, *kind))?;
+                indexed(code, line, *array, *kind)?;
+                store_at(code, line, *kind)
+            }
+        }
     }
 }

@@ -1,17 +1,20 @@
 //! From a worker to its program.
 
-use crate::code::{Code, CodeLine};
+use crate::code::Code;
 use crate::emitter::Emitter;
 use crate::fault::CodeFault;
 use crate::initial::initial_words;
+use crate::items::{Placed, START};
 use crate::layout::{layout, words_of};
 use crate::length::first_beyond;
-use crate::uses::{Placed, START, Used};
-use std::alloc::{AllocError, Global};
+use crate::lines::{lines_of, loop_lines, rows_of, sources_of};
+use crate::loops::check_loops;
+use crate::uses::{Used, uses_of};
+use std::alloc::Global;
 use tp_image::Version;
 use tp_image::limits::{LEAST_WORKSPACE, WORKSPACE_WORDS_2};
-use tpw_asm::{AssemblyFault, Line, Loop, Program, addresses};
-use tpw_occam_core::{Place, Message, Worker};
+use tpw_asm::{AssemblyFault, Program, addresses};
+use tpw_occam_core::{Message, Place, Worker};
 
 /// A worker's program, and what its parts come from.
 #[derive(Debug, Drop)]
@@ -25,34 +28,14 @@ pub struct Compiled {
     pub placed: Vec<Placed>,
 }
 
-/// What code is made of a worker.
-#[derive(Drop)]
-struct Made {
-    code: Code,
-    uses: Vec<Used>,
-    loops: Vec<Loop>,
-    loop_lines: Vec<u32>,
-}
-
-/// Makes the code of a worker whose items are placed so.
-fn make(alloc: Global, worker: &Worker, placed: &[Placed]) -> Result<Made, CodeFault> {
-    let mut emitter = Emitter::new(alloc, worker, placed)?;
+/// The code of a worker.
+fn code_of(alloc: Global, worker: &Worker) -> Result<Code, CodeFault> {
+    let mut emitter = Emitter::new(alloc, worker)?;
     let mut code = Code::new(alloc, 0);
-    emitter.receive(&mut code, worker.receive)?;
-    emitter.process(&mut code, &worker.body)?;
-    emitter.send(&mut code, &worker.send)?;
-    let Emitter {
-        uses,
-        loops,
-        loop_lines,
-        ..
-    } = emitter;
-    Ok(Made {
-        code,
-        uses,
-        loops,
-        loop_lines,
-    })
+    emitter.receive(&mut code, worker.receive, worker.line)?;
+    emitter.process(&mut code, &worker.body, worker.line)?;
+    emitter.send(&mut code, &worker.send, worker.line)?;
+    Ok(code)
 }
 
 /// The words of a message.
@@ -77,17 +60,6 @@ fn result_words(worker: &Worker) -> u32 {
     }
 }
 
-/// The lines of code, and the lines of the text that they come from.
-fn split(alloc: Global, code: &[CodeLine]) -> Result<(Vec<Line>, Vec<u32>), AllocError> {
-    let mut lines = Vec::with_capacity(alloc, code.len())?;
-    let mut sources = Vec::with_capacity(alloc, code.len())?;
-    for one in code {
-        lines.push(one.line)?;
-        sources.push(one.source)?;
-    }
-    Ok((lines, sources))
-}
-
 /// Refuses items that have more words together than a workspace, at the first use of one that goes beyond it.
 fn check_workspace(uses: &[Used]) -> Result<(), CodeFault> {
     let mut words = START;
@@ -105,9 +77,9 @@ fn check_code(alloc: Global, program: &Program, sources: &[u32]) -> Result<(), C
     match addresses(alloc, program) {
         Ok(_) => Ok(()),
         Err(AssemblyFault::TooLong) => {
-            let line = first_beyond(alloc, &program.lines)?;
+            let place = first_beyond(alloc, &program.lines)?;
             Err(CodeFault::Code {
-                line: sources.get(line).copied().unwrap_or(0),
+                line: sources.get(place).copied().unwrap_or(0),
             })
         }
         Err(AssemblyFault::Memory) => Err(CodeFault::Memory),
@@ -117,28 +89,27 @@ fn check_code(alloc: Global, program: &Program, sources: &[u32]) -> Result<(), C
 
 /// The program of a worker, or why there is none.
 pub fn compile(alloc: Global, worker: &Worker) -> Result<Compiled, CodeFault> {
-    let counted = make(alloc, worker, &[])?;
-    check_workspace(&counted.uses)?;
-    let placed = layout(alloc, &counted.uses)?;
-    let made = make(alloc, worker, &placed)?;
-    let (lines, sources) = split(alloc, made.code.lines())?;
+    let code = code_of(alloc, worker)?;
+    check_loops(code.loops())?;
+    let uses = uses_of(alloc, worker, &code)?;
+    check_workspace(&uses)?;
+    let placed = layout(alloc, &uses)?;
+    let sources = sources_of(alloc, code.lines())?;
     let program = Program {
         version: Version::Two,
-        workspace: START
-            .saturating_add(words_of(&placed))
-            .max(LEAST_WORKSPACE),
+        workspace: START.saturating_add(words_of(&placed)).max(LEAST_WORKSPACE),
         start: START,
         packet: packet_words(worker),
         result: result_words(worker),
-        loops: made.loops,
+        loops: rows_of(alloc, &placed, code.loops())?,
         initial: initial_words(alloc, worker, &placed)?,
-        lines,
+        lines: lines_of(alloc, &placed, code.lines())?,
     };
     check_code(alloc, &program, &sources)?;
     Ok(Compiled {
         program,
         sources,
-        loop_lines: made.loop_lines,
+        loop_lines: loop_lines(alloc, code.loops())?,
         placed,
     })
 }

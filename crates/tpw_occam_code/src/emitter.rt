@@ -1,18 +1,13 @@
 //! What is known while code is made.
 
-use crate::code::{Code, CodeLine};
+use crate::code::{Code, Step};
 use crate::fault::CodeFault;
-use crate::layout::local_of;
+use crate::items::Item;
 use crate::range::{BYTE, FULL, Range};
-use crate::uses::{Item, Placed, Used, count_use};
-use std::alloc::Global;
+use std::alloc::{AllocError, Global};
 use tp_decode::Instr;
 use tp_prefix::encode;
-use tpw_asm::{Line, Loop, Operation};
 use tpw_occam_core::{Expression, Kind, Worker};
-
-/// The most lines that a code may have: no line has less than a byte.
-const MOST_LINES: usize = 8192;
 
 /// The most bytes of `ldc` for a constant that is not an initial word.
 const MOST_BYTES: usize = 2;
@@ -27,7 +22,7 @@ pub(crate) struct Fact {
 }
 
 /// What is known of a variable of a kind.
-fn fact_of(kind: Kind) -> Fact {
+pub(crate) fn fact_of(kind: Kind) -> Fact {
     Fact {
         source: match kind {
             Kind::Word => FULL,
@@ -38,62 +33,106 @@ fn fact_of(kind: Kind) -> Fact {
     }
 }
 
-/// What code is made with.
+/// What is known of a name with a value in this range.
+pub(crate) fn valued(source: Range) -> Fact {
+    Fact {
+        source,
+        known: FULL,
+        constant: None,
+    }
+}
+
+/// What is known of a name of a constant.
+pub(crate) fn constant(c: u32) -> Fact {
+    let range = Range::exactly(c);
+    Fact {
+        source: range,
+        known: range,
+        constant: Some(c),
+    }
+}
+
+/// What is known of the index of a loop.
+pub(crate) fn counted(range: Range) -> Fact {
+    Fact {
+        source: range,
+        known: range,
+        constant: None,
+    }
+}
+
+/// What an expression may use: registers, at least 2 where it needs more than one; words for what is kept, from the first that is free. And
+/// the line of the text that it comes from.
+#[derive(Clone, Copy)]
+pub(crate) struct Room {
+    pub(crate) registers: u32,
+    pub(crate) kept: usize,
+    pub(crate) line: u32,
+}
+
+impl Room {
+    /// All registers, and all words from one on.
+    pub(crate) fn from_word(kept: usize, line: u32) -> Room {
+        Room {
+            registers: 3,
+            kept,
+            line,
+        }
+    }
+
+    /// So many registers.
+    pub(crate) fn with_registers(self, registers: u32) -> Room {
+        Room { registers, ..self }
+    }
+
+    /// One register less.
+    pub(crate) fn above(self) -> Room {
+        self.with_registers(self.registers.saturating_sub(1))
+    }
+
+    /// One word more is kept.
+    pub(crate) fn beside(self) -> Room {
+        Room {
+            kept: self.kept.saturating_add(1),
+            ..self
+        }
+    }
+
+    /// The word that is kept next.
+    pub(crate) fn word(self) -> Item {
+        Item::Temporary(self.kept)
+    }
+}
+
+/// What code is made with: the worker, and what is known of the names in scope.
 #[derive(Drop)]
 pub(crate) struct Emitter<'a> {
     pub(crate) alloc: Global,
     pub(crate) worker: &'a Worker,
-    /// Where items lie. The first time nothing is placed yet.
-    placed: &'a [Placed],
-    pub(crate) uses: Vec<Used>,
     facts: Vec<Fact>,
-    /// The variables and the arrays whose words have been used before.
-    pub(crate) touched: Vec<Item>,
-    /// How many words are kept while operands are evaluated.
-    pub(crate) kept: usize,
-    pub(crate) loops: Vec<Loop>,
-    /// The line of each loop.
-    pub(crate) loop_lines: Vec<u32>,
-    /// How many loops lie around this place, and what a use here counts for.
-    pub(crate) depth: u32,
-    pub(crate) weight: u32,
-    /// The line of the text.
-    pub(crate) line: u32,
+}
+
+/// What is known of variables.
+fn facts_of(alloc: Global, kinds: &[Kind]) -> Result<Vec<Fact>, AllocError> {
+    let mut facts = Vec::with_capacity(alloc, kinds.len())?;
+    for kind in kinds {
+        facts.push(fact_of(*kind))?;
+    }
+    Ok(facts)
 }
 
 impl<'a> Emitter<'a> {
-    pub(crate) fn new(
-        alloc: Global,
-        worker: &'a Worker,
-        placed: &'a [Placed],
-    ) -> Result<Emitter<'a>, CodeFault> {
-        let mut facts = Vec::with_capacity(alloc, worker.variables.len())?;
-        for kind in &worker.variables {
-            facts.push(fact_of(*kind))?;
-        }
+    pub(crate) fn new(alloc: Global, worker: &'a Worker) -> Result<Emitter<'a>, CodeFault> {
         Ok(Emitter {
             alloc,
             worker,
-            placed,
-            uses: Vec::new(alloc),
-            facts,
-            touched: Vec::new(alloc),
-            kept: 0,
-            loops: Vec::new(alloc),
-            loop_lines: Vec::new(alloc),
-            depth: 0,
-            weight: 1,
-            line: worker.line,
+            facts: facts_of(alloc, &worker.variables)?,
         })
     }
 
     /// The kind of a variable.
     pub(crate) fn kind(&self, x: usize) -> Kind {
-        self.worker
-            .variables
-            .get(x)
-            .copied()
-            .unwrap_or(Kind::Word)
+        self.worker.variables.get(x).copied().unwrap_or(Kind::Word)
     }
 
     /// What is known of a name.
@@ -105,11 +144,6 @@ impl<'a> Emitter<'a> {
         if x < self.facts.len() {
             self.facts[x] = fact;
         }
-    }
-
-    /// Of a variable that is declared nothing is known but its kind.
-    pub(crate) fn forget(&mut self, x: usize) {
-        self.set_fact(x, fact_of(self.kind(x)));
     }
 
     /// The value of an expression that is one constant.
@@ -141,80 +175,25 @@ impl<'a> Emitter<'a> {
             Kind::Byte => self.bytes(array),
         }
     }
-
-    /// The local word at which an item of so many words begins. It is used here.
-    fn local(&mut self, item: Item, words: u32) -> Result<i32, CodeFault> {
-        let used = Used {
-            item,
-            words,
-            uses: self.weight,
-            line: self.line,
-        };
-        count_use(&mut self.uses, used)?;
-        let local = local_of(self.placed, item).unwrap_or(0);
-        Ok(i32::try_from(local).unwrap_or(0))
-    }
-
-    pub(crate) fn variable(&mut self, x: usize) -> Result<i32, CodeFault> {
-        self.local(Item::Variable(x), 1)
-    }
-
-    /// The local word of an index, with the count behind it.
-    pub(crate) fn block(&mut self, x: usize) -> Result<i32, CodeFault> {
-        self.local(Item::Variable(x), 2)
-    }
-
-    pub(crate) fn temporary(&mut self, number: usize) -> Result<i32, CodeFault> {
-        self.local(Item::Temporary(number), 1)
-    }
-
-    /// The local word of an array's word.
-    pub(crate) fn array(&mut self, array: usize, word: u32) -> Result<i32, CodeFault> {
-        let words = self.words(array);
-        let local = self.local(Item::Array(array), words)?;
-        Ok(local.saturating_add_unsigned(word))
-    }
-
-    /// The local word from which on so many words are 0.
-    pub(crate) fn zeros(&mut self, words: u32) -> Result<i32, CodeFault> {
-        self.local(Item::Zeros, words)
-    }
-
-    /// Appends an instruction.
-    pub(crate) fn emit(&mut self, code: &mut Code, instr: Instr) -> Result<(), CodeFault> {
-        self.operate(code, Operation::Plain(instr))
-    }
-
-    /// Appends an operation.
-    pub(crate) fn operate(
-        &mut self,
-        code: &mut Code,
-        operation: Operation,
-    ) -> Result<(), CodeFault> {
-        if code.here() >= MOST_LINES {
-            return Err(CodeFault::Code { line: self.line });
-        }
-        let line = Line::Spelled {
-            operation,
-            bytes: None,
-        };
-        code.push(CodeLine {
-            line,
-            source: self.line,
-        })
-    }
-
-    /// Pushes a constant: by `ldc` where that is short, else from an initial word.
-    pub(crate) fn constant(&mut self, code: &mut Code, c: u32) -> Result<(), CodeFault> {
-        if is_short(c) {
-            return self.emit(code, Instr::Ldc(c.cast_signed()));
-        }
-        let local = self.local(Item::Constant(c), 1)?;
-        self.emit(code, Instr::Ldl(local))
-    }
 }
 
 /// Whether a constant's `ldc` is short.
 pub(crate) fn is_short(c: u32) -> bool {
     encode(4, c.cast_signed()).len() <= MOST_BYTES
+}
+
+/// The step that pushes a constant: `ldc` where that is short, else an initial word.
+pub(crate) fn push_constant(c: u32) -> Step {
+    if is_short(c) {
+        Step::Plain(Instr::Ldc(c.cast_signed()))
+    } else {
+        Step::Load(Item::Constant(c), 0)
+    }
+}
+
+impl Code {
+    /// Appends the step that pushes a constant.
+    pub(crate) fn constant(&mut self, source: u32, c: u32) -> Result<(), CodeFault> {
+        self.emit(source, push_constant(c))
+    }
 }

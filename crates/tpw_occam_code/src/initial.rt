@@ -1,6 +1,7 @@
 //! The first words of the workspace: constants and tables, and zeros between them.
 
-use crate::uses::{Item, Placed, START};
+use crate::items::{Item, Placed, START};
+use crate::layout::words_of;
 use std::alloc::{AllocError, Global};
 use tpw_occam_core::{Storage, Worker};
 
@@ -48,7 +49,7 @@ pub(crate) fn initial_words(
     worker: &Worker,
     placed: &[Placed],
 ) -> Result<Vec<u32>, AllocError> {
-    let count = START.saturating_add(crate::layout::words_of(placed));
+    let count = START.saturating_add(words_of(placed));
     let mut words = Vec::new(alloc);
     words.resize(count as usize, 0)?;
     for place in placed {

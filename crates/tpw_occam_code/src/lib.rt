@@ -1,7 +1,7 @@
 //! From the core of a worker in occam to its program: lines for `tpw_asm`, loops, and the first words of the workspace.
 //!
-//! Code is made twice. The first time counts what each word of the workspace is used for; then the words that are used most come first,
-//! and code is made again.
+//! Code is made of steps, whose words are those of items: variables, temporaries, constants, arrays. Then items are placed, those first whose
+//! words are used most, and steps become lines.
 #![tactic(auto)]
 
 mod analysis;
@@ -12,11 +12,15 @@ mod emitter;
 mod expressions;
 mod fault;
 mod initial;
+mod items;
 mod layout;
 mod length;
+mod lines;
+mod loops;
 mod messages;
 mod need;
 mod operands;
+mod operators;
 mod order;
 mod processes;
 mod range;
@@ -25,4 +29,4 @@ mod uses;
 
 pub use compiled::{Compiled, compile};
 pub use fault::CodeFault;
-pub use uses::{Item, Placed, START};
+pub use items::{Item, Placed, START};

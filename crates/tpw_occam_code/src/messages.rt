@@ -1,61 +1,96 @@
 //! Code of messages.
 
-use crate::code::Code;
-use crate::emitter::Emitter;
+use crate::code::{Code, Step};
+use crate::emitter::{Emitter, Room};
 use crate::fault::CodeFault;
+use crate::items::Item;
 use tp_decode::Instr;
 use tpw_occam_core::{Expression, Message, Place};
 
 /// IMS T414 data sheet, memory map: the channels of links 0 and 1.
 const LINK0_OUTPUT: u32 = 0x8000_0000;
+
 const LINK1_OUTPUT: u32 = 0x8000_0004;
+
 const LINK0_INPUT: u32 = 0x8000_0010;
 
 impl Emitter<'_> {
     /// Receives the packet.
-    pub(crate) fn receive(&mut self, code: &mut Code, place: Place) -> Result<(), CodeFault> {
-        let (local, bytes) = match place {
-            Place::Variable(x) => (self.variable(x)?, 4),
-            Place::Array(a) => (self.array(a, 0)?, self.bytes(a)),
+    pub(crate) fn receive(
+        &self,
+        code: &mut Code,
+        place: Place,
+        line: u32,
+    ) -> Result<(), CodeFault> {
+        let (item, bytes) = match place {
+            Place::Variable(x) => (Item::Variable(x), 4),
+            Place::Array(a) => (Item::Array(a), self.bytes(a)),
         };
-        self.emit(code, Instr::Ldlp(local))?;
-        self.constant(code, LINK0_INPUT)?;
-        self.constant(code, bytes)?;
-        self.emit(code, Instr::Input)
+        code.emit(line, Step::Pointer(item, 0))?;
+        code.constant(line, LINK0_INPUT)?;
+        code.constant(line, bytes)?;
+        code.instr(line, Instr::Input)
     }
 
-    /// Pushes the address of a message's bytes, and answers how many there are.
-    fn bytes_of(&mut self, code: &mut Code, m: &Message) -> Result<u32, CodeFault> {
-        let (local, bytes) = match m {
+    /// The item that has a message's bytes already, if there is one.
+    fn item_of(&self, m: &Message) -> Option<Item> {
+        match m {
+            Message::Array(a) => Some(Item::Array(*a)),
             Message::Value(Expression::Variable(x)) if self.fact(*x).constant.is_none() => {
-                (self.variable(*x)?, 4)
+                Some(Item::Variable(*x))
             }
-            Message::Value(e) => {
-                self.expression(code, e, 3)?;
-                let local = self.temporary(self.kept)?;
-                self.emit(code, Instr::Stl(local))?;
-                (local, 4)
+            Message::Value(_) => None,
+        }
+    }
+
+    /// How many bytes a message has.
+    fn message_bytes(&self, m: &Message) -> u32 {
+        match m {
+            Message::Array(a) => self.bytes(*a),
+            Message::Value(_) => 4,
+        }
+    }
+
+    /// Sends a message on a channel.
+    fn output(
+        &mut self,
+        code: &mut Code,
+        m: &Message,
+        channel: u32,
+        line: u32,
+    ) -> Result<(), CodeFault> {
+        let room = Room::from_word(0, line);
+        if let Message::Value(e) = m {
+            if self.item_of(m).is_none() {
+                self.expression(code, e, room)?;
+                code.emit(line, Step::Store(room.word(), 0))?;
             }
-            Message::Array(a) => (self.array(*a, 0)?, self.bytes(*a)),
-        };
-        self.emit(code, Instr::Ldlp(local))?;
-        Ok(bytes)
+        }
+        let item = self.item_of(m).unwrap_or(room.word());
+        code.emit(line, Step::Pointer(item, 0))?;
+        code.constant(line, channel)?;
+        code.constant(line, self.message_bytes(m))?;
+        code.instr(line, Instr::Output)
     }
 
     /// Sends a trace.
-    pub(crate) fn trace(&mut self, code: &mut Code, m: &Message) -> Result<(), CodeFault> {
-        let bytes = self.bytes_of(code, m)?;
-        self.constant(code, LINK1_OUTPUT)?;
-        self.constant(code, bytes)?;
-        self.emit(code, Instr::Output)
+    pub(crate) fn trace(
+        &mut self,
+        code: &mut Code,
+        m: &Message,
+        line: u32,
+    ) -> Result<(), CodeFault> {
+        self.output(code, m, LINK1_OUTPUT, line)
     }
 
     /// Sends the result, and stops.
-    pub(crate) fn send(&mut self, code: &mut Code, m: &Message) -> Result<(), CodeFault> {
-        let bytes = self.bytes_of(code, m)?;
-        self.constant(code, LINK0_OUTPUT)?;
-        self.constant(code, bytes)?;
-        self.emit(code, Instr::Output)?;
-        self.emit(code, Instr::Stopp)
+    pub(crate) fn send(
+        &mut self,
+        code: &mut Code,
+        m: &Message,
+        line: u32,
+    ) -> Result<(), CodeFault> {
+        self.output(code, m, LINK0_OUTPUT, line)?;
+        code.instr(line, Instr::Stopp)
     }
 }

@@ -47,6 +47,7 @@ pub(crate) fn immediate(operator: Operator, c: u32) -> Option<i32> {
 
 impl Emitter<'_> {
     /// How many registers an expression needs.
+    #[cycle(need)]
     pub(crate) fn need(&self, e: &Expression) -> u32 {
         match e {
             Expression::Constant(_) | Expression::Variable(_) => 1,
@@ -87,6 +88,7 @@ impl Emitter<'_> {
     }
 
     /// How many registers a shift's count needs, which may have to be checked.
+    #[cycle(need)]
     pub(crate) fn need_of_count(&self, count: &Expression) -> u32 {
         match self.constant_of(count) {
             Some(c) if c < 32 => 1,

@@ -1,34 +1,142 @@
 //! Code of operators: their operands, in the order that needs the fewest registers.
 
-use crate::code::Code;
-use crate::emitter::Emitter;
+use crate::code::{Code, Step};
+use crate::emitter::{Emitter, Room};
 use crate::expressions::Value;
 use crate::fault::CodeFault;
-use crate::need::{commutes, immediate, is_shift};
-use crate::range::{FULL, Range, always_fits, result_range};
+use crate::need::{commutes, is_shift};
+use crate::operators::{apply, apply_constant, number};
+use crate::range::FULL;
 use tp_decode::Instr;
 use tpw_occam_core::{Expression, Operator};
 
+/// What is known of a value that was kept in a word: the verifier knows nothing of it.
+fn recalled(value: Value) -> Value {
+    Value {
+        source: value.source,
+        known: FULL,
+    }
+}
+
 impl Emitter<'_> {
     /// Pushes what an operator makes of two operands.
+    #[cycle(expression)]
     pub(crate) fn binary(
         &mut self,
         code: &mut Code,
         operator: Operator,
         left: &Expression,
         right: &Expression,
-        registers: u32,
+        room: Room,
     ) -> Result<Value, CodeFault> {
         if is_shift(operator) {
-            let (b, a) = self.shifted(code, left, right, registers)?;
-            return self.apply(code, operator, b, a);
+            let (b, a) = self.shifted(code, left, right, room)?;
+            return apply(code, room.line, operator, b, a);
         }
         let (left, right) = self.constant_last(operator, left, right);
         if let Some(c) = self.constant_of(right) {
-            return self.with_constant(code, operator, left, c, registers);
+            return self.with_constant(code, operator, left, c, room);
         }
-        let (b, a) = self.operands(code, left, right, registers, commutes(operator))?;
-        self.apply(code, operator, b, a)
+        if let Some(c) = self.constant_of(left) {
+            return self.constant_first(code, operator, c, right, room);
+        }
+        let (b, a) = self.operands(code, left, right, room, commutes(operator))?;
+        apply(code, room.line, operator, b, a)
+    }
+
+    /// Pushes what an operator makes of an operand and a constant.
+    #[cycle(expression)]
+    pub(crate) fn with_constant(
+        &mut self,
+        code: &mut Code,
+        operator: Operator,
+        left: &Expression,
+        c: u32,
+        room: Room,
+    ) -> Result<Value, CodeFault> {
+        let b = self.expression(code, left, room)?;
+        apply_constant(code, room.line, operator, b, c)
+    }
+
+    /// Pushes what an operator makes of a constant and an operand.
+    #[cycle(expression)]
+    pub(crate) fn constant_first(
+        &mut self,
+        code: &mut Code,
+        operator: Operator,
+        c: u32,
+        right: &Expression,
+        room: Room,
+    ) -> Result<Value, CodeFault> {
+        let (b, a);
+        if self.need(right) < room.registers {
+            b = number(code, room.line, c)?;
+            a = self.expression(code, right, room.above())?;
+        } else {
+            a = self.expression(code, right, room)?;
+            b = number(code, room.line, c)?;
+            code.instr(room.line, Instr::Rev)?;
+        }
+        apply(code, room.line, operator, b, a)
+    }
+
+    /// Pushes two operands, the right one above the left. Where they commute they may change places.
+    #[cycle(expression)]
+    pub(crate) fn operands(
+        &mut self,
+        code: &mut Code,
+        left: &Expression,
+        right: &Expression,
+        room: Room,
+        commute: bool,
+    ) -> Result<(Value, Value), CodeFault> {
+        if self.need(right) < room.registers {
+            let b = self.expression(code, left, room)?;
+            let a = self.expression(code, right, room.above())?;
+            return Ok((b, a));
+        }
+        if self.need(left) < room.registers {
+            let a = self.expression(code, right, room)?;
+            let b = self.expression(code, left, room.above())?;
+            if !commute {
+                code.instr(room.line, Instr::Rev)?;
+            }
+            return Ok((b, a));
+        }
+        let a = self.expression(code, right, room)?;
+        code.emit(room.line, Step::Store(room.word(), 0))?;
+        let b = self.expression(code, left, room.beside())?;
+        code.emit(room.line, Step::Load(room.word(), 0))?;
+        Ok((b, recalled(a)))
+    }
+
+    /// Pushes a number and a count that is a subscript of 32, the count above the number. A count goes through no word, since the verifier
+    /// would know nothing of it then.
+    #[cycle(expression)]
+    fn shifted(
+        &mut self,
+        code: &mut Code,
+        left: &Expression,
+        count: &Expression,
+        room: Room,
+    ) -> Result<(Value, Value), CodeFault> {
+        if self.need_of_count(count) < room.registers {
+            let b = self.expression(code, left, room)?;
+            let a = self.subscript(code, count, 32, room.above())?;
+            return Ok((b, a));
+        }
+        if self.need(left) < room.registers {
+            let a = self.subscript(code, count, 32, room)?;
+            let b = self.expression(code, left, room.above())?;
+            code.instr(room.line, Instr::Rev)?;
+            return Ok((b, a));
+        }
+        let b = self.expression(code, left, room)?;
+        code.emit(room.line, Step::Store(room.word(), 0))?;
+        let a = self.subscript(code, count, 32, room.beside())?;
+        code.emit(room.line, Step::Load(room.word(), 0))?;
+        code.instr(room.line, Instr::Rev)?;
+        Ok((recalled(b), a))
     }
 
     /// The operands of an operator, in the order in which they are written or, where they commute, with a constant last: the one that is the
@@ -47,119 +155,5 @@ impl Emitter<'_> {
         } else {
             (right, left)
         }
-    }
-
-    /// Pushes what an operator makes of an operand and a constant.
-    fn with_constant(
-        &mut self,
-        code: &mut Code,
-        operator: Operator,
-        left: &Expression,
-        c: u32,
-        registers: u32,
-    ) -> Result<Value, CodeFault> {
-        let b = self.expression(code, left, registers)?;
-        let a = Range::exactly(c);
-        let fits = always_fits(operator, b.source, a);
-        match (operator, immediate(operator, c)) {
-            (Operator::Equal, Some(n)) => self.emit(code, Instr::Eqc(n))?,
-            (Operator::Add | Operator::Subtract, Some(n)) => self.emit(code, Instr::Adc(n))?,
-            (Operator::Plus | Operator::Minus, Some(n)) if fits => {
-                self.emit(code, Instr::Adc(n))?;
-            }
-            _ => {
-                let a = self.number(code, c)?;
-                return self.apply(code, operator, b, a);
-            }
-        }
-        Ok(Value {
-            source: result_range(operator, b.source, a),
-            known: result_range(operator, b.known, a),
-        })
-    }
-
-    /// Pushes two operands, the right one above the left. Where they commute they may change places.
-    pub(crate) fn operands(
-        &mut self,
-        code: &mut Code,
-        left: &Expression,
-        right: &Expression,
-        registers: u32,
-        commute: bool,
-    ) -> Result<(Value, Value), CodeFault> {
-        if self.need(right) < registers {
-            let b = self.expression(code, left, registers)?;
-            let a = self.expression(code, right, registers.saturating_sub(1))?;
-            return Ok((b, a));
-        }
-        if self.need(left) < registers {
-            let a = self.expression(code, right, registers)?;
-            let b = self.expression(code, left, registers.saturating_sub(1))?;
-            if !commute {
-                self.emit(code, Instr::Rev)?;
-            }
-            return Ok((b, a));
-        }
-        let a = self.keep(code, right, registers)?;
-        let b = self.expression(code, left, registers)?;
-        self.recall(code)?;
-        Ok((b, a))
-    }
-
-    /// Pushes a number and a count that is a subscript of 32, the count above the number. A count goes through no word, since the verifier
-    /// would know nothing of it then.
-    fn shifted(
-        &mut self,
-        code: &mut Code,
-        left: &Expression,
-        count: &Expression,
-        registers: u32,
-    ) -> Result<(Value, Value), CodeFault> {
-        if self.need_of_count(count) < registers {
-            let b = self.expression(code, left, registers)?;
-            let a = self.subscript(code, count, 32, registers.saturating_sub(1))?;
-            return Ok((b, a));
-        }
-        if self.need(left) < registers {
-            let a = self.subscript(code, count, 32, registers)?;
-            let b = self.expression(code, left, registers.saturating_sub(1))?;
-            self.emit(code, Instr::Rev)?;
-            return Ok((b, a));
-        }
-        let b = self.keep(code, left, registers)?;
-        let a = self.subscript(code, count, 32, registers)?;
-        self.recall(code)?;
-        self.emit(code, Instr::Rev)?;
-        Ok((b, a))
-    }
-
-    /// Keeps the value of an expression in a word.
-    pub(crate) fn keep(
-        &mut self,
-        code: &mut Code,
-        e: &Expression,
-        registers: u32,
-    ) -> Result<Value, CodeFault> {
-        let value = self.expression(code, e, registers)?;
-        self.put_away(code)?;
-        Ok(Value {
-            source: value.source,
-            known: FULL,
-        })
-    }
-
-    /// Puts Areg into a word of its own.
-    pub(crate) fn put_away(&mut self, code: &mut Code) -> Result<(), CodeFault> {
-        let local = self.temporary(self.kept)?;
-        self.emit(code, Instr::Stl(local))?;
-        self.kept = self.kept.saturating_add(1);
-        Ok(())
-    }
-
-    /// Pushes what was kept last.
-    pub(crate) fn recall(&mut self, code: &mut Code) -> Result<(), CodeFault> {
-        self.kept = self.kept.saturating_sub(1);
-        let local = self.temporary(self.kept)?;
-        self.emit(code, Instr::Ldl(local))
     }
 }

@@ -1,32 +1,19 @@
-//! Code of processes. No register is in use between processes.
+//! Code of processes. No register is in use between processes, and no word is kept.
 
 use crate::analysis::{First, first_use};
-use crate::code::Code;
-use crate::emitter::{Emitter, Fact};
+use crate::code::{Code, Step, Turns};
+use crate::emitter::{Emitter, Room, constant, counted, fact_of};
+use crate::expressions::branch;
 use crate::fault::CodeFault;
+use crate::items::Item;
 use crate::range::Range;
-use crate::uses::{Item, START};
 use tp_decode::Instr;
-use tpw_asm::{Loop, Operation, Spot};
 use tpw_occam_core::{Expression, Process};
-
-/// The most loops that an image has rows for, and the most that lie within one another.
-const MOST_LOOPS: usize = 16;
-const MOST_DEPTH: u32 = 4;
 
 /// The most words that are cleared one by one, and the most that one `move` clears.
 const FEW_WORDS: u32 = 2;
-const MOST_WORDS: u32 = 64;
 
-/// How much more a use in a loop counts.
-const LOOP_WEIGHT: u32 = 8;
-
-/// The workspace word of a local word.
-fn control_of(local: i32) -> u16 {
-    u16::try_from(local)
-        .unwrap_or(u16::MAX)
-        .saturating_add(START as u16)
-}
+pub(crate) const MOST_WORDS: u32 = 32;
 
 /// Whether a process does nothing.
 fn is_skip(p: &Process) -> bool {
@@ -37,153 +24,181 @@ fn is_skip(p: &Process) -> bool {
     }
 }
 
+/// Makes a word 0.
+fn clear(code: &mut Code, line: u32, item: Item, word: u32) -> Result<(), CodeFault> {
+    code.constant(line, 0)?;
+    code.emit(line, Step::Store(item, word))
+}
+
+/// Makes the words of an array 0 one by one.
+fn clear_words(code: &mut Code, line: u32, a: usize, words: u32) -> Result<(), CodeFault> {
+    for word in 0..words {
+        clear(code, line, Item::Array(a), word)?;
+    }
+    Ok(())
+}
+
+/// Copies words.
+fn move_words(
+    code: &mut Code,
+    line: u32,
+    from: Item,
+    to: (Item, u32),
+    words: u32,
+) -> Result<(), CodeFault> {
+    code.emit(line, Step::Pointer(from, 0))?;
+    code.emit(line, Step::Pointer(to.0, to.1))?;
+    code.constant(line, words.saturating_mul(4))?;
+    code.instr(line, Instr::MoveBytes)
+}
+
+/// Makes the words of an array 0 by copies of words that stay 0.
+fn clear_by_moves(code: &mut Code, line: u32, a: usize, words: u32) -> Result<(), CodeFault> {
+    for part in 0..words.div_ceil(MOST_WORDS) {
+        let first = part.saturating_mul(MOST_WORDS);
+        let count = words.saturating_sub(first).min(MOST_WORDS);
+        move_words(code, line, Item::Zeros, (Item::Array(a), first), count)?;
+    }
+    Ok(())
+}
+
+/// Makes the bytes of an array of so many words 0.
+fn clear_array(code: &mut Code, line: u32, a: usize, words: u32) -> Result<(), CodeFault> {
+    if words <= FEW_WORDS {
+        clear_words(code, line, a, words)
+    } else {
+        clear_by_moves(code, line, a, words)
+    }
+}
+
+/// Appends code for where Areg is not 0, and where it is.
+fn choose(code: &mut Code, line: u32, yes: &Code, no: &Code) -> Result<(), CodeFault> {
+    code.emit(line, Step::CjTo(yes.behind(1)))?;
+    code.append(yes)?;
+    code.emit(line, Step::JumpTo(no.here()))?;
+    code.append(no)
+}
+
+/// Appends the beginning of a loop.
+fn begin_loop(
+    code: &mut Code,
+    line: u32,
+    x: usize,
+    start: u32,
+    count: u32,
+) -> Result<(), CodeFault> {
+    code.constant(line, start)?;
+    code.emit(line, Step::Store(Item::Variable(x), 0))?;
+    code.constant(line, count)?;
+    code.emit(line, Step::Store(Item::Variable(x), 1))
+}
+
+/// Appends the end of a loop whose first line is at a place, and adds the loop.
+fn end_loop(code: &mut Code, turns: Turns) -> Result<(), CodeFault> {
+    let line = turns.source;
+    code.emit(line, Step::Pointer(Item::Variable(turns.index), 0))?;
+    let distance = Step::Distance {
+        from: turns.head,
+        to: code.behind(2),
+    };
+    code.emit(line, distance)?;
+    let lend = code.here();
+    code.instr(line, Instr::Lend)?;
+    code.add_loop(Turns { lend, ..turns })
+}
+
 impl Emitter<'_> {
-    /// Appends the code of a process.
-    pub(crate) fn process(&mut self, code: &mut Code, p: &Process) -> Result<(), CodeFault> {
+    /// Appends the code of a process that comes from a line of the text.
+    #[cycle(process)]
+    pub(crate) fn process(
+        &mut self,
+        code: &mut Code,
+        p: &Process,
+        line: u32,
+    ) -> Result<(), CodeFault> {
         match p {
             Process::Skip => Ok(()),
-            Process::Stop => self.emit(code, Instr::Seterr),
-            Process::Assign(list) => self.assignments(code, list),
-            Process::Copy { to, from } => self.copy(code, *to, *from),
+            Process::Stop => code.instr(line, Instr::Seterr),
+            Process::Assign(list) => self.assignments(code, list, line),
+            Process::Copy { to, from } => self.copy(code, *to, *from, line),
             Process::Sequence(first, second) => {
-                self.process(code, first)?;
-                self.process(code, second)
+                self.process(code, first, line)?;
+                self.process(code, second, line)
             }
             Process::Repeat {
                 index,
                 start,
                 count,
                 body,
-            } => self.repeat(code, *index, *start, *count, body),
+            } => self.repeat(code, *index, *start, *count, body, line),
             Process::If {
                 guard,
                 guarded,
                 rest,
-            } => self.choice(code, guard, guarded, rest),
+            } => self.choice(code, guard, guarded, rest, line),
             Process::Variable { name, body } => {
-                self.declare_variable(code, *name, body)?;
-                self.process(code, body)
-            }
-            Process::Value { name, value, body } => {
-                self.bind(code, *name, value, 3)?;
-                self.process(code, body)
-            }
-            Process::Array { name, body } => {
-                self.declare_array(code, *name)?;
-                self.process(code, body)
-            }
-            Process::Trace(m) => self.trace(code, m),
-            Process::At { line, body } => {
-                let before = self.line;
-                self.line = *line;
-                self.process(code, body)?;
-                self.line = before;
+                let before = self.fact(*name);
+                self.set_fact(*name, fact_of(self.kind(*name)));
+                if first_use(body, *name) == First::Read {
+                    clear(code, line, Item::Variable(*name), 0)?;
+                }
+                self.process(code, body, line)?;
+                self.set_fact(*name, before);
                 Ok(())
             }
+            Process::Value { name, value, body } => {
+                let before = self.fact(*name);
+                self.bind(code, *name, value, Room::from_word(0, line))?;
+                self.process(code, body, line)?;
+                self.set_fact(*name, before);
+                Ok(())
+            }
+            Process::Array { name, body } => {
+                clear_array(code, line, *name, self.words(*name))?;
+                self.process(code, body, line)
+            }
+            Process::Trace(m) => self.trace(code, m, line),
+            Process::At { line, body } => self.process(code, body, *line),
         }
     }
 
     /// Copies an array.
-    fn copy(&mut self, code: &mut Code, to: usize, from: usize) -> Result<(), CodeFault> {
+    fn copy(&self, code: &mut Code, to: usize, from: usize, line: u32) -> Result<(), CodeFault> {
         if to == from {
             return Ok(());
         }
-        let source = self.array(from, 0)?;
-        self.emit(code, Instr::Ldlp(source))?;
-        let target = self.array(to, 0)?;
-        self.emit(code, Instr::Ldlp(target))?;
         let words = self.words(to);
-        self.constant(code, words.saturating_mul(4))?;
-        self.emit(code, Instr::MoveBytes)
-    }
-
-    /// Whether the words of an item may have been used before this place is reached.
-    fn is_touched(&mut self, item: Item) -> Result<bool, CodeFault> {
-        if self.touched.contains(&item) {
-            return Ok(true);
-        }
-        self.touched.push(item)?;
-        Ok(self.depth > 0)
-    }
-
-    /// Makes a variable 0, where it is read before it is assigned to. What was never used is 0.
-    fn declare_variable(&mut self, code: &mut Code, x: usize, body: &Process) -> Result<(), CodeFault> {
-        self.forget(x);
-        if self.is_touched(Item::Variable(x))? && first_use(body, x) == First::Read {
-            let local = self.variable(x)?;
-            self.emit(code, Instr::Ldc(0))?;
-            self.emit(code, Instr::Stl(local))?;
-        }
-        Ok(())
-    }
-
-    /// Makes an array's bytes 0. What was never used is 0.
-    fn declare_array(&mut self, code: &mut Code, a: usize) -> Result<(), CodeFault> {
-        if !self.is_touched(Item::Array(a))? {
-            return Ok(());
-        }
-        let words = self.words(a);
-        if words <= FEW_WORDS {
-            self.clear_words(code, a, words)
-        } else {
-            self.clear_by_moves(code, a, words)
-        }
-    }
-
-    /// Clears the words of an array one by one.
-    fn clear_words(&mut self, code: &mut Code, a: usize, words: u32) -> Result<(), CodeFault> {
-        for word in 0..words {
-            let local = self.array(a, word)?;
-            self.emit(code, Instr::Ldc(0))?;
-            self.emit(code, Instr::Stl(local))?;
-        }
-        Ok(())
-    }
-
-    /// Clears the words of an array by copies of words that stay 0.
-    fn clear_by_moves(&mut self, code: &mut Code, a: usize, words: u32) -> Result<(), CodeFault> {
-        for part in 0..words.div_ceil(MOST_WORDS) {
-            let first = part.saturating_mul(MOST_WORDS);
-            let count = words.saturating_sub(first).min(MOST_WORDS);
-            let zeros = self.zeros(count)?;
-            self.emit(code, Instr::Ldlp(zeros))?;
-            let target = self.array(a, first)?;
-            self.emit(code, Instr::Ldlp(target))?;
-            self.constant(code, count.saturating_mul(4))?;
-            self.emit(code, Instr::MoveBytes)?;
-        }
-        Ok(())
+        move_words(code, line, Item::Array(from), (Item::Array(to), 0), words)
     }
 
     /// A guarded process, and what is done where the guard is FALSE.
+    #[cycle(process)]
     fn choice(
         &mut self,
         code: &mut Code,
         guard: &Expression,
         guarded: &Process,
         rest: &Process,
+        line: u32,
     ) -> Result<(), CodeFault> {
         match self.constant_of(guard) {
-            Some(0) => return self.process(code, rest),
-            Some(_) => return self.process(code, guarded),
+            Some(0) => return self.process(code, rest, line),
+            Some(_) => return self.process(code, guarded, line),
             None => {}
         }
-        self.condition(code, guard)?;
+        self.condition(code, guard, Room::from_word(0, line))?;
         let mut yes = Code::new(self.alloc, code.behind(1));
-        self.process(&mut yes, guarded)?;
+        self.process(&mut yes, guarded, line)?;
         if is_skip(rest) {
-            self.operate(code, Operation::CjTo(yes.here()))?;
-            return code.append(&yes);
+            return branch(code, line, &yes);
         }
         let mut no = Code::new(self.alloc, yes.behind(1));
-        self.process(&mut no, rest)?;
-        self.operate(code, Operation::CjTo(yes.behind(1)))?;
-        code.append(&yes)?;
-        self.operate(code, Operation::JumpTo(no.here()))?;
-        code.append(&no)
+        self.process(&mut no, rest, line)?;
+        choose(code, line, &yes, &no)
     }
 
     /// So many turns. One turn is the body, with its index as a constant.
+    #[cycle(process)]
     fn repeat(
         &mut self,
         code: &mut Code,
@@ -191,83 +206,33 @@ impl Emitter<'_> {
         start: u32,
         count: u32,
         body: &Process,
+        line: u32,
     ) -> Result<(), CodeFault> {
-        match count {
-            0 => Ok(()),
-            1 => {
-                self.bind_constant(index, start);
-                self.process(code, body)
-            }
-            _ => self.turns(code, index, start, count, body),
+        if count == 0 {
+            return Ok(());
         }
-    }
-
-    /// Several turns.
-    fn turns(
-        &mut self,
-        code: &mut Code,
-        index: usize,
-        start: u32,
-        count: u32,
-        body: &Process,
-    ) -> Result<(), CodeFault> {
-        let range = self.enter(start, count)?;
-        let block = self.block(index)?;
-        self.constant(code, start)?;
-        self.emit(code, Instr::Stl(block))?;
-        self.constant(code, count)?;
-        self.emit(code, Instr::Stl(block.saturating_add(1)))?;
-        self.set_fact(
-            index,
-            Fact {
-                source: range,
-                known: range,
-                constant: None,
-            },
-        );
-        let head = code.here();
-        let weight = self.weight;
-        self.weight = weight.saturating_mul(LOOP_WEIGHT);
-        self.process(code, body)?;
-        self.emit(code, Instr::Ldlp(block))?;
-        self.block(index)?;
-        self.operate(
-            code,
-            Operation::Distance {
-                from: head,
-                to: code.behind(2),
-            },
-        )?;
-        let lend = code.here();
-        self.emit(code, Instr::Lend)?;
-        self.weight = weight;
-        self.leave(Loop {
-            head: Spot::Place(head),
-            lend: Spot::Place(lend),
-            control: control_of(block),
-            count: u16::try_from(count).unwrap_or(u16::MAX),
-            start: start.cast_signed(),
-        })
-    }
-
-    /// Begins a loop, and says which numbers its index is.
-    fn enter(&mut self, start: u32, count: u32) -> Result<Range, CodeFault> {
-        if self.depth >= MOST_DEPTH {
-            return Err(CodeFault::Depth { line: self.line });
+        let before = self.fact(index);
+        if count == 1 {
+            self.set_fact(index, constant(start));
+            self.process(code, body, line)?;
+        } else {
+            let first = i64::from(start.cast_signed());
+            let last = first + i64::from(count) - 1;
+            self.set_fact(index, counted(Range::between(first, last)));
+            begin_loop(code, line, index, start, count)?;
+            let head = code.here();
+            self.process(code, body, line)?;
+            let turns = Turns {
+                head,
+                lend: head,
+                index,
+                start,
+                count,
+                source: line,
+            };
+            end_loop(code, turns)?;
         }
-        if self.loops.len().saturating_add(self.depth as usize) >= MOST_LOOPS {
-            return Err(CodeFault::Loops { line: self.line });
-        }
-        self.depth = self.depth.saturating_add(1);
-        let first = i64::from(start.cast_signed());
-        Ok(Range::between(first, first + i64::from(count) - 1))
-    }
-
-    /// Ends a loop, and adds its row.
-    fn leave(&mut self, row: Loop) -> Result<(), CodeFault> {
-        self.depth = self.depth.saturating_sub(1);
-        self.loops.push(row)?;
-        self.loop_lines.push(self.line)?;
+        self.set_fact(index, before);
         Ok(())
     }
 }
