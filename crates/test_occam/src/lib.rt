@@ -8,6 +8,12 @@ mod build;
 #[cfg(test)]
 mod compare;
 #[cfg(test)]
+mod ends;
+#[cfg(test)]
+mod fuzz;
+#[cfg(test)]
 mod random;
+#[cfg(test)]
+mod values;
 #[cfg(test)]
 mod workers;

@@ -100,7 +100,7 @@ pub(crate) fn may_be_same(one: &Target, other: &Target) -> bool {
 }
 
 /// What happens first to a variable.
-#[derive(Clone, Copy, Debug, PartialEq, Eq)]
+#[derive(Clone, Copy, PartialEq, Eq)]
 pub(crate) enum First {
     Nothing,
     Assigned,

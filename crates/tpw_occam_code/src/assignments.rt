@@ -4,9 +4,9 @@ use crate::code::{Code, Step};
 use crate::emitter::{Emitter, Room};
 use crate::fault::CodeFault;
 use crate::items::Item;
-use crate::order::order;
+use crate::order::{Move, is_kept, keep_any, moves};
 use crate::range::FULL;
-use crate::subscripts::{checked, indexed, kept_byte, settled};
+use crate::subscripts::{checked, indexed, kept_byte, reduce, settled};
 use tp_decode::Instr;
 use tpw_occam_core::{Assignment, Expression, Kind, Target};
 
@@ -29,50 +29,98 @@ fn store_at(code: &mut Code, line: u32, kind: Kind) -> Result<(), CodeFault> {
 }
 
 impl Emitter<'_> {
-    /// Makes assignments that are made together: one by one where an order allows that, else with the values in registers, else with the
-    /// values and the subscripts in words.
+    /// Makes assignments that are made together: one by one where an order allows that; else with all values in registers; else one by one with
+    /// some values in words; else with all values and subscripts in words.
     pub(crate) fn assignments(
         &mut self,
         code: &mut Code,
         all: &[Assignment],
         line: u32,
     ) -> Result<(), CodeFault> {
-        if let Some(ordered) = order(self.alloc, all)? {
-            return self.assign_in_order(code, all, &ordered, line);
-        }
-        if self.fit_in_registers(all) {
-            self.assign_by_registers(code, all, line)
-        } else {
-            self.assign_by_words(code, all, line)
+        match moves(self.alloc, all)? {
+            Some(moves) if !keep_any(&moves) || !self.fit_in_registers(all) => {
+                self.make_moves(code, all, &moves, line)
+            }
+            Some(_) => self.assign_by_registers(code, all, line),
+            None => self.assign_by_words(code, all, line),
         }
     }
 
     /// Makes assignments one by one.
-    fn assign_in_order(
+    fn make_moves(
         &mut self,
         code: &mut Code,
         all: &[Assignment],
-        ordered: &[usize],
+        moves: &[Move],
         line: u32,
     ) -> Result<(), CodeFault> {
-        for i in ordered {
-            if let Some(assignment) = all.get(*i) {
-                self.assign(code, assignment, line)?;
+        let room = match keep_any(moves) {
+            true => Room::from_word(all.len(), line),
+            false => Room::from_word(0, line),
+        };
+        for next in moves {
+            match next {
+                Move::Keep(i) => {
+                    if let Some(assignment) = all.get(*i) {
+                        self.value(code, assignment, room)?;
+                        code.emit(line, Step::Store(Item::Temporary(*i), 0))?;
+                    }
+                }
+                Move::Make(i) => {
+                    if let Some(assignment) = all.get(*i) {
+                        self.make(code, assignment, *i, is_kept(moves, *i), room)?;
+                    }
+                }
             }
         }
         Ok(())
     }
 
-    /// Makes one assignment.
-    fn assign(
+    /// Pushes the value of an assignment, as its target takes it.
+    fn value(
         &mut self,
         code: &mut Code,
         assignment: &Assignment,
-        line: u32,
+        room: Room,
     ) -> Result<(), CodeFault> {
+        let value = self.expression(code, &assignment.value, room)?;
+        match &assignment.target {
+            Target::Variable(x) if self.kind(*x) == Kind::Byte => {
+                kept_byte(code, room.line, value)
+            }
+            _ => Ok(()),
+        }
+    }
+
+    /// Pushes the value of an assignment, which may be kept.
+    fn value_or_word(
+        &mut self,
+        code: &mut Code,
+        assignment: &Assignment,
+        number: usize,
+        is_kept: bool,
+        room: Room,
+    ) -> Result<(), CodeFault> {
+        if is_kept {
+            code.emit(room.line, Step::Load(Item::Temporary(number), 0))
+        } else {
+            self.value(code, assignment, room)
+        }
+    }
+
+    /// Makes one assignment, whose value may be kept.
+    fn make(
+        &mut self,
+        code: &mut Code,
+        assignment: &Assignment,
+        number: usize,
+        is_kept: bool,
+        room: Room,
+    ) -> Result<(), CodeFault> {
+        let line = room.line;
         match &assignment.target {
             Target::Variable(x) => {
-                self.kept_value(code, *x, &assignment.value, line)?;
+                self.value_or_word(code, assignment, number, is_kept, room)?;
                 store_variable(code, line, *x)
             }
             Target::Element {
@@ -81,12 +129,19 @@ impl Emitter<'_> {
                 subscript,
             } => match self.fixed_word(*array, *kind, subscript) {
                 Some(word) => {
-                    self.expression(code, &assignment.value, Room::from_word(0, line))?;
+                    self.value_or_word(code, assignment, number, is_kept, room)?;
                     store_word(code, line, *array, word)
                 }
                 None => {
                     let size = self.elements(*array, *kind);
-                    self.value_and_subscript(code, &assignment.value, subscript, size, line)?;
+                    if self.need(subscript) <= 2 {
+                        self.value_or_word(code, assignment, number, is_kept, room)?;
+                        self.subscript(code, subscript, size, room.above())?;
+                    } else {
+                        self.value_or_word(code, assignment, number, is_kept, room)?;
+                        code.emit(line, Step::Store(room.word(), 0))?;
+                        self.subscript_above(code, subscript, size, room)?;
+                    }
                     indexed(code, line, *array, *kind)?;
                     store_at(code, line, *kind)
                 }
@@ -94,19 +149,21 @@ impl Emitter<'_> {
         }
     }
 
-    /// Pushes a value as a variable takes it.
-    fn kept_value(
+    /// Pushes what was kept last, and above it a subscript that needs all registers.
+    fn subscript_above(
         &mut self,
         code: &mut Code,
-        x: usize,
-        e: &Expression,
-        line: u32,
+        subscript: &Expression,
+        size: u32,
+        room: Room,
     ) -> Result<(), CodeFault> {
-        let value = self.expression(code, e, Room::from_word(0, line))?;
-        match self.kind(x) {
-            Kind::Word => Ok(()),
-            Kind::Byte => kept_byte(code, line, value),
-        }
+        let line = room.line;
+        let i = self.expression(code, subscript, room.beside())?;
+        let i = checked(code, line, i, size)?;
+        code.emit(line, Step::Load(room.word(), 0))?;
+        code.instr(line, Instr::Rev)?;
+        settled(code, line, i, size)?;
+        Ok(())
     }
 
     /// The word of an element of words with a constant subscript.
@@ -115,32 +172,6 @@ impl Emitter<'_> {
             Kind::Word => self.fixed_subscript(array, kind, subscript),
             Kind::Byte => None,
         }
-    }
-
-    /// Pushes a value, and above it a subscript that leaves a register for the array's address. A value whose subscript needs all registers
-    /// is kept in a word.
-    fn value_and_subscript(
-        &mut self,
-        code: &mut Code,
-        value: &Expression,
-        subscript: &Expression,
-        size: u32,
-        line: u32,
-    ) -> Result<(), CodeFault> {
-        let room = Room::from_word(0, line);
-        if self.need(subscript) <= 2 {
-            self.expression(code, value, room)?;
-            self.subscript(code, subscript, size, room.above())?;
-            return Ok(());
-        }
-        self.expression(code, value, room)?;
-        code.emit(line, Step::Store(room.word(), 0))?;
-        let i = self.expression(code, subscript, room.beside())?;
-        let i = checked(code, line, i, size)?;
-        code.emit(line, Step::Load(room.word(), 0))?;
-        code.instr(line, Instr::Rev)?;
-        settled(code, line, i, size)?;
-        Ok(())
     }
 
     /// Whether a target is a word that takes any value as it is.
@@ -239,12 +270,7 @@ impl Emitter<'_> {
         line: u32,
     ) -> Result<(), CodeFault> {
         let room = Room::from_word(number.saturating_mul(2), line);
-        let value = self.expression(code, &assignment.value, room)?;
-        if let Target::Variable(x) = &assignment.target {
-            if self.kind(*x) == Kind::Byte {
-                kept_byte(code, line, value)?;
-            }
-        }
+        self.value(code, assignment, room)?;
         code.emit(line, Step::Store(room.word(), 0))?;
         if let Target::Element {
             array,
@@ -277,7 +303,7 @@ impl Emitter<'_> {
                 subscript: _,
             } => {
                 code.emit(line, Step::Load(room.beside().word(), 0))?;
-                crate::subscripts::reduce(code, line, FULL, self.elements(*array, *kind))?;
+                reduce(code, line, FULL, self.elements(*array, *kind))?;
                 indexed(code, line, *array, *kind)?;
                 store_at(code, line, *kind)
             }

@@ -1,15 +1,21 @@
-//! Code: steps that are appended one by one.
+//! Code: steps that are appended one by one. Nothing that stands is changed.
+
+ghost use Rattle.std.specs.Prelude.{◌≡◌, ◌+◌, ◌≤◌, [], ◌∷◌, IfOk, OnOk};
+ghost use Rattle.tp_decode.specs.declared.instr.Instr.{Instr};
+ghost use Rattle.tpw_occam_code.specs.declared.code.Step.TheVariants.{Plain};
+ghost use Rattle.tpw_occam_code.specs.Code.{none_at, place_behind, followed_by, joined, with_loop, line_of};
 
 use crate::fault::CodeFault;
 use crate::items::Item;
 use std::alloc::Global;
+use std::marker::Model;
 use tp_decode::Instr;
 
 /// The most lines that a code may have: no line has less than a byte.
 const MOST_LINES: usize = 8192;
 
 /// A step of code: a line of a program whose words are not placed yet. Places are those of lines, counted from the first of the whole code.
-#[derive(Clone, Copy, Debug, PartialEq, Eq)]
+#[derive(Clone, Copy)]
 pub(crate) enum Step {
     Plain(Instr),
     /// `ldl` of an item's word.
@@ -24,14 +30,14 @@ pub(crate) enum Step {
 }
 
 /// A step, and the line of the text that it comes from.
-#[derive(Clone, Copy, Debug, PartialEq, Eq)]
+#[derive(Clone, Copy)]
 pub(crate) struct CodeLine {
     pub(crate) step: Step,
     pub(crate) source: u32,
 }
 
 /// A loop of several turns, and the line of the text that it comes from.
-#[derive(Clone, Copy, Debug, PartialEq, Eq)]
+#[derive(Clone, Copy)]
 pub(crate) struct Turns {
     pub(crate) head: usize,
     pub(crate) lend: usize,
@@ -49,38 +55,68 @@ pub(crate) struct Code {
     loops: Vec<Turns>,
 }
 
+impl Model for Code {
+    ghost use Rattle.std.specs.Prelude.{◌+◌, ◌≤◌, length};
+    ghost use Rattle.tpw_occam_code.specs.Code.{Lines};
+
+    ghost Value = { Lines };
+
+    ghost view = { λ c. record { base = c.base; lines = c.lines.items; loops = c.loops.items } };
+
+    ghost invariant = { λ c. c.base + length c.lines.items ≤ 8192 };
+}
+
 impl Code {
-    /// No lines, at a place.
-    pub(crate) fn new(alloc: Global, base: usize) -> Code {
+    /// No lines, at the first place.
+    pub(crate) fn new(alloc: Global) -> Code
+        ensures { result ≡ none_at 0 }
+    {
         Code {
-            base,
+            base: 0,
             lines: Vec::new(alloc),
             loops: Vec::new(alloc),
         }
     }
 
-    /// The place behind the last line and so many more.
-    pub(crate) fn behind(&self, lines: usize) -> usize {
-        self.base
-            .saturating_add(self.lines.len())
-            .saturating_add(lines)
+    /// No lines, at the place behind the last line and one more. A code that has no such place is refused, with this line of the text.
+    pub(crate) fn behind_one(&self, alloc: Global, source: u32) -> Result<Code, CodeFault>
+        ensures { IfOk result (λ code. code ≡ none_at (place_behind self.now + 1)) }
+    {
+        let here = self.here();
+        if here >= MOST_LINES {
+            return Err(CodeFault::Code { line: source });
+        }
+        Ok(Code {
+            base: here + 1,
+            lines: Vec::new(alloc),
+            loops: Vec::new(alloc),
+        })
     }
 
     /// The place behind the last line.
-    pub(crate) fn here(&self) -> usize {
-        self.behind(0)
+    pub(crate) fn here(&self) -> usize
+        ensures place { result ≡ place_behind self.now }
+        ensures small { result ≤ 8192 }
+    {
+        self.base + self.lines.len()
     }
 
-    pub(crate) fn lines(&self) -> &[CodeLine] {
+    pub(crate) fn lines(&self) -> &[CodeLine]
+        ensures { result.now ≡ self.now.lines }
+    {
         &self.lines
     }
 
-    pub(crate) fn loops(&self) -> &[Turns] {
+    pub(crate) fn loops(&self) -> &[Turns]
+        ensures { result.now ≡ self.now.loops }
+    {
         &self.loops
     }
 
     /// Appends a step that comes from a line of the text.
-    pub(crate) fn emit(&mut self, source: u32, step: Step) -> Result<(), CodeFault> {
+    pub(crate) fn emit(&mut self, source: u32, step: Step) -> Result<(), CodeFault>
+        ensures { OnOk result (self.new ≡ followed_by self.old (line_of source step ∷ [])) }
+    {
         if self.here() >= MOST_LINES {
             return Err(CodeFault::Code { line: source });
         }
@@ -89,19 +125,28 @@ impl Code {
     }
 
     /// Appends an instruction.
-    pub(crate) fn instr(&mut self, source: u32, instr: Instr) -> Result<(), CodeFault> {
+    pub(crate) fn instr(&mut self, source: u32, instr: Instr) -> Result<(), CodeFault>
+        ensures { OnOk result (self.new ≡ followed_by self.old (line_of source (Plain instr) ∷ [])) }
+    {
         self.emit(source, Step::Plain(instr))
     }
 
-    /// Appends code that stands here.
-    pub(crate) fn append(&mut self, code: &Code) -> Result<(), CodeFault> {
+    /// Appends code.
+    pub(crate) fn append(&mut self, source: u32, code: &Code) -> Result<(), CodeFault>
+        ensures { OnOk result (self.new ≡ joined self.old code.now) }
+    {
+        if code.lines.len() > MOST_LINES - self.here() {
+            return Err(CodeFault::Code { line: source });
+        }
         self.lines.extend_from_slice(&code.lines)?;
         self.loops.extend_from_slice(&code.loops)?;
         Ok(())
     }
 
     /// Adds a loop.
-    pub(crate) fn add_loop(&mut self, turns: Turns) -> Result<(), CodeFault> {
+    pub(crate) fn add_loop(&mut self, turns: Turns) -> Result<(), CodeFault>
+        ensures { OnOk result (self.new ≡ with_loop self.old turns) }
+    {
         self.loops.push(turns)?;
         Ok(())
     }

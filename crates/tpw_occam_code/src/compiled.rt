@@ -1,5 +1,8 @@
 //! From a worker to its program.
 
+ghost use Rattle.std.specs.Prelude.{IfOk, OnOk};
+ghost use Rattle.tpw_occam_code.specs.Program.{HasLayout};
+
 use crate::code::Code;
 use crate::emitter::Emitter;
 use crate::fault::CodeFault;
@@ -31,7 +34,7 @@ pub struct Compiled {
 /// The code of a worker.
 fn code_of(alloc: Global, worker: &Worker) -> Result<Code, CodeFault> {
     let mut emitter = Emitter::new(alloc, worker)?;
-    let mut code = Code::new(alloc, 0);
+    let mut code = Code::new(alloc);
     emitter.receive(&mut code, worker.receive, worker.line)?;
     emitter.process(&mut code, &worker.body, worker.line)?;
     emitter.send(&mut code, &worker.send, worker.line)?;
@@ -73,7 +76,9 @@ fn check_workspace(uses: &[Used]) -> Result<(), CodeFault> {
 }
 
 /// Refuses a program that has no layout.
-fn check_code(alloc: Global, program: &Program, sources: &[u32]) -> Result<(), CodeFault> {
+fn check_code(alloc: Global, program: &Program, sources: &[u32]) -> Result<(), CodeFault>
+    ensures { OnOk result (HasLayout program.now) }
+{
     match addresses(alloc, program) {
         Ok(_) => Ok(()),
         Err(AssemblyFault::TooLong) => {
@@ -87,8 +92,10 @@ fn check_code(alloc: Global, program: &Program, sources: &[u32]) -> Result<(), C
     }
 }
 
-/// The program of a worker, or why there is none.
-pub fn compile(alloc: Global, worker: &Worker) -> Result<Compiled, CodeFault> {
+/// The program of a worker, or why there is none. The program has a layout, within the code bytes of an image.
+pub fn compile(alloc: Global, worker: &Worker) -> Result<Compiled, CodeFault>
+    ensures { IfOk result (λ compiled. HasLayout compiled.program) }
+{
     let code = code_of(alloc, worker)?;
     check_loops(code.loops())?;
     let uses = uses_of(alloc, worker, &code)?;

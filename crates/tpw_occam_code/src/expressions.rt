@@ -83,14 +83,14 @@ impl Emitter<'_> {
             }
             Expression::And(left, right) => {
                 self.expression(code, left, room)?;
-                let mut more = Code::new(self.alloc, code.behind(1));
+                let mut more = code.behind_one(self.alloc, line)?;
                 let value = self.expression(&mut more, right, room)?;
                 branch(code, line, &more)?;
                 Ok(value.or(truth()))
             }
             Expression::Or(left, right) => {
                 self.inverted(code, left, room)?;
-                let mut more = Code::new(self.alloc, code.behind(1));
+                let mut more = code.behind_one(self.alloc, line)?;
                 self.inverted(&mut more, right, room)?;
                 branch(code, line, &more)?;
                 // where the left operand is TRUE, `cj` has left the 0 of its inverse
@@ -224,5 +224,5 @@ impl Emitter<'_> {
 /// Appends code that is passed over, by a `cj` before it, where Areg is 0.
 pub(crate) fn branch(code: &mut Code, line: u32, more: &Code) -> Result<(), CodeFault> {
     code.emit(line, Step::CjTo(more.here()))?;
-    code.append(more)
+    code.append(line, more)
 }

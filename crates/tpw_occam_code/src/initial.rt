@@ -33,14 +33,15 @@ fn put_table(words: &mut [u32], place: Placed, bytes: &[u8]) {
     }
 }
 
-/// Drops the zeros at the end.
-fn drop_zeros(words: &mut Vec<u32>) {
-    while let Some(last) = words.last() {
-        if *last != 0 {
-            return;
+/// How many words there are up to the last that is not 0.
+fn count_of(words: &[u32]) -> usize {
+    let mut count = 0;
+    for (i, word) in words.iter().enumerate() {
+        if *word != 0 {
+            count = i + 1;
         }
-        words.pop();
     }
+    count
 }
 
 /// The words that a workspace begins with, up to the last that is not 0.
@@ -63,6 +64,7 @@ pub(crate) fn initial_words(
             _ => {}
         }
     }
-    drop_zeros(&mut words);
+    let count = count_of(&words);
+    words.truncate(count);
     Ok(words)
 }

@@ -52,12 +52,15 @@ fn fits(alloc: Global, lines: &[Line], count: usize) -> Result<bool, CodeFault> 
     }
 }
 
-/// The first line by which a code is too long.
+/// The first line by which a code is too long: between lines that are short enough and lines that are too long, halved until they meet.
 pub(crate) fn first_beyond(alloc: Global, lines: &[Line]) -> Result<usize, CodeFault> {
-    let mut short = 0;
+    let mut short = 0usize;
     let mut long = lines.len();
-    while long - short > 1 {
-        let middle = short + (long - short) / 2;
+    for _ in 0..usize::BITS {
+        let middle = short.saturating_add(long.saturating_sub(short) / 2);
+        if middle == short {
+            return Ok(short);
+        }
         if fits(alloc, lines, middle)? {
             short = middle;
         } else {

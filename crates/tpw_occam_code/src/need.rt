@@ -75,15 +75,24 @@ impl Emitter<'_> {
                 left,
                 right,
             } => {
-                let (left, right) = self.constant_last(*operator, left, right);
-                if self.is_immediate(*operator, right) {
-                    self.need(left)
-                } else if is_shift(*operator) {
-                    both(self.need(left), self.need_of_count(right))
+                if self.is_swapped(*operator, left, right) {
+                    self.need_of_operands(*operator, right, left)
                 } else {
-                    both(self.need(left), self.need(right))
+                    self.need_of_operands(*operator, left, right)
                 }
             }
+        }
+    }
+
+    /// How many registers an operator needs.
+    #[cycle(need)]
+    fn need_of_operands(&self, operator: Operator, left: &Expression, right: &Expression) -> u32 {
+        if self.is_immediate(operator, right) {
+            self.need(left)
+        } else if is_shift(operator) {
+            both(self.need(left), self.need_of_count(right))
+        } else {
+            both(self.need(left), self.need(right))
         }
     }
 
@@ -105,5 +114,19 @@ impl Emitter<'_> {
                 None => false,
             },
         }
+    }
+
+    /// Whether the operands of an operator change places: where they commute a constant is last, that which is the operand of an instruction
+    /// if only one is.
+    pub(crate) fn is_swapped(
+        &self,
+        operator: Operator,
+        left: &Expression,
+        right: &Expression,
+    ) -> bool {
+        commutes(operator)
+            && self.constant_of(left).is_some()
+            && !self.is_immediate(operator, right)
+            && (self.constant_of(right).is_none() || self.is_immediate(operator, left))
     }
 }

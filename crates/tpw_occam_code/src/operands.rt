@@ -33,7 +33,23 @@ impl Emitter<'_> {
             let (b, a) = self.shifted(code, left, right, room)?;
             return apply(code, room.line, operator, b, a);
         }
-        let (left, right) = self.constant_last(operator, left, right);
+        if self.is_swapped(operator, left, right) {
+            self.in_order(code, operator, right, left, room)
+        } else {
+            self.in_order(code, operator, left, right, room)
+        }
+    }
+
+    /// Pushes what an operator that is no shift makes of two operands, of which the constant, if there is one, is last where they commute.
+    #[cycle(expression)]
+    fn in_order(
+        &mut self,
+        code: &mut Code,
+        operator: Operator,
+        left: &Expression,
+        right: &Expression,
+        room: Room,
+    ) -> Result<Value, CodeFault> {
         if let Some(c) = self.constant_of(right) {
             return self.with_constant(code, operator, left, c, room);
         }
@@ -137,23 +153,5 @@ impl Emitter<'_> {
         code.emit(room.line, Step::Load(room.word(), 0))?;
         code.instr(room.line, Instr::Rev)?;
         Ok((recalled(b), a))
-    }
-
-    /// The operands of an operator, in the order in which they are written or, where they commute, with a constant last: the one that is the
-    /// operand of an instruction, if only one is.
-    pub(crate) fn constant_last<'e>(
-        &self,
-        operator: Operator,
-        left: &'e Expression,
-        right: &'e Expression,
-    ) -> (&'e Expression, &'e Expression) {
-        let is_last = self.is_immediate(operator, right)
-            || self.constant_of(left).is_none()
-            || (self.constant_of(right).is_some() && !self.is_immediate(operator, left));
-        if is_last || !commutes(operator) {
-            (left, right)
-        } else {
-            (right, left)
-        }
     }
 }

@@ -73,10 +73,10 @@ fn clear_array(code: &mut Code, line: u32, a: usize, words: u32) -> Result<(), C
 
 /// Appends code for where Areg is not 0, and where it is.
 fn choose(code: &mut Code, line: u32, yes: &Code, no: &Code) -> Result<(), CodeFault> {
-    code.emit(line, Step::CjTo(yes.behind(1)))?;
-    code.append(yes)?;
+    code.emit(line, Step::CjTo(yes.here() + 1))?;
+    code.append(line, yes)?;
     code.emit(line, Step::JumpTo(no.here()))?;
-    code.append(no)
+    code.append(line, no)
 }
 
 /// Appends the beginning of a loop.
@@ -99,7 +99,7 @@ fn end_loop(code: &mut Code, turns: Turns) -> Result<(), CodeFault> {
     code.emit(line, Step::Pointer(Item::Variable(turns.index), 0))?;
     let distance = Step::Distance {
         from: turns.head,
-        to: code.behind(2),
+        to: code.here() + 2,
     };
     code.emit(line, distance)?;
     let lend = code.here();
@@ -187,12 +187,12 @@ impl Emitter<'_> {
             None => {}
         }
         self.condition(code, guard, Room::from_word(0, line))?;
-        let mut yes = Code::new(self.alloc, code.behind(1));
+        let mut yes = code.behind_one(self.alloc, line)?;
         self.process(&mut yes, guarded, line)?;
         if is_skip(rest) {
             return branch(code, line, &yes);
         }
-        let mut no = Code::new(self.alloc, yes.behind(1));
+        let mut no = yes.behind_one(self.alloc, line)?;
         self.process(&mut no, rest, line)?;
         choose(code, line, &yes, &no)
     }

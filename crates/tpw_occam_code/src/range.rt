@@ -5,7 +5,7 @@
 use tpw_occam_core::Operator;
 
 /// The numbers from `low` to `high`, both among them.
-#[derive(Clone, Copy, Debug, PartialEq, Eq)]
+#[derive(Clone, Copy, PartialEq, Eq)]
 pub(crate) struct Range {
     pub(crate) low: i32,
     pub(crate) high: i32,
@@ -50,11 +50,6 @@ impl Range {
         other.low <= self.low && self.high <= other.high
     }
 
-    /// Whether it is one number above 0.
-    fn is_positive(self) -> bool {
-        self.low == self.high && self.low > 0
-    }
-
     /// What either may be.
     pub(crate) fn or(self, other: Range) -> Range {
         Range {
@@ -87,7 +82,7 @@ fn differences(b: Range, a: Range) -> Range {
 }
 
 fn product(b: i32, a: i32) -> i64 {
-    i64::from(b) * i64::from(a)
+    i64::from(b).saturating_mul(i64::from(a))
 }
 
 fn products(b: Range, a: Range) -> Range {
@@ -103,7 +98,7 @@ fn products(b: Range, a: Range) -> Range {
 
 /// By one divisor above 0.
 fn quotients(b: Range, a: Range) -> Range {
-    if a.is_positive() {
+    if a.low == a.high && a.low > 0 {
         Range {
             low: b.low / a.low,
             high: b.high / a.low,
@@ -115,7 +110,7 @@ fn quotients(b: Range, a: Range) -> Range {
 
 /// By one divisor above 0: with the dividend's sign.
 fn remainders(b: Range, a: Range) -> Range {
-    if !a.is_positive() {
+    if a.low != a.high || a.low <= 0 {
         FULL
     } else if b.low >= 0 {
         Range {
@@ -149,18 +144,16 @@ fn conjunctions(b: Range, a: Range) -> Range {
     }
 }
 
-/// The least and the greatest count of a shift, if every count is from 0 to 31.
-fn counts(a: Range) -> Option<(u32, u32)> {
-    match (u32::try_from(a.low), u32::try_from(a.high)) {
-        (Ok(low), Ok(high)) if low < 32 && high < 32 => Some((low, high)),
-        _ => None,
-    }
+/// A count of a shift, from 0 to 31.
+fn count_of(n: i32) -> Option<u32> {
+    u32::try_from(n).ok().filter(|count| *count < 32)
 }
 
+/// A number that is never below 0, shifted up by one count.
 fn shifted_left(b: Range, a: Range) -> Range {
-    match counts(a) {
-        Some((low, high)) if low == high && b.low >= 0 => {
-            let power = 1i64 << low;
+    match count_of(a.low) {
+        Some(count) if a.low == a.high && b.low >= 0 => {
+            let power = 1i64.wrapping_shl(count);
             Range::between(
                 i64::from(b.low).saturating_mul(power),
                 i64::from(b.high).saturating_mul(power),
@@ -170,13 +163,16 @@ fn shifted_left(b: Range, a: Range) -> Range {
     }
 }
 
+/// Shifted down; a number below 0 is a large one without its sign.
 fn shifted_right(b: Range, a: Range) -> Range {
-    match counts(a) {
-        Some((low, high)) if b.low >= 0 => Range {
-            low: b.low >> high,
-            high: b.high >> low,
+    match (count_of(a.low), count_of(a.high)) {
+        (Some(low), Some(high)) if b.low >= 0 => Range {
+            low: b.low.wrapping_shr(high),
+            high: b.high.wrapping_shr(low),
         },
-        Some((low, _)) if low > 0 => Range::between(0, i64::from(u32::MAX >> low)),
+        (Some(low), Some(_)) if low > 0 => {
+            Range::between(0, i64::from(u32::MAX.wrapping_shr(low)))
+        }
         _ => FULL,
     }
 }

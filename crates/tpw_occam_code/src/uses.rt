@@ -10,7 +10,7 @@ use tpw_occam_core::{Storage, Worker};
 const LOOP_WEIGHT: u32 = 8;
 
 /// An item, how many words it has, how often it is used, and the line of the text where it is used first.
-#[derive(Clone, Copy, Debug)]
+#[derive(Clone, Copy)]
 pub(crate) struct Used {
     pub(crate) item: Item,
     pub(crate) words: u32,

@@ -2,3 +2,4 @@
 pub mod Arithmetic
 pub mod Arrays
 pub mod Meaning
+pub mod Sound

@@ -12,6 +12,8 @@ mod expression;
 mod kind;
 mod process;
 mod running;
+mod scope;
+mod sound;
 mod state;
 mod worker;
 
@@ -20,5 +22,7 @@ pub use evaluated::{Given, evaluate};
 pub use expression::{Expression, Operator};
 pub use kind::Kind;
 pub use process::{Assignment, Message, Process, Target};
+pub use scope::Entry;
+pub use sound::is_sound;
 pub use state::MOST_TRACED;
 pub use worker::{Place, Storage, Worker};
