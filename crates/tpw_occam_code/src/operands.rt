@@ -84,15 +84,14 @@ impl Emitter<'_> {
         right: &Expression,
         room: Room,
     ) -> Result<Value, CodeFault> {
-        let (b, a);
         if self.need(right) < room.registers {
-            b = number(code, room.line, c)?;
-            a = self.expression(code, right, room.above())?;
-        } else {
-            a = self.expression(code, right, room)?;
-            b = number(code, room.line, c)?;
-            code.instr(room.line, Instr::Rev)?;
+            let b = number(code, room.line, c)?;
+            let a = self.expression(code, right, room.above())?;
+            return apply(code, room.line, operator, b, a);
         }
+        let a = self.expression(code, right, room)?;
+        let b = number(code, room.line, c)?;
+        code.instr(room.line, Instr::Rev)?;
         apply(code, room.line, operator, b, a)
     }
 
