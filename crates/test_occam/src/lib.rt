@@ -1,4 +1,5 @@
-//! Workers in occam, as values of the core: the evaluator, the compiled code and programs in Python agree. There is no code here but tests.
+//! Workers in occam, as values of the core: the evaluator, the compiled code and programs in Python agree. There is
+//! no code here but tests.
 #![tactic(auto)]
 
 #[cfg(test)]

@@ -29,8 +29,8 @@ fn store_at(code: &mut Code, line: u32, kind: Kind) -> Result<(), CodeFault> {
 }
 
 impl Emitter<'_> {
-    /// Makes assignments that are made together: one by one where an order allows that; else with all values in registers; else one by one with
-    /// some values in words; else with all values and subscripts in words.
+    /// Makes assignments that are made together: one by one where an order allows that; else with all values in
+    /// registers; else one by one with some values in words; else with all values and subscripts in words.
     pub(crate) fn assignments(
         &mut self,
         code: &mut Code,
@@ -245,7 +245,8 @@ impl Emitter<'_> {
         }
     }
 
-    /// Keeps all values and subscripts in words, two for each assignment, and stores the values from the last to the first.
+    /// Keeps all values and subscripts in words, two for each assignment, and stores the values from the last to the
+    /// first.
     fn assign_by_words(
         &mut self,
         code: &mut Code,

@@ -14,7 +14,8 @@ use tp_decode::Instr;
 /// The most lines that a code may have: no line has less than a byte.
 const MOST_LINES: usize = 8192;
 
-/// A step of code: a line of a program whose words are not placed yet. Places are those of lines, counted from the first of the whole code.
+/// A step of code: a line of a program whose words are not placed yet. Places are those of lines, counted from the
+/// first of the whole code.
 #[derive(Clone, Copy)]
 pub(crate) enum Step {
     Plain(Instr),
@@ -78,7 +79,8 @@ impl Code {
         }
     }
 
-    /// No lines, at the place behind the last line and one more. A code that has no such place is refused, with this line of the text.
+    /// No lines, at the place behind the last line and one more. A code that has no such place is refused, with this
+    /// line of the text.
     pub(crate) fn behind_one(&self, alloc: Global, source: u32) -> Result<Code, CodeFault>
         ensures { IfOk result (λ code. code ≡ none_at (place_behind self.now + 1)) }
     {

@@ -12,8 +12,8 @@ use tpw_occam_core::{Expression, Kind, Worker};
 /// The most bytes of `ldc` for a constant that is not an initial word.
 const MOST_BYTES: usize = 2;
 
-/// What is known of a name: the numbers that its value may be, those that the verifier knows of, and its value where that is one constant,
-/// which then has no word.
+/// What is known of a name: the numbers that its value may be, those that the verifier knows of, and its value where
+/// that is one constant, which then has no word.
 #[derive(Clone, Copy)]
 pub(crate) struct Fact {
     pub(crate) source: Range,
@@ -61,8 +61,8 @@ pub(crate) fn counted(range: Range) -> Fact {
     }
 }
 
-/// What an expression may use: registers, at least 2 where it needs more than one; words for what is kept, from the first that is free. And
-/// the line of the text that it comes from.
+/// What an expression may use: registers, at least 2 where it needs more than one; words for what is kept, from the
+/// first that is free. And the line of the text that it comes from.
 #[derive(Clone, Copy)]
 pub(crate) struct Room {
     pub(crate) registers: u32,

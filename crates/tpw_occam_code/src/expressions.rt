@@ -1,7 +1,7 @@
 //! Code of expressions.
 //!
-//! The code of an expression pushes its value. It uses so many registers at most, that of the value among them: what the others hold stays.
-//! One register is enough only where the expression needs no more.
+//! The code of an expression pushes its value. It uses so many registers at most, that of the value among them: what
+//! the others hold stays. One register is enough only where the expression needs no more.
 
 use crate::code::{Code, Step};
 use crate::emitter::{Emitter, Room, constant, valued};

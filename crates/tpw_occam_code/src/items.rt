@@ -1,6 +1,7 @@
 //! What has words of the workspace.
 
-/// The workspace word that Wptr points at, the local word 0. The five words below it are lost at jumps, loops' ends and messages.
+/// The workspace word that Wptr points at, the local word 0. The five words below it are lost at jumps, loops' ends
+/// and messages.
 pub const START: u32 = 5;
 
 /// What has words of the workspace.

@@ -52,7 +52,8 @@ fn fits(alloc: Global, lines: &[Line], count: usize) -> Result<bool, CodeFault> 
     }
 }
 
-/// The first line by which a code is too long: between lines that are short enough and lines that are too long, halved until they meet.
+/// The first line by which a code is too long: between lines that are short enough and lines that are too long,
+/// halved until they meet.
 pub(crate) fn first_beyond(alloc: Global, lines: &[Line]) -> Result<usize, CodeFault> {
     let mut short = 0usize;
     let mut long = lines.len();

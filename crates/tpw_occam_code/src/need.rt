@@ -116,8 +116,8 @@ impl Emitter<'_> {
         }
     }
 
-    /// Whether the operands of an operator change places: where they commute a constant is last, that which is the operand of an instruction
-    /// if only one is.
+    /// Whether the operands of an operator change places: where they commute a constant is last, that which is the
+    /// operand of an instruction if only one is.
     pub(crate) fn is_swapped(
         &self,
         operator: Operator,

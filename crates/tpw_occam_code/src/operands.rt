@@ -40,7 +40,8 @@ impl Emitter<'_> {
         }
     }
 
-    /// Pushes what an operator that is no shift makes of two operands, of which the constant, if there is one, is last where they commute.
+    /// Pushes what an operator that is no shift makes of two operands, of which the constant, if there is one, is
+    /// last where they commute.
     #[cycle(expression)]
     fn in_order(
         &mut self,
@@ -125,8 +126,8 @@ impl Emitter<'_> {
         Ok((b, recalled(a)))
     }
 
-    /// Pushes a number and a count that is a subscript of 32, the count above the number. A count goes through no word, since the verifier
-    /// would know nothing of it then.
+    /// Pushes a number and a count that is a subscript of 32, the count above the number. A count goes through no
+    /// word, since the verifier would know nothing of it then.
     #[cycle(expression)]
     fn shifted(
         &mut self,

@@ -32,8 +32,8 @@ fn subscript_reads(assignment: &Assignment, target: &Target) -> bool {
     }
 }
 
-/// Whether one assignment may be made before another that waits: the other reads nothing that it writes, and where both may write to one
-/// place the last is written first.
+/// Whether one assignment may be made before another that waits: the other reads nothing that it writes, and where
+/// both may write to one place the last is written first.
 fn may_go_before(all: &[Assignment], i: usize, other: Waiting) -> bool {
     if i == other.number {
         return true;

@@ -1,6 +1,7 @@
 //! Ranges of numbers: what is known of a value from the text, and what the verifier knows of a register.
 //!
-//! The verifier's rules say what is known of a result (`tp_state/specs/Rules.antt`). The same holds of values, so one function serves both.
+//! The verifier's rules say what is known of a result (`tp_state/specs/Rules.antt`). The same holds of values, so one
+//! function serves both.
 
 use tpw_occam_core::Operator;
 
@@ -193,8 +194,8 @@ pub(crate) fn result_range(operator: Operator, b: Range, a: Range) -> Range {
     }
 }
 
-/// Whether the whole number of a sum, a difference or a product is always a word. Where it need not be, the range is full; a sum that has
-/// every word as its value is taken for one that need not be.
+/// Whether the whole number of a sum, a difference or a product is always a word. Where it need not be, the range is
+/// full; a sum that has every word as its value is taken for one that need not be.
 pub(crate) fn always_fits(operator: Operator, b: Range, a: Range) -> bool {
     result_range(operator, b, a) != FULL
 }

@@ -1,6 +1,7 @@
 //! Subscripts: their checks, and the masks by which the verifier sees that they are below a size.
 //!
-//! A check is left out where the text shows that it holds. A mask is left out where the verifier knows the range of the register.
+//! A check is left out where the text shows that it holds. A mask is left out where the verifier knows the range of
+//! the register.
 
 use crate::code::{Code, Step};
 use crate::emitter::{Emitter, Room};

@@ -1,7 +1,8 @@
-//! Workers in occam, after names are resolved and calls put in line: what they are, what they mean, and an evaluator that computes it.
+//! Workers in occam, after names are resolved and calls put in line: what they are, what they mean, and an evaluator
+//! that computes it.
 //!
-//! A [`Worker`] receives a packet, runs a [`Process`] and sends a result. Each has one meaning: a result, an error flag and traces for a
-//! packet, or that the packet is lost for its traces. [`evaluate`] computes it.
+//! A [`Worker`] receives a packet, runs a [`Process`] and sends a result. Each has one meaning: a result, an error
+//! flag and traces for a packet, or that the packet is lost for its traces. [`evaluate`] computes it.
 #![tactic(auto)]
 
 mod arithmetic;

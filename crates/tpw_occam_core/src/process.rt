@@ -28,8 +28,8 @@ pub enum Message {
     Array(usize),
 }
 
-/// A process. A SEQ is a tree of pairs, to be built balanced, and an IF a chain: a guard, what it leads to, and the rest of the IF, which
-/// ends in STOP.
+/// A process. A SEQ is a tree of pairs, to be built balanced, and an IF a chain: a guard, what it leads to, and the
+/// rest of the IF, which ends in STOP.
 #[derive(Debug, Drop)]
 pub enum Process {
     Skip,

@@ -347,8 +347,8 @@ fn are_declared(worker: &Worker) -> bool
         && are_below(&worker.global_arrays, worker.arrays.len())
 }
 
-/// Whether a worker is such that it can be compiled: each name is declared before it is used, once where it is in scope, and used as what it
-/// is; sizes, turns and messages are such as an image can have.
+/// Whether a worker is such that it can be compiled: each name is declared before it is used, once where it is in
+/// scope, and used as what it is; sizes, turns and messages are such as an image can have.
 pub fn is_sound(alloc: Global, worker: &Worker) -> Result<bool, AllocError>
     ensures { IfOk result (λ sound. sound ≡ is_sound worker.now) }
 {
