@@ -206,6 +206,7 @@ impl Maker {
     }
 
     /// A subscript, which is mostly below a size.
+    #[cycle(expression)]
     fn subscript(&mut self, size: u32, depth: u32) -> Made<Expression> {
         let b = self.build;
         match self.random.below(8) {
@@ -252,6 +253,7 @@ impl Maker {
     }
 
     /// An expression: an INT, or a BOOL.
+    #[cycle(expression)]
     fn expression(&mut self, is_truth: bool, depth: u32) -> Made<Expression> {
         if depth == 0 {
             return Ok(self.leaf(is_truth));
