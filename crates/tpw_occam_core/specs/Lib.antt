@@ -1,0 +1,5 @@
+-- What a reader must believe: the meaning of a worker.
+pub mod Arithmetic
+pub mod Arrays
+pub mod Meaning
+pub mod Sound

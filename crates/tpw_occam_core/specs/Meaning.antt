@@ -1,0 +1,194 @@
+-- What a worker means: of a packet it makes a result, an error flag and traces, or the packet is lost for its traces.
+use Rattle.std.specs.Prelude.{◌≡◌, ℕ, zero, suc, Bool, true, false, ◌||◌, ◌==◌, nat_lt, if◌then◌else◌, pos, ◌+ℤ◌, List, [], ◌∷◌, ◌++◌, length, map, replicate, slice_index, slice_index_or, slice_set, Option, Some, None}
+use Rattle.std.specs.Int.{w32, to_le_bytes}
+use Rattle.tp_decode.specs.Words.{low_word, complement}
+use Rattle.tp_step.specs.Numbers.{truth}
+use Rattle.tpw_occam_core.specs.declared.kind.Kind.{Kind}
+use Rattle.tpw_occam_core.specs.declared.kind.Kind.TheVariants.{Word, Byte}
+use Rattle.tpw_occam_core.specs.declared.arithmetic.Answer.{Answer}
+use Rattle.tpw_occam_core.specs.declared.expression.Expression.{Expression}
+use Rattle.tpw_occam_core.specs.declared.expression.Expression.TheVariants.{Constant, Variable, Element', Checked', Binary', Complement', Not', LowByte', And', Or', Let'}
+use Rattle.tpw_occam_core.specs.declared.process.Target.{Target}
+use Rattle.tpw_occam_core.specs.declared.process.Target.TheVariants as target
+use Rattle.tpw_occam_core.specs.declared.process.Assignment.{Assignment}
+use Rattle.tpw_occam_core.specs.declared.process.Message.{Message}
+use Rattle.tpw_occam_core.specs.declared.process.Message.TheVariants as message
+use Rattle.tpw_occam_core.specs.declared.process.Process.{Process}
+use Rattle.tpw_occam_core.specs.declared.process.Process.TheVariants as process
+use Rattle.tpw_occam_core.specs.declared.worker.Storage.{Storage}
+use Rattle.tpw_occam_core.specs.declared.worker.Storage.TheVariants.{Zeros, Table}
+use Rattle.tpw_occam_core.specs.declared.worker.Place.{Place}
+use Rattle.tpw_occam_core.specs.declared.worker.Place.TheVariants as place
+use Rattle.tpw_occam_core.specs.declared.worker.Worker.{Worker}
+use Rattle.tpw_occam_core.specs.declared.evaluated.Given.{Given}
+use Rattle.tpw_occam_core.specs.Arithmetic.{answer, plain, subscript, low_byte, applied}
+use Rattle.tpw_occam_core.specs.Arrays.{size, element, kept, with_element}
+
+-- ---- states
+
+-- the words of variables and the bytes of arrays, by their numbers, the error flag, and the bytes traced so far
+pub record Store : Type 0 where
+  pub values : List ℕ
+  pub arrays : List (List ℕ)
+  pub flag : Bool
+  pub traced : List ℕ
+
+abbrev pub array_of : Store → ℕ → List ℕ
+array_of s a = slice_index_or s.arrays a []
+
+abbrev pub with_value : ℕ → ℕ → Store → Store
+with_value x word s = record s { values = slice_set s.values x word }
+
+abbrev pub with_array : ℕ → List ℕ → Store → Store
+with_array a bytes s = record s { arrays = slice_set s.arrays a bytes }
+
+-- the flag, once set, stays set
+abbrev pub flagged : Bool → Store → Store
+flagged flag s = record s { flag = s.flag || flag }
+
+-- ---- expressions
+
+-- goes on with a word, and keeps its flag
+abbrev pub followed : Answer → (ℕ → Answer) → Answer
+followed a next = answer (next a.word).word (a.flag || (next a.word).flag)
+
+-- the element of an array at a subscript, checked
+abbrev pub element_at : Kind → List ℕ → ℕ → Answer
+element_at kind bytes i = answer (element kind bytes (subscript (size kind bytes) i).word) (subscript (size kind bytes) i).flag
+
+-- the right operand counts only where the left is TRUE, or only where it is FALSE
+abbrev pub both : ℕ → Answer → Answer
+both zero right = plain 0
+both (suc n) right = right
+
+abbrev pub either : ℕ → Answer → Answer
+either zero right = answer (truth (nat_lt 0 right.word)) right.flag
+either (suc n) right = plain 1
+
+-- The value of an expression, and whether the flag is to be set. Nothing else changes.
+abbrev pub value_of : Expression → Store → Answer
+value_of (Constant c) s = plain c
+value_of (Variable x) s = plain (slice_index s.values x)
+value_of (Element' a kind p e) s = followed (value_of e s) (element_at kind (array_of s a))
+value_of (Checked' below p e) s = followed (value_of e s) (subscript below)
+value_of (Binary' operator p e q f) s = followed (value_of e s) (λ b. followed (value_of f s) (applied operator b))
+value_of (Complement' p e) s = followed (value_of e s) (λ a. plain (complement a))
+value_of (Not' p e) s = followed (value_of e s) (λ a. plain (truth (a == 0)))
+value_of (LowByte' p e) s = followed (value_of e s) low_byte
+value_of (And' p e q f) s = followed (value_of e s) (λ a. both a (value_of f s))
+value_of (Or' p e q f) s = followed (value_of e s) (λ a. either a (value_of f s))
+value_of (Let' x p e q f) s = followed (value_of e s) (λ a. value_of f (with_value x a s))
+
+-- ---- assignments
+
+abbrev pub kind_of : List Kind → ℕ → Kind
+kind_of kinds x = slice_index_or kinds x Word
+
+-- the subscript of a target, checked; a variable has none
+abbrev pub subscript_of : Target → Store → Answer
+subscript_of (target.Variable x) s = plain 0
+subscript_of (target.Element a kind e) s = followed (value_of e s) (subscript (size kind (array_of s a)))
+
+-- the state in which a target, with this subscript, takes a word
+abbrev pub stored : List Kind → Target → ℕ → ℕ → Store → Store
+stored kinds (target.Variable x) i word s = with_value x (kept (kind_of kinds x) word) s
+stored kinds (target.Element a kind e) i word s = with_array a (with_element kind (array_of s a) i word) s
+
+-- All subscripts and values are those of the state before. The last target is written first.
+abbrev pub assigned : List Kind → List Assignment → Store → Store
+assigned kinds [] s = s
+assigned kinds (a ∷ more) s =
+    let v = value_of a.value s in
+    let i = subscript_of a.target s in
+    flagged (v.flag || i.flag) (stored kinds a.target i.word v.word (assigned kinds more s))
+
+-- ---- messages
+
+abbrev pub bytes_of : Message → Store → List ℕ
+bytes_of (message.Value e) s = to_le_bytes w32 (value_of e s).word
+bytes_of (message.Array a) s = array_of s a
+
+abbrev pub flag_of : Message → Store → Bool
+flag_of (message.Value e) s = (value_of e s).flag
+flag_of (message.Array a) s = false
+
+abbrev pub traced : Message → Store → Store
+traced m s = record (flagged (flag_of m s) s) { traced = s.traced ++ bytes_of m s }
+
+-- ---- processes
+
+-- the state after so many turns, of which the index is `start` in the first
+abbrev pub turns : (Store → Store) → ℕ → ℕ → ℕ → Store → Store
+turns body x start zero s = s
+turns body x start (suc n) s = body (with_value x (low_word (pos start +ℤ pos n)) (turns body x start n s))
+
+abbrev pub chosen : ℕ → Store → Store → Store
+chosen zero guarded rest = rest
+chosen (suc n) guarded rest = guarded
+
+-- the state after a process
+abbrev pub run : List Kind → Process → Store → Store
+run kinds process.Skip s = s
+run kinds process.Stop s = flagged true s
+run kinds (process.Assign list) s = assigned kinds list.items s
+run kinds (process.Copy to from) s = with_array to (array_of s from) s
+run kinds (process.Sequence' p first q second) s = run kinds second (run kinds first s)
+run kinds (process.Repeat' x start count p body) s = turns (run kinds body) x start count s
+run kinds (process.If' e p guarded q rest) s =
+    let g = value_of e s in
+    let t = flagged g.flag s in
+    chosen g.word (run kinds guarded t) (run kinds rest t)
+run kinds (process.Variable' x p body) s = run kinds body (with_value x 0 s)
+run kinds (process.Value' x e p body) s =
+    let v = value_of e s in run kinds body (with_value x v.word (flagged v.flag s))
+run kinds (process.Array' a p body) s = run kinds body (with_array a (replicate (length (array_of s a)) 0) s)
+run kinds (process.Trace m) s = traced m s
+run kinds (process.At' line p body) s = run kinds body s
+
+-- ---- workers
+
+abbrev pub first_bytes : Storage → List ℕ
+first_bytes (Zeros n) = replicate n 0
+first_bytes (Table bytes) = bytes.items
+
+-- every variable is 0, an array has what it is at first
+abbrev pub first : Worker → Store
+first w = record {
+  values = replicate (length w.variables.items) 0;
+  arrays = map first_bytes w.arrays.items;
+  flag = false;
+  traced = [];
+}
+
+abbrev pub received : Place → List ℕ → Store → Store
+received (place.Variable x) packet s = with_value x (element Word packet 0) s
+received (place.Array a) packet s = with_array a packet s
+
+-- the state after a worker's process
+abbrev pub after : Worker → List ℕ → Store
+after w packet = run w.variables.items w.body (received w.receive packet (first w))
+
+-- what a packet gives
+pub record Meant : Type 0 where
+  pub result : List ℕ
+  pub flag : Bool
+  pub traced : List ℕ
+
+-- the most bytes that a worker may trace
+abbrev pub most_traced : ℕ
+most_traced = 256
+
+abbrev pub meant : Message → Store → Meant
+meant m s = record { result = bytes_of m s; flag = s.flag || flag_of m s; traced = s.traced }
+
+-- what a worker makes of a packet: nothing where it has traced too much
+unfoldable pub meaning : Worker → List ℕ → Option Meant
+meaning w packet =
+    if nat_lt most_traced (length (after w packet).traced) then None
+    else Some (meant w.send (after w packet))
+
+-- this is given of a packet
+abbrev pub IsMeaning : Worker → List ℕ → Option Given → Type 0
+IsMeaning w packet None = meaning w packet ≡ None
+IsMeaning w packet (Some g) =
+    meaning w packet ≡ Some (record { result = g.result.items; flag = g.flag; traced = g.traced.items })
