@@ -1,0 +1,12 @@
+use Rattle.std.proofs.Common.{◌+◌, ◌*◌, max}
+use Rattle.tpw_occam_core.specs.declared.process.Process.{size-Process}
+use Rattle.tpw_occam_code.proofs.emitter.Emitter.+process.Given as goal
+
+abbrev pub decreases-process : goal.decreases-process
+decreases-process l = 2 * size-Process l.p.now
+
+abbrev pub decreases-repeat : goal.decreases-repeat
+decreases-repeat l = 2 * size-Process l.body.now + 1
+
+abbrev pub decreases-choice : goal.decreases-choice
+decreases-choice l = 2 * max (size-Process l.guarded.now) (size-Process l.rest.now) + 1

@@ -1,0 +1,208 @@
+//! What is read and what is assigned.
+
+use tpw_occam_core::{Assignment, Expression, Message, Process, Target};
+
+/// Whether an expression reads a variable.
+pub(crate) fn reads_variable(e: &Expression, x: usize) -> bool {
+    match e {
+        Expression::Constant(_) => false,
+        Expression::Variable(y) => *y == x,
+        Expression::Element {
+            array: _,
+            kind: _,
+            subscript,
+        } => reads_variable(subscript, x),
+        Expression::Checked {
+            below: _,
+            subscript,
+        } => reads_variable(subscript, x),
+        Expression::Binary {
+            operator: _,
+            left,
+            right,
+        } => reads_variable(left, x) || reads_variable(right, x),
+        Expression::Complement(e) | Expression::Not(e) | Expression::LowByte(e) => {
+            reads_variable(e, x)
+        }
+        Expression::And(left, right) | Expression::Or(left, right) => {
+            reads_variable(left, x) || reads_variable(right, x)
+        }
+        Expression::Let {
+            name: _,
+            value,
+            within,
+        } => reads_variable(value, x) || reads_variable(within, x),
+    }
+}
+
+/// Whether an expression reads an array.
+fn reads_array(e: &Expression, a: usize) -> bool {
+    match e {
+        Expression::Constant(_) | Expression::Variable(_) => false,
+        Expression::Element {
+            array,
+            kind: _,
+            subscript,
+        } => *array == a || reads_array(subscript, a),
+        Expression::Checked {
+            below: _,
+            subscript,
+        } => reads_array(subscript, a),
+        Expression::Binary {
+            operator: _,
+            left,
+            right,
+        } => reads_array(left, a) || reads_array(right, a),
+        Expression::Complement(e) | Expression::Not(e) | Expression::LowByte(e) => {
+            reads_array(e, a)
+        }
+        Expression::And(left, right) | Expression::Or(left, right) => {
+            reads_array(left, a) || reads_array(right, a)
+        }
+        Expression::Let {
+            name: _,
+            value,
+            within,
+        } => reads_array(value, a) || reads_array(within, a),
+    }
+}
+
+/// Whether an expression may read a target.
+pub(crate) fn is_read(e: &Expression, target: &Target) -> bool {
+    match target {
+        Target::Variable(x) => reads_variable(e, *x),
+        Target::Element {
+            array,
+            kind: _,
+            subscript: _,
+        } => reads_array(e, *array),
+    }
+}
+
+/// Whether two targets may be one place.
+pub(crate) fn may_be_same(one: &Target, other: &Target) -> bool {
+    match (one, other) {
+        (Target::Variable(x), Target::Variable(y)) => *x == *y,
+        (
+            Target::Element {
+                array,
+                kind: _,
+                subscript: _,
+            },
+            Target::Element {
+                array: another,
+                kind: _,
+                subscript: _,
+            },
+        ) => *array == *another,
+        _ => false,
+    }
+}
+
+/// What happens first to a variable.
+#[derive(Clone, Copy, PartialEq, Eq)]
+pub(crate) enum First {
+    Nothing,
+    Assigned,
+    Read,
+}
+
+impl First {
+    /// What happens first, here or else in what follows.
+    fn then(self, next: First) -> First {
+        match self {
+            First::Nothing => next,
+            _ => self,
+        }
+    }
+
+    /// What happens first on either of two ways: nothing is assigned where one way leaves that to what follows.
+    fn or(self, other: First) -> First {
+        if self == other { self } else { First::Read }
+    }
+}
+
+fn in_expression(e: &Expression, x: usize) -> First {
+    if reads_variable(e, x) {
+        First::Read
+    } else {
+        First::Nothing
+    }
+}
+
+fn in_message(m: &Message, x: usize) -> First {
+    match m {
+        Message::Value(e) => in_expression(e, x),
+        Message::Array(_) => First::Nothing,
+    }
+}
+
+/// What the values and subscripts of an assignment do.
+fn in_sources(assignment: &Assignment, x: usize) -> First {
+    let value = in_expression(&assignment.value, x);
+    match &assignment.target {
+        Target::Variable(_) => value,
+        Target::Element {
+            array: _,
+            kind: _,
+            subscript,
+        } => value.then(in_expression(subscript, x)),
+    }
+}
+
+fn is_target(assignment: &Assignment, x: usize) -> bool {
+    match &assignment.target {
+        Target::Variable(y) => *y == x,
+        _ => false,
+    }
+}
+
+fn in_assignments(list: &[Assignment], x: usize) -> First {
+    if list.iter().any(|a| in_sources(a, x) == First::Read) {
+        First::Read
+    } else if list.iter().any(|a| is_target(a, x)) {
+        First::Assigned
+    } else {
+        First::Nothing
+    }
+}
+
+/// What a process does first to a variable.
+pub(crate) fn first_use(p: &Process, x: usize) -> First {
+    match p {
+        Process::Skip | Process::Stop => First::Nothing,
+        Process::Assign(list) => in_assignments(list, x),
+        Process::Copy { to: _, from: _ } => First::Nothing,
+        Process::Sequence(first, second) => match first_use(first, x) {
+            First::Nothing => first_use(second, x),
+            found => found,
+        },
+        Process::Repeat {
+            index: _,
+            start: _,
+            count,
+            body,
+        } => {
+            if *count == 0 {
+                First::Nothing
+            } else {
+                first_use(body, x)
+            }
+        }
+        Process::If {
+            guard,
+            guarded,
+            rest,
+        } => in_expression(guard, x).then(first_use(guarded, x).or(first_use(rest, x))),
+        Process::Value {
+            name: _,
+            value,
+            body,
+        } => in_expression(value, x).then(first_use(body, x)),
+        Process::Variable { name: _, body } | Process::Array { name: _, body } => {
+            first_use(body, x)
+        }
+        Process::Trace(m) => in_message(m, x),
+        Process::At { line: _, body } => first_use(body, x),
+    }
+}

@@ -1,0 +1,122 @@
+//! From a worker to its program.
+
+ghost use Rattle.std.specs.Prelude.{IfOk, OnOk};
+ghost use Rattle.tpw_occam_code.specs.Program.{HasLayout};
+
+use crate::code::Code;
+use crate::emitter::Emitter;
+use crate::fault::CodeFault;
+use crate::initial::initial_words;
+use crate::items::{Placed, START};
+use crate::layout::{layout, words_of};
+use crate::length::first_beyond;
+use crate::lines::{lines_of, loop_lines, rows_of, sources_of};
+use crate::loops::check_loops;
+use crate::uses::{Used, uses_of};
+use std::alloc::Global;
+use tp_image::Version;
+use tp_image::limits::{LEAST_WORKSPACE, WORKSPACE_WORDS_2};
+use tpw_asm::{AssemblyFault, Program, addresses};
+use tpw_occam_core::{Message, Place, Worker};
+
+/// A worker's program, and what its parts come from.
+#[derive(Debug, Drop)]
+pub struct Compiled {
+    pub program: Program,
+    /// The line of the text that each line of code comes from.
+    pub sources: Vec<u32>,
+    /// The line of the text of each loop.
+    pub loop_lines: Vec<u32>,
+    /// Where variables, temporaries, constants and arrays lie.
+    pub placed: Vec<Placed>,
+}
+
+/// The code of a worker.
+fn code_of(alloc: Global, worker: &Worker) -> Result<Code, CodeFault> {
+    let mut emitter = Emitter::new(alloc, worker)?;
+    let mut code = Code::new(alloc);
+    emitter.receive(&mut code, worker.receive, worker.line)?;
+    emitter.process(&mut code, &worker.body, worker.line)?;
+    emitter.send(&mut code, &worker.send, worker.line)?;
+    Ok(code)
+}
+
+/// The words of a message.
+fn message_words(worker: &Worker, array: Option<usize>) -> u32 {
+    match array.and_then(|a| worker.arrays.get(a)) {
+        Some(storage) => storage.bytes() / 4,
+        None => 1,
+    }
+}
+
+fn packet_words(worker: &Worker) -> u32 {
+    match worker.receive {
+        Place::Variable(_) => message_words(worker, None),
+        Place::Array(a) => message_words(worker, Some(a)),
+    }
+}
+
+fn result_words(worker: &Worker) -> u32 {
+    match &worker.send {
+        Message::Value(_) => message_words(worker, None),
+        Message::Array(a) => message_words(worker, Some(*a)),
+    }
+}
+
+/// Refuses items that have more words together than a workspace, at the first use of one that goes beyond it.
+fn check_workspace(uses: &[Used]) -> Result<(), CodeFault> {
+    let mut words = START;
+    for used in uses {
+        words = words.saturating_add(used.words);
+        if words > WORKSPACE_WORDS_2 {
+            return Err(CodeFault::Workspace { line: used.line });
+        }
+    }
+    Ok(())
+}
+
+/// Refuses a program that has no layout.
+fn check_code(alloc: Global, program: &Program, sources: &[u32]) -> Result<(), CodeFault>
+    ensures { OnOk result (HasLayout program.now) }
+{
+    match addresses(alloc, program) {
+        Ok(_) => Ok(()),
+        Err(AssemblyFault::TooLong) => {
+            let place = first_beyond(alloc, &program.lines)?;
+            Err(CodeFault::Code {
+                line: sources.get(place).copied().unwrap_or(0),
+            })
+        }
+        Err(AssemblyFault::Memory) => Err(CodeFault::Memory),
+        Err(fault) => Err(CodeFault::Assembly(fault)),
+    }
+}
+
+/// The program of a worker, or why there is none. The program has a layout, within the code bytes of an image.
+pub fn compile(alloc: Global, worker: &Worker) -> Result<Compiled, CodeFault>
+    ensures { IfOk result (λ compiled. HasLayout compiled.program) }
+{
+    let code = code_of(alloc, worker)?;
+    check_loops(code.loops())?;
+    let uses = uses_of(alloc, worker, &code)?;
+    check_workspace(&uses)?;
+    let placed = layout(alloc, &uses)?;
+    let sources = sources_of(alloc, code.lines())?;
+    let program = Program {
+        version: Version::Two,
+        workspace: START.saturating_add(words_of(&placed)).max(LEAST_WORKSPACE),
+        start: START,
+        packet: packet_words(worker),
+        result: result_words(worker),
+        loops: rows_of(alloc, &placed, code.loops())?,
+        initial: initial_words(alloc, worker, &placed)?,
+        lines: lines_of(alloc, &placed, code.lines())?,
+    };
+    check_code(alloc, &program, &sources)?;
+    Ok(Compiled {
+        program,
+        sources,
+        loop_lines: loop_lines(alloc, code.loops())?,
+        placed,
+    })
+}

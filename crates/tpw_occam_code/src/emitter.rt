@@ -1,0 +1,199 @@
+//! What is known while code is made.
+
+use crate::code::{Code, Step};
+use crate::fault::CodeFault;
+use crate::items::Item;
+use crate::range::{BYTE, FULL, Range};
+use std::alloc::{AllocError, Global};
+use tp_decode::Instr;
+use tp_prefix::encode;
+use tpw_occam_core::{Expression, Kind, Worker};
+
+/// The most bytes of `ldc` for a constant that is not an initial word.
+const MOST_BYTES: usize = 2;
+
+/// What is known of a name: the numbers that its value may be, those that the verifier knows of, and its value where
+/// that is one constant, which then has no word.
+#[derive(Clone, Copy)]
+pub(crate) struct Fact {
+    pub(crate) source: Range,
+    pub(crate) known: Range,
+    pub(crate) constant: Option<u32>,
+}
+
+/// What is known of a variable of a kind.
+pub(crate) fn fact_of(kind: Kind) -> Fact {
+    Fact {
+        source: match kind {
+            Kind::Word => FULL,
+            Kind::Byte => BYTE,
+        },
+        known: FULL,
+        constant: None,
+    }
+}
+
+/// What is known of a name with a value in this range.
+pub(crate) fn valued(source: Range) -> Fact {
+    Fact {
+        source,
+        known: FULL,
+        constant: None,
+    }
+}
+
+/// What is known of a name of a constant.
+pub(crate) fn constant(c: u32) -> Fact {
+    let range = Range::exactly(c);
+    Fact {
+        source: range,
+        known: range,
+        constant: Some(c),
+    }
+}
+
+/// What is known of the index of a loop.
+pub(crate) fn counted(range: Range) -> Fact {
+    Fact {
+        source: range,
+        known: range,
+        constant: None,
+    }
+}
+
+/// What an expression may use: registers, at least 2 where it needs more than one; words for what is kept, from the
+/// first that is free. And the line of the text that it comes from.
+#[derive(Clone, Copy)]
+pub(crate) struct Room {
+    pub(crate) registers: u32,
+    pub(crate) kept: usize,
+    pub(crate) line: u32,
+}
+
+impl Room {
+    /// All registers, and all words from one on.
+    pub(crate) fn from_word(kept: usize, line: u32) -> Room {
+        Room {
+            registers: 3,
+            kept,
+            line,
+        }
+    }
+
+    /// So many registers.
+    pub(crate) fn with_registers(self, registers: u32) -> Room {
+        Room { registers, ..self }
+    }
+
+    /// One register less.
+    pub(crate) fn above(self) -> Room {
+        self.with_registers(self.registers.saturating_sub(1))
+    }
+
+    /// One word more is kept.
+    pub(crate) fn beside(self) -> Room {
+        Room {
+            kept: self.kept.saturating_add(1),
+            ..self
+        }
+    }
+
+    /// The word that is kept next.
+    pub(crate) fn word(self) -> Item {
+        Item::Temporary(self.kept)
+    }
+}
+
+/// What code is made with: the worker, and what is known of the names in scope.
+#[derive(Drop)]
+pub(crate) struct Emitter<'a> {
+    pub(crate) alloc: Global,
+    pub(crate) worker: &'a Worker,
+    facts: Vec<Fact>,
+}
+
+/// What is known of variables.
+fn facts_of(alloc: Global, kinds: &[Kind]) -> Result<Vec<Fact>, AllocError> {
+    let mut facts = Vec::with_capacity(alloc, kinds.len())?;
+    for kind in kinds {
+        facts.push(fact_of(*kind))?;
+    }
+    Ok(facts)
+}
+
+impl<'a> Emitter<'a> {
+    pub(crate) fn new(alloc: Global, worker: &'a Worker) -> Result<Emitter<'a>, CodeFault> {
+        Ok(Emitter {
+            alloc,
+            worker,
+            facts: facts_of(alloc, &worker.variables)?,
+        })
+    }
+
+    /// The kind of a variable.
+    pub(crate) fn kind(&self, x: usize) -> Kind {
+        self.worker.variables.get(x).copied().unwrap_or(Kind::Word)
+    }
+
+    /// What is known of a name.
+    pub(crate) fn fact(&self, x: usize) -> Fact {
+        self.facts.get(x).copied().unwrap_or(fact_of(Kind::Word))
+    }
+
+    pub(crate) fn set_fact(&mut self, x: usize, fact: Fact) {
+        if x < self.facts.len() {
+            self.facts[x] = fact;
+        }
+    }
+
+    /// The value of an expression that is one constant.
+    pub(crate) fn constant_of(&self, e: &Expression) -> Option<u32> {
+        match e {
+            Expression::Constant(c) => Some(*c),
+            Expression::Variable(x) => self.fact(*x).constant,
+            _ => None,
+        }
+    }
+
+    /// The bytes of an array.
+    pub(crate) fn bytes(&self, array: usize) -> u32 {
+        match self.worker.arrays.get(array) {
+            Some(storage) => storage.bytes(),
+            None => 0,
+        }
+    }
+
+    /// The words of an array.
+    pub(crate) fn words(&self, array: usize) -> u32 {
+        self.bytes(array).div_ceil(4)
+    }
+
+    /// The elements of an array that is seen as words or bytes.
+    pub(crate) fn elements(&self, array: usize, kind: Kind) -> u32 {
+        match kind {
+            Kind::Word => self.bytes(array) / 4,
+            Kind::Byte => self.bytes(array),
+        }
+    }
+}
+
+/// Whether a constant's `ldc` is short.
+pub(crate) fn is_short(c: u32) -> bool {
+    encode(4, c.cast_signed()).len() <= MOST_BYTES
+}
+
+/// The step that pushes a constant: `ldc` where that is short, else an initial word.
+pub(crate) fn push_constant(c: u32) -> Step {
+    if is_short(c) {
+        Step::Plain(Instr::Ldc(c.cast_signed()))
+    } else {
+        Step::Load(Item::Constant(c), 0)
+    }
+}
+
+impl Code {
+    /// Appends the step that pushes a constant.
+    pub(crate) fn constant(&mut self, source: u32, c: u32) -> Result<(), CodeFault> {
+        self.emit(source, push_constant(c))
+    }
+}

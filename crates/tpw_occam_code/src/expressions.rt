@@ -1,0 +1,228 @@
+//! Code of expressions.
+//!
+//! The code of an expression pushes its value. It uses so many registers at most, that of the value among them: what
+//! the others hold stays. One register is enough only where the expression needs no more.
+
+use crate::code::{Code, Step};
+use crate::emitter::{Emitter, Room, constant, valued};
+use crate::fault::CodeFault;
+use crate::items::Item;
+use crate::operators::{number, truth};
+use crate::range::Range;
+use crate::subscripts::{checked, fixed_element, indexed_element};
+use tp_decode::Instr;
+use tpw_occam_core::{Expression, Operator};
+
+/// What is known of a value that was pushed: the numbers that it may be, and those that the verifier knows of.
+#[derive(Clone, Copy)]
+pub(crate) struct Value {
+    pub(crate) source: Range,
+    pub(crate) known: Range,
+}
+
+impl Value {
+    /// What either may be.
+    fn or(self, other: Value) -> Value {
+        Value {
+            source: self.source.or(other.source),
+            known: self.known.or(other.known),
+        }
+    }
+
+    /// Every bit turned.
+    fn complement(self) -> Value {
+        Value {
+            source: self.source.complement(),
+            known: self.known.complement(),
+        }
+    }
+}
+
+impl Emitter<'_> {
+    /// Pushes the value of an expression.
+    #[cycle(expression)]
+    pub(crate) fn expression(
+        &mut self,
+        code: &mut Code,
+        e: &Expression,
+        room: Room,
+    ) -> Result<Value, CodeFault> {
+        let line = room.line;
+        match e {
+            Expression::Constant(c) => number(code, line, *c),
+            Expression::Variable(x) => self.name(code, line, *x),
+            Expression::Element {
+                array,
+                kind,
+                subscript,
+            } => {
+                if let Some(c) = self.fixed_subscript(*array, *kind, subscript) {
+                    return fixed_element(code, line, *array, *kind, c);
+                }
+                self.subscript(code, subscript, self.elements(*array, *kind), room)?;
+                indexed_element(code, line, *array, *kind)
+            }
+            Expression::Checked { below, subscript } => {
+                let value = self.expression(code, subscript, room)?;
+                checked(code, line, value, *below)
+            }
+            Expression::Binary {
+                operator,
+                left,
+                right,
+            } => self.binary(code, *operator, left, right, room),
+            Expression::Complement(e) => {
+                let value = self.expression(code, e, room)?;
+                code.instr(line, Instr::BitNot)?;
+                Ok(value.complement())
+            }
+            Expression::Not(e) => self.inverted(code, e, room),
+            Expression::LowByte(e) => {
+                let value = self.expression(code, e, room)?;
+                checked(code, line, value, 256)
+            }
+            Expression::And(left, right) => {
+                self.expression(code, left, room)?;
+                let mut more = code.behind_one(self.alloc, line)?;
+                let value = self.expression(&mut more, right, room)?;
+                branch(code, line, &more)?;
+                Ok(value.or(truth()))
+            }
+            Expression::Or(left, right) => {
+                self.inverted(code, left, room)?;
+                let mut more = code.behind_one(self.alloc, line)?;
+                self.inverted(&mut more, right, room)?;
+                branch(code, line, &more)?;
+                // where the left operand is TRUE, `cj` has left the 0 of its inverse
+                code.instr(line, Instr::Eqc(0))?;
+                Ok(truth())
+            }
+            Expression::Let {
+                name,
+                value,
+                within,
+            } => {
+                let before = self.fact(*name);
+                self.bind(code, *name, value, room)?;
+                let value = self.expression(code, within, room)?;
+                self.set_fact(*name, before);
+                Ok(value)
+            }
+        }
+    }
+
+    /// Pushes the value of a name.
+    fn name(&self, code: &mut Code, line: u32, x: usize) -> Result<Value, CodeFault> {
+        let fact = self.fact(x);
+        match fact.constant {
+            Some(c) => number(code, line, c),
+            None => {
+                code.emit(line, Step::Load(Item::Variable(x), 0))?;
+                Ok(Value {
+                    source: fact.source,
+                    known: fact.known,
+                })
+            }
+        }
+    }
+
+    /// Gives a name the value of an expression. A name of a constant has no word.
+    #[cycle(expression)]
+    pub(crate) fn bind(
+        &mut self,
+        code: &mut Code,
+        x: usize,
+        e: &Expression,
+        room: Room,
+    ) -> Result<(), CodeFault> {
+        if let Some(c) = self.constant_of(e) {
+            self.set_fact(x, constant(c));
+            return Ok(());
+        }
+        let value = self.expression(code, e, room)?;
+        code.emit(room.line, Step::Store(Item::Variable(x), 0))?;
+        self.set_fact(x, valued(value.source));
+        Ok(())
+    }
+
+    /// Pushes whether an expression is FALSE. Of `x > c` that is `c + 1 > x`, and of `c > x` it is `x > c - 1`.
+    #[cycle(expression)]
+    fn inverted(
+        &mut self,
+        code: &mut Code,
+        e: &Expression,
+        room: Room,
+    ) -> Result<Value, CodeFault> {
+        if let Expression::Binary {
+            operator: Operator::Greater,
+            left,
+            right,
+        } = e
+        {
+            if let Some(c) = self.constant_of(right).filter(|c| *c != 0x7FFF_FFFF) {
+                return self.constant_first(code, Operator::Greater, c.wrapping_add(1), left, room);
+            }
+            if let Some(c) = self.constant_of(left).filter(|c| *c != 0x8000_0000) {
+                return self.with_constant(code, Operator::Greater, right, c.wrapping_sub(1), room);
+            }
+        }
+        if let Expression::Not(e) = e {
+            let value = self.expression(code, e, room)?;
+            if value.source.is_within(Range::below(2)) {
+                return Ok(value);
+            }
+            code.instr(room.line, Instr::Eqc(0))?;
+            code.instr(room.line, Instr::Eqc(0))?;
+            return Ok(truth());
+        }
+        self.expression(code, e, room)?;
+        code.instr(room.line, Instr::Eqc(0))?;
+        Ok(truth())
+    }
+
+    /// Pushes what is 0 exactly where an expression is FALSE.
+    pub(crate) fn condition(
+        &mut self,
+        code: &mut Code,
+        e: &Expression,
+        room: Room,
+    ) -> Result<(), CodeFault> {
+        if let Expression::Not(equal) = e {
+            if let Expression::Binary {
+                operator: Operator::Equal,
+                left,
+                right,
+            } = &**equal
+            {
+                return self.difference(code, left, right, room);
+            }
+        }
+        self.expression(code, e, room)?;
+        Ok(())
+    }
+
+    /// Pushes what is 0 exactly where two operands are equal.
+    fn difference(
+        &mut self,
+        code: &mut Code,
+        left: &Expression,
+        right: &Expression,
+        room: Room,
+    ) -> Result<(), CodeFault> {
+        if self.constant_of(right) == Some(0) {
+            self.expression(code, left, room)?;
+        } else if self.constant_of(left) == Some(0) {
+            self.expression(code, right, room)?;
+        } else {
+            self.operands(code, left, right, room, true)?;
+            code.instr(room.line, Instr::Diff)?;
+        }
+        Ok(())
+    }
+}
+
+/// Appends code that is passed over, by a `cj` before it, where Areg is 0.
+pub(crate) fn branch(code: &mut Code, line: u32, more: &Code) -> Result<(), CodeFault> {
+    code.emit(line, Step::CjTo(more.here()))?;
+    code.append(line, more)
+}

@@ -1,0 +1,32 @@
+//! From the core of a worker in occam to its program: lines for `tpw_asm`, loops, and the first words of the workspace.
+//!
+//! Code is made of steps, whose words are those of items: variables, temporaries, constants, arrays. Then items are
+//! placed, those first whose words are used most, and steps become lines.
+#![tactic(auto)]
+
+mod analysis;
+mod assignments;
+mod code;
+mod compiled;
+mod emitter;
+mod expressions;
+mod fault;
+mod initial;
+mod items;
+mod layout;
+mod length;
+mod lines;
+mod loops;
+mod messages;
+mod need;
+mod operands;
+mod operators;
+mod order;
+mod processes;
+mod range;
+mod subscripts;
+mod uses;
+
+pub use compiled::{Compiled, compile};
+pub use fault::CodeFault;
+pub use items::{Item, Placed, START};

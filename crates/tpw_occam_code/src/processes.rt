@@ -1,0 +1,238 @@
+//! Code of processes. No register is in use between processes, and no word is kept.
+
+use crate::analysis::{First, first_use};
+use crate::code::{Code, Step, Turns};
+use crate::emitter::{Emitter, Room, constant, counted, fact_of};
+use crate::expressions::branch;
+use crate::fault::CodeFault;
+use crate::items::Item;
+use crate::range::Range;
+use tp_decode::Instr;
+use tpw_occam_core::{Expression, Process};
+
+/// The most words that are cleared one by one, and the most that one `move` clears.
+const FEW_WORDS: u32 = 2;
+
+pub(crate) const MOST_WORDS: u32 = 32;
+
+/// Whether a process does nothing.
+fn is_skip(p: &Process) -> bool {
+    match p {
+        Process::Skip => true,
+        Process::At { line: _, body } => is_skip(body),
+        _ => false,
+    }
+}
+
+/// Makes a word 0.
+fn clear(code: &mut Code, line: u32, item: Item, word: u32) -> Result<(), CodeFault> {
+    code.constant(line, 0)?;
+    code.emit(line, Step::Store(item, word))
+}
+
+/// Makes the words of an array 0 one by one.
+fn clear_words(code: &mut Code, line: u32, a: usize, words: u32) -> Result<(), CodeFault> {
+    for word in 0..words {
+        clear(code, line, Item::Array(a), word)?;
+    }
+    Ok(())
+}
+
+/// Copies words.
+fn move_words(
+    code: &mut Code,
+    line: u32,
+    from: Item,
+    to: (Item, u32),
+    words: u32,
+) -> Result<(), CodeFault> {
+    code.emit(line, Step::Pointer(from, 0))?;
+    code.emit(line, Step::Pointer(to.0, to.1))?;
+    code.constant(line, words.saturating_mul(4))?;
+    code.instr(line, Instr::MoveBytes)
+}
+
+/// Makes the words of an array 0 by copies of words that stay 0.
+fn clear_by_moves(code: &mut Code, line: u32, a: usize, words: u32) -> Result<(), CodeFault> {
+    for part in 0..words.div_ceil(MOST_WORDS) {
+        let first = part.saturating_mul(MOST_WORDS);
+        let count = words.saturating_sub(first).min(MOST_WORDS);
+        move_words(code, line, Item::Zeros, (Item::Array(a), first), count)?;
+    }
+    Ok(())
+}
+
+/// Makes the bytes of an array of so many words 0.
+fn clear_array(code: &mut Code, line: u32, a: usize, words: u32) -> Result<(), CodeFault> {
+    if words <= FEW_WORDS {
+        clear_words(code, line, a, words)
+    } else {
+        clear_by_moves(code, line, a, words)
+    }
+}
+
+/// Appends code for where Areg is not 0, and where it is.
+fn choose(code: &mut Code, line: u32, yes: &Code, no: &Code) -> Result<(), CodeFault> {
+    code.emit(line, Step::CjTo(yes.here() + 1))?;
+    code.append(line, yes)?;
+    code.emit(line, Step::JumpTo(no.here()))?;
+    code.append(line, no)
+}
+
+/// Appends the beginning of a loop.
+fn begin_loop(
+    code: &mut Code,
+    line: u32,
+    x: usize,
+    start: u32,
+    count: u32,
+) -> Result<(), CodeFault> {
+    code.constant(line, start)?;
+    code.emit(line, Step::Store(Item::Variable(x), 0))?;
+    code.constant(line, count)?;
+    code.emit(line, Step::Store(Item::Variable(x), 1))
+}
+
+/// Appends the end of a loop whose first line is at a place, and adds the loop.
+fn end_loop(code: &mut Code, turns: Turns) -> Result<(), CodeFault> {
+    let line = turns.source;
+    code.emit(line, Step::Pointer(Item::Variable(turns.index), 0))?;
+    let distance = Step::Distance {
+        from: turns.head,
+        to: code.here() + 2,
+    };
+    code.emit(line, distance)?;
+    let lend = code.here();
+    code.instr(line, Instr::Lend)?;
+    code.add_loop(Turns { lend, ..turns })
+}
+
+impl Emitter<'_> {
+    /// Appends the code of a process that comes from a line of the text.
+    #[cycle(process)]
+    pub(crate) fn process(
+        &mut self,
+        code: &mut Code,
+        p: &Process,
+        line: u32,
+    ) -> Result<(), CodeFault> {
+        match p {
+            Process::Skip => Ok(()),
+            Process::Stop => code.instr(line, Instr::Seterr),
+            Process::Assign(list) => self.assignments(code, list, line),
+            Process::Copy { to, from } => self.copy(code, *to, *from, line),
+            Process::Sequence(first, second) => {
+                self.process(code, first, line)?;
+                self.process(code, second, line)
+            }
+            Process::Repeat {
+                index,
+                start,
+                count,
+                body,
+            } => self.repeat(code, *index, *start, *count, body, line),
+            Process::If {
+                guard,
+                guarded,
+                rest,
+            } => self.choice(code, guard, guarded, rest, line),
+            Process::Variable { name, body } => {
+                let before = self.fact(*name);
+                self.set_fact(*name, fact_of(self.kind(*name)));
+                if first_use(body, *name) == First::Read {
+                    clear(code, line, Item::Variable(*name), 0)?;
+                }
+                self.process(code, body, line)?;
+                self.set_fact(*name, before);
+                Ok(())
+            }
+            Process::Value { name, value, body } => {
+                let before = self.fact(*name);
+                self.bind(code, *name, value, Room::from_word(0, line))?;
+                self.process(code, body, line)?;
+                self.set_fact(*name, before);
+                Ok(())
+            }
+            Process::Array { name, body } => {
+                clear_array(code, line, *name, self.words(*name))?;
+                self.process(code, body, line)
+            }
+            Process::Trace(m) => self.trace(code, m, line),
+            Process::At { line, body } => self.process(code, body, *line),
+        }
+    }
+
+    /// Copies an array.
+    fn copy(&self, code: &mut Code, to: usize, from: usize, line: u32) -> Result<(), CodeFault> {
+        if to == from {
+            return Ok(());
+        }
+        let words = self.words(to);
+        move_words(code, line, Item::Array(from), (Item::Array(to), 0), words)
+    }
+
+    /// A guarded process, and what is done where the guard is FALSE.
+    #[cycle(process)]
+    fn choice(
+        &mut self,
+        code: &mut Code,
+        guard: &Expression,
+        guarded: &Process,
+        rest: &Process,
+        line: u32,
+    ) -> Result<(), CodeFault> {
+        match self.constant_of(guard) {
+            Some(0) => return self.process(code, rest, line),
+            Some(_) => return self.process(code, guarded, line),
+            None => {}
+        }
+        self.condition(code, guard, Room::from_word(0, line))?;
+        let mut yes = code.behind_one(self.alloc, line)?;
+        self.process(&mut yes, guarded, line)?;
+        if is_skip(rest) {
+            return branch(code, line, &yes);
+        }
+        let mut no = yes.behind_one(self.alloc, line)?;
+        self.process(&mut no, rest, line)?;
+        choose(code, line, &yes, &no)
+    }
+
+    /// So many turns. One turn is the body, with its index as a constant.
+    #[cycle(process)]
+    fn repeat(
+        &mut self,
+        code: &mut Code,
+        index: usize,
+        start: u32,
+        count: u32,
+        body: &Process,
+        line: u32,
+    ) -> Result<(), CodeFault> {
+        if count == 0 {
+            return Ok(());
+        }
+        let before = self.fact(index);
+        if count == 1 {
+            self.set_fact(index, constant(start));
+            self.process(code, body, line)?;
+        } else {
+            let first = i64::from(start.cast_signed());
+            let last = first + i64::from(count) - 1;
+            self.set_fact(index, counted(Range::between(first, last)));
+            begin_loop(code, line, index, start, count)?;
+            let head = code.here();
+            self.process(code, body, line)?;
+            let turns = Turns {
+                head,
+                lend: head,
+                index,
+                start,
+                count,
+                source: line,
+            };
+            end_loop(code, turns)?;
+        }
+        self.set_fact(index, before);
+        Ok(())
+    }
+}

@@ -1,0 +1,196 @@
+//! Subscripts: their checks, and the masks by which the verifier sees that they are below a size.
+//!
+//! A check is left out where the text shows that it holds. A mask is left out where the verifier knows the range of
+//! the register.
+
+use crate::code::{Code, Step};
+use crate::emitter::{Emitter, Room};
+use crate::expressions::Value;
+use crate::fault::CodeFault;
+use crate::items::Item;
+use crate::range::{BYTE, FULL, Range};
+use tp_decode::Instr;
+use tpw_occam_core::{Expression, Kind};
+
+/// The greatest number, whose bits are all but the sign.
+const MOST_POSITIVE: u32 = 0x7FFF_FFFF;
+
+/// Sets the flag where Areg is not below a size.
+fn check(code: &mut Code, line: u32, size: u32) -> Result<(), CodeFault> {
+    code.constant(line, size)?;
+    code.instr(line, Instr::Csub0)
+}
+
+/// Takes the low bits of Areg.
+fn mask(code: &mut Code, line: u32, bits: u32) -> Result<(), CodeFault> {
+    code.constant(line, bits)?;
+    code.instr(line, Instr::BitAnd)
+}
+
+/// Makes Areg, of which the verifier knows this, a number below a size, and leaves one that is below it as it is.
+pub(crate) fn reduce(
+    code: &mut Code,
+    line: u32,
+    known: Range,
+    size: u32,
+) -> Result<Range, CodeFault> {
+    let size = size.max(1);
+    if size.is_power_of_two() {
+        mask(code, line, size - 1)?;
+        return Ok(Range::below(size));
+    }
+    if known.low < 0 {
+        mask(code, line, MOST_POSITIVE)?;
+    }
+    code.constant(line, size)?;
+    code.instr(line, Instr::Rem)?;
+    Ok(Range::below(size))
+}
+
+/// Checks Areg against a size, where that is needed.
+pub(crate) fn checked(
+    code: &mut Code,
+    line: u32,
+    value: Value,
+    size: u32,
+) -> Result<Value, CodeFault> {
+    let range = Range::below(size);
+    if value.source.is_within(range) {
+        return Ok(value);
+    }
+    check(code, line, size)?;
+    let known = reduce(code, line, value.known, size)?;
+    Ok(Value {
+        source: range,
+        known,
+    })
+}
+
+/// Takes the low byte of Areg where the value may be more.
+pub(crate) fn kept_byte(code: &mut Code, line: u32, value: Value) -> Result<(), CodeFault> {
+    if value.source.is_within(BYTE) {
+        return Ok(());
+    }
+    mask(code, line, 255)
+}
+
+/// Makes Areg, a subscript, the address of an array's element.
+pub(crate) fn indexed(
+    code: &mut Code,
+    line: u32,
+    array: usize,
+    kind: Kind,
+) -> Result<(), CodeFault> {
+    code.emit(line, Step::Pointer(Item::Array(array), 0))?;
+    match kind {
+        Kind::Word => code.instr(line, Instr::Wsub),
+        Kind::Byte => code.instr(line, Instr::Bsub),
+    }
+}
+
+/// Pushes the byte of a variable, of which the verifier then knows the range.
+fn byte_variable(code: &mut Code, line: u32, x: usize) -> Result<Value, CodeFault> {
+    code.emit(line, Step::Pointer(Item::Variable(x), 0))?;
+    code.instr(line, Instr::Lb)?;
+    Ok(Value {
+        source: BYTE,
+        known: BYTE,
+    })
+}
+
+/// Checks Areg against a size, and shows the verifier that it is below it.
+pub(crate) fn settled(
+    code: &mut Code,
+    line: u32,
+    value: Value,
+    size: u32,
+) -> Result<Value, CodeFault> {
+    let value = checked(code, line, value, size)?;
+    if value.known.is_within(Range::below(size)) {
+        return Ok(value);
+    }
+    let known = reduce(code, line, value.known, size)?;
+    Ok(Value {
+        source: value.source,
+        known,
+    })
+}
+
+/// What is known of an element.
+fn element_value(kind: Kind) -> Value {
+    let range = match kind {
+        Kind::Word => FULL,
+        Kind::Byte => BYTE,
+    };
+    Value {
+        source: range,
+        known: range,
+    }
+}
+
+/// Pushes an element with a constant subscript, if that takes no subscript at run time.
+pub(crate) fn fixed_element(
+    code: &mut Code,
+    line: u32,
+    array: usize,
+    kind: Kind,
+    c: u32,
+) -> Result<Value, CodeFault> {
+    match kind {
+        Kind::Word => code.emit(line, Step::Load(Item::Array(array), c))?,
+        Kind::Byte => {
+            code.emit(line, Step::Pointer(Item::Array(array), c / 4))?;
+            code.instr(line, Instr::Lb)?;
+        }
+    }
+    Ok(element_value(kind))
+}
+
+/// Makes Areg, a subscript, the array's element.
+pub(crate) fn indexed_element(
+    code: &mut Code,
+    line: u32,
+    array: usize,
+    kind: Kind,
+) -> Result<Value, CodeFault> {
+    indexed(code, line, array, kind)?;
+    match kind {
+        Kind::Word => code.instr(line, Instr::Ldnl(0))?,
+        Kind::Byte => code.instr(line, Instr::Lb)?,
+    }
+    Ok(element_value(kind))
+}
+
+impl Emitter<'_> {
+    /// Whether a subscript of so many elements is better read as a byte.
+    fn is_byte_variable(&self, x: usize, size: u32) -> bool {
+        size >= 256 && self.kind(x) == Kind::Byte && self.fact(x).constant.is_none()
+    }
+
+    /// Pushes a number that is checked against a size, and that the verifier knows to be below it.
+    #[cycle(expression)]
+    pub(crate) fn subscript(
+        &mut self,
+        code: &mut Code,
+        e: &Expression,
+        size: u32,
+        room: Room,
+    ) -> Result<Value, CodeFault> {
+        let value = match e {
+            Expression::Variable(x) if self.is_byte_variable(*x, size) => {
+                byte_variable(code, room.line, *x)?
+            }
+            _ => self.expression(code, e, room)?,
+        };
+        settled(code, room.line, value, size)
+    }
+
+    /// The constant subscript of a word, or of the first byte of a word, that there is.
+    pub(crate) fn fixed_subscript(&self, array: usize, kind: Kind, e: &Expression) -> Option<u32> {
+        let c = self.constant_of(e)?;
+        if c >= self.elements(array, kind) || (kind == Kind::Byte && c % 4 != 0) {
+            return None;
+        }
+        Some(c)
+    }
+}
