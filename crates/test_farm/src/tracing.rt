@@ -72,6 +72,35 @@ fn a_long_trace_is_lost(rt: HostRuntime) {
     }
 }
 
+/// Traces its packet 64 times, 256 bytes, and sends it.
+const TRACES_64_TIMES: &[u8] = b"TPW1\x1C\0\x10\0\x08\0\x01\0\x01\0\x01\0\
+    \x0B\0\x13\0\x0A\0\x40\0\0\0\0\0\
+    \x10\x24\xF2\x54\x44\xF7\x40\xD2\x24\x40\xD3\x10\x24\xF2\x51\x44\xFB\x12\x4A\x22\xF1\x10\x24\xF2\x44\xFB\
+    \x21\xF5";
+
+/// Whether the result is that of a packet of 10, which is traced 64 times in 658 instruction bytes.
+fn is_traced_64_times(done: &Done) -> bool {
+    let trace = done.trace.as_slice();
+    done.result.as_slice() == [10, 0, 0, 0].as_slice()
+        && done.steps == 658
+        && trace.len() == 256
+        && trace.iter().enumerate().all(|(place, byte)| *byte == if place % 4 == 0 { 10 } else { 0 })
+}
+
+/// A trace may have 256 bytes.
+#[test]
+fn the_longest_trace_is_kept(rt: HostRuntime) {
+    for room in [256, 257, 1000] {
+        let mut media = unwrap(&rt, Media::with_rooms(rt.alloc(), ROOM, ROOM, room));
+        let links = alone(&rt, rt.alloc(), media.wires());
+        let collected = run_on(&rt, rt.alloc(), TRACES_64_TIMES, &[10], links, &OpenGate);
+        match collected.entries.as_slice() {
+            [Entry::Done(done)] => assert!(rt; is_traced_64_times(done), "{room}"),
+            _ => assert!(rt; false, "one result"),
+        }
+    }
+}
+
 /// The error flag of each packet is its own.
 #[test]
 fn an_error_flag_is_reported(rt: HostRuntime) {
