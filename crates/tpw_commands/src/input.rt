@@ -133,6 +133,14 @@ pub enum Input {
     File(String),
 }
 
+/// The name of standard input where a file is asked for.
+const STANDARD: &str = "-";
+
+/// Whether a file's name is that of standard input.
+pub fn is_standard(name: &str) -> bool {
+    name == STANDARD
+}
+
 impl fmt::Display for Input {
     fn fmt<W: fmt::Write>(&self, f: &mut fmt::Formatter<W>) -> fmt::Result {
         match self {
@@ -168,8 +176,11 @@ impl<T: Files, R: Read> Inputs<'_, T, R> {
         }
     }
 
-    /// Reads all of the file of a name.
+    /// Reads all of the file of a name, or of standard input by its name.
     pub fn read_file(&mut self, alloc: Global, name: &str) -> Result<Vec<u8>, Failure> {
+        if is_standard(name) {
+            return read_all(alloc, self.standard);
+        }
         match File::open(self.files, name) {
             Ok(mut file) => read_all(alloc, &mut file),
             Err(error) => Err(Failure::Input(InputFault::Unread(error))),

@@ -11,6 +11,7 @@ use crate::ending::{Ending, Failure, Outcome};
 use crate::input::{Input, Inputs};
 use crate::profiling::profile_worker;
 use crate::refusing::judge;
+use crate::reporting::report_fault;
 use crate::running::run_worker;
 use crate::stepping::step;
 use crate::terminal::Terminal;
@@ -40,8 +41,39 @@ fn note_asked<E: Write>(
     }
 }
 
-/// Reads the input that is asked for, and does what is asked with its text.
+/// Does what is asked with the text of the input.
 fn perform<T, R: Read, W: Write, E: Write>(
+    rt: &T,
+    inputs: &mut Inputs<'_, T, R>,
+    alloc: Global,
+    text: &[u8],
+    writer: &mut W,
+    terminal: &mut Terminal<'_, E>,
+    asked: &Asked,
+) -> Result<Outcome, Ending>
+where
+    T: Files + Threads + Wait + Clock + Eprint + Sync,
+    ensures { IfErr result (λ e. status_of e ≡ 2 → W.contents writer.new ≡ W.contents writer.old) }
+{
+    let input = &asked.input;
+    note_asked(alloc, terminal.errors, asked, text)?;
+    match &asked.task {
+        Task::Profile(asking) => {
+            profile_worker(alloc, inputs, input, text, writer, terminal, asking)
+        },
+        Task::Run(running) => {
+            run_worker(rt, alloc, inputs, input, text, writer, terminal, running)
+        }
+        Task::Step(stepping) => step(alloc, inputs, input, text, writer, stepping),
+        Task::Judge(report) => Ok(judge(alloc, input, text, *report, writer)?),
+        Task::Assemble(Some(name)) => Ok(assemble_text(alloc, text, writer, Some(name.as_str()))?),
+        Task::Assemble(None) => Ok(assemble_text(alloc, text, writer, None)?),
+        Task::Disassemble => Ok(disassemble_image(alloc, text, writer)?),
+    }
+}
+
+/// Reads the input that is asked for, and does what is asked with its text. Faults of the text are reported.
+fn perform_reported<T, R: Read, W: Write, E: Write>(
     rt: &T,
     inputs: &mut Inputs<'_, T, R>,
     alloc: Global,
@@ -54,15 +86,15 @@ where
     ensures { IfErr result (λ e. status_of e ≡ 2 → W.contents writer.new ≡ W.contents writer.old) }
 {
     let text = inputs.read(alloc, &asked.input)?;
-    note_asked(alloc, terminal.errors, asked, &text)?;
-    match &asked.task {
-        Task::Profile(asking) => profile_worker(alloc, inputs, &text, writer, terminal, asking),
-        Task::Run(running) => run_worker(rt, alloc, inputs, &text, writer, terminal, running),
-        Task::Step(stepping) => step(alloc, &text, writer, terminal.errors, stepping),
-        Task::Judge(report) => Ok(judge(alloc, &text, *report, writer)?),
-        Task::Assemble(Some(name)) => Ok(assemble_text(alloc, &text, writer, Some(name.as_str()))?),
-        Task::Assemble(None) => Ok(assemble_text(alloc, &text, writer, None)?),
-        Task::Disassemble => Ok(disassemble_image(alloc, &text, writer)?),
+    match perform(rt, inputs, alloc, &text, writer, terminal, asked) {
+        Err(Ending::Failed(Failure::Input(fault))) => Err(Ending::Failed(report_fault(
+            alloc,
+            terminal.errors,
+            &asked.input,
+            &text,
+            fault,
+        ))),
+        ended => ended,
     }
 }
 
@@ -124,7 +156,7 @@ where
     };
     match asked {
         Ok(asked) => {
-            let ended = perform(rt, &mut inputs, alloc, writer, terminal, &asked);
+            let ended = perform_reported(rt, &mut inputs, alloc, writer, terminal, &asked);
             end_with(terminal.errors, &asked.input, ended)
         }
         Err(Ending::Shown(text)) => {
