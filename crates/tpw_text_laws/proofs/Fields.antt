@@ -88,23 +88,23 @@ a_field name k make n s t none literal named is_field few adds =
 -- a field that is not settled is said
 workspace_adds : (w : Word) (n : ℕ) (s : Said) → s.settled.workspace ≡ false → workspace_set w n s ≡ Ok (record s { workspace = Some n; settled = record s.settled { workspace = true } })
 unfolding workspace_set
-workspace_adds w n s open = rw open refl
+workspace_adds w n s unsettled = rw unsettled refl
 
 start_adds : (w : Word) (n : ℕ) (s : Said) → s.settled.start ≡ false → start_set w n s ≡ Ok (record s { start = n; settled = record s.settled { start = true } })
 unfolding start_set
-start_adds w n s open = rw open refl
+start_adds w n s unsettled = rw unsettled refl
 
 packet_adds : (w : Word) (n : ℕ) (s : Said) → s.settled.packet ≡ false → packet_set w n s ≡ Ok (record s { packet = n; settled = record s.settled { packet = true } })
 unfolding packet_set
-packet_adds w n s open = rw open refl
+packet_adds w n s unsettled = rw unsettled refl
 
 results_adds : (w : Word) (n : ℕ) (s : Said) → s.settled.results ≡ false → results_set w n s ≡ Ok (record s { results = n; settled = record s.settled { results = true } })
 unfolding results_set
-results_adds w n s open = rw open refl
+results_adds w n s unsettled = rw unsettled refl
 
 version_adds : (w : Word) (v : Version) (s : Said) → s.settled.version ≡ false → version_set w v s ≡ Ok (record s { version = v; settled = record s.settled { version = true } })
 unfolding version_set
-version_adds w v s open = rw open refl
+version_adds w v s unsettled = rw unsettled refl
 
 -- the sizes
 abbrev pub of_workspace : ProgramSaid → Said → Said
@@ -150,19 +150,19 @@ of_version v s = record s { version = v; settled = record s.settled { version = 
 
 two_leads : (s : Said) → s.settled.version ≡ false → s.consts ≡ [] → Leads (as_line (codes "version 2")) (Is s) (Is (of_version Two s))
 unfolding is_plain keyword_named keyword_said added
-two_leads s open none =
+two_leads s unsettled none =
     alone (codes "version 2") (Of (codes "version") ∷ Gap ∷ Of (codes "2") ∷ []) refl (literal_word _ refl, (refl, (literal_word _ refl, (refl, tt)))) (λ front d is.
     let line : ℕ = 1 + length front in
     let first : Word = word_for (record { text = codes "version"; line = line; column = 1 }) in
     let second : Word = word_for (record { text = codes "2"; line = line; column = 9 }) in
     let said : keyword_said keyword.Version (first ∷ second ∷ []) first ≡ Ok (SetsVersion first Two) = ap (λ r. r >>= λ v. Ok (SetsVersion first v)) (two_said first second refl) in
-    (of_version Two s, not_labelled first second [] d refl ∙ ap (unlabelled (first ∷ second ∷ [])) is ∙ keyword_says first (second ∷ []) keyword.Version (SetsVersion first Two) s _ none refl said (version_adds first Two s open), refl))
+    (of_version Two s, not_labelled first second [] d refl ∙ ap (unlabelled (first ∷ second ∷ [])) is ∙ keyword_says first (second ∷ []) keyword.Version (SetsVersion first Two) s _ none refl said (version_adds first Two s unsettled), refl))
 
 pub version_leads : (v : Version) (s : Said) → s.version ≡ One → s.settled.version ≡ false → s.consts ≡ [] → Leads (version_text v) (Is s) (Is (of_version v s))
 unfolding version_text
-version_leads One s is open none =
-    leads_to (λ front d e. e ∙ ap (λ v. record s { version = v }) is ∙ ap (λ b. record s { version = One; settled = record s.settled { version = b } }) open) (nothing {P = Is s})
-version_leads Two s is open none = two_leads s open none
+version_leads One s is unsettled none =
+    leads_to (λ front d e. e ∙ ap (λ v. record s { version = v }) is ∙ ap (λ b. record s { version = One; settled = record s.settled { version = b } }) unsettled) (nothing {P = Is s})
+version_leads Two s is unsettled none = two_leads s unsettled none
 
 -- an initial word
 abbrev pub value_of : Word → ℤ → InitialWord
