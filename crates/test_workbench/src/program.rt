@@ -10,7 +10,7 @@ use std::sync::Wait;
 use std::thread::Threads;
 use std::time::Clock;
 use test_samples::streams::{Ended, Words};
-use tpw_commands::{Terminal, run};
+use tpw_commands::{Output, Terminal, run};
 
 /// Runs the program on a command line, a reader and a writer.
 pub fn ran<T, R: Read, W: Write>(
@@ -28,7 +28,8 @@ where
         errors: &mut errors,
         is_terminal: false,
     };
-    let status = run(rt, &Words(words), alloc, input, output, &mut terminal);
+    let mut output = Output::new(output);
+    let status = run(rt, &Words(words), alloc, input, &mut output, &mut terminal);
     Ended { status, errors }
 }
 

@@ -12,6 +12,7 @@ use crate::input::is_standard;
 use crate::stepping::{PlaceKind, WatchKind};
 use clap::error::ErrorKind;
 use std::alloc::{AllocError, AllocFailed, Global};
+use std::io;
 use thiserror::Error;
 use tp_image::ImageFault;
 use tpw_run_text::PacketKind;
@@ -115,6 +116,9 @@ pub enum Failure {
     /// Standard output could not be written.
     #[error("tpw: write\n")]
     Write,
+    /// Standard output could not be written, and this is why.
+    #[error("tpw: write: {0}\n")]
+    Unwritten(io::Error),
     /// A growth was refused.
     #[error("tpw: memory\n")]
     Memory,

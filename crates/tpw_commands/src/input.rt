@@ -1,6 +1,6 @@
 //! Where a command reads: standard input or a file, as text or as an image in hexadecimal.
 
-ghost use Rattle.std.specs.Prelude.{◌≡◌, ◌+◌, ◌<◌, ◌^◌, ◌⊎◌, IfOk, IfErr, length};
+ghost use Rattle.std.specs.Prelude.{◌≡◌, ◌≤◌, ◌+◌, ◌<◌, ◌^◌, ◌⊎◌, IfOk, IfErr, length};
 ghost use Rattle.std.specs.List.{filter, prefix_len};
 ghost use Rattle.std.specs.Char.{is_ascii_hexdigit};
 ghost use Rattle.tpw_commands.specs.Endings.{of_text};
@@ -150,10 +150,17 @@ impl fmt::Display for Input {
     }
 }
 
-/// Reads all that there is.
-fn read_all<R: Read>(alloc: Global, reader: &mut R) -> Result<Vec<u8>, Failure> {
+/// The most bytes of an input: 16 MB.
+const MOST_BYTES: usize = 16_000_000;
+
+/// Reads all that there is, where it is not too long.
+fn read_all<R: Read>(alloc: Global, reader: &mut R) -> Result<Vec<u8>, Failure>
+    ensures { IfOk result (λ text. length text.items ≤ 16000000) }
+{
     let mut text = Vec::new(alloc);
-    match reader.read_to_end(&mut text) {
+    let mut limited = reader.by_ref().take(MOST_BYTES as u64 + 1);
+    match limited.read_to_end(&mut text) {
+        Ok(_) if text.len() > MOST_BYTES => Err(Failure::Input(InputFault::TooLong)),
         Ok(_) => Ok(text),
         Err(error) if error.kind() == ErrorKind::OutOfMemory => Err(Failure::Memory),
         Err(error) => Err(Failure::Input(InputFault::Unread(error))),
@@ -169,7 +176,9 @@ pub struct Inputs<'a, T, R> {
 
 impl<T: Files, R: Read> Inputs<'_, T, R> {
     /// Reads all of an input.
-    pub fn read(&mut self, alloc: Global, input: &Input) -> Result<Vec<u8>, Failure> {
+    pub fn read(&mut self, alloc: Global, input: &Input) -> Result<Vec<u8>, Failure>
+        ensures { IfOk result (λ text. length text.items ≤ 16000000) }
+    {
         match input {
             Input::Standard => read_all(alloc, self.standard),
             Input::File(name) => self.read_file(alloc, name.as_str()),
@@ -177,7 +186,9 @@ impl<T: Files, R: Read> Inputs<'_, T, R> {
     }
 
     /// Reads all of the file of a name, or of standard input by its name.
-    pub fn read_file(&mut self, alloc: Global, name: &str) -> Result<Vec<u8>, Failure> {
+    pub fn read_file(&mut self, alloc: Global, name: &str) -> Result<Vec<u8>, Failure>
+        ensures { IfOk result (λ text. length text.items ≤ 16000000) }
+    {
         if is_standard(name) {
             return read_all(alloc, self.standard);
         }

@@ -9,6 +9,7 @@ use crate::command_line::{Asked, Task, asked_by};
 use crate::disassembly::disassemble_image;
 use crate::ending::{Ending, Failure, Outcome};
 use crate::input::{Input, Inputs};
+use crate::output::{Output, settle};
 use crate::profiling::profile_worker;
 use crate::refusing::judge;
 use crate::reporting::report_fault;
@@ -98,13 +99,32 @@ where
     }
 }
 
+/// The same, where a failed write has its cause.
+fn perform_settled<T, R: Read, W: Write, E: Write>(
+    rt: &T,
+    inputs: &mut Inputs<'_, T, R>,
+    alloc: Global,
+    writer: &mut Output<W>,
+    terminal: &mut Terminal<'_, E>,
+    asked: &Asked,
+) -> Result<Outcome, Ending>
+where
+    T: Files + Threads + Wait + Clock + Eprint + Sync,
+    ensures { IfErr result (λ e. status_of e ≡ 2 → W.contents writer.new.writer ≡ W.contents writer.old.writer) }
+{
+    match perform_reported(rt, inputs, alloc, writer, terminal, asked) {
+        Err(Ending::Failed(failure)) => settle(failure, writer.fault),
+        ended => ended,
+    }
+}
+
 /// Writes the text that a command line asks for, and flushes it.
-fn show<W: Write>(writer: &mut W, text: &clap::Error) -> Result<Outcome, Ending>
+fn show<W: Write>(writer: &mut Output<W>, text: &clap::Error) -> Result<Outcome, Ending>
     ensures { status_by result ≤ 1 }
 {
     match write!(writer, "{text}").and_then(|()| writer.flush()) {
         Ok(()) => Ok(Outcome::Good),
-        Err(_) => Err(Ending::Failed(Failure::Write)),
+        Err(_) => settle(Failure::Write, writer.fault),
     }
 }
 
@@ -141,14 +161,15 @@ fn run_asked<T, R: Read, W: Write, E: Write>(
     asked: Result<Asked, Ending>,
     alloc: Global,
     reader: &mut R,
-    writer: &mut W,
+    writer: &mut Output<W>,
     terminal: &mut Terminal<'_, E>,
 ) -> ExitCode
 where
     T: Files + Threads + Wait + Clock + Eprint + Sync,
     ensures status { exit_status result ≤ 2 }
-    ensures refused { exit_status result ≡ 2 → W.contents writer.new ≡ W.contents writer.old }
-    ensures early { IfErr asked (λ e. EndsEarly e (W.contents writer.old) (W.contents writer.new) (exit_status result)) }
+    ensures refused { exit_status result ≡ 2 → W.contents writer.new.writer ≡ W.contents writer.old.writer }
+    ensures early { IfErr asked (λ e. EndsEarly e (W.contents writer.old.writer) (W.contents writer.new.writer)
+        (exit_status result)) }
 {
     let mut inputs = Inputs {
         files: rt,
@@ -156,7 +177,7 @@ where
     };
     match asked {
         Ok(asked) => {
-            let ended = perform_reported(rt, &mut inputs, alloc, writer, terminal, &asked);
+            let ended = perform_settled(rt, &mut inputs, alloc, writer, terminal, &asked);
             end_with(terminal.errors, &asked.input, ended)
         }
         Err(Ending::Shown(text)) => {
@@ -167,19 +188,19 @@ where
     }
 }
 
-/// Does what the words ask for. Where that ends early, it says why on the terminal.
+/// Does what the words ask for. Where that ends early, it says why on the terminal; where the reader of the output went away, nothing.
 pub fn run<T, R: Read, W: Write, E: Write>(
     rt: &T,
     words: &impl Env,
     alloc: Global,
     reader: &mut R,
-    writer: &mut W,
+    writer: &mut Output<W>,
     terminal: &mut Terminal<'_, E>,
 ) -> ExitCode
 where
     T: Files + Threads + Wait + Clock + Eprint + Sync,
     ensures status { exit_status result ≤ 2 }
-    ensures refused { exit_status result ≡ 2 → W.contents writer.new ≡ W.contents writer.old }
+    ensures refused { exit_status result ≡ 2 → W.contents writer.new.writer ≡ W.contents writer.old.writer }
 {
     let asked = read_words(words, alloc);
     run_asked(rt, asked, alloc, reader, writer, terminal)

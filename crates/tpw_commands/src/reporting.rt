@@ -233,6 +233,7 @@ fn write_placed<E: Write>(
             write_at(errors, name, text, *position, range, Hint::NONE);
         }
         InputFault::Unread(_)
+        | InputFault::TooLong
         | InputFault::NotADigit(_)
         | InputFault::HalfAByte(_)
         | InputFault::Image(_)
