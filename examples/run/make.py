@@ -21,8 +21,8 @@ random.seed(1988)
 numbers = [0, 1]
 while len(numbers) < 48:
     numbers.append(numbers[-1] + numbers[-2])
-# More packets than a batch has. Eight digits would be a word in hexadecimal, so numbers have ten.
-write('fibonacci', [str(n % 48) for n in range(1030)], [f'{numbers[n % 48]:010}' for n in range(1030)])
+# More packets than a batch has.
+write('fibonacci', [str(n % 48) for n in range(1030)], [str(numbers[n % 48]) for n in range(1030)])
 
 messages = [random.randbytes(64) for _ in range(40)]
 write('crc32', [m.hex() for m in messages], [struct.pack('<I', zlib.crc32(m)).hex() for m in messages])

@@ -53,7 +53,7 @@ pub const CASES: [Case<'_>; 7] = [
         status: 0,
     },
     Case {
-        words: &["tpw", "step", "--packet", "29000000", "--from", "12"],
+        words: &["tpw", "step", "--words", "41", "--from", "12"],
         input: Text::Digits("", INCREMENT),
         expected: Text::Lines(INCREMENT_STEPS),
         status: 0,
@@ -136,6 +136,7 @@ stopped
 result 2a000000
 trace \nflag 0
 count 16
+state A - B - C - Wptr 8 flag 0 w8=42
 ";
 
 /// Keeps the address of a word in a word.
@@ -143,7 +144,7 @@ const KEPT_ADDRESS: &str =
     "packet 1\nresult 1\nlocal n, p\nreceive n\nldlp n\nstl p\nldl p\nldnl 0\nstl n\ndone: send n\nstopp\n";
 
 const KEPT_ADDRESS_EXPLAINED: &str = "\
-NO S2 9
+tpw: standard input:8:1: NO S2 9
 refused  a register is of the wrong kind
          5 f7 in  ; line 4: receive n
          6 10 ldlp 0  ; line 5: ldlp n

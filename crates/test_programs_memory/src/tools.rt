@@ -11,7 +11,7 @@ use std::time::Clock;
 use test_samples::answers::{Answer, Tally, same_if};
 use test_samples::page::Page;
 use test_samples::streams::Words;
-use tpw_commands::{Terminal, run};
+use tpw_commands::{Output, Terminal, run};
 
 /// What a command answers, and how many bytes it has written. Where memory or a thread is refused, it reports that fault, and what it
 /// has written is the beginning of the expected text.
@@ -21,7 +21,7 @@ where
 {
     let input = case.input.page();
     let mut input = input.written();
-    let mut page = Page::new();
+    let mut output = Output::new(Page::new());
     let mut errors = Page::new();
     let mut terminal = Terminal {
         errors: &mut errors,
@@ -32,10 +32,10 @@ where
         &Words(case.words),
         alloc,
         &mut input,
-        &mut page,
+        &mut output,
         &mut terminal,
     );
-    let (written, fault) = (page.written(), errors.written());
+    let (written, fault) = (output.writer.written(), errors.written());
     let expected = case.expected.page();
     let expected = expected.written();
     let answer = if fault.is_empty() {

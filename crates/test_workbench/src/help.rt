@@ -36,13 +36,17 @@ Arguments:
   [FILE]  Read in place of standard input
 
 Options:
-      --packet <HEX>   The packet, as hexadecimal; an empty one where none is given
-      --from <PLACE>   The first instruction that is shown
-      --until <PLACE>  Where the run is left
-      --watch <WORDS>  Show only instructions that change one of these words, as k,buf
-  -h, --help           Print help
+      --words <WORDS>   A packet, as a line of FILE has it; may be given again
+      --packets <FILE>  Packets, one a line
+      --hex-packets     Packets are in hexadecimal, as they are sent, else words as numbers
+      --number <N>      The packet of this number, from 0; the first one where nothing is said
+      --from <PLACE>    The first instruction that is shown
+      --until <PLACE>   Where the run is left, before what is there
+      --watch <WORDS>   Show only instructions that change one of these words, as k,buf
+      --hex             Numbers have their hexadecimal behind them
+  -h, --help            Print help
 
-Reads an image as hexadecimal, one line, or a worker as assembly text.
+Reads an image as hexadecimal, one line, or a worker as assembly text. Packets are as those of `run`.
 A PLACE is an address, as 36 or 0x24, or a count of steps, as +100; in a text also a label, or a line, as line:37.
 WORDS are names of local words, buf[2] for one word of a name, or w5 for a word by its number, with commas between.
 Status 0: the worker stopped, or was left at --until. Status 1: it is stuck, or does not end, or what is read is no image.
@@ -96,6 +100,7 @@ Arguments:
 Options:
       --words <WORDS>   A packet, as a line of FILE has it; may be given again
       --packets <FILE>  Packets, one a line
+      --hex-packets     Packets are in hexadecimal, as they are sent, else words as numbers
   -h, --help            Print help
 
 Reads a worker as assembly text, or an image as hexadecimal, accepted by the verifier or not, and runs packets on it. It

@@ -4,6 +4,10 @@
 #[cfg(test)]
 mod asserts;
 #[cfg(test)]
+mod expected;
+#[cfg(test)]
+mod faults;
+#[cfg(test)]
 mod help;
 #[cfg(test)]
 mod list;

@@ -18,7 +18,7 @@ stopp
 
 /// Each cost is 4 times 10,000 and 11, 10,000 times, and what is before and behind.
 const TOO_LONG_LISTED: &str = "\
-NO B1 0
+tpw: standard input: NO B1 0
 refused  the bound on the instruction bytes of a run is above 16777216
 bound    400110020: 40011 a turn of o (line 3), 10000 turns
          4 a turn of i (line 4), 10000 turns

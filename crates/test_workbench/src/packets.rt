@@ -36,7 +36,15 @@ packets 2, lost 0, steps 575 to 1056 of 1056
         ),
         (
             fibonacci.as_str(),
-            ["tpw", "run", "--words=03000000", "--trace", "--hex"].as_slice(),
+            [
+                "tpw",
+                "run",
+                "--words=03000000",
+                "--hex-packets",
+                "--trace",
+                "--hex",
+            ]
+            .as_slice(),
             0,
             "\
 0  flag 0  484 of 1056  02000000
@@ -104,14 +112,14 @@ instead  end the code by stopp
             ["tpw", "run", "--words", "1 2"].as_slice(),
             2,
             "",
-            "error: invalid value for '--words <WORDS>': 1:1: a line of 1 words is wanted: numbers, or all in hexadecimal as they are sent\n",
+            "error: invalid value '1 2' for '--words <WORDS>': 2 words, and 1 are wanted\n",
         ),
         (
             increment.as_str(),
             ["tpw", "run", "--words", " 4294967296"].as_slice(),
             2,
             "",
-            "error: invalid value for '--words <WORDS>': 1:2: a number is wanted: decimal, #2A or 0x2A, of 32 bits\n",
+            "error: invalid value ' 4294967296' for '--words <WORDS>': a number is wanted: decimal, #2A or 0x2A, of 32 bits\n",
         ),
         (
             increment.as_str(),

@@ -2,6 +2,7 @@
 
 use crate::asserts::{assert_same, unwrap};
 use std::alloc::Global;
+use std::fs::File;
 use std::io::{Eprint, Read, Write};
 use std::process::{Abort, ExitCode};
 use std::rt::Files;
@@ -9,7 +10,7 @@ use std::sync::Wait;
 use std::thread::Threads;
 use std::time::Clock;
 use test_samples::streams::{Ended, Words};
-use tpw_commands::{Terminal, run};
+use tpw_commands::{Output, Terminal, run};
 
 /// Runs the program on a command line, a reader and a writer.
 pub fn ran<T, R: Read, W: Write>(
@@ -27,7 +28,8 @@ where
         errors: &mut errors,
         is_terminal: false,
     };
-    let status = run(rt, &Words(words), alloc, input, output, &mut terminal);
+    let mut output = Output::new(output);
+    let status = run(rt, &Words(words), alloc, input, &mut output, &mut terminal);
     Ended { status, errors }
 }
 
@@ -42,6 +44,12 @@ pub fn capitals(rt: &impl Abort, alloc: Global, image: &[u8]) -> String {
 pub fn small_letters(rt: &impl Abort, alloc: Global, before: &str, image: &[u8]) -> String {
     let digits = unwrap(rt, hex::encode(alloc, image));
     unwrap(rt, format!(in alloc; "{before}{digits}\n"))
+}
+
+/// Writes a text to a file, which is made.
+pub fn write_file(rt: &(impl Files + Abort), name: &str, text: &str) {
+    let mut file = unwrap(rt, File::create(rt, name));
+    unwrap(rt, file.write_all(text.as_bytes()));
 }
 
 /// ldc 1, add.

@@ -1,8 +1,10 @@
 //! Command lines and inputs with which the program ends early.
 
 use crate::asserts::{assert_same, unwrap};
-use crate::program::{capitals, ran};
+use crate::program::{capitals, ran, small_letters, write_file};
 use std::alloc::AllocError;
+use std::io;
+use std::io::{Read, Write};
 use std::process::ExitCode;
 use test_samples::INCREMENT;
 use test_samples::streams::{Broken, Unflushed};
@@ -45,7 +47,7 @@ fn refusals(rt: HostRuntime) {
             "zz",
             ["tpw", "why"].as_slice(),
             1,
-            "tpw: standard input:1:1: unknown instruction\n",
+            "tpw: standard input:1:1: unknown instruction: zz\n    1 | zz\n      | ^^\n",
         ),
         (
             "54505732\n1\rx",
@@ -75,55 +77,49 @@ fn refusals(rt: HostRuntime) {
             "mint\n  frob\n",
             ["tpw", "asm"].as_slice(),
             1,
-            "tpw: standard input:2:3: unknown instruction\n",
+            "tpw: standard input:2:3: unknown instruction: frob; for is near\n    2 |   frob\n      |   ^^^^\n",
         ),
         (
             "mint\n\nback: mint\n cj back\n",
             ["tpw", "asm"].as_slice(),
             1,
-            "tpw: standard input:4:2: its label lies before it; jumps go forward alone\n",
+            "tpw: standard input:4:2: its label lies before it; jumps go forward alone\n    4 |  cj back\n      |  ^^\n",
         ),
         (
             "ldc/1 16\n",
             ["tpw", "asm"].as_slice(),
             1,
-            "tpw: standard input:1:1: its operand needs a longer spelling\n",
+            "tpw: standard input:1:1: its operand needs a longer spelling\n    1 | ldc/1 16\n      | ^^^\n",
         ),
         (
             SEVENTEEN_LOOPS,
             ["tpw", "asm"].as_slice(),
             1,
-            "tpw: standard input:17:1: a worker has at most 16 loops\n",
+            "tpw: standard input:17:1: a worker has at most 16 loops: for\n   17 | for q = 0 for 2\n      | ^^^\n",
         ),
         (
             "local n[2]\n        ldl n + 9\n",
             ["tpw", "asm"].as_slice(),
             1,
-            "tpw: standard input:2:15: the local of this name has fewer words\n",
+            "tpw: standard input:2:15: the local of this name has fewer words: +\n    2 |         ldl n + 9\n      |               ^\n",
         ),
         (
             "local n, buf[4]\nworkspace 9\nstopp",
             ["tpw", "asm"].as_slice(),
             1,
-            "tpw: standard input:1:10: the workspace that is stated has no room for this local\n",
+            "tpw: standard input:1:10: the workspace that is stated has no room for this local: buf\n    1 | local n, buf[4]\n      |          ^^^\n",
         ),
         (
             "workspace 7\nstopp",
             ["tpw", "asm"].as_slice(),
             1,
-            "tpw: standard input:1:1: workspace: 8 to 256 words, those below the start word and the locals counted; version 2 has 512 words\n",
+            "tpw: standard input:1:1: workspace: 8 to 256 words, those below the start word and the locals counted; version 2 has 512 words\n    1 | workspace 7\n      | ^^^^^^^^^\n",
         ),
         (
             "54505732",
             ["tpw", "dis"].as_slice(),
             1,
             "tpw: standard input: no image: F2 at byte 4\n",
-        ),
-        (
-            increment.as_str(),
-            ["tpw", "step", "--packet", "290"].as_slice(),
-            2,
-            "error: invalid value for '--packet <HEX>': it takes hexadecimal digits, an even number\n",
         ),
         (
             increment.as_str(),
@@ -135,7 +131,7 @@ fn refusals(rt: HostRuntime) {
             increment.as_str(),
             ["tpw", "step", "--until", "start"].as_slice(),
             2,
-            "error: invalid value for '--until <PLACE>': it takes an address, as 36 or 0x24, or a count of steps, as +100; in a text a label, or a line, as line:37\n",
+            "error: invalid value 'start' for '--until <PLACE>': an image has no lines and no labels\n",
         ),
         (
             increment.as_str(),
@@ -170,25 +166,103 @@ fn reports_a_failed_read(rt: HostRuntime) {
     assert!(rt; ended.errors.as_slice() == b"tpw: standard input: broken pipe\n".as_slice());
 }
 
-/// A run, help and the version where the output cannot be written, or not be flushed.
+/// Takes nothing, and fails as the system does on a full disk.
+#[derive(Drop)]
+struct Full;
+
+impl Write for Full {
+    fn write(&mut self, _buf: &[u8]) -> io::Result<usize> {
+        Err(io::Error::from_raw_os_error(28))
+    }
+
+    fn flush(&mut self) -> io::Result<()> {
+        Ok(())
+    }
+}
+
+/// Command lines that write something, each another thing.
+const WRITING: [&[&str]; 7] = [
+    &["tpw", "step"],
+    &["tpw", "why"],
+    &["tpw", "list"],
+    &["tpw", "dis"],
+    &["tpw", "run", "--words", "1"],
+    &["tpw", "--help"],
+    &["tpw", "--version"],
+];
+
+/// A full disk is named, whatever is written.
 #[test]
-fn reports_a_failed_write(rt: HostRuntime) {
+fn reports_a_full_disk(rt: HostRuntime) {
     let increment = capitals(&rt, rt.alloc(), INCREMENT);
-    for words in [
-        ["tpw", "step"].as_slice(),
-        ["tpw", "why"].as_slice(),
-        ["tpw", "list"].as_slice(),
-        ["tpw", "--help"].as_slice(),
-        ["tpw", "--version"].as_slice(),
-    ] {
+    for words in WRITING {
+        let mut input = increment.as_bytes();
+        let ended = ran(&rt, rt.alloc(), words, &mut input, &mut Full);
+        let errors = unwrap(&rt, str::from_utf8(&ended.errors));
+        let wanted = "tpw: write: No space left on device (os error 28)\n";
+        assert_same(&rt, &errors, &wanted);
+        assert_same(&rt, &ended.status, &ExitCode::from(1));
+    }
+}
+
+/// A reader that has gone is no fault, when it is written to or when it is flushed.
+#[test]
+fn leaves_a_reader_that_has_gone(rt: HostRuntime) {
+    let increment = capitals(&rt, rt.alloc(), INCREMENT);
+    for words in WRITING {
         let mut input = increment.as_bytes();
         let broken = ran(&rt, rt.alloc(), words, &mut input, &mut Broken);
         let mut input = increment.as_bytes();
         let unflushed = ran(&rt, rt.alloc(), words, &mut input, &mut Unflushed);
         for ended in [broken, unflushed] {
-            assert_same(&rt, &ended.status, &ExitCode::from(1));
-            assert!(rt; ended.errors.as_slice() == b"tpw: write\n".as_slice());
+            assert!(rt; ended.errors.is_empty());
+            assert_same(&rt, &ended.status, &ExitCode::SUCCESS);
         }
+    }
+}
+
+/// Gives bytes without end, and counts them.
+#[derive(Drop)]
+struct Endless {
+    given: usize,
+}
+
+impl Read for Endless {
+    fn read(&mut self, buf: &mut [u8]) -> io::Result<usize> {
+        self.given = self.given.saturating_add(buf.len());
+        Ok(buf.len())
+    }
+}
+
+/// A worker, packets and results without end are refused, and are not read on.
+#[test]
+fn refuses_what_is_too_long(rt: HostRuntime) {
+    let increment = small_letters(&rt, rt.alloc(), "", INCREMENT);
+    write_file(&rt, "increment.image", increment.as_str());
+    let cases = [
+        ["tpw", "asm"].as_slice(),
+        ["tpw", "run", "--packets", "-", "increment.image"].as_slice(),
+        [
+            "tpw",
+            "run",
+            "--words",
+            "1",
+            "--expect",
+            "-",
+            "increment.image",
+        ]
+        .as_slice(),
+    ];
+    for words in cases {
+        let mut output = Vec::new(rt.alloc());
+        let mut input = Endless { given: 0 };
+        let ended = ran(&rt, rt.alloc(), words, &mut input, &mut output);
+        let errors = unwrap(&rt, str::from_utf8(&ended.errors));
+        let wanted = "tpw: standard input: it is longer than 16 MB\n";
+        assert_same(&rt, &errors, &wanted);
+        assert_same(&rt, &ended.status, &ExitCode::from(1));
+        assert!(rt; output.is_empty());
+        assert_same(&rt, &input.given, &16_000_001);
     }
 }
 

@@ -31,7 +31,7 @@ instead  end the code by stopp
             ["tpw", "why"].as_slice(),
             1,
             "\
-NO J5 1
+tpw: standard input:5:1: NO J5 1
 refused  control goes on behind the last instruction
          0 70 ldl 0  ; line 4: ldl n
 >        1 f5 add  ; line 5: add
@@ -54,7 +54,7 @@ instead  send all its bytes; see that the header counts the rows, initial words 
             ["tpw", "why"].as_slice(),
             1,
             "\
-NO B1 0
+tpw: standard input: NO B1 0
 refused  the bound on the instruction bytes of a run is above 16777216
 known    row 0: 20 to 22, control word 9, 10000 turns from 0
 known    row 1: 13 to 26, control word 7, 10000 turns from 0
@@ -68,7 +68,7 @@ instead  fewer turns of the inner loops, or a packet for each part of the work
             ["tpw", "why"].as_slice(),
             1,
             "\
-NO J6 0
+tpw: standard input:3:1: NO J6 0
 refused  a loop row is bad
 known    row 0: 10 to 12, control word 6, 0 turns from 0; o (line 3)
 why      its turns are not 1 to 10000

@@ -1,5 +1,9 @@
 -- How the program ends.
 use Rattle.std.specs.Prelude.{◌≡◌, ◌≤◌, ℕ, ◌-◌, List, Option, Some, None, slice_get, Result, Ok, Err}
+use Rattle.std.specs.IoError.{error_kind}
+use Rattle.std.specs.declared.io.Error.{Error as IoError}
+use Rattle.std.specs.declared.io.ErrorKind.{ErrorKind as IoKind}
+use Rattle.std.specs.declared.io.ErrorKind.TheVariants.{BrokenPipe}
 use Rattle.clap.specs.declared.error.Error.{Error}
 use Rattle.clap.specs.declared.error.kind.ErrorKind.{ErrorKind}
 use Rattle.clap.specs.declared.error.kind.ErrorKind.TheVariants.{DisplayHelp, DisplayVersion, OutOfMemory}
@@ -86,6 +90,17 @@ status_of (ending.Failed why) = 1
 abbrev pub status_by : Result Outcome Ending → ℕ
 status_by (Ok answer) = status_on answer
 status_by (Err e) = status_of e
+
+-- a write that failed, by its kind: that a reader went away is no fault
+abbrev pub of_write : IoKind → IoError → Result Outcome Ending
+of_write BrokenPipe error = Ok outcome.Good
+of_write kind error = Err (ending.Failed (failure.Unwritten error))
+
+-- what is answered by a command that has failed: a failed write has its cause, where there is one
+abbrev pub settled : Option IoError → Failure → Result Outcome Ending
+settled None why = Err (ending.Failed why)
+settled (Some error) failure.Write = of_write (error_kind error) error
+settled (Some error) why = Err (ending.Failed why)
 
 -- how the program ends where its words ask for no command: a text that was asked for is written, or that fails; else nothing is written
 abbrev pub EndsEarly : Ending → (old new : Option (List ℕ)) → ℕ → Type 0

@@ -1,16 +1,15 @@
 //! What a command line asks for.
 
-use crate::asking::Asking;
-use crate::ending::{Ending, Failure, Refusal};
-use crate::input::Input;
+use crate::asking::{Asking, Expecting, PacketFile};
+use crate::ending::{Ending, Refusal};
+use crate::input::{Input, is_standard};
 use crate::refusing::Report;
 use crate::running::Running;
-use crate::stepping::{FROM, Stepping, UNTIL, WATCH};
+use crate::stepping::{FROM, Picked, Stepping, UNTIL, WATCH};
 use clap::{Arg, ArgAction, ArgMatches, Command, Error, value_parser};
-use hex::FromHexError;
 use std::alloc::Global;
 use std::convert::AsStr;
-use tpw_run_text::Style;
+use tpw_run_text::{Notation, Style};
 
 /// What `--version` says behind the name: the version, the commit where a package is built, and the kit that the proofs are made with.
 const VERSION: &str = "0.1 (unreleased, rattle-kit-13f)";
@@ -63,25 +62,31 @@ const HEX: &str = "hex";
 
 const RAW: &str = "raw";
 
+/// The names of the options that say that packets, or the results that are expected, are in hexadecimal.
+const HEX_PACKETS: &str = "hex-packets";
+
+const HEX_EXPECT: &str = "hex-expect";
+
 /// How many members run packets where nothing is said.
 const DEFAULT_MEMBERS: usize = 4;
 
 /// What `tpw run --help` says below the options.
 const RUN_LINES: &str = "\
-Reads a worker as assembly text, or an image as hexadecimal. Packets and results are a line each: their words as numbers,
-or one field of hexadecimal, two digits for each byte, as they are sent. For each packet it writes its number, the error
-flag, the steps of the budget, and its words; or that it was lost, and why. The last line counts them.
+Reads a worker as assembly text, or an image as hexadecimal. Packets and expected results are a line each, their words as
+numbers, or with --hex-packets and --hex-expect two digits for each byte, as they are sent; `flag 1` before an expected
+result says that the error flag is set. For each packet it writes its number, the error flag, the steps of the budget, and
+its words; or that it was lost, and why. The last line counts them. A FILE of - is standard input.
 Status 0: each packet has a result, the one expected. Status 1: not so, or the worker is refused, as `why` explains it.";
 
 /// The name of the argument of each command that is read in place of standard input.
 const FILE: &str = "file";
 
 /// The name of an option of `step`.
-const PACKET: &str = "packet";
+const NUMBER: &str = "number";
 
 /// What `tpw step --help` says below the options.
 const STEP_LINES: &str = "\
-Reads an image as hexadecimal, one line, or a worker as assembly text.
+Reads an image as hexadecimal, one line, or a worker as assembly text. Packets are as those of `run`.
 A PLACE is an address, as 36 or 0x24, or a count of steps, as +100; in a text also a label, or a line, as line:37.
 WORDS are names of local words, buf[2] for one word of a name, or w5 for a word by its number, with commas between.
 Status 0: the worker stopped, or was left at --until. Status 1: it is stuck, or does not end, or what is read is no image.
@@ -146,24 +151,30 @@ fn place_argument<'a>(alloc: Global, name: &'static str, help: &'static str) -> 
 
 /// `step`, as the command line has it.
 fn step_command<'a>(alloc: Global) -> Result<Command<'a>, Error> {
-    let packet = Arg::new(alloc, PACKET)
-        .long(PACKET)
-        .value_name("HEX")
+    let number = Arg::new(alloc, NUMBER)
+        .long(NUMBER)
+        .value_name("N")
         .action(ArgAction::Set)
-        .help("The packet, as hexadecimal; an empty one where none is given");
+        .value_parser(value_parser!(usize))
+        .help("The packet of this number, from 0; the first one where nothing is said");
     let watch = Arg::new(alloc, WATCH)
         .long(WATCH)
         .value_name("WORDS")
         .action(ArgAction::Set)
         .help("Show only instructions that change one of these words, as k,buf");
+    let hex = flag_argument(alloc, HEX, "Numbers have their hexadecimal behind them");
     let command = Command::new(alloc, STEP)
         .about("Runs an image an instruction at a time, accepted by the verifier or not")
         .after_help(STEP_LINES)
         .arg(file_argument(alloc))?
-        .arg(packet)?
+        .arg(words_argument(alloc))?
+        .arg(packets_argument(alloc))?
+        .arg(hex_packets_argument(alloc))?
+        .arg(number)?
         .arg(place_argument(alloc, FROM, "The first instruction that is shown"))?
-        .arg(place_argument(alloc, UNTIL, "Where the run is left"))?
-        .arg(watch)?;
+        .arg(place_argument(alloc, UNTIL, "Where the run is left, before what is there"))?
+        .arg(watch)?
+        .arg(hex)?;
     Ok(command)
 }
 
@@ -200,6 +211,54 @@ fn words_argument<'a>(alloc: Global) -> Arg<'a> {
         .help("A packet, as a line of FILE has it; may be given again")
 }
 
+/// The option that says a file of packets.
+fn packets_argument<'a>(alloc: Global) -> Arg<'a> {
+    text_argument(alloc, PACKETS, "FILE", "Packets, one a line")
+}
+
+/// The option that says that packets are in hexadecimal.
+fn hex_packets_argument<'a>(alloc: Global) -> Arg<'a> {
+    flag_argument(
+        alloc,
+        HEX_PACKETS,
+        "Packets are in hexadecimal, as they are sent, else words as numbers",
+    )
+}
+
+/// A command with the options that say which results are expected, and how they are written.
+fn with_expect<'a>(alloc: Global, command: Command<'a>) -> Result<Command<'a>, Error> {
+    let expect = text_argument(
+        alloc,
+        EXPECT,
+        "FILE",
+        "Results that are expected, one a line: what differs alone is written",
+    );
+    let hex_expect = flag_argument(
+        alloc,
+        HEX_EXPECT,
+        "Expected results are in hexadecimal, as they are sent, else words as numbers",
+    );
+    let hex_expect = hex_expect.requires_arg(EXPECT)?;
+    Ok(command.arg(expect)?.arg(hex_expect)?)
+}
+
+/// A command with the options that say how results are written.
+fn with_style<'a>(alloc: Global, command: Command<'a>) -> Result<Command<'a>, Error> {
+    let trace = flag_argument(alloc, TRACE, "Follow each result with its trace");
+    let hex = flag_argument(
+        alloc,
+        HEX,
+        "Write results in hexadecimal, as they are sent, else as signed numbers",
+    );
+    let raw = flag_argument(
+        alloc,
+        RAW,
+        "Write the bytes of results alone, one behind another",
+    );
+    let raw = raw.conflicts_with_all(&[EXPECT, HEX, TRACE])?;
+    Ok(command.arg(trace)?.arg(hex)?.arg(raw)?)
+}
+
 /// `profile`, as the command line has it.
 fn profile_command<'a>(alloc: Global) -> Result<Command<'a>, Error> {
     let command = Command::new(alloc, PROFILE)
@@ -207,7 +266,8 @@ fn profile_command<'a>(alloc: Global) -> Result<Command<'a>, Error> {
         .after_help(PROFILE_LINES)
         .arg(file_argument(alloc))?
         .arg(words_argument(alloc))?
-        .arg(text_argument(alloc, PACKETS, "FILE", "Packets, one a line"))?;
+        .arg(packets_argument(alloc))?
+        .arg(hex_packets_argument(alloc))?;
     Ok(command)
 }
 
@@ -224,26 +284,10 @@ fn run_command<'a>(alloc: Global) -> Result<Command<'a>, Error> {
         .after_help(RUN_LINES)
         .arg(file_argument(alloc))?
         .arg(words_argument(alloc))?
-        .arg(text_argument(alloc, PACKETS, "FILE", "Packets, one a line"))?
-        .arg(text_argument(
-            alloc,
-            EXPECT,
-            "FILE",
-            "Results that are expected, one a line: what differs alone is written",
-        ))?
-        .arg(members)?
-        .arg(flag_argument(alloc, TRACE, "Follow each result with its trace"))?
-        .arg(flag_argument(
-            alloc,
-            HEX,
-            "Write results in hexadecimal, as they are sent, else as signed numbers",
-        ))?
-        .arg(flag_argument(
-            alloc,
-            RAW,
-            "Write the bytes of results alone, one behind another",
-        ))?;
-    Ok(command)
+        .arg(packets_argument(alloc))?
+        .arg(hex_packets_argument(alloc))?;
+    let command = with_expect(alloc, command)?.arg(members)?;
+    with_style(alloc, command)
 }
 
 /// `list`, as the command line has it.
@@ -305,26 +349,25 @@ fn command<'a>(alloc: Global) -> Result<Command<'a>, Error> {
     Ok(command)
 }
 
-/// The packet of `step`.
-fn packet_of(alloc: Global, matches: &ArgMatches<'_>) -> Result<Vec<u8>, Ending> {
-    let Some(text) = matches.get_str(PACKET) else {
-        return Ok(Vec::new(alloc));
-    };
-    match hex::decode(alloc, text) {
-        Ok(bytes) => Ok(bytes),
-        Err(FromHexError::OutOfMemory) => Err(Ending::Failed(Failure::Memory)),
-        Err(_) => Err(Ending::Refused(Refusal::NoPacket)),
+/// The packet of `step`, where one is given.
+fn picked(alloc: Global, matches: &ArgMatches<'_>) -> Result<Option<Picked>, Ending> {
+    if matches.get_strs(WORDS).is_none() && matches.get_str(PACKETS).is_none() {
+        return Ok(None);
     }
+    Ok(Some(Picked {
+        asking: asking(alloc, matches)?,
+        number: matches.get_one::<usize>(NUMBER).unwrap_or(0),
+    }))
 }
 
 /// What `step` is asked for.
 fn stepping(alloc: Global, matches: &ArgMatches<'_>) -> Result<Stepping, Ending> {
-    let packet = packet_of(alloc, matches)?;
     Ok(Stepping {
-        packet,
+        packet: picked(alloc, matches)?,
         from: text_given(alloc, matches, FROM)?,
         until: text_given(alloc, matches, UNTIL)?,
         watch: text_given(alloc, matches, WATCH)?,
+        hexadecimal: matches.get_flag(HEX),
     })
 }
 
@@ -355,21 +398,61 @@ fn texts_given(
     Ok(texts)
 }
 
+/// How messages are written, by the option that says that they are in hexadecimal.
+fn notation(matches: &ArgMatches<'_>, name: &'static str) -> Notation {
+    if matches.get_flag(name) {
+        Notation::Hexadecimal
+    } else {
+        Notation::Words
+    }
+}
+
+/// How many packets of the command line stand before its file of packets.
+fn words_before(matches: &ArgMatches<'_>) -> usize {
+    let file = match matches.indices_of(PACKETS) {
+        Some([file, ..]) => *file,
+        _ => 0,
+    };
+    let words = matches.indices_of(WORDS).unwrap_or(&[]);
+    words.iter().filter(|word| **word < file).count()
+}
+
 /// The packets that are asked for.
 fn asking(alloc: Global, matches: &ArgMatches<'_>) -> Result<Asking, Ending> {
     let words = texts_given(alloc, matches, WORDS)?;
-    let file = text_given(alloc, matches, PACKETS)?;
+    let file = match text_given(alloc, matches, PACKETS)? {
+        Some(name) => Some(PacketFile {
+            name,
+            after: words_before(matches),
+        }),
+        None => None,
+    };
     if words.is_empty() && file.is_none() {
         return Err(Ending::Refused(Refusal::NoPackets));
     }
-    Ok(Asking { words, file })
+    Ok(Asking {
+        words,
+        file,
+        notation: notation(matches, HEX_PACKETS),
+    })
+}
+
+/// The results that are expected, where they are.
+fn expecting(alloc: Global, matches: &ArgMatches<'_>) -> Result<Option<Expecting>, Ending> {
+    match text_given(alloc, matches, EXPECT)? {
+        Some(name) => Ok(Some(Expecting {
+            name,
+            notation: notation(matches, HEX_EXPECT),
+        })),
+        None => Ok(None),
+    }
 }
 
 /// What `run` is asked for.
 fn running(alloc: Global, matches: &ArgMatches<'_>) -> Result<Running, Ending> {
     Ok(Running {
         asking: asking(alloc, matches)?,
-        expect: text_given(alloc, matches, EXPECT)?,
+        expect: expecting(alloc, matches)?,
         members: matches.get_one::<usize>(MEMBERS).unwrap_or(DEFAULT_MEMBERS),
         style: Style {
             hexadecimal: matches.get_flag(HEX),
@@ -403,9 +486,24 @@ fn assembling(alloc: Global, matches: &ArgMatches<'_>) -> Result<Task, Ending> {
 /// Where a command reads.
 fn input_of(alloc: Global, matches: &ArgMatches<'_>) -> Result<Input, Ending> {
     match matches.get_str(FILE) {
-        Some(name) => Ok(Input::File(String::from_str(alloc, name)?)),
-        None => Ok(Input::Standard),
+        Some(name) if !is_standard(name) => Ok(Input::File(String::from_str(alloc, name)?)),
+        _ => Ok(Input::Standard),
     }
+}
+
+/// Refuses a task with an input where standard input is named for more than one of them.
+fn check_standard(task: &Task, input: &Input) -> Result<(), Refusal> {
+    let (packets, expected) = match task {
+        Task::Run(running) => (running.asking.is_standard(), running.is_standard()),
+        Task::Profile(asking) => (asking.is_standard(), false),
+        Task::Step(stepping) => (stepping.is_standard(), false),
+        Task::Judge(_) | Task::Assemble(_) | Task::Disassemble => (false, false),
+    };
+    let worker = matches!(input, Input::Standard);
+    if (worker && (packets || expected)) || (packets && expected) {
+        return Err(Refusal::StandardTwice);
+    }
+    Ok(())
 }
 
 /// What words ask for, the first of which names the program.
@@ -424,8 +522,7 @@ pub fn asked_by<S: AsStr>(alloc: Global, words: &[S]) -> Result<Asked, Ending> {
         WHY => Task::Judge(Report::Why),
         _ => return Err(Ending::Refused(Refusal::NoCommand)),
     };
-    Ok(Asked {
-        task,
-        input: input_of(alloc, found)?,
-    })
+    let input = input_of(alloc, found)?;
+    check_standard(&task, &input)?;
+    Ok(Asked { task, input })
 }

@@ -8,11 +8,14 @@ ghost use Rattle.tpw_commands.specs.declared.ending.Outcome.TheVariants.{Good, B
 ghost use Rattle.tpw_commands.specs.Endings.{of_image, of_source, of_run, of_words, status_of, status_on};
 
 use crate::fault::InputFault;
+use crate::input::is_standard;
+use crate::stepping::{PlaceKind, WatchKind};
 use clap::error::ErrorKind;
 use std::alloc::{AllocError, AllocFailed, Global};
+use std::io;
 use thiserror::Error;
 use tp_image::ImageFault;
-use tpw_run_text::PacketFault;
+use tpw_run_text::PacketKind;
 use tpw_runs::RunFault;
 use tpw_source::ShowFault;
 use tpw_step::End;
@@ -69,24 +72,27 @@ pub enum Refusal {
     /// It has no command.
     #[error("error: no command is given\n")]
     NoCommand,
-    /// Its packet is not hexadecimal.
-    #[error("error: invalid value for '--packet <HEX>': it takes hexadecimal digits, an even number\n")]
-    NoPacket,
+    /// It asks for a packet by another number than those that there are.
+    #[error("error: invalid value '{0}' for '--number <N>': there are {1} packets, from 0 on\n")]
+    NoNumber(usize, usize),
     /// Its name is none that farmd takes.
     #[error("error: invalid value for '--line <NAME>': it takes 1 to 16 letters a to z and digits\n")]
     NoName,
     /// An option has a text that names no place.
-    #[error("error: invalid value for '--{0} <PLACE>': it takes an address, as 36 or 0x24, or a count of steps, as +100; in a text a label, or a line, as line:37\n")]
-    NoPlace(&'static str),
+    #[error("error: invalid value '{0}' for '--{1} <PLACE>': {2}\n")]
+    NoPlace(String, &'static str, PlaceKind),
     /// An option names a word that a worker does not have.
-    #[error("error: invalid value for '--watch <WORDS>': it takes names of local words, buf[2] for one word of a name, or w5 for a word by its number\n")]
-    NoWatched,
+    #[error("error: invalid value '{0}' for '--watch <WORDS>': {1}\n")]
+    NoWatched(String, WatchKind),
     /// Words of it say no packet.
-    #[error("error: invalid value for '--words <WORDS>': {0}\n")]
-    NoWords(PacketFault),
+    #[error("error: invalid value '{0}' for '--words <WORDS>': {1}\n")]
+    NoWords(String, PacketKind),
     /// It says no packets.
     #[error("error: no packets are given, by --words or --packets\n")]
     NoPackets,
+    /// It names standard input twice.
+    #[error("error: standard input is read once: name a file for all but one of FILE, --packets and --expect\n")]
+    StandardTwice,
 }
 
 /// Why a command fails, with its text.
@@ -95,6 +101,12 @@ pub enum Failure {
     /// The file of this name is none that the command takes.
     #[error("{0}{1}\n")]
     File(String, InputFault),
+    /// Standard input, where a file is asked for, is none that the command takes.
+    #[error("tpw: standard input{0}\n")]
+    InStandard(InputFault),
+    /// An input is none that the command takes, and that is reported.
+    #[error("")]
+    Reported,
     /// A thread could not be started.
     #[error("tpw: thread\n")]
     Thread,
@@ -104,6 +116,9 @@ pub enum Failure {
     /// Standard output could not be written.
     #[error("tpw: write\n")]
     Write,
+    /// Standard output could not be written, and this is why.
+    #[error("tpw: write: {0}\n")]
+    Unwritten(io::Error),
     /// A growth was refused.
     #[error("tpw: memory\n")]
     Memory,
@@ -113,6 +128,7 @@ impl Failure {
     /// The same, where a fault of an input is one of the file of a name.
     pub fn in_file(self, alloc: Global, name: &str) -> Result<Failure, AllocError> {
         match self {
+            Failure::Input(fault) if is_standard(name) => Ok(Failure::InStandard(fault)),
             Failure::Input(fault) => Ok(Failure::File(String::from_str(alloc, name)?, fault)),
             failure => Ok(failure),
         }

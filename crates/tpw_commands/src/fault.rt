@@ -17,6 +17,9 @@ pub enum InputFault {
     /// It could not be opened or read.
     #[error(": {0}")]
     Unread(io::Error),
+    /// It is too long, and is not read any further.
+    #[error(": it is longer than 16 MB")]
+    TooLong,
     /// Here is no hexadecimal digit.
     #[error(":{0}: no hexadecimal digit")]
     NotADigit(Position),

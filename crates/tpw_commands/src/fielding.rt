@@ -8,8 +8,9 @@ use crate::assembly::assembled;
 use crate::ending::Failure;
 use crate::fault::InputFault;
 use std::alloc::Global;
+use tp_image::limits::WORKSPACE_WORDS_1;
 use tp_image::{ImageCode, Version};
-use tpw_asm::AssemblyFault;
+use tpw_asm::{AssemblyFault, Program};
 use tpw_text::{Position, Source, statement_of};
 
 /// The statement that says a field, and the range of the field in an image of a version.
@@ -56,12 +57,24 @@ fn position_of(alloc: Global, text: &str, word: &str) -> Result<Option<Position>
     Ok(found)
 }
 
+/// What is said of a text without code.
+const NO_CODE: &str = "the text has no instruction";
+
+/// The statement that makes a workspace large that none states: `start` where it is beyond any by itself, else `local`.
+fn larger(program: &Program) -> &'static str {
+    if program.start >= WORKSPACE_WORDS_1 {
+        "start"
+    } else {
+        "local"
+    }
+}
+
 /// The same failure, of a field that is out of range at the statement that says it: a workspace that none says is as large as its locals
 /// need.
 fn at_statement(
     alloc: Global,
     text: &str,
-    version: Version,
+    program: &Program,
     whole: Failure,
 ) -> Result<Failure, Failure>
     ensures reported { IfOk result (λ e. (e ≡ whole) ⊎ IsAtStatement whole e) }
@@ -70,11 +83,15 @@ fn at_statement(
     let Failure::Input(InputFault::Assembly(AssemblyFault::Field(code))) = whole else {
         return Ok(whole);
     };
-    let Some((word, range)) = asked_of(code, version) else {
+    if code == ImageCode::F3 && program.lines.is_empty() {
+        let first = Position { line: 1, column: 1 };
+        return Ok(Failure::Input(InputFault::Field(first, NO_CODE)));
+    }
+    let Some((word, range)) = asked_of(code, program.version) else {
         return Ok(whole);
     };
     let position = match position_of(alloc, text, word)? {
-        None if code == ImageCode::F4 => position_of(alloc, text, "local")?,
+        None if code == ImageCode::F4 => position_of(alloc, text, larger(program))?,
         position => position,
     };
     match position {
@@ -90,6 +107,6 @@ pub fn assembled_text(alloc: Global, text: &str, source: &Source<'_>) -> Result<
 {
     match assembled(alloc, source) {
         Ok(bytes) => Ok(bytes),
-        Err(failure) => Err(at_statement(alloc, text, source.program.version, failure)?),
+        Err(failure) => Err(at_statement(alloc, text, &source.program, failure)?),
     }
 }

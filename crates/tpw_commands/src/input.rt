@@ -1,6 +1,6 @@
 //! Where a command reads: standard input or a file, as text or as an image in hexadecimal.
 
-ghost use Rattle.std.specs.Prelude.{◌≡◌, ◌+◌, ◌<◌, ◌^◌, ◌⊎◌, IfOk, IfErr, length};
+ghost use Rattle.std.specs.Prelude.{◌≡◌, ◌≤◌, ◌+◌, ◌<◌, ◌^◌, ◌⊎◌, IfOk, IfErr, length};
 ghost use Rattle.std.specs.List.{filter, prefix_len};
 ghost use Rattle.std.specs.Char.{is_ascii_hexdigit};
 ghost use Rattle.tpw_commands.specs.Endings.{of_text};
@@ -133,6 +133,14 @@ pub enum Input {
     File(String),
 }
 
+/// The name of standard input where a file is asked for.
+const STANDARD: &str = "-";
+
+/// Whether a file's name is that of standard input.
+pub fn is_standard(name: &str) -> bool {
+    name == STANDARD
+}
+
 impl fmt::Display for Input {
     fn fmt<W: fmt::Write>(&self, f: &mut fmt::Formatter<W>) -> fmt::Result {
         match self {
@@ -142,10 +150,17 @@ impl fmt::Display for Input {
     }
 }
 
-/// Reads all that there is.
-fn read_all<R: Read>(alloc: Global, reader: &mut R) -> Result<Vec<u8>, Failure> {
+/// The most bytes of an input: 16 MB.
+const MOST_BYTES: usize = 16_000_000;
+
+/// Reads all that there is, where it is not too long.
+fn read_all<R: Read>(alloc: Global, reader: &mut R) -> Result<Vec<u8>, Failure>
+    ensures { IfOk result (λ text. length text.items ≤ 16000000) }
+{
     let mut text = Vec::new(alloc);
-    match reader.read_to_end(&mut text) {
+    let mut limited = reader.by_ref().take(MOST_BYTES as u64 + 1);
+    match limited.read_to_end(&mut text) {
+        Ok(_) if text.len() > MOST_BYTES => Err(Failure::Input(InputFault::TooLong)),
         Ok(_) => Ok(text),
         Err(error) if error.kind() == ErrorKind::OutOfMemory => Err(Failure::Memory),
         Err(error) => Err(Failure::Input(InputFault::Unread(error))),
@@ -161,15 +176,22 @@ pub struct Inputs<'a, T, R> {
 
 impl<T: Files, R: Read> Inputs<'_, T, R> {
     /// Reads all of an input.
-    pub fn read(&mut self, alloc: Global, input: &Input) -> Result<Vec<u8>, Failure> {
+    pub fn read(&mut self, alloc: Global, input: &Input) -> Result<Vec<u8>, Failure>
+        ensures { IfOk result (λ text. length text.items ≤ 16000000) }
+    {
         match input {
             Input::Standard => read_all(alloc, self.standard),
             Input::File(name) => self.read_file(alloc, name.as_str()),
         }
     }
 
-    /// Reads all of the file of a name.
-    pub fn read_file(&mut self, alloc: Global, name: &str) -> Result<Vec<u8>, Failure> {
+    /// Reads all of the file of a name, or of standard input by its name.
+    pub fn read_file(&mut self, alloc: Global, name: &str) -> Result<Vec<u8>, Failure>
+        ensures { IfOk result (λ text. length text.items ≤ 16000000) }
+    {
+        if is_standard(name) {
+            return read_all(alloc, self.standard);
+        }
         match File::open(self.files, name) {
             Ok(mut file) => read_all(alloc, &mut file),
             Err(error) => Err(Failure::Input(InputFault::Unread(error))),

@@ -2,6 +2,7 @@
 
 use crate::ending::Failure;
 use crate::fault::InputFault;
+use crate::input::Input;
 use std::alloc::Global;
 use tpw_asm::{AssemblyFault, Program, addresses};
 use tpw_source::{Label, Named, SourceText, Statement};
@@ -10,6 +11,7 @@ use tpw_text::{Local, Position, Source, statement_of};
 /// The statements of a text at the addresses of their instructions, its labels at theirs, and its names of workspace words.
 #[derive(Drop)]
 pub struct Notes<'a> {
+    name: String,
     statements: Vec<Statement<'a>>,
     labels: Vec<Label<'a>>,
     words: Vec<Named<'a>>,
@@ -41,6 +43,7 @@ fn statements_of<'a>(
             statements.push(Statement {
                 at: *place as usize,
                 line: position.line,
+                column: position.column,
                 text: statement_of(alloc, *line)?,
             })?;
         }
@@ -85,10 +88,16 @@ fn words_of<'a>(alloc: Global, source: &Source<'a>) -> Result<Vec<Named<'a>>, Fa
 }
 
 impl<'a> Notes<'a> {
-    /// What a text says of its code.
-    pub fn new(alloc: Global, text: &'a str, source: &Source<'a>) -> Result<Notes<'a>, Failure> {
+    /// What the text of an input says of its code.
+    pub fn new(
+        alloc: Global,
+        input: &Input,
+        text: &'a str,
+        source: &Source<'a>,
+    ) -> Result<Notes<'a>, Failure> {
         let places = places_of(alloc, &source.program)?;
         Ok(Notes {
+            name: format!(in alloc; "{input}")?,
             statements: statements_of(alloc, text, &source.positions, &places)?,
             labels: labels_of(alloc, source, &places)?,
             words: words_of(alloc, source)?,
@@ -98,6 +107,7 @@ impl<'a> Notes<'a> {
     /// The same, as its text has it.
     pub fn source_text(&self) -> SourceText<'_> {
         SourceText {
+            name: self.name.as_str(),
             statements: &self.statements,
             labels: &self.labels,
             words: &self.words,

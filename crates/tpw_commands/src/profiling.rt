@@ -6,7 +6,7 @@ ghost use Rattle.tpw_commands.specs.Endings.{status_of};
 
 use crate::asking::Asking;
 use crate::ending::{Ending, Failure, Outcome};
-use crate::input::{Inputs, TextFault, bytes_of, utf8};
+use crate::input::{Input, Inputs, TextFault, bytes_of, utf8};
 use crate::noting::Notes;
 use crate::shares::{Shares, write_shares};
 use crate::terminal::Terminal;
@@ -61,6 +61,7 @@ fn count_packets<E: Write>(
 /// Writes a profile by the lines of the text that says its image, if a text does.
 fn write_profile<'x, W: Write>(
     alloc: Global,
+    input: &Input,
     text: &[u8],
     image: &'x Image,
     profile: &'x Profile,
@@ -79,7 +80,7 @@ fn write_profile<'x, W: Write>(
         Err(TextFault::NotADigit(_) | TextFault::HalfAByte(_)) => {
             let text = utf8(text)?;
             let source = read_source(alloc, text)?;
-            let notes = Notes::new(alloc, text, &source)?;
+            let notes = Notes::new(alloc, input, text, &source)?;
             let shares = Shares {
                 image,
                 profile,
@@ -91,24 +92,24 @@ fn write_profile<'x, W: Write>(
 }
 
 /// What is to be counted: the packets that are asked for, each as long as those of the image that a text says.
-fn prepare_profile<T: Files, R: Read, E: Write>(
+fn prepare_profile<T: Files, R: Read>(
     alloc: Global,
     inputs: &mut Inputs<'_, T, R>,
     text: &[u8],
-    errors: &mut E,
     asking: &Asking,
 ) -> Result<Counted, Ending>
     ensures { IfOk result (λ counted. All (λ p. length p.items ≡ 4 * counted.image.packet) counted.packets.items) }
 {
     let image = image_of(alloc, text)?;
     let bytes = WORD_BYTES * image.packet as usize;
-    let packets = asking.packets(alloc, inputs, errors, bytes)?;
+    let packets = asking.packets(alloc, inputs, bytes)?;
     Ok(Counted { image, packets })
 }
 
 /// Counts the steps of packets' runs, and writes where they go.
 fn write_counted<W: Write, E: Write>(
     alloc: Global,
+    input: &Input,
     text: &[u8],
     counted: Counted,
     writer: &mut W,
@@ -118,7 +119,7 @@ fn write_counted<W: Write, E: Write>(
     let mut profile = Profile::new(alloc, &image)?;
     let mut stepper = Stepper::new(image);
     let all = count_packets(alloc, &mut stepper, &packets, &mut profile, errors)?;
-    write_profile(alloc, text, stepper.image(), &profile, writer)?;
+    write_profile(alloc, input, text, stepper.image(), &profile, writer)?;
     match writer.flush() {
         Ok(()) => Ok(Outcome::of(all)),
         Err(_) => Err(Failure::Write),
@@ -129,6 +130,7 @@ fn write_counted<W: Write, E: Write>(
 pub fn profile_worker<T: Files, R: Read, W: Write, E: Write>(
     alloc: Global,
     inputs: &mut Inputs<'_, T, R>,
+    input: &Input,
     text: &[u8],
     writer: &mut W,
     terminal: &mut Terminal<'_, E>,
@@ -136,6 +138,6 @@ pub fn profile_worker<T: Files, R: Read, W: Write, E: Write>(
 ) -> Result<Outcome, Ending>
     ensures { IfErr result (λ e. status_of e ≡ 2 → W.contents writer.new ≡ W.contents writer.old) }
 {
-    let counted = prepare_profile(alloc, inputs, text, terminal.errors, asking)?;
-    Ok(write_counted(alloc, text, counted, writer, terminal.errors)?)
+    let counted = prepare_profile(alloc, inputs, text, asking)?;
+    Ok(write_counted(alloc, input, text, counted, writer, terminal.errors)?)
 }

@@ -9,8 +9,10 @@ use crate::command_line::{Asked, Task, asked_by};
 use crate::disassembly::disassemble_image;
 use crate::ending::{Ending, Failure, Outcome};
 use crate::input::{Input, Inputs};
+use crate::output::{Output, settle};
 use crate::profiling::profile_worker;
 use crate::refusing::judge;
+use crate::reporting::report_fault;
 use crate::running::run_worker;
 use crate::stepping::step;
 use crate::terminal::Terminal;
@@ -40,8 +42,39 @@ fn note_asked<E: Write>(
     }
 }
 
-/// Reads the input that is asked for, and does what is asked with its text.
+/// Does what is asked with the text of the input.
 fn perform<T, R: Read, W: Write, E: Write>(
+    rt: &T,
+    inputs: &mut Inputs<'_, T, R>,
+    alloc: Global,
+    text: &[u8],
+    writer: &mut W,
+    terminal: &mut Terminal<'_, E>,
+    asked: &Asked,
+) -> Result<Outcome, Ending>
+where
+    T: Files + Threads + Wait + Clock + Eprint + Sync,
+    ensures { IfErr result (λ e. status_of e ≡ 2 → W.contents writer.new ≡ W.contents writer.old) }
+{
+    let input = &asked.input;
+    note_asked(alloc, terminal.errors, asked, text)?;
+    match &asked.task {
+        Task::Profile(asking) => {
+            profile_worker(alloc, inputs, input, text, writer, terminal, asking)
+        },
+        Task::Run(running) => {
+            run_worker(rt, alloc, inputs, input, text, writer, terminal, running)
+        }
+        Task::Step(stepping) => step(alloc, inputs, input, text, writer, stepping),
+        Task::Judge(report) => Ok(judge(alloc, input, text, *report, writer)?),
+        Task::Assemble(Some(name)) => Ok(assemble_text(alloc, text, writer, Some(name.as_str()))?),
+        Task::Assemble(None) => Ok(assemble_text(alloc, text, writer, None)?),
+        Task::Disassemble => Ok(disassemble_image(alloc, text, writer)?),
+    }
+}
+
+/// Reads the input that is asked for, and does what is asked with its text. Faults of the text are reported.
+fn perform_reported<T, R: Read, W: Write, E: Write>(
     rt: &T,
     inputs: &mut Inputs<'_, T, R>,
     alloc: Global,
@@ -54,25 +87,44 @@ where
     ensures { IfErr result (λ e. status_of e ≡ 2 → W.contents writer.new ≡ W.contents writer.old) }
 {
     let text = inputs.read(alloc, &asked.input)?;
-    note_asked(alloc, terminal.errors, asked, &text)?;
-    match &asked.task {
-        Task::Profile(asking) => profile_worker(alloc, inputs, &text, writer, terminal, asking),
-        Task::Run(running) => run_worker(rt, alloc, inputs, &text, writer, terminal, running),
-        Task::Step(stepping) => step(alloc, &text, writer, terminal.errors, stepping),
-        Task::Judge(report) => Ok(judge(alloc, &text, *report, writer)?),
-        Task::Assemble(Some(name)) => Ok(assemble_text(alloc, &text, writer, Some(name.as_str()))?),
-        Task::Assemble(None) => Ok(assemble_text(alloc, &text, writer, None)?),
-        Task::Disassemble => Ok(disassemble_image(alloc, &text, writer)?),
+    match perform(rt, inputs, alloc, &text, writer, terminal, asked) {
+        Err(Ending::Failed(Failure::Input(fault))) => Err(Ending::Failed(report_fault(
+            alloc,
+            terminal.errors,
+            &asked.input,
+            &text,
+            fault,
+        ))),
+        ended => ended,
+    }
+}
+
+/// The same, where a failed write has its cause.
+fn perform_settled<T, R: Read, W: Write, E: Write>(
+    rt: &T,
+    inputs: &mut Inputs<'_, T, R>,
+    alloc: Global,
+    writer: &mut Output<W>,
+    terminal: &mut Terminal<'_, E>,
+    asked: &Asked,
+) -> Result<Outcome, Ending>
+where
+    T: Files + Threads + Wait + Clock + Eprint + Sync,
+    ensures { IfErr result (λ e. status_of e ≡ 2 → W.contents writer.new.writer ≡ W.contents writer.old.writer) }
+{
+    match perform_reported(rt, inputs, alloc, writer, terminal, asked) {
+        Err(Ending::Failed(failure)) => settle(failure, writer.fault),
+        ended => ended,
     }
 }
 
 /// Writes the text that a command line asks for, and flushes it.
-fn show<W: Write>(writer: &mut W, text: &clap::Error) -> Result<Outcome, Ending>
+fn show<W: Write>(writer: &mut Output<W>, text: &clap::Error) -> Result<Outcome, Ending>
     ensures { status_by result ≤ 1 }
 {
     match write!(writer, "{text}").and_then(|()| writer.flush()) {
         Ok(()) => Ok(Outcome::Good),
-        Err(_) => Err(Ending::Failed(Failure::Write)),
+        Err(_) => settle(Failure::Write, writer.fault),
     }
 }
 
@@ -109,14 +161,15 @@ fn run_asked<T, R: Read, W: Write, E: Write>(
     asked: Result<Asked, Ending>,
     alloc: Global,
     reader: &mut R,
-    writer: &mut W,
+    writer: &mut Output<W>,
     terminal: &mut Terminal<'_, E>,
 ) -> ExitCode
 where
     T: Files + Threads + Wait + Clock + Eprint + Sync,
     ensures status { exit_status result ≤ 2 }
-    ensures refused { exit_status result ≡ 2 → W.contents writer.new ≡ W.contents writer.old }
-    ensures early { IfErr asked (λ e. EndsEarly e (W.contents writer.old) (W.contents writer.new) (exit_status result)) }
+    ensures refused { exit_status result ≡ 2 → W.contents writer.new.writer ≡ W.contents writer.old.writer }
+    ensures early { IfErr asked (λ e. EndsEarly e (W.contents writer.old.writer) (W.contents writer.new.writer)
+        (exit_status result)) }
 {
     let mut inputs = Inputs {
         files: rt,
@@ -124,7 +177,7 @@ where
     };
     match asked {
         Ok(asked) => {
-            let ended = perform(rt, &mut inputs, alloc, writer, terminal, &asked);
+            let ended = perform_settled(rt, &mut inputs, alloc, writer, terminal, &asked);
             end_with(terminal.errors, &asked.input, ended)
         }
         Err(Ending::Shown(text)) => {
@@ -135,19 +188,19 @@ where
     }
 }
 
-/// Does what the words ask for. Where that ends early, it says why on the terminal.
+/// Does what the words ask for. Where that ends early, it says why on the terminal; where the reader of the output went away, nothing.
 pub fn run<T, R: Read, W: Write, E: Write>(
     rt: &T,
     words: &impl Env,
     alloc: Global,
     reader: &mut R,
-    writer: &mut W,
+    writer: &mut Output<W>,
     terminal: &mut Terminal<'_, E>,
 ) -> ExitCode
 where
     T: Files + Threads + Wait + Clock + Eprint + Sync,
     ensures status { exit_status result ≤ 2 }
-    ensures refused { exit_status result ≡ 2 → W.contents writer.new ≡ W.contents writer.old }
+    ensures refused { exit_status result ≡ 2 → W.contents writer.new.writer ≡ W.contents writer.old.writer }
 {
     let asked = read_words(words, alloc);
     run_asked(rt, asked, alloc, reader, writer, terminal)

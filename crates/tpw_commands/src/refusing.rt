@@ -2,7 +2,7 @@
 
 use crate::ending::{Failure, Outcome};
 use crate::fielding::assembled_text;
-use crate::input::{TextFault, bytes_of, utf8};
+use crate::input::{Input, TextFault, bytes_of, utf8};
 use crate::noting::Notes;
 use std::alloc::Global;
 use std::io::Write;
@@ -36,19 +36,21 @@ fn judge_bytes<W: Write>(
 /// Judges the image that an assembly text says, and writes the verdict.
 fn judge_source<W: Write>(
     alloc: Global,
+    input: &Input,
     text: &str,
     report: Report,
     writer: &mut W,
 ) -> Result<bool, Failure> {
     let source = read_source(alloc, text)?;
     let image = assembled_text(alloc, text, &source)?;
-    let notes = Notes::new(alloc, text, &source)?;
+    let notes = Notes::new(alloc, input, text, &source)?;
     judge_bytes(alloc, &image, notes.source_text(), report, writer)
 }
 
 /// Judges the image that a text says, and writes the verdict: the image's bytes in hexadecimal, or else a worker in assembly text.
 fn judge_text<W: Write>(
     alloc: Global,
+    input: &Input,
     text: &[u8],
     report: Report,
     writer: &mut W,
@@ -57,7 +59,7 @@ fn judge_text<W: Write>(
         Ok(bytes) => judge_bytes(alloc, &bytes, SourceText::NONE, report, writer),
         Err(TextFault::Memory) => Err(Failure::Memory),
         Err(TextFault::NotADigit(_) | TextFault::HalfAByte(_)) => {
-            judge_source(alloc, utf8(text)?, report, writer)
+            judge_source(alloc, input, utf8(text)?, report, writer)
         }
     }
 }
@@ -79,11 +81,12 @@ pub fn image_bytes(alloc: Global, text: &[u8]) -> Result<Vec<u8>, Failure> {
 /// is known there, and what helps; or else the code with its costs. Beside the instructions of a text are its lines and its labels.
 pub fn judge<W: Write>(
     alloc: Global,
+    input: &Input,
     text: &[u8],
     report: Report,
     writer: &mut W,
 ) -> Result<Outcome, Failure> {
-    let judged = judge_text(alloc, text, report, writer);
+    let judged = judge_text(alloc, input, text, report, writer);
     let flushed = writer.flush();
     let is_accepted = judged?;
     match flushed {

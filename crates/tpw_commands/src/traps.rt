@@ -98,6 +98,8 @@ fn trap_of<'a>(source: &Source<'a>, first: &str, rest: &str) -> Option<Trap<'a>>
     }
     let instr = if first.eq_ignore_ascii_case("adc") {
         "adc"
+    } else if first.eq_ignore_ascii_case("eqc") {
+        "eqc"
     } else if first.eq_ignore_ascii_case("ldc") {
         "ldc"
     } else {
@@ -213,24 +215,5 @@ pub fn note_traps<E: Write>(
             Ok(text) => note_source(alloc, errors, input, text),
             Err(_) => Ok(()),
         },
-    }
-}
-
-/// The digits of a word in hexadecimal.
-const WORD_DIGITS: usize = 8;
-
-/// Notes the first line of a text that is one word in hexadecimal, and might be a number.
-pub fn note_digits<E: Write>(errors: &mut E, name: &str, text: &str) {
-    for (i, line) in text.lines().enumerate() {
-        let field = line.trim_ascii();
-        let is_number = field.bytes().all(|byte| byte.is_ascii_digit());
-        if field.len() == WORD_DIGITS && is_number && !field.starts_with('0') {
-            let number = i.saturating_add(1);
-            let _ = write!(
-                errors,
-                "{name}:{number}:1: note: {field} is read as hexadecimal, its low byte first: 0{field} is the number\n"
-            );
-            return;
-        }
     }
 }

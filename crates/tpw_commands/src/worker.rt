@@ -3,6 +3,7 @@
 ghost use Rattle.std.specs.Prelude.{◌≤◌, IfOk};
 
 use crate::ending::Failure;
+use crate::input::Input;
 use crate::refusing::{Report, image_bytes, judge};
 use std::alloc::Global;
 use std::io::Write;
@@ -27,6 +28,7 @@ pub fn image_of(alloc: Global, text: &[u8]) -> Result<Image, Failure>
 /// The image that a worker's text says, where it is accepted. Where it is refused, `errors` has the explanation of `why`.
 pub fn accepted_of<E: Write>(
     alloc: Global,
+    input: &Input,
     text: &[u8],
     errors: &mut E,
 ) -> Result<Option<Accepted>, Failure> {
@@ -35,7 +37,7 @@ pub fn accepted_of<E: Write>(
         Ok(accepted) => Ok(Some(accepted)),
         Err(Refusal::Memory) => Err(Failure::Memory),
         Err(Refusal::Refused { .. }) => {
-            judge(alloc, text, Report::Why, errors)?;
+            judge(alloc, input, text, Report::Why, errors)?;
             Ok(None)
         }
     }

@@ -1,8 +1,7 @@
 -- What is shown of packets.
-use Rattle.std.specs.Prelude.{◌≡◌, ℕ, ◌+◌, nat_eq, not, Bool, true, false, if◌then◌else◌, List, [], ◌∷◌, ◌++◌, codes, Option, Some, None, slice_get}
+use Rattle.std.specs.Prelude.{◌≡◌, ℕ, ◌+◌, nat_eq, not, ◌&&◌, Bool, true, false, if◌then◌else◌, List, [], ◌∷◌, ◌++◌, codes, Option, Some, None, slice_get}
 use Rattle.std.specs.Fmt.{decimal, signed_decimal}
 use Rattle.std.specs.Int.{w32, cast_signed, from_le_bytes}
-use Rattle.std.specs.Option.{option_map}
 use Rattle.std.specs.Cmp.Lexicographic.{pointwise}
 use Rattle.hex.specs.Hex.{encode_lower}
 use Rattle.tp_link.specs.declared.links.Link.{Link}
@@ -14,6 +13,7 @@ use Rattle.tp_collect.specs.declared.collected.Entry.{Entry}
 use Rattle.tp_collect.specs.declared.collected.Entry.TheVariants as entry
 use Rattle.tp_collect.specs.declared.collected.LostCause.{LostCause}
 use Rattle.tp_collect.specs.declared.collected.LostCause.TheVariants as cause
+use Rattle.tpw_run_text.specs.declared.form.Expected.{Expected}
 use Rattle.tpw_run_text.specs.declared.form.Style.{Style}
 use Rattle.tpw_run_text.specs.declared.form.Form.{Form}
 use Rattle.tpw_run_text.specs.declared.form.Form.TheVariants.{Lines, Raw, Differences}
@@ -63,17 +63,25 @@ line_of style budget number (entry.Lost cause) = decimal number ++ codes "  LOST
 abbrev pub whole_line : Style → (budget number : ℕ) → Entry → List ℕ
 whole_line style budget number e = line_of style budget number e ++ codes "\n"
 
--- a packet has the result that is expected of it
-abbrev pub is_expected : Entry → Option (List ℕ) → Bool
-is_expected (entry.Done done) (Some wanted) = pointwise nat_eq done.result wanted
+-- a packet has the result and the error flag that are expected of it
+abbrev pub is_expected : Entry → Option Expected → Bool
+is_expected (entry.Done done) (Some wanted) =
+    pointwise nat_eq done.result wanted.message.items && nat_eq (flag done.error) (flag wanted.error)
 is_expected e wanted = false
 
-abbrev pub expected_text : Style → Option (List ℕ) → List ℕ
-expected_text style (Some wanted) = codes "  expected" ++ message_text style wanted ++ codes "\n"
-expected_text style None = []
+-- what was expected: an error flag and words
+abbrev pub expected_head : Bool → List ℕ
+expected_head error = codes "  expected  flag " ++ decimal (flag error) ++ codes " "
 
--- the line of a packet whose result is another, and the result that was expected
-abbrev pub difference_text : Style → Option (List ℕ) → (budget number : ℕ) → Entry → List ℕ
+abbrev pub result_text : Style → Expected → List ℕ
+result_text style wanted = expected_head wanted.error ++ message_text style wanted.message.items ++ codes "\n"
+
+abbrev pub expected_text : Style → Option Expected → List ℕ
+expected_text style (Some wanted) = result_text style wanted
+expected_text style None = codes "  expected nothing\n"
+
+-- the line of a packet whose result or error flag is another, and what was expected
+abbrev pub difference_text : Style → Option Expected → (budget number : ℕ) → Entry → List ℕ
 difference_text style wanted budget number e =
     if is_expected e wanted then [] else whole_line style budget number e ++ expected_text style wanted
 
@@ -86,12 +94,12 @@ abbrev pub entry_text : Form → (budget number : ℕ) → Entry → List ℕ
 entry_text (Lines style) budget number e = whole_line style budget number e
 entry_text Raw budget number e = raw_text e
 entry_text (Differences style expected) budget number e =
-    difference_text style (option_map (λ p. p.items) (slice_get expected.now number)) budget number e
+    difference_text style (slice_get expected.now number) budget number e
 
 -- another result was expected of the packet of a number
 abbrev pub is_other : Form → (number : ℕ) → Entry → Bool
 is_other (Differences style expected) number e =
-    not (is_expected e (option_map (λ p. p.items) (slice_get expected.now number)))
+    not (is_expected e (slice_get expected.now number))
 is_other form number e = false
 
 -- of packets, the first of which has a number

@@ -11,6 +11,14 @@ pub struct Style {
     pub trace: bool,
 }
 
+/// A result that is expected of a packet.
+#[derive(Drop)]
+pub struct Expected {
+    /// The error flag that the worker leaves.
+    pub error: bool,
+    pub message: Packet,
+}
+
 /// What is shown of each packet.
 #[derive(Clone, Copy)]
 pub enum Form<'e> {
@@ -18,6 +26,6 @@ pub enum Form<'e> {
     Lines(Style),
     /// The bytes of its result alone; nothing of a packet that is lost.
     Raw,
-    /// As lines, but only of packets whose result is not the one that is expected of their number.
-    Differences(Style, &'e [Packet]),
+    /// As lines, but only of packets whose result and error flag are not those that are expected of their number.
+    Differences(Style, &'e [Expected]),
 }

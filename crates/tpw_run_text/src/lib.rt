@@ -7,8 +7,8 @@ mod lines;
 mod packets;
 mod tally;
 
-pub use fault::PacketFault;
-pub use form::{Form, Style};
+pub use fault::{PacketFault, PacketKind};
+pub use form::{Expected, Form, Style};
 pub use lines::write_entries;
-pub use packets::{Field, fields_of, packet_of, packets_of};
+pub use packets::{Field, Notation, fields_of, packet_of, packets_of, results_of};
 pub use tally::{StepRange, Tally};

@@ -4,12 +4,11 @@ ghost use Rattle.std.specs.Prelude.{◌≡◌, ◌++◌, ◌+◌, ◌^◌, ◌<�
 ghost use Rattle.std.specs.Option.{option_map};
 ghost use Rattle.hex.specs.Hex.{encode_lower};
 ghost use Rattle.tpw_run_text.specs.Lines.{cause_text, words_text, message_text, head_text, trace_text, done_text, line_of, whole_line};
-ghost use Rattle.tpw_run_text.specs.Lines.{is_expected, expected_text, difference_text, raw_text, entry_text, entries_text, is_other};
+ghost use Rattle.tpw_run_text.specs.Lines.{is_expected, expected_head, result_text, expected_text, difference_text, raw_text, entry_text, entries_text, is_other};
 
-use crate::form::{Form, Style};
+use crate::form::{Expected, Form, Style};
 use std::alloc::AllocError;
 use std::io::Write;
-use tp_board::Packet;
 use tp_collect::{Done, Entry, LostCause};
 use tp_link::{DeviceFault, Link, LinkFault};
 
@@ -121,12 +120,15 @@ fn write_line(
     }
 }
 
-/// Whether a packet has the result that is expected.
-fn is_expected(entry: &Entry, expected: Option<&Packet>) -> bool
-    ensures { result ≡ is_expected entry.now (option_map (λ p. p.now.items) expected.entry) }
+/// Whether a packet has the result and the error flag that are expected.
+fn is_expected(entry: &Entry, expected: Option<&Expected>) -> bool
+    ensures { result ≡ is_expected entry.now (option_map (λ e. e.now) expected.entry) }
 {
     match (entry, expected) {
-        (Entry::Done(done), Some(wanted)) => done.result.as_slice() == wanted.as_slice(),
+        (Entry::Done(done), Some(wanted)) => {
+            done.result.as_slice() == wanted.message.as_slice()
+                && u8::from(done.error) == u8::from(wanted.error)
+        }
         _ => false,
     }
 }
@@ -146,35 +148,50 @@ fn write_whole(
     Ok(())
 }
 
-/// Writes the result that was expected, on a line of its own.
-fn write_expected(
-    out: &mut Vec<u8>,
-    style: Style,
-    expected: Option<&Packet>,
-) -> Result<(), AllocError>
-    ensures { OnOk result (out.new.items ≡ out.old.items
-        ++ expected_text style (option_map (λ p. p.now.items) expected.entry)) }
+/// Writes what the line of an expected result has before its words.
+fn write_expected_head(out: &mut Vec<u8>, error: bool) -> Result<(), AllocError>
+    ensures { OnOk result (out.new.items ≡ out.old.items ++ expected_head error) }
 {
-    let Some(expected) = expected else {
-        return Ok(());
-    };
-    out.extend_from_slice(b"  expected")?;
-    write_message(out, style, expected.as_slice())?;
+    let wanted = u8::from(error);
+    write!(out, "  expected  flag {wanted} ").or(Err(AllocError))
+}
+
+/// Writes a result that was expected, on a line of its own.
+fn write_result(out: &mut Vec<u8>, style: Style, expected: &Expected) -> Result<(), AllocError>
+    ensures { OnOk result (out.new.items ≡ out.old.items ++ result_text style expected.now) }
+{
+    write_expected_head(out, expected.error)?;
+    write_message(out, style, expected.message.as_slice())?;
     out.push(b'\n')?;
     Ok(())
 }
 
-/// Writes the line of a packet whose result is not the expected one, and the expected result. Of other packets it writes nothing.
+/// Writes what was expected, on a line of its own.
+fn write_expected(
+    out: &mut Vec<u8>,
+    style: Style,
+    expected: Option<&Expected>,
+) -> Result<(), AllocError>
+    ensures { OnOk result (out.new.items ≡ out.old.items
+        ++ expected_text style (option_map (λ e. e.now) expected.entry)) }
+{
+    match expected {
+        Some(expected) => write_result(out, style, expected),
+        None => out.extend_from_slice(b"  expected nothing\n"),
+    }
+}
+
+/// Writes the line of a packet whose result or error flag is not the expected one, and what was expected. Of other packets it writes nothing.
 fn write_difference(
     out: &mut Vec<u8>,
     style: Style,
-    expected: Option<&Packet>,
+    expected: Option<&Expected>,
     budget: u32,
     number: usize,
     entry: &Entry,
 ) -> Result<(), AllocError>
     ensures { OnOk result (out.new.items ≡ out.old.items
-        ++ difference_text style (option_map (λ p. p.now.items) expected.entry) budget number entry.now) }
+        ++ difference_text style (option_map (λ e. e.now) expected.entry) budget number entry.now) }
 {
     if is_expected(entry, expected) {
         return Ok(());

@@ -3,14 +3,24 @@
 ghost use Rattle.std.specs.Prelude.{◌≡◌, ◌≤◌, ◌*◌, All, IfOk, IfSome, OnOk, length, map};
 ghost use Rattle.std.specs.Option.{option_map};
 ghost use Rattle.std.specs.Result.{result_ok};
-ghost use Rattle.tpw_run_text.specs.Packets.{hexadecimal_said, words_said, packet_said};
+ghost use Rattle.tpw_run_text.specs.Packets.{hexadecimal_said, words_said, packet_said, flag_said, said_of, result_said};
 
-use crate::fault::PacketFault;
+use crate::fault::{PacketFault, PacketKind};
+use crate::form::Expected;
 use std::alloc::{AllocError, Global};
 use tp_board::Packet;
 use tp_collect::limits::MESSAGE_BYTES;
 use tp_image::layout::WORD_BYTES;
 use tpw_text::{Position, signed_of};
+
+/// How the messages of a text are written.
+#[derive(Clone, Copy, Debug, PartialEq, Eq)]
+pub enum Notation {
+    /// The numbers of their words, as assembly text writes numbers.
+    Words,
+    /// One field of two hexadecimal digits for each byte, as they are sent.
+    Hexadecimal,
+}
 
 /// A text between white space, and where it begins.
 #[derive(Clone, Copy)]
@@ -65,61 +75,159 @@ fn numbers_of(fields: &[Field<'_>]) -> Result<Packet, PacketFault>
     let mut packet = Packet::new();
     for field in fields {
         let Some(number) = signed_of(field.text) else {
-            return Err(PacketFault::NoNumber(field.position));
+            return Err(PacketFault::At(field.position, PacketKind::NoNumber));
         };
         let _ = packet.try_extend_from_slice(&number.to_le_bytes());
     }
     Ok(packet)
 }
 
-/// The message of so many bytes that fields say: in hexadecimal, two digits for each of its bytes, or as the numbers of its words.
-pub fn packet_of(fields: &[Field<'_>], bytes: usize) -> Result<Packet, PacketFault>
+/// The fault of fields that say no message of so many bytes as words.
+fn fault_of_words(fields: &[Field<'_>], bytes: usize) -> PacketKind
+    requires { bytes ≤ 256 }
+{
+    if hexadecimal_of(fields, bytes).is_some() {
+        return PacketKind::Hexadecimal;
+    }
+    PacketKind::Length {
+        found: fields.len(),
+        wanted: bytes / WORD_BYTES,
+    }
+}
+
+/// The message of so many bytes that fields say, which begin at a place.
+pub fn packet_of(
+    fields: &[Field<'_>],
+    place: Position,
+    bytes: usize,
+    notation: Notation,
+) -> Result<Packet, PacketFault>
     requires { bytes ≤ 256 }
     ensures bytes { IfOk result (λ p. length p.items ≡ bytes) }
-    ensures said { option_map (λ p. p.items) (result_ok result) ≡ packet_said bytes (map (λ f. f.text.now) fields.now) }
+    ensures said { option_map (λ p. p.items) (result_ok result)
+        ≡ packet_said notation bytes (map (λ f. f.text.now) fields.now) }
 {
-    if let Some(packet) = hexadecimal_of(fields, bytes) {
-        return Ok(packet);
+    match notation {
+        Notation::Hexadecimal => match hexadecimal_of(fields, bytes) {
+            Some(packet) => Ok(packet),
+            None => Err(PacketFault::At(place, PacketKind::NoHexadecimal(2 * bytes))),
+        },
+        Notation::Words if fields.len() * WORD_BYTES == bytes => numbers_of(fields),
+        Notation::Words => Err(PacketFault::At(place, fault_of_words(fields, bytes))),
     }
-    if fields.len() * WORD_BYTES == bytes {
-        return numbers_of(fields);
+}
+
+/// The error flag that a field says.
+fn flag_of(field: &Field<'_>) -> Result<bool, PacketFault>
+    ensures { result_ok result ≡ flag_said field.now.text.now }
+{
+    if field.text == b"0".as_slice() {
+        Ok(false)
+    } else if field.text == b"1".as_slice() {
+        Ok(true)
+    } else {
+        Err(PacketFault::At(field.position, PacketKind::NoFlag))
     }
-    let position = match fields.first() {
-        Some(field) => field.position,
-        None => Position { line: 1, column: 1 },
-    };
-    Err(PacketFault::Length(position, bytes / WORD_BYTES))
+}
+
+/// The result of so many bytes that fields say is expected, which begin at a place: `flag 1` and its message, or its message alone.
+fn result_of(
+    fields: &[Field<'_>],
+    place: Position,
+    bytes: usize,
+    notation: Notation,
+) -> Result<Expected, PacketFault>
+    requires { bytes ≤ 256 }
+    ensures { option_map said_of (result_ok result)
+        ≡ result_said notation bytes (map (λ f. f.text.now) fields.now) }
+{
+    match fields {
+        [word, flag, rest @ ..] if word.text == b"flag".as_slice() => {
+            let error = flag_of(flag)?;
+            let message = packet_of(rest, place, bytes, notation)?;
+            Ok(Expected { error, message })
+        }
+        _ => {
+            let message = packet_of(fields, place, bytes, notation)?;
+            Ok(Expected {
+                error: false,
+                message,
+            })
+        }
+    }
 }
 
 /// Appends the message of so many bytes that a line says. A line without fields says none.
-fn push_line(
+fn push_packet(
     alloc: Global,
     packets: &mut Vec<Packet>,
     line: &str,
     number: usize,
     bytes: usize,
+    notation: Notation,
 ) -> Result<(), PacketFault>
     requires most { bytes ≤ 256 }
     requires bytes { All (λ p. length p.items ≡ bytes) packets.old.items }
     ensures { OnOk result (All (λ p. length p.items ≡ bytes) packets.new.items) }
 {
     let fields = fields_of(alloc, line.as_bytes(), number)?;
-    if fields.is_empty() {
+    let Some(first) = fields.first() else {
         return Ok(());
-    }
-    let packet = packet_of(&fields, bytes)?;
+    };
+    let packet = packet_of(&fields, first.position, bytes, notation)?;
     packets.push(packet)?;
     Ok(())
 }
 
 /// The messages of so many bytes that a text says, one a line. A line without fields is passed over.
-pub fn packets_of(alloc: Global, text: &str, bytes: usize) -> Result<Vec<Packet>, PacketFault>
+pub fn packets_of(
+    alloc: Global,
+    text: &str,
+    bytes: usize,
+    notation: Notation,
+) -> Result<Vec<Packet>, PacketFault>
     requires { bytes ≤ 256 }
     ensures { IfOk result (λ packets. All (λ p. length p.items ≡ bytes) packets.items) }
 {
     let mut packets = Vec::new(alloc);
     for (i, line) in text.lines().enumerate() {
-        push_line(alloc, &mut packets, line, i + 1, bytes)?;
+        push_packet(alloc, &mut packets, line, i + 1, bytes, notation)?;
     }
     Ok(packets)
+}
+
+/// Appends the result of so many bytes that a line says. A line without fields says none.
+fn push_result(
+    alloc: Global,
+    results: &mut Vec<Expected>,
+    line: &str,
+    number: usize,
+    bytes: usize,
+    notation: Notation,
+) -> Result<(), PacketFault>
+    requires { bytes ≤ 256 }
+{
+    let fields = fields_of(alloc, line.as_bytes(), number)?;
+    let Some(first) = fields.first() else {
+        return Ok(());
+    };
+    let result = result_of(&fields, first.position, bytes, notation)?;
+    results.push(result)?;
+    Ok(())
+}
+
+/// The results of so many bytes that a text says are expected, one a line. A line without fields is passed over.
+pub fn results_of(
+    alloc: Global,
+    text: &str,
+    bytes: usize,
+    notation: Notation,
+) -> Result<Vec<Expected>, PacketFault>
+    requires { bytes ≤ 256 }
+{
+    let mut results = Vec::new(alloc);
+    for (i, line) in text.lines().enumerate() {
+        push_result(alloc, &mut results, line, i + 1, bytes, notation)?;
+    }
+    Ok(results)
 }

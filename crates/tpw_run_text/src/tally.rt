@@ -1,6 +1,6 @@
 //! What became of packets, in numbers.
 
-ghost use Rattle.std.specs.Prelude.{◌≡◌, ◌<◌, ◌+◌, ◌^◌, length};
+ghost use Rattle.std.specs.Prelude.{◌≡◌, ◌<◌, ◌≤◌, ◌+◌, ◌^◌, length};
 ghost use Rattle.tpw_run_text.specs.Tallies.{widened, with_entry, with_entries, nothing_counted};
 
 use crate::form::Form;
@@ -39,8 +39,10 @@ pub struct Tally {
     pub lost: usize,
     /// The steps of those that have a result.
     pub steps: Option<StepRange>,
-    /// Whether another result was expected of one.
-    pub differs: bool,
+    /// Of how many another result was expected.
+    pub differing: usize,
+    /// The number of the first of these.
+    pub first: Option<usize>,
 }
 
 impl Tally {
@@ -52,13 +54,15 @@ impl Tally {
             done: 0,
             lost: 0,
             steps: None,
-            differs: false,
+            differing: 0,
+            first: None,
         }
     }
 
     /// Counts what became of the packet of a number.
     fn add(&mut self, form: Form<'_>, number: usize, entry: &Entry)
-        requires { self.old.done + self.old.lost < 2 ^ 63 }
+        requires room { self.old.done + self.old.lost < 2 ^ 63 }
+        requires differing { self.old.differing ≤ self.old.done + self.old.lost }
         ensures { self.new ≡ with_entry form.entry self.old number entry.now }
     {
         match entry {
@@ -68,15 +72,20 @@ impl Tally {
             }
             Entry::Lost(_) => self.lost += 1,
         }
-        self.differs |= is_other(form, number, entry);
+        if is_other(form, number, entry) {
+            self.differing += 1;
+            self.first = Some(self.first.unwrap_or(number));
+        }
     }
 
     /// Counts what became of packets, the first of which has a number.
     pub fn add_all(&mut self, form: Form<'_>, number: usize, entries: &[Entry])
         requires room { self.old.done + self.old.lost + length entries.now < 2 ^ 63 }
         requires number { number + length entries.now < 2 ^ 63 }
+        requires differing { self.old.differing ≤ self.old.done + self.old.lost }
         ensures tally { self.new ≡ with_entries form.entry self.old number entries.now }
         ensures all { self.new.done + self.new.lost ≡ self.old.done + self.old.lost + length entries.now }
+        ensures differing { self.new.differing ≤ self.new.done + self.new.lost }
     {
         for (i, entry) in entries.iter().enumerate() {
             self.add(form, number + i, entry);

@@ -10,8 +10,9 @@ use tp_image::LoopRow;
 #[derive(Clone, Copy, Debug, PartialEq, Eq)]
 pub struct Statement<'a> {
     pub at: usize,
-    /// The line of the text, counted from 1.
+    /// The line of the text and the column of the statement, counted from 1.
     pub line: usize,
+    pub column: usize,
     pub text: &'a str,
 }
 
@@ -65,6 +66,8 @@ impl fmt::Display for Indexed<'_> {
 /// What a text says of its code. Of an image that no text says, it is [`SourceText::NONE`].
 #[derive(Clone, Copy)]
 pub struct SourceText<'a> {
+    /// The name of the text, as faults of it have it.
+    pub name: &'a str,
     pub statements: &'a [Statement<'a>],
     pub labels: &'a [Label<'a>],
     pub words: &'a [Named<'a>],
@@ -73,6 +76,7 @@ pub struct SourceText<'a> {
 impl<'a> SourceText<'a> {
     /// Nothing.
     pub const NONE: SourceText<'static> = SourceText {
+        name: "",
         statements: &[],
         labels: &[],
         words: &[],

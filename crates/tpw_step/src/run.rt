@@ -1,15 +1,16 @@
 //! A whole run, printed line by line.
 
+use crate::operand::NamedInstr;
 use crate::prefixes::prefixes_at;
 use crate::reason::{Reason, Snapshot, instruction_at, why};
 use crate::span::Span;
 use crate::stepper::Stepper;
-use crate::value::Value;
-use crate::workspace::{Workspace, Written};
+use crate::value::{Style, Value};
+use crate::workspace::{Values, Workspace, Written};
 use std::alloc::{AllocError, Global};
 use std::io::Write;
 use tp_image::Image;
-use tp_link::{LinkDevice, LinkFault, Links, Media};
+use tp_link::{Link, LinkDevice, LinkFault, Links, Media};
 use tp_step::profile::{self, MEM_START};
 use tpw_machine::{Registers, Turn};
 use tpw_source::{Named, ShowFault, SourceText};
@@ -47,6 +48,18 @@ pub struct Shown<'a> {
     pub watched: &'a [Named<'a>],
     /// What an assembly text says of the code.
     pub source: SourceText<'a>,
+    /// Whether each number has its hexadecimal behind it.
+    pub hexadecimal: bool,
+}
+
+impl<'a> Shown<'a> {
+    /// How values are written.
+    fn style(&self) -> Style<'a> {
+        Style {
+            source: self.source,
+            hexadecimal: self.hexadecimal,
+        }
+    }
 }
 
 /// What a run has sent.
@@ -80,21 +93,62 @@ fn write_registers<W: Write>(
     count: u64,
     code: &[u8],
     at: i64,
+    before: &Registers,
     after: &Registers,
-    source: SourceText<'_>,
+    style: Style<'_>,
 ) -> Result<(), ShowFault> {
     let written = match instruction_at(code, at) {
-        Some(instr) => write!(writer, "{count} {at} {instr}:"),
+        Some(instr) => {
+            let instr = NamedInstr {
+                instr,
+                wptr: word_of(before),
+                source: style.source,
+            };
+            write!(writer, "{count} {at} {instr}:")
+        }
         None => write!(writer, "{count} {at} ?:"),
     };
     written.map_err(|_| ShowFault::Write)?;
-    let value = |word| Value { word, source };
-    let a = value(after.areg);
-    let b = value(after.breg);
-    let c = value(after.creg);
-    let wptr = after.wptr.wrapping_sub(MEM_START).cast_signed() / WORD_BYTES;
-    let flag = u8::from(after.error);
+    write_values(writer, after, style)
+}
+
+/// The number of the word that Wptr points at.
+fn word_of(registers: &Registers) -> i32 {
+    registers.wptr.wrapping_sub(MEM_START).cast_signed() / WORD_BYTES
+}
+
+/// Writes the registers.
+fn write_values<W: Write>(
+    writer: &mut W,
+    registers: &Registers,
+    style: Style<'_>,
+) -> Result<(), ShowFault> {
+    let value = |word| Value { word, style };
+    let a = value(registers.areg);
+    let b = value(registers.breg);
+    let c = value(registers.creg);
+    let wptr = word_of(registers);
+    let flag = u8::from(registers.error);
     write!(writer, " A {a} B {b} C {c} Wptr {wptr} flag {flag}").map_err(|_| ShowFault::Write)
+}
+
+/// Writes the line of the text that says the instruction at an address.
+fn write_statement<W: Write>(
+    writer: &mut W,
+    at: i64,
+    source: SourceText<'_>,
+) -> Result<(), ShowFault> {
+    let statement = usize::try_from(at)
+        .ok()
+        .and_then(|at| source.statement_at(at));
+    match statement {
+        Some(statement) => {
+            let line = statement.line;
+            let text = statement.text;
+            write!(writer, "  ; line {line}: {text}").map_err(|_| ShowFault::Write)
+        }
+        None => Ok(()),
+    }
 }
 
 /// Writes a word and bytes after it, where there are some.
@@ -174,18 +228,43 @@ fn show_one<D: LinkDevice, W: Write>(
     let written = Written {
         before: stands,
         after: &after,
-        source: shown.source,
+        style: shown.style(),
     };
     if progress.is_shown && (shown.watched.is_empty() || written.changes(shown.watched)) {
-        let registers = stepper.registers();
-        write_registers(writer, progress.count, code, at, &registers, shown.source)?;
+        let behind = stepper.registers();
+        write_registers(
+            writer,
+            progress.count,
+            code,
+            at,
+            &registers,
+            &behind,
+            shown.style(),
+        )?;
         write!(writer, "{written}").map_err(|_| ShowFault::Write)?;
         write_message(writer, "result", result.as_str())?;
         write_message(writer, "trace", trace.as_str())?;
+        write_statement(writer, at, shown.source)?;
         writeln!(writer).map_err(|_| ShowFault::Write)?;
     }
     *stands = after;
     Ok(None)
+}
+
+/// Writes the state in which a run was left: its registers, and the words that are defined and are not 0.
+fn write_state<W: Write>(
+    stepper: &Stepper,
+    stands: &Workspace,
+    style: Style<'_>,
+    writer: &mut W,
+) -> Result<(), ShowFault> {
+    write!(writer, "state").map_err(|_| ShowFault::Write)?;
+    write_values(writer, &stepper.registers(), style)?;
+    let values = Values {
+        workspace: stands,
+        style,
+    };
+    writeln!(writer, "{values}").map_err(|_| ShowFault::Write)
 }
 
 /// Writes the outcome of a run: how it was left, its result, its trace, the error flag and the steps made.
@@ -201,6 +280,15 @@ fn write_end<W: Write>(
     let written = match end {
         End::Stopped => writeln!(writer, "stopped"),
         End::Stuck(at, reason) => writeln!(writer, "stuck at {at}: {reason}"),
+        End::Refused(
+            LinkFault {
+                link: Link::Source,
+                ..
+            },
+        ) => writeln!(
+            writer,
+            "refused: no packet is given, or one that is too short"
+        ),
         End::Refused(fault) => writeln!(writer, "refused: {fault}"),
         End::Left => writeln!(writer, "left at {at}"),
         End::Unended => {
@@ -263,5 +351,6 @@ pub fn show_run<W: Write>(
         }
     }
     write_end(alloc, &stepper, &sent, progress.count, end, writer)?;
+    write_state(&stepper, &stands, shown.style(), writer)?;
     Ok(end)
 }

@@ -4,12 +4,20 @@ use std::fmt;
 use tp_step::profile::{MEM_START, WORD_BYTES};
 use tpw_source::SourceText;
 
+/// How values are written.
+#[derive(Clone, Copy)]
+pub(crate) struct Style<'a> {
+    pub(crate) source: SourceText<'a>,
+    /// Whether a number has its hexadecimal behind it.
+    pub(crate) hexadecimal: bool,
+}
+
 /// A register or a word of the workspace: `&buf[2]` where it is the address of a word that the text names; else a signed number, or `-`
 /// where it is undefined.
 #[derive(Clone, Copy)]
 pub(crate) struct Value<'a> {
     pub(crate) word: Option<u32>,
-    pub(crate) source: SourceText<'a>,
+    pub(crate) style: Style<'a>,
 }
 
 /// The number of the workspace word at an address.
@@ -27,14 +35,19 @@ impl fmt::Display for Value<'_> {
         let Some(value) = self.word else {
             return f.write_str("-");
         };
-        match word_at(value).and_then(|word| self.source.named(word).map(|named| (word, named))) {
+        let source = self.style.source;
+        match word_at(value).and_then(|word| source.named(word).map(|named| (word, named))) {
             Some((word, named)) => {
                 let name = named.of(word);
                 write!(f, "&{name}")
             }
             None => {
                 let number = value.cast_signed();
-                write!(f, "{number}")
+                write!(f, "{number}")?;
+                if self.style.hexadecimal {
+                    write!(f, " (#{value:X})")?;
+                }
+                Ok(())
             }
         }
     }

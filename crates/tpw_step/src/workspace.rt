@@ -1,11 +1,11 @@
 //! The words of a workspace, and those that an instruction wrote.
 
 use crate::stepper::Stepper;
-use crate::value::Value;
+use crate::value::{Style, Value};
 use std::alloc::{AllocError, Global};
 use std::fmt;
 use tp_step::profile::{MEM_START, WORD_BYTES};
-use tpw_source::{Named, SourceText};
+use tpw_source::Named;
 
 /// The most words of a workspace.
 const WORDS: u32 = 512;
@@ -43,12 +43,58 @@ impl Workspace {
     }
 }
 
-/// The words that an instruction has changed: each as ` buf[2]=3`, or as ` w5=3` with the word's number where it has no name.
+/// The words that an instruction has changed.
 #[derive(Clone, Copy)]
 pub(crate) struct Written<'a> {
     pub(crate) before: &'a Workspace,
     pub(crate) after: &'a Workspace,
-    pub(crate) source: SourceText<'a>,
+    pub(crate) style: Style<'a>,
+}
+
+/// A word of the workspace and its value: ` buf[2]=3`, or ` w5=3` with the word's number where it has no name.
+#[derive(Clone, Copy)]
+struct Valued<'a> {
+    word: usize,
+    value: Value<'a>,
+}
+
+impl fmt::Display for Valued<'_> {
+    fn fmt<W: fmt::Write>(&self, f: &mut fmt::Formatter<W>) -> fmt::Result {
+        let word = self.word;
+        let value = self.value;
+        match value.style.source.named(word) {
+            Some(named) => {
+                let name = named.of(word);
+                write!(f, " {name}={value}")
+            }
+            None => write!(f, " w{word}={value}"),
+        }
+    }
+}
+
+/// The words of a workspace that are defined and are not 0.
+#[derive(Clone, Copy)]
+pub(crate) struct Values<'a> {
+    pub(crate) workspace: &'a Workspace,
+    pub(crate) style: Style<'a>,
+}
+
+impl fmt::Display for Values<'_> {
+    fn fmt<W: fmt::Write>(&self, f: &mut fmt::Formatter<W>) -> fmt::Result {
+        let style = self.style;
+        let workspace = self.workspace;
+        for (word, value) in workspace.words.iter().enumerate() {
+            if value.is_some_and(|number| number != 0) {
+                let value = Value {
+                    word: *value,
+                    style,
+                };
+                let valued = Valued { word, value };
+                write!(f, "{valued}")?;
+            }
+        }
+        Ok(())
+    }
 }
 
 impl Written<'_> {
@@ -72,15 +118,10 @@ impl fmt::Display for Written<'_> {
             if *old != *new {
                 let value = Value {
                     word: *new,
-                    source: self.source,
+                    style: self.style,
                 };
-                match self.source.named(i) {
-                    Some(named) => {
-                        let name = named.of(i);
-                        write!(f, " {name}={value}")?;
-                    }
-                    None => write!(f, " w{i}={value}")?,
-                }
+                let valued = Valued { word: i, value };
+                write!(f, "{valued}")?;
             }
         }
         Ok(())

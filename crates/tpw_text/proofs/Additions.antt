@@ -29,12 +29,14 @@ use Rattle.tpw_text.specs.Limits.{most_words}
 use Rattle.tpw_text.specs.Statements.{within}
 use Rattle.tpw_text.specs.Consts.{with_values}
 use Rattle.tpw_text.specs.Faults.{fault_at}
-use Rattle.tpw_text.specs.Drafts.{Said, is_full, place_named, local_named, const_named, is_taken, pushed, locals_named, label_set, const_set, start_set, room_for_loop, local_said}
+use Rattle.tpw_text.specs.Drafts.{Said, is_full, place_named, local_named, const_named, is_taken, pushed, locals_named, label_set, const_set, room_for_loop, local_said}
+use Rattle.tpw_text.specs.Fields.{version_set, workspace_set, start_set, packet_set, results_set}
 use Rattle.tpw_text.specs.Words.{position_of}
+use Rattle.tp_image.specs.declared.image.Version.{Version}
 use Rattle.tpw_text.specs.Grammar.{StatementSaid, statement_said, SaysNothing, SetsPacket, SetsResults, SetsStart, SetsWorkspace, SetsVersion, NamesConst, NamesLocals, SetsInitial, SetsLocal, AddsLines, AddsInstruction, AddsMessage, AddsAccess, BeginsLoop, EndsLoop, AddsRow}
-use Rattle.tpw_text.specs.Meaning.{in_turn, initial_added, initials_added, no_value, local_initials_added, lines_pushed, operand_with, local_instr_added, instruction_added, message_lines, message_added, access_lines, access_added, loop_begins, begun, loop_begun, loop_ends, row_of, with_row, row_added, innermost, inner_ended, loop_named, loop_ended, added, statement_with, unlabelled, labelled, is_colon, line_said}
+use Rattle.tpw_text.specs.Meaning.{in_turn, initial_added, initials_added, no_value, local_initials_added, lines_pushed, operand_with, local_instr_added, instruction_added, message_lines, message_read, message_added, access_lines, access_added, loop_begins, begun, loop_begun, loop_ends, row_of, with_row, row_added, innermost, inner_ended, loop_named, loop_ended, added, statement_with, unlabelled, labelled, is_colon, line_said}
 use Rattle.tpw_text.specs.Apart.{word_apart, line_apart, label_apart, local_apart, const_apart, row_apart, begun_apart, draft_apart}
-use Rattle.tpw_text.proofs.Apart.{kept, then_kept, then_in, if_kept, ok_or_kept, numbered, initial_apart, offset_apart, local_instr_apart, instruction_apart, element_apart, new_loop_apart, statement_apart, a_statement}
+use Rattle.tpw_text.proofs.Apart.{kept, then_kept, then_in, if_kept, named, ok_or_kept, numbered, initial_apart, offset_apart, local_instr_apart, instruction_apart, element_apart, new_loop_apart, statement_apart, a_statement}
 use Rattle.tpw_text.proofs.Constants.{constant, values}
 
 -- what is found by a text
@@ -114,9 +116,25 @@ a_const_set w v d =
     (if_kept _ (is_taken w d) _ _ refl (if_kept _ (is_full d.consts) _ _ refl
     (one_more const_apart (λ cs. record (draft_apart d) { consts = cs }) d.consts (record { word = w; value = v }))))
 
+a_version_set : (w : Word) (n : Version) (d : Said) → version_set (word_apart w) n (draft_apart d) ≡ kept draft_apart (version_set w n d)
+unfolding version_set
+a_version_set w n d = if_kept _ d.settled.version _ _ refl refl
+
+a_workspace_set : (w : Word) (n : ℕ) (d : Said) → workspace_set (word_apart w) n (draft_apart d) ≡ kept draft_apart (workspace_set w n d)
+unfolding workspace_set
+a_workspace_set w n d = if_kept _ d.settled.workspace _ _ refl refl
+
 a_start_set : (w : Word) (n : ℕ) (d : Said) → start_set (word_apart w) n (draft_apart d) ≡ kept draft_apart (start_set w n d)
 unfolding start_set
-a_start_set w n d = if_kept _ d.start_used _ _ refl refl
+a_start_set w n d = if_kept _ d.settled.start _ _ refl refl
+
+a_packet_set : (w : Word) (n : ℕ) (d : Said) → packet_set (word_apart w) n (draft_apart d) ≡ kept draft_apart (packet_set w n d)
+unfolding packet_set
+a_packet_set w n d = if_kept _ d.settled.packet _ _ refl refl
+
+a_results_set : (w : Word) (n : ℕ) (d : Said) → results_set (word_apart w) n (draft_apart d) ≡ kept draft_apart (results_set w n d)
+unfolding results_set
+a_results_set w n d = if_kept _ d.settled.results _ _ refl refl
 
 -- one after another
 turns : {A A' : Type 0} (add : A → Said → Result Said SourceFault) (add' : A' → Said → Result Said SourceFault) {view : A → A'}
@@ -145,7 +163,7 @@ local_initials : (name : Word) (values : List InitialWord) (d : Said) → local_
 unfolding local_initials_added
 local_initials name values d =
     then_kept _ _ _ _ (local_is d.locals name) (λ n. then_in _ _ _ _ (ap no_value (slice_get-map initial_apart values n.words) ∙ beyond (slice_get values n.words)) (λ fits.
-    then_in _ (within name most_words (d.start + n.first)) _ _ refl (λ first. initials name first values (record d { start_used = true }))))
+    then_in _ (within name most_words (d.start + n.first)) _ _ refl (λ first. initials name first values (record d { settled = record d.settled { start = true } }))))
 
 operand : (o : Option Offset) (n : LocalName) → operand_with (offset_apart o) (local_apart n) ≡ operand_with o n
 operand (Some o) n = refl
@@ -164,9 +182,9 @@ a_message : (w : Word) (m : Message) (name : Word) (d : Said) → message_added 
 unfolding message_added
 a_message w m name d = then_kept _ _ _ _ (local_is d.locals name) (λ n. by m n.first)
   where
-    by : (m : Message) (n : ℕ) → lines_pushed (word_apart w) (message_lines m (draft_apart d) n) (draft_apart d) ≡ kept draft_apart (lines_pushed w (message_lines m d n) d)
-    by Receive n = all_pushed w (message_lines Receive d n) d
-    by Send n = all_pushed w (message_lines Send d n) d
+    by : (m : Message) (n : ℕ) → lines_pushed (word_apart w) (message_lines m (draft_apart d) n) (message_read m (draft_apart d)) ≡ kept draft_apart (lines_pushed w (message_lines m d n) (message_read m d))
+    by Receive n = all_pushed w (message_lines Receive d n) (message_read Receive d)
+    by Send n = all_pushed w (message_lines Send d n) (message_read Send d)
     by Trace n = all_pushed w (message_lines Trace d n) d
 
 an_access : (w : Word) (a : Access) (e : Element) (d : Said) → access_added (word_apart w) a (element_apart e) (draft_apart d) ≡ kept draft_apart (access_added w a e d)
@@ -220,11 +238,11 @@ a_loop_ended w name d =
 an_addition : (s : StatementSaid) (d : Said) → added (statement_apart s) (draft_apart d) ≡ kept draft_apart (added s d)
 unfolding added
 an_addition SaysNothing d = refl
-an_addition (SetsPacket n) d = refl
-an_addition (SetsResults n) d = refl
+an_addition (SetsPacket word n) d = a_packet_set word n d
+an_addition (SetsResults word n) d = a_results_set word n d
 an_addition (SetsStart word n) d = a_start_set word n d
-an_addition (SetsWorkspace n) d = refl
-an_addition (SetsVersion v) d = refl
+an_addition (SetsWorkspace word n) d = a_workspace_set word n d
+an_addition (SetsVersion word v) d = a_version_set word v d
 an_addition (NamesConst name value) d = a_const_set name value d
 an_addition (NamesLocals locals) d = turns _ _ (λ (l : NewLocal) e. names_set l.name l.size e) locals d
 an_addition (SetsInitial at first values) d = initials at first values d
@@ -245,7 +263,8 @@ without_label : (ws : List Word) (d : Said) → unlabelled (map word_apart ws) (
 without_label ws d = then_kept _ _ _ _ (a_statement_with ws d) (λ s. an_addition s d)
 
 with_label : (label : Word) (ws : List Word) (d : Said) → labelled (word_apart label) (map word_apart ws) (draft_apart d) ≡ kept draft_apart (labelled label ws d)
-with_label label ws d = then_kept _ _ _ _ (a_statement_with ws d) (λ s. then_kept _ _ _ _ (a_label_set label d) (λ e. an_addition s e))
+with_label word ws d =
+    then_kept _ _ _ _ (named word) (λ label. then_kept _ _ _ _ (a_statement_with ws d) (λ s. then_kept _ _ _ _ (a_label_set label d) (λ e. an_addition s e)))
 
 -- a line
 pub a_line : (ws : List Word) (d : Said) → line_said (map word_apart ws) (draft_apart d) ≡ kept draft_apart (line_said ws d)

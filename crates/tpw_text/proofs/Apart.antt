@@ -23,9 +23,9 @@ use Rattle.tpw_text.specs.declared.statement.Instruction.TheVariants.{Line, OfLo
 use Rattle.tpw_text.specs.declared.statement.Element.{Element}
 use Rattle.tpw_text.specs.Faults.{fault_at, then_read, each_read}
 use Rattle.tpw_text.specs.Numbers.{begins_number}
-use Rattle.tpw_text.specs.Statements.{word_said, number_read, count_read, nothing_at, end_said, one_number_said, expect_said, target_said}
-use Rattle.tpw_text.specs.Lists.{Part, is_comma, onto_part, parts, no_word, no_more_said, one_word_said, initial_word_said, byte_line_said, size_said, is_bracket, new_local_said, list_said}
-use Rattle.tpw_text.specs.Grammar.{StatementSaid, SaysNothing, SetsPacket, SetsResults, SetsStart, SetsWorkspace, SetsVersion, NamesConst, NamesLocals, SetsInitial, SetsLocal, AddsLines, AddsInstruction, AddsMessage, AddsAccess, BeginsLoop, EndsLoop, AddsRow, is_word, is_word_here, version_said, is_no_name, const_said, values_said, initial_at, initial_of, initial_said, one_name_said, element_said, new_loop_said, row_said, length_at, length_said, plain_line, number_line, offset_at, offset_said, label_line, distance_said, number_said, local_instr_said, operand_said, with_operand_said, operation_said, of_operation, of_function, instruction_said, keyword_said, of_keyword, statement_said}
+use Rattle.tpw_text.specs.Statements.{word_said, is_no_name, name_said, number_read, count_read, nothing_at, end_said, one_number_said, expect_said, target_said}
+use Rattle.tpw_text.specs.Lists.{Part, is_comma, onto_part, parts, no_word, no_more_said, one_word_said, initial_word_said, byte_line_said, some_words, size_said, new_local_said, list_said}
+use Rattle.tpw_text.specs.Grammar.{StatementSaid, SaysNothing, SetsPacket, SetsResults, SetsStart, SetsWorkspace, SetsVersion, NamesConst, NamesLocals, SetsInitial, SetsLocal, AddsLines, AddsInstruction, AddsMessage, AddsAccess, BeginsLoop, EndsLoop, AddsRow, is_word, is_word_here, version_said, const_said, values_said, initial_at, initial_of, initial_said, one_name_said, element_said, new_loop_said, row_said, length_at, length_said, plain_line, number_line, offset_at, offset_said, label_line, distance_said, number_said, local_instr_said, operand_said, with_operand_said, operation_said, of_operation, of_function, instruction_said, keyword_said, of_keyword, statement_said}
 use Rattle.tpw_text.specs.Apart.{word_apart, line_apart, target_apart, row_apart}
 
 -- what is read, by another view
@@ -122,6 +122,9 @@ count : (most : ℕ) (w : Word) → count_read most (word_apart w) ≡ count_rea
 unfolding number_read count_read
 count most w = refl
 
+pub named : (w : Word) → name_said (word_apart w) ≡ kept word_apart (name_said w)
+named w = if_kept word_apart (is_no_name w.text.now) _ _ refl refl
+
 target : (w : Word) → target_said (word_apart w) ≡ kept target_apart (target_said w)
 unfolding target_said
 target w = if_kept _ (begins_number w.text.now) _ _ (then_in _ _ _ _ (count _ w) (λ n. refl)) refl
@@ -179,14 +182,14 @@ unfolding size_said
 size name ws =
     rw (length-map ws word_apart)
     (if_same (nat_le (length ws) 1) refl
-    (then_over _ _ _ (expected ws 1 name _) (λ _. then_over _ _ _ (said ws 2 name) (λ w. then_same _ _ _ (count _ w) (λ n. then_over _ _ _ (expected ws 3 w _) (λ _. then_same _ _ _ (no_more ws 4) (λ _. refl)))))))
+    (then_over _ _ _ (expected ws 1 name _) (λ _. then_over _ _ _ (said ws 2 name) (λ w. then_same _ _ _ (count _ w) (λ n. then_same (some_words w n) _ _ refl (λ m. then_over _ _ _ (expected ws 3 w _) (λ _. then_same _ _ _ (no_more ws 4) (λ _. refl))))))))
 
 abbrev pub new_local_apart : NewLocal → NewLocal
 new_local_apart l = record l { name = word_apart l.name }
 
 new_local : (p : Part) → new_local_said (part_apart p) ≡ kept new_local_apart (new_local_said p)
 unfolding new_local_said
-new_local p = then_kept _ _ _ _ (said p.words 0 p.behind) (λ name. if_kept _ (is_bracket name) _ _ refl (then_in _ _ _ _ (size name p.words) (λ n. refl)))
+new_local p = then_kept _ _ _ _ (said p.words 0 p.behind) (λ word. then_kept _ _ _ _ (named word) (λ name. then_in _ _ _ _ (size name p.words) (λ n. refl)))
 
 -- ---- statements
 abbrev pub offset_apart : Option Offset → Option Offset
@@ -208,11 +211,11 @@ new_loop_apart l = record l { word = word_apart l.word; name = word_apart l.name
 
 abbrev pub statement_apart : StatementSaid → StatementSaid
 statement_apart SaysNothing = SaysNothing
-statement_apart (SetsPacket n) = SetsPacket n
-statement_apart (SetsResults n) = SetsResults n
+statement_apart (SetsPacket word n) = SetsPacket (word_apart word) n
+statement_apart (SetsResults word n) = SetsResults (word_apart word) n
 statement_apart (SetsStart word n) = SetsStart (word_apart word) n
-statement_apart (SetsWorkspace n) = SetsWorkspace n
-statement_apart (SetsVersion v) = SetsVersion v
+statement_apart (SetsWorkspace word n) = SetsWorkspace (word_apart word) n
+statement_apart (SetsVersion word v) = SetsVersion (word_apart word) v
 statement_apart (NamesConst name value) = NamesConst (word_apart name) (word_apart value)
 statement_apart (NamesLocals locals) = NamesLocals (map new_local_apart locals)
 statement_apart (SetsInitial at first values) = SetsInitial (word_apart at) first (map initial_apart values)
@@ -233,7 +236,7 @@ module _ (ws : List Word) (first : Word) where
   constant : const_said (map word_apart ws) (word_apart first) ≡ kept statement_apart (const_said ws first)
   unfolding const_said
   constant =
-      then_kept _ _ _ _ (said ws 1 first) (λ word. then_kept {f = word_apart} _ _ _ _ (if_kept word_apart (is_no_name word.text.now) _ _ refl refl) (λ name. then_kept _ _ _ _ (expected ws 2 name _) (λ equals.
+      then_kept _ _ _ _ (said ws 1 first) (λ word. then_kept _ _ _ _ (named word) (λ name. then_kept _ _ _ _ (expected ws 2 name _) (λ equals.
       then_kept _ _ _ _ (said ws 3 equals) (λ value. then_in _ _ _ _ (number value) (λ n. then_in _ _ _ _ (ended ws 4) (λ _. refl))))))
 
   values : (at : Word) → values_said (map word_apart ws) (word_apart at) ≡ kept (map initial_apart) (values_said ws at)
@@ -267,8 +270,8 @@ module _ (ws : List Word) (first : Word) where
   new_loop : new_loop_said (map word_apart ws) (word_apart first) ≡ kept new_loop_apart (new_loop_said ws first)
   unfolding new_loop_said
   new_loop =
-      then_kept _ _ _ _ (said ws 1 first) (λ name. then_kept _ _ _ _ (expected ws 2 name _) (λ _. then_kept _ _ _ _ (said ws 3 name) (λ from. then_in _ _ _ _ (number from) (λ start.
-      then_kept _ _ _ _ (expected ws 4 name _) (λ _. then_kept _ _ _ _ (said ws 5 name) (λ turns. then_in _ _ _ _ (count _ turns) (λ n. then_in _ _ _ _ (ended ws 6) (λ _. refl))))))))
+      then_kept _ _ _ _ (said ws 1 first) (λ word. then_kept _ _ _ _ (named word) (λ name. then_kept _ _ _ _ (expected ws 2 name _) (λ _. then_kept _ _ _ _ (said ws 3 name) (λ from. then_in _ _ _ _ (number from) (λ start.
+      then_kept _ _ _ _ (expected ws 4 name _) (λ _. then_kept _ _ _ _ (said ws 5 name) (λ turns. then_in _ _ _ _ (count _ turns) (λ n. then_in _ _ _ _ (ended ws 6) (λ _. refl)))))))))
 
   row : row_said (map word_apart ws) (word_apart first) ≡ kept row_apart (row_said ws first)
   unfolding row_said

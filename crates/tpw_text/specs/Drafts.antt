@@ -9,8 +9,9 @@ use Rattle.tp_image.specs.Limits.{most_loops}
 use Rattle.tpw_text.specs.declared.words.Position.{Position}
 use Rattle.tpw_text.specs.declared.words.Word.{Word}
 use Rattle.tpw_text.specs.declared.fault.SourceFault.{SourceFault}
-use Rattle.tpw_text.specs.declared.fault.TextFault.TheVariants.{Twice, TooMany, TooManyLoops, NoLocal, StartBelow}
+use Rattle.tpw_text.specs.declared.fault.TextFault.TheVariants.{Twice, TooMany, TooManyLoops, NoLocal}
 use Rattle.tpw_text.specs.declared.draft.Draft.{Draft}
+use Rattle.tpw_text.specs.declared.draft.Settled.{Settled}
 use Rattle.tpw_text.specs.declared.draft.DraftLine.{DraftLine}
 use Rattle.tpw_text.specs.declared.draft.LabelName.{LabelName}
 use Rattle.tpw_text.specs.declared.draft.LocalName.{LocalName}
@@ -23,12 +24,12 @@ use Rattle.tpw_text.specs.Words.{position_of}
 
 -- the fields of a program, its lines with labels as they stand and where the word stands that asks for each, the names
 -- so far, the constants, and
--- the loops that have no end yet. The first Wptr is used where initial words of a local have taken it
+-- the loops that have no end yet. A field is settled where it was said, or a statement has read it
 pub record Said : Type 0 where
   pub version : Version
   pub workspace : Option ℕ
   pub start : ℕ
-  pub start_used : Bool
+  pub settled : Settled
   pub packet : ℕ
   pub results : ℕ
   pub initial : List ℕ
@@ -47,7 +48,7 @@ said d = record {
   version = d.version;
   workspace = d.workspace;
   start = d.start;
-  start_used = d.start_used;
+  settled = d.settled;
   packet = d.packet;
   results = d.results;
   initial = d.initial.items;
@@ -67,7 +68,7 @@ empty = record {
   version = One;
   workspace = None;
   start = 5;
-  start_used = false;
+  settled = record { version = false; workspace = false; start = false; packet = false; results = false };
   packet = 1;
   results = 1;
   initial = [];
@@ -129,10 +130,6 @@ const_set word value d =
     if is_taken word d then Err (fault_at word Twice)
     else if is_full d.consts then Err (fault_at word TooMany)
     else Ok (record d { consts = d.consts ++ (record { word = word; value = value }) ∷ [] })
-
--- the first Wptr, which stays where it is used
-unfoldable pub start_set : Word → ℕ → Said → Result Said SourceFault
-start_set word start d = if d.start_used then Err (fault_at word StartBelow) else Ok (record d { start = start })
 
 -- a loop more may stand, that a word begins: there are fewer rows, and loops that have no end yet, than an image has
 -- rows

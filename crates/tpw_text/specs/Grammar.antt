@@ -10,7 +10,7 @@ use Rattle.tpw_asm.specs.declared.program.Operation.TheVariants.{Plain}
 use Rattle.tpw_asm.specs.declared.program.Line.TheVariants.{Spelled}
 use Rattle.tpw_text.specs.declared.words.Word.{Word}
 use Rattle.tpw_text.specs.declared.fault.SourceFault.{SourceFault}
-use Rattle.tpw_text.specs.declared.fault.TextFault.TheVariants.{OutOfRange, NoLength, Unknown, LeftOut, Unexpected}
+use Rattle.tpw_text.specs.declared.fault.TextFault.TheVariants.{OutOfRange, NoLength, Unknown, LeftOut}
 use Rattle.tpw_text.specs.declared.draft.DraftLine.{DraftLine}
 use Rattle.tpw_text.specs.declared.draft.DraftLine.TheVariants.{Known, Jump, Cj, Distance}
 use Rattle.tpw_text.specs.declared.draft.Control.TheVariants as control
@@ -34,10 +34,9 @@ use Rattle.tpw_text.specs.declared.statement.Statement.TheVariants as statement
 use Rattle.tpw_text.specs.Limits.{most_count, most_words, most_bytes}
 use Rattle.tpw_text.specs.Faults.{fault_at, ◌>>=◌}
 use Rattle.tpw_text.specs.Numbers.{begins_number}
-use Rattle.tpw_text.specs.Words.{begins, is_mark}
 use Rattle.tpw_text.specs.Names.{function_named, operation_named, is_left_out}
 use Rattle.tpw_text.specs.Keywords.{keyword_named}
-use Rattle.tpw_text.specs.Statements.{word_said, expect_said, end_said, one_number_said, target_said, number_read, count_read, this_word}
+use Rattle.tpw_text.specs.Statements.{word_said, name_said, expect_said, end_said, one_number_said, target_said, number_read, count_read, this_word}
 use Rattle.tpw_text.specs.Lists.{list_said, new_local_said, initial_word_said, byte_line_said}
 
 -- what a statement says. A word is kept where the statement may still be refused at it
@@ -45,11 +44,11 @@ pub data StatementSaid : Type 0 where
   -- nothing: for readers
   SaysNothing : StatementSaid
   -- words of the packet and of the result, the first Wptr, workspace words, and the version of the image
-  SetsPacket : (words : ℕ) → StatementSaid
-  SetsResults : (words : ℕ) → StatementSaid
+  SetsPacket : (word : Word) (words : ℕ) → StatementSaid
+  SetsResults : (word : Word) (words : ℕ) → StatementSaid
   SetsStart : (word : Word) (start : ℕ) → StatementSaid
-  SetsWorkspace : (words : ℕ) → StatementSaid
-  SetsVersion : (version : Version) → StatementSaid
+  SetsWorkspace : (word : Word) (words : ℕ) → StatementSaid
+  SetsVersion : (word : Word) (version : Version) → StatementSaid
   -- a constant: its name, and the word of its value
   NamesConst : (name : Word) (value : Word) → StatementSaid
   -- names for the next local words
@@ -74,11 +73,11 @@ pub data StatementSaid : Type 0 where
 -- what a statement of the code stands for
 abbrev pub statement_kept : Statement → StatementSaid
 statement_kept statement.Nothing = SaysNothing
-statement_kept (statement.Packet n) = SetsPacket n
-statement_kept (statement.Results n) = SetsResults n
+statement_kept (statement.Packet word n) = SetsPacket word n
+statement_kept (statement.Results word n) = SetsResults word n
 statement_kept (statement.Start word n) = SetsStart word n
-statement_kept (statement.Workspace n) = SetsWorkspace n
-statement_kept (statement.Version v) = SetsVersion v
+statement_kept (statement.Workspace word n) = SetsWorkspace word n
+statement_kept (statement.Version word v) = SetsVersion word v
 statement_kept (statement.Const name value) = NamesConst name value
 statement_kept (statement.Locals locals) = NamesLocals locals.items
 statement_kept (statement.Initial at first values) = SetsInitial at first values.items
@@ -112,18 +111,11 @@ version_said words first = do
   n ← one_number_said words first 2
   version_numbered first n
 
--- a constant has no name that is a mark, or that begins as a number does
-unfoldable pub is_no_name : List ℕ → Bool
-is_no_name text = begins is_mark text || begins_number text
-
-abbrev pub const_name : Word → Result Word SourceFault
-const_name word = if is_no_name word.text.now then Err (fault_at word Unexpected) else Ok word
-
 -- const NAME = VALUE
 unfoldable pub const_said : List Word → Word → Result StatementSaid SourceFault
 const_said words first = do
   word ← word_said words 1 first
-  name ← const_name word
+  name ← name_said word
   equals ← expect_said words 2 name (codes "=")
   value ← word_said words 3 equals
   n ← number_read value
@@ -174,7 +166,8 @@ element_said words first = do
 -- for NAME = START for COUNT
 unfoldable pub new_loop_said : List Word → Word → Result NewLoop SourceFault
 new_loop_said words first = do
-  name ← word_said words 1 first
+  word ← word_said words 1 first
+  name ← name_said word
   equals ← expect_said words 2 name (codes "=")
   from ← word_said words 3 name
   start ← number_read from
@@ -311,11 +304,11 @@ instruction_said words first = of_function words first (function_named first.tex
 -- a statement of a keyword
 unfoldable pub keyword_said : Keyword → List Word → Word → Result StatementSaid SourceFault
 keyword_said keyword.Worker words first = end_said words 2 >>= λ end. Ok SaysNothing
-keyword_said keyword.Packet words first = field_said words first >>= λ n. Ok (SetsPacket n)
-keyword_said keyword.Results words first = field_said words first >>= λ n. Ok (SetsResults n)
+keyword_said keyword.Packet words first = field_said words first >>= λ n. Ok (SetsPacket first n)
+keyword_said keyword.Results words first = field_said words first >>= λ n. Ok (SetsResults first n)
 keyword_said keyword.Start words first = field_said words first >>= λ n. Ok (SetsStart first n)
-keyword_said keyword.Workspace words first = field_said words first >>= λ n. Ok (SetsWorkspace n)
-keyword_said keyword.Version words first = version_said words first >>= λ v. Ok (SetsVersion v)
+keyword_said keyword.Workspace words first = field_said words first >>= λ n. Ok (SetsWorkspace first n)
+keyword_said keyword.Version words first = version_said words first >>= λ v. Ok (SetsVersion first v)
 keyword_said keyword.Const words first = const_said words first
 keyword_said keyword.Local words first =
     list_said new_local_said first (drop 1 words) >>= λ locals. Ok (NamesLocals locals)

@@ -5,6 +5,7 @@ pub mod Numbers
 pub mod Words
 pub mod Limits
 pub mod Drafts
+pub mod Fields
 pub mod Statements
 pub mod Keywords
 pub mod Lists

@@ -1,11 +1,11 @@
 -- Lists of a statement: what commas separate.
-use Rattle.std.specs.Prelude.{ℕ, nat_le, ◌||◌, Bool, if◌then◌else◌, List, [], ◌∷◌, length, codes, Option, Some, None, Result, Ok, Err, slice_get}
+use Rattle.std.specs.Prelude.{ℕ, nat_le, ◌==◌, Bool, if◌then◌else◌, List, [], ◌∷◌, length, codes, Option, Some, None, Result, Ok, Err, slice_get}
 use Rattle.std.specs.Int.{w32, cast_unsigned}
 use Rattle.std.specs.Str.{str_eq_ignore_ascii_case}
 use Rattle.tpw_asm.specs.declared.program.Line.TheVariants.{Byte}
 use Rattle.tpw_text.specs.declared.words.Word.{Word}
 use Rattle.tpw_text.specs.declared.fault.SourceFault.{SourceFault}
-use Rattle.tpw_text.specs.declared.fault.TextFault.TheVariants.{Unexpected}
+use Rattle.tpw_text.specs.declared.fault.TextFault.TheVariants.{Unexpected, NoWords}
 use Rattle.tpw_text.specs.declared.draft.DraftLine.TheVariants.{Known}
 use Rattle.tpw_text.specs.declared.lists.Item.{Item}
 use Rattle.tpw_text.specs.declared.statement.NewLocal.{NewLocal}
@@ -13,7 +13,7 @@ use Rattle.tpw_text.specs.declared.statement.InitialWord.{InitialWord}
 use Rattle.tpw_text.specs.declared.statement.NewLine.{NewLine}
 use Rattle.tpw_text.specs.Limits.{most_words}
 use Rattle.tpw_text.specs.Faults.{fault_at, each_read, ◌>>=◌}
-use Rattle.tpw_text.specs.Statements.{word_said, expect_said, number_read, count_read}
+use Rattle.tpw_text.specs.Statements.{word_said, name_said, expect_said, number_read, count_read}
 
 -- some words, and the word behind which they stand
 pub record Part : Type 0 where
@@ -68,6 +68,10 @@ byte_line_said p = do
   n ← count_read 255 word
   Ok (record { word = word; line = Known (Byte n) })
 
+-- so many words, one at least
+abbrev pub some_words : Word → ℕ → Result ℕ SourceFault
+some_words word n = if n == 0 then Err (fault_at word NoWords) else Ok n
+
 -- [SIZE] behind a name, or 1
 unfoldable pub size_said : Word → List Word → Result ℕ SourceFault
 size_said name words =
@@ -75,22 +79,19 @@ size_said name words =
     else do
       opens ← expect_said words 1 name (codes "[")
       word ← word_said words 2 name
-      size ← count_read most_words word
+      n ← count_read most_words word
+      size ← some_words word n
       closes ← expect_said words 3 word (codes "]")
       end ← no_more_said words 4
       Ok size
 
-abbrev pub is_bracket : Word → Bool
-is_bracket word =
-    str_eq_ignore_ascii_case word.text.now (codes "[") || str_eq_ignore_ascii_case word.text.now (codes "]")
-
 -- a name of local words: NAME or NAME[SIZE]
 unfoldable pub new_local_said : Part → Result NewLocal SourceFault
 new_local_said p = do
-  name ← word_said p.words 0 p.behind
-  if is_bracket name then Err (fault_at name Unexpected) else do
-    size ← size_said name p.words
-    Ok (record { name = name; size = size })
+  word ← word_said p.words 0 p.behind
+  name ← name_said word
+  size ← size_said name p.words
+  Ok (record { name = name; size = size })
 
 -- the lists of `local`, `init` and `byte`, behind a word
 abbrev pub list_said : {A : Type 0} → (Part → Result A SourceFault) → Word → List Word → Result (List A) SourceFault

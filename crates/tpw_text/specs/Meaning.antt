@@ -7,7 +7,7 @@ use Rattle.tpw_asm.specs.declared.program.Operation.TheVariants as operation
 use Rattle.tpw_asm.specs.declared.program.Line.TheVariants.{Spelled}
 use Rattle.tpw_text.specs.declared.words.Word.{Word}
 use Rattle.tpw_text.specs.declared.fault.SourceFault.{SourceFault}
-use Rattle.tpw_text.specs.declared.fault.TextFault.TheVariants.{OutOfRange, TooMany, NoLoop, OutsideLocal}
+use Rattle.tpw_text.specs.declared.fault.TextFault.TheVariants.{InitialBelow, TooMany, NoLoop, OutsideLocal}
 use Rattle.tpw_text.specs.declared.draft.DraftLine.{DraftLine}
 use Rattle.tpw_text.specs.declared.draft.DraftLine.TheVariants.{Known}
 use Rattle.tpw_text.specs.declared.draft.Target.TheVariants.{Place}
@@ -30,9 +30,10 @@ use Rattle.tpw_text.specs.declared.statement.Access.{Access}
 use Rattle.tpw_text.specs.declared.statement.Access.TheVariants.{Load, Store}
 use Rattle.tpw_text.specs.declared.statement.Element.{Element}
 use Rattle.tpw_text.specs.Faults.{fault_at, ◌>>=◌}
-use Rattle.tpw_text.specs.Drafts.{Said, is_full, pushed, locals_named, label_set, const_set, start_set, room_for_loop, local_said}
+use Rattle.tpw_text.specs.Drafts.{Said, is_full, pushed, locals_named, label_set, const_set, room_for_loop, local_said}
+use Rattle.tpw_text.specs.Fields.{version_set, workspace_set, start_set, packet_set, results_set}
 use Rattle.tpw_text.specs.Limits.{most_words}
-use Rattle.tpw_text.specs.Statements.{within}
+use Rattle.tpw_text.specs.Statements.{within, name_said}
 use Rattle.tpw_text.specs.Consts.{with_values}
 use Rattle.tpw_text.specs.Grammar.{StatementSaid, SaysNothing, SetsPacket, SetsResults, SetsStart, SetsWorkspace, SetsVersion, NamesConst, NamesLocals, SetsInitial, SetsLocal, AddsLines, AddsInstruction, AddsMessage, AddsAccess, BeginsLoop, EndsLoop, AddsRow, number_line, statement_said}
 
@@ -54,7 +55,7 @@ initial_added v d =
 -- initial words from a place on that is not before the end of those so far. Words between have the value 0
 unfoldable pub initials_added : Word → ℕ → List InitialWord → Said → Result Said SourceFault
 initials_added at first values d =
-    if nat_lt first (length d.initial) then Err (fault_at at OutOfRange)
+    if nat_lt first (length d.initial) then Err (fault_at at InitialBelow)
     else in_turn initial_added values (record d { initial = d.initial ++ replicate (first - length d.initial) 0 })
 
 -- a value beyond the words of a local is a fault
@@ -62,14 +63,14 @@ abbrev pub no_value : Option InitialWord → Result (Unit {0}) SourceFault
 no_value None = Ok tt
 no_value (Some v) = Err (fault_at v.word OutsideLocal)
 
--- initial words of a local: no more than it has, from the first Wptr and the local's first word on. They use the first
+-- initial words of a local: no more than it has, from the first Wptr and the local's first word on. They read the first
 -- Wptr
 unfoldable pub local_initials_added : Word → List InitialWord → Said → Result Said SourceFault
 local_initials_added name values d = do
   local ← local_said d.locals name
   fits ← no_value (slice_get values local.words)
   first ← within name most_words (d.start + local.first)
-  initials_added name first values (record d { start_used = true })
+  initials_added name first values (record d { settled = record d.settled { start = true } })
 
 -- a line that a word asks for, and lines that one word asks for
 abbrev pub line_added : NewLine → Said → Result Said SourceFault
@@ -113,10 +114,16 @@ message_lines Send d local =
 message_lines Trace d local =
     plain (Ldlp (pos local)) ∷ plain Mint ∷ plain (Ldnlp (pos 1)) ∷ plain (Ldc (pos 4)) ∷ plain Output ∷ []
 
+-- the words of the packet or of the result are read, and stay
+abbrev pub message_read : Message → Said → Said
+message_read Receive d = record d { settled = record d.settled { packet = true } }
+message_read Send d = record d { settled = record d.settled { results = true } }
+message_read Trace d = d
+
 unfoldable pub message_added : Word → Message → Word → Said → Result Said SourceFault
 message_added word message name d = do
   local ← local_said d.locals name
-  lines_pushed word (message_lines message d local.first) d
+  lines_pushed word (message_lines message d local.first) (message_read message d)
 
 -- what is done at the address of a word
 abbrev pub accessing : Access → Instr
@@ -191,11 +198,11 @@ loop_ended word name d = do
 -- what a statement adds to a draft
 unfoldable pub added : StatementSaid → Said → Result Said SourceFault
 added SaysNothing d = Ok d
-added (SetsPacket n) d = Ok (record d { packet = n })
-added (SetsResults n) d = Ok (record d { results = n })
+added (SetsPacket word n) d = packet_set word n d
+added (SetsResults word n) d = results_set word n d
 added (SetsStart word n) d = start_set word n d
-added (SetsWorkspace n) d = Ok (record d { workspace = Some n })
-added (SetsVersion v) d = Ok (record d { version = v })
+added (SetsWorkspace word n) d = workspace_set word n d
+added (SetsVersion word v) d = version_set word v d
 added (NamesConst name value) d = const_set name value d
 added (NamesLocals locals) d = in_turn local_added locals d
 added (SetsInitial at first values) d = initials_added at first values d
@@ -217,7 +224,8 @@ abbrev pub unlabelled : List Word → Said → Result Said SourceFault
 unlabelled words d = statement_with d.consts words >>= λ s. added s d
 
 abbrev pub labelled : Word → List Word → Said → Result Said SourceFault
-labelled label words d = do
+labelled word words d = do
+  label ← name_said word
   s ← statement_with d.consts words
   e ← label_set label d
   added s e

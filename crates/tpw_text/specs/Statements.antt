@@ -1,20 +1,28 @@
 -- What the words of a statement are, and what is read of them.
-use Rattle.std.specs.Prelude.{ℕ, nat_le, ℤ, if◌then◌else◌, List, Option, Some, None, Result, Ok, Err, slice_get}
+use Rattle.std.specs.Prelude.{ℕ, nat_le, ℤ, ◌||◌, Bool, if◌then◌else◌, List, Option, Some, None, Result, Ok, Err, slice_get}
 use Rattle.std.specs.Int.{w32, cast_unsigned}
 use Rattle.std.specs.Option.{ok_or}
 use Rattle.std.specs.Str.{str_eq_ignore_ascii_case}
 use Rattle.tpw_text.specs.declared.words.Word.{Word}
 use Rattle.tpw_text.specs.declared.fault.SourceFault.{SourceFault}
-use Rattle.tpw_text.specs.declared.fault.TextFault.TheVariants.{Missing, Extra, Unexpected, NoNumber, OutOfRange}
+use Rattle.tpw_text.specs.declared.fault.TextFault.TheVariants.{Missing, Extra, Unexpected, NoName, NoNumber, OutOfRange}
 use Rattle.tpw_text.specs.Faults.{fault_at, then_read}
 use Rattle.tpw_text.specs.declared.draft.Target.{Target}
 use Rattle.tpw_text.specs.declared.draft.Target.TheVariants.{Label, Address}
 use Rattle.tpw_text.specs.Limits.{most_count}
 use Rattle.tpw_text.specs.Numbers.{signed_said, begins_number}
+use Rattle.tpw_text.specs.Words.{begins, is_mark}
 
 -- the word of a number, behind another
 unfoldable pub word_said : List Word → ℕ → Word → Result Word SourceFault
 word_said words i behind = ok_or (slice_get words i) (fault_at behind Missing)
+
+-- a name is no mark, and does not begin as a number does
+unfoldable pub is_no_name : List ℕ → Bool
+is_no_name text = begins is_mark text || begins_number text
+
+abbrev pub name_said : Word → Result Word SourceFault
+name_said word = if is_no_name word.text.now then Err (fault_at word NoName) else Ok word
 
 -- a word that has to be this one
 abbrev pub this_word : Word → List ℕ → Result Word SourceFault

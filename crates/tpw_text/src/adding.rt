@@ -133,7 +133,7 @@ impl<'a> Draft<'a> {
     {
         let first = usize::from(first);
         if first < self.initial.len() {
-            return Err(at.fault(TextFault::OutOfRange));
+            return Err(at.fault(TextFault::InitialBelow));
         }
         self.initial.resize(first, 0)?;
         self.add_each_initial(values)
@@ -155,7 +155,7 @@ impl<'a> Draft<'a> {
         if first > u32::from(MOST_WORDS) {
             return Err(name.fault(TextFault::OutOfRange));
         }
-        self.start_used = true;
+        self.settled.start = true;
         self.add_initials(name, first as u16, values)
     }
 
@@ -210,10 +210,12 @@ impl<'a> Draft<'a> {
             Message::Receive => {
                 let link = plain(Instr::Ldnlp(4));
                 let bytes = plain(Instr::Ldc(4 * i32::from(self.packet)));
+                self.settled.packet = true;
                 self.push_all(word, &[local, mint, link, bytes, plain(Instr::Input)])
             }
             Message::Send => {
                 let bytes = plain(Instr::Ldc(4 * i32::from(self.results)));
+                self.settled.results = true;
                 self.push_all(word, &[local, mint, bytes, plain(Instr::Output)])
             }
             Message::Trace => {
@@ -330,11 +332,11 @@ impl<'a> Draft<'a> {
     {
         match statement {
             Statement::Nothing => {}
-            Statement::Packet(words) => self.packet = *words,
-            Statement::Results(words) => self.results = *words,
+            Statement::Packet(word, words) => return self.set_packet(word, *words),
+            Statement::Results(word, words) => return self.set_results(word, *words),
             Statement::Start(word, start) => return self.set_start(word, *start),
-            Statement::Workspace(words) => self.workspace = Some(*words),
-            Statement::Version(version) => self.version = *version,
+            Statement::Workspace(word, words) => return self.set_workspace(word, *words),
+            Statement::Version(word, version) => return self.set_version(word, *version),
             Statement::Const(name, value) => return self.set_const(name, value),
             Statement::Locals(locals) => return self.add_locals(locals),
             Statement::Initial(at, first, values) => return self.add_initials(at, *first, values),

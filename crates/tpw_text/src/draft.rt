@@ -2,7 +2,7 @@
 
 ghost use Rattle.std.specs.Prelude.{◌≡◌, ◌≤◌, OnOk, OnErr, IfOk, IfErr, Ok, true, []};
 ghost use Rattle.tpw_text.specs.Faults.{IsRefusal};
-ghost use Rattle.tpw_text.specs.Drafts.{said, empty, is_full, place_named, local_named, const_named, is_taken, local_said, pushed, locals_named, label_set, const_set, start_set, room_for_loop};
+ghost use Rattle.tpw_text.specs.Drafts.{said, empty, is_full, place_named, local_named, const_named, is_taken, local_said, pushed, locals_named, label_set, const_set, room_for_loop};
 
 use crate::fault::{SourceFault, TextFault};
 use crate::words::{Position, Word};
@@ -85,14 +85,23 @@ pub struct Begun<'a> {
     pub start: i32,
 }
 
+/// Which fields of the image are settled: said, or read by a statement, and so no statement may say them any more.
+#[derive(Clone, Copy)]
+pub struct Settled {
+    pub version: bool,
+    pub workspace: bool,
+    pub start: bool,
+    pub packet: bool,
+    pub results: bool,
+}
+
 /// What is read so far.
 #[derive(Drop)]
 pub struct Draft<'a> {
     pub version: Version,
     pub workspace: Option<u16>,
     pub start: u16,
-    /// Whether initial words of a local have taken `start`.
-    pub start_used: bool,
+    pub settled: Settled,
     pub packet: u16,
     pub results: u16,
     pub initial: Vec<u32>,
@@ -149,7 +158,13 @@ impl<'a> Draft<'a> {
             version: Version::One,
             workspace: None,
             start: 5,
-            start_used: false,
+            settled: Settled {
+                version: false,
+                workspace: false,
+                start: false,
+                packet: false,
+                results: false,
+            },
             packet: 1,
             results: 1,
             initial: Vec::new(alloc),
@@ -252,20 +267,6 @@ impl<'a> Draft<'a> {
             word: *word,
             value: *value,
         })?;
-        Ok(())
-    }
-
-    /// Sets the first Wptr, where it is not used.
-    #[tactic(auto, unfolding(crate::specs::Drafts::start_set))]
-    pub fn set_start(&mut self, word: &Word<'_>, start: u16) -> Result<(), SourceFault>
-        ensures said { OnOk result (start_set word.now start (said self.old) ≡ Ok (said self.new)) }
-        ensures refused { IfErr result (IsRefusal (start_set word.now start (said self.old))) }
-        ensures kept { OnErr result (self.new ≡ self.old) }
-    {
-        if self.start_used {
-            return Err(word.fault(TextFault::StartBelow));
-        }
-        self.start = start;
         Ok(())
     }
 

@@ -29,8 +29,14 @@ pub enum TextFault {
     NoLocal,
     #[error("the local of this name has fewer words")]
     OutsideLocal,
-    #[error("start comes above each init by the name of a local")]
-    StartBelow,
+    #[error("it is said once, and above what reads it")]
+    Settled,
+    #[error("a name is wanted here: no mark, and not as a number begins")]
+    NoName,
+    #[error("a local has at least one word")]
+    NoWords,
+    #[error("initial words rise: those above reach beyond this word")]
+    InitialBelow,
     #[error("the workspace that is stated has no room for this local")]
     NoRoom,
     #[error("no label has this name")]

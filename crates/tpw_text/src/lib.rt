@@ -5,6 +5,7 @@ mod adding;
 mod consts;
 mod draft;
 mod fault;
+mod fields;
 mod finish;
 mod instructions;
 mod keyword;

@@ -8,7 +8,7 @@ use crate::draft::{DraftLine, MOST_WORDS};
 use crate::fault::{SourceFault, TextFault};
 use crate::number::{count_of, number_of};
 use crate::statement::{InitialWord, NewLine, NewLocal};
-use crate::wanted::{expect, word_at};
+use crate::wanted::{expect, name_of, word_at};
 use crate::words::Word;
 use std::alloc::{AllocError, Global};
 use tpw_asm::Line;
@@ -119,6 +119,9 @@ fn size_of<'a>(name: &Word<'a>, words: &[Word<'a>]) -> Result<u16, SourceFault>
     expect(words, 1, name, "[")?;
     let word = word_at(words, 2, name)?;
     let size = count_of(&word, u32::from(MOST_WORDS))? as u16;
+    if size == 0 {
+        return Err(word.fault(TextFault::NoWords));
+    }
     expect(words, 3, &word, "]")?;
     expect_no_more(words, 4)?;
     Ok(size)
@@ -130,10 +133,7 @@ impl<'a> ListItem<'a> for NewLocal<'a> {
 
     #[tactic(auto, unfolding(crate::specs::Lists::new_local_said))]
     fn read(item: &Item<'_, 'a>) -> Result<NewLocal<'a>, SourceFault> {
-        let name = word_at(item.words, 0, &item.behind)?;
-        if name.is("[") || name.is("]") {
-            return Err(name.fault(TextFault::Unexpected));
-        }
+        let name = name_of(&word_at(item.words, 0, &item.behind)?)?;
         let size = size_of(&name, item.words)?;
         Ok(NewLocal { name, size })
     }

@@ -15,6 +15,7 @@ use crate::fault::SourceFault;
 use crate::finish::{Source, finish};
 use crate::statement::Statement;
 use crate::statements::read_statement;
+use crate::wanted::name_of;
 use crate::words::{Word, words_of};
 use std::alloc::Global;
 
@@ -43,9 +44,10 @@ fn read_line<'a>(
     ensures refused { IfErr result (IsRefusal (line_said words.now (said draft.old))) }
 {
     match words {
-        [label, mark, rest @ ..] if mark.is(":") => {
+        [word, mark, rest @ ..] if mark.is(":") => {
+            let label = name_of(word)?;
             let statement = read_with(alloc, &draft.consts, rest)?;
-            draft.set_label(label)?;
+            draft.set_label(&label)?;
             draft.add(&statement)
         }
         _ => {

@@ -86,12 +86,12 @@ pub struct NewLoop<'a> {
 pub enum Statement<'a> {
     /// Nothing: for readers.
     Nothing,
-    Packet(u16),
-    Results(u16),
-    /// The first Wptr, and the word that begins the statement.
+    /// A field of the image: the word that begins the statement, and its value.
+    Packet(Word<'a>, u16),
+    Results(Word<'a>, u16),
     Start(Word<'a>, u16),
-    Workspace(u16),
-    Version(Version),
+    Workspace(Word<'a>, u16),
+    Version(Word<'a>, Version),
     /// A constant: its name, and the word of its value.
     Const(Word<'a>, Word<'a>),
     Locals(Vec<NewLocal<'a>>),

@@ -2,7 +2,7 @@
 
 ghost use Rattle.std.specs.Prelude.{◌≡◌, ◌≤◌, IfOk, IfErr};
 ghost use Rattle.tpw_text.specs.Faults.{IsRefusal};
-ghost use Rattle.tpw_text.specs.Grammar.{statement_kept, field_said, version_said, is_no_name, const_said, values_said, initial_at, initial_of, initial_said, one_name_said, element_said, new_loop_said, row_said, keyword_said, statement_said};
+ghost use Rattle.tpw_text.specs.Grammar.{statement_kept, field_said, version_said, const_said, values_said, initial_at, initial_of, initial_said, one_name_said, element_said, new_loop_said, row_said, keyword_said, statement_said};
 
 use crate::draft::{Control, MOST_WORDS, Row};
 use crate::fault::{SourceFault, TextFault};
@@ -11,8 +11,8 @@ use crate::keyword::{Keyword, keyword_of};
 use crate::lists::list_of;
 use crate::number::{count_of, is_number, number_of};
 use crate::statement::{Access, Element, InitialWord, Message, NewLoop, Statement};
-use crate::wanted::{expect, expect_end, one_number, target_of, word_at};
-use crate::words::{Word, is_mark};
+use crate::wanted::{expect, expect_end, name_of, one_number, target_of, word_at};
+use crate::words::Word;
 use std::alloc::Global;
 use tp_image::Version;
 
@@ -38,27 +38,13 @@ fn version(words: &[Word<'_>], first: &Word<'_>) -> Result<Version, SourceFault>
     }
 }
 
-/// Whether a constant cannot have this name: a mark, or what begins as a number does.
-#[tactic(auto, unfolding(crate::specs::Grammar::is_no_name))]
-fn is_no_name(word: &Word<'_>) -> bool
-    ensures { result ≡ is_no_name word.now.text.now }
-{
-    match word.text.first() {
-        Some(byte) => is_mark(*byte) || is_number(word),
-        None => false,
-    }
-}
-
 /// `const NAME = VALUE`
 #[tactic(auto, unfolding(crate::specs::Grammar::const_said))]
 fn constant<'a>(words: &[Word<'a>], first: &Word<'a>) -> Result<Statement<'a>, SourceFault>
     ensures said { IfOk result (λ s. const_said words.now first.now ≡ Ok (statement_kept s)) }
     ensures refused { IfErr result (IsRefusal (const_said words.now first.now)) }
 {
-    let name = word_at(words, 1, first)?;
-    if is_no_name(&name) {
-        return Err(name.fault(TextFault::Unexpected));
-    }
+    let name = name_of(&word_at(words, 1, first)?)?;
     let equals = expect(words, 2, &name, "=")?;
     let value = word_at(words, 3, &equals)?;
     number_of(&value)?;
@@ -155,7 +141,7 @@ fn element<'a>(words: &[Word<'a>], first: &Word<'a>) -> Result<Element<'a>, Sour
 fn new_loop<'a>(words: &[Word<'a>], first: &Word<'a>) -> Result<NewLoop<'a>, SourceFault>
     ensures { result ≡ new_loop_said words.now first.now }
 {
-    let name = word_at(words, 1, first)?;
+    let name = name_of(&word_at(words, 1, first)?)?;
     expect(words, 2, &name, "=")?;
     let start = number_of(&word_at(words, 3, &name)?)?;
     expect(words, 4, &name, "for")?;
@@ -212,11 +198,11 @@ fn of_keyword<'a>(
             expect_end(words, 2)?;
             Statement::Nothing
         }
-        Keyword::Packet => Statement::Packet(field(words, first)?),
-        Keyword::Results => Statement::Results(field(words, first)?),
+        Keyword::Packet => Statement::Packet(word, field(words, first)?),
+        Keyword::Results => Statement::Results(word, field(words, first)?),
         Keyword::Start => Statement::Start(word, field(words, first)?),
-        Keyword::Workspace => Statement::Workspace(field(words, first)?),
-        Keyword::Version => Statement::Version(version(words, first)?),
+        Keyword::Workspace => Statement::Workspace(word, field(words, first)?),
+        Keyword::Version => Statement::Version(word, version(words, first)?),
         Keyword::Const => return constant(words, first),
         Keyword::Local => Statement::Locals(list_of(alloc, first, rest)?),
         Keyword::Init => return initial(alloc, words, first),

@@ -1,12 +1,12 @@
 //! The words that a statement wants.
 
 ghost use Rattle.std.specs.Prelude.{◌≡◌, ◌≤◌, IfOk};
-ghost use Rattle.tpw_text.specs.Statements.{word_said, expect_said, end_said, one_number_said, target_said};
+ghost use Rattle.tpw_text.specs.Statements.{word_said, is_no_name, name_said, expect_said, end_said, one_number_said, target_said};
 
 use crate::draft::Target;
 use crate::fault::{SourceFault, TextFault};
 use crate::number::{count_of, is_number};
-use crate::words::Word;
+use crate::words::{Word, is_mark};
 
 /// The word of a number, which has to be there.
 #[tactic(auto, unfolding(crate::specs::Statements::word_said))]
@@ -16,6 +16,28 @@ pub fn word_at<'a>(words: &[Word<'a>], i: usize, behind: &Word<'a>) -> Result<Wo
     match words.get(i) {
         Some(word) => Ok(*word),
         None => Err(behind.fault(TextFault::Missing)),
+    }
+}
+
+/// Whether a word is no name: a mark, or what begins as a number does.
+#[tactic(auto, unfolding(crate::specs::Statements::is_no_name))]
+fn is_no_name(word: &Word<'_>) -> bool
+    ensures { result ≡ is_no_name word.now.text.now }
+{
+    match word.text.first() {
+        Some(byte) => is_mark(*byte) || is_number(word),
+        None => false,
+    }
+}
+
+/// A word that has to be a name.
+pub fn name_of<'a>(word: &Word<'a>) -> Result<Word<'a>, SourceFault>
+    ensures { result ≡ name_said word.now }
+{
+    if is_no_name(word) {
+        Err(word.fault(TextFault::NoName))
+    } else {
+        Ok(*word)
     }
 }
 

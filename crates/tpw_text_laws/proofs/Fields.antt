@@ -1,5 +1,5 @@
 -- The fields of a program are read as they are written.
-use Rattle.std.proofs.Common.{◌≡◌, ℕ, ◌+◌, ◌-◌, ◌<◌, ◌≤◌, ◌^◌, nat_lt, nat_eq, true, false, ℤ, List, [], ◌∷◌, ◌++◌, codes, length, map, Some, Ok, refl, ap, sym, ◌∙◌, arith, append_assoc}
+use Rattle.std.proofs.Common.{◌≡◌, ℕ, ◌+◌, ◌-◌, ◌<◌, ◌≤◌, ◌^◌, nat_lt, nat_eq, Bool, true, false, ℤ, List, [], ◌∷◌, ◌++◌, codes, length, map, Some, Ok, refl, ap, sym, ◌∙◌, arith, append_assoc}
 use Rattle.std.specs.Int.{w32, cast_signed, cast_unsigned}
 use Rattle.std.specs.List.{list_all, AllByRecursion}
 use Rattle.std.specs.Char.{to_ascii_lowercase}
@@ -18,7 +18,8 @@ use Rattle.tpw_text.specs.declared.statement.InitialWord.{InitialWord}
 use Rattle.tpw_text.specs.Limits.{most, most_words, most_count}
 use Rattle.tpw_text.specs.Faults.{◌>>=◌}
 use Rattle.tpw_text.specs.Words.{is_mark, is_plain}
-use Rattle.tpw_text.specs.Drafts.{Said, is_full, start_set}
+use Rattle.tpw_text.specs.Drafts.{Said, is_full}
+use Rattle.tpw_text.specs.Fields.{version_set, workspace_set, start_set, packet_set, results_set}
 use Rattle.tpw_text.specs.Numbers.{begins_number}
 use Rattle.tpw_text.specs.Keywords.{keyword_named}
 use Rattle.tpw_text.specs.Statements.{word_said, end_said, expect_said, one_number_said, number_read}
@@ -84,19 +85,54 @@ a_field name k make n s t none literal named is_field few adds =
     let said : keyword_said k (first ∷ second ∷ []) first ≡ Ok (make first n) = is_field (first ∷ second ∷ []) first ∙ ap (λ r. r >>= λ m. Ok (make first m)) (number_alone first second most_count n refl few (omega arith)) in
     (t, not_labelled first second [] d (other_word (decimal n) 58 (decimal_word n) refl) ∙ ap (unlabelled (first ∷ second ∷ [])) is ∙ keyword_says first (second ∷ []) k (make first n) s t none named said (adds first), refl))
 
-start_adds : (w : Word) (n : ℕ) (s : Said) → s.start_used ≡ false → start_set w n s ≡ Ok (record s { start = n })
-unfolding start_set
-start_adds w n s unused = rw unused refl
+-- a field that is not settled is said
+workspace_adds : (w : Word) (n : ℕ) (s : Said) → s.settled.workspace ≡ false → workspace_set w n s ≡ Ok (record s { workspace = Some n; settled = record s.settled { workspace = true } })
+unfolding workspace_set
+workspace_adds w n s unsettled = rw unsettled refl
 
-pub sizes_lead : (p : ProgramSaid) (s : Said) → s.consts ≡ [] → s.start_used ≡ false → p.workspace ≤ most_count → p.start ≤ most_count → p.packet ≤ most_count → p.result ≤ most_count
-    → Leads (sizes_text p) (Is s) (Is (record s { workspace = Some p.workspace; start = p.start; packet = p.packet; results = p.result }))
+start_adds : (w : Word) (n : ℕ) (s : Said) → s.settled.start ≡ false → start_set w n s ≡ Ok (record s { start = n; settled = record s.settled { start = true } })
+unfolding start_set
+start_adds w n s unsettled = rw unsettled refl
+
+packet_adds : (w : Word) (n : ℕ) (s : Said) → s.settled.packet ≡ false → packet_set w n s ≡ Ok (record s { packet = n; settled = record s.settled { packet = true } })
+unfolding packet_set
+packet_adds w n s unsettled = rw unsettled refl
+
+results_adds : (w : Word) (n : ℕ) (s : Said) → s.settled.results ≡ false → results_set w n s ≡ Ok (record s { results = n; settled = record s.settled { results = true } })
+unfolding results_set
+results_adds w n s unsettled = rw unsettled refl
+
+version_adds : (w : Word) (v : Version) (s : Said) → s.settled.version ≡ false → version_set w v s ≡ Ok (record s { version = v; settled = record s.settled { version = true } })
+unfolding version_set
+version_adds w v s unsettled = rw unsettled refl
+
+-- the sizes
+abbrev pub of_workspace : ProgramSaid → Said → Said
+of_workspace p s = record s { workspace = Some p.workspace; settled = record s.settled { workspace = true } }
+
+abbrev pub of_start : ProgramSaid → Said → Said
+of_start p s = record s { start = p.start; settled = record s.settled { start = true } }
+
+abbrev pub of_packet : ProgramSaid → Said → Said
+of_packet p s = record s { packet = p.packet; settled = record s.settled { packet = true } }
+
+abbrev pub of_results : ProgramSaid → Said → Said
+of_results p s = record s { results = p.result; settled = record s.settled { results = true } }
+
+abbrev pub of_sizes : ProgramSaid → Said → Said
+of_sizes p s = of_results p (of_packet p (of_start p (of_workspace p s)))
+
+pub sizes_lead : (p : ProgramSaid) (s : Said) → s.consts ≡ [] → s.settled.workspace ≡ false → s.settled.start ≡ false → s.settled.packet ≡ false → s.settled.results ≡ false
+    → p.workspace ≤ most_count → p.start ≤ most_count → p.packet ≤ most_count → p.result ≤ most_count → Leads (sizes_text p) (Is s) (Is (of_sizes p s))
 unfolding is_plain keyword_named keyword_said added
-sizes_lead p s none unused workspace start packet result =
+sizes_lead p s none open_workspace open_start open_packet open_results workspace start packet result =
     behind (behind (behind
-    (a_field (codes "workspace") keyword.Workspace (λ w. SetsWorkspace) p.workspace s (record s { workspace = Some p.workspace }) none refl refl (λ ws first. refl) workspace (λ w. refl))
-    (a_field (codes "start") keyword.Start SetsStart p.start _ (record s { workspace = Some p.workspace; start = p.start }) none refl refl (λ ws first. refl) start (λ w. start_adds w p.start (record s { workspace = Some p.workspace }) unused)))
-    (a_field (codes "packet") keyword.Packet (λ w. SetsPacket) p.packet _ (record s { workspace = Some p.workspace; start = p.start; packet = p.packet }) none refl refl (λ ws first. refl) packet (λ w. refl)))
-    (a_field (codes "result") keyword.Results (λ w. SetsResults) p.result _ (record s { workspace = Some p.workspace; start = p.start; packet = p.packet; results = p.result }) none refl refl (λ ws first. refl) result (λ w. refl))
+    (a_field (codes "workspace") keyword.Workspace SetsWorkspace p.workspace s (of_workspace p s) none refl refl (λ ws first. refl) workspace (λ w. workspace_adds w p.workspace s open_workspace))
+    (a_field (codes "start") keyword.Start SetsStart p.start (of_workspace p s) (of_start p (of_workspace p s)) none refl refl (λ ws first. refl) start (λ w. start_adds w p.start (of_workspace p s) open_start)))
+    (a_field (codes "packet") keyword.Packet SetsPacket p.packet (of_start p (of_workspace p s)) (of_packet p (of_start p (of_workspace p s))) none refl refl (λ ws first. refl) packet
+    (λ w. packet_adds w p.packet (of_start p (of_workspace p s)) open_packet)))
+    (a_field (codes "result") keyword.Results SetsResults p.result (of_packet p (of_start p (of_workspace p s))) (of_sizes p s) none refl refl (λ ws first. refl) result
+    (λ w. results_adds w p.result (of_packet p (of_start p (of_workspace p s))) open_results))
 
 -- the version
 two_said : (first w : Word) → w.text.now ≡ codes "2" → version_said (first ∷ w ∷ []) first ≡ Ok Two
@@ -104,20 +140,29 @@ unfolding version_said
 two_said first w is =
     ap (λ r. r >>= version_numbered first) (number_alone first w 2 2 (is ∙ sym (decimal_digit 2 (omega arith))) (omega arith) (omega arith))
 
-two_leads : (s : Said) → s.consts ≡ [] → Leads (as_line (codes "version 2")) (Is s) (Is (record s { version = Two }))
+abbrev pub is_two : Version → Bool
+is_two One = false
+is_two Two = true
+
+-- the first version is not said
+abbrev pub of_version : Version → Said → Said
+of_version v s = record s { version = v; settled = record s.settled { version = is_two v } }
+
+two_leads : (s : Said) → s.settled.version ≡ false → s.consts ≡ [] → Leads (as_line (codes "version 2")) (Is s) (Is (of_version Two s))
 unfolding is_plain keyword_named keyword_said added
-two_leads s none =
+two_leads s unsettled none =
     alone (codes "version 2") (Of (codes "version") ∷ Gap ∷ Of (codes "2") ∷ []) refl (literal_word _ refl, (refl, (literal_word _ refl, (refl, tt)))) (λ front d is.
     let line : ℕ = 1 + length front in
     let first : Word = word_for (record { text = codes "version"; line = line; column = 1 }) in
     let second : Word = word_for (record { text = codes "2"; line = line; column = 9 }) in
-    let said : keyword_said keyword.Version (first ∷ second ∷ []) first ≡ Ok (SetsVersion Two) = ap (λ r. r >>= λ v. Ok (SetsVersion v)) (two_said first second refl) in
-    (record s { version = Two }, not_labelled first second [] d refl ∙ ap (unlabelled (first ∷ second ∷ [])) is ∙ keyword_says first (second ∷ []) keyword.Version (SetsVersion Two) s _ none refl said refl, refl))
+    let said : keyword_said keyword.Version (first ∷ second ∷ []) first ≡ Ok (SetsVersion first Two) = ap (λ r. r >>= λ v. Ok (SetsVersion first v)) (two_said first second refl) in
+    (of_version Two s, not_labelled first second [] d refl ∙ ap (unlabelled (first ∷ second ∷ [])) is ∙ keyword_says first (second ∷ []) keyword.Version (SetsVersion first Two) s _ none refl said (version_adds first Two s unsettled), refl))
 
-pub version_leads : (v : Version) (s : Said) → s.version ≡ One → s.consts ≡ [] → Leads (version_text v) (Is s) (Is (record s { version = v }))
+pub version_leads : (v : Version) (s : Said) → s.version ≡ One → s.settled.version ≡ false → s.consts ≡ [] → Leads (version_text v) (Is s) (Is (of_version v s))
 unfolding version_text
-version_leads One s is none = leads_to (λ front d e. e ∙ ap (λ v. record s { version = v }) is) (nothing {P = Is s})
-version_leads Two s is none = two_leads s none
+version_leads One s is unsettled none =
+    leads_to (λ front d e. e ∙ ap (λ v. record s { version = v }) is ∙ ap (λ b. record s { version = One; settled = record s.settled { version = b } }) unsettled) (nothing {P = Is s})
+version_leads Two s is unsettled none = two_leads s unsettled none
 
 -- an initial word
 abbrev pub value_of : Word → ℤ → InitialWord

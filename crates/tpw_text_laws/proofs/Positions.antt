@@ -2,6 +2,7 @@
 use Rattle.std.proofs.Common.{◌≡◌, ℕ, ◌+◌, nat_lt, Bool, true, false, if◌then◌else◌, List, [], ◌∷◌, length, map, slice_get, Result, Ok, Err, refl, ap, arith, length-append}
 use Rattle.std.specs.Str.Lines.{lines}
 use Rattle.tpw_asm.specs.declared.program.Line.{Line as ProgramLine}
+use Rattle.tp_image.specs.declared.image.Version.{Version}
 use Rattle.tpw_text.specs.declared.words.Word.{Word}
 use Rattle.tpw_text.specs.declared.fault.SourceFault.{SourceFault}
 use Rattle.tpw_text.specs.declared.draft.DraftLine.{DraftLine}
@@ -12,15 +13,17 @@ use Rattle.tpw_text.specs.declared.statement.LocalInstr.{LocalInstr}
 use Rattle.tpw_text.specs.declared.statement.Instruction.{Instruction}
 use Rattle.tpw_text.specs.declared.statement.Instruction.TheVariants.{Line, OfLocal}
 use Rattle.tpw_text.specs.declared.statement.Message.{Message}
+use Rattle.tpw_text.specs.declared.statement.Message.TheVariants.{Receive, Send, Trace}
 use Rattle.tpw_text.specs.declared.statement.Access.{Access}
 use Rattle.tpw_text.specs.declared.statement.Element.{Element}
 use Rattle.tpw_text.specs.Limits.{most_words}
 use Rattle.tpw_text.specs.Faults.{then_read, each_read}
 use Rattle.tpw_text.specs.Words.{position_of}
-use Rattle.tpw_text.specs.Drafts.{Said, empty, is_full, is_taken, pushed, locals_named, label_set, const_set, start_set, room_for_loop, local_said}
-use Rattle.tpw_text.specs.Statements.{within}
+use Rattle.tpw_text.specs.Drafts.{Said, empty, is_full, is_taken, pushed, locals_named, label_set, const_set, room_for_loop, local_said}
+use Rattle.tpw_text.specs.Fields.{version_set, workspace_set, start_set, packet_set, results_set}
+use Rattle.tpw_text.specs.Statements.{within, name_said}
 use Rattle.tpw_text.specs.Grammar.{StatementSaid, SaysNothing, SetsPacket, SetsResults, SetsStart, SetsWorkspace, SetsVersion, NamesConst, NamesLocals, SetsInitial, SetsLocal, AddsLines, AddsInstruction, AddsMessage, AddsAccess, BeginsLoop, EndsLoop, AddsRow, number_line}
-use Rattle.tpw_text.specs.Meaning.{in_turn, local_added, initial_added, initials_added, no_value, local_initials_added, line_added, lines_pushed, operand_with, local_instr_added, instruction_added, message_lines, message_added, access_lines, access_added, loop_begins, loop_begun, loop_ends, row_of, with_row, row_added, innermost, inner_ended, loop_named, loop_ended, added, statement_with, unlabelled, is_colon, line_said}
+use Rattle.tpw_text.specs.Meaning.{in_turn, local_added, initial_added, initials_added, no_value, local_initials_added, line_added, lines_pushed, operand_with, local_instr_added, instruction_added, message_lines, message_read, message_added, access_lines, access_added, loop_begins, loop_begun, loop_ends, row_of, with_row, row_added, innermost, inner_ended, loop_named, loop_ended, added, statement_with, unlabelled, is_colon, line_said}
 use Rattle.tpw_text.specs.Programs.{ProgramSaid, SourceSaid, line_placed, loop_placed, ended, locals_fit, program_of, finished}
 use Rattle.tpw_text.specs.Apart.{word_for}
 use Rattle.tpw_text.specs.Texts.{words_of_lines, text_said, source_of}
@@ -71,9 +74,25 @@ a_const : (w v : Word) (d : Said) → ArePaired d → Pairs (const_set w v d)
 unfolding const_set
 a_const w v d p = if_paired (is_taken w d) _ _ tt (if_paired (is_full d.consts) _ _ tt (record { pairs = p.pairs }))
 
+a_version : (w : Word) (n : Version) (d : Said) → ArePaired d → Pairs (version_set w n d)
+unfolding version_set
+a_version w n d p = if_paired d.settled.version _ _ tt (record { pairs = p.pairs })
+
+a_workspace : (w : Word) (n : ℕ) (d : Said) → ArePaired d → Pairs (workspace_set w n d)
+unfolding workspace_set
+a_workspace w n d p = if_paired d.settled.workspace _ _ tt (record { pairs = p.pairs })
+
 a_start : (w : Word) (n : ℕ) (d : Said) → ArePaired d → Pairs (start_set w n d)
 unfolding start_set
-a_start w n d p = if_paired d.start_used _ _ tt (record { pairs = p.pairs })
+a_start w n d p = if_paired d.settled.start _ _ tt (record { pairs = p.pairs })
+
+a_packet : (w : Word) (n : ℕ) (d : Said) → ArePaired d → Pairs (packet_set w n d)
+unfolding packet_set
+a_packet w n d p = if_paired d.settled.packet _ _ tt (record { pairs = p.pairs })
+
+a_result : (w : Word) (n : ℕ) (d : Said) → ArePaired d → Pairs (results_set w n d)
+unfolding results_set
+a_result w n d p = if_paired d.settled.results _ _ tt (record { pairs = p.pairs })
 
 an_initial : (v : InitialWord) (d : Said) → ArePaired d → Pairs (initial_added v d)
 unfolding initial_added
@@ -87,7 +106,7 @@ local_initials : (name : Word) (values : List InitialWord) (d : Said) → ArePai
 unfolding local_initials_added
 local_initials name values d p =
     then_any ArePaired (local_said d.locals name) _ (λ local. then_any ArePaired (no_value (slice_get values local.words)) _ (λ fits.
-    then_any ArePaired (within name most_words (d.start + local.first)) _ (λ first. initials name first values (record d { start_used = true }) (record { pairs = p.pairs }))))
+    then_any ArePaired (within name most_words (d.start + local.first)) _ (λ first. initials name first values (record d { settled = record d.settled { start = true } }) (record { pairs = p.pairs }))))
 
 all_pushed : (w : Word) (ls : List DraftLine) (d : Said) → ArePaired d → Pairs (lines_pushed w ls d)
 all_pushed w ls d p = turns (pushed w) (line_pushed w) ls d p
@@ -101,9 +120,14 @@ an_instruction : (i : Instruction) (d : Said) → ArePaired d → Pairs (instruc
 an_instruction (Line l) d p = line_pushed l.word l.line d p
 an_instruction (OfLocal i) d p = a_local_instr i d p
 
+read_paired : (m : Message) (d : Said) → ArePaired d → ArePaired (message_read m d)
+read_paired Receive d p = record { pairs = p.pairs }
+read_paired Send d p = record { pairs = p.pairs }
+read_paired Trace d p = p
+
 a_message : (w : Word) (m : Message) (name : Word) (d : Said) → ArePaired d → Pairs (message_added w m name d)
 unfolding message_added
-a_message w m name d p = then_any ArePaired (local_said d.locals name) _ (λ local. all_pushed w (message_lines m d local.first) d p)
+a_message w m name d p = then_any ArePaired (local_said d.locals name) _ (λ local. all_pushed w (message_lines m d local.first) (message_read m d) (read_paired m d p))
 
 an_access : (w : Word) (a : Access) (e : Element) (d : Said) → ArePaired d → Pairs (access_added w a e d)
 unfolding access_added
@@ -127,11 +151,11 @@ a_row w row d p = then_any ArePaired (room_for_loop w d) _ (λ room. record { pa
 an_addition : (s : StatementSaid) (d : Said) → ArePaired d → Pairs (added s d)
 unfolding added
 an_addition SaysNothing d p = p
-an_addition (SetsPacket n) d p = record { pairs = p.pairs }
-an_addition (SetsResults n) d p = record { pairs = p.pairs }
+an_addition (SetsPacket word n) d p = a_packet word n d p
+an_addition (SetsResults word n) d p = a_result word n d p
 an_addition (SetsStart word n) d p = a_start word n d p
-an_addition (SetsWorkspace n) d p = record { pairs = p.pairs }
-an_addition (SetsVersion v) d p = record { pairs = p.pairs }
+an_addition (SetsWorkspace word n) d p = a_workspace word n d p
+an_addition (SetsVersion word v) d p = a_version word v d p
 an_addition (NamesConst name value) d p = a_const name value d p
 an_addition (NamesLocals locals) d p = turns local_added (λ l e q. names l.name l.size e q) locals d p
 an_addition (SetsInitial at first values) d p = initials at first values d p
@@ -153,7 +177,8 @@ a_line [] d p = without_label [] d p
 a_line (w ∷ []) d p = without_label (w ∷ []) d p
 a_line (label ∷ mark ∷ ws) d p =
     if_paired (is_colon mark) _ _
-    (then_any ArePaired (statement_with d.consts ws) _ (λ s. then_paired ArePaired ArePaired (label_set label d) _ (a_label label d p) (λ e q. an_addition s e q)))
+    (then_any ArePaired (name_said label) _ (λ name. then_any ArePaired (statement_with d.consts ws) _ (λ s.
+    then_paired ArePaired ArePaired (label_set name d) _ (a_label name d p) (λ e q. an_addition s e q))))
     (without_label (label ∷ mark ∷ ws) d p)
 
 a_text : (text : List ℕ) → Pairs (text_said text)

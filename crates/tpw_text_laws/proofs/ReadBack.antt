@@ -27,7 +27,7 @@ use Rattle.tpw_text_laws.proofs.Tests.{and_false, or_left, or_right}
 use Rattle.tpw_text_laws.proofs.TextLines.{IsLine, all_lines}
 use Rattle.tpw_text_laws.proofs.Pieces.{IsTail}
 use Rattle.tpw_text_laws.proofs.Leading.{Leads, nothing, behind, leads_as, leads_to, a_line}
-use Rattle.tpw_text_laws.proofs.Fields.{Is, version_leads, sizes_lead, initials_lead}
+use Rattle.tpw_text_laws.proofs.Fields.{Is, is_two, version_leads, sizes_lead, initials_lead}
 use Rattle.tpw_text_laws.proofs.Rows.{AreLabels, Rowed, rows_lead, no_rows}
 use Rattle.tpw_text_laws.proofs.WholeCode.{AreBelow, Coded, decimal_line, code_leads}
 
@@ -67,6 +67,7 @@ above_leads {s} (Some r) =
 abbrev fields_of : ProgramSaid → Said
 fields_of p = record empty {
   version = p.version;
+  settled = record { version = is_two p.version; workspace = true; start = true; packet = true; results = true };
   workspace = Some p.workspace;
   start = p.start;
   packet = p.packet;
@@ -112,7 +113,7 @@ text_leads p remarks may =
     behind (behind (above_leads remarks)
     (leads_to (λ front d r. no_code (fields_of p) d (is_named p) (length p.lines) p.loops remarks front refl refl refl r)
     (behind (leads_to (λ front d is. no_rows (fields_of p) d (is_named p) (length p.lines) refl is)
-    (behind (behind (version_leads p.version empty refl refl) (sizes_lead p _ refl refl may.workspace may.start may.packet may.result))
+    (behind (behind (version_leads p.version empty refl refl refl) (sizes_lead p _ refl refl refl refl refl may.workspace may.start may.packet may.result))
     (initials_lead _ 0 p.initial refl refl (omega (arith, may.words)) may.initial)))
     (rows_lead (fields_of p) (is_named p) (length p.lines) [] p.loops refl refl (omega (arith, may.rows)) may.loops (row_named p)))))
     (code_leads (fields_of p) (is_named p) (length p.lines) p.loops remarks [] p.lines 0 (record { locals = refl; consts = refl }) refl (omega arith) (record { lines = may.count; labels = may.labels }) may.lines (line_named p))

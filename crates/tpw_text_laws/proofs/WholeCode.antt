@@ -22,6 +22,7 @@ use Rattle.tpw_text.specs.declared.remarks.LineRemark.{LineRemark}
 use Rattle.tpw_text.specs.Limits.{most}
 use Rattle.tpw_text.specs.Faults.{each_read}
 use Rattle.tpw_text.specs.Words.{position_of, is_plain}
+use Rattle.tpw_text.specs.Statements.{is_no_name}
 use Rattle.tpw_text.specs.Drafts.{Said, is_full, pushed, label_set, place_named, local_named, const_named, is_taken}
 use Rattle.tpw_text.specs.Consts.{with_values}
 use Rattle.tpw_text.specs.Grammar.{statement_said}
@@ -146,7 +147,7 @@ a_label named count k w d alone is within are few =
     rw (not_taken w d alone none, space) refl
 
 label_line : (n : ℕ) (k : ℕ) (d e : Said) → label_set (at n 1 (label_text k)) d ≡ Ok e → line_said (at n 1 (label_text k) ∷ at n (1 + length (label_text k)) (codes ":") ∷ []) d ≡ Ok e
-unfolding line_said statement_with with_values statement_said added
+unfolding line_said is_no_name statement_with with_values statement_said added
 label_line n k d e set = rw set refl
 
 -- lemmas about labels

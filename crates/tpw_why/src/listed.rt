@@ -153,7 +153,7 @@ fn list_refused<W: Write>(
         listing: &listing,
         source,
     };
-    write_line(code, place, writer)?;
+    write_line(source, Some(&image), code, place, writer)?;
     match code {
         RefusalCode::State(_) | RefusalCode::B1 => list_costs(alloc, listed, "bound   ", writer),
         RefusalCode::Image(_) | RefusalCode::Cutting(_) | RefusalCode::Flow(_) => {

@@ -107,7 +107,7 @@ fn of_state(code: StateCode) -> Meaning {
     match code {
         StateCode::S1 => explained(
             "a register that is read is undefined",
-            "load it again: j, lend, in and out leave no registers, and each operation takes what it reads",
+            "load it again: the stack holds three, and a fourth push loses the first; j, lend, in and out leave no registers, and each operation takes what it reads",
         ),
         StateCode::S2 => explained(
             "a register is of the wrong kind",

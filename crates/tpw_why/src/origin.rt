@@ -133,6 +133,62 @@ fn taken_and_put(instr: Instr, edge: Edge) -> Option<(usize, usize)> {
     }
 }
 
+/// The first register that an instruction reads and that may be undefined.
+pub(crate) fn undefined_register(instr: Instr, edge: Edge, state: &State) -> Option<Register> {
+    let read = match instr {
+        Instr::Input | Instr::Output => 3,
+        Instr::Lend => 2,
+        Instr::Cj(_) => 1,
+        _ => taken_and_put(instr, edge)?.0,
+    };
+    let registers = [
+        (Register::A, state.a),
+        (Register::B, state.b),
+        (Register::C, state.c),
+    ];
+    registers
+        .iter()
+        .find(|pair| pair.0.above() < read && pair.1 == Kind::Undef)
+        .map(|pair| pair.0)
+}
+
+/// How a register was lost that is read somewhere.
+#[derive(Clone, Copy, Debug, PartialEq, Eq)]
+pub(crate) enum Lost {
+    /// A fourth push drove it off the stack; another instruction had put it there, where one way alone leads from it.
+    Pushed(Placed, Option<Placed>),
+    /// An instruction left no registers, and none was pushed for it since.
+    Left(Placed),
+    /// No instruction before has pushed it.
+    Never,
+}
+
+/// How a register was lost that is read at an address, where one way alone leads there from the instruction that lost it.
+pub(crate) fn loss_of(ways: &[Way], at: usize, register: Register) -> Option<Lost> {
+    let mut place = at;
+    let mut above = register.above();
+    for _ in 0..MOST_BACK {
+        if place == 0 {
+            return Some(Lost::Never);
+        }
+        let way = lone_way(ways, place)?;
+        let Some((taken, put)) = taken_and_put(way.from.instr, way.edge) else {
+            return Some(Lost::Left(way.from));
+        };
+        if above < put {
+            return None;
+        }
+        let before = above.saturating_sub(put).saturating_add(taken);
+        if above > Register::C.above() && before <= Register::C.above() {
+            let origin = origin_of(ways, way.from.at, Register::C);
+            return Some(Lost::Pushed(way.from, origin));
+        }
+        above = before;
+        place = way.from.at;
+    }
+    None
+}
+
 /// The instruction that put a register there which is read at an address, where one way alone leads there from it.
 pub(crate) fn origin_of(ways: &[Way], at: usize, register: Register) -> Option<Placed> {
     let mut place = at;

@@ -16,9 +16,12 @@ use tp_check::{asked, state_at};
 use tp_decode::{Instr, Listing, Placed};
 use tp_flow::{Edge, Nest};
 use tp_image::{Image, LoopRow};
-use tp_state::{Cell, State, StateCode, StateFault, after};
+use tp_state::{Cell, Kind, State, StateCode, StateFault, after};
 use tp_step::profile::FRAME_WORDS;
 use tpw_source::{Names, ShowFault, SourceText};
+
+/// From so many words on, a table of numbers is shown on one line.
+const TABLE_WORDS: usize = 8;
 
 /// The name of an edge.
 fn name_of(edge: Edge) -> &'static str {
@@ -61,7 +64,60 @@ fn write_stretch<W: Write>(
     written.map_err(|_| ShowFault::Write)
 }
 
-/// Writes what is known of the words of a workspace: of stretches of words of which the same is known.
+/// The last word of those from one on, below so many, of which the same is known.
+fn last_alike(state: &State, words: usize, first: usize) -> usize {
+    let cell = state.cells.get(first);
+    for word in first.saturating_add(1)..words {
+        if state.cells.get(word) != cell {
+            return word.saturating_sub(1);
+        }
+    }
+    words.saturating_sub(1)
+}
+
+/// The last word of the table that begins at a word: words of one name, each a number that is known, and another than the one
+/// before. None where they are few.
+fn last_of_table(
+    source: SourceText<'_>,
+    state: &State,
+    words: usize,
+    first: usize,
+) -> Option<usize> {
+    let name = source.named(first);
+    let mut last = first;
+    for word in first..words {
+        let is_other = word == first || state.cells.get(word) != state.cells.get(last);
+        if !is_other
+            || source.named(word) != name
+            || !matches!(state.cells.get(word), Cell::Known(_))
+        {
+            break;
+        }
+        last = word;
+    }
+    (last.saturating_sub(first) >= TABLE_WORDS).then_some(last)
+}
+
+/// Writes that words from one on up to another are a table.
+fn write_table<W: Write>(
+    source: SourceText<'_>,
+    first: usize,
+    last: usize,
+    writer: &mut W,
+) -> Result<(), ShowFault> {
+    let names = Names {
+        source,
+        first,
+        last,
+    };
+    writeln!(
+        writer,
+        "         words {first} to {last}{names}: numbers that are known, each another than the one before"
+    )
+    .map_err(|_| ShowFault::Write)
+}
+
+/// Writes what is known of the words of a workspace: of tables, and of stretches of words of which the same is known.
 fn write_words<W: Write>(
     source: SourceText<'_>,
     state: &State,
@@ -69,20 +125,24 @@ fn write_words<W: Write>(
     writer: &mut W,
 ) -> Result<(), ShowFault> {
     let mut first = 0;
-    for word in 1..words {
-        let cell = state.cells.get(first);
-        if state.cells.get(word) != cell {
-            write_stretch(source, first, word.saturating_sub(1), cell, writer)?;
-            first = word;
+    for _ in 0..words {
+        if first >= words {
+            return Ok(());
         }
+        let last = match last_of_table(source, state, words, first) {
+            Some(last) => {
+                write_table(source, first, last, writer)?;
+                last
+            }
+            None => {
+                let last = last_alike(state, words, first);
+                write_stretch(source, first, last, state.cells.get(first), writer)?;
+                last
+            }
+        };
+        first = last.saturating_add(1);
     }
-    write_stretch(
-        source,
-        first,
-        words.saturating_sub(1),
-        state.cells.get(first),
-        writer,
-    )
+    Ok(())
 }
 
 /// Writes what is known before an instruction.
@@ -255,7 +315,27 @@ fn write_meeting<W: Write>(
     .map_err(|_| ShowFault::Write)
 }
 
-/// Writes where the passes refuse a code, and what is known there.
+/// What helps where an operation on numbers is given an address.
+const MOVE_BY_INDEX: &str =
+    "wsub moves the address of a word, and bsub that of a byte, by an index: add to the index before it";
+
+/// What helps against a refusal at an instruction, where it is another thing than against others of its code.
+fn remedy_of(refusal: &EdgeRefusal, state: &State) -> Option<&'static str> {
+    match refusal.instruction.instr {
+        Instr::Adc(_) | Instr::Add | Instr::Sum | Instr::Sub | Instr::Diff
+            if refusal.code == StateCode::S2 && has_address(state) => { Some(MOVE_BY_INDEX) }
+        _ => None,
+    }
+}
+
+/// Whether Areg or Breg is an address.
+fn has_address(state: &State) -> bool {
+    let is_address = |kind| matches!(kind, Kind::Ptr(_, _) | Kind::BytePtr(_, _));
+    is_address(state.a) || is_address(state.b)
+}
+
+/// Writes where the passes refuse a code, and what is known there. What helps against this one comes back, where it is another thing
+/// than against others of its code.
 pub(crate) fn write_state<W: Write>(
     alloc: Global,
     image: &Image,
@@ -264,7 +344,7 @@ pub(crate) fn write_state<W: Write>(
     source: SourceText<'_>,
     found: &FirstRefusal,
     writer: &mut W,
-) -> Result<(), ShowFault>
+) -> Result<Option<&'static str>, ShowFault>
     requires good { HasGoodLoops image.now }
     requires nest { nest.now ≡ ranges image.now.loops }
     requires placed { HasPlacedStates image.now (table_of found.now.table.items) }
@@ -300,5 +380,6 @@ pub(crate) fn write_state<W: Write>(
         writer,
         "found    in pass {pass}, on the edge {name} of the instruction at {at}"
     )
-    .map_err(|_| ShowFault::Write)
+    .map_err(|_| ShowFault::Write)?;
+    Ok(state_at(table, at).and_then(|state| remedy_of(refusal, state)))
 }

@@ -1,10 +1,11 @@
 //! The instructions that wrote what a rule refuses.
 
-use crate::origin::{Register, origin_of, wrong_register};
+use crate::origin::{Lost, Register, loss_of, origin_of, undefined_register, wrong_register};
 use crate::refusal::{EdgeRefusal, FirstRefusal};
 use crate::ways::{Way, ways_of};
 use crate::writers::{Passage, Wrote, passages_of, same_before, written_by};
 use std::alloc::Global;
+use std::fmt;
 use std::io::Write;
 use tp_check::state_at;
 use tp_decode::{Instr, Listing, Placed};
@@ -114,6 +115,81 @@ fn write_register<W: Write>(
     write_writers(alloc, finding, ways, word, from, output)
 }
 
+/// An instruction as a text that is shown names it: its address and its text, and the line of the text that says it.
+#[derive(Clone, Copy)]
+struct Shown<'a> {
+    placed: Placed,
+    source: SourceText<'a>,
+}
+
+impl fmt::Display for Shown<'_> {
+    fn fmt<W: fmt::Write>(&self, f: &mut fmt::Formatter<W>) -> fmt::Result {
+        let Placed { at, instr, .. } = self.placed;
+        write!(f, "{at} {instr}")?;
+        match self.source.statement_at(at) {
+            Some(statement) => {
+                let line = statement.line;
+                write!(f, " (line {line})")
+            }
+            None => Ok(()),
+        }
+    }
+}
+
+/// Writes how a register was lost that is read, as far as one way alone leads there.
+fn write_loss<W: Write>(
+    finding: Finding<'_>,
+    ways: &[Way],
+    register: Register,
+    output: &mut W,
+) -> Result<(), ShowFault> {
+    let source = finding.source;
+    let at = finding.found.refusal.instruction.at;
+    let name = register.name();
+    let written = match loss_of(ways, at, register) {
+        Some(Lost::Pushed(push, Some(origin))) => {
+            let push = Shown {
+                placed: push,
+                source,
+            };
+            let origin = Shown {
+                placed: origin,
+                source,
+            };
+            writeln!(
+                output,
+                "why      {name} is lost: {push} is a fourth push, and what {origin} left goes off the stack"
+            )
+        }
+        Some(Lost::Pushed(push, None)) => {
+            let push = Shown {
+                placed: push,
+                source,
+            };
+            writeln!(
+                output,
+                "why      {name} is lost: {push} is a fourth push, and what is lowest goes off the stack"
+            )
+        }
+        Some(Lost::Left(leaves)) => {
+            let leaves = Shown {
+                placed: leaves,
+                source,
+            };
+            writeln!(
+                output,
+                "why      {name} has no value: nothing is pushed for it since {leaves}, which leaves no registers"
+            )
+        }
+        Some(Lost::Never) => writeln!(
+            output,
+            "why      {name} has no value: nothing is pushed for it from the first instruction on"
+        ),
+        None => Ok(()),
+    };
+    written.map_err(|_| ShowFault::Write)
+}
+
 /// Writes which instructions wrote a word last on the edge that is refused.
 fn write_entered<W: Write>(
     alloc: Global,
@@ -182,7 +258,7 @@ fn known_after(finding: Finding<'_>, state: &State, word: usize) -> Cell {
     }
 }
 
-/// Writes where what is refused was written, as far as the states show it: a register of the wrong kind, a local word that may be
+/// Writes where what is refused was written, as far as the states show it: a register that is lost or of the wrong kind, a local word that may be
 /// undefined, and the block of a loop that is entered.
 pub(crate) fn write_written<W: Write>(
     alloc: Global,
@@ -196,6 +272,10 @@ pub(crate) fn write_written<W: Write>(
     };
     let ways = ways_of(alloc, finding.listing, finding.nest, finding.found)?;
     match (refusal.code, refusal.instruction.instr) {
+        (StateCode::S1, instr) => match undefined_register(instr, refusal.edge, state) {
+            Some(register) => write_loss(finding, &ways, register, output),
+            None => Ok(()),
+        },
         (StateCode::S2, instr) => match wrong_register(instr, state) {
             Some(register) => write_register(alloc, finding, &ways, register, output),
             None => Ok(()),

@@ -29,6 +29,7 @@ result
 trace 
 flag 0
 count 7
+state A - B - C - Wptr 5 flag 0 w5=7 w20=-2147483648
 ";
     assert_same(&rt, &text.as_slice(), &wanted.as_bytes());
 }
@@ -55,6 +56,8 @@ result 8cce0e10
 trace 
 flag 0
 count 15860
+state A - B - C - Wptr 5 flag 0 w5=50462976 w6=117835012 w7=185207048 w8=252579084 w9=319951120 w10=387323156 w11=454695192 \
+    w12=522067228 w13=589439264 w14=656811300 w15=724183336 w16=791555372 w17=858927408 w18=926299444 w19=993671480 w20=1061043516 w21=269405836 w26=1
 ";
     assert_same(&rt, &text.as_slice(), &wanted.as_bytes());
 }
@@ -76,6 +79,7 @@ result 02000000
 trace 000000000100000001000000
 flag 0
 count 484
+state A - B - C - Wptr 5 flag 0 w5=3 w6=2 w7=3
 ";
     assert_same(&rt, &text.as_slice(), &wanted.as_bytes());
 }

@@ -27,6 +27,7 @@ pub(crate) fn printed(
         span,
         watched: &[],
         source: SourceText::NONE,
+        hexadecimal: false,
     };
     let end = unwrap(rt, show_run(alloc, image, packet, shown, &mut text));
     (end, text)

@@ -109,12 +109,15 @@ fn initial_words(rt: HostRuntime) {
     );
     let fewer = "local a[3]\ninit a: 4\ninit 7: 5";
     has_initial(&rt, rt.alloc(), fewer, &[0, 0, 0, 0, 0, 4, 0, 5]);
+    let by_messages =
+        "local n\ntrace n\nreceive n\nresult 2\nstart 6\nsend n\nversion 2\nworkspace 9\ninit n: 3";
+    has_initial(&rt, rt.alloc(), by_messages, &[0, 0, 0, 0, 0, 0, 3]);
     let by_number = "init 2: 4\nstart 6\nlocal a\ninit a: 5";
     has_initial(&rt, rt.alloc(), by_number, &[0, 0, 4, 0, 0, 0, 5]);
 }
 
 /// Texts, and the line, the column and the kind of their faults.
-const CASES: [(&str, usize, usize, TextFault); 45] = [
+const CASES: [(&str, usize, usize, TextFault); 65] = [
     ("const", 1, 1, TextFault::Missing),
     ("const n", 1, 7, TextFault::Missing),
     ("const n 3", 1, 9, TextFault::Unexpected),
@@ -125,11 +128,11 @@ const CASES: [(&str, usize, usize, TextFault); 45] = [
     ("const n = 3, m = 4", 1, 12, TextFault::Extra),
     ("const n = 3\nconst m = N", 2, 11, TextFault::NoNumber),
     ("const m = n\nconst n = 3", 1, 11, TextFault::NoNumber),
-    ("const 3 = 4", 1, 7, TextFault::Unexpected),
-    ("const #n = 4", 1, 7, TextFault::Unexpected),
-    ("const - = 4", 1, 7, TextFault::Unexpected),
-    ("const + = 4", 1, 7, TextFault::Unexpected),
-    ("const , = 4", 1, 7, TextFault::Unexpected),
+    ("const 3 = 4", 1, 7, TextFault::NoName),
+    ("const #n = 4", 1, 7, TextFault::NoName),
+    ("const - = 4", 1, 7, TextFault::NoName),
+    ("const + = 4", 1, 7, TextFault::NoName),
+    ("const , = 4", 1, 7, TextFault::NoName),
     ("const n = 3\nconst n = 3", 2, 7, TextFault::Twice),
     ("const n = 3\nlocal a, n", 2, 10, TextFault::Twice),
     ("const n = 3\nlocal n[n]", 2, 7, TextFault::Twice),
@@ -172,19 +175,19 @@ const CASES: [(&str, usize, usize, TextFault); 45] = [
         15,
         TextFault::OutsideLocal,
     ),
-    ("local a\ninit a: 1\n  start 6", 3, 3, TextFault::StartBelow),
+    ("local a\ninit a: 1\n  start 6", 3, 3, TextFault::Settled),
     (
         "local a\ninit a: 1\nhere: start 5",
         3,
         7,
-        TextFault::StartBelow,
+        TextFault::Settled,
     ),
     ("init a: 1\nlocal a", 1, 6, TextFault::NoLocal),
     (
         "local a, b\ninit b: 1\ninit a: 2",
         3,
         6,
-        TextFault::OutOfRange,
+        TextFault::InitialBelow,
     ),
     (
         "start 4097\nlocal a\ninit a: 1",
@@ -195,6 +198,49 @@ const CASES: [(&str, usize, usize, TextFault); 45] = [
     ("local a\ninit a 1", 2, 8, TextFault::Unexpected),
     ("init a", 1, 6, TextFault::Missing),
     ("local a\ninit a:", 2, 7, TextFault::Missing),
+    (
+        "local a[2]\ninit a: 1\ninit a: 2",
+        3,
+        6,
+        TextFault::InitialBelow,
+    ),
+    // Names that begin as numbers do.
+    (
+        "local n\nreceive n\ncj 2\n2: send n",
+        4,
+        1,
+        TextFault::NoName,
+    ),
+    ("#: mint", 1, 1, TextFault::NoName),
+    ("-a: mint", 1, 1, TextFault::NoName),
+    (",: mint", 1, 1, TextFault::NoName),
+    ("local 3, n", 1, 7, TextFault::NoName),
+    ("local a, #5", 1, 10, TextFault::NoName),
+    ("local -1", 1, 7, TextFault::NoName),
+    ("local a, 0x7[2]", 1, 10, TextFault::NoName),
+    ("local [, a", 1, 7, TextFault::NoName),
+    ("for 1 = 0 for 2", 1, 5, TextFault::NoName),
+    // Locals without a word.
+    ("local a[0], n", 1, 9, TextFault::NoWords),
+    (
+        "const none = 0\nlocal n, a[none]",
+        2,
+        12,
+        TextFault::NoWords,
+    ),
+    // Fields that are said again, or below what reads them.
+    ("packet 4\n packet 4", 2, 2, TextFault::Settled),
+    ("result 1\nresult 2", 2, 1, TextFault::Settled),
+    ("start 5\nstart 6", 2, 1, TextFault::Settled),
+    ("version 1\nversion 1", 2, 1, TextFault::Settled),
+    (
+        "workspace 9\nlocal a\nworkspace 9",
+        3,
+        1,
+        TextFault::Settled,
+    ),
+    ("local n\nreceive n\npacket 4", 3, 1, TextFault::Settled),
+    ("local n\nsend n\nresult 1", 3, 1, TextFault::Settled),
 ];
 
 #[test]

@@ -42,4 +42,5 @@ loop-number-preserved g c =
       omega (arith, c.add_all.ensures.all, ap length seen, others, c.loop-number.invariant.1),
       c.in_ok-collected.ensures.ready,
       (entries ++ more, batch, subst (Appends (g.W.Write.contents c.args.writer.now) (g.W.Write.contents c.write_batch.new.writer)) text shown, counted),
+      c.add_all.ensures.differing,
     )

@@ -16,6 +16,7 @@ invariant-loop-number g l =
     × AreResults l.image.image l.image.budget (take l.number (map (λ p. p.items) l.packets)) entries
     × Appends (g.W.Write.contents l.fn.writer) (g.W.Write.contents l.writer) (entries_text l.form l.image.budget 0 entries)
     × (l.tally ≡ with_entries l.form nothing_counted 0 entries))
+    × (l.tally.differing ≤ l.tally.done + l.tally.lost)
 
 abbrev pub decreases-loop-number : goal.decreases-loop-number
 decreases-loop-number g l = length l.packets - l.number
