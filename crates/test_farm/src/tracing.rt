@@ -84,7 +84,8 @@ fn is_traced_64_times(done: &Done) -> bool {
     done.result.as_slice() == [10, 0, 0, 0].as_slice()
         && done.steps == 658
         && trace.len() == 256
-        && trace.iter().enumerate().all(|(place, byte)| *byte == if place % 4 == 0 { 10 } else { 0 })
+        && trace.iter().enumerate().all(|(place, byte)| *byte
+            == if place % 4 == 0 { 10 } else { 0 })
 }
 
 /// A trace may have 256 bytes.
