@@ -255,7 +255,10 @@ fn with_style<'a>(alloc: Global, command: Command<'a>) -> Result<Command<'a>, Er
         RAW,
         "Write the bytes of results alone, one behind another",
     );
-    let raw = raw.conflicts_with_all(&[EXPECT, HEX, TRACE])?;
+    let raw = raw
+        .conflicts_with(EXPECT)?
+        .conflicts_with(HEX)?
+        .conflicts_with(TRACE)?;
     Ok(command.arg(trace)?.arg(hex)?.arg(raw)?)
 }
 
