@@ -1,0 +1,23 @@
+use Rattle.std.proofs.Common.{ℕ, ◌+◌, ◌*◌}
+use Rattle.tpw_occam_syntax.proofs.reading.+expressions.Given as goal
+
+abbrev pub decreases-applied : goal.decreases-applied
+decreases-applied l = 5 * l.depth + 2
+
+abbrev pub decreases-chained : goal.decreases-chained
+decreases-chained l = 5 * l.depth + 2
+
+abbrev pub decreases-expression : goal.decreases-expression
+decreases-expression l = 5 * l.depth + 3
+
+abbrev pub decreases-grouped : goal.decreases-grouped
+decreases-grouped l = 5 * l.depth
+
+abbrev pub decreases-listed : goal.decreases-listed
+decreases-listed l = 5 * l.depth + 4
+
+abbrev pub decreases-named : goal.decreases-named
+decreases-named l = 5 * l.depth
+
+abbrev pub decreases-operand : goal.decreases-operand
+decreases-operand l = 5 * l.depth + 1
