@@ -90,4 +90,9 @@ impl Symbol {
     pub fn is_open(self) -> bool {
         !matches!(self, Symbol::Colon | Symbol::Receive | Symbol::Send)
     }
+
+    /// Whether something stands in front of it wherever it stands, so that no line begins with it.
+    pub fn is_between(self) -> bool {
+        !matches!(self, Symbol::Colon | Symbol::Subtract | Symbol::BitNot)
+    }
 }
