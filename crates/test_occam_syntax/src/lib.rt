@@ -4,6 +4,8 @@
 #[cfg(test)]
 mod asserts;
 #[cfg(test)]
+mod faults;
+#[cfg(test)]
 mod shown;
 #[cfg(test)]
 mod trees;

@@ -1,6 +1,6 @@
 //! Declarations, read from lines.
 
-use crate::expression::Expression;
+use crate::expression::{Expression, Primitive};
 use crate::fault::{Fault, FaultKind, Wanted};
 use crate::keyword::{Keyword, Unsupported};
 use crate::phrases::{
@@ -24,8 +24,8 @@ pub(crate) fn value<'a>(
     expression(alloc, trees, end, MOST_DEPTH)
 }
 
-/// The trees in front of the colon that ends a declaration.
-fn up_to_colon<'t, 'a>(trees: &'t [Tree<'a>], end: Span) -> Result<&'t [Tree<'a>], Stop> {
+/// The trees in front of the colon that ends a declaration, and the colon's place.
+fn up_to_colon<'t, 'a>(trees: &'t [Tree<'a>], end: Span) -> Result<(&'t [Tree<'a>], Span), Stop> {
     let Some(at) = position_of(trees, Symbol::Colon) else {
         return wanted(Wanted::Colon, end);
     };
@@ -33,7 +33,7 @@ fn up_to_colon<'t, 'a>(trees: &'t [Tree<'a>], end: Span) -> Result<&'t [Tree<'a>
     if let Some(more) = behind.first() {
         return wanted(Wanted::Nothing, span_of(more));
     }
-    Ok(front)
+    Ok((front, place(trees_behind(trees, at), end)))
 }
 
 /// `VAL n IS e:`, behind `VAL`.
@@ -42,14 +42,14 @@ fn value_declaration<'a>(
     trees: &[Tree<'a>],
     end: Span,
 ) -> Result<Declaration<'a>, Stop> {
-    let trees = up_to_colon(trees, end)?;
+    let (trees, end) = up_to_colon(trees, end)?;
     let (of, count) = match front_type(alloc, trees)? {
         Some((of, count)) => (Some(of), count),
         None => (None, 0),
     };
     let rest = trees_behind(trees, count);
     let Some(at) = position_of_keyword(rest, Keyword::Is) else {
-        return wanted(Wanted::Is, end);
+        return wanted(Wanted::Is, place(trees_behind(rest, 1), end));
     };
     let (front, behind) = around(rest, at);
     let name = name(front, place(trees_behind(rest, at), end))?;
@@ -95,13 +95,10 @@ fn head<'t, 'a>(
 /// `INT FUNCTION f (..) IS e :`, behind `FUNCTION`.
 fn function<'a>(
     alloc: Global,
-    of: Type<'a>,
+    of: Primitive,
     trees: &[Tree<'a>],
     end: Span,
 ) -> Result<Declaration<'a>, Stop> {
-    if !matches!(of.size, Size::One) {
-        return wanted(Wanted::Primitive, place(trees, end));
-    }
     let (name, parameters, rest) = head(alloc, trees, end)?;
     let Some(first) = rest.first() else {
         return Err(Stop::Fault(Fault {
@@ -112,30 +109,30 @@ fn function<'a>(
     if keyword_of(Some(first)) != Some(Keyword::Is) {
         return wanted(Wanted::Is, span_of(first));
     }
-    let behind = up_to_colon(trees_behind(rest, 1), end)?;
+    let (behind, end) = up_to_colon(trees_behind(rest, 1), end)?;
     Ok(Declaration::Function {
-        of: of.of,
+        of,
         name,
         parameters,
-        value: value(
-            alloc,
-            behind,
-            place(trees_behind(rest, behind.len().saturating_add(1)), end),
-        )?,
+        value: value(alloc, behind, end)?,
     })
 }
 
-/// A declaration that begins with a type: variables, another name of an array, or a function.
+/// A declaration that begins with a type: variables, another name of an array, or a function. `start` is the type's place.
 fn typed<'a>(
     alloc: Global,
     of: Type<'a>,
     trees: &[Tree<'a>],
+    start: Span,
     end: Span,
 ) -> Result<Declaration<'a>, Stop> {
     if keyword_of(trees.first()) == Some(Keyword::Function) {
-        return function(alloc, of, trees_behind(trees, 1), end);
+        return match of.size {
+            Size::One => function(alloc, of.of, trees_behind(trees, 1), end),
+            Size::Open | Size::Of(_) => wanted(Wanted::Primitive, start),
+        };
     }
-    let trees = up_to_colon(trees, end)?;
+    let (trees, end) = up_to_colon(trees, end)?;
     let Some(at) = position_of_keyword(trees, Keyword::Retypes) else {
         return Ok(Declaration::Variables {
             of,
@@ -161,7 +158,10 @@ pub(crate) fn declaration<'a>(
         return Ok(Some(value_declaration(alloc, trees_behind(trees, 1), end)?));
     }
     match front_type(alloc, trees)? {
-        Some((of, count)) => Ok(Some(typed(alloc, of, trees_behind(trees, count), end)?)),
+        Some((of, count)) => {
+            let start = place(trees, end);
+            Ok(Some(typed(alloc, of, trees_behind(trees, count), start, end)?))
+        }
         None => Ok(None),
     }
 }
@@ -184,11 +184,12 @@ pub(crate) fn seems_declaration(trees: &[Tree<'_>]) -> bool {
     if symbol_of(trees.last()) == Some(Symbol::Colon) {
         return true;
     }
-    if position_of_keyword(trees, Keyword::Function).is_some() {
+    let has_function = position_of_keyword(trees, Keyword::Function).is_some();
+    if has_function || position_of_keyword(trees, Keyword::Proc).is_some() {
         return true;
     }
     match keyword_of(trees.first()) {
-        Some(Keyword::Val | Keyword::Proc) => true,
+        Some(Keyword::Val) => true,
         Some(keyword) => primitive(keyword).is_some(),
         None => keyword_of(trees.get(1)).is_some_and(|keyword| primitive(keyword).is_some()),
     }

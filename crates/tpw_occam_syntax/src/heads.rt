@@ -238,6 +238,10 @@ fn construct<'a>(alloc: Global, keyword: Keyword, block: &Block<'a>) -> Result<H
         Keyword::Case => Ok(Head::Case {
             selector: value(alloc, trees_behind(trees, 1), block.end)?,
         }),
+        Keyword::Chan => Err(Stop::Fault(Fault {
+            span,
+            kind: FaultKind::Unsupported(Unsupported::Channel),
+        })),
         _ => wanted(Wanted::Process, span),
     }
 }
@@ -300,7 +304,7 @@ fn below_of(keyword: Option<Keyword>) -> Below {
         Some(
             Keyword::Seq
             | Keyword::Proc
-            | Keyword::Unsupported(Unsupported::While | Unsupported::Par),
+            | Keyword::Unsupported(Unsupported::While | Unsupported::Par | Unsupported::Inline),
         ) => Below::Processes,
         Some(Keyword::If) => Below::Choices,
         Some(Keyword::Case) => Below::Cases,

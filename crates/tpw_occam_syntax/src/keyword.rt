@@ -21,6 +21,8 @@ pub enum Unsupported {
     Width,
     /// `PROTOCOL`, `RECORD`, `DATA`, `TYPE`, `PACKED`, `BYTESIN`, `OFFSETOF`
     Type,
+    /// `CHAN` of a declaration
+    Channel,
     /// `RESHAPES`
     Reshape,
     /// `INLINE`
@@ -52,6 +54,9 @@ impl fmt::Display for Unsupported {
                 "channels carry INT, [n]INT or [n]BYTE, and arrays have elements of these",
             Unsupported::ValueProcess =>
                 "a FUNCTION is one expression, behind IS; write a PROC for more",
+            Unsupported::Channel => {
+                "a worker declares no channels: it has the packet's, the result's and the traces'"
+            }
             Unsupported::Reshape => "arrays have one dimension: RETYPES names one's bytes or words",
             Unsupported::Inline => "each PROC and FUNCTION is put in line: leave INLINE out",
             Unsupported::Slice => "there are no slices: name elements, or copy in a replicated SEQ",

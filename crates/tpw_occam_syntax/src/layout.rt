@@ -156,8 +156,10 @@ impl<'a> Layout<'a> {
     fn put(&mut self, alloc: Global, line: Line<'a>) -> Result<(), AllocError> {
         let span = line.span();
         if !self.nest.close(line.indent)? {
-            if let Some(kind) = self.nest.indentation(line.indent) {
-                self.fault(kind, front(line.indent, span.line))?;
+            match self.nest.indentation(line.indent) {
+                Some(_) if line.is_doubtful => self.is_laid_out = false,
+                Some(kind) => self.fault(kind, front(line.indent, span.line))?,
+                None => {}
             }
         }
         if self.nest.chain.len() > MOST_LEVELS {

@@ -173,16 +173,23 @@ fn character(rest: &str) -> Read<'_> {
     }
 }
 
+/// What is wrong with what stands within the quotes of a character.
+fn bad_kind(within: &str) -> FaultKind {
+    if run(within, Class::Wide) > 0 {
+        return FaultKind::NotAscii;
+    }
+    if within.starts_with("*") && quoted(within).is_none() {
+        return FaultKind::BadEscape;
+    }
+    FaultKind::BadCharacter
+}
+
 /// A character that is none: it goes to the next quote, or else to the end of the line.
 fn bad_character(rest: &str, within: &str) -> Bad {
     if rest.starts_with("'''") {
         return Bad::whole(FaultKind::BadCharacter, 3);
     }
-    let kind = if run(within, Class::Wide) > 0 {
-        FaultKind::NotAscii
-    } else {
-        FaultKind::BadCharacter
-    };
+    let kind = bad_kind(within);
     match within.as_bytes().iter().position(|byte| *byte == b'\'') {
         Some(at) => Bad::whole(kind, at.saturating_add(2)),
         None => Bad::whole(kind, rest.len()),

@@ -195,7 +195,9 @@ impl Parser {
             second,
         } = self.level(&block.below, depth)?;
         if let Some(second) = second {
-            self.want(Wanted::OneProcess, second)?;
+            if !steps.iter().any(|step| matches!(step, Process::Wrong)) {
+                self.want(Wanted::OneProcess, second)?;
+            }
             return Ok(Process::Sequence {
                 steps,
                 span: block.span,
