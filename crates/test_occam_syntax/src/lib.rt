@@ -6,6 +6,12 @@ mod asserts;
 #[cfg(test)]
 mod faults;
 #[cfg(test)]
+mod hostile;
+#[cfg(test)]
+mod layout;
+#[cfg(test)]
+mod literals;
+#[cfg(test)]
 mod shown;
 #[cfg(test)]
 mod trees;

@@ -166,6 +166,22 @@ fn put_parameters(out: &mut String, parameters: &[Parameters<'_>]) -> Result<(),
     Ok(())
 }
 
+/// A constant, or a value.
+fn put_value(
+    out: &mut String,
+    of: Option<&Type<'_>>,
+    name: &Name<'_>,
+    value: &Expression<'_>,
+) -> Result<(), AllocError> {
+    out.push_str("VAL ")?;
+    if let Some(of) = of {
+        put_type(out, of)?;
+        out.push_str(" ")?;
+    }
+    write!(out, "{} ", name.text)?;
+    put_expression(out, value)
+}
+
 /// A declaration, in brackets.
 #[cycle(processes)]
 pub(crate) fn put_declaration(
@@ -174,15 +190,7 @@ pub(crate) fn put_declaration(
 ) -> Result<(), AllocError> {
     out.push_str("(")?;
     match declaration {
-        Declaration::Value { of, name, value } => {
-            out.push_str("VAL ")?;
-            if let Some(of) = of {
-                put_type(out, of)?;
-                out.push_str(" ")?;
-            }
-            write!(out, "{} ", name.text)?;
-            put_expression(out, value)?;
-        }
+        Declaration::Value { of, name, value } => put_value(out, of.as_ref(), name, value)?,
         Declaration::Variables { of, names } => {
             put_type(out, of)?;
             put_names(out, names)?;
@@ -230,6 +238,52 @@ fn put_steps(out: &mut String, steps: &[Process<'_>]) -> Result<(), AllocError> 
     Ok(())
 }
 
+/// Guards, each with its process.
+#[cycle(processes)]
+fn put_choices(
+    out: &mut String,
+    choices: &[(Expression<'_>, Process<'_>)],
+) -> Result<(), AllocError> {
+    for (guard, process) in choices {
+        out.push_str(" ")?;
+        put_expression(out, guard)?;
+        out.push_str(": ")?;
+        put_process(out, process)?;
+    }
+    Ok(())
+}
+
+/// Lists of constants, each with its process.
+#[cycle(processes)]
+fn put_cases(
+    out: &mut String,
+    choices: &[(Vec<Expression<'_>>, Process<'_>)],
+) -> Result<(), AllocError> {
+    for (constants, process) in choices {
+        out.push_str(" ")?;
+        put_list(out, constants)?;
+        out.push_str(": ")?;
+        put_process(out, process)?;
+    }
+    Ok(())
+}
+
+/// Declarations and their process, in brackets.
+#[cycle(processes)]
+fn put_declared(
+    out: &mut String,
+    declarations: &[Declaration<'_>],
+    process: &Process<'_>,
+) -> Result<(), AllocError> {
+    out.push_str("(")?;
+    for declaration in declarations {
+        put_declaration(out, declaration)?;
+        out.push_str(" ")?;
+    }
+    put_process(out, process)?;
+    out.push_str(")")
+}
+
 /// A process, in brackets.
 #[cycle(processes)]
 pub(crate) fn put_process(out: &mut String, process: &Process<'_>) -> Result<(), AllocError> {
@@ -266,12 +320,7 @@ pub(crate) fn put_process(out: &mut String, process: &Process<'_>) -> Result<(),
         }
         Process::If { choices, .. } => {
             out.push_str("(IF")?;
-            for (guard, process) in choices {
-                out.push_str(" ")?;
-                put_expression(out, guard)?;
-                out.push_str(": ")?;
-                put_process(out, process)?;
-            }
+            put_choices(out, choices)?;
             out.push_str(")")
         }
         Process::Case {
@@ -281,12 +330,7 @@ pub(crate) fn put_process(out: &mut String, process: &Process<'_>) -> Result<(),
         } => {
             out.push_str("(CASE ")?;
             put_expression(out, selector)?;
-            for (constants, process) in choices {
-                out.push_str(" ")?;
-                put_list(out, constants)?;
-                out.push_str(": ")?;
-                put_process(out, process)?;
-            }
+            put_cases(out, choices)?;
             out.push_str(")")
         }
         Process::Call {
@@ -312,15 +356,7 @@ pub(crate) fn put_process(out: &mut String, process: &Process<'_>) -> Result<(),
         Process::Declared {
             declarations,
             process,
-        } => {
-            out.push_str("(")?;
-            for declaration in declarations {
-                put_declaration(out, declaration)?;
-                out.push_str(" ")?;
-            }
-            put_process(out, process)?;
-            out.push_str(")")
-        }
+        } => put_declared(out, declarations, process),
         Process::Wrong => out.push_str("wrong"),
     }
 }

@@ -18,7 +18,7 @@ pub(crate) fn assert_read(rt: &impl Abort, alloc: Global, text: &str, shown: &st
 }
 
 /// Asserts what the value is of the only declaration of a text.
-fn assert_value(rt: &impl Abort, alloc: Global, expression: &str, shown: &str) {
+pub(crate) fn assert_value(rt: &impl Abort, alloc: Global, expression: &str, shown: &str) {
     let mut text = String::new(alloc);
     unwrap(rt, text.push_str("VAL x IS "));
     unwrap(rt, text.push_str(expression));

@@ -214,7 +214,7 @@ pub struct Fault {
 }
 
 /// The first faults of a text by their places, at most [`MOST_FAULTS`].
-#[derive(Debug, Drop)]
+#[derive(Drop)]
 pub(crate) struct Faults {
     first: Vec<Fault>,
 }

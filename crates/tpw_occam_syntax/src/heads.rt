@@ -24,7 +24,7 @@ pub(crate) enum Entry<'a> {
 }
 
 /// What stands below a line with a fault, as its first word tells.
-#[derive(Clone, Copy, PartialEq, Eq)]
+#[derive(Clone, Copy)]
 pub(crate) enum Below {
     Unknown,
     Processes,

@@ -67,7 +67,7 @@ impl fmt::Display for Unsupported {
 }
 
 /// A keyword.
-#[derive(Clone, Copy, Debug, PartialEq, Eq)]
+#[derive(Clone, Copy, PartialEq)]
 pub enum Keyword {
     After,
     And,

@@ -13,7 +13,7 @@ use std::alloc::{AllocError, Global};
 const MOST_LEVELS: usize = 60;
 
 /// A line with what stands below it.
-#[derive(Debug, Drop)]
+#[derive(Drop)]
 pub(crate) struct Block<'a> {
     /// From its first token to its last on the same line of the text.
     pub span: Span,
@@ -29,7 +29,7 @@ pub(crate) struct Block<'a> {
 }
 
 /// The lines of a text.
-#[derive(Debug, Drop)]
+#[derive(Drop)]
 pub(crate) struct Lines<'a> {
     pub blocks: Vec<Block<'a>>,
     pub faults: Faults,

@@ -73,7 +73,8 @@ impl<'a> Line<'a> {
     pub(crate) fn is_by_itself(&self) -> bool {
         let first = self.items.first().map(|item| item.token);
         let last = self.items.last().map(|item| item.token);
-        matches!(first, Some(Token::Keyword(_))) || last == Some(Token::Symbol(Symbol::Colon))
+        matches!(first, Some(Token::Keyword(_)))
+            || matches!(last, Some(Token::Symbol(Symbol::Colon)))
     }
 
     /// Appends a token.

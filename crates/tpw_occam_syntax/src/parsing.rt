@@ -1,11 +1,15 @@
 //! Declarations and processes, read from nested lines.
 
+ghost use Rattle.std.specs.Prelude.{◌≤◌, All, IfOk, vec_len};
+ghost use Rattle.tpw_occam_syntax.specs.Places.{LiesIn};
+
 use crate::expression::Expression;
 use crate::fault::{Fault, FaultKind, Faults, Wanted};
 use crate::heads::{
     Below, Entry, Head, constants, guard, head_of, is_end, wanted_fault, wrong_head,
 };
 use crate::layout::{Block, Lines, lines_of};
+use crate::places::placed_faults;
 use crate::span::Span;
 use crate::stop::Stop;
 use crate::tree::{Declaration, Name, Parameters, Process};
@@ -456,7 +460,10 @@ pub struct Source<'a> {
 }
 
 /// Reads a text. What has a fault is left out or [`Wrong`](Process::Wrong), and all else is read.
-pub fn parse<'a>(alloc: Global, text: &'a str) -> Result<Source<'a>, AllocError> {
+pub fn parse<'a>(alloc: Global, text: &'a str) -> Result<Source<'a>, AllocError>
+    ensures few { IfOk result (λ s. vec_len s.faults ≤ 20) }
+    ensures placed { IfOk result (λ s. All (λ f. LiesIn text.now f.span) s.faults.items) }
+{
     let Lines {
         blocks,
         faults,
@@ -468,9 +475,11 @@ pub fn parse<'a>(alloc: Global, text: &'a str) -> Result<Source<'a>, AllocError>
         is_laid_out,
     };
     let declarations = parser.declarations(&blocks)?;
+    let found = parser.faults.into_vec();
+    let faults = placed_faults(alloc, text, &found)?;
     Ok(Source {
         declarations,
-        faults: parser.faults.into_vec(),
+        faults,
         is_laid_out,
     })
 }

@@ -136,7 +136,7 @@ pub(crate) fn up_to_comma(trees: &[Tree<'_>]) -> usize {
 }
 
 /// What stands between commas.
-#[derive(Clone, Copy, PartialEq, Eq)]
+#[derive(Clone, Copy)]
 pub(crate) enum ListKind {
     Expressions,
     /// Expressions, or names of channels with `?` or `!` behind them.
@@ -152,8 +152,8 @@ fn list_item<'a>(
     end: Span,
     depth: usize,
 ) -> Result<Expression<'a>, Stop> {
-    match channel(trees) {
-        Some(name) if kind == ListKind::Arguments => Ok(name),
+    match (kind, channel(trees)) {
+        (ListKind::Arguments, Some(name)) => Ok(name),
         _ => expression(alloc, trees, end, depth),
     }
 }

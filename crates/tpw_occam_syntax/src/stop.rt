@@ -4,7 +4,7 @@ use crate::fault::Fault;
 use std::alloc::{AllocError, AllocFailed};
 
 /// Why nothing was read.
-#[derive(Clone, Copy, Debug, PartialEq, Eq)]
+#[derive(Clone, Copy)]
 pub(crate) enum Stop {
     Fault(Fault),
     Memory,

@@ -1,7 +1,7 @@
 //! Symbols.
 
 /// An operator or a mark.
-#[derive(Clone, Copy, Debug, PartialEq, Eq)]
+#[derive(Clone, Copy, PartialEq)]
 pub enum Symbol {
     /// `:=`
     Becomes,
