@@ -154,4 +154,8 @@ pub enum Expression<'a> {
         left: Box<Expression<'a>>,
         right: Box<Expression<'a>>,
     },
+    /// An expression with a fault.
+    Wrong {
+        span: Span,
+    },
 }

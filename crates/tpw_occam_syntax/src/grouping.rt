@@ -1,10 +1,10 @@
 //! Tokens as trees, by their brackets.
 
 use crate::fault::{Fault, FaultKind};
-use crate::lexing::Stop;
 use crate::span::Span;
+use crate::stop::Stop;
 use crate::token::{Bracket, Item, Token, Tree};
-use std::alloc::Global;
+use std::alloc::{AllocError, Global};
 
 /// The most brackets within one another.
 const MOST_BRACKETS: usize = 60;
@@ -83,4 +83,18 @@ pub(crate) fn trees_of<'a>(alloc: Global, items: &[Item<'a>]) -> Result<Vec<Tree
         return fault(FaultKind::Unclosed, open.span);
     }
     Ok(trees.outside)
+}
+
+/// Tokens, each a tree by itself, without brackets.
+pub(crate) fn flat_trees<'a>(
+    alloc: Global,
+    items: &[Item<'a>],
+) -> Result<Vec<Tree<'a>>, AllocError> {
+    let mut trees = Vec::new(alloc);
+    for item in items {
+        if !matches!(item.token, Token::Open(_) | Token::Close(_)) {
+            trees.push(Tree::Item(*item))?;
+        }
+    }
+    Ok(trees)
 }

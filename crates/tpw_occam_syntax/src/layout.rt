@@ -1,40 +1,253 @@
 //! Lines, nested by their indentation.
 
-use crate::fault::{Fault, FaultKind};
-use crate::grouping::trees_of;
-use crate::keyword::Keyword;
-use crate::lexing::{Stop, put_tokens};
+use crate::fault::{Fault, FaultKind, Faults};
+use crate::grouping::{flat_trees, trees_of};
+use crate::lexing::is_rest;
+use crate::line::Line;
 use crate::span::Span;
-use crate::token::{Item, Token, Tree};
+use crate::stop::Stop;
+use crate::token::Tree;
 use std::alloc::{AllocError, Global};
 
-/// The most levels of lines.
+/// The most lines that stand below one another, below the first.
 const MOST_LEVELS: usize = 60;
 
-/// A line with what stands below it. A line with a fault of its own has no trees.
-#[derive(Debug, Drop)]
-pub struct Block<'a> {
-    /// From its first token to its last.
+/// A line with what stands below it.
+#[derive(Drop)]
+pub(crate) struct Block<'a> {
+    /// From its first token to its last on the same line of the text.
     pub span: Span,
+    /// The place behind it.
+    pub end: Span,
+    /// Where it has a fault, its tokens without brackets.
     pub trees: Vec<Tree<'a>>,
+    /// Whether it has a fault that was told.
     pub is_wrong: bool,
+    /// The first word in it of what occam has, and this language has not: a fault that was not told yet.
+    pub unsupported: Option<Fault>,
     pub below: Vec<Block<'a>>,
 }
 
-/// A line that is being read, which may go on with the next.
+/// The lines of a text.
 #[derive(Drop)]
-struct Pending<'a> {
-    indent: usize,
-    number: usize,
-    items: Vec<Item<'a>>,
-    is_wrong: bool,
+pub(crate) struct Lines<'a> {
+    pub blocks: Vec<Block<'a>>,
+    pub faults: Faults,
+    /// Whether each line's indentation is right. Else it is not known what stands below what.
+    pub is_laid_out: bool,
 }
 
-/// Blocks under way: those that are done, and a chain of lines that others may stand below.
+/// A line that others may stand below.
+#[derive(Drop)]
+struct Open<'a> {
+    indent: usize,
+    block: Block<'a>,
+}
+
+/// Lines under way: those that are done, and a chain of lines that stand below one another.
 #[derive(Drop)]
 struct Nest<'a> {
     done: Vec<Block<'a>>,
-    chain: Vec<Block<'a>>,
+    chain: Vec<Open<'a>>,
+}
+
+impl<'a> Nest<'a> {
+    /// A line is done: it goes below the last one of the chain.
+    fn hang(&mut self, block: Block<'a>) -> Result<(), AllocError> {
+        match self.chain.last_mut() {
+            Some(above) => above.block.below.push(block)?,
+            None => self.done.push(block)?,
+        }
+        Ok(())
+    }
+
+    /// Ends the lines that are indented as deep as a line, or deeper. Whether one of them was as deep.
+    fn close(&mut self, indent: usize) -> Result<bool, AllocError> {
+        for _ in 0..self.chain.len() {
+            if self.chain.last().is_none_or(|last| last.indent < indent) {
+                return Ok(false);
+            }
+            let Some(last) = self.chain.pop() else {
+                return Ok(false);
+            };
+            self.hang(last.block)?;
+            if last.indent == indent {
+                return Ok(true);
+            }
+        }
+        Ok(false)
+    }
+
+    /// Ends all lines.
+    fn finish(&mut self) -> Result<(), AllocError> {
+        for _ in 0..self.chain.len() {
+            let Some(last) = self.chain.pop() else {
+                return Ok(());
+            };
+            self.hang(last.block)?;
+        }
+        Ok(())
+    }
+
+    /// What is wrong with the indentation of a line that is the first below the last one of the chain.
+    fn indentation(&self, indent: usize) -> Option<FaultKind> {
+        let wanted = match self.chain.last() {
+            Some(above) => above.indent.saturating_add(2),
+            None => 0,
+        };
+        match indent.abs_diff(wanted) {
+            0 => None,
+            off if off % 2 == 1 => Some(FaultKind::OddIndent),
+            _ => Some(FaultKind::DeepIndent),
+        }
+    }
+}
+
+/// A text that is being nested.
+#[derive(Drop)]
+struct Layout<'a> {
+    nest: Nest<'a>,
+    faults: Faults,
+    is_laid_out: bool,
+    /// Whether the last line was too deep.
+    is_deep: bool,
+}
+
+/// The front of a line.
+fn front(indent: usize, line: usize) -> Span {
+    Span {
+        line,
+        column: 1,
+        width: indent,
+    }
+}
+
+/// A line's tokens as trees, and whether it has a fault.
+fn trees_of_line<'a>(
+    alloc: Global,
+    line: &Line<'a>,
+    faults: &mut Faults,
+) -> Result<(Vec<Tree<'a>>, bool), AllocError> {
+    let told = line.is_doubtful || line.unsupported.is_some() || !line.faults.is_empty();
+    if line.unsupported.is_none() && !line.is_doubtful {
+        for fault in &line.faults {
+            faults.put(*fault)?;
+        }
+    }
+    match trees_of(alloc, &line.items) {
+        Ok(trees) => Ok((trees, told)),
+        Err(Stop::Memory) => Err(AllocError),
+        Err(Stop::Fault(fault)) => {
+            if !told {
+                faults.put(fault)?;
+            }
+            Ok((flat_trees(alloc, &line.items)?, true))
+        }
+    }
+}
+
+impl<'a> Layout<'a> {
+    fn fault(&mut self, kind: FaultKind, span: Span) -> Result<(), AllocError> {
+        self.is_laid_out = false;
+        self.faults.put(Fault { span, kind })
+    }
+
+    /// A line is whole: it goes below the last one that is indented less.
+    fn put(&mut self, alloc: Global, line: Line<'a>) -> Result<(), AllocError> {
+        let span = line.span();
+        if !self.nest.close(line.indent)? {
+            match self.nest.indentation(line.indent) {
+                Some(_) if line.is_doubtful => self.is_laid_out = false,
+                Some(kind) => self.fault(kind, front(line.indent, span.line))?,
+                None => {}
+            }
+        }
+        if self.nest.chain.len() > MOST_LEVELS {
+            if !self.is_deep {
+                self.fault(FaultKind::TooDeep, span)?;
+            }
+            self.is_deep = true;
+            return Ok(());
+        }
+        self.is_deep = false;
+        let (trees, is_wrong) = trees_of_line(alloc, &line, &mut self.faults)?;
+        self.nest.chain.push(Open {
+            indent: line.indent,
+            block: Block {
+                span,
+                end: line.end,
+                trees,
+                is_wrong,
+                unsupported: if line.is_doubtful {
+                    None
+                } else {
+                    line.unsupported
+                },
+                below: Vec::new(alloc),
+            },
+        })?;
+        Ok(())
+    }
+
+    /// A line of the text begins one, once the one above it is whole.
+    fn begin(
+        &mut self,
+        alloc: Global,
+        above: Option<Line<'a>>,
+        text: &'a str,
+        number: usize,
+    ) -> Result<Line<'a>, AllocError> {
+        let indent = indent_of(text);
+        let mut line = Line::new(alloc, indent, number);
+        line.take(text, number)?;
+        if text.as_bytes().get(indent) == Some(&b'\t') {
+            self.is_laid_out = false;
+        }
+        let Some(mut whole) = above else {
+            return Ok(line);
+        };
+        if whole.goes_on {
+            line.is_doubtful = !line.is_by_itself();
+            let kind = FaultKind::ShallowRest;
+            whole.put_fault(kind, front(indent, number))?;
+        }
+        self.put(alloc, whole)?;
+        Ok(line)
+    }
+
+    /// The text's next line: it goes on with the one that is pending, or begins another.
+    fn next(
+        &mut self,
+        alloc: Global,
+        pending: Option<Line<'a>>,
+        text: &'a str,
+        number: usize,
+    ) -> Result<Option<Line<'a>>, AllocError> {
+        let indent = indent_of(text);
+        if is_blank(text, indent) {
+            return Ok(pending);
+        }
+        match pending {
+            Some(mut above) if above.goes_on && indent >= above.indent => {
+                above.take(text, number)?;
+                Ok(Some(above))
+            }
+            Some(mut above) if indent > above.indent && is_rest(text.get(indent..).unwrap_or("")) =>
+                {
+                    above.put_fault(
+                        FaultKind::EarlyBreak,
+                        Span {
+                            line: number,
+                            column: indent.saturating_add(1),
+                            width: 1,
+                        },
+                    )?;
+                    above.take(text, number)?;
+                    Ok(Some(above))
+                }
+            above => Ok(Some(self.begin(alloc, above, text, number)?)),
+        }
+    }
 }
 
 /// How many spaces stand in front of a line.
@@ -44,150 +257,6 @@ fn indent_of(line: &str) -> usize {
         .iter()
         .position(|byte| *byte != b' ')
         .unwrap_or(bytes.len())
-}
-
-/// Whether a line may go on behind a token.
-fn is_open(token: Token<'_>) -> bool {
-    match token {
-        Token::Open(_) => true,
-        Token::Symbol(symbol) => symbol.is_open(),
-        Token::Keyword(keyword) => matches!(
-            keyword,
-            Keyword::Is
-                | Keyword::After
-                | Keyword::And
-                | Keyword::BitAnd
-                | Keyword::BitOr
-                | Keyword::Minus
-                | Keyword::Or
-                | Keyword::Plus
-                | Keyword::Rem
-                | Keyword::Times
-        ),
-        _ => false,
-    }
-}
-
-impl<'a> Pending<'a> {
-    fn goes_on(&self) -> bool {
-        !self.is_wrong && self.items.last().is_some_and(|item| is_open(item.token))
-    }
-
-    /// From its first token to its last on the same line.
-    fn span(&self) -> Span {
-        let first = match self.items.first() {
-            Some(item) => item.span,
-            None => Span {
-                line: self.number,
-                column: self.indent.saturating_add(1),
-                width: 1,
-            },
-        };
-        match self.items.last() {
-            Some(last) if last.span.line == first.line => {
-                let end = last.span.column.saturating_add(last.span.width);
-                Span {
-                    width: end.saturating_sub(first.column),
-                    ..first
-                }
-            }
-            _ => first,
-        }
-    }
-}
-
-impl<'a> Nest<'a> {
-    /// Closes the lines of the chain from a level on.
-    fn close(&mut self, level: usize) -> Result<(), AllocError> {
-        for _ in 0..self.chain.len() {
-            if self.chain.len() <= level {
-                return Ok(());
-            }
-            let Some(block) = self.chain.pop() else {
-                return Ok(());
-            };
-            match self.chain.last_mut() {
-                Some(above) => above.below.push(block)?,
-                None => self.done.push(block)?,
-            }
-        }
-        Ok(())
-    }
-}
-
-/// A text that is being nested.
-#[derive(Drop)]
-struct Layout<'a> {
-    nest: Nest<'a>,
-    faults: Vec<Fault>,
-}
-
-impl<'a> Layout<'a> {
-    fn fault(&mut self, kind: FaultKind, span: Span) -> Result<(), AllocError> {
-        self.faults.push(Fault { span, kind })?;
-        Ok(())
-    }
-
-    /// The level of a line, with a fault where it has none.
-    fn level(&mut self, indent: usize, span: Span) -> Result<usize, AllocError> {
-        let level = indent / 2;
-        let front = Span {
-            line: span.line,
-            column: 1,
-            width: indent.max(1),
-        };
-        if indent % 2 != 0 {
-            self.fault(FaultKind::OddIndent, front)?;
-        } else if level > MOST_LEVELS {
-            self.fault(FaultKind::TooDeep, front)?;
-        } else if level > self.nest.chain.len() {
-            self.fault(FaultKind::DeepIndent, front)?;
-        }
-        Ok(level.min(MOST_LEVELS).min(self.nest.chain.len()))
-    }
-
-    /// A line is whole: it goes below the last one of a level less.
-    fn put(&mut self, alloc: Global, line: Pending<'a>) -> Result<(), AllocError> {
-        let span = line.span();
-        let mut is_wrong = line.is_wrong;
-        let trees = match trees_of(alloc, &line.items) {
-            Ok(trees) => trees,
-            Err(Stop::Memory) => return Err(AllocError),
-            Err(Stop::Fault(fault)) => {
-                self.faults.push(fault)?;
-                is_wrong = true;
-                Vec::new(alloc)
-            }
-        };
-        // A line that goes on to the end of the text, or is wrong, still closes those that are indented as far.
-        let level = self.level(line.indent, span)?;
-        self.nest.close(level)?;
-        self.nest.chain.push(Block {
-            span,
-            trees,
-            is_wrong,
-            below: Vec::new(alloc),
-        })?;
-        Ok(())
-    }
-
-    /// The tokens of one more line of the text go behind those of a line.
-    fn take(
-        &mut self,
-        line: &mut Pending<'a>,
-        text: &'a str,
-        number: usize,
-    ) -> Result<(), AllocError> {
-        match put_tokens(&mut line.items, text, number) {
-            Ok(()) => Ok(()),
-            Err(Stop::Memory) => Err(AllocError),
-            Err(Stop::Fault(fault)) => {
-                self.faults.push(fault)?;
-                line.is_wrong = true;
-                Ok(())
-            }
-        }
-    }
 }
 
 /// Whether nothing stands in a line but a comment.
@@ -201,97 +270,16 @@ fn without_return(line: &str) -> &str {
     line.strip_suffix('\r').unwrap_or(line)
 }
 
-/// The lines of a text, nested, and what is wrong with them.
-#[derive(Debug, Drop)]
-pub struct Lines<'a> {
-    pub blocks: Vec<Block<'a>>,
-    pub faults: Vec<Fault>,
-}
-
-impl<'a> Layout<'a> {
-    /// A line that stands by itself begins, once the one above it is whole.
-    fn begin(
-        &mut self,
-        alloc: Global,
-        above: Option<Pending<'a>>,
-        indent: usize,
-        text: &'a str,
-        number: usize,
-    ) -> Result<Pending<'a>, AllocError> {
-        if let Some(whole) = above {
-            self.put(alloc, whole)?;
-        }
-        let mut line = Pending {
-            indent,
-            number,
-            items: Vec::new(alloc),
-            is_wrong: false,
-        };
-        self.take(&mut line, text, number)?;
-        Ok(line)
-    }
-
-    /// A line goes on with the text's next one.
-    fn go_on(
-        &mut self,
-        mut above: Pending<'a>,
-        indent: usize,
-        text: &'a str,
-        number: usize,
-    ) -> Result<Pending<'a>, AllocError> {
-        if indent < above.indent {
-            self.fault(
-                FaultKind::ShallowRest,
-                Span {
-                    line: number,
-                    column: 1,
-                    width: indent.max(1),
-                },
-            )?;
-        }
-        self.take(&mut above, text, number)?;
-        Ok(above)
-    }
-
-    /// The text's next line: it goes on with the one that is pending, or begins another.
-    fn next(
-        &mut self,
-        alloc: Global,
-        pending: Option<Pending<'a>>,
-        text: &'a str,
-        number: usize,
-    ) -> Result<Option<Pending<'a>>, AllocError> {
-        let indent = indent_of(text);
-        if is_blank(text, indent) {
-            return Ok(pending);
-        }
-        if text.as_bytes().get(indent) == Some(&b'\t') {
-            self.fault(
-                FaultKind::Tab,
-                Span {
-                    line: number,
-                    column: indent.saturating_add(1),
-                    width: 1,
-                },
-            )?;
-        }
-        match pending {
-            Some(above) if above.goes_on() => Ok(Some(self.go_on(above, indent, text, number)?)),
-            above => Ok(Some(self.begin(alloc, above, indent, text, number)?)),
-        }
-    }
-}
-
-/// The lines of a text, nested by their indentation: two spaces a level. A line with a fault is marked as wrong, and what stands below it is
-/// read all the same.
-pub fn lines_of<'a>(alloc: Global, text: &'a str) -> Result<Lines<'a>, AllocError> {
-    let nest = Nest {
-        done: Vec::new(alloc),
-        chain: Vec::new(alloc),
-    };
+/// The lines of a text, nested by their indentation: two spaces a level. What stands below a line with a fault is read all the same.
+pub(crate) fn lines_of<'a>(alloc: Global, text: &'a str) -> Result<Lines<'a>, AllocError> {
     let mut layout = Layout {
-        nest,
-        faults: Vec::new(alloc),
+        nest: Nest {
+            done: Vec::new(alloc),
+            chain: Vec::new(alloc),
+        },
+        faults: Faults::new(alloc),
+        is_laid_out: true,
+        is_deep: false,
     };
     let mut pending = None;
     for (index, line) in text.split('\n').enumerate() {
@@ -305,11 +293,17 @@ pub fn lines_of<'a>(alloc: Global, text: &'a str) -> Result<Lines<'a>, AllocErro
     if let Some(whole) = pending {
         layout.put(alloc, whole)?;
     }
-    layout.nest.close(0)?;
-    let Layout { nest, faults } = layout;
+    layout.nest.finish()?;
+    let Layout {
+        nest,
+        faults,
+        is_laid_out,
+        is_deep: _,
+    } = layout;
     let Nest { done, chain: _ } = nest;
     Ok(Lines {
         blocks: done,
         faults,
+        is_laid_out,
     })
 }

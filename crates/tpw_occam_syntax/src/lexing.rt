@@ -1,40 +1,47 @@
-//! The tokens of a line.
+//! Tokens.
 
-use crate::fault::{Fault, FaultKind};
+use crate::fault::FaultKind;
 use crate::keyword::Keyword;
-use crate::span::Span;
 use crate::symbol::Symbol;
-use crate::token::{Bracket, Item, Token};
-use std::alloc::{AllocError, AllocFailed, Global};
+use crate::token::{Bracket, Token};
+use std::alloc::{AllocError, Global};
 
-/// Why a line has no tokens.
-#[derive(Clone, Copy, Debug, PartialEq, Eq)]
-pub(crate) enum Stop {
-    Fault(Fault),
-    Memory,
+/// What is wrong at the front of a text: which bytes are shown, and how many are passed over.
+#[derive(Clone, Copy)]
+pub(crate) struct Bad {
+    pub kind: FaultKind,
+    pub from: usize,
+    pub width: usize,
+    pub bytes: usize,
 }
 
-impl From<AllocError> for Stop {
-    fn from(_: AllocError) -> Self {
-        Stop::Memory
+impl Bad {
+    /// All bytes that are passed over are wrong.
+    fn whole(kind: FaultKind, bytes: usize) -> Bad {
+        Bad {
+            kind,
+            from: 0,
+            width: bytes,
+            bytes,
+        }
     }
 }
 
-impl<T: Drop> From<AllocFailed<T>> for Stop {
-    fn from(_: AllocFailed<T>) -> Self {
-        Stop::Memory
-    }
-}
+/// A token and how many bytes it has, or what is wrong.
+type Read<'a> = Result<(Token<'a>, usize), Bad>;
 
-/// A token and how many bytes it has, or what is wrong with so many bytes.
-type Read<'a> = Result<(Token<'a>, usize), (FaultKind, usize)>;
-
-/// What bytes a word, a number or a hexadecimal number goes on with.
+/// What bytes a run of bytes has.
 #[derive(Clone, Copy)]
 enum Class {
+    /// Those of a name or a keyword.
     Word,
     Digit,
     Hexadecimal,
+    /// Those that no token begins with.
+    Foreign,
+    /// Those that are not ASCII.
+    Wide,
+    Tab,
 }
 
 impl Class {
@@ -42,9 +49,40 @@ impl Class {
         match self {
             Class::Word => byte.is_ascii_alphanumeric() || byte == b'.',
             Class::Digit => byte.is_ascii_digit(),
-            Class::Hexadecimal => byte.is_ascii_hexdigit(),
+            Class::Hexadecimal => byte.is_ascii_digit() || matches!(byte, b'A'..=b'F'),
+            Class::Foreign => !(byte.is_ascii_alphanumeric() || is_mark(byte)),
+            Class::Wide => !byte.is_ascii(),
+            Class::Tab => byte == b'\t',
         }
     }
+}
+
+/// Whether a byte is a space, or begins a token that is no word and no number.
+fn is_mark(byte: u8) -> bool {
+    matches!(
+        byte,
+        b' ' | b'\t'
+            | b'#'
+            | b'\''
+            | b'"'
+            | b'('
+            | b')'
+            | b'['
+            | b']'
+            | b':'
+            | b','
+            | b'?'
+            | b'!'
+            | b'+'
+            | b'-'
+            | b'*'
+            | b'/'
+            | b'\\'
+            | b'~'
+            | b'<'
+            | b'='
+            | b'>'
+    )
 }
 
 /// How many bytes at the front of a text are of a class.
@@ -62,7 +100,7 @@ fn front(text: &str, bytes: usize) -> &str {
 }
 
 /// A text without its first bytes.
-fn behind(text: &str, bytes: usize) -> &str {
+pub(crate) fn behind(text: &str, bytes: usize) -> &str {
     text.get(bytes..).unwrap_or("")
 }
 
@@ -82,7 +120,7 @@ fn decimal(rest: &str) -> Read<'_> {
     let bytes = run(rest, Class::Digit);
     match front(rest, bytes).parse::<u32>() {
         Ok(number) if number <= GREATEST => Ok((Token::Number(number), bytes)),
-        _ => Err((FaultKind::BigNumber, bytes)),
+        _ => Err(Bad::whole(FaultKind::BigNumber, bytes)),
     }
 }
 
@@ -91,7 +129,7 @@ fn hexadecimal(rest: &str) -> Read<'_> {
     let digits = run(behind(rest, 1), Class::Hexadecimal);
     match u32::from_str_radix(front(behind(rest, 1), digits), 16) {
         Ok(number) if digits <= 8 => Ok((Token::Number(number), digits.saturating_add(1))),
-        _ => Err((FaultKind::BadHexadecimal, digits.saturating_add(1))),
+        _ => Err(Bad::whole(FaultKind::BadHexadecimal, digits.saturating_add(1))),
     }
 }
 
@@ -113,14 +151,15 @@ fn escape(rest: &str) -> Option<(u8, usize)> {
     }
 }
 
-/// The byte at the front of what stands within quotes, and how many bytes spell it.
-pub(crate) fn quoted(rest: &str) -> Option<(u8, usize)> {
+/// The byte at the front of what stands within quotes, and how many bytes spell it; none where they spell nothing.
+fn quoted(rest: &str) -> Option<(u8, usize)> {
     match rest.as_bytes().first()? {
         b'*' => {
             let (byte, more) = escape(behind(rest, 1))?;
             Some((byte, more.saturating_add(1)))
         }
-        byte => Some((*byte, 1)),
+        byte if byte.is_ascii() => Some((*byte, 1)),
+        _ => None,
     }
 }
 
@@ -130,7 +169,71 @@ fn character(rest: &str) -> Read<'_> {
     match quoted(within) {
         Some((byte, bytes)) if behind(within, bytes).starts_with("'") && !within.starts_with("'") =>
             { Ok((Token::Character(byte), bytes.saturating_add(2))) }
-        _ => Err((FaultKind::BadCharacter, 1)),
+        _ => Err(bad_character(rest, within)),
+    }
+}
+
+/// What is wrong with what stands within the quotes of a character.
+fn bad_kind(within: &str) -> FaultKind {
+    if run(within, Class::Wide) > 0 {
+        return FaultKind::NotAscii;
+    }
+    if within.starts_with("*") && quoted(within).is_none() {
+        return FaultKind::BadEscape;
+    }
+    FaultKind::BadCharacter
+}
+
+/// A character that is none: it goes to the next quote, or else to the end of the line.
+fn bad_character(rest: &str, within: &str) -> Bad {
+    if rest.starts_with("'''") {
+        return Bad::whole(FaultKind::BadCharacter, 3);
+    }
+    let kind = bad_kind(within);
+    match within.as_bytes().iter().position(|byte| *byte == b'\'') {
+        Some(at) => Bad::whole(kind, at.saturating_add(2)),
+        None => Bad::whole(kind, rest.len()),
+    }
+}
+
+/// What is wrong at a place within a text, and how many bytes are shown and passed over.
+#[derive(Clone, Copy)]
+struct BadByte {
+    kind: FaultKind,
+    at: usize,
+    width: usize,
+    bytes: usize,
+}
+
+/// What is wrong where [`quoted`] finds nothing.
+fn bad_byte(left: &str, at: usize) -> BadByte {
+    match run(left, Class::Wide) {
+        0 => BadByte {
+            kind: FaultKind::BadEscape,
+            at,
+            width: left.len().min(2),
+            bytes: 1,
+        },
+        wide => BadByte {
+            kind: FaultKind::NotAscii,
+            at,
+            width: wide,
+            bytes: wide,
+        },
+    }
+}
+
+/// A text that ends by a quote behind so many bytes.
+fn closed(within: &str, at: usize, bad: Option<BadByte>) -> Read<'_> {
+    let bytes = at.saturating_add(2);
+    match bad {
+        None => Ok((Token::Text(front(within, at)), bytes)),
+        Some(bad) => Err(Bad {
+            kind: bad.kind,
+            from: bad.at.saturating_add(1),
+            width: bad.width,
+            bytes,
+        }),
     }
 }
 
@@ -138,17 +241,25 @@ fn character(rest: &str) -> Read<'_> {
 fn text(rest: &str) -> Read<'_> {
     let within = behind(rest, 1);
     let mut at = 0usize;
-    for _ in 0..within.len() {
+    let mut bad = None;
+    for _ in 0..=within.len() {
         let left = behind(within, at);
         if left.starts_with("\"") {
-            return Ok((Token::Text(front(within, at)), at.saturating_add(2)));
+            return closed(within, at, bad);
+        }
+        if left.is_empty() {
+            break;
         }
         match quoted(left) {
             Some((_, bytes)) => at = at.saturating_add(bytes),
-            None => return Err((FaultKind::BadEscape, at.saturating_add(1))),
+            None => {
+                let here = bad_byte(left, at);
+                at = at.saturating_add(here.bytes);
+                bad = bad.or(Some(here));
+            }
         }
     }
-    Err((FaultKind::OpenText, rest.len()))
+    Err(Bad::whole(FaultKind::OpenText, rest.len()))
 }
 
 /// A bracket or an operator.
@@ -158,15 +269,16 @@ fn mark(rest: &str, first: u8) -> Read<'_> {
         b')' => Ok((Token::Close(Bracket::Round), 1)),
         b'[' => Ok((Token::Open(Bracket::Square), 1)),
         b']' => Ok((Token::Close(Bracket::Square), 1)),
+        b'\t' => Err(Bad::whole(FaultKind::Tab, run(rest, Class::Tab))),
         _ => match Symbol::at_front(rest) {
             Some((symbol, bytes)) => Ok((Token::Symbol(symbol), bytes)),
-            None => Err((FaultKind::NoToken, 1)),
+            None => Err(Bad::whole(FaultKind::NoToken, run(rest, Class::Foreign).max(1))),
         },
     }
 }
 
 /// The token at the front of a text that begins with no space.
-fn token(rest: &str, first: u8) -> Read<'_> {
+pub(crate) fn token(rest: &str, first: u8) -> Read<'_> {
     match first {
         b'#' => hexadecimal(rest),
         b'\'' => character(rest),
@@ -177,51 +289,17 @@ fn token(rest: &str, first: u8) -> Read<'_> {
     }
 }
 
-/// The tokens of a line, without its comment, behind those that are there.
-pub(crate) fn put_tokens<'a>(
-    items: &mut Vec<Item<'a>>,
-    line: &'a str,
-    number: usize,
-) -> Result<(), Stop> {
-    let mut at = 0usize;
-    for _ in 0..line.len() {
-        let rest = behind(line, at);
-        let Some(first) = rest.as_bytes().first() else {
-            return Ok(());
-        };
-        if rest.starts_with("--") {
-            return Ok(());
-        }
-        if *first == b' ' {
-            at = at.saturating_add(1);
-            continue;
-        }
-        let column = at.saturating_add(1);
-        match token(rest, *first) {
-            Ok((token, width)) => {
-                items.push(Item {
-                    token,
-                    span: Span {
-                        line: number,
-                        column,
-                        width,
-                    },
-                })?;
-                at = at.saturating_add(width);
-            }
-            Err((kind, width)) => {
-                return Err(Stop::Fault(Fault {
-                    span: Span {
-                        line: number,
-                        column,
-                        width,
-                    },
-                    kind,
-                }));
-            }
-        }
+/// Whether a text begins with what no line begins with: an operator between two operands, a comma, `IS`, `:=` or a closing bracket.
+pub(crate) fn is_rest(rest: &str) -> bool {
+    let Some(first) = rest.as_bytes().first() else {
+        return false;
+    };
+    match token(rest, *first) {
+        Ok((Token::Close(_), _)) => true,
+        Ok((Token::Symbol(symbol), _)) => symbol.is_between(),
+        Ok((Token::Keyword(keyword), _)) => keyword.is_between(),
+        _ => false,
     }
-    Ok(())
 }
 
 /// The bytes of a text, as it is spelled between its quotes.

@@ -1,288 +1,233 @@
-//! Declarations and processes, read from lines.
+//! Declarations and processes, read from nested lines.
+
+ghost use Rattle.std.specs.Prelude.{◌≤◌, All, IfOk, vec_len};
+ghost use Rattle.tpw_occam_syntax.specs.Places.{LiesIn};
 
 use crate::expression::Expression;
-use crate::fault::{Fault, FaultKind, Wanted};
-use crate::keyword::Keyword;
-use crate::layout::{Block, Lines, lines_of};
-use crate::lexing::Stop;
-use crate::phrases::{
-    around, front_type, keyword_of, name, names, parameters, position_of, position_of_keyword,
-    symbol_of,
+use crate::fault::{Fault, FaultKind, Faults, Wanted};
+use crate::heads::{
+    Below, Entry, Head, constants, guard, head_of, is_end, wanted_fault, wrong_head,
 };
-use crate::reading::{MOST_DEPTH, expression, listed, span_of, trees_behind, wanted};
+use crate::layout::{Block, Lines, lines_of};
+use crate::places::placed_faults;
 use crate::span::Span;
-use crate::symbol::Symbol;
-use crate::token::{Bracket, Item, Token, Tree};
-use crate::tree::{Declaration, Name, Parameters, Process, Size, Type};
+use crate::stop::Stop;
+use crate::tree::{Declaration, Name, Parameters, Process};
 use std::alloc::{AllocError, Global};
 use std::mem;
 
-/// The place behind a line.
-fn end_of(span: Span) -> Span {
-    Span {
-        line: span.line,
-        column: span.column.saturating_add(span.width),
-        width: 1,
+/// More than the levels of lines.
+const MOST_DEPTH: usize = 64;
+
+/// Whether a colon is to end what stands above it.
+#[derive(Clone, Copy)]
+enum End {
+    Unwanted,
+    /// It may: what stands above it has a fault.
+    Possible,
+    /// It ends a PROC that begins here.
+    Wanted(Span),
+}
+
+/// Processes and declarations that stand as deep as one another.
+#[derive(Drop)]
+struct Level<'a> {
+    /// Each process with the declarations in front of it.
+    steps: Vec<Process<'a>>,
+    /// Declarations that no process stands behind.
+    declared: Vec<Declaration<'a>>,
+    /// The line of the second process.
+    second: Option<Span>,
+}
+
+impl<'a> Level<'a> {
+    /// Puts what a line says behind what is there.
+    fn put(&mut self, alloc: Global, entry: Entry<'a>, line: Span) -> Result<(), AllocError> {
+        match entry {
+            Entry::Declaration(declaration) => self.declared.push(declaration)?,
+            Entry::Process(process) => {
+                if self.steps.len() == 1 {
+                    self.second = Some(line);
+                }
+                let declared = mem::replace(&mut self.declared, Vec::new(alloc));
+                self.steps.push(with(alloc, declared, process)?)?;
+            }
+        }
+        Ok(())
     }
 }
 
-/// The expression that trees spell.
-fn value<'a>(alloc: Global, trees: &[Tree<'a>], line: Span) -> Result<Expression<'a>, Stop> {
-    expression(alloc, trees, end_of(line), MOST_DEPTH)
-}
-
-/// The trees in front of the colon that ends a declaration.
-fn up_to_colon<'t, 'a>(trees: &'t [Tree<'a>], line: Span) -> Result<&'t [Tree<'a>], Stop> {
-    if symbol_of(trees.last()) != Some(Symbol::Colon) {
-        return wanted(Wanted::Colon, end_of(line));
-    }
-    let (front, _) = trees.split_at(trees.len().saturating_sub(1));
-    Ok(front)
-}
-
-/// `VAL n IS e:`, behind `VAL`.
-fn value_declaration<'a>(
+/// A process with the declarations in front of it.
+fn with<'a>(
     alloc: Global,
-    trees: &[Tree<'a>],
-    line: Span,
-) -> Result<Declaration<'a>, Stop> {
-    let trees = up_to_colon(trees, line)?;
-    let Some(at) = position_of_keyword(trees, Keyword::Is) else {
-        return wanted(Wanted::Is, end_of(line));
-    };
-    let (front, behind) = around(trees, at);
-    let (of, count) = match front_type(alloc, front)? {
-        Some((of, count)) => (Some(of), count),
-        None => (None, 0),
-    };
-    let name = name(trees_behind(front, count), end_of(line))?;
-    Ok(Declaration::Value {
-        of,
-        name,
-        value: value(alloc, behind, line)?,
+    declarations: Vec<Declaration<'a>>,
+    process: Process<'a>,
+) -> Result<Process<'a>, AllocError> {
+    if declarations.is_empty() {
+        return Ok(process);
+    }
+    Ok(Process::Declared {
+        declarations,
+        process: Box::new(alloc, process)?,
     })
 }
 
-/// The parameters in the brackets that are the only tree, or the first.
-fn bracketed<'a>(
-    alloc: Global,
-    tree: Option<&Tree<'a>>,
-    line: Span,
-) -> Result<Vec<Parameters<'a>>, Stop> {
-    match tree {
-        Some(
-            Tree::Group {
-                bracket: Bracket::Round,
-                within,
-                close,
-                ..
-            },
-        ) => parameters(alloc, within, *close),
-        Some(other) => wanted(Wanted::Parameters, span_of(other)),
-        None => wanted(Wanted::Parameters, end_of(line)),
-    }
-}
-
-/// `INT FUNCTION f (..) IS e :`, behind `FUNCTION`.
-fn function<'a>(
-    alloc: Global,
-    of: Type<'a>,
-    trees: &[Tree<'a>],
-    line: Span,
-) -> Result<Declaration<'a>, Stop> {
-    let trees = up_to_colon(trees, line)?;
-    let (front, behind) = around(trees, 2);
-    let (first, _) = around(front, 1);
-    let name = name(first, end_of(line))?;
-    let parameters = bracketed(alloc, front.get(1), line)?;
-    if !matches!(of.size, Size::One) {
-        return wanted(Wanted::Primitive, line);
-    }
-    match keyword_of(trees.get(2)) {
-        Some(Keyword::Is) => {
-            Ok(Declaration::Function {
-                of: of.of,
-                name,
-                parameters,
-                value: value(alloc, behind, line)?,
-            })
+/// What a colon is to end behind a line.
+fn end_behind(block: &Block<'_>, entry: &Entry<'_>) -> End {
+    match entry {
+        Entry::Declaration(Declaration::Wrong { .. }) | Entry::Process(Process::Wrong) =>
+            End::Possible,
+        Entry::Declaration(Declaration::Procedure { .. }) => {
+            if block.below.last().is_some_and(|last| is_end(last)) {
+                End::Possible
+            } else {
+                End::Wanted(block.span)
+            }
         }
-        _ => wanted(Wanted::Is, end_of(line)),
+        _ => End::Unwanted,
     }
 }
 
-/// A declaration that begins with a type: variables, another name of an array, or a function.
-fn typed<'a>(
-    alloc: Global,
-    of: Type<'a>,
-    trees: &[Tree<'a>],
-    line: Span,
-) -> Result<Declaration<'a>, Stop> {
-    if keyword_of(trees.first()) == Some(Keyword::Function) {
-        return function(alloc, of, trees_behind(trees, 1), line);
-    }
-    let trees = up_to_colon(trees, line)?;
-    match position_of_keyword(trees, Keyword::Retypes) {
-        Some(at) => {
-            let (front, behind) = around(trees, at);
-            let (name, array) = (name(front, end_of(line))?, name(behind, end_of(line))?);
-            Ok(Declaration::Retypes { of, name, array })
-        }
-        None => Ok(Declaration::Variables {
-            of,
-            names: names(alloc, trees, end_of(line))?,
-        }),
-    }
-}
-
-/// A declaration of one line; none where the line is a process.
-fn declaration<'a>(
-    alloc: Global,
-    trees: &[Tree<'a>],
-    line: Span,
-) -> Result<Option<Declaration<'a>>, Stop> {
-    if keyword_of(trees.first()) == Some(Keyword::Val) {
-        return Ok(Some(value_declaration(alloc, trees_behind(trees, 1), line)?));
-    }
-    match front_type(alloc, trees)? {
-        Some((of, count)) => Ok(Some(typed(alloc, of, trees_behind(trees, count), line)?)),
-        None => Ok(None),
-    }
-}
-
-/// The head of a PROC, behind `PROC`.
-fn head<'a>(
-    alloc: Global,
-    trees: &[Tree<'a>],
-    line: Span,
-) -> Result<(Name<'a>, Vec<Parameters<'a>>), Stop> {
-    let (first, _) = around(trees, 1);
-    let name = name(first, end_of(line))?;
-    let parameters = bracketed(alloc, trees.get(1), line)?;
-    match trees.get(2) {
-        Some(more) => wanted(Wanted::Nothing, span_of(more)),
-        None => Ok((name, parameters)),
-    }
-}
-
-/// `i = s FOR n`, behind `SEQ`.
-fn replicator<'a>(
-    alloc: Global,
-    trees: &[Tree<'a>],
-    line: Span,
-) -> Result<(Name<'a>, Expression<'a>, Expression<'a>), Stop> {
-    let Some(at) = position_of(trees, Symbol::Equal) else {
-        return wanted(Wanted::Replicator, end_of(line));
-    };
-    let (front, behind) = around(trees, at);
-    let Some(at) = position_of_keyword(behind, Keyword::For) else {
-        return wanted(Wanted::Replicator, end_of(line));
-    };
-    let (start, count) = around(behind, at);
-    Ok((
-        name(front, end_of(line))?,
-        value(alloc, start, line)?,
-        value(alloc, count, line)?,
-    ))
-}
-
-/// A process of one line that begins with a name: a call, an assignment or a message.
-fn simple<'a>(alloc: Global, trees: &[Tree<'a>], line: Span) -> Result<Process<'a>, Stop> {
-    let end = end_of(line);
-    if let Some(at) = position_of(trees, Symbol::Becomes) {
-        let (front, behind) = around(trees, at);
-        let targets = listed(alloc, front, end, MOST_DEPTH)?;
-        let values = listed(alloc, behind, end, MOST_DEPTH)?;
-        return Ok(Process::Assign {
-            targets,
-            values,
-            span: line,
-        });
-    }
-    if let Some(at) = position_of(trees, Symbol::Receive) {
-        let (front, behind) = around(trees, at);
-        return Ok(Process::Receive {
-            channel: name(front, end)?,
-            target: value(alloc, behind, line)?,
-            span: line,
-        });
-    }
-    if let Some(at) = position_of(trees, Symbol::Send) {
-        let (front, behind) = around(trees, at);
-        return Ok(Process::Send {
-            channel: name(front, end)?,
-            value: value(alloc, behind, line)?,
-            span: line,
-        });
-    }
-    match value(alloc, trees, line)? {
-        Expression::Call {
-            name,
-            span,
-            arguments,
-        } => {
-            Ok(Process::Call {
-                name: Name { text: name, span },
-                arguments,
-                span: line,
-            })
-        }
-        _ => wanted(Wanted::Process, line),
-    }
-}
-
-/// That nothing stands behind a keyword.
-fn alone(trees: &[Tree<'_>]) -> Result<(), Stop> {
-    match trees.get(1) {
-        Some(more) => wanted(Wanted::Nothing, span_of(more)),
-        None => Ok(()),
-    }
-}
-
-/// That nothing stands below a line.
-fn flat(block: &Block<'_>) -> Result<(), Stop> {
-    match block.below.first() {
-        Some(below) => wanted(Wanted::NothingBelow, below.span),
-        None => Ok(()),
-    }
-}
-
-/// Text that is being read, and what was found wrong.
+/// What is read, and what was found wrong.
 #[derive(Drop)]
 struct Parser {
     alloc: Global,
-    faults: Vec<Fault>,
+    faults: Faults,
+    /// Whether it is known what stands below what.
+    is_laid_out: bool,
 }
 
 impl Parser {
-    /// Records a fault; goes on with what stands in its place.
+    /// Records a fault. One that wrong indentation may have caused is not told.
+    fn fault(&mut self, fault: Fault) -> Result<(), AllocError> {
+        match fault.kind {
+            FaultKind::Wanted(what) if what.is_of_nesting() && !self.is_laid_out => Ok(()),
+            _ => self.faults.put(fault),
+        }
+    }
+
+    /// Records that something is wanted.
+    fn want(&mut self, what: Wanted, span: Span) -> Result<(), AllocError> {
+        self.fault(wanted_fault(what, span))
+    }
+
+    /// What was read, or none and a fault is recorded.
     fn recover<T>(&mut self, read: Result<T, Stop>) -> Result<Option<T>, AllocError> {
         match read {
             Ok(read) => Ok(Some(read)),
             Err(Stop::Memory) => Err(AllocError),
             Err(Stop::Fault(fault)) => {
-                self.faults.push(fault)?;
+                self.fault(fault)?;
                 Ok(None)
             }
         }
     }
 
-    /// The one process below a line, with its declarations.
-    #[cycle(processes)]
-    fn one<'a>(&mut self, block: &Block<'a>, depth: u32) -> Result<Process<'a>, AllocError> {
-        let mut steps = self.steps(&block.below, depth)?;
-        let last = steps.pop();
-        match last {
-            Some(process) if steps.is_empty() => Ok(process),
-            Some(_) => {
-                self.recover::<()>(wanted(Wanted::OneProcess, block.span))?;
-                Ok(Process::Wrong)
-            }
-            None => {
-                self.recover::<()>(wanted(Wanted::ProcessBelow, end_of(block.span)))?;
-                Ok(Process::Wrong)
+    /// A colon by itself.
+    fn colon(&mut self, end: End, block: &Block<'_>) -> Result<(), AllocError> {
+        if let End::Unwanted = end {
+            self.want(Wanted::ProcAbove, block.span)?;
+        }
+        self.flat(block)
+    }
+
+    /// A line that is no colon, or none.
+    fn no_colon(&mut self, end: End) -> Result<(), AllocError> {
+        match end {
+            End::Wanted(head) => self.want(Wanted::EndOfProc, head),
+            End::Unwanted | End::Possible => Ok(()),
+        }
+    }
+
+    /// Nothing may stand below a line.
+    fn flat(&mut self, block: &Block<'_>) -> Result<(), AllocError> {
+        match block.below.first() {
+            Some(below) => self.want(Wanted::NothingBelow, below.span),
+            None => Ok(()),
+        }
+    }
+
+    /// What a line says by itself, a fault told.
+    fn head<'a>(&mut self, block: &Block<'a>) -> Result<Head<'a>, AllocError> {
+        if block.is_wrong && block.unsupported.is_none() {
+            return wrong_head(self.alloc, block);
+        }
+        let head = head_of(self.alloc, block);
+        match self.recover(head)? {
+            Some(head) => Ok(head),
+            None => wrong_head(self.alloc, block),
+        }
+    }
+
+    /// The guard of a line of an IF.
+    fn guard<'a>(&mut self, block: &Block<'a>) -> Result<Expression<'a>, AllocError> {
+        let span = block.span;
+        if block.is_wrong && block.unsupported.is_none() {
+            return Ok(Expression::Wrong { span });
+        }
+        let guard = guard(self.alloc, block);
+        Ok(self.recover(guard)?.unwrap_or(Expression::Wrong { span }))
+    }
+
+    /// The constants of a line of a CASE.
+    fn constants<'a>(&mut self, block: &Block<'a>) -> Result<Vec<Expression<'a>>, AllocError> {
+        if !block.is_wrong || block.unsupported.is_some() {
+            let constants = constants(self.alloc, block);
+            if let Some(constants) = self.recover(constants)? {
+                return Ok(constants);
             }
         }
+        let mut wrong = Vec::new(self.alloc);
+        wrong.push(Expression::Wrong { span: block.span })?;
+        Ok(wrong)
+    }
+
+    /// The line behind which a process is wanted that is not there: behind declarations, or below a line.
+    fn no_process(&mut self, block: &Block<'_>, is_declared: bool) -> Result<(), AllocError> {
+        match block.below.last() {
+            Some(last) if is_declared => self.want(Wanted::ProcessBehind, last.end),
+            _ => self.want(Wanted::ProcessBelow, block.end),
+        }
+    }
+
+    /// The one process below a line, with its declarations.
+    #[cycle(processes)]
+    fn one<'a>(&mut self, block: &Block<'a>, depth: usize) -> Result<Process<'a>, AllocError> {
+        let Level {
+            mut steps,
+            declared,
+            second,
+        } = self.level(&block.below, depth)?;
+        if let Some(second) = second {
+            if !steps.iter().any(|step| matches!(step, Process::Wrong)) {
+                self.want(Wanted::OneProcess, second)?;
+            }
+            return Ok(Process::Sequence {
+                steps,
+                span: block.span,
+            });
+        }
+        match steps.pop() {
+            Some(process) => Ok(process),
+            None => {
+                self.no_process(block, !declared.is_empty())?;
+                with(self.alloc, declared, Process::Wrong)
+            }
+        }
+    }
+
+    /// The process behind a guard, or behind constants; if these have a fault, there may be none.
+    #[cycle(processes)]
+    fn chosen<'a>(
+        &mut self,
+        block: &Block<'a>,
+        is_wrong: bool,
+        depth: usize,
+    ) -> Result<Process<'a>, AllocError> {
+        if is_wrong && block.below.is_empty() {
+            return Ok(Process::Wrong);
+        }
+        self.one(block, depth)
     }
 
     /// The choices of an IF.
@@ -290,18 +235,14 @@ impl Parser {
     fn choices<'a>(
         &mut self,
         blocks: &[Block<'a>],
-        depth: u32,
+        depth: usize,
     ) -> Result<Vec<(Expression<'a>, Process<'a>)>, AllocError> {
         let mut choices = Vec::new(self.alloc);
         for block in blocks {
-            let process = self.one(block, depth)?;
-            if block.is_wrong {
-                continue;
-            }
-            let guard = value(self.alloc, &block.trees, block.span);
-            if let Some(guard) = self.recover(guard)? {
-                choices.push((guard, process))?;
-            }
+            let guard = self.guard(block)?;
+            let is_wrong = matches!(guard, Expression::Wrong { .. });
+            let process = self.chosen(block, is_wrong, depth)?;
+            choices.push((guard, process))?;
         }
         Ok(choices)
     }
@@ -311,182 +252,22 @@ impl Parser {
     fn cases<'a>(
         &mut self,
         blocks: &[Block<'a>],
-        depth: u32,
+        depth: usize,
     ) -> Result<Vec<(Vec<Expression<'a>>, Process<'a>)>, AllocError> {
         let mut choices = Vec::new(self.alloc);
+        let mut has_else = false;
         for block in blocks {
-            let process = self.one(block, depth)?;
-            if block.is_wrong {
-                continue;
+            let constants = self.constants(block)?;
+            let is_else = constants.is_empty();
+            if is_else && has_else {
+                self.want(Wanted::OneElse, block.span)?;
             }
-            if keyword_of(block.trees.first()) == Some(Keyword::Else) && block.trees.len() == 1 {
-                choices.push((Vec::new(self.alloc), process))?;
-                continue;
-            }
-            let constants = listed(self.alloc, &block.trees, end_of(block.span), MOST_DEPTH);
-            if let Some(constants) = self.recover(constants)? {
-                choices.push((constants, process))?;
-            }
+            has_else = has_else || is_else;
+            let is_wrong = matches!(constants.first(), Some(Expression::Wrong { .. }));
+            let process = self.chosen(block, is_wrong, depth)?;
+            choices.push((constants, process))?;
         }
         Ok(choices)
-    }
-
-    /// A process that begins with a keyword.
-    #[cycle(processes)]
-    fn construct<'a>(
-        &mut self,
-        keyword: Keyword,
-        block: &Block<'a>,
-        depth: u32,
-    ) -> Result<Process<'a>, Stop> {
-        let (alloc, span, trees) = (self.alloc, block.span, &block.trees);
-        match keyword {
-            Keyword::Skip => {
-                alone(trees)?;
-                flat(block)?;
-                Ok(Process::Skip { span })
-            }
-            Keyword::Stop => {
-                alone(trees)?;
-                flat(block)?;
-                Ok(Process::Stop { span })
-            }
-            Keyword::Seq if trees.len() == 1 => Ok(Process::Sequence {
-                steps: self.steps(&block.below, depth)?,
-                span,
-            }),
-            Keyword::Seq => {
-                let steps = self.steps(&block.below, depth)?;
-                let (index, start, count) = replicator(alloc, trees_behind(trees, 1), span)?;
-                Ok(Process::Replicated {
-                    index,
-                    start,
-                    count,
-                    steps,
-                    span,
-                })
-            }
-            Keyword::If => {
-                let choices = self.choices(&block.below, depth)?;
-                alone(trees)?;
-                Ok(Process::If { choices, span })
-            }
-            Keyword::Case => {
-                let choices = self.cases(&block.below, depth)?;
-                let selector = value(alloc, trees_behind(trees, 1), span)?;
-                Ok(Process::Case {
-                    selector,
-                    choices,
-                    span,
-                })
-            }
-            Keyword::Unsupported(what) => Err(Stop::Fault(Fault {
-                span,
-                kind: FaultKind::Unsupported(what),
-            })),
-            _ => wanted(Wanted::Process, span),
-        }
-    }
-
-    /// The process of a line, with what stands below it.
-    #[cycle(processes)]
-    fn process<'a>(&mut self, block: &Block<'a>, depth: u32) -> Result<Process<'a>, Stop> {
-        if let Some(keyword) = keyword_of(block.trees.first()) {
-            return self.construct(keyword, block, depth);
-        }
-        flat(block)?;
-        simple(self.alloc, &block.trees, block.span)
-    }
-
-    /// A PROC with its body.
-    #[cycle(processes)]
-    fn procedure<'a>(
-        &mut self,
-        block: &Block<'a>,
-        depth: u32,
-    ) -> Result<Option<Declaration<'a>>, AllocError> {
-        let body = self.steps(&block.below, depth)?;
-        let head = head(self.alloc, trees_behind(&block.trees, 1), block.span);
-        match self.recover(head)? {
-            Some((name, parameters)) => Ok(Some(Declaration::Procedure {
-                name,
-                parameters,
-                body,
-            })),
-            None => Ok(None),
-        }
-    }
-
-    /// Declarations and processes of one level, each process with the declarations in front of it. What is left without a process at the
-    /// end is returned too.
-    #[cycle(processes)]
-    fn level<'a>(
-        &mut self,
-        blocks: &[Block<'a>],
-        depth: u32,
-    ) -> Result<(Vec<Process<'a>>, Vec<Declaration<'a>>), AllocError> {
-        let mut steps = Vec::new(self.alloc);
-        let mut declared: Vec<Declaration<'a>> = Vec::new(self.alloc);
-        let mut is_open = false;
-        for block in blocks {
-            if is_end(block) {
-                if !is_open {
-                    self.recover::<()>(wanted(Wanted::ProcAbove, block.span))?;
-                }
-                is_open = false;
-                continue;
-            }
-            if is_open {
-                self.recover::<()>(wanted(Wanted::EndOfProc, block.span))?;
-            }
-            is_open = keyword_of(block.trees.first()) == Some(Keyword::Proc);
-            match self.entry(block, depth)? {
-                Entry::Declaration(declaration) => declared.push(declaration)?,
-                Entry::Process(process) => steps.push(with(self.alloc, &mut declared, process)?)?,
-                Entry::Nothing => {}
-            }
-        }
-        if is_open {
-            if let Some(block) = blocks.last() {
-                self.recover::<()>(wanted(Wanted::EndOfProc, end_of(block.span)))?;
-            }
-        }
-        Ok((steps, declared))
-    }
-
-    /// A line of a level with what stands below it.
-    #[cycle(processes)]
-    fn entry<'a>(&mut self, block: &Block<'a>, depth: u32) -> Result<Entry<'a>, AllocError> {
-        if depth == 0 {
-            self.faults.push(Fault {
-                span: block.span,
-                kind: FaultKind::TooDeep,
-            })?;
-            return Ok(Entry::Nothing);
-        }
-        if block.is_wrong {
-            self.steps(&block.below, depth - 1)?;
-            return Ok(Entry::Process(Process::Wrong));
-        }
-        if keyword_of(block.trees.first()) == Some(Keyword::Proc) {
-            return match self.procedure(block, depth - 1)? {
-                Some(declaration) => Ok(Entry::Declaration(declaration)),
-                None => Ok(Entry::Nothing),
-            };
-        }
-        let declared = declaration(self.alloc, &block.trees, block.span);
-        match self.recover(declared)? {
-            Some(Some(declaration)) => {
-                let alone = flat(block);
-                self.recover(alone)?;
-                Ok(Entry::Declaration(declaration))
-            }
-            Some(None) => {
-                let process = self.process(block, depth - 1);
-                Ok(Entry::Process(self.recover(process)?.unwrap_or(Process::Wrong)))
-            }
-            None => Ok(Entry::Nothing),
-        }
     }
 
     /// The processes of one level.
@@ -494,67 +275,211 @@ impl Parser {
     fn steps<'a>(
         &mut self,
         blocks: &[Block<'a>],
-        depth: u32,
+        depth: usize,
     ) -> Result<Vec<Process<'a>>, AllocError> {
-        let (steps, left) = self.level(blocks, depth)?;
-        if !left.is_empty() {
-            if let Some(block) = blocks.last() {
-                self.recover::<()>(wanted(Wanted::ProcessBehind, end_of(block.span)))?;
+        let Level {
+            steps,
+            declared,
+            ..
+        } = self.level(blocks, depth)?;
+        if !declared.is_empty() {
+            if let Some(last) = blocks.last() {
+                self.want(Wanted::ProcessBehind, last.end)?;
             }
         }
         Ok(steps)
     }
-}
 
-/// What a line says.
-#[derive(Drop)]
-enum Entry<'a> {
-    Declaration(Declaration<'a>),
-    Process(Process<'a>),
-    /// Nothing that is of use: it has a fault.
-    Nothing,
-}
-
-/// Whether a line is the colon that ends a PROC.
-fn is_end(block: &Block<'_>) -> bool {
-    block.trees.len() == 1 && symbol_of(block.trees.first()) == Some(Symbol::Colon)
-}
-
-/// A process with the declarations in front of it, which are taken.
-fn with<'a>(
-    alloc: Global,
-    declared: &mut Vec<Declaration<'a>>,
-    process: Process<'a>,
-) -> Result<Process<'a>, AllocError> {
-    if declared.is_empty() {
-        return Ok(process);
+    /// Declarations and processes of one level.
+    #[cycle(processes)]
+    fn level<'a>(&mut self, blocks: &[Block<'a>], depth: usize) -> Result<Level<'a>, AllocError> {
+        let mut level = Level {
+            steps: Vec::new(self.alloc),
+            declared: Vec::new(self.alloc),
+            second: None,
+        };
+        let mut end = End::Unwanted;
+        for block in blocks {
+            if is_end(block) {
+                self.colon(end, block)?;
+                end = End::Unwanted;
+                continue;
+            }
+            self.no_colon(end)?;
+            let entry = self.entry(block, depth)?;
+            end = end_behind(block, &entry);
+            level.put(self.alloc, entry, block.span)?;
+        }
+        self.no_colon(end)?;
+        Ok(level)
     }
-    let declarations = mem::replace(declared, Vec::new(alloc));
-    Ok(Process::Declared {
-        declarations,
-        process: Box::new(alloc, process)?,
-    })
+
+    /// Reads what stands below a line with a fault, for its faults.
+    #[cycle(processes)]
+    fn skip(&mut self, block: &Block<'_>, below: Below, depth: usize) -> Result<(), AllocError> {
+        match below {
+            Below::Unknown => {}
+            Below::Processes => {
+                self.steps(&block.below, depth)?;
+            }
+            Below::Choices => {
+                self.choices(&block.below, depth)?;
+            }
+            Below::Cases => {
+                self.cases(&block.below, depth)?;
+            }
+        }
+        Ok(())
+    }
+
+    /// A line with what stands below it.
+    #[cycle(processes)]
+    fn entry<'a>(&mut self, block: &Block<'a>, depth: usize) -> Result<Entry<'a>, AllocError> {
+        if depth == 0 {
+            self.fault(Fault {
+                span: block.span,
+                kind: FaultKind::TooDeep,
+            })?;
+            return Ok(Entry::Process(Process::Wrong));
+        }
+        let head = self.head(block)?;
+        self.filled(head, block, depth - 1)
+    }
+
+    /// What a line says, filled with what stands below it.
+    #[cycle(processes)]
+    fn filled<'a>(
+        &mut self,
+        head: Head<'a>,
+        block: &Block<'a>,
+        depth: usize,
+    ) -> Result<Entry<'a>, AllocError> {
+        let span = block.span;
+        match head {
+            Head::Whole(entry) => {
+                self.flat(block)?;
+                Ok(entry)
+            }
+            Head::Procedure { name, parameters } => {
+                let body = self.one(block, depth)?;
+                procedure(self.alloc, name, parameters, body)
+            }
+            Head::Sequence => {
+                let steps = self.steps(&block.below, depth)?;
+                Ok(Entry::Process(Process::Sequence { steps, span }))
+            }
+            Head::Replicated {
+                index,
+                start,
+                count,
+            } => {
+                let steps = self.steps(&block.below, depth)?;
+                Ok(Entry::Process(Process::Replicated {
+                    index,
+                    start,
+                    count,
+                    steps,
+                    span,
+                }))
+            }
+            Head::If => {
+                let choices = self.choices(&block.below, depth)?;
+                Ok(Entry::Process(Process::If { choices, span }))
+            }
+            Head::Case { selector } => {
+                let choices = self.cases(&block.below, depth)?;
+                Ok(Entry::Process(Process::Case {
+                    selector,
+                    choices,
+                    span,
+                }))
+            }
+            Head::Wrong { below, entry } => {
+                self.skip(block, below, depth)?;
+                Ok(entry)
+            }
+        }
+    }
+
+    /// A process outside all PROCs.
+    fn outside(&mut self, process: &Process<'_>, line: Span) -> Result<(), AllocError> {
+        match process {
+            Process::Wrong => Ok(()),
+            _ => self.want(Wanted::Declarations, line),
+        }
+    }
+
+    /// The declarations of a text.
+    fn declarations<'a>(
+        &mut self,
+        blocks: &[Block<'a>],
+    ) -> Result<Vec<Declaration<'a>>, AllocError> {
+        let mut declarations = Vec::new(self.alloc);
+        let mut end = End::Unwanted;
+        for block in blocks {
+            if is_end(block) {
+                self.colon(end, block)?;
+                end = End::Unwanted;
+                continue;
+            }
+            self.no_colon(end)?;
+            let entry = self.entry(block, MOST_DEPTH)?;
+            end = end_behind(block, &entry);
+            match entry {
+                Entry::Declaration(declaration) => declarations.push(declaration)?,
+                Entry::Process(process) => self.outside(&process, block.span)?,
+            }
+        }
+        self.no_colon(end)?;
+        Ok(declarations)
+    }
 }
 
-/// What a text declares, its worker last, and all that is wrong with it: with its layout, and with its lines.
+/// A PROC with its body.
+fn procedure<'a>(
+    alloc: Global,
+    name: Name<'a>,
+    parameters: Vec<Parameters<'a>>,
+    body: Process<'a>,
+) -> Result<Entry<'a>, AllocError> {
+    Ok(Entry::Declaration(Declaration::Procedure {
+        name,
+        parameters,
+        body: Box::new(alloc, body)?,
+    }))
+}
+
+/// What a text declares, its worker last, and what is wrong with it.
 #[derive(Debug, Drop)]
 pub struct Source<'a> {
     pub declarations: Vec<Declaration<'a>>,
+    /// In the order of their places, at most [`MOST_FAULTS`](crate::MOST_FAULTS).
     pub faults: Vec<Fault>,
+    /// Whether each line's indentation is right. Else it is not known what stands below what.
+    pub is_laid_out: bool,
 }
 
-/// Reads a text. A line with a fault is left out, and the others are read all the same.
-pub fn parse<'a>(alloc: Global, text: &'a str) -> Result<Source<'a>, AllocError> {
-    let Lines { blocks, faults } = lines_of(alloc, text)?;
-    let mut parser = Parser { alloc, faults };
-    let (steps, declarations) = parser.level(&blocks, MOST_DEPTH)?;
-    if !steps.is_empty() {
-        if let Some(block) = blocks.last() {
-            parser.recover::<()>(wanted(Wanted::Declarations, block.span))?;
-        }
-    }
+/// Reads a text. What has a fault is left out or [`Wrong`](Process::Wrong), and all else is read.
+pub fn parse<'a>(alloc: Global, text: &'a str) -> Result<Source<'a>, AllocError>
+    ensures few { IfOk result (λ s. vec_len s.faults ≤ 20) }
+    ensures placed { IfOk result (λ s. All (λ f. LiesIn text.now f.span) s.faults.items) }
+{
+    let Lines {
+        blocks,
+        faults,
+        is_laid_out,
+    } = lines_of(alloc, text)?;
+    let mut parser = Parser {
+        alloc,
+        faults,
+        is_laid_out,
+    };
+    let declarations = parser.declarations(&blocks)?;
+    let found = parser.faults.into_vec();
+    let faults = placed_faults(alloc, text, &found)?;
     Ok(Source {
         declarations,
-        faults: parser.faults,
+        faults,
+        is_laid_out,
     })
 }

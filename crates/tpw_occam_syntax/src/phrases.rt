@@ -3,11 +3,11 @@
 use crate::expression::Primitive;
 use crate::fault::Wanted;
 use crate::keyword::Keyword;
-use crate::lexing::Stop;
 use crate::reading::{
-    MOST_DEPTH, expression, primitive, span_of, trees_behind, up_to_comma, wanted,
+    MOST_DEPTH, expression, place, primitive, span_of, trees_behind, up_to_comma, wanted,
 };
 use crate::span::Span;
+use crate::stop::Stop;
 use crate::symbol::Symbol;
 use crate::token::{Bracket, Item, Token, Tree};
 use crate::tree::{Name, Parameters, Passing, Size, Type};
@@ -64,7 +64,7 @@ pub(crate) fn around<'t, 'a>(trees: &'t [Tree<'a>], at: usize) -> (&'t [Tree<'a>
 }
 
 /// The name that a tree is.
-fn name_of<'a>(tree: &Tree<'a>) -> Option<Name<'a>> {
+pub(crate) fn name_of<'a>(tree: &Tree<'a>) -> Option<Name<'a>> {
     match tree {
         Tree::Item(
             Item {
@@ -101,7 +101,7 @@ pub(crate) fn names<'a>(
     for _ in 0..=trees.len() {
         let count = up_to_comma(rest);
         let (one, more) = rest.split_at(count.min(rest.len()));
-        all.push(name(one, end)?)?;
+        all.push(name(one, place(more, end))?)?;
         if more.is_empty() {
             return Ok(all);
         }
@@ -183,13 +183,24 @@ pub(crate) fn parameters<'a>(
     for _ in 0..trees.len() {
         let count = up_to_comma(rest);
         let (one, more) = rest.split_at(count.min(rest.len()));
-        put_parameter(alloc, &mut all, one, end)?;
+        put_parameter(alloc, &mut all, one, place(more, end))?;
         if more.is_empty() {
             return Ok(all);
         }
         rest = trees_behind(more, 1);
     }
     Ok(all)
+}
+
+/// A parameter's name: behind a channel's may stand `?` or `!`.
+fn parameter_name<'a>(trees: &[Tree<'a>], passing: Passing, end: Span) -> Result<Name<'a>, Stop> {
+    let sign = symbol_of(trees.get(1));
+    let is_sign = sign == Some(Symbol::Receive) || sign == Some(Symbol::Send);
+    if passing == Passing::Channel && is_sign && trees.len() == 2 {
+        let (first, _) = around(trees, 1);
+        return name(first, end);
+    }
+    name(trees, end)
 }
 
 /// Appends one parameter: with a type of its own, or with that of the one before it.
@@ -203,16 +214,23 @@ fn put_parameter<'a>(
     let rest = trees_behind(trees, said);
     if let Some((of, count)) = front_type(alloc, rest)? {
         let mut names = Vec::new(alloc);
-        names.push(name(trees_behind(rest, count), end)?)?;
+        names.push(parameter_name(trees_behind(rest, count), passing, end)?)?;
         all.push(Parameters { passing, of, names })?;
         return Ok(());
     }
-    let one = name(trees, end)?;
+    if said > 0 {
+        return wanted(Wanted::Type, place(rest, end));
+    }
+    if keyword_of(trees.first()) == Some(Keyword::Chan) {
+        return wanted(Wanted::Of, place(trees_behind(trees, 1), end));
+    }
     match all.last_mut() {
         Some(before) => {
-            before.names.push(one)?;
+            before
+                .names
+                .push(parameter_name(trees, before.passing, end)?)?;
             Ok(())
         }
-        None => wanted(Wanted::Type, one.span),
+        None => wanted(Wanted::Type, place(trees, end)),
     }
 }

@@ -3,14 +3,14 @@
 use crate::expression::{Dyadic, Expression, Monadic, Primitive};
 use crate::fault::{Fault, FaultKind, Wanted};
 use crate::keyword::Keyword;
-use crate::lexing::Stop;
 use crate::span::Span;
+use crate::stop::Stop;
 use crate::symbol::Symbol;
 use crate::token::{Bracket, Item, Token, Tree};
 use std::alloc::Global;
 
-/// How deep expressions lie within one another at the most: brackets do, and a bracket is one level.
-pub(crate) const MOST_DEPTH: u32 = 64;
+/// The most operators and brackets within one another, where an operator of a chain lies within the next.
+pub(crate) const MOST_DEPTH: usize = 501;
 
 /// Fails with what is wanted at a place.
 pub(crate) fn wanted<T>(what: Wanted, span: Span) -> Result<T, Stop> {
@@ -29,7 +29,7 @@ pub(crate) fn span_of(tree: &Tree<'_>) -> Span {
 }
 
 /// The place behind trees: of the first of those that are left, or else the one given.
-fn place(trees: &[Tree<'_>], end: Span) -> Span {
+pub(crate) fn place(trees: &[Tree<'_>], end: Span) -> Span {
     match trees.first() {
         Some(tree) => span_of(tree),
         None => end,
@@ -135,13 +135,37 @@ pub(crate) fn up_to_comma(trees: &[Tree<'_>]) -> usize {
     trees.iter().position(is_comma).unwrap_or(trees.len())
 }
 
+/// What stands between commas.
+#[derive(Clone, Copy)]
+pub(crate) enum ListKind {
+    Expressions,
+    /// Expressions, or names of channels with `?` or `!` behind them.
+    Arguments,
+}
+
+/// What stands between two commas.
+#[cycle(expressions)]
+fn list_item<'a>(
+    alloc: Global,
+    kind: ListKind,
+    trees: &[Tree<'a>],
+    end: Span,
+    depth: usize,
+) -> Result<Expression<'a>, Stop> {
+    match (kind, channel(trees)) {
+        (ListKind::Arguments, Some(name)) => Ok(name),
+        _ => expression(alloc, trees, end, depth),
+    }
+}
+
 /// Expressions with commas between; none where there are no trees.
 #[cycle(expressions)]
 pub(crate) fn listed<'a>(
     alloc: Global,
+    kind: ListKind,
     trees: &[Tree<'a>],
     end: Span,
-    depth: u32,
+    depth: usize,
 ) -> Result<Vec<Expression<'a>>, Stop> {
     let mut all = Vec::new(alloc);
     if trees.is_empty() {
@@ -151,13 +175,42 @@ pub(crate) fn listed<'a>(
     for _ in 0..trees.len() {
         let count = up_to_comma(rest);
         let (one, more) = rest.split_at(count.min(rest.len()));
-        all.push(expression(alloc, one, place(more, end), depth)?)?;
+        all.push(list_item(alloc, kind, one, place(more, end), depth)?)?;
         if more.is_empty() {
             return Ok(all);
         }
         rest = trees_behind(more, 1);
     }
     wanted(Wanted::Expression, end)
+}
+
+/// Whether a tree is `?` or `!`.
+fn is_direction(tree: &Tree<'_>) -> bool {
+    matches!(
+        tree,
+        Tree::Item(Item {
+            token: Token::Symbol(Symbol::Receive | Symbol::Send),
+            ..
+        })
+    )
+}
+
+/// The name of a channel that `?` or `!` stands behind.
+fn channel<'a>(trees: &[Tree<'a>]) -> Option<Expression<'a>> {
+    if trees.len() != 2 || !trees.get(1).is_some_and(|tree| is_direction(tree)) {
+        return None;
+    }
+    match trees.first() {
+        Some(
+            Tree::Item(
+                Item {
+                    token: Token::Name(name),
+                    span,
+                },
+            ),
+        ) => Some(Expression::Name { name, span: *span }),
+        _ => None,
+    }
 }
 
 /// A name, with what stands in brackets behind it; and how many trees it has.
@@ -167,10 +220,10 @@ fn named<'a>(
     name: &'a str,
     span: Span,
     behind: Option<&Tree<'a>>,
-    depth: u32,
+    depth: usize,
 ) -> Result<(Expression<'a>, usize), Stop> {
     if depth == 0 {
-        return wanted(Wanted::LessBrackets, span);
+        return wanted(Wanted::SmallerExpression, span);
     }
     match behind {
         Some(
@@ -200,7 +253,7 @@ fn named<'a>(
                 ..
             },
         ) => {
-            let arguments = listed(alloc, within, *close, depth - 1)?;
+            let arguments = listed(alloc, ListKind::Arguments, within, *close, depth - 1)?;
             Ok((
                 Expression::Call {
                     name,
@@ -216,9 +269,9 @@ fn named<'a>(
 
 /// What stands within brackets, as one operand.
 #[cycle(expressions)]
-fn grouped<'a>(alloc: Global, tree: &Tree<'a>, depth: u32) -> Result<Expression<'a>, Stop> {
+fn grouped<'a>(alloc: Global, tree: &Tree<'a>, depth: usize) -> Result<Expression<'a>, Stop> {
     if depth == 0 {
-        return wanted(Wanted::LessBrackets, span_of(tree));
+        return wanted(Wanted::SmallerExpression, span_of(tree));
     }
     match tree {
         Tree::Group {
@@ -233,7 +286,10 @@ fn grouped<'a>(alloc: Global, tree: &Tree<'a>, depth: u32) -> Result<Expression<
             open,
             close,
         } => {
-            let items = listed(alloc, within, *close, depth - 1)?;
+            let items = listed(alloc, ListKind::Expressions, within, *close, depth - 1)?;
+            if items.is_empty() {
+                return wanted(Wanted::Expression, *close);
+            }
             Ok(Expression::List { items, span: *open })
         }
         Tree::Item(item) => wanted(Wanted::Operand, item.span),
@@ -281,7 +337,7 @@ fn operand<'a>(
     alloc: Global,
     trees: &[Tree<'a>],
     end: Span,
-    depth: u32,
+    depth: usize,
 ) -> Result<(Expression<'a>, usize), Stop> {
     let Some((first, behind)) = trees.split_first() else {
         return wanted(Wanted::Operand, end);
@@ -312,6 +368,7 @@ fn operand<'a>(
             },
             1,
         )),
+        _ if monadic(*token).is_some() => wanted(Wanted::BracketsAroundMonadic, *span),
         Token::Keyword(keyword) => constant(*keyword, *span, behind.first()),
         _ => wanted(Wanted::Operand, *span),
     }
@@ -325,7 +382,7 @@ fn applied<'a>(
     span: Span,
     behind: &[Tree<'a>],
     end: Span,
-    depth: u32,
+    depth: usize,
 ) -> Result<Expression<'a>, Stop> {
     let (operand, count) = operand(alloc, behind, end, depth)?;
     match behind.get(count) {
@@ -338,14 +395,20 @@ fn applied<'a>(
     }
 }
 
+/// How many operators of two operands stand among trees.
+fn operators(trees: &[Tree<'_>]) -> usize {
+    trees.iter().filter(|tree| dyadic(tree).is_some()).count()
+}
+
 /// Operands with one operator between them, from the left.
 #[cycle(expressions)]
 fn chained<'a>(
     alloc: Global,
     trees: &[Tree<'a>],
     end: Span,
-    depth: u32,
+    depth: usize,
 ) -> Result<Expression<'a>, Stop> {
+    let depth = depth.saturating_sub(operators(trees));
     let (mut left, count) = operand(alloc, trees, end, depth)?;
     let mut before: Option<Dyadic> = None;
     let mut rest = trees_behind(trees, count);
@@ -354,11 +417,9 @@ fn chained<'a>(
             return Ok(left);
         };
         let span = span_of(sign);
-        let Some(operator) = dyadic(sign) else {
-            return wanted(Wanted::Operator, span);
-        };
-        if before.is_some_and(|other| other != operator || !operator.is_chained()) {
-            return wanted(Wanted::BracketsBetween, span);
+        let operator = next_operator(sign, before)?;
+        if depth == 0 {
+            return wanted(Wanted::SmallerExpression, span);
         }
         let (right, more) = operand(alloc, behind, end, depth)?;
         left = Expression::Dyadic {
@@ -373,13 +434,25 @@ fn chained<'a>(
     Ok(left)
 }
 
+/// The operator that a tree is, which may stand behind the one before it.
+fn next_operator(sign: &Tree<'_>, before: Option<Dyadic>) -> Result<Dyadic, Stop> {
+    let span = span_of(sign);
+    let Some(operator) = dyadic(sign) else {
+        return wanted(Wanted::Operator, span);
+    };
+    if before.is_some_and(|other| other != operator || !operator.is_chained()) {
+        return wanted(Wanted::BracketsBetween, span);
+    }
+    Ok(operator)
+}
+
 /// The expression that trees spell, all of them. `end` is the place behind them.
 #[cycle(expressions)]
 pub(crate) fn expression<'a>(
     alloc: Global,
     trees: &[Tree<'a>],
     end: Span,
-    depth: u32,
+    depth: usize,
 ) -> Result<Expression<'a>, Stop> {
     let Some((first, behind)) = trees.split_first() else {
         return wanted(Wanted::Expression, end);

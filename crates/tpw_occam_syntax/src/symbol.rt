@@ -1,7 +1,7 @@
 //! Symbols.
 
 /// An operator or a mark.
-#[derive(Clone, Copy, Debug, PartialEq, Eq)]
+#[derive(Clone, Copy, PartialEq)]
 pub enum Symbol {
     /// `:=`
     Becomes,
@@ -89,5 +89,10 @@ impl Symbol {
     /// Whether a line may go on behind it on the next line.
     pub fn is_open(self) -> bool {
         !matches!(self, Symbol::Colon | Symbol::Receive | Symbol::Send)
+    }
+
+    /// Whether something stands in front of it wherever it stands, so that no line begins with it.
+    pub fn is_between(self) -> bool {
+        !matches!(self, Symbol::Colon | Symbol::Subtract | Symbol::BitNot)
     }
 }

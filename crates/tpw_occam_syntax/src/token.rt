@@ -5,7 +5,7 @@ use crate::span::Span;
 use crate::symbol::Symbol;
 
 /// A pair of brackets.
-#[derive(Clone, Copy, Debug, PartialEq, Eq)]
+#[derive(Clone, Copy, PartialEq)]
 pub enum Bracket {
     /// `(` and `)`
     Round,
@@ -14,7 +14,7 @@ pub enum Bracket {
 }
 
 /// What a text is made of.
-#[derive(Clone, Copy, Debug, PartialEq, Eq)]
+#[derive(Clone, Copy)]
 pub enum Token<'a> {
     Name(&'a str),
     Keyword(Keyword),
@@ -30,14 +30,14 @@ pub enum Token<'a> {
 }
 
 /// A token at its place.
-#[derive(Clone, Copy, Debug, PartialEq, Eq)]
+#[derive(Clone, Copy)]
 pub struct Item<'a> {
     pub token: Token<'a>,
     pub span: Span,
 }
 
 /// A token that is no bracket, or what stands within brackets.
-#[derive(Debug, Drop)]
+#[derive(Drop)]
 pub enum Tree<'a> {
     Item(Item<'a>),
     Group {

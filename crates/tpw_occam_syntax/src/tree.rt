@@ -72,7 +72,7 @@ pub enum Declaration<'a> {
     Procedure {
         name: Name<'a>,
         parameters: Vec<Parameters<'a>>,
-        body: Vec<Process<'a>>,
+        body: Box<Process<'a>>,
     },
     /// `INT FUNCTION f (..) IS e :`
     Function {
@@ -80,6 +80,10 @@ pub enum Declaration<'a> {
         name: Name<'a>,
         parameters: Vec<Parameters<'a>>,
         value: Expression<'a>,
+    },
+    /// A declaration with a fault, and the names that it would declare: of none of them is it known what it means.
+    Wrong {
+        names: Vec<Name<'a>>,
     },
 }
 
@@ -145,6 +149,6 @@ pub enum Process<'a> {
         declarations: Vec<Declaration<'a>>,
         process: Box<Process<'a>>,
     },
-    /// A line with a fault.
+    /// A process with a fault.
     Wrong,
 }

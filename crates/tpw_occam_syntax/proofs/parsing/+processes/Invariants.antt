@@ -11,10 +11,10 @@ abbrev pub decreases-steps : goal.decreases-steps
 decreases-steps l = 8 * l.depth + 2
 
 abbrev pub decreases-one : goal.decreases-one
-decreases-one l = 8 * l.depth + 3
+decreases-one l = 8 * l.depth + 2
 
-abbrev pub decreases-procedure : goal.decreases-procedure
-decreases-procedure l = 8 * l.depth + 3
+abbrev pub decreases-chosen : goal.decreases-chosen
+decreases-chosen l = 8 * l.depth + 3
 
 abbrev pub decreases-choices : goal.decreases-choices
 decreases-choices l = 8 * l.depth + 4
@@ -22,8 +22,8 @@ decreases-choices l = 8 * l.depth + 4
 abbrev pub decreases-cases : goal.decreases-cases
 decreases-cases l = 8 * l.depth + 4
 
-abbrev pub decreases-construct : goal.decreases-construct
-decreases-construct l = 8 * l.depth + 5
+abbrev pub decreases-skip : goal.decreases-skip
+decreases-skip l = 8 * l.depth + 5
 
-abbrev pub decreases-process : goal.decreases-process
-decreases-process l = 8 * l.depth + 6
+abbrev pub decreases-filled : goal.decreases-filled
+decreases-filled l = 8 * l.depth + 6
