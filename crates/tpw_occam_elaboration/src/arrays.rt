@@ -5,6 +5,7 @@ use crate::environment::{Access, View};
 use crate::fault::{FaultKind, Stop};
 use crate::limits::{MOST_ARRAY_BYTES, MOST_MESSAGE_WORDS};
 use crate::syntax::{bytes_of, element_kind, element_type, name, span_of};
+use crate::typed::Typed;
 use std::alloc::AllocError;
 use tpw_occam_core::Kind;
 use tpw_occam_syntax::{Expression as Tree, Name, Primitive, Size, Span, Type, text_bytes};
@@ -148,11 +149,7 @@ impl<'a> Elaborator<'a> {
     }
 
     /// The constant that was made.
-    fn word_of(
-        &mut self,
-        made: Result<crate::typed::Typed, Stop>,
-        span: Span,
-    ) -> Result<u32, Stop> {
+    fn word_of(&mut self, made: Result<Typed, Stop>, span: Span) -> Result<u32, Stop> {
         let typed = made?;
         self.constant_of(&typed, span)
     }

@@ -7,7 +7,7 @@ use crate::fault::{FaultKind, Stop};
 use crate::sort::Role;
 use crate::syntax::{element_type, name, span_of};
 use tpw_occam_core::{Assignment, Process, Target};
-use tpw_occam_syntax::{Expression as Tree, Name, Primitive, Span};
+use tpw_occam_syntax::{Expression as Tree, Name, Primitive};
 
 impl<'a> Elaborator<'a> {
     /// A name that is assigned to, and its type.
@@ -60,6 +60,7 @@ impl<'a> Elaborator<'a> {
                 };
                 Ok((target, element_type(view.kind)))
             }
+            Tree::Wrong { .. } => Err(Stop::Reported),
             other => self.fault(span_of(other), FaultKind::VariableWanted),
         }
     }
@@ -155,21 +156,16 @@ impl<'a> Elaborator<'a> {
         }
     }
 
-    /// `x, a[e] := f, g`, or `a := b`.
+    /// `x, a[e] := f, g`, or `a := b`. The reader has seen to it that there are as many values as targets.
     pub(crate) fn assignment(
         &mut self,
         frame: Frame,
         targets: &'a [Tree<'a>],
         values: &'a [Tree<'a>],
-        span: Span,
         depth: u32,
     ) -> Result<Process, Stop> {
         if targets.len() != values.len() {
-            let kind = FaultKind::Values {
-                targets: targets.len(),
-                values: values.len(),
-            };
-            return self.fault(span, kind);
+            return Err(Stop::Reported);
         }
         if let ([target], [value]) = (targets, values) {
             if let Some(process) = self.whole_array(frame, target, value, depth)? {

@@ -1,12 +1,13 @@
 //! IF and CASE, as chains of guards.
 
 use crate::elaborator::{Elaborator, Frame};
-use crate::fault::{FaultKind, Stop};
+use crate::environment::Atom;
+use crate::fault::{FaultKind, Limit, Stop};
 use crate::limits::MOST_GUARDS;
 use crate::operators::combined;
 use crate::sequences::at;
 use crate::syntax::span_of;
-use crate::typed::{Typed, Worth, constant};
+use crate::typed::{Typed, Worth, computed, constant};
 use std::alloc::{AllocError, Global};
 use tpw_occam_core::{Expression, Process};
 use tpw_occam_syntax::{Dyadic, Expression as Tree, Primitive, Span};
@@ -45,15 +46,15 @@ pub(crate) fn chain(
 #[derive(Clone, Copy, Debug, PartialEq, Eq)]
 pub(crate) struct Selector {
     pub(crate) of: Primitive,
-    pub(crate) value: crate::environment::Atom,
+    pub(crate) value: Atom,
 }
 
 impl Selector {
     /// The value, as an expression.
     fn typed(self) -> Typed {
         match self.value {
-            crate::environment::Atom::Word(word) => constant(self.of, word),
-            name => crate::typed::computed(self.of, name.expression()),
+            Atom::Word(word) => constant(self.of, word),
+            name => computed(self.of, name.expression()),
         }
     }
 }
@@ -113,7 +114,7 @@ impl<'a> Elaborator<'a> {
         let word = self.constant(frame, e, of)?;
         let span = span_of(e);
         if seen.len() >= MOST_GUARDS {
-            return self.fault(span, FaultKind::Limit(crate::fault::Limit::Guards));
+            return self.fault(span, FaultKind::Limit(Limit::Guards));
         }
         if let Some(first) = seen.iter().find(|other| other.word == word).copied() {
             return self.fault(span, FaultKind::CaseTwice { first: first.span });

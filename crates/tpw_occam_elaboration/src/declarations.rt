@@ -233,23 +233,19 @@ impl<'a> Elaborator<'a> {
         Ok(Meaning::Array(self.of_shape(view, shape, name.span)?))
     }
 
-    /// A PROC: its parameters, and that its body is one process.
+    /// A PROC: its parameters, its body and its scope.
     fn procedure(
         &mut self,
-        name: Name<'a>,
         parameters: &'a [Parameters<'a>],
-        body: &'a [Process<'a>],
+        body: &'a Process<'a>,
         frame: Frame,
     ) -> Result<Meaning<'a>, Stop> {
         let signature = self.signature(frame, parameters, Callee::Procedure)?;
-        match body {
-            [body] => Ok(Meaning::Procedure {
-                signature,
-                body,
-                scope: frame.scope,
-            }),
-            _ => self.fault(name.span, FaultKind::ProcBody),
-        }
+        Ok(Meaning::Procedure {
+            signature,
+            body,
+            scope: frame.scope,
+        })
     }
 
     /// A FUNCTION: its parameters, which are VAL.
@@ -270,6 +266,14 @@ impl<'a> Elaborator<'a> {
         })
     }
 
+    /// Names whose declaration was not read.
+    fn wrong(&mut self, names: &'a [Name<'a>], declared: &mut Declared) -> Result<(), Stop> {
+        for name in names {
+            self.put(declared, *name, Meaning::Wrong)?;
+        }
+        Ok(())
+    }
+
     /// A declaration. A name whose declaration is wrong is known to be.
     fn declare(
         &mut self,
@@ -282,6 +286,7 @@ impl<'a> Elaborator<'a> {
             Declaration::Variables { of, names } => {
                 return self.variables(of, names, level, declared);
             }
+            Declaration::Wrong { names } => return self.wrong(names, declared),
             Declaration::Value { of, name, value } => {
                 (
                     *name,
@@ -295,7 +300,7 @@ impl<'a> Elaborator<'a> {
                 name,
                 parameters,
                 body,
-            } => (*name, self.procedure(*name, parameters, body, frame)),
+            } => (*name, self.procedure(parameters, body, frame)),
             Declaration::Function {
                 of,
                 name,

@@ -2,12 +2,12 @@
 
 use crate::environment::{Environment, Scope};
 use crate::fault::{Fault, FaultKind, Limit, Stop};
-use crate::limits::{MOST_CALLS, MOST_FAULTS, MOST_IN_LINE};
+use crate::limits::{MOST_CALLS, MOST_IN_LINE};
 use crate::note::{Note, NoteKind};
 use crate::signatures::Parameter;
 use std::alloc::{AllocError, Global};
 use tpw_occam_core::{Kind, Storage};
-use tpw_occam_syntax::{Name, Primitive, Span};
+use tpw_occam_syntax::{MOST_FAULTS, Name, Primitive, Span};
 
 /// The names in scope, and how many calls may still lie within one another.
 #[derive(Clone, Copy)]
@@ -122,12 +122,10 @@ pub(crate) struct Elaborator<'a> {
     pub(crate) notes: Vec<Note<'a>>,
     /// How many expressions and processes there may still be.
     left: u32,
-    /// Whether the text itself has faults, so that declarations may be missing.
-    has_gaps: bool,
 }
 
 impl<'a> Elaborator<'a> {
-    pub(crate) fn new(alloc: Global, has_gaps: bool) -> Elaborator<'a> {
+    pub(crate) fn new(alloc: Global) -> Elaborator<'a> {
         Elaborator {
             alloc,
             environment: Environment::new(alloc),
@@ -140,28 +138,12 @@ impl<'a> Elaborator<'a> {
             faults: Vec::new(alloc),
             notes: Vec::new(alloc),
             left: MOST_IN_LINE,
-            has_gaps,
         }
-    }
-
-    /// Whether a fault may follow from one of the text itself, since a declaration may be missing there.
-    fn may_follow(&self, kind: FaultKind<'a>) -> bool {
-        self.has_gaps
-            && matches!(
-                kind,
-                FaultKind::Unknown { .. }
-                    | FaultKind::OutOfScope { .. }
-                    | FaultKind::NoWorker
-                    | FaultKind::NoReceive
-                    | FaultKind::NoSend
-                    | FaultKind::WorkerBody
-                    | FaultKind::ProcBody
-            )
     }
 
     /// Reports what is wrong, once for each place. No more is looked for behind the last fault that is reported.
     pub(crate) fn report(&mut self, span: Span, kind: FaultKind<'a>) -> Result<(), Stop> {
-        if self.may_follow(kind) || self.faults.iter().any(|fault| fault.span == span) {
+        if self.faults.iter().any(|fault| fault.span == span) {
             return Ok(());
         }
         self.faults.push(Fault { span, kind })?;

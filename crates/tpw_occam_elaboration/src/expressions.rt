@@ -74,6 +74,29 @@ impl<'a> Elaborator<'a> {
         }
     }
 
+    /// An expression within which no other lies.
+    fn leaf(
+        &mut self,
+        frame: Frame,
+        e: &'a Tree<'a>,
+        wanted: Option<Primitive>,
+    ) -> Result<Typed, Stop> {
+        match e {
+            Tree::Number { value, span } => self.number(*value, wanted, *span),
+            Tree::Character { value, .. } => Ok(constant(Primitive::Byte, u32::from(*value))),
+            Tree::Truth { value, .. } => Ok(constant(Primitive::Bool, u32::from(*value))),
+            Tree::Most {
+                is_negative: true,
+                ..
+            } => Ok(constant(Primitive::Int, MOST_NEGATIVE)),
+            Tree::Most { .. } => Ok(constant(Primitive::Int, MOST_POSITIVE)),
+            Tree::Text { span, .. } => self.fault(*span, FaultKind::TableHere),
+            Tree::List { span, .. } => self.fault(*span, FaultKind::TableHere),
+            Tree::Name { name: text, span } => self.value_of(frame.scope, name(text, *span)),
+            _ => Err(Stop::Reported),
+        }
+    }
+
     /// An expression, of the type that is wanted where one is.
     #[cycle(expressions)]
     pub(crate) fn expression(
@@ -88,17 +111,6 @@ impl<'a> Elaborator<'a> {
             return self.fault(span_of(e), FaultKind::Limit(Limit::Depth));
         }
         let typed = match e {
-            Tree::Number { value, span } => self.number(*value, wanted, *span)?,
-            Tree::Character { value, .. } => constant(Primitive::Byte, u32::from(*value)),
-            Tree::Truth { value, .. } => constant(Primitive::Bool, u32::from(*value)),
-            Tree::Most {
-                is_negative: true,
-                ..
-            } => constant(Primitive::Int, MOST_NEGATIVE),
-            Tree::Most { .. } => constant(Primitive::Int, MOST_POSITIVE),
-            Tree::Text { span, .. } => return self.fault(*span, FaultKind::TableHere),
-            Tree::List { span, .. } => return self.fault(*span, FaultKind::TableHere),
-            Tree::Name { name: text, span } => self.value_of(frame.scope, name(text, *span))?,
             Tree::Element {
                 name: text,
                 span,
@@ -120,6 +132,7 @@ impl<'a> Elaborator<'a> {
                 left,
                 right,
             } => self.dyadic(frame, *operator, (left, right), *span, depth - 1)?,
+            other => self.leaf(frame, other, wanted)?,
         };
         self.of_type(typed, e, wanted)
     }

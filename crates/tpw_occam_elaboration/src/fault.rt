@@ -98,11 +98,6 @@ pub enum FaultKind<'a> {
         wanted: usize,
         found: usize,
     },
-    /// An assignment of another number of values.
-    Values {
-        targets: usize,
-        values: usize,
-    },
     /// A parameter of a FUNCTION that is not VAL.
     NotVal {
         name: &'a str,
@@ -113,8 +108,6 @@ pub enum FaultKind<'a> {
     CaseTwice {
         first: Span,
     },
-    /// A CASE with two ELSEs.
-    ElseTwice,
     /// So many turns.
     Turns {
         count: i64,
@@ -148,8 +141,6 @@ pub enum FaultKind<'a> {
     NoSend,
     /// Variables outside of PROCs.
     OutsideProc,
-    /// A PROC whose body is not one process.
-    ProcBody,
     /// A limit is reached.
     Limit(Limit),
     /// The worker that was made is not sound: a fault of the compiler.
@@ -194,7 +185,7 @@ impl fmt::Display for Limit {
                 "more than 300,000 expressions and processes, with each call in line: call less"
             }
             Limit::Depth => {
-                "more than 5,000 levels of expressions and processes, with each call in line"
+                "more than 1,000 levels of expressions and processes, with each call in line"
             }
             Limit::Guards => "more than 2,000 guards of an IF, or constants of a CASE",
         })
@@ -253,9 +244,10 @@ fn write_arguments<W: fmt::Write>(
     found: usize,
 ) -> fmt::Result {
     let line = declared.line;
+    let plural = if wanted == 1 { "" } else { "s" };
     write!(
         f,
-        "`{name}`, of line {line}, has as many arguments as parameters: {wanted}, and not {found}"
+        "`{name}`, of line {line}, takes {wanted} argument{plural}, not {found}"
     )
 }
 
@@ -268,12 +260,12 @@ fn write_array<W: fmt::Write>(f: &mut fmt::Formatter<W>, kind: FaultKind<'_>) ->
             write!(f, "its elements are {found}s, and {wanted}s are wanted")
         }
         FaultKind::Size { wanted, found } => {
-            write!(f, "it has {found} elements, and {wanted} are wanted")
+            write!(f, "its size is {found}, and {wanted} is wanted")
         }
         FaultKind::ArraySize { elements } => {
             write!(
                 f,
-                "an array has 1 to 2,048 bytes, and these are {elements} elements"
+                "an array has 1 to 2,048 bytes, and no size of {elements}"
             )
         }
         FaultKind::NoWords { bytes } => {
@@ -290,12 +282,6 @@ fn write_array<W: fmt::Write>(f: &mut fmt::Formatter<W>, kind: FaultKind<'_>) ->
 fn write_value<W: fmt::Write>(f: &mut fmt::Formatter<W>, kind: FaultKind<'_>) -> fmt::Result {
     match kind {
         FaultKind::NoByte { value } => write!(f, "{value} is no BYTE: they are 0 to 255"),
-        FaultKind::Values { targets, values } => {
-            write!(
-                f,
-                "{targets} are assigned to, and {values} values stand here"
-            )
-        }
         FaultKind::NotVal { name } => {
             write!(f, "`{name}` is a parameter of a FUNCTION: those are VAL")
         }
@@ -326,7 +312,6 @@ fn text_of(kind: FaultKind<'_>) -> &'static str {
         FaultKind::NoSize => "an array that is declared has a size, as in [16]INT",
         FaultKind::BoolElements => "elements are INTs or BYTEs",
         FaultKind::CaseOfBools => "CASE is of an INT or a BYTE: use IF for a BOOL",
-        FaultKind::ElseTwice => "this CASE has two ELSEs",
         FaultKind::LastIndex => "the last index is beyond 2147483647",
         FaultKind::Protocol =>
             "a channel carries INT, [n]INT or [n]BYTE, of 4 to 256 bytes, four or a multiple of it",
@@ -342,8 +327,6 @@ fn text_of(kind: FaultKind<'_>) -> &'static str {
         FaultKind::NoReceive => "the worker's SEQ begins with the packet, as in packet ? x",
         FaultKind::NoSend => "the worker's SEQ ends with the result, as in result ! x",
         FaultKind::OutsideProc => "variables and arrays are declared within a PROC",
-        FaultKind::ProcBody =>
-            "a PROC's body is one process, with its declarations: put several below a SEQ",
         FaultKind::Compiler => "a fault of the compiler: please report it, with the text",
         _ => "a fault",
     }

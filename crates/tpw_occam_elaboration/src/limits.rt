@@ -1,8 +1,8 @@
 //! Limits, each said once.
 
 /// How deep expressions and processes lie within one another at the most, those put in line among them. Within 60
-/// levels of a text and 40 of calls only chains of thousands of operators go beyond it.
-pub(crate) const MOST_DEPTH: u32 = 5_000;
+/// levels of a text and 40 of calls only chains of hundreds of operators go beyond it.
+pub(crate) const MOST_DEPTH: u32 = 1_000;
 
 /// The most calls within one another.
 pub(crate) const MOST_CALLS: u32 = 40;
@@ -21,9 +21,6 @@ pub(crate) const MOST_ARRAY_BYTES: u64 = 2_048;
 
 /// The most words of a message.
 pub(crate) const MOST_MESSAGE_WORDS: u64 = 64;
-
-/// The most faults that are reported of a text.
-pub(crate) const MOST_FAULTS: usize = 20;
 
 /// The most names that are compared with one, to find the nearest.
 pub(crate) const MOST_NEIGHBOURS: usize = 1_000;

@@ -4,10 +4,10 @@ use crate::elaborator::Elaborator;
 use crate::environment::{Access, Channel, Entry, Meaning, Protocol, Scope, View};
 use crate::fault::{FaultKind, Stop};
 use crate::sort::Role;
-use crate::syntax::{element_type, name};
+use crate::syntax::{element_type, name, span_of};
 use crate::typed::{Typed, computed, constant};
 use tpw_occam_core::Expression;
-use tpw_occam_syntax::Name;
+use tpw_occam_syntax::{Expression as Tree, Name, Primitive};
 
 impl<'a> Elaborator<'a> {
     /// What a name in scope stands for.
@@ -111,12 +111,8 @@ impl<'a> Elaborator<'a> {
     }
 
     /// The view of an array that an expression names, where it is a name alone that stands for one.
-    pub(crate) fn named_array(
-        &self,
-        scope: Scope,
-        e: &tpw_occam_syntax::Expression<'a>,
-    ) -> Option<View> {
-        let tpw_occam_syntax::Expression::Name { name, .. } = e else {
+    pub(crate) fn named_array(&self, scope: Scope, e: &Tree<'a>) -> Option<View> {
+        let Tree::Name { name, .. } = e else {
             return None;
         };
         match self.environment.find(scope, name)?.meaning {
@@ -126,17 +122,13 @@ impl<'a> Elaborator<'a> {
     }
 
     /// `SIZE` of an operand: how many elements an array has.
-    pub(crate) fn size_of(
-        &mut self,
-        scope: Scope,
-        operand: &'a tpw_occam_syntax::Expression<'a>,
-    ) -> Result<Typed, Stop> {
+    pub(crate) fn size_of(&mut self, scope: Scope, operand: &'a Tree<'a>) -> Result<Typed, Stop> {
         match operand {
-            tpw_occam_syntax::Expression::Name { name: text, span } => {
+            Tree::Name { name: text, span } => {
                 let view = self.view_of(scope, name(text, *span))?;
-                Ok(constant(tpw_occam_syntax::Primitive::Int, view.elements))
+                Ok(constant(Primitive::Int, view.elements))
             }
-            other => self.fault(crate::syntax::span_of(other), FaultKind::ArrayWanted),
+            other => self.fault(span_of(other), FaultKind::ArrayWanted),
         }
     }
 }

@@ -60,8 +60,8 @@ impl<'a> Elaborator<'a> {
             Written::Assign {
                 targets,
                 values,
-                span,
-            } => self.assignment(frame, targets, values, *span, depth),
+                ..
+            } => self.assignment(frame, targets, values, depth),
             Written::Send { channel, value, .. } => self.trace(frame, *channel, value, depth),
             Written::Receive { channel, .. } => self.fault(channel.span, FaultKind::Receive),
             _ => Err(Stop::Reported),
@@ -218,10 +218,6 @@ impl<'a> Elaborator<'a> {
                 continue;
             };
             let Some(first) = constants.first() else {
-                if otherwise.is_some() {
-                    self.report(span, FaultKind::ElseTwice)?;
-                    is_whole = false;
-                }
                 otherwise = Some(process);
                 continue;
             };

@@ -17,6 +17,7 @@ pub(crate) fn span_of(e: &Expression<'_>) -> Span {
         Expression::Call { span, .. } => *span,
         Expression::Monadic { span, .. } => *span,
         Expression::Dyadic { span, .. } => *span,
+        Expression::Wrong { span } => *span,
     }
 }
 
@@ -78,6 +79,7 @@ pub(crate) fn declared_place(declaration: &Declaration<'_>) -> Option<Span> {
         Declaration::Retypes { name, .. } => Some(name.span),
         Declaration::Procedure { name, .. } => Some(name.span),
         Declaration::Function { name, .. } => Some(name.span),
+        Declaration::Wrong { names } => Some(names.first()?.span),
     }
 }
 

@@ -1,5 +1,10 @@
 //! The worker of a text.
 
+ghost use Rattle.std.specs.Prelude.{◌≡◌, true, IfOk, All};
+ghost use Rattle.tpw_occam_core.specs.Sound.{is_sound};
+ghost use Rattle.tpw_occam_syntax.specs.Places.{LiesIn};
+ghost use Rattle.tpw_occam_elaboration.specs.Elaboration.{IsElaboration};
+
 use crate::arrays::Shape;
 use crate::bindings::Binding;
 use crate::declarations::{Declared, Level};
@@ -18,6 +23,7 @@ use tpw_occam_core::{
 };
 use tpw_occam_syntax::{
     Declaration, Expression as Tree, Name, Parameters, Primitive, Process as Written, Source, Span,
+    placed,
 };
 
 /// A worker, the names that its variables and arrays have in the text, by their numbers, and what may not be meant.
@@ -39,6 +45,10 @@ pub enum ElaborationError<'a> {
 }
 
 impl From<AllocError> for ElaborationError<'_> {
+    ghost use Rattle.tpw_occam_elaboration.specs.declared.whole.ElaborationError.TheVariants.{Memory};
+
+    ghost from_gives = { λ _ e. e ≡ Memory };
+
     fn from(_: AllocError) -> Self {
         ElaborationError::Memory
     }
@@ -81,6 +91,15 @@ struct Received {
 struct Globals {
     variables: Vec<usize>,
     arrays: Vec<usize>,
+}
+
+/// Whether a process, behind its declarations, was not read.
+fn is_wrong(p: &Written<'_>) -> bool {
+    match p {
+        Written::Wrong => true,
+        Written::Declared { process, .. } => matches!(**process, Written::Wrong),
+        _ => false,
+    }
 }
 
 /// The declarations and the SEQ of a process, where it is these.
@@ -394,15 +413,15 @@ impl<'a> Elaborator<'a> {
         frame: Frame,
         worker: Name<'a>,
         list: &'a [Parameters<'a>],
-        body: &'a [Written<'a>],
-    ) -> Result<Worker, Stop> {
+        body: &'a Written<'a>,
+    ) -> Result<Worker, Stop>
+        ensures { IfOk result (λ w. is_sound w ≡ true) }
+    {
         let channels = self.channels(frame, worker, list)?;
-        let parts = match body {
-            [Written::Wrong] => return Err(Stop::Reported),
-            [body] => parts_of(body),
-            _ => None,
-        };
-        let Some(parts) = parts else {
+        if is_wrong(body) {
+            return Err(Stop::Reported);
+        }
+        let Some(parts) = parts_of(body) else {
             return self.fault(worker.span, FaultKind::WorkerBody);
         };
         let frame = frame.with_scope(channels.scope);
@@ -415,10 +434,15 @@ impl<'a> Elaborator<'a> {
         }
     }
 
-    /// The worker of a text: its last declaration.
-    fn text(&mut self, source: &'a Source<'a>) -> Result<Worker, Stop> {
+    /// The worker of a text: its last declaration. Where the indentation is wrong, no more is looked for.
+    fn text(&mut self, source: &'a Source<'a>) -> Result<Worker, Stop>
+        ensures { IfOk result (λ w. is_sound w ≡ true) }
+    {
         for fault in &source.faults {
             self.report(fault.span, FaultKind::Syntax(fault.kind))?;
+        }
+        if !source.is_laid_out {
+            return Err(Stop::Ended);
         }
         let Some((last, others)) = source.declarations.split_last() else {
             return self.fault(FIRST, FaultKind::NoWorker);
@@ -448,23 +472,68 @@ impl<'a> Elaborator<'a> {
     }
 }
 
-/// The worker of a text that was read, or all that is wrong with it: with the text, or with what it says.
+/// Faults at their places in a text.
+fn placed_faults<'a>(
+    alloc: Global,
+    text: &str,
+    faults: &[Fault<'a>],
+) -> Result<Vec<Fault<'a>>, AllocError>
+    ensures { IfOk result (λ v. All (λ f. LiesIn text.now f.span) v.items) }
+{
+    let mut all = Vec::new(alloc);
+    for fault in faults {
+        all.push(Fault {
+            span: placed(text, fault.span),
+            kind: fault.kind,
+        })?;
+    }
+    Ok(all)
+}
+
+/// Notes at their places in a text.
+fn placed_notes<'a>(
+    alloc: Global,
+    text: &str,
+    notes: &[Note<'a>],
+) -> Result<Vec<Note<'a>>, AllocError>
+    ensures { IfOk result (λ v. All (λ n. LiesIn text.now n.span) v.items) }
+{
+    let mut all = Vec::new(alloc);
+    for note in notes {
+        all.push(Note {
+            span: placed(text, note.span),
+            kind: note.kind,
+        })?;
+    }
+    Ok(all)
+}
+
+/// The worker of a text that was read as `source`, or all that is wrong with it: with the text, or with what it says.
 pub fn elaborate<'a>(
     alloc: Global,
+    text: &str,
     source: &'a Source<'a>,
-) -> Result<Elaborated<'a>, ElaborationError<'a>> {
-    let mut elaborator = Elaborator::new(alloc, !source.faults.is_empty());
+) -> Result<Elaborated<'a>, ElaborationError<'a>>
+    ensures { IsElaboration text.now result }
+{
+    let mut elaborator = Elaborator::new(alloc);
     match elaborator.text(source) {
         Err(Stop::Memory) => Err(ElaborationError::Memory),
         Ok(worker) if elaborator.faults.is_empty() => {
             elaborator.note_unread()?;
+            elaborator
+                .notes
+                .sort_by_key(|note| (note.span.line, note.span.column))?;
             Ok(Elaborated {
                 worker,
                 variables: elaborator.variables.named,
                 arrays: elaborator.arrays.named,
-                notes: elaborator.notes,
+                notes: placed_notes(alloc, text, &elaborator.notes)?,
             })
         }
-        _ => Err(ElaborationError::Faults(elaborator.all_faults()?)),
+        _ => {
+            let faults = elaborator.all_faults()?;
+            Err(ElaborationError::Faults(placed_faults(alloc, text, &faults)?))
+        }
     }
 }
