@@ -27,7 +27,7 @@ fn each_note(rt: HostRuntime) -> Result<(), AllocError> {
         &found.as_str(),
         &"2:10: `y` is never read
 2:13: `z` is never read
-3:14: `b` is never read
+3:13: `b` is never read
 7:5: where no guard holds, this IF sets the error flag: end it with TRUE and SKIP if that is not meant
 11:14: `a` is the result, and nothing is assigned to it
 ",

@@ -1,5 +1,5 @@
 -- What elaboration gives: a worker that is sound, or faults whose places lie in the text.
-use Rattle.std.specs.Prelude.{◌≡◌, ◌×◌, ℕ, true, List, Result, Ok, Err, All, Unit, nat_le, length, ◌≤◌}
+use Rattle.std.specs.Prelude.{◌≡◌, ℕ, true, List, Result, Ok, Err, All, Unit}
 use Rattle.tpw_occam_core.specs.Sound.{is_sound}
 use Rattle.tpw_occam_syntax.specs.Places.{LiesIn}
 use Rattle.tpw_occam_elaboration.specs.declared.whole.Elaborated.{Elaborated}

@@ -524,11 +524,12 @@ pub fn elaborate<'a>(
             elaborator
                 .notes
                 .sort_by_key(|note| (note.span.line, note.span.column))?;
+            let notes = placed_notes(alloc, text, &elaborator.notes)?;
             Ok(Elaborated {
                 worker,
                 variables: elaborator.variables.named,
                 arrays: elaborator.arrays.named,
-                notes: placed_notes(alloc, text, &elaborator.notes)?,
+                notes,
             })
         }
         _ => {
