@@ -53,29 +53,34 @@ fn too_much_in_line(rt: HostRuntime) -> Result<(), AllocError> {
     Ok(())
 }
 
-/// A worker that assigns a chain of so many terms.
-fn chain(alloc: Global, terms: u32) -> Result<String, AllocError> {
-    let mut text = String::from_str(
-        alloc,
-        "PROC main (CHAN OF INT packet, CHAN OF INT result)\n  INT x:\n  SEQ\n    packet ? x\n    x := 1",
-    )?;
-    for _ in 0..terms {
-        text.push_str(" + x")?;
+/// FUNCTIONs of which each adds 400 times 1 to the one before it, and a worker that calls the last.
+fn chains(alloc: Global, functions: u32) -> Result<String, AllocError> {
+    let mut text = String::from_str(alloc, "INT FUNCTION f0 (VAL INT x) IS x :\n")?;
+    for last in 1..=functions {
+        let below = last - 1;
+        write!(text, "INT FUNCTION f{last} (VAL INT x) IS (f{below} (x))")?;
+        for _ in 0..400 {
+            text.push_str(" + 1")?;
+        }
+        text.push_str(" :\n")?;
     }
-    text.push_str("\n    result ! x\n:\n")?;
+    write!(
+        text,
+        "PROC main (CHAN OF INT packet, CHAN OF INT result)\n  INT x:\n  SEQ\n    packet ? x\n    x := f{functions} (x)\n    result ! x\n:\n",
+    )?;
     Ok(text)
 }
 
 #[test]
-fn chains_of_operators(rt: HostRuntime) -> Result<(), AllocError> {
+fn levels_with_calls_in_line(rt: HostRuntime) -> Result<(), AllocError> {
     let alloc = rt.alloc();
-    let made = worker(&rt, alloc, &chain(alloc, 900)?);
+    let made = worker(&rt, alloc, &chains(alloc, 2)?);
     assert_same(
         &rt,
         &given(&rt, alloc, &made, &[2, 0, 0, 0]).result.as_slice(),
-        &[9, 7, 0, 0].as_slice(),
+        &[0x22, 3, 0, 0].as_slice(),
     );
-    let found = faults(&rt, alloc, &chain(alloc, 1_500)?)?;
+    let found = faults(&rt, alloc, &chains(alloc, 3)?)?;
     assert!(rt; found.as_str().contains("more than 1,000 levels"));
     Ok(())
 }

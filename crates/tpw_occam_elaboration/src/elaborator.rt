@@ -243,12 +243,12 @@ impl<'a> Elaborator<'a> {
 
     /// Notes each variable and array that is never read.
     pub(crate) fn note_unread(&mut self) -> Result<(), AllocError> {
-        for at in 0..self.kinds.len() {
+        for at in 0..self.variables.named.len() {
             if let Some(named) = self.variables.unread(at) {
                 self.note(named.span, NoteKind::NeverRead { name: named.text })?;
             }
         }
-        for at in 0..self.storages.len() {
+        for at in 0..self.arrays.named.len() {
             if let Some(named) = self.arrays.unread(at) {
                 self.note(named.span, NoteKind::NeverRead { name: named.text })?;
             }

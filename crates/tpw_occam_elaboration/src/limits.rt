@@ -1,7 +1,7 @@
 //! Limits, each said once.
 
-/// How deep expressions and processes lie within one another at the most, those put in line among them. Within 60
-/// levels of a text and 40 of calls only chains of hundreds of operators go beyond it.
+/// How deep expressions and processes lie within one another at the most, those put in line among them: so deep do the
+/// calls go that make a worker, run it and compile it.
 pub(crate) const MOST_DEPTH: u32 = 1_000;
 
 /// The most calls within one another.
