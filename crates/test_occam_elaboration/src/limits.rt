@@ -74,13 +74,13 @@ fn chains(alloc: Global, functions: u32) -> Result<String, AllocError> {
 #[test]
 fn levels_with_calls_in_line(rt: HostRuntime) -> Result<(), AllocError> {
     let alloc = rt.alloc();
-    let made = worker(&rt, alloc, &chains(alloc, 2)?);
+    let made = worker(&rt, alloc, &chains(alloc, 1)?);
     assert_same(
         &rt,
         &given(&rt, alloc, &made, &[2, 0, 0, 0]).result.as_slice(),
-        &[0x22, 3, 0, 0].as_slice(),
+        &[0x92, 1, 0, 0].as_slice(),
     );
-    let found = faults(&rt, alloc, &chains(alloc, 3)?)?;
-    assert!(rt; found.as_str().contains("more than 1,000 levels"));
+    let found = faults(&rt, alloc, &chains(alloc, 2)?)?;
+    assert!(rt; found.as_str().contains("more than 500 levels"));
     Ok(())
 }

@@ -185,7 +185,7 @@ impl fmt::Display for Limit {
                 "more than 300,000 expressions and processes, with each call in line: call less"
             }
             Limit::Depth => {
-                "more than 1,000 levels of expressions and processes, with each call in line"
+                "more than 500 levels of expressions and processes, with each call in line"
             }
             Limit::Guards => "more than 2,000 guards of an IF, or constants of a CASE",
         })

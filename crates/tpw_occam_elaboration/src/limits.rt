@@ -2,7 +2,7 @@
 
 /// How deep expressions and processes lie within one another at the most, those put in line among them: so deep do the
 /// calls go that make a worker, run it and compile it.
-pub(crate) const MOST_DEPTH: u32 = 1_000;
+pub(crate) const MOST_DEPTH: u32 = 500;
 
 /// The most calls within one another.
 pub(crate) const MOST_CALLS: u32 = 40;
