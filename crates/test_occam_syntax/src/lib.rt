@@ -8,6 +8,8 @@ mod faults;
 #[cfg(test)]
 mod hostile;
 #[cfg(test)]
+mod instead;
+#[cfg(test)]
 mod layout;
 #[cfg(test)]
 mod literals;

@@ -152,16 +152,20 @@ impl<'a> Layout<'a> {
         self.faults.put(Fault { span, kind })
     }
 
+    /// Judges the indentation of a line that is the first below the last one of the chain.
+    fn judge(&mut self, line: &Line<'a>, number: usize) -> Result<(), AllocError> {
+        match self.nest.indentation(line.indent) {
+            Some(_) if line.is_doubtful => self.is_laid_out = false,
+            Some(kind) => self.fault(kind, front(line.indent, number))?,
+            None => {}
+        }
+        Ok(())
+    }
+
     /// A line is whole: it goes below the last one that is indented less.
     fn put(&mut self, alloc: Global, line: Line<'a>) -> Result<(), AllocError> {
         let span = line.span();
-        if !self.nest.close(line.indent)? {
-            match self.nest.indentation(line.indent) {
-                Some(_) if line.is_doubtful => self.is_laid_out = false,
-                Some(kind) => self.fault(kind, front(line.indent, span.line))?,
-                None => {}
-            }
-        }
+        let is_sibling = self.nest.close(line.indent)?;
         if self.nest.chain.len() > MOST_LEVELS {
             if !self.is_deep {
                 self.fault(FaultKind::TooDeep, span)?;
@@ -170,6 +174,9 @@ impl<'a> Layout<'a> {
             return Ok(());
         }
         self.is_deep = false;
+        if !is_sibling {
+            self.judge(&line, span.line)?;
+        }
         let (trees, is_wrong) = trees_of_line(alloc, &line, &mut self.faults)?;
         self.nest.chain.push(Open {
             indent: line.indent,
