@@ -1,12 +1,13 @@
+#!/usr/bin/env python3
 """Random workers in occam: texts of every construct, which keep the rules of types and scopes.
 
-    random_texts.py SEED            prints the worker of a seed
+    random_texts.py FIRST COUNT     writes the workers of so many seeds, with four packets each
 """
 
 import random
 import sys
 
-from model import BITS, BOOL, BYTE, INT
+from model import BOOL, BYTE, INT
 
 NAMES = ['a', 'b', 'c', 'd', 'e', 'f', 'g', 'h', 'k', 'n', 'p', 'q', 's', 't', 'x', 'y', 'z', 'Value', 'up.to', 'last2', 'in.it', 'X']
 ENDS = [0, 1, 2, 3, 4, 5, 7, 8, 15, 16, 17, 31, 32, 33, 63, 64, 127, 128, 255, 256, 257, 32767, 32768, 65535, 65536, 0x7FFFFFFF]
@@ -34,7 +35,6 @@ class Maker:
         self.out = []
         self.indent = 0
         self.turns = 1
-        self.constants = {}
         self.calls = 0
         self.is_traced = self.random.random() < 0.7
         # Within a PROC's or FUNCTION's body.
@@ -498,11 +498,6 @@ class Maker:
         size = self.of(1, 2, 4, 8, 16) * (1 if of == INT else 4)
         return f'[{size}]{of}', of, size
 
-    def message(self, of, size, mark, channel):
-        if size is None:
-            return f'{channel} {mark} m'
-        return f'{channel} {mark} m'
-
     def worker(self):
         packet, packet_of, packet_size = self.protocol()
         result, result_of, result_size = self.protocol()
@@ -548,7 +543,12 @@ class Maker:
 
 
 def main():
-    sys.stdout.write(Maker(int(sys.argv[1])).worker())
+    first, count = int(sys.argv[1]), int(sys.argv[2])
+    for seed in range(first, first + count):
+        maker = Maker(seed)
+        sys.stdout.write(f'@worker {seed}\n{maker.worker()}')
+        for packet in maker.packets():
+            print(f'@packet {packet.hex()}')
 
 
 if __name__ == '__main__':

@@ -1,7 +1,7 @@
+#!/usr/bin/env python3
 """What a worker in occam means, written apart from tpw: texts are interpreted, with environments in place of calls in line.
 
-    model.py WORKER.occ PACKETS     prints for each packet, a line of hexadecimal: the result, its flag where that is 1, and
-                                    a line of its traces where there are any; `lost` where these have more than 256 bytes
+    model.py <TEXTS     writes texts and packets, as README.md has them, with the answer of each packet
 
 It takes good texts: of the faults that tpw reports it finds those that it stumbles over.
 """
@@ -688,20 +688,31 @@ def parse(text):
     return Parser(text).program()
 
 
+def digits(message):
+    return message.hex() or '-'
+
+
+def answer(tree, packet):
+    given = run(tree, packet)
+    if given is None:
+        return 'lost'
+    result, flag, traced = given
+    return f'{digits(result)} {int(flag)} {digits(traced)}'
+
+
 def main():
-    with open(sys.argv[1]) as file:
-        tree = parse(file.read())
-    with open(sys.argv[2]) as file:
-        packets = [bytes.fromhex(line) for line in file.read().split()]
-    for packet in packets:
-        answer = run(tree, packet)
-        if answer is None:
-            print('lost')
-            continue
-        result, flag, traced = answer
-        print(result.hex() + (' flag 1' if flag else ''))
-        if traced:
-            print('    ' + traced.hex())
+    text, tree = [], None
+    for line in sys.stdin:
+        line = line.rstrip('\n')
+        if line.startswith('@worker '):
+            text, tree = [], None
+        elif line.startswith('@packet '):
+            tree = tree or parse('\n'.join(text))
+            packet = line.split()[1]
+            line = f'@packet {packet} > {answer(tree, bytes.fromhex(packet))}'
+        else:
+            text.append(line)
+        print(line)
 
 
 if __name__ == '__main__':
