@@ -28,6 +28,10 @@ class Fault(Exception):
     pass
 
 
+class NoConstant(Exception):
+    """A constant sets the flag, which is a fault of the text."""
+
+
 def signed(word):
     return word - 0x100000000 if word > MOST else word
 
@@ -546,12 +550,36 @@ class Machine:
             elif size is not None:
                 found[name] = self.array(tree, names, of)
             elif passing == 'VAL':
-                found[name] = Value(of, self.word(tree, names))
+                found[name] = Value(of, self.word(tree, names), self.is_constant(tree, names))
             else:
                 found[name] = self.target(tree, names)
         return found
 
     # Declarations
+
+    def is_constant(self, tree, names):
+        kind = tree[0]
+        if kind in ('number', 'byte', 'truth'):
+            return True
+        if kind == 'name':
+            value = names[tree[1]]
+            return isinstance(value, Value) and value.is_constant
+        if kind == 'element':
+            return names[tree[1]].is_table and self.is_constant(tree[2], names)
+        if kind == 'call':
+            return all(self.is_constant(argument, names) for argument in tree[2])
+        if kind == 'monadic' and tree[1] == 'SIZE':
+            return True
+        return all(self.is_constant(operand, names) for operand in tree[2:])
+
+    def named_value(self, of, tree, names):
+        """The value of a VAL, which may set the flag only where it is no constant."""
+        before, self.flag = self.flag, False
+        word, is_constant = self.word(tree, names), self.is_constant(tree, names)
+        if self.flag and is_constant:
+            raise NoConstant
+        self.flag |= before
+        return Value(of, word, is_constant)
 
     def declare(self, declaration, names):
         kind = declaration[0]
@@ -560,7 +588,7 @@ class Machine:
             if self.is_array(tree, names):
                 names[name] = self.array(tree, names, of and of[0])
             else:
-                names[name] = Value(of[0] if of else self.type_of(tree, names) or INT, self.word(tree, names))
+                names[name] = self.named_value(of[0] if of else self.type_of(tree, names) or INT, tree, names)
         elif kind == 'variables':
             _, (of, size), new = declaration
             for name in new:
@@ -700,19 +728,26 @@ def answer(tree, packet):
     return f'{digits(result)} {int(flag)} {digits(traced)}'
 
 
+def answered(lines):
+    """A worker's lines, with the answers of its packets; none where a constant sets the flag."""
+    is_packet = [line.startswith('@packet ') for line in lines]
+    tree = parse('\n'.join(line for line, packet in zip(lines[1:], is_packet[1:]) if not packet))
+    try:
+        return [f'{line} > {answer(tree, bytes.fromhex(line.split()[1]))}' if packet else line
+                for line, packet in zip(lines, is_packet)]
+    except NoConstant:
+        return []
+
+
 def main():
-    text, tree = [], None
+    workers = []
     for line in sys.stdin:
-        line = line.rstrip('\n')
         if line.startswith('@worker '):
-            text, tree = [], None
-        elif line.startswith('@packet '):
-            tree = tree or parse('\n'.join(text))
-            packet = line.split()[1]
-            line = f'@packet {packet} > {answer(tree, bytes.fromhex(packet))}'
-        else:
-            text.append(line)
-        print(line)
+            workers.append([])
+        workers[-1].append(line.rstrip('\n'))
+    for lines in workers:
+        for line in answered(lines):
+            print(line)
 
 
 if __name__ == '__main__':

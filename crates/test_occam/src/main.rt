@@ -57,7 +57,7 @@ impl Current {
     fn answer(&mut self, alloc: Global, packet: &str) -> Result<String> {
         let compiled = match self.compiled.take() {
             Some(compiled) => compiled,
-            None => workers::compiled(alloc, self.text.as_str())?,
+            None => workers::compile_text(alloc, self.text.as_str())?,
         };
         let answer = compiled.answer(alloc, packet);
         self.compiled = Some(compiled);
@@ -75,7 +75,10 @@ fn main(rt: HostRuntime) -> Result<()> {
             current = Current::new(alloc, name)?;
         } else if let Some(case) = line.strip_prefix(PACKET) {
             let (packet, wanted) = case.split_once(MARK).context("no mark in a line")?;
-            let came = current.answer(alloc, packet)?;
+            let came = match current.answer(alloc, packet) {
+                Ok(came) => came,
+                Err(error) => format!(in alloc; "{error}")?,
+            };
             if came.as_str() == wanted {
                 counts.agree = counts.agree.saturating_add(1);
                 continue;
