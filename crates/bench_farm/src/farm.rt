@@ -1,5 +1,5 @@
-//! How many packets a second a farm of 1, 2 and 4 members runs: one batch of 1,024 packets, with a light worker and with a
-//! heavy one.
+//! How many packets a second a farm of 1, 2 and 4 members runs: one batch of 1,024 packets, with a light worker and
+//! with a heavy one.
 //!
 //! Runs each batch once, the heavy ones with few packets, and prints its counts; timed, several times, with the times.
 

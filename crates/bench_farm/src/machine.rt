@@ -118,8 +118,8 @@ fn report_machine<R: Runtime<A = Global>, M: Runs>(
     Ok(())
 }
 
-/// The same turns by a plain function: the word that it leaves. The places of its words are read from the image: no compiler knows
-/// them.
+/// The same turns by a plain function: the word that it leaves. The places of its words are read from the image: no
+/// compiler knows them.
 fn plain_rounds((outer, inner): (u32, u32), accepted: &Accepted, count: u32) -> u32 {
     let sum = accepted.result_bytes() % 8;
     let block = (accepted.packet_bytes() + 1) % 8;

@@ -1,7 +1,8 @@
 //! How fast the machine, the board and the farm are, beside plain code that does the same work in the same run.
 //!
-//! `bench_farm WORD` measures what the word names, and prints what was counted and how long that took; the scripts make rates of it.
-//! With no word each is done once, in small, and what was counted is printed, which is the same at every run.
+//! `bench_farm WORD` measures what the word names, and prints what was counted and how long that took; the scripts make
+//! rates of it. With no word each is done once, in small, and what was counted is printed, which is the same at every
+//! run.
 #![tactic(auto)]
 
 mod board;

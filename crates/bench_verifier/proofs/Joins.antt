@@ -15,7 +15,8 @@ meets_to t s u is = by_test (t.wptr == s.wptr) (t.phase == s.phase) is
     by_test true false e = absurd cc
     by_test false q e = absurd cc
 
-pub joined_long : (answer : Result Bool StateCode) (old other new : State) → answered answer new ≡ meeting old other → OnErr answer (new ≡ old) → length other.cells ≡ length old.cells → length other.cells ≡ length new.cells
+pub joined_long : (answer : Result Bool StateCode) (old other new : State) → answered answer new ≡ meeting old other →
+    OnErr answer (new ≡ old) → length other.cells ≡ length old.cells → length other.cells ≡ length new.cells
 joined_long (Ok moved) old other new value kept long =
     let is : new ≡ join old other = meets_to old other new value in
     long ∙ sym (length-joined old.cells other.cells long) ∙ sym (ap (λ (s : State). length s.cells) is)

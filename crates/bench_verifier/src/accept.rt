@@ -1,7 +1,7 @@
 //! How many images a second are accepted, beside decoding the same code.
 //!
-//! One image is accepted once, and its code bytes and its budget are printed; or it is accepted many times, and what that took is
-//! printed. `bench/images.py` makes the images.
+//! One image is accepted once, and its code bytes and its budget are printed; or it is accepted many times, and what
+//! that took is printed. `bench/images.py` makes the images.
 
 use anyhow::{Result, anyhow};
 use std::alloc::Global;

@@ -1,7 +1,7 @@
 //! What the verifier's passes take, beside `check_flow` of the same image in the same run.
 //!
-//! One image is judged once, and it is printed how many states are kept; or its times are printed with that; or it is judged so
-//! often, for the processor time that it takes. `bench/images.py` makes the images.
+//! One image is judged once, and it is printed how many states are kept; or its times are printed with that; or it is
+//! judged so often, for the processor time that it takes. `bench/images.py` makes the images.
 
 ghost use Rattle.tp_decode.specs.Cutting.{IsCutting};
 
@@ -35,8 +35,8 @@ pub(crate) fn time<R: Runtime<A = Global>>(rt: &R, name: &str, bytes: &[u8]) -> 
     timed(rt, name, &image, &listing)
 }
 
-/// Judges one image so often, and nothing else: what is printed is what was found, and the processor time that was taken is for
-/// the caller to see. With no rounds the image is made and its flow checked, and that is all.
+/// Judges one image so often, and nothing else: what is printed is what was found, and the processor time that was
+/// taken is for the caller to see. With no rounds the image is made and its flow checked, and that is all.
 pub(crate) fn judge<R: Runtime<A = Global>>(
     rt: &R,
     name: &str,

@@ -1,6 +1,6 @@
-//! Codes judged by hand: their flow, what is known along them, and the tables of whole workers. Texts that are
-//! accepted or refused, and runs of the accepted ones, worked out by hand; runs on a machine whatever it held before (`machine`); the
-//! media of members. There is no code here but tests.
+//! Codes judged by hand: their flow, what is known along them, and the tables of whole workers. Texts that are accepted
+//! or refused, and runs of the accepted ones, worked out by hand; runs on a machine whatever it held before
+//! (`machine`); the media of members. There is no code here but tests.
 #![tactic(auto)]
 
 #[cfg(test)]
@@ -9,6 +9,8 @@ mod answers;
 mod asserts;
 #[cfg(test)]
 mod changed;
+#[cfg(test)]
+mod examples;
 #[cfg(test)]
 mod flow;
 #[cfg(test)]

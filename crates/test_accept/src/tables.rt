@@ -147,7 +147,7 @@ fn placed_at<'a>(image: &Image, table: &'a Table, at: u32) -> Option<&'a State>
     requires { AreStatesThere image.now table.now.states.items }
     ensures { IfSome (option_copied result) (IsPlaced image.now) }
 {
-    let _ = &image.code;
+    image.law_is_in_range();
     for i in 0..table.states.len() {
         if table.states[i].0 == at {
             return Some(&table.states[i].1);
@@ -156,8 +156,8 @@ fn placed_at<'a>(image: &Image, table: &'a Table, at: u32) -> Option<&'a State>
     None
 }
 
-/// What is known at an address, from the state at an address before it: control falls from instruction to instruction, and
-/// out of loops.
+/// What is known at an address, from the state at an address before it: control falls from instruction to instruction,
+/// and out of loops.
 fn carried_to(
     rt: &(impl Abort + AllocGlobal),
     image: &Image,
@@ -186,8 +186,8 @@ fn carried_to(
     state
 }
 
-/// What is known at addresses along a loop, from the state that is kept at its head: before the sum, before the lend, behind
-/// the loop, and at the end.
+/// What is known at addresses along a loop, from the state that is kept at its head: before the sum, before the lend,
+/// behind the loop, and at the end.
 #[test]
 fn knows_the_registers_along_a_loop(rt: HostRuntime) {
     let (image, listing) = read(&rt, SUM_TO_TEN_THOUSAND);

@@ -118,7 +118,8 @@ fn closed(rt: &impl Abort, board: Board, mut seats: Vec<Seat>, last: Seat) -> Op
     board.close(seats).ok()
 }
 
-/// The accounts of a board of two seats after these steps. It is closed without its second seat first, and then with both.
+/// The accounts of a board of two seats after these steps. It is closed without its second seat first, and then with
+/// both.
 fn ledger_after(
     rt: &impl Abort,
     alloc: Global,

@@ -1,5 +1,5 @@
-//! Lists of events, boards, sources of packets and streams, with the answers that were worked out by hand. There is no code here but
-//! tests.
+//! Lists of events, boards, sources of packets and streams, with the answers that were worked out by hand. There is no
+//! code here but tests.
 #![tactic(auto)]
 
 #[cfg(test)]

@@ -7,12 +7,12 @@ use std::sync::Wait;
 use std::thread::Threads;
 use test_samples::INCREMENT;
 use tp_accept::accept;
-use tp_board::Packet;
 use tp_collect::{Collected, Done, Entry, LostCause};
 use tp_farm::{Batch, FarmFault, Gate, Job, run_batch};
 use tp_link::{
     DeviceFault, FaultyWire, Link, LinkDevice, LinkFault, Links, Media, boxed, media_of,
 };
+use tp_stream::Packet;
 
 /// The number of the batches here.
 pub(crate) const BATCH: u64 = 7;
@@ -49,8 +49,8 @@ pub(crate) fn of_entry(entry: &Entry) -> Outcome {
     }
 }
 
-/// What `INCREMENT` makes of a packet of this word: one more, in 16 instruction bytes, of which the sum of the greatest number and
-/// one sets the error flag.
+/// What `INCREMENT` makes of a packet of this word: one more, in 16 instruction bytes, of which the sum of the greatest
+/// number and one sets the error flag.
 pub(crate) fn one_more(word: u32) -> Outcome {
     Outcome::Done {
         result: word.wrapping_add(1),

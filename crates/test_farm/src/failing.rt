@@ -17,7 +17,8 @@ const DONE: Outcome = Outcome::Done {
     steps: 16,
 };
 
-/// Whether these are the entries of two packets of 1, where a device fails in one of its calls, and all media have ended.
+/// Whether these are the entries of two packets of 1, where a device fails in one of its calls, and all media have
+/// ended.
 fn fails_as<R: Abort + Threads + Wait + Sync>(
     rt: &R,
     alloc: Global,
@@ -106,8 +107,8 @@ fn call_of(link: Link, call: u64) -> [u64; 3] {
     }
 }
 
-/// Whether these are the entries of two packets of 1, where the link's device holds 600 bytes and fails in this call, and all
-/// are empty after it.
+/// Whether these are the entries of two packets of 1, where the link's device holds 600 bytes and fails in this call,
+/// and all are empty after it.
 fn empties_as<R: Abort + Threads + Wait + Sync>(
     rt: &R,
     alloc: Global,

@@ -1,5 +1,5 @@
-//! Batches that were worked out by hand: packets, devices that fail or are closed, gates, and what becomes of each packet. There is no
-//! code here but tests.
+//! Batches that were worked out by hand: packets, devices that fail or are closed, gates, and what becomes of each
+//! packet. There is no code here but tests.
 #![tactic(auto)]
 
 #[cfg(test)]

@@ -135,7 +135,8 @@ fn of_member(rt: &impl Abort, alloc: Global, heard: &[Heard], member: u32) -> Ve
     all
 }
 
-/// A member asks, has taken a packet and is done with that packet, in turn, and asks at last: how many packets that are.
+/// A member asks, has taken a packet and is done with that packet, in turn, and asks at last: how many packets that
+/// are.
 fn turns_of(heard: &[Heard]) -> Option<usize> {
     let mut rest = heard;
     for turns in 0..heard.len() {

@@ -7,9 +7,9 @@ use std::process::Abort;
 use std::sync::Wait;
 use std::thread::Threads;
 use test_samples::*;
-use tp_board::Packet;
 use tp_farm::{FarmFault, OpenGate};
 use tp_link::{Media, boxed, media_of};
+use tp_stream::Packet;
 
 /// The refusal of a batch of the increment over these media, if it is refused.
 fn fault_over<R: Abort + Threads + Wait + Sync>(

@@ -10,8 +10,8 @@ use test_samples::INCREMENT;
 use tp_farm::OpenGate;
 use tp_link::{LinkDevice, Media, boxed, media_of};
 
-/// Sends the number of each of the links that come back into their devices: once into the source, twice into the sink, and three times
-/// into the trace.
+/// Sends the number of each of the links that come back into their devices: once into the source, twice into the sink,
+/// and three times into the trace.
 fn mark_each<R: Abort + Threads + Wait + Sync>(rt: &R, alloc: Global, media: &mut [Media]) {
     let links = unwrap(rt, boxed(alloc, media));
     let mut batch = batch_on(rt, alloc, INCREMENT, &[1, 2, 3, 4, 5], links, &OpenGate);

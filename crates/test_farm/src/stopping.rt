@@ -104,8 +104,8 @@ fn a_closed_gate_lets_nothing_through(rt: HostRuntime) {
     assert!(rt; media.iter().all(have_ended));
 }
 
-/// How many of 1,024 packets are done, by so many members under a gate that says no at this ask and from there on; none where
-/// an entry is neither done nor stopped.
+/// How many of 1,024 packets are done, by so many members under a gate that says no at this ask and from there on; none
+/// where an entry is neither done nor stopped.
 fn done_before<R: Abort + Threads + Wait + Sync>(
     rt: &R,
     alloc: Global,
@@ -155,8 +155,8 @@ fn done_and_stopped<R: Abort + Threads + Wait + Sync>(rt: &R, alloc: Global) -> 
     )
 }
 
-/// Where the tenth question is the first that is answered false, nine members went on. The last of these may still find the
-/// batch stopped.
+/// Where the tenth question is the first that is answered false, nine members went on. The last of these may still find
+/// the batch stopped.
 #[test]
 fn a_gate_stops_two_members(rt: HostRuntime) {
     for _ in 0..20u8 {

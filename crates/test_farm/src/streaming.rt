@@ -1,5 +1,5 @@
-//! Members that end early or lose their packets, at counts of packets about the 32 places of the queue that hands them out:
-//! each batch ends, with an entry for each packet.
+//! Members that end early or lose their packets, at counts of packets about the 32 places of the queue that hands them
+//! out: each batch ends, with an entry for each packet.
 
 use crate::asserts::unwrap;
 use crate::batches::{Outcome, ROOM, count_up, increments_by, one_more, outcomes, run_on};
@@ -16,7 +16,8 @@ const MEMBERS: [usize; 3] = [1, 2, 64];
 
 const COUNTS: [u32; 5] = [1, 31, 32, 33, 1024];
 
-/// How many packets are done with their word plus one: 1, or 0 where the packet has that other entry; none where it has neither.
+/// How many packets are done with their word plus one: 1, or 0 where the packet has that other entry; none where it has
+/// neither.
 fn done_or(one: Outcome, word: u32, other: Outcome) -> Option<usize> {
     if one == one_more(word) {
         Some(1)
@@ -27,7 +28,8 @@ fn done_or(one: Outcome, word: u32, other: Outcome) -> Option<usize> {
     }
 }
 
-/// How many packets are done, each with its word plus one, where all others have that other entry; none where they have not.
+/// How many packets are done, each with its word plus one, where all others have that other entry; none where they have
+/// not.
 fn done_beside(all: &[Outcome], words: &[u32], other: Outcome) -> Option<usize> {
     if all.len() != words.len() {
         return None;

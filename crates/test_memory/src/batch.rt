@@ -15,7 +15,8 @@ use tp_link::{boxed, media_of};
 /// The room of each medium in bytes.
 const ROOM: usize = 16;
 
-/// Running both batches. A thread that cannot be started for want of memory is answered as G4, and counts as memory refused.
+/// Running both batches. A thread that cannot be started for want of memory is answered as G4, and counts as memory
+/// refused.
 pub fn batch<R: Threads + Wait + Sync>(rt: &R, alloc: Global) -> Answer {
     let Ok(text) = Vec::from_slice(alloc, INCREMENT) else {
         return Answer::Memory;

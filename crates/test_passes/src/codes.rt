@@ -159,8 +159,8 @@ impl Writer {
         }
     }
 
-    /// A loop in which a variable is used, then takes the next one's word, which takes the one behind it, and so on; the last
-    /// counts up. So each pass knows less of one more.
+    /// A loop in which a variable is used, then takes the next one's word, which takes the one behind it, and so on;
+    /// the last counts up. So each pass knows less of one more.
     fn chain(&mut self) -> Result<(), AllocError> {
         self.begin_loop()?;
         if self.random.is_once_in(2) {

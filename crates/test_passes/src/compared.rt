@@ -143,7 +143,8 @@ fn are_alike(state: &State, other: &State, words: usize) -> bool {
     registers && cells && state.wptr == other.wptr && state.phase == other.phase
 }
 
-/// Whether a table keeps the states of a whole one at the addresses where states are kept, by rising address, and no other.
+/// Whether a table keeps the states of a whole one at the addresses where states are kept, by rising address, and no
+/// other.
 fn keeps(table: &Table, whole: &Whole, image: &Image, listing: &Listing, nest: &Nest) -> bool {
     let mut kept = 0;
     let mut alike = true;

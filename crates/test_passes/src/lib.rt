@@ -1,4 +1,5 @@
-//! The passes as their definition has them, beside `check_states`, over generated codes. There is no code here but a test.
+//! The passes as their definition has them, beside `check_states`, over generated codes. There is no code here but a
+//! test.
 #![tactic(auto)]
 
 #[cfg(test)]

@@ -139,7 +139,7 @@ fn meet(
     requires state { IsPlaced image.now state }
     ensures { IfSome there.new (IsPlaced image.now) }
 {
-    let _ = &image.code;
+    image.law_is_in_range();
     match there {
         Some(met) => match met.join(&state) {
             Ok(changed) => Ok(changed),

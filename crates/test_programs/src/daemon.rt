@@ -179,7 +179,8 @@ impl Write for Taking {
 /// The answers to an image that adds one to its packet, to a packet and to their run: of 10, 7 and 25 bytes.
 const ANSWERS: &[u8] = b"YES 16 16\nKEPT 0\nR 0 0 16 02000000\nDONE 1\n";
 
-/// Each read and each write fails in turn: the call that fails, the first bytes of the answers that are out, and the message.
+/// Each read and each write fails in turn: the call that fails, the first bytes of the answers that are out, and the
+/// message.
 #[test]
 fn reports_each_failed_call(rt: HostRuntime) {
     let cases = [

@@ -40,8 +40,8 @@ const BEFORE: [usize; 11] = [0, 21, 29, 78, 86, 94, 104, 111, 118, 125, 186];
 /// And before each line that asks for a run.
 const BEFORE_RUNS: [usize; 2] = [125, 186];
 
-/// The program `farmd` from its words to its status, and how much is written. After Memory, and where a thread was refused for
-/// it, the answers to some of the first lines are written, each of them whole, and the fault is reported.
+/// The program `farmd` from its words to its status, and how much is written. After Memory, and where a thread was
+/// refused for it, the answers to some of the first lines are written, each of them whole, and the fault is reported.
 fn served<T: Threads + Wait + Sync>(rt: &T, alloc: Global) -> (Answer, usize) {
     let input = input();
     let mut reader = input.written();

@@ -1,10 +1,11 @@
-//! The programs `farmd` and `tpw`, where one allocation is refused: what makes it answers Memory, and everything else what it answers
-//! with ample memory.
+//! The programs `farmd` and `tpw`, where one allocation is refused: what makes it answers Memory, and everything else
+//! what it answers with ample memory.
 //!
-//! Standard input is a number n, behind a `t` where the commands of `tpw` are run, and not `farmd`. The program makes allocations of
-//! its own until the n-th one from then on is its allocation number 2,000, the one that `rt try --fail-alloc 2000` refuses; with 0 none
-//! of theirs is refused. It prints how many ended as with ample memory, how many with the fault Memory, how many with anything else,
-//! and how many bytes were written. `./memory-refused` runs it with n from 0 on.
+//! Standard input is a number n, behind a `t` where the commands of `tpw` are run, and not `farmd`. The program makes
+//! allocations of its own until the n-th one from then on is its allocation number 2,000, the one that `rt try
+//! --fail-alloc 2000` refuses; with 0 none of theirs is refused. It prints how many ended as with ample memory, how
+//! many with the fault Memory, how many with anything else, and how many bytes were written. `./memory-refused` runs it
+//! with n from 0 on.
 #![tactic(auto)]
 
 mod daemon;

@@ -18,7 +18,8 @@ pub fn number_in(text: &[u8]) -> u64 {
     number
 }
 
-/// Makes allocations, one after another, until the one of this number from then on is allocation number 1,000 of the program.
+/// Makes allocations, one after another, until the one of this number from then on is allocation number 1,000 of the
+/// program.
 pub fn spend_all_but(alloc: Global, number: u64) {
     for i in 0..REFUSED.saturating_sub(number) {
         let _ = Box::new(alloc, i);

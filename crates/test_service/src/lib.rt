@@ -1,4 +1,5 @@
-//! Sessions that were worked out by hand: lines in, answers out, through the whole service. There is no code here but tests.
+//! Sessions that were worked out by hand: lines in, answers out, through the whole service. There is no code here but
+//! tests.
 #![tactic(auto)]
 
 #[cfg(test)]

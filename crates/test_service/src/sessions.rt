@@ -56,7 +56,8 @@ const REPLACED: [Line; 8] = [
     Line::Text("a RUN"),
 ];
 
-/// An image that is replaced keeps the session's place, and forgets its packets. An image that is refused changes nothing.
+/// An image that is replaced keeps the session's place, and forgets its packets. An image that is refused changes
+/// nothing.
 #[test]
 fn a_replaced_image(rt: HostRuntime) {
     let input = input_of(&rt, rt.alloc(), &REPLACED);

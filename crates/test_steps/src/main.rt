@@ -1,7 +1,7 @@
 //! Single steps on the machine: a state, the bytes of one instruction, and the state after them.
 //!
-//! Reads vectors from standard input, one a line, as README.md describes them. Prints the first that does not agree (the number of
-//! its line, its state, the vector's outcome and the machine's), and then how many agree.
+//! Reads vectors from standard input, one a line, as README.md describes them. Prints the first that does not agree
+//! (the number of its line, its state, the vector's outcome and the machine's), and then how many agree.
 #![tactic(auto)]
 
 mod answer;

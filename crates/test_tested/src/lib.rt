@@ -1,5 +1,5 @@
-//! The runs of `worked_steps`'s table on the tested machine, which is to give what the definitions give; and runs that end in a
-//! fault, or over other devices. There is no code here but tests.
+//! The runs of `worked_steps`'s table on the tested machine, which is to give what the definitions give; and runs that
+//! end in a fault, or over other devices. There is no code here but tests.
 #![tactic(auto)]
 
 #[cfg(test)]

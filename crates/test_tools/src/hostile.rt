@@ -33,8 +33,8 @@ const LDL: u8 = 0x70;
 
 const STL: u8 = 0xd0;
 
-/// A worker of 8,191 code bytes whose loop moves the words of its workspace on: each pass knows less of one word more. In the
-/// last one the last word is no known number any more, and so no number of a word.
+/// A worker of 8,191 code bytes whose loop moves the words of its workspace on: each pass knows less of one word more.
+/// In the last one the last word is no known number any more, and so no number of a word.
 fn moving(rt: &impl Abort, alloc: Global) -> Vec<u8> {
     let mut image = unwrap(rt, Vec::from_slice(alloc, &BEGINNING));
     for back in 0..MOVED {

@@ -1,5 +1,5 @@
-//! What the authors' tools are made of: programs and their images, their texts, runs printed line by line, first refusals, and a hostile image
-//! at full size. There is no code here but tests.
+//! What the authors' tools are made of: programs and their images, their texts, runs printed line by line, first
+//! refusals, and a hostile image at full size. There is no code here but tests.
 #![tactic(auto)]
 
 #[cfg(test)]

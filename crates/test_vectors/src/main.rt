@@ -1,8 +1,8 @@
-//! Cases of what judges, with the answers of an independent implementation: the rules of instructions and of states that meet, the
-//! flow of codes, the reading of images, listings, and whole verdicts.
+//! Cases of what judges, with the answers of an independent implementation: the rules of instructions and of states
+//! that meet, the flow of codes, the reading of images, listings, and whole verdicts.
 //!
-//! Reads cases from standard input, one a line, as README.md describes them. Prints each that does not agree, up to twenty (the number
-//! of its line, the case, the answer that is wanted and the one that came), and then how many agree.
+//! Reads cases from standard input, one a line, as README.md describes them. Prints each that does not agree, up to
+//! twenty (the number of its line, the case, the answer that is wanted and the one that came), and then how many agree.
 #![tactic(auto)]
 
 mod cells;

@@ -1,9 +1,9 @@
 //! Faults of texts, as they are reported.
 
-use crate::program::check;
+use crate::program::{check, write_file};
 
 /// Texts, and what is said of them.
-const FAULTS: [(&str, &str); 16] = [
+const FAULTS: [(&str, &str); 17] = [
     (
         "local n\n lld n\n",
         "tpw: standard input:2:2: unknown instruction: lld; ldl is near\n    2 |  lld n\n      |  ^^^\n",
@@ -76,6 +76,10 @@ tpw: standard input:6:3: no label has this name: far
         "tpw: standard input:2:5: this loop has no end: i\n    2 | for i = 0 for 2\n      |     ^\n",
     ),
     (
+        "local n\nfor i = 0 for n\nend i\nstopp\n",
+        "tpw: standard input:2:15: a number is wanted: decimal, #2A or 0x2A, of 32 bits: n\n    2 | for i = 0 for n\n      |               ^\n",
+    ),
+    (
         "ldc 'a'\n",
         "tpw: standard input:1:5: no local has this name: 'a'; there are no characters: write the number, as 97 for an a\n    1 | ldc 'a'\n      |     ^^^\n",
     ),
@@ -90,5 +94,26 @@ fn faults(rt: HostRuntime) {
             rt.alloc(),
             (text, ["tpw", "asm"].as_slice(), 1, "", message),
         );
+    }
+}
+
+/// An input that is empty, and packets behind a byte order mark.
+#[test]
+fn inputs(rt: HostRuntime) {
+    write_file(&rt, "marked", "\u{FEFF}1\n");
+    let cases = [
+        (
+            " \n",
+            ["tpw", "why"].as_slice(),
+            "tpw: standard input: it is empty: a worker is wanted\n",
+        ),
+        (
+            "packet 1\nresult 1\nlocal n\nreceive n\nsend n\nstopp\n",
+            ["tpw", "run", "--packets", "marked"].as_slice(),
+            "marked:1:1: it begins with a byte order mark, U+FEFF: save it without one\n",
+        ),
+    ];
+    for (text, words, message) in cases {
+        check(&rt, rt.alloc(), (text, words, 1, "", message));
     }
 }

@@ -8,7 +8,8 @@ use std::io::{Read, Write};
 use std::process::ExitCode;
 use test_samples::INCREMENT;
 use test_samples::streams::{Broken, Unflushed};
-use tpw_commands::{Ending, Outcome, Refusal, TextFault, bytes_of};
+use tpw_commands::{Ending, Outcome, Refusal};
+use tpw_inputs::{TextFault, bytes_of};
 use tpw_step::End;
 
 /// One loop more than a worker has.

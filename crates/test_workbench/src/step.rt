@@ -210,7 +210,8 @@ fn places(rt: HostRuntime) {
     }
 }
 
-/// Runs of one of several packets, numbers in hexadecimal, and what is wrong with words that name no place or no packet.
+/// Runs of one of several packets, numbers in hexadecimal, and what is wrong with words that name no place or no
+/// packet.
 #[test]
 fn asked_runs(rt: HostRuntime) {
     let increment = capitals(&rt, rt.alloc(), INCREMENT);

@@ -36,7 +36,9 @@ no_fault text image = by_case (first_fault text)
     by_case (Some fault) h = cc
 
 -- the answer on a code in which no rule of flow is broken is the answer on the text
-pub state_answer : (text : List ℕ) (image : ImageValue) (cuts : List Cut) (answer : Answer) → first_fault text ≡ None → IsTextOf text image → cutting image.code ≡ Ok cuts → first_flow_fault image cuts ≡ None → IsStateAnswer image cuts answer → IsAnswer text answer
+pub state_answer : (text : List ℕ) (image : ImageValue) (cuts : List Cut) (answer : Answer) → first_fault text ≡ None →
+    IsTextOf text image → cutting image.code ≡ Ok cuts → first_flow_fault image cuts ≡ None →
+    IsStateAnswer image cuts answer → IsAnswer text answer
 state_answer text image cuts answer no_fault spelled cut flows is =
     subst (λ o. IsTextAnswer o text answer) (sym no_fault) record {
       image = image;
@@ -45,7 +47,8 @@ state_answer text image cuts answer no_fault spelled cut flows is =
     }
 
 -- a refusal of the passes, unless memory ran out
-pub refused_states : (text : List ℕ) (image : ImageValue) (cuts : List Cut) (fault : StateFault) → first_fault text ≡ None → IsTextOf text image → cutting image.code ≡ Ok cuts → first_flow_fault image cuts ≡ None →
+pub refused_states : (text : List ℕ) (image : ImageValue) (cuts : List Cut) (fault : StateFault) →
+    first_fault text ≡ None → IsTextOf text image → cutting image.code ≡ Ok cuts → first_flow_fault image cuts ≡ None →
     IsRefusalOf image cuts fault → of_state fault ≢ Memory → IsAnswer text (Err (of_state fault))
 refused_states text image cuts (state_fault.Refused code place) none spelled cut flows says some =
     state_answer text image cuts _ none spelled cut flows record { verdict = Err (state_fault.Refused code place); passes = says; answers = refl }
@@ -60,7 +63,8 @@ one_state_answer : OneVerdict → (image : ImageValue) (cuts : List Cut) (answer
 one_state_answer one image cuts answer other is also =
     is.answers ∙ ap (answer_on image cuts) (one image cuts is.verdict also.verdict is.passes also.passes) ∙ sym also.answers
 
-one_flow_answer : OneVerdict → (found : Option FlowFault) (image : ImageValue) (cuts : List Cut) (answer other : Answer) → IsFlowAnswer found image cuts answer → IsFlowAnswer found image cuts other → answer ≡ other
+one_flow_answer : OneVerdict → (found : Option FlowFault) (image : ImageValue) (cuts : List Cut) (answer other : Answer)
+    → IsFlowAnswer found image cuts answer → IsFlowAnswer found image cuts other → answer ≡ other
 one_flow_answer one (Some fault) image cuts answer other is also = is ∙ sym also
 one_flow_answer one None image cuts answer other is also = one_state_answer one image cuts answer other is also
 
@@ -85,14 +89,18 @@ one_answer one text answer other = one_text_answer one (first_fault text) text a
 -- over a code whose flow passes
 abbrev HaveVerdict : Type 0
 HaveVerdict =
-    (image : ImageValue) (cuts : List Cut) → InRange image → AllByRecursion IsSpelled cuts → KeepsNest image.loops image.workspace cuts → (verdict : Result Table StateFault) × IsVerdict image cuts verdict
+    (image : ImageValue) (cuts : List Cut) → InRange image → AllByRecursion IsSpelled cuts →
+    KeepsNest image.loops image.workspace cuts → (verdict : Result Table StateFault) × IsVerdict image cuts verdict
 
-a_state_answer : HaveVerdict → (image : ImageValue) (cuts : List Cut) → InRange image → IsCutting image.code cuts → first_flow_fault image cuts ≡ None → (answer : Answer) × IsStateAnswer image cuts answer
+a_state_answer : HaveVerdict → (image : ImageValue) (cuts : List Cut) → InRange image → IsCutting image.code cuts →
+    first_flow_fault image cuts ≡ None → (answer : Answer) × IsStateAnswer image cuts answer
 a_state_answer have image cuts range cut flows =
     let v = have image cuts range cut.each (nest_kept image cuts cut flows) in
     (answer_on image cuts v.0, record { verdict = v.0; passes = v.1; answers = refl })
 
-a_flow_answer : HaveVerdict → (image : ImageValue) (cuts : List Cut) → InRange image → IsCutting image.code cuts → (found : Option FlowFault) → first_flow_fault image cuts ≡ found → (answer : Answer) × IsFlowAnswer found image cuts answer
+a_flow_answer : HaveVerdict → (image : ImageValue) (cuts : List Cut) → InRange image → IsCutting image.code cuts →
+    (found : Option FlowFault) → first_flow_fault image cuts ≡ found → (answer : Answer) ×
+    IsFlowAnswer found image cuts answer
 a_flow_answer have image cuts range cut (Some fault) is = (Err (of_flow fault), refl)
 a_flow_answer have image cuts range cut None is = a_state_answer have image cuts range cut is
 

@@ -60,7 +60,10 @@ whole_from_capped code costs None l = omega arith
 whole_from_capped code costs (Some row) l = omega (arith, capped_product row.count (min l cap) l (omega arith))
 
 -- the two parts of a cost, as they are counted one after the other
-pub counted_parts : (rows : List LoopRow) (code : List Cut) (costs : Costs) (at next : ℕ) (instr : Instr) (left whole : ℕ) (o : Option LoopRow) → at ≤ next → o ≡ begun_at rows at → left ≡ capped (left_of costs (next - at) next instr) → whole ≡ capped (whole_of code costs left o) → Path Counted (record { left = left; whole = whole }) (counted (cost_of rows code costs at (next - at) instr))
+pub counted_parts : (rows : List LoopRow) (code : List Cut) (costs : Costs) (at next : ℕ) (instr : Instr)
+    (left whole : ℕ) (o : Option LoopRow) → at ≤ next → o ≡ begun_at rows at →
+    left ≡ capped (left_of costs (next - at) next instr) → whole ≡ capped (whole_of code costs left o) →
+    Path Counted (record { left = left; whole = whole }) (counted (cost_of rows code costs at (next - at) instr))
 counted_parts rows code costs at next instr left whole o order begun is all =
     let there : next ≡ at + (next - at) = omega arith in
     let here : left ≡ capped (left_of costs (next - at) (at + (next - at)) instr) = is ∙ ap (λ x. capped (left_of costs (next - at) x instr)) there in

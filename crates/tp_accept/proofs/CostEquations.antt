@@ -1,5 +1,7 @@
 -- The costs of a code meet the equations, and nothing else does.
-use Rattle.std.proofs.Common.{◌≡◌, ℕ, zero, suc, ◌+◌, ◌-◌, ◌*◌, ◌<◌, ◌≤◌, max, Bool, true, false, ◌&&◌, not, nat_eq, nat_lt, ◌==◌, cond, if◌then◌else◌, ℤ, List, [], ◌∷◌, length, find, Option, Some, None, refl, ap, sym, ◌∙◌, arith, length-append}
+use Rattle.std.proofs.Common.{◌≡◌, ℕ, zero, suc, ◌+◌, ◌-◌, ◌*◌, ◌<◌, ◌≤◌, max, Bool, true, false, ◌&&◌, not, nat_eq}
+use Rattle.std.proofs.Common.{nat_lt, ◌==◌, cond, if◌then◌else◌, ℤ, List, [], ◌∷◌, length, find, Option, Some, None}
+use Rattle.std.proofs.Common.{refl, ap, sym, ◌∙◌, arith, length-append}
 use Rattle.std.specs.Option.{option_and_then}
 use Rattle.std.proofs.lemmas.Bool.Decides.{nat_tests}
 use Rattle.tp_image.specs.declared.image.LoopRow.{LoopRow}
@@ -39,7 +41,10 @@ pub entered_begun : (rows : List LoopRow) (at to : ℕ) → at < to → entered_
 entered_begun rows at to lt = found_same _ (λ row. row.head == to) rows (λ row. no_further row at to lt)
 
 -- an instruction reads costs along its edges alone
-same_edges : (f g : Costs) (n next : ℕ) (instr : Instr) → (has_edge instr Next ≡ true → (f next).whole ≡ (g next).whole) → ((operand : ℤ) (to : ℕ) → jump_operand instr ≡ Some operand → jump_target next operand ≡ Some to → (f to).whole ≡ (g to).whole) → left_of f n next instr ≡ left_of g n next instr
+same_edges : (f g : Costs) (n next : ℕ) (instr : Instr) →
+    (has_edge instr Next ≡ true → (f next).whole ≡ (g next).whole) →
+    ((operand : ℤ) (to : ℕ) → jump_operand instr ≡ Some operand → jump_target next operand ≡ Some to →
+    (f to).whole ≡ (g to).whole) → left_of f n next instr ≡ left_of g n next instr
 same_edges f g n next Stopp on jumps = refl
 same_edges f g n next Lend on jumps = refl
 same_edges f g n next (Jump operand) on jumps = ap (λ x. n + x) (by_case (jump_target next operand) refl)
@@ -47,7 +52,8 @@ same_edges f g n next (Jump operand) on jumps = ap (λ x. n + x) (by_case (jump_
     by_case : (o : Option ℕ) → jump_target next operand ≡ o → whole_at f o ≡ whole_at g o
     by_case None e = refl
     by_case (Some to) e = jumps operand to refl e
-same_edges f g n next (Cj operand) on jumps = ap (λ x. n + max x (whole_at f (jump_target next operand))) (on refl) ∙ ap (λ x. n + max (whole_at g (Some next)) x) (by_case (jump_target next operand) refl)
+same_edges f g n next (Cj operand) on jumps = ap (λ x. n + max x (whole_at f (jump_target next operand))) (on refl) ∙
+    ap (λ x. n + max (whole_at g (Some next)) x) (by_case (jump_target next operand) refl)
   where
     by_case : (o : Option ℕ) → jump_target next operand ≡ o → whole_at f o ≡ whole_at g o
     by_case None e = refl
@@ -59,7 +65,10 @@ start_below : (cuts : List Cut) (at : ℕ) (cut : Cut) → cut_at cuts at ≡ So
 start_below [] at cut is = absurd cc
 start_below (c ∷ cuts) at cut is = by_test (start_below cuts (at - length c.bytes) cut) (nat_eq at 0) refl (nat_lt at (length c.bytes)) refl is
   where
-    by_test : (cut_at cuts (at - length c.bytes) ≡ Some cut → at - length c.bytes + length cut.bytes ≤ length (code_of cuts)) → (p : Bool) → nat_eq at 0 ≡ p → (q : Bool) → nat_lt at (length c.bytes) ≡ q → (if p then Some c else if q then None else cut_at cuts (at - length c.bytes)) ≡ Some cut → at + length cut.bytes ≤ length (code_of (c ∷ cuts))
+    by_test : (cut_at cuts (at - length c.bytes) ≡ Some cut →
+        at - length c.bytes + length cut.bytes ≤ length (code_of cuts)) → (p : Bool) → nat_eq at 0 ≡ p → (q : Bool) →
+        nat_lt at (length c.bytes) ≡ q → (if p then Some c else if q then None else cut_at cuts (at - length c.bytes)) ≡
+        Some cut → at + length cut.bytes ≤ length (code_of (c ∷ cuts))
     by_test go true e1 q e2 is =
         let same : c ≡ cut = cc in
         let none : at ≡ 0 = grind (arith, nat_tests) in
@@ -100,7 +109,9 @@ module _ (rows : List LoopRow) (workspace : ℕ) (code : List Cut) (nest : Keeps
       in
       nest.starts at (at + length cut.bytes) Out edge
 
-  edge_taken : (at : ℕ) (cut : Cut) (operand : ℤ) (to : ℕ) → cut_at code at ≡ Some cut → jump_operand cut.instr ≡ Some operand → jump_target (at + length cut.bytes) operand ≡ Some to → (is_start code to ≡ true) × (at + length cut.bytes ≤ to)
+  edge_taken : (at : ℕ) (cut : Cut) (operand : ℤ) (to : ℕ) → cut_at code at ≡ Some cut →
+      jump_operand cut.instr ≡ Some operand → jump_target (at + length cut.bytes) operand ≡ Some to →
+      (is_start code to ≡ true) × (at + length cut.bytes ≤ to)
   edge_taken at cut operand to stands is goes =
       let has = operand_taken cut.instr operand is in
       let edge : IsEdge (ranges rows) code at Taken to =
@@ -136,7 +147,8 @@ module _ (rows : List LoopRow) (workspace : ℕ) (code : List Cut) (nest : Keeps
             (rest target (omega (arith, some, taken.1)) taken.0).1 to (omega (arith, some, taken.1))
 
         left : L to ≡ (costs_of rows code to).left
-        left = are.each to cut.0 cut.1 ∙ same_edges (seen_from L V to) (costs_of rows code) (length cut.0.bytes) (to + length cut.0.bytes) cut.0.instr on jumps ∙ sym (left_at rows workspace code nest to cut.0 cut.1)
+        left = are.each to cut.0 cut.1 ∙ same_edges (seen_from L V to) (costs_of rows code) (length cut.0.bytes)
+            (to + length cut.0.bytes) cut.0.instr on jumps ∙ sym (left_at rows workspace code nest to cut.0 cut.1)
 
         by_case : (at : ℕ) → at < to → (o : Option LoopRow) → begun_at rows to ≡ o → whole_of code (seen_from L V at) (L to) o ≡ whole_of code (costs_of rows code) (costs_of rows code to).left o
         by_case at lt None is = left

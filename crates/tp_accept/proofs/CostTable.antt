@@ -1,5 +1,7 @@
 -- The costs of a code meet their equations: the cost of each instruction is the one from the costs behind it.
-use Rattle.std.proofs.Common.{◌≡◌, ◌≢◌, ℕ, ◌+◌, ◌-◌, ◌<◌, ◌≤◌, ◌*◌, Bool, true, false, nat_eq, nat_lt, cond, if◌then◌else◌, max, ℤ, List, [], ◌∷◌, length, Option, Some, None, refl, ap, sym, ◌∙◌, arith}
+use Rattle.std.proofs.Common.{◌≡◌, ◌≢◌, ℕ, ◌+◌, ◌-◌, ◌<◌, ◌≤◌, ◌*◌, Bool, true, false, nat_eq, nat_lt, cond}
+use Rattle.std.proofs.Common.{if◌then◌else◌, max, ℤ, List, [], ◌∷◌, length, Option, Some, None, refl, ap, sym, ◌∙◌}
+use Rattle.std.proofs.Common.{arith}
 use Rattle.std.specs.List.{AllByRecursion}
 use Rattle.std.proofs.lemmas.Bool.Decides.{nat_tests}
 use Rattle.tp_image.specs.declared.image.LoopRow.{LoopRow}
@@ -68,7 +70,8 @@ module _ (rows : List LoopRow) (code : List Cut) (a : ℕ) (cut : Cut) (some : 0
       same_cost_parts _ _ _ _ left (same_whole f g (a + n) same code _ _ (begun_at rows a) left looks.lends)
 
   -- the cost of an instruction is the one from the costs behind it
-  pub costs_here : (cuts : List Cut) (at k : ℕ) → AllByRecursion (λ c. 0 < length c.bytes) cuts → cut_at cuts k ≡ Some cut → a ≡ at + k → costs_from rows code at cuts a ≡ cost_in (costs_from rows code at cuts)
+  pub costs_here : (cuts : List Cut) (at k : ℕ) → AllByRecursion (λ c. 0 < length c.bytes) cuts →
+      cut_at cuts k ≡ Some cut → a ≡ at + k → costs_from rows code at cuts a ≡ cost_in (costs_from rows code at cuts)
   costs_here [] at k all is e = absurd cc
   costs_here (c ∷ cs) at k all is e = by_test (costs_here cs (at + length c.bytes) (k - length c.bytes) all.1) (nat_eq k 0) refl (nat_lt k (length c.bytes)) refl is
     where

@@ -47,7 +47,9 @@ is_within : (n m : ℕ) → m ≤ n → nat_lt n m ≡ false
 is_within n m le = grind (arith, nat_tests)
 
 -- an image whose table was found
-pub acceptable_of : (image : ImageValue) (cuts : List Cut) (budget : ℕ) → InRange image → IsCutting image.code cuts → KeepsNest image.loops image.workspace cuts → (table : Table) × IsVerdict image cuts (Ok table) → budget ≡ bound image.loops cuts → bound image.loops cuts ≤ most_budget → IsAcceptable image budget
+pub acceptable_of : (image : ImageValue) (cuts : List Cut) (budget : ℕ) → InRange image → IsCutting image.code cuts →
+    KeepsNest image.loops image.workspace cuts → (table : Table) × IsVerdict image cuts (Ok table) →
+    budget ≡ bound image.loops cuts → bound image.loops cuts ≤ most_budget → IsAcceptable image budget
 acceptable_of image cuts budget range cut kept (table, verdict) bounded within = record {
   in_range = range;
   cuts = cuts;
@@ -60,12 +62,16 @@ acceptable_of image cuts budget range cut kept (table, verdict) bounded within =
 }
 
 -- what is answered of it
-pub settled_allowed : (image : ImageValue) (cuts : List Cut) → (table : Table) × IsVerdict image cuts (Ok table) → (budget : ℕ) → budget ≡ bound image.loops cuts → bound image.loops cuts ≤ most_budget → IsStateAnswer image cuts (Ok (allowed image budget))
+pub settled_allowed : (image : ImageValue) (cuts : List Cut) → (table : Table) × IsVerdict image cuts (Ok table) →
+    (budget : ℕ) → budget ≡ bound image.loops cuts → bound image.loops cuts ≤ most_budget →
+    IsStateAnswer image cuts (Ok (allowed image budget))
 settled_allowed image cuts (table, passes) budget bounded within =
     let low : nat_lt most_budget (bound image.loops cuts) ≡ false = is_within most_budget (bound image.loops cuts) within in
     record { verdict = Ok table; passes = passes; answers = rw (low, bounded) refl }
 
-pub settled_refused : (image : ImageValue) (cuts : List Cut) → (table : Table) × IsVerdict image cuts (Ok table) → (e : Refusal) → (e ≢ refusal.Memory → (e ≡ too_long) × (most_budget < bound image.loops cuts)) → e ≢ refusal.Memory → IsStateAnswer image cuts (Err e)
+pub settled_refused : (image : ImageValue) (cuts : List Cut) → (table : Table) × IsVerdict image cuts (Ok table) →
+    (e : Refusal) → (e ≢ refusal.Memory → (e ≡ too_long) × (most_budget < bound image.loops cuts)) → e ≢ refusal.Memory →
+    IsStateAnswer image cuts (Err e)
 settled_refused image cuts (table, passes) e is some = by_bound (is some)
   where
     by_bound : (e ≡ too_long) × (most_budget < bound image.loops cuts) → IsStateAnswer image cuts (Err e)
@@ -145,7 +151,8 @@ module _ (text : List ℕ) (image : ImageValue) (spelled : IsTextOf text image) 
   -- ---- what is refused for its states
 
   module _ (state : StateCode) (place : ℕ) (cuts : List Cut) (cut : IsCutting image.code cuts) where
-    refused_by : (v : Result Table StateFault) → IsVerdict image cuts v → KeepsNest image.loops image.workspace cuts → Err (refusal.Refused (code.State state) place) ≡ answer_on image cuts v → HasNoTable image cuts
+    refused_by : (v : Result Table StateFault) → IsVerdict image cuts v → KeepsNest image.loops image.workspace cuts →
+        Err (refusal.Refused (code.State state) place) ≡ answer_on image cuts v → HasNoTable image cuts
     refused_by (Err fault) passes kept answers = λ table every. no_refusal image cuts spelled.0 cut.each kept table every fault passes
     refused_by (Ok table) passes kept answers = by_test (nat_lt most_budget (bound image.loops cuts)) answers
       where

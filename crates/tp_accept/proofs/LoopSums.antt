@@ -1,5 +1,7 @@
 -- Sums over loops.
-use Rattle.std.proofs.Common.{◌≡◌, ◌≢◌, ℕ, suc, ◌+◌, ◌<◌, ◌≤◌, Bool, true, false, nat_eq, nat_lt, ◌==◌, cond, if◌then◌else◌, List, [], ◌∷◌, get_or, Contains, sum_by, Some, refl, ap, sym, ◌∙◌, subst, arith}
+use Rattle.std.proofs.Common.{◌≡◌, ◌≢◌, ℕ, suc, ◌+◌, ◌<◌, ◌≤◌, Bool, true, false, nat_eq, nat_lt, ◌==◌, cond}
+use Rattle.std.proofs.Common.{if◌then◌else◌, List, [], ◌∷◌, get_or, Contains, sum_by, Some, refl, ap, sym, ◌∙◌, subst}
+use Rattle.std.proofs.Common.{arith}
 use Rattle.std.specs.Option.{option_map_or}
 use Rattle.std.proofs.lemmas.List.Sums.{sum_by-cons, get_or-le-sum_by}
 use Rattle.std.proofs.lemmas.List.{get_or_default}
@@ -56,7 +58,8 @@ begun_sum f (row ∷ rows) to heads = sum_by-cons part row rows ∙ by_test (beg
         by_case true h = absurd (let same : other.head ≡ to = grind (arith, nat_tests) in ne (e ∙ sym same))
         by_case false h = refl
 
-    by_test : sum_by part rows ≡ option_map_or f (begun_at rows to) 0 → (b : Bool) → nat_eq row.head to ≡ b → cond b (f row) 0 + sum_by part rows ≡ option_map_or f (cond b (Some row) (begun_at rows to)) 0
+    by_test : sum_by part rows ≡ option_map_or f (begun_at rows to) 0 → (b : Bool) → nat_eq row.head to ≡ b →
+        cond b (f row) 0 + sum_by part rows ≡ option_map_or f (cond b (Some row) (begun_at rows to)) 0
     by_test go true e =
         let same : row.head ≡ to = grind (arith, nat_tests) in
         let none = sum_zero part rows (λ other other_in. other_zero other same (own_head row rows other heads other_in)) in

@@ -1,5 +1,7 @@
 -- Along each edge the measure goes down by the bytes of the instruction.
-use Rattle.std.proofs.Common.{◌≡◌, ℕ, ◌+◌, ◌-◌, ◌*◌, ◌<◌, ◌≤◌, Bool, true, false, ◌==◌, cond, if◌then◌else◌, ℤ, List, [], ◌∷◌, length, get_or, slice_get, Contains, filter, sum_by, Option, Some, None, refl, ap, sym, ◌∙◌, arith}
+use Rattle.std.proofs.Common.{◌≡◌, ℕ, ◌+◌, ◌-◌, ◌*◌, ◌<◌, ◌≤◌, Bool, true, false, ◌==◌, cond, if◌then◌else◌, ℤ, List}
+use Rattle.std.proofs.Common.{[], ◌∷◌, length, get_or, slice_get, Contains, filter, sum_by, Option, Some, None, refl}
+use Rattle.std.proofs.Common.{ap, sym, ◌∙◌, arith}
 use Rattle.std.proofs.lemmas.List.Sums.{sum_by-cons}
 use Rattle.std.specs.Option.{is_some, option_map, option_map_or, option_and_then}
 use Rattle.std.proofs.lemmas.Bool.Decides.{nat_tests}
@@ -74,7 +76,8 @@ sum_chosen : (p : LoopRow → Bool) (f : LoopRow → ℕ) (rows : List LoopRow) 
 sum_chosen p f [] = refl
 sum_chosen p f (row ∷ rows) = by_test (sum_chosen p f rows) (p row) refl
   where
-    by_test : sum_by f (filter p rows) ≡ sum_by (λ row. if p row then f row else 0) rows → (b : Bool) → p row ≡ b → sum_by f (cond b (row ∷ filter p rows) (filter p rows)) ≡ sum_by (λ row. if p row then f row else 0) (row ∷ rows)
+    by_test : sum_by f (filter p rows) ≡ sum_by (λ row. if p row then f row else 0) rows → (b : Bool) → p row ≡ b →
+        sum_by f (cond b (row ∷ filter p rows) (filter p rows)) ≡ sum_by (λ row. if p row then f row else 0) (row ∷ rows)
     by_test go true e =
         let here : (if p row then f row else 0) ≡ f row = ap (λ b. cond b (f row) 0) e in
         omega (arith, sum_by-cons f row (filter p rows), sum_by-cons (λ row. if p row then f row else 0) row rows, go, here)
@@ -83,7 +86,9 @@ sum_chosen p f (row ∷ rows) = by_test (sum_chosen p f rows) (p row) refl
         omega (arith, sum_by-cons (λ row. if p row then f row else 0) row rows, go, here)
 
 -- the measure as a sum over all rows
-measure_is : (rows : List LoopRow) (code : List Cut) (at executed : ℕ) (counts : Counts) → measure rows code at executed counts ≡ (costs_of rows code at).left - executed + sum_by (added_at code (costs_of rows code) at counts) rows
+measure_is : (rows : List LoopRow) (code : List Cut) (at executed : ℕ) (counts : Counts) →
+    measure rows code at executed counts ≡ (costs_of rows code at).left - executed + sum_by
+    (added_at code (costs_of rows code) at counts) rows
 unfolding measure
 measure_is rows code at executed counts =
     ap (λ n. (costs_of rows code at).left - executed + n) (sum_chosen (λ row. contains (range_of row) at) (λ row. turns_left code (costs_of rows code) row (counts row)) rows)
@@ -127,11 +132,14 @@ module _ (rows : List LoopRow) (workspace : ℕ) (code : List Cut) (nest : Keeps
   left_at at cut stands = ap (λ c. c.left) (cost_at at cut stands)
 
   -- what the loop that begins there adds
-  pub whole_is : (to : ℕ) → is_start code to ≡ true → (costs_of rows code to).whole ≡ (costs_of rows code to).left + option_map_or (λ row. turns_left code (costs_of rows code) row row.count) (begun_at rows to) 0
+  pub whole_is : (to : ℕ) → is_start code to ≡ true → (costs_of rows code to).whole ≡ (costs_of rows code to).left +
+      option_map_or (λ row. turns_left code (costs_of rows code) row row.count) (begun_at rows to) 0
   whole_is to starts = let cut = some_is (cut_at code to) starts in let costs = costs_of rows code in
       ap (λ c. c.whole) (cost_at to cut.0 cut.1) ∙ by_case (begun_at rows to) refl _ (sym (left_at to cut.0 cut.1))
     where
-      by_case : (o : Option LoopRow) → begun_at rows to ≡ o → (l : ℕ) → l ≡ (costs_of rows code to).left → whole_of code (costs_of rows code) l o ≡ (costs_of rows code to).left + option_map_or (λ row. turns_left code (costs_of rows code) row row.count) o 0
+      by_case : (o : Option LoopRow) → begun_at rows to ≡ o → (l : ℕ) → l ≡ (costs_of rows code to).left →
+          whole_of code (costs_of rows code) l o ≡ (costs_of rows code to).left + option_map_or
+          (λ row. turns_left code (costs_of rows code) row row.count) o 0
       by_case None is l e = omega (arith, e)
       by_case (Some row) is l e =
           let begun = found (λ (r : LoopRow). r.head == to) rows row is in
@@ -155,7 +163,8 @@ module _ (rows : List LoopRow) (workspace : ℕ) (code : List Cut) (nest : Keeps
       (row.0, (number.0, slice_get_within rows number.0 row.0 row.1, get_or_from_slice_get rows number.0 row.0 row.0 row.1), ap (λ r. r.lend) row.2 ∙ here, ap (λ r. r.head) row.2 ∙ range.2)
 
   -- a loop is entered at its head
-  enters : (at to : ℕ) (edge : Edge) → IsEdge (ranges rows) code at edge to → (row : LoopRow) → Contains rows row → contains (range_of row) at ≡ false → contains (range_of row) to ≡ true → to ≡ row.head
+  enters : (at to : ℕ) (edge : Edge) → IsEdge (ranges rows) code at edge to → (row : LoopRow) → Contains rows row →
+      contains (range_of row) at ≡ false → contains (range_of row) to ≡ true → to ≡ row.head
   enters at to edge e row row_in out in_to = nest.enters at to edge (range_of row) e (map_contains range_of rows row row_in) (λ h. absurd cc) in_to
 
   -- what loops add, before and after an edge that goes forward
@@ -164,12 +173,20 @@ module _ (rows : List LoopRow) (workspace : ℕ) (code : List Cut) (nest : Keeps
       ≤ sum_by (added_at code (costs_of rows code) at counts) rows + option_map_or (λ row. turns_left code (costs_of rows code) row row.count) (begun_at rows to) 0
   forward_sums at to edge counts later e not_back on after =
       let begun = begun_sum (λ row. turns_left code (costs_of rows code) row row.count) rows to nest.heads in
-      let sums = sums_le (added_at code (costs_of rows code) to later) (λ row. if row.lend == at then added_at code (costs_of rows code) at counts row else 0) (added_at code (costs_of rows code) at counts) (λ row. if row.head == to then turns_left code (costs_of rows code) row row.count else 0) rows each in
+      let sums = sums_le (added_at code (costs_of rows code) to later)
+      (λ row. if row.lend == at then added_at code (costs_of rows code) at counts row else 0)
+      (added_at code (costs_of rows code) at counts) (λ row. if row.head == to then turns_left code
+      (costs_of rows code) row row.count else 0) rows each in
       omega (arith, begun, sums)
     where
-      each : (row : LoopRow) → Contains rows row → added_at code (costs_of rows code) to later row + (if row.lend == at then added_at code (costs_of rows code) at counts row else 0) ≤ added_at code (costs_of rows code) at counts row + (if row.head == to then turns_left code (costs_of rows code) row row.count else 0)
+      each : (row : LoopRow) → Contains rows row → added_at code (costs_of rows code) to later row +
+          (if row.lend == at then added_at code (costs_of rows code) at counts row else 0) ≤ added_at code
+          (costs_of rows code) at counts row + (if row.head == to then turns_left code (costs_of rows code) row row.count
+          else 0)
       each row row_in =
-          forward_step (costs_of rows code (behind code row.lend)).whole (costs_of rows code row.head).left (counts row) row.count (later row) (contains (range_of row) at) (contains (range_of row) to) (row.lend == at) (row.head == to) (is_edge edge Back) not_back (after row row_in)
+          forward_step (costs_of rows code (behind code row.lend)).whole (costs_of rows code row.head).left (counts row)
+          row.count (later row) (contains (range_of row) at) (contains (range_of row) to) (row.lend == at)
+          (row.head == to) (is_edge edge Back) not_back (after row row_in)
           (λ out in_to. let same = enters at to edge e row row_in out in_to in begins same)
           (λ in_to ends. past in_to ends)
         where
@@ -180,19 +197,28 @@ module _ (rows : List LoopRow) (workspace : ℕ) (code : List Cut) (nest : Keeps
           past in_to ends = let last : row.lend ≡ at = grind (arith, nat_tests) in omega (arith, (container row to in_to).1)
 
   -- and before and after an edge back
-  back_sums : (at to : ℕ) (counts later : Counts) → IsEdge (ranges rows) code at Back to → (own : LoopRow) → Contains rows own → own.lend ≡ at → own.head ≡ to → HasTurns rows at counts → AreCountsAfter rows at Back to counts later
+  back_sums : (at to : ℕ) (counts later : Counts) → IsEdge (ranges rows) code at Back to → (own : LoopRow) →
+      Contains rows own → own.lend ≡ at → own.head ≡ to → HasTurns rows at counts →
+      AreCountsAfter rows at Back to counts later
       → sum_by (added_at code (costs_of rows code) to later) rows + (costs_of rows code to).left ≤ sum_by (added_at code (costs_of rows code) at counts) rows
   back_sums at to counts later e own own_in lend head turns after =
       let zeros : (row : LoopRow) → ℕ = λ row. 0 in
-      let sums = sums_le (added_at code (costs_of rows code) to later) (λ row. if row.lend == at then (costs_of rows code row.head).left else 0) (added_at code (costs_of rows code) at counts) (λ row. 0) rows each in
+      let sums = sums_le (added_at code (costs_of rows code) to later)
+      (λ row. if row.lend == at then (costs_of rows code row.head).left else 0)
+      (added_at code (costs_of rows code) at counts) (λ row. 0) rows each in
       let part = part_le (λ (row : LoopRow). if row.lend == at then (costs_of rows code row.head).left else 0) rows own own_in in
       let test : (own.lend == at) ≡ true = grind (arith, nat_tests) in
-      let own_part : (if own.lend == at then (costs_of rows code own.head).left else 0) ≡ (costs_of rows code to).left = ap (λ b. cond b (costs_of rows code own.head).left 0) test ∙ ap (λ a. (costs_of rows code a).left) head in
+      let own_part : (if own.lend == at then (costs_of rows code own.head).left else 0) ≡ (costs_of rows code to).left =
+      ap (λ b. cond b (costs_of rows code own.head).left 0) test ∙ ap (λ a. (costs_of rows code a).left) head in
       omega (arith, sums, part, own_part, sum_zero zeros rows (λ row row_in. refl))
     where
-      each : (row : LoopRow) → Contains rows row → added_at code (costs_of rows code) to later row + (if row.lend == at then (costs_of rows code row.head).left else 0) ≤ added_at code (costs_of rows code) at counts row + 0
+      each : (row : LoopRow) → Contains rows row → added_at code (costs_of rows code) to later row +
+          (if row.lend == at then (costs_of rows code row.head).left else 0) ≤ added_at code (costs_of rows code) at
+          counts row + 0
       each row row_in =
-          back_step (costs_of rows code (behind code row.lend)).whole (costs_of rows code row.head).left (counts row) row.count (later row) (contains (range_of row) at) (contains (range_of row) to) (row.lend == at) (after row row_in)
+          back_step (costs_of rows code (behind code row.lend)).whole (costs_of rows code row.head).left (counts row)
+          row.count (later row) (contains (range_of row) at) (contains (range_of row) to) (row.lend == at)
+          (after row row_in)
           (λ ends. turns row row_in (at_lend ends))
           (λ ends. let last = at_lend ends in let body : row.head < row.lend = (loop_of row row_in).body in contained row at (omega arith) (omega arith))
           (λ out in_to. not_entered out in_to)
@@ -209,7 +235,10 @@ module _ (rows : List LoopRow) (workspace : ℕ) (code : List Cut) (nest : Keeps
               absurd cc
 
   -- along an edge
-  pub drops : (at to executed : ℕ) (edge : Edge) (counts later : Counts) (e : IsEdge (ranges rows) code at edge to) → (edge ≡ Back → HasTurns rows at counts) → AreCountsAfter rows at edge to counts later → executed ≤ length e.cut.bytes → length e.cut.bytes + measure rows code to 0 later ≤ executed + measure rows code at executed counts
+  pub drops : (at to executed : ℕ) (edge : Edge) (counts later : Counts) (e : IsEdge (ranges rows) code at edge to) →
+      (edge ≡ Back → HasTurns rows at counts) → AreCountsAfter rows at edge to counts later →
+      executed ≤ length e.cut.bytes → length e.cut.bytes + measure rows code to 0 later ≤ executed + measure rows code at
+      executed counts
   drops at to executed Next counts later e turns after within =
       let n = length e.cut.bytes in
       let goes = from_if (has_edge e.cut.instr Next) (Some (at + n)) to e.goes in
@@ -256,7 +285,9 @@ module _ (rows : List LoopRow) (workspace : ℕ) (code : List Cut) (nest : Keeps
       let there : (costs_of rows code (at + n)).whole ≡ (costs_of rows code to).whole = ap (λ a. (costs_of rows code a).whole) same in
       omega (arith, sums, whole, left, lend, part, there, measure_is rows code at executed counts, measure_is rows code to 0 later)
     where
-      ended_part : (at : ℕ) (cut : Cut) → cut_at code at ≡ Some cut → has_edge cut.instr Out ≡ true → (counts : Counts) → (costs_of rows code (at + length cut.bytes)).whole ≤ sum_by (λ row. if row.lend == at then added_at code (costs_of rows code) at counts row else 0) rows
+      ended_part : (at : ℕ) (cut : Cut) → cut_at code at ≡ Some cut → has_edge cut.instr Out ≡ true →
+          (counts : Counts) → (costs_of rows code (at + length cut.bytes)).whole ≤ sum_by
+          (λ row. if row.lend == at then added_at code (costs_of rows code) at counts row else 0) rows
       ended_part at cut stands has counts =
           let back = out_is_back cut.instr has in
           let there : is_some (target (ranges rows) at (at + length cut.bytes) cut.instr Back) ≡ true = nest.targets at cut Back stands back in
@@ -268,7 +299,9 @@ module _ (rows : List LoopRow) (workspace : ℕ) (code : List Cut) (nest : Keeps
           let test : (own.0.lend == at) ≡ true = grind (arith, nat_tests) in
           let within : contains (range_of own.0) at ≡ true = contained own.0 at (omega arith) (omega arith) in
           let turns = turns_left code (costs_of rows code) own.0 (counts own.0) in
-          let own_part : (if own.0.lend == at then added_at code (costs_of rows code) at counts own.0 else 0) ≡ turns = ap (λ b. cond b (added_at code (costs_of rows code) at counts own.0) 0) test ∙ ap (λ b. cond b turns 0) within in
+          let own_part : (if own.0.lend == at then added_at code (costs_of rows code) at counts own.0 else 0) ≡ turns =
+          ap (λ b. cond b (added_at code (costs_of rows code) at counts own.0) 0) test ∙
+          ap (λ b. cond b turns 0) within in
           let next : behind code own.0.lend ≡ at + length cut.bytes = ap (behind code) lend ∙ behind_is code at cut stands in
           let next_whole : (costs_of rows code (behind code own.0.lend)).whole ≡ (costs_of rows code (at + length cut.bytes)).whole = ap (λ a. (costs_of rows code a).whole) next in
           let part = part_le (λ (row : LoopRow). if row.lend == at then added_at code (costs_of rows code) at counts row else 0) rows own.0 own.1 in
@@ -280,7 +313,8 @@ module _ (rows : List LoopRow) (workspace : ℕ) (code : List Cut) (nest : Keeps
   first_is_bound starts =
       let none = found_none (λ (row : LoopRow). row.head == 0) rows (λ row row_in. not_first row row_in) in
       let whole = whole_is 0 starts in
-      let extra : option_map_or (λ row. turns_left code (costs_of rows code) row row.count) (begun_at rows 0) 0 ≡ 0 = ap (λ o. option_map_or (λ row. turns_left code (costs_of rows code) row row.count) o 0) none in
+      let extra : option_map_or (λ row. turns_left code (costs_of rows code) row row.count) (begun_at rows 0) 0 ≡ 0 =
+      ap (λ o. option_map_or (λ row. turns_left code (costs_of rows code) row row.count) o 0) none in
       omega (arith, whole, extra)
     where
       not_first : (row : LoopRow) → Contains rows row → (row.head == 0) ≡ false
@@ -298,9 +332,16 @@ module _ (rows : List LoopRow) (workspace : ℕ) (code : List Cut) (nest : Keeps
           ap (λ b. cond b (turns_left code (costs_of rows code) row (counts row)) 0) out
 
   -- each byte of an instruction takes one
-  pub each_byte : (at executed : ℕ) (cut : Cut) (counts : Counts) → cut_at code at ≡ Some cut → executed ≤ length cut.bytes → executed + measure rows code at executed counts ≡ measure rows code at 0 counts
+  pub each_byte : (at executed : ℕ) (cut : Cut) (counts : Counts) → cut_at code at ≡ Some cut →
+      executed ≤ length cut.bytes → executed + measure rows code at executed counts ≡ measure rows code at 0 counts
   each_byte at executed cut counts stands within =
-      omega (arith, measure_is rows code at executed counts, measure_is rows code at 0 counts, left_at at cut stands, left_least (costs_of rows code) (length cut.bytes) (at + length cut.bytes) cut.instr)
+      omega (
+        arith,
+        measure_is rows code at executed counts,
+        measure_is rows code at 0 counts,
+        left_at at cut stands,
+        left_least (costs_of rows code) (length cut.bytes) (at + length cut.bytes) cut.instr,
+      )
 
   -- and there are enough for them
   pub bytes_counted : (at : ℕ) (cut : Cut) (counts : Counts) → cut_at code at ≡ Some cut → length cut.bytes ≤ measure rows code at 0 counts

@@ -94,7 +94,8 @@ module _ (image : ImageValue) (budget : ℕ) (a : IsAcceptable image budget) whe
       ok_of (Err e) x is = absurd cc
 
   -- what is known after an edge is known at its target, or less
-  entered : (at : ℕ) (cut : Cut) (t : State) (s end : Machine) → cut_at a.cuts at ≡ Some cut → a.table at ≡ Some t → (g : GoesAlong image at (at + length cut.bytes) cut.instr t s end) → HasAbove a.table g.to g.outcome
+  entered : (at : ℕ) (cut : Cut) (t : State) (s end : Machine) → cut_at a.cuts at ≡ Some cut → a.table at ≡ Some t →
+      (g : GoesAlong image at (at + length cut.bytes) cut.instr t s end) → HasAbove a.table g.to g.outcome
   entered at cut t s end stands there g =
       let has = from_if (has_edge cut.instr g.edge) (goes_to (ranges image.loops) at (at + length cut.bytes) cut.instr g.edge) g.to g.leads in
       let own = asked_on cut.instr g.edge has.0 in
@@ -105,7 +106,9 @@ module _ (image : ImageValue) (budget : ℕ) (a : IsAcceptable image budget) whe
       subst (HasAbove a.table g.to) same (respects.enters g.to g.leads)
 
   -- along an edge the measure goes down by the instruction's bytes
-  falls : (at : ℕ) (cut : Cut) (t : State) (s end : Machine) → cut_at a.cuts at ≡ Some cut → (g : GoesAlong image at (at + length cut.bytes) cut.instr t s end) → length cut.bytes + measure image.loops a.cuts g.to 0 (turns_of end) ≤ measure image.loops a.cuts at 0 (turns_of s)
+  falls : (at : ℕ) (cut : Cut) (t : State) (s end : Machine) → cut_at a.cuts at ≡ Some cut →
+      (g : GoesAlong image at (at + length cut.bytes) cut.instr t s end) →
+      length cut.bytes + measure image.loops a.cuts g.to 0 (turns_of end) ≤ measure image.loops a.cuts at 0 (turns_of s)
   falls at cut t s end stands g =
       let has = from_if (has_edge cut.instr g.edge) (goes_to (ranges image.loops) at (at + length cut.bytes) cut.instr g.edge) g.to g.leads in
       let edge : IsEdge (ranges image.loops) a.cuts at g.edge g.to = record { cut = cut; stands = stands; goes = g.leads } in
@@ -117,7 +120,9 @@ module _ (image : ImageValue) (budget : ℕ) (a : IsAcceptable image budget) whe
           more_turns (turns_in s.memory row) (sym back ∙ g.follows lend row row_in ends)
 
   -- from a state that fits the table's
-  ends_from : (n at : ℕ) (t : State) (s : Machine) → is_start a.cuts at ≡ true → a.table at ≡ Some t → Fits image at t s → measure image.loops a.cuts at 0 (turns_of s) ≤ n → Ends image (measure image.loops a.cuts at 0 (turns_of s)) s
+  ends_from : (n at : ℕ) (t : State) (s : Machine) → is_start a.cuts at ≡ true → a.table at ≡ Some t →
+      Fits image at t s → measure image.loops a.cuts at 0 (turns_of s) ≤ n →
+      Ends image (measure image.loops a.cuts at 0 (turns_of s)) s
   ends_from zero at t s starts there fits few =
       let cut = some_is (cut_at a.cuts at) starts in
       let some = some_bytes a.cuts at cut.0 a.kept.spelled cut.1 in
@@ -128,7 +133,9 @@ module _ (image : ImageValue) (budget : ℕ) (a : IsAcceptable image budget) whe
       by_way cut.0 cut.1 (λ at t s. ends_from n at t s) goes goes.goes
     where
       by_way : (cut : Cut) → cut_at a.cuts at ≡ Some cut
-          → ((at : ℕ) (t : State) (s : Machine) → is_start a.cuts at ≡ true → a.table at ≡ Some t → Fits image at t s → measure image.loops a.cuts at 0 (turns_of s) ≤ n → Ends image (measure image.loops a.cuts at 0 (turns_of s)) s)
+          → ((at : ℕ) (t : State) (s : Machine) → is_start a.cuts at ≡ true → a.table at ≡ Some t → Fits image at t s →
+          measure image.loops a.cuts at 0 (turns_of s) ≤ n →
+          Ends image (measure image.loops a.cuts at 0 (turns_of s)) s)
           → (goes : GoesOn image at cut t s) → HasStopped cut.instr goes.end ⊎ GoesAlong image at (at + length cut.bytes) cut.instr t s goes.end
           → Ends image (measure image.loops a.cuts at 0 (turns_of s)) s
       by_way cut stands later goes (inl stopped) = record {

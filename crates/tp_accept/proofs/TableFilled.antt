@@ -1,5 +1,7 @@
 -- The costs that are counted while a table is filled from the last instruction to the first.
-use Rattle.std.proofs.Common.{◌≡◌, ◌≢◌, ℕ, zero, suc, ◌+◌, ◌-◌, ◌<◌, ◌≤◌, Bool, true, false, nat_eq, List, [], ◌∷◌, length, get_or, set, replicate, slice_get, Some, refl, ap, sym, ◌∙◌, subst, arith, length-append}
+use Rattle.std.proofs.Common.{◌≡◌, ◌≢◌, ℕ, zero, suc, ◌+◌, ◌-◌, ◌<◌, ◌≤◌, Bool, true, false, nat_eq, List, [], ◌∷◌}
+use Rattle.std.proofs.Common.{length, get_or, set, replicate, slice_get, Some, refl, ap, sym, ◌∙◌, subst, arith}
+use Rattle.std.proofs.Common.{length-append}
 use Rattle.std.specs.List.{AllByRecursion}
 use Rattle.std.proofs.lemmas.List.{get_or-set_same, get_or-set_other, get_or_default, length-set, length-replicate}
 use Rattle.std.proofs.lemmas.Option.{same_Some}
@@ -31,7 +33,8 @@ module _ (rows : List LoopRow) (code : List Cut) where
   past_all at (cut ∷ cuts) to = past_all (at + length cut.bytes) cuts to
 
   -- one more before them
-  pub past_one : (at : ℕ) (cuts : List Cut) (i : ℕ) (p : Placed) → slice_get (placed_from at cuts) i ≡ Some p → (to : ℕ) → costs_past at cuts i to ≡ with_placed rows code (costs_past at cuts (suc i)) p to
+  pub past_one : (at : ℕ) (cuts : List Cut) (i : ℕ) (p : Placed) → slice_get (placed_from at cuts) i ≡ Some p →
+      (to : ℕ) → costs_past at cuts i to ≡ with_placed rows code (costs_past at cuts (suc i)) p to
   unfolding costs_past
   past_one at [] i p is to = absurd cc
   past_one at (cut ∷ cuts) zero p is to =
@@ -88,7 +91,10 @@ none_yet rows code n e =
     }
 
 -- one more
-pub one_more : (rows : List LoopRow) (code : List Cut) (items : List Counted) (i : ℕ) (p : Placed) (cost : Counted) → AllByRecursion (λ c. 0 < length c.bytes) code → slice_get (placed_from 0 code) i ≡ Some p → cost ≡ counted (cost_of rows code (table items) p.at (p.next - p.at) p.instr) → HasCostsFrom rows code items (suc i) → HasCostsFrom rows code (set items p.at cost) i
+pub one_more : (rows : List LoopRow) (code : List Cut) (items : List Counted) (i : ℕ) (p : Placed) (cost : Counted) →
+    AllByRecursion (λ c. 0 < length c.bytes) code → slice_get (placed_from 0 code) i ≡ Some p →
+    cost ≡ counted (cost_of rows code (table items) p.at (p.next - p.at) p.instr) → HasCostsFrom rows code items (suc i) →
+    HasCostsFrom rows code (set items p.at cost) i
 one_more rows code items i p cost some there is has =
     record {
       long = length-set items p.at cost ∙ has.long;
@@ -122,7 +128,8 @@ all_counted rows code items i none has =
     record { long = last.long; each = last.each }
 
 -- what was counted of the whole is the bound, capped
-pub counted_bound : (rows : List LoopRow) (code : List Cut) (read items : List Counted) (bytes : ℕ) → bytes ≡ whole_at (table read) (Some 0) → read ≡ items → AreCounted rows code items → bytes ≡ capped (bound rows code)
+pub counted_bound : (rows : List LoopRow) (code : List Cut) (read items : List Counted) (bytes : ℕ) →
+    bytes ≡ whole_at (table read) (Some 0) → read ≡ items → AreCounted rows code items → bytes ≡ capped (bound rows code)
 unfolding bound
 counted_bound rows code read items bytes is same all =
     is ∙ ap (λ xs. whole_at (table xs) (Some 0)) same ∙ ap (λ c. c.whole) (all.each 0)

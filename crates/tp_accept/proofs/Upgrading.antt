@@ -33,7 +33,8 @@ use Rattle.tp_accept.proofs.NeverWrong.{never_goes_wrong}
 -- ---- what is known
 
 -- a rule that refuses nothing is the same of the upgraded image: it is not that on move
-rule_upgraded : (image : ImageValue) (at next : ℕ) (instr : Instr) (edge : Edge) (s t : State) → image.version ≡ One → rule image at next instr edge s ≡ Ok t → rule (upgraded image) at next instr edge s ≡ Ok t
+rule_upgraded : (image : ImageValue) (at next : ℕ) (instr : Instr) (edge : Edge) (s t : State) → image.version ≡ One →
+    rule image at next instr edge s ≡ Ok t → rule (upgraded image) at next instr edge s ≡ Ok t
 unfolding rule local words_on bytes_on words_further frame_at message_in words_to_send row_ended_at word_in byte_in
 rule_upgraded image at next MoveBytes edge s t is e = absurd (refused image.version is _ e)
   where
@@ -42,7 +43,8 @@ rule_upgraded image at next MoveBytes edge s t is e = absurd (refused image.vers
     refused Two is p e = cc
 rule_upgraded image at next instr edge s t is e = e
 
-after_upgraded : (image : ImageValue) (at next : ℕ) (instr : Instr) (edge : Edge) (s t : State) → image.version ≡ One → after image at next instr edge s ≡ Ok t → after (upgraded image) at next instr edge s ≡ Ok t
+after_upgraded : (image : ImageValue) (at next : ℕ) (instr : Instr) (edge : Edge) (s t : State) → image.version ≡ One →
+    after image at next instr edge s ≡ Ok t → after (upgraded image) at next instr edge s ≡ Ok t
 unfolding after
 after_upgraded image at next instr edge s t is e = by_rule (rule image at next instr edge s) refl e
   where
@@ -116,7 +118,8 @@ acceptable_upgraded image budget a = by_version image.version refl
     by_version Two is = subst (λ i. IsAcceptable i budget) (sym (upgraded_two image is)) a
 
 -- the run of an acceptable image is the one that the upgraded image has
-pub runs_upgraded : (image : ImageValue) (budget : ℕ) (packet : List ℕ) (run : Run) → IsAcceptable image budget → IsPacket image packet → RunsAlone image packet run ↔ RunsAlone (upgraded image) packet run
+pub runs_upgraded : (image : ImageValue) (budget : ℕ) (packet : List ℕ) (run : Run) → IsAcceptable image budget →
+    IsPacket image packet → RunsAlone image packet run ↔ RunsAlone (upgraded image) packet run
 runs_upgraded image budget packet run a is = (run_upgraded image packet run, back)
   where
     back : RunsAlone (upgraded image) packet run → RunsAlone image packet run

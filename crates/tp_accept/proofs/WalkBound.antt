@@ -20,12 +20,14 @@ within rows workspace code nest at counts n (Goes a to m edge c later e turns af
     omega (arith, drops rows workspace code nest a to 0 edge c later e turns after (omega arith), within rows workspace code nest to later m rest)
 
 -- from the first
-pub walk_within_bound : (rows : List LoopRow) (workspace : ℕ) (code : List Cut) → KeepsNest rows workspace code → is_start code 0 ≡ true → (counts : Counts) (n : ℕ) → Walk rows code 0 counts n → n ≤ bound rows code
+pub walk_within_bound : (rows : List LoopRow) (workspace : ℕ) (code : List Cut) → KeepsNest rows workspace code →
+    is_start code 0 ≡ true → (counts : Counts) (n : ℕ) → Walk rows code 0 counts n → n ≤ bound rows code
 walk_within_bound rows workspace code nest starts counts n walk =
     omega (arith, within rows workspace code nest 0 counts n walk, starts_with_bound rows workspace code nest starts counts)
 
 -- in the code of an acceptable image
-pub walk_within_budget : (image : ImageValue) (budget : ℕ) → IsAcceptable image budget → (cuts : List Cut) → IsCutting image.code cuts → (counts : Counts) (n : ℕ) → Walk image.loops cuts 0 counts n → n ≤ budget
+pub walk_within_budget : (image : ImageValue) (budget : ℕ) → IsAcceptable image budget → (cuts : List Cut) →
+    IsCutting image.code cuts → (counts : Counts) (n : ℕ) → Walk image.loops cuts 0 counts n → n ≤ budget
 walk_within_budget image budget a cuts cutting counts n walk =
     let same : a.cuts ≡ cuts = one_cutting image.code a.cuts cuts a.cutting cutting in
     let kept : KeepsNest image.loops image.workspace cuts = subst (KeepsNest image.loops image.workspace) same a.kept in

@@ -15,8 +15,8 @@ use std::alloc::{AllocError, Global};
 use tp_decode::Listing;
 use tp_image::Image;
 
-/// The costs of a code: for each of its bytes, that of the instruction which begins there, or nothing. They are worked out
-/// once, from the highest address down, in one table.
+/// The costs of a code: for each of its bytes, that of the instruction which begins there, or nothing. They are worked
+/// out once, from the highest address down, in one table.
 pub fn costs(alloc: Global, image: &Image, listing: &Listing) -> Result<Vec<Counted>, AllocError>
     requires { IsCutting image.now.code listing.now }
     ensures { IfOk result (λ costs. AreCounted image.now.loops listing.now costs.items) }

@@ -19,7 +19,9 @@ ghost use Rattle.tp_accept.specs.Walks.{Walk};
 ghost use Rattle.tp_accept.specs.Verdict.{Allowed, Answer, IsAnswer};
 ghost use Rattle.tp_accept.specs.Acceptance.{IsAcceptable};
 ghost use Rattle.tp_accept.specs.Ending.{IsPacket, NeverGoesWrong};
-ghost use Rattle.tp_accept.specs.Workers.{bound_of_bytes, measure_of_bytes, two_and_three, row, increment, sum_to, ten, ten_thousand, loop_in_a_loop, outer_and_inner, early_exit, two_ways, neighbours};
+ghost use Rattle.tp_accept.specs.Workers.{bound_of_bytes, measure_of_bytes, two_and_three, row, increment, sum_to, ten};
+ghost use Rattle.tp_accept.specs.Workers.{ten_thousand, loop_in_a_loop, outer_and_inner, early_exit, two_ways};
+ghost use Rattle.tp_accept.specs.Workers.{neighbours};
 
 pub mod exact;
 
@@ -102,8 +104,8 @@ pub fn no_walk_is_longer_than_the_budget(accepted: &Accepted)
         Walk accepted.now.image.loops cuts 0 counts n → n ≤ accepted.now.budget }
 {}
 
-/// The worker of an acceptable image never goes wrong: each packet's run ends within the budget, by stopp, with a result of
-/// the length that the image states, and no state on the way is stuck.
+/// The worker of an acceptable image never goes wrong: each packet's run ends within the budget, by stopp, with a
+/// result of the length that the image states, and no state on the way is stuck.
 pub fn acceptable_code_never_goes_wrong()
     ensures { (image : ImageValue) (budget : ℕ) → IsAcceptable image budget → NeverGoesWrong image budget }
 {}
@@ -113,9 +115,10 @@ pub fn accepted_code_never_goes_wrong(accepted: &Accepted)
     ensures { NeverGoesWrong accepted.now.image accepted.now.budget }
 {}
 
-/// Upgrading an acceptable image changes nothing: the upgraded image is acceptable with the same budget, and each packet's
-/// run alone is that of the image. Only move reads the version, and no instruction of an acceptable image of version 1 that a
-/// state reaches is a move. Of any other image [`tp_step::laws::upgraded_images_do_the_same`] says what stays.
+/// Upgrading an acceptable image changes nothing: the upgraded image is acceptable with the same budget, and each
+/// packet's run alone is that of the image. Only move reads the version, and no instruction of an acceptable image of
+/// version 1 that a state reaches is a move. Of any other image [`tp_step::laws::upgraded_images_do_the_same`] says
+/// what stays.
 pub fn upgrading_changes_nothing()
     ensures acceptable { (image : ImageValue) (budget : ℕ) → IsAcceptable image budget →
         IsAcceptable (upgraded image) budget }
@@ -148,8 +151,8 @@ pub fn bounds_of_small_workers()
     ensures two_ways { bound_of_bytes [] two_ways ≡ Some 20 }
 {}
 
-/// The measure before the last instruction but one of an inner loop, and in the midst of its lend, as they are worked out
-/// by hand.
+/// The measure before the last instruction but one of an inner loop, and in the midst of its lend, as they are worked
+/// out by hand.
 #[tactic(auto, unfolding(crate::proofs::Computing::by_steps))]
 pub fn measures_in_a_small_worker()
     ensures before { measure_of_bytes (outer_and_inner 10) (loop_in_a_loop ten) 21 0 two_and_three ≡ Some 40033 }

@@ -1,7 +1,7 @@
 //! Acceptance: the verdict on a text, and images that may be run.
 //!
-//! [`accept`] makes every judgement. What it answers is said in `specs/Verdict.antt`, what it promises of an image that may
-//! be run in `specs/Acceptance.antt`. The bound on the instruction bytes of a run is in `specs/Bound.antt`, and the laws
+//! [`accept`] makes every judgement. Its verdict is defined in `specs/Verdict.antt`, what it promises of an image that
+//! may be run in `specs/Acceptance.antt`, the bound on the instruction bytes of a run in `specs/Bound.antt`; the laws
 //! are the contracts of the functions of [`laws`].
 #![tactic(auto)]
 

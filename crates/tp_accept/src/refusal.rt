@@ -47,10 +47,10 @@ impl fmt::Display for RefusalCode {
 /// Why an image is not accepted. It prints as the code, a space and the place.
 #[derive(Clone, Copy, Debug, PartialEq, Eq)]
 pub enum Refusal {
-    /// The first refusal. The place of an F is a byte offset in the text, that of J6 the number of the loop row, from 0, that
-    /// of B1 is 0, and that of every other code an address in the image's code, in bytes.
+    /// The first refusal. The place of an F is a byte offset in the text, that of J6 the number of the loop row, from
+    /// 0, that of B1 is 0, and that of every other code an address in the image's code, in bytes.
     Refused { code: RefusalCode, place: usize },
-    /// A growth was refused.
+    /// Out of memory.
     Memory,
 }
 

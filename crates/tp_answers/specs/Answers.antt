@@ -1,8 +1,9 @@
 -- The protocol: what is answered to a line, and the sessions after it.
 --
--- The verdict on an image and the outcome of a packet are parameters: this can be read without the rules of the verifier
--- and of the machine. `Rules` has those by which the product answers.
-use Rattle.std.specs.Prelude.{◌≡◌, ℕ, ◌*◌, ◌==◌, nat_le, not, Bool, true, false, if◌then◌else◌, List, [], length, map, Option, Some, None}
+-- The verdict on an image and the outcome of a packet are parameters: this can be read without the rules of the
+-- verifier and of the machine. `Rules` has those by which the product answers.
+use Rattle.std.specs.Prelude.{◌≡◌, ℕ, ◌*◌, ◌==◌, nat_le, not, Bool, true, false, if◌then◌else◌, List, [], length, map}
+use Rattle.std.specs.Prelude.{Option, Some, None}
 use Rattle.std.specs.Prelude.{Result, Ok, Err}
 use Rattle.std.specs.List.{AllZip}
 use Rattle.tp_decode.specs.Cutting.{Cut, cutting}

@@ -1,5 +1,6 @@
 -- The sessions that are open.
-use Rattle.std.specs.Prelude.{ℕ, nat_le, ◌&&◌, not, is_some, Bool, if◌then◌else◌, List, [], ◌∷◌, ◌++◌, length, Option, Some, None}
+use Rattle.std.specs.Prelude.{ℕ, nat_le, ◌&&◌, not, is_some, Bool, if◌then◌else◌, List, [], ◌∷◌, ◌++◌, length, Option}
+use Rattle.std.specs.Prelude.{Some, None}
 use Rattle.tp_image.specs.Image.{ImageValue}
 use Rattle.tp_requests.specs.Fields.{is_text}
 

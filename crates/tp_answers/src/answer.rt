@@ -94,7 +94,7 @@ impl BoxedListing {
     }
 }
 
-/// What a line is answered with.
+/// The answer to a line.
 #[derive(Drop)]
 pub enum Answer {
     /// The instructions of a code.

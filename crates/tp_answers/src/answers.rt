@@ -15,10 +15,10 @@ use crate::session::OpenSession;
 use crate::sessions::Sessions;
 use std::alloc::{AllocError, Global};
 use tp_accept::{Accepted, Refusal, accept};
-use tp_board::{MAX_PACKETS, Packet};
 use tp_collect::limits::MESSAGE_BYTES;
 use tp_decode::{DecodeFault, decode};
 use tp_requests::{Name, Spelled};
+use tp_stream::{MAX_PACKETS, Packet};
 
 /// The most sessions that are open at a time.
 const MOST_SESSIONS: usize = 64;
@@ -98,7 +98,8 @@ pub fn keep(
 ) -> Result<Answer, AllocError>
     ensures answer { IfOk result (λ answer.
         answer ≡ answer_to_packet (named name.now.items sessions.old) (bytes_spelled packet.now)) }
-    ensures sessions { OnOk result (sessions.new ≡ after_packet name.now.items (bytes_spelled packet.now) sessions.old) }
+    ensures sessions { OnOk result (sessions.new ≡ after_packet name.now.items (bytes_spelled packet.now)
+        sessions.old) }
 {
     let Some(index) = sessions.find(name) else {
         return Ok(Answer::Refused(LineFault::P2));

@@ -53,7 +53,8 @@ impl Outcome {
     }
 }
 
-/// What became of the packets of a session, in order of number. A contract sees of each its run, or none where it was lost.
+/// What became of the packets of a session, in order of number. A contract sees of each its run, or none where it was
+/// lost.
 #[derive(Drop)]
 pub struct Outcomes {
     runs: Vec<Option<Outcome>>,
@@ -88,8 +89,8 @@ impl Outcomes {
     }
 }
 
-/// What became of the packets of all sessions, in the order in which they were opened. A contract sees of each session its
-/// name and its outcomes.
+/// What became of the packets of all sessions, in the order in which they were opened. A contract sees of each session
+/// its name and its outcomes.
 #[derive(Drop)]
 pub struct AllOutcomes {
     sessions: Vec<(Name, Outcomes)>,

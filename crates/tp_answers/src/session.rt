@@ -1,12 +1,13 @@
 //! One session.
 
-ghost use Rattle.std.specs.Prelude.{◌≡◌, ◌==◌, ◌+◌, ◌*◌, ◌≤◌, ◌<◌, [], ◌∷◌, ◌++◌, ◌&&◌, nat_lt, length, vec_len, IsTrue, OnOk};
+ghost use Rattle.std.specs.Prelude.{◌≡◌, ◌==◌, ◌+◌, ◌*◌, ◌≤◌, ◌<◌, [], ◌∷◌, ◌++◌, ◌&&◌, nat_lt, length, vec_len};
+ghost use Rattle.std.specs.Prelude.{IsTrue, OnOk};
 ghost use Rattle.std.specs.List.{list_all};
 ghost use Rattle.tp_board.specs.Limits.{most_packets};
 
 use std::alloc::{AllocError, Global};
 use tp_accept::Accepted;
-use tp_board::Packet;
+use tp_stream::Packet;
 
 /// What a session keeps: the image, and the packets that are to be run on it.
 #[derive(Drop)]

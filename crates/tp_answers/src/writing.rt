@@ -156,8 +156,8 @@ fn write_lines(out: &mut Vec<u8>, alloc: Global, listing: &Listing) -> Result<()
     Ok(())
 }
 
-/// Writes the text of the answer to the line of a number, behind what is in `out`. With `trace`, each result is followed by
-/// its trace. Where a growth is refused, some of it is written.
+/// Writes the text of the answer to the line of a number, behind what is in `out`. With `trace`, each result is
+/// followed by its trace. Where a growth is refused, some of it is written.
 #[tactic(auto, unfolding(crate::specs::Texts::answer_text))]
 pub fn write_answer(
     out: &mut Vec<u8>,

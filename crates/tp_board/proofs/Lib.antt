@@ -1,21 +1,13 @@
-mod Counting
-mod Runs
-mod Totals
-mod Reports
-mod Steps
-mod Moves
+pub mod Counting
+pub mod Runs
+pub mod Totals
+pub mod Reports
+pub mod Steps
+pub mod Moves
 mod Allowed
 mod Hands
-mod Closing
-mod Events
-mod Opening
-mod Same
-mod Schedule
-mod PassViews
-mod Tallies
-mod Handing
-mod Gathering
-mod Stages
-mod StreamSteps
-mod StreamWords
-mod StreamRuns
+pub mod Closing
+pub mod Events
+pub mod Opening
+pub mod Same
+pub mod Schedule

@@ -2,7 +2,6 @@
 use Rattle.std.proofs.Common.{◌≡◌, ℕ, ◌+◌, List, [], ◌++◌, length, arith, length-append}
 use Rattle.tp_board.specs.declared.view.View.{View}
 use Rattle.tp_board.specs.Counting.{times}
-use Rattle.tp_board.specs.Streams.{Agrees}
 use Rattle.tp_board.proofs.Counting.{times-append}
 
 -- `done` and `lost` have what the view has finished and abandoned, and these numbers
@@ -25,12 +24,3 @@ to_abandoned v numbers = record {
 -- the view with these reports, and nothing in hand
 abbrev pub reported : View → ℕ → List ℕ → List ℕ → View
 reported v steps done lost = record v { steps = steps; finished = done; abandoned = lost; hand = [] }
-
-pub agrees_reported : (v : View) (steps : ℕ) (done lost : List ℕ) → Adds v v.hand done lost → Agrees v
-    → Agrees (reported v steps done lost)
-agrees_reported v steps done lost adds a = record {
-  ended = a.ended;
-  in_hand = omega arith;
-  each_once = (λ x. let b = a.each_once x in let c = adds.each_once x in omega arith);
-  counted = (let b = a.counted in let c = adds.counted in omega arith);
-}

@@ -17,11 +17,6 @@ pub mod Boards
 pub mod Calls
 pub mod Ledgers
 pub mod Sources
-pub mod Queues
-pub mod Tallies
-pub mod Streams
-pub mod Stages
-pub mod StreamRuns
 pub use Rattle.atomic_table.specs.Seated
 -- What only private steps cite.
 pub mod Plays

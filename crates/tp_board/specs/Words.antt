@@ -1,5 +1,5 @@
 -- The four words of a board, by their names and by their places.
-use Rattle.std.specs.Prelude.{ℕ, ◌+◌, ◌-◌, ◌%◌, ◌^◌, List, [], ◌∷◌, slice_index}
+use Rattle.std.specs.Prelude.{ℕ, ◌+◌, ◌%◌, ◌^◌, List, [], ◌∷◌, slice_index}
 use Rattle.tp_board.specs.declared.event.Shown.{Shown}
 use Rattle.tp_board.specs.declared.event.Shown.TheVariants as shown
 use Rattle.tp_board.specs.declared.rule.Size.{Size}
@@ -16,20 +16,12 @@ counters claimed done lost stop = record { claimed = claimed; done = done; lost 
 abbrev pub words_of : Counters → List ℕ
 words_of w = w.claimed ∷ w.done ∷ w.lost ∷ w.stop ∷ []
 
--- those of a stream, whose numbers come from its queue
-abbrev pub tally_words_of : Counters → List ℕ
-tally_words_of w = w.done ∷ w.lost ∷ w.stop ∷ []
-
 -- the place of each word
 abbrev pub place_of : Shown → ℕ
 place_of shown.Claimed = 0
 place_of shown.Done = 1
 place_of shown.Lost = 2
 place_of shown.Stop = 3
-
--- and in a stream, whose words lack the first
-abbrev pub tally_place_of : Shown → ℕ
-tally_place_of what = place_of what - 1
 
 abbrev pub word_of : Shown → List ℕ → ℕ
 word_of what words = slice_index words (place_of what)

@@ -1,4 +1,4 @@
-//! What a member may do to the farm, and what it is answered.
+//! What a member may do to the farm, and the replies.
 
 /// One of the four counts of the farm, each a word of a board.
 #[derive(Clone, Copy, Debug, PartialEq, Eq)]

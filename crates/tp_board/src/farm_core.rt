@@ -31,7 +31,7 @@ impl Model for Core {
 }
 
 impl Core {
-    /// The opening farm of so many packets, numbered from 0, and members, numbered from 0.
+    /// The opening farm of `packets` packets and `members` members, both numbered from 0.
     pub fn new(alloc: Global, packets: u32, members: u32) -> Result<Core, AllocError>
         ensures { IfOk result (λ s. s ≡ opening_farm packets members) }
     {
@@ -79,15 +79,21 @@ impl Core {
         ensures each_once { Accounts self.new }
         ensures kept { IsKept self.old self.new }
     {
-        // Brings in what the type keeps.
-        let _ = &self.packets;
+        self.law_accounts();
         let mut answers = Vec::with_capacity(alloc, events.len())?;
         for entry in events {
             let answer = self.step(alloc, entry.0, entry.1)?;
             answers.push_reserved(answer);
         }
-        let _ = &self.packets;
+        self.law_accounts();
         Ok(answers)
+    }
+
+    // What the type keeps: a read of a field brings it in.
+    fn law_accounts(&self)
+        ensures { Accounts self.now }
+    {
+        let _ = &self.packets;
     }
 
     fn claim(&mut self, member: u32) -> Reply

@@ -10,14 +10,12 @@ mod board;
 mod event;
 mod farm_core;
 pub mod laws;
-mod rule;
+pub mod rule;
 mod source;
-mod stream;
-mod view;
+pub mod view;
 
 pub use answer::{BoardFault, Claim, Ledger, MAX_MEMBERS, MAX_PACKETS};
 pub use board::{Board, BoardSource, CloseFault, Seat};
 pub use event::{Event, Reply, Shown};
 pub use farm_core::Core;
-pub use source::{Packet, Work, WorkSource};
-pub use stream::{Fed, Feeder, StreamCloseFault, StreamHand, StreamLedger, StreamQueue};
+pub use source::{Packet, Work, WorkSource, with_bytes};

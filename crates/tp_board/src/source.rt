@@ -23,7 +23,7 @@ pub enum Work {
 
 /// What was claimed, a packet with its bytes.
 #[inline(always)]
-pub(crate) fn with_bytes(claimed: Claim, packets: &[Packet]) -> Work
+pub fn with_bytes(claimed: Claim, packets: &[Packet]) -> Work
     requires { IsAnswerable (length packets.now) claimed }
     ensures claimed { claim_of result ≡ claimed }
     ensures bytes { HasBytes (map (λ p. p.items) packets.entry.now) result }

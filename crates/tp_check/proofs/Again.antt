@@ -4,7 +4,11 @@ use Rattle.std.specs.Prelude.{All, IfOk}
 use Rattle.std.proofs.lemmas.Bool.{cases_eq}
 use Rattle.std.proofs.lemmas.Option.{same_Some}
 use Rattle.tp_decode.specs.declared.instr.Instr.{Instr}
-use Rattle.tp_decode.specs.declared.instr.Instr.TheVariants.{Jump, Ldlp, Ldnl, Ldc, Ldnlp, Ldl, Adc, Cj, Ajw, Eqc, Stl, Stnl, Rev, Lb, Bsub, Diff, Add, Input, Prod, Gt, Wsub, Output, Sub, Seterr, Csub0, Stopp, Rem, Lend, Div, BitNot, BitXor, Sb, Shr, Shl, Mint, BitAnd, MoveBytes, BitOr, Sum, Mul}
+use Rattle.tp_decode.specs.declared.instr.Instr.TheVariants.{Jump, Ldlp, Ldnl, Ldc, Ldnlp, Ldl, Adc, Cj, Ajw, Eqc, Stl}
+use Rattle.tp_decode.specs.declared.instr.Instr.TheVariants.{Stnl, Rev, Lb, Bsub, Diff, Add, Input, Prod, Gt, Wsub}
+use Rattle.tp_decode.specs.declared.instr.Instr.TheVariants.{Output, Sub, Seterr, Csub0, Stopp, Rem, Lend, Div, BitNot}
+use Rattle.tp_decode.specs.declared.instr.Instr.TheVariants.{BitXor, Sb, Shr, Shl, Mint, BitAnd, MoveBytes, BitOr, Sum}
+use Rattle.tp_decode.specs.declared.instr.Instr.TheVariants.{Mul}
 use Rattle.tp_flow.specs.declared.edge.Edge.{Edge}
 use Rattle.tp_flow.specs.declared.edge.Edge.TheVariants.{Next, Taken, Back, Out}
 use Rattle.tp_flow.specs.NestKept.{IsGood}
@@ -92,7 +96,8 @@ asked_apart Mul = one_apart Next
 module _ (image : ImageValue) (range : InRange image) (good : All (IsGood image.workspace) image.loops) (at next : ℕ) (instr : Instr) (edge : Edge) where
   -- they rise with what is known before
   pub rises_after : (s t u v : State) → IsSound image s → IsBelow s t → after image at next instr edge s ≡ Ok u → after image at next instr edge t ≡ Ok v → IsBelow u v
-  rises_after s t u v sound below was is = by_answers (after image at next instr edge s) (after image at next instr edge t) (after_follows image range.rows good at next instr edge s t sound below) was is
+  rises_after s t u v sound below was is = by_answers (after image at next instr edge s)
+      (after image at next instr edge t) (after_follows image range.rows good at next instr edge s t sound below) was is
     where
       by_answers : (r q : Result State StateCode) → Follows IsBelow r q → r ≡ Ok u → q ≡ Ok v → IsBelow u v
       by_answers (Ok x) (Ok y) h f g = let a : x ≡ u = cc in let b : y ≡ v = cc in subst (λ z. IsBelow z v) a (subst (IsBelow x) b h)
@@ -105,7 +110,9 @@ module _ (image : ImageValue) (range : InRange image) (good : All (IsGood image.
 -- ---- a table that takes a sound state stays sound
 
 module _ (image : ImageValue) (table : Table) (to : ℕ) (v : State) where
-  pub sound_joined : (new : Table) (e : Entered table to v new) → ((at : ℕ) (s : State) → table at ≡ Some s → IsSound image s) → IsSound image v → (at : ℕ) (s : State) → new at ≡ Some s → IsSound image s
+  pub sound_joined : (new : Table) (e : Entered table to v new) →
+      ((at : ℕ) (s : State) → table at ≡ Some s → IsSound image s) → IsSound image v → (at : ℕ) (s : State) →
+      new at ≡ Some s → IsSound image s
   sound_joined new e sound also at s is = by_place (cases_eq at to)
     where
       by_state : (o : Option State) → table to ≡ o → Becomes o v e.state → IsSound image e.state

@@ -20,9 +20,11 @@ use Rattle.tp_check.proofs.Nests.{IsOne, lone, edges_lead_on, are_states, or_lef
 use Rattle.tp_check.proofs.Trails.{Trails, edge_by_edge}
 use Rattle.tp_check.proofs.Carrying.{carried_pass as pass_carried}
 
-module _ (image : ImageValue) (cuts : List Cut) (range : InRange image) (spelled : AllByRecursion IsSpelled cuts) (kept : KeepsNest image.loops image.workspace cuts) (is_join : ℕ → Bool) (wide : AreWide image cuts is_join) where
+module _ (image : ImageValue) (cuts : List Cut) (range : InRange image) (spelled : AllByRecursion IsSpelled cuts)
+    (kept : KeepsNest image.loops image.workspace cuts) (is_join : ℕ → Bool) (wide : AreWide image cuts is_join) where
   abbrev pub Good : Table → Type 0
-  Good table = Trails image range.rows kept.good is_join (IsOne image cuts kept is_join wide) (IsStateAt image) (lone image cuts kept is_join wide) (are_states image cuts kept is_join wide range spelled) table
+  Good table = Trails image range.rows kept.good is_join (IsOne image cuts kept is_join wide) (IsStateAt image)
+      (lone image cuts kept is_join wide) (are_states image cuts kept is_join wide range spelled) table
 
   entry_stands : IsStateAt image 0 (entry image)
   entry_stands = record { sound = entry_sound image range; live = none_live image kept.begins }
@@ -43,12 +45,16 @@ module _ (image : ImageValue) (cuts : List Cut) (range : InRange image) (spelled
 
   pub one_pass : (table : Table) → Good table → (pass image cuts table ≡ carried_pass image cuts is_join table) × IfOk (pass image cuts table) Good
   one_pass table good = (
-    pass_carried image range.rows kept.good is_join (IsOne image cuts kept is_join wide) (IsStateAt image) (lone image cuts kept is_join wide) (are_states image cuts kept is_join wide range spelled) (edges_in cuts) (λ i e is. (i, is)) (λ e among. among) (edges_lead_on image cuts kept is_join wide) table good,
+    pass_carried image range.rows kept.good is_join (IsOne image cuts kept is_join wide) (IsStateAt image)
+        (lone image cuts kept is_join wide) (are_states image cuts kept is_join wide range spelled) (edges_in cuts)
+        (λ i e is. (i, is)) (λ e among. among) (edges_lead_on image cuts kept is_join wide) table good,
     subst (λ r. IfOk r Good) (sym edges.0) edges.1,
   )
     where
       edges : (along_edges image (edges_in cuts) table ≡ over image is_join (edges_in cuts) table) × IfOk (over image is_join (edges_in cuts) table) Good
-      edges = edge_by_edge image range.rows kept.good is_join (IsOne image cuts kept is_join wide) (IsStateAt image) (lone image cuts kept is_join wide) (are_states image cuts kept is_join wide range spelled) (edges_in cuts) (λ i e is. (i, is)) table good
+      edges = edge_by_edge image range.rows kept.good is_join (IsOne image cuts kept is_join wide) (IsStateAt image)
+          (lone image cuts kept is_join wide) (are_states image cuts kept is_join wide range spelled) (edges_in cuts)
+          (λ i e is. (i, is)) table good
 
   pub all_passes : (n : ℕ) → (passes image cuts n ≡ carried image cuts is_join n) × IfOk (passes image cuts n) Good
   all_passes zero = (refl, first_good)
@@ -66,7 +72,9 @@ module _ (image : ImageValue) (cuts : List Cut) (range : InRange image) (spelled
       by_answer (Err f) e good = cc
 
   -- a pass that leaves what stands where edges join has come to the verdict: the whole table of that pass
-  pub ends : (n : ℕ) (table new : Table) → carried image cuts is_join n ≡ Ok table → carried_pass image cuts is_join table ≡ Ok new → only_joins is_join new ≡ only_joins is_join table → IsVerdict image cuts (Ok new)
+  pub ends : (n : ℕ) (table new : Table) → carried image cuts is_join n ≡ Ok table →
+      carried_pass image cuts is_join table ≡ Ok new → only_joins is_join new ≡ only_joins is_join table →
+      IsVerdict image cuts (Ok new)
   ends n table new arrives gives stays =
       let first : passes image cuts n ≡ Ok table = (all_passes n).0 ∙ arrives in
       let next : passes image cuts (suc n) ≡ Ok new = ap (λ r. r >>= pass image cuts) first ∙ (one_pass table (good_after n table first)).0 ∙ gives in

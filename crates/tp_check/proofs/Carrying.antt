@@ -50,7 +50,8 @@ module _ (image : ImageValue) (are : All IsRow image.loops) (good : All (IsGood 
       by_way (inr (lone_to, none, more)) = absurd (let no : true ≡ false = sym joined ∙ lone_to in cc)
 
   -- once an edge is taken, the others are awaited
-  later : (f : Placed × Edge) (more : List (Placed × Edge)) (table other : Table) → Agree (f ∷ more) table other → (at : ℕ) → (target_of image f ≢ Some at) → (table at ≡ other at) ⊎ Awaits more other at
+  later : (f : Placed × Edge) (more : List (Placed × Edge)) (table other : Table) → Agree (f ∷ more) table other →
+      (at : ℕ) → (target_of image f ≢ Some at) → (table at ≡ other at) ⊎ Awaits more other at
   later f more table other h at elsewhere = by_way (h at)
     where
       by_place : (e : Placed × Edge) → (i : ℕ) → slice_get (f ∷ more) i ≡ Some e → target_of image e ≡ Some at → IsAmong more e
@@ -61,10 +62,13 @@ module _ (image : ImageValue) (are : All IsRow image.loops) (good : All (IsGood 
       by_way (inl same) = inl same
       by_way (inr (lone_at, none, (e, among, is_e, goes))) = inr (lone_at, none, (e, by_place e among.0 among.1 goes, is_e, goes))
 
-  set_alike : (f : Placed × Edge) (more : List (Placed × Edge)) (table other : Table) → Agree (f ∷ more) table other → (to : ℕ) → target_of image f ≡ Some to → (v : State) → Agree more (with_state to v table) (with_state to v other)
+  set_alike : (f : Placed × Edge) (more : List (Placed × Edge)) (table other : Table) → Agree (f ∷ more) table other →
+      (to : ℕ) → target_of image f ≡ Some to → (v : State) → Agree more (with_state to v table) (with_state to v other)
   set_alike f more table other h to goes v at = by_test (at == to) refl
     where
-      by_test : (b : Bool) → (at == to) ≡ b → ((if b then Some v else table at) ≡ (if b then Some v else other at)) ⊎ ((is_join at ≡ false) × ((if b then Some v else other at) ≡ None) × ((e : Placed × Edge) × IsAmong more e × IsEdge e × (target_of image e ≡ Some at)))
+      by_test : (b : Bool) → (at == to) ≡ b → ((if b then Some v else table at) ≡ (if b then Some v else other at)) ⊎
+          ((is_join at ≡ false) × ((if b then Some v else other at) ≡ None) ×
+          ((e : Placed × Edge) × IsAmong more e × IsEdge e × (target_of image e ≡ Some at)))
       by_test true same = inl refl
       by_test false differ = later f more table other h at (λ is. not_there (same_Some to at (sym goes ∙ is)))
         where
@@ -87,7 +91,8 @@ module _ (image : ImageValue) (are : All IsRow image.loops) (good : All (IsGood 
               let same : trail.edge ≡ f = lone.one trail.edge f at trail.is is_f lone_at trail.goes goes in
               absurd (let no : None ≡ Some trail.now = sym none ∙ ap (λ (g : Placed × Edge). table g.0.at) (sym same) ∙ trail.there in cc)
 
-          by_place : (e : Placed × Edge) (i : ℕ) → slice_get (f ∷ more) i ≡ Some e → is_join at ≡ false → other at ≡ None → IsEdge e → target_of image e ≡ Some at → (table at ≡ other at) ⊎ Awaits more other at
+          by_place : (e : Placed × Edge) (i : ℕ) → slice_get (f ∷ more) i ≡ Some e → is_join at ≡ false →
+              other at ≡ None → IsEdge e → target_of image e ≡ Some at → (table at ≡ other at) ⊎ Awaits more other at
           by_place e zero is lone_at empty is_e goes = let same : f ≡ e = same_Some f e is in inl (by_known (table at) refl lone_at empty (ap (target_of image) same ∙ goes))
           by_place e (suc i) is lone_at empty is_e goes = inr (lone_at, empty, (e, (i, is), is_e, goes))
 
@@ -116,14 +121,17 @@ module _ (image : ImageValue) (are : All IsRow image.loops) (good : All (IsGood 
       by_state (Some s) there = by_outcome (outcome_of image f s)
 
   -- what is known before an edge is alike: no edge that is still to be taken leads there, but to where edges join
-  source_alike : (f : Placed × Edge) (more : List (Placed × Edge)) (table other : Table) → Agree (f ∷ more) table other → ((e : Placed × Edge) → IsAmong (f ∷ more) e → is_join f.0.at ≡ false → target_of image e ≢ Some f.0.at) → table f.0.at ≡ other f.0.at
+  source_alike : (f : Placed × Edge) (more : List (Placed × Edge)) (table other : Table) →
+      Agree (f ∷ more) table other → ((e : Placed × Edge) → IsAmong (f ∷ more) e → is_join f.0.at ≡ false →
+      target_of image e ≢ Some f.0.at) → table f.0.at ≡ other f.0.at
   source_alike f more table other h on = by_way (h f.0.at)
     where
       by_way : (table f.0.at ≡ other f.0.at) ⊎ Awaits (f ∷ more) other f.0.at → table f.0.at ≡ other f.0.at
       by_way (inl same) = same
       by_way (inr (lone_at, none, (e, among, is_e, goes))) = absurd (on e among lone_at goes)
 
-  pub over_alike : (es : List (Placed × Edge)) → ((i : ℕ) (e : Placed × Edge) → slice_get es i ≡ Some e → IsEdge e) → LeadsOn image is_join es → (table other : Table) → HasTrails table → Agree es table other
+  pub over_alike : (es : List (Placed × Edge)) → ((i : ℕ) (e : Placed × Edge) → slice_get es i ≡ Some e → IsEdge e) →
+      LeadsOn image is_join es → (table other : Table) → HasTrails table → Agree es table other
       → AgreeOk [] (over image is_join es table) (over image is_join es other)
   over_alike [] edges on table other kept h = h
   over_alike (f ∷ more) edges on table other kept h =
@@ -132,7 +140,9 @@ module _ (image : ImageValue) (are : All IsRow image.loops) (good : All (IsGood 
       (step f more (edges 0 f refl) table other kept h (source_alike f more table other h on.0))
       (λ t o kept h. over_alike more (λ i e is. edges (suc i) e is) on.1 t o kept h)
     where
-      in_turn : (r q : Result Table StateFault) → IfOk r HasTrails → AgreeOk more r q → ((t o : Table) → HasTrails t → Agree more t o → AgreeOk [] (over image is_join more t) (over image is_join more o))
+      in_turn : (r q : Result Table StateFault) → IfOk r HasTrails → AgreeOk more r q →
+          ((t o : Table) → HasTrails t → Agree more t o → AgreeOk [] (over image is_join more t)
+          (over image is_join more o))
           → AgreeOk [] (r >>= over image is_join more) (q >>= over image is_join more)
       in_turn (Ok t) (Ok o) kept h go = go t o kept h
       in_turn (Err e) (Err f) kept h go = h
@@ -141,10 +151,13 @@ module _ (image : ImageValue) (are : All IsRow image.loops) (good : All (IsGood 
 
   -- A pass over a table gives what the pass with carried outcomes gives, from what is known where edges join: the
   -- same refusal, or the same whole table.
-  pub carried_pass : (es : List (Placed × Edge)) → ((i : ℕ) (e : Placed × Edge) → slice_get es i ≡ Some e → IsEdge e) → ((e : Placed × Edge) → IsEdge e → IsAmong es e) → LeadsOn image is_join es → (table : Table) → HasTrails table
+  pub carried_pass : (es : List (Placed × Edge)) → ((i : ℕ) (e : Placed × Edge) → slice_get es i ≡ Some e → IsEdge e) →
+      ((e : Placed × Edge) → IsEdge e → IsAmong es e) → LeadsOn image is_join es → (table : Table) → HasTrails table
       → along_edges image es table ≡ over image is_join es (only_joins is_join table)
   carried_pass es edges all on table kept =
-      (edge_by_edge image are good is_join IsEdge MayOccur lone states es edges table kept).0 ∙ alike (over image is_join es table) (over image is_join es (only_joins is_join table)) (over_alike es edges on table (only_joins is_join table) kept first)
+      (edge_by_edge image are good is_join IsEdge MayOccur lone states es edges table kept).0 ∙
+      alike (over image is_join es table) (over image is_join es (only_joins is_join table))
+      (over_alike es edges on table (only_joins is_join table) kept first)
     where
       alike : (r q : Result Table StateFault) → AgreeOk [] r q → r ≡ q
       alike (Ok t) (Ok o) h = ap Ok (fun_ext λ at. at_end t o at (h at))
@@ -159,7 +172,10 @@ module _ (image : ImageValue) (are : All IsRow image.loops) (good : All (IsGood 
       first : Agree es table (only_joins is_join table)
       first at = by_test (is_join at) refl (table at) refl
         where
-          by_test : (b : Bool) → is_join at ≡ b → (o : Option State) → table at ≡ o → (table at ≡ (if b then table at else None)) ⊎ ((is_join at ≡ false) × ((if b then table at else None) ≡ None) × ((e : Placed × Edge) × IsAmong es e × IsEdge e × (target_of image e ≡ Some at)))
+          by_test : (b : Bool) → is_join at ≡ b → (o : Option State) → table at ≡ o →
+              (table at ≡ (if b then table at else None)) ⊎ ((is_join at ≡ false) ×
+              ((if b then table at else None) ≡ None) × ((e : Placed × Edge) × IsAmong es e × IsEdge e ×
+              (target_of image e ≡ Some at)))
           by_test true joined o is = inl refl
           by_test false lone_at None is = inl is
           by_test false lone_at (Some y) is = let trail = kept.trail at y lone_at is in inr (lone_at, refl, (trail.edge, all trail.edge trail.is, trail.is, trail.goes))

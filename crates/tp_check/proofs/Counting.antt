@@ -1,5 +1,8 @@
 -- How control reaches addresses, edge by edge.
-use Rattle.std.proofs.Common.{◌≡◌, ◌≢◌, ℕ, zero, suc, ◌+◌, ◌<◌, ◌≤◌, ◌⊎◌, inl, inr, ◌==◌, ◌||◌, nat_le, if◌then◌else◌, Bool, true, false, List, [], ◌∷◌, ◌++◌, length, slice_get, slice_set, slice_index_or, get_or, drop, drop-cons, Some, None, refl, sym, ap, ◌∙◌, subst, arith, add-one, get_or-set_same, get_or-set_other}
+use Rattle.std.proofs.Common.{◌≡◌, ◌≢◌, ℕ, zero, suc, ◌+◌, ◌<◌, ◌≤◌, ◌⊎◌, inl, inr, ◌==◌, ◌||◌, nat_le, if◌then◌else◌}
+use Rattle.std.proofs.Common.{Bool, true, false, List, [], ◌∷◌, ◌++◌, length, slice_get, slice_set, slice_index_or}
+use Rattle.std.proofs.Common.{get_or, drop, drop-cons, Some, None, refl, sym, ap, ◌∙◌, subst, arith, add-one}
+use Rattle.std.proofs.Common.{get_or-set_same, get_or-set_other}
 use Rattle.std.specs.Prelude.{All}
 use Rattle.std.specs.List.{list_any, flat_map}
 use Rattle.std.proofs.lemmas.Bool.{cases_eq}
@@ -29,7 +32,8 @@ use Rattle.tp_check.proofs.Nests.{lone, count_one}
 
 -- ---- an edge is counted
 
-leading_cons : (image : ImageValue) (at : ℕ) (e : Placed × Edge) (rest : List (Placed × Edge)) → leading image at (e ∷ rest) ≡ (if leads_to at (target_of image e) then 1 else 0) + leading image at rest
+leading_cons : (image : ImageValue) (at : ℕ) (e : Placed × Edge) (rest : List (Placed × Edge)) →
+    leading image at (e ∷ rest) ≡ (if leads_to at (target_of image e) then 1 else 0) + leading image at rest
 leading_cons image at e rest = sum_by-cons (λ x. if leads_to at (target_of image x) then 1 else 0) e rest
 
 leads_elsewhere : (image : ImageValue) (at : ℕ) (e : Placed × Edge) (rest : List (Placed × Edge)) → leads_to at (target_of image e) ≡ false → leading image at (e ∷ rest) ≡ leading image at rest
@@ -38,7 +42,9 @@ leads_elsewhere image at e rest is = leading_cons image at e rest ∙ ap (λ b. 
     none : (n : ℕ) → 0 + n ≡ n
     none n = omega arith
 
-tells_same : (image : ImageValue) (cuts : List Cut) (at : ℕ) (more rest : List (Placed × Edge)) → leading image at more ≡ leading image at rest → (w : Predecessor) → IsPredecessor image cuts more at w → IsPredecessor image cuts rest at w
+tells_same : (image : ImageValue) (cuts : List Cut) (at : ℕ) (more rest : List (Placed × Edge)) →
+    leading image at more ≡ leading image at rest → (w : Predecessor) → IsPredecessor image cuts more at w →
+    IsPredecessor image cuts rest at w
 tells_same image cuts at more rest same predecessor.Joined reports = reports
 tells_same image cuts at more rest same predecessor.Unreached reports = (reports.0, reports.1 ∙ same)
 tells_same image cuts at more rest same predecessor.Jump reports = (reports.0, reports.1 ∙ ap suc same)
@@ -85,7 +91,9 @@ module _ (image : ImageValue) (cuts : List Cut) (e : Placed × Edge) (rest : Lis
         by_place : (at ≡ to) ⊎ (at ≡ to → ⊥) → IsPredecessor image cuts rest at (predecessor_at (slice_set predecessors to (with_edge (to == e.0.next) (predecessor_at predecessors to))) at)
         by_place (inl same) =
             subst (λ x. IsPredecessor image cuts rest x (predecessor_at (slice_set predecessors to (with_edge (to == e.0.next) (predecessor_at predecessors to))) x)) (sym same)
-            (subst (IsPredecessor image cuts rest to) (sym (get_or-set_same predecessors to (with_edge (to == e.0.next) (predecessor_at predecessors to)) predecessor.Unreached inside)) (there (predecessor_at predecessors to) (reports to) (to == e.0.next) refl))
+            (subst (IsPredecessor image cuts rest to) (sym (get_or-set_same predecessors to
+            (with_edge (to == e.0.next) (predecessor_at predecessors to)) predecessor.Unreached inside))
+            (there (predecessor_at predecessors to) (reports to) (to == e.0.next) refl))
         by_place (inr other) =
             subst (IsPredecessor image cuts rest at) (sym (get_or-set_other predecessors to at (with_edge (to == e.0.next) (predecessor_at predecessors to)) predecessor.Unreached other))
             (tells_same image cuts at (e ∷ rest) rest (leads_elsewhere image at e rest (ap (leads_to at) leads ∙ no other)) (predecessor_at predecessors at) (reports at))
@@ -93,7 +101,10 @@ module _ (image : ImageValue) (cuts : List Cut) (e : Placed × Edge) (rest : Lis
             no : (at ≡ to → ⊥) → (to == at) ≡ false
             no other = grind (arith, nat_tests)
 
-next_counted : (image : ImageValue) (cuts : List Cut) (p : Placed) (edges : List Edge) (i : ℕ) (d : Edge) → i < length edges → (rest : List (Placed × Edge)) (predecessors : List Predecessor) → ArePredecessors image cuts (edges_from p (drop i edges) ++ rest) predecessors → ArePredecessors image cuts ((p, get_or edges i d) ∷ (edges_from p (drop (i + 1) edges) ++ rest)) predecessors
+next_counted : (image : ImageValue) (cuts : List Cut) (p : Placed) (edges : List Edge) (i : ℕ) (d : Edge) →
+    i < length edges → (rest : List (Placed × Edge)) (predecessors : List Predecessor) →
+    ArePredecessors image cuts (edges_from p (drop i edges) ++ rest) predecessors →
+    ArePredecessors image cuts ((p, get_or edges i d) ∷ (edges_from p (drop (i + 1) edges) ++ rest)) predecessors
 next_counted image cuts p edges i d inside rest predecessors reports = subst (λ es. ArePredecessors image cuts (es ++ rest) predecessors) (next_way p edges i d inside) reports
 
 any_way : (predecessors : List Predecessor) (to : ℕ) (d : Predecessor) → to < length predecessors → slice_index_or predecessors to d ≡ predecessor_at predecessors to
@@ -102,7 +113,8 @@ any_way (w ∷ predecessors) zero d lt = refl
 any_way (w ∷ predecessors) (suc to) d lt = any_way predecessors to d (omega (arith, lt))
 
 -- an edge of an instruction, among those that are asked
-module _ (image : ImageValue) (cuts : List Cut) (p : Placed) (edges asks : List Edge) (same : edges ≡ asks) (i : ℕ) (d : Edge) (inside : i < length edges) (rest : List (Placed × Edge)) (predecessors : List Predecessor)
+module _ (image : ImageValue) (cuts : List Cut) (p : Placed) (edges asks : List Edge) (same : edges ≡ asks) (i : ℕ)
+    (d : Edge) (inside : i < length edges) (rest : List (Placed × Edge)) (predecessors : List Predecessor)
     (among : (e : Placed × Edge) → IsAmong (edges_from p asks) e → IsAmong (edges_in cuts) e) (reports : ArePredecessors image cuts (edges_from p (drop i asks) ++ rest) predecessors) where
   same_edge : slice_index_or edges i d ≡ get_or asks i d
   same_edge = ap (λ xs. slice_index_or xs i d) same
@@ -119,9 +131,14 @@ module _ (image : ImageValue) (cuts : List Cut) (p : Placed) (edges asks : List 
   pub next_nowhere : target_of image (p, slice_index_or edges i d) ≡ None → ArePredecessors image cuts (edges_from p (drop (i + 1) asks) ++ rest) predecessors
   next_nowhere leads = counted_nowhere image cuts (p, slice_index_or edges i d) (edges_from p (drop (i + 1) asks) ++ rest) predecessors here leads
 
-  pub next_there : (to : ℕ) → target_of image (p, slice_index_or edges i d) ≡ Some to → ((edge : Edge) (to : ℕ) → target_of image (p, edge) ≡ Some to → to < length predecessors) → (w new default : Predecessor) → w ≡ slice_index_or predecessors to default → new ≡ with_edge (to == p.next) w → ArePredecessors image cuts (edges_from p (drop (i + 1) asks) ++ rest) (slice_set predecessors to new)
+  pub next_there : (to : ℕ) → target_of image (p, slice_index_or edges i d) ≡ Some to →
+      ((edge : Edge) (to : ℕ) → target_of image (p, edge) ≡ Some to → to < length predecessors) →
+      (w new default : Predecessor) → w ≡ slice_index_or predecessors to default → new ≡ with_edge (to == p.next) w →
+      ArePredecessors image cuts (edges_from p (drop (i + 1) asks) ++ rest) (slice_set predecessors to new)
   next_there to leads within w new default was is =
-      subst (λ x. ArePredecessors image cuts (edges_from p (drop (i + 1) asks) ++ rest) (slice_set predecessors to x)) (sym (is ∙ ap (with_edge (to == p.next)) (was ∙ any_way predecessors to default (within (slice_index_or edges i d) to leads))))
+      subst (λ x. ArePredecessors image cuts (edges_from p (drop (i + 1) asks) ++ rest) (slice_set predecessors to x))
+      (sym (is ∙ ap (with_edge (to == p.next)) (was ∙ any_way predecessors to default
+      (within (slice_index_or edges i d) to leads))))
       (counted_there image cuts (p, slice_index_or edges i d) (edges_from p (drop (i + 1) asks) ++ rest) predecessors here one to leads (within (slice_index_or edges i d) to leads))
 
 -- the edges of an instruction are those of a code
@@ -132,9 +149,12 @@ among_of (q ∷ ps) zero p is e (k, there) =
     rw (flat_map-cons edges_of q ps, same) (k, left_among (edges_of p) (flat_map edges_of ps) k e there)
 among_of (q ∷ ps) (suc i) p is e among = rw (flat_map-cons edges_of q ps) (right_among (edges_of q) (flat_map edges_of ps) e (among_of ps i p is e among))
 
-pub next_instruction : (cuts : List Cut) (i : ℕ) (p : Placed) → slice_get (placed_from 0 cuts) i ≡ Some p → flat_map edges_of (drop i (placed_from 0 cuts)) ≡ edges_of p ++ flat_map edges_of (drop (i + 1) (placed_from 0 cuts))
+pub next_instruction : (cuts : List Cut) (i : ℕ) (p : Placed) → slice_get (placed_from 0 cuts) i ≡ Some p →
+    flat_map edges_of (drop i (placed_from 0 cuts)) ≡ edges_of p ++ flat_map edges_of (drop (i + 1) (placed_from 0 cuts))
 next_instruction cuts i p is =
-    ap (flat_map edges_of) (drop-cons (placed_from 0 cuts) i p (slice_get_within (placed_from 0 cuts) i p is) ∙ ap (λ q. q ∷ drop (suc i) (placed_from 0 cuts)) (get_or_from_slice_get (placed_from 0 cuts) i p p is) ∙ ap (λ n. p ∷ drop n (placed_from 0 cuts)) (sym (add-one i)))
+    ap (flat_map edges_of) (drop-cons (placed_from 0 cuts) i p (slice_get_within (placed_from 0 cuts) i p is) ∙
+    ap (λ q. q ∷ drop (suc i) (placed_from 0 cuts)) (get_or_from_slice_get (placed_from 0 cuts) i p p is) ∙
+    ap (λ n. p ∷ drop n (placed_from 0 cuts)) (sym (add-one i)))
     ∙ flat_map-cons edges_of p (drop (i + 1) (placed_from 0 cuts))
 
 pub no_instructions : (cuts : List Cut) (i : ℕ) → length cuts ≤ i → flat_map edges_of (drop i (placed_from 0 cuts)) ≡ []
@@ -172,7 +192,10 @@ or_right true q is = refl
 or_right false q is = is
 
 -- a head more
-pub begun_more : (image : ImageValue) (k : ℕ) (d : LoopRow) → k < length image.loops → (predecessors : List Predecessor) → (get_or image.loops k d).head < length predecessors → ((at : ℕ) → Begun image k at (predecessor_at predecessors at)) → (at : ℕ) → Begun image (k + 1) at (predecessor_at (slice_set predecessors (get_or image.loops k d).head predecessor.Joined) at)
+pub begun_more : (image : ImageValue) (k : ℕ) (d : LoopRow) → k < length image.loops →
+    (predecessors : List Predecessor) → (get_or image.loops k d).head < length predecessors →
+    ((at : ℕ) → Begun image k at (predecessor_at predecessors at)) → (at : ℕ) →
+    Begun image (k + 1) at (predecessor_at (slice_set predecessors (get_or image.loops k d).head predecessor.Joined) at)
 begun_more image k d lt predecessors inside begun at = by_place (cases_eq at (get_or image.loops k d).head)
   where
     same_row : (rows : List LoopRow) (k i : ℕ) (d c : LoopRow) → k < length rows → i ≡ k → get_or rows i c ≡ get_or rows k d
@@ -193,14 +216,20 @@ begun_more image k d lt predecessors inside begun at = by_place (cases_eq at (ge
     keeps_on predecessor.FallThrough other is = absurd is
     keeps_on predecessor.Jump other is = absurd is
 
-    by_place : (at ≡ (get_or image.loops k d).head) ⊎ (at ≡ (get_or image.loops k d).head → ⊥) → Begun image (k + 1) at (predecessor_at (slice_set predecessors (get_or image.loops k d).head predecessor.Joined) at)
+    by_place : (at ≡ (get_or image.loops k d).head) ⊎ (at ≡ (get_or image.loops k d).head → ⊥) →
+        Begun image (k + 1) at (predecessor_at (slice_set predecessors (get_or image.loops k d).head predecessor.Joined)
+        at)
     by_place (inl same) =
         subst (λ x. Begun image (k + 1) x (predecessor_at (slice_set predecessors (get_or image.loops k d).head predecessor.Joined) x)) (sym same)
         (subst (Begun image (k + 1) (get_or image.loops k d).head) (sym (get_or-set_same predecessors (get_or image.loops k d).head predecessor.Joined predecessor.Unreached inside))
         (or_right ((get_or image.loops k d).head == 0) (is_head image (get_or image.loops k d).head) (head_among image.loops k d lt (get_or image.loops k d).head refl)))
-    by_place (inr other) = subst (Begun image (k + 1) at) (sym (get_or-set_other predecessors (get_or image.loops k d).head at predecessor.Joined predecessor.Unreached other)) (keeps_on (predecessor_at predecessors at) other (begun at))
+    by_place (inr other) = subst (Begun image (k + 1) at)
+        (sym (get_or-set_other predecessors (get_or image.loops k d).head at predecessor.Joined predecessor.Unreached
+        other)) (keeps_on (predecessor_at predecessors at) other (begun at))
 
-pub begun_next : (image : ImageValue) (cuts : List Cut) (rows : List LoopRow) → rows ≡ image.loops → (k : ℕ) (d : LoopRow) → k < length rows → (predecessors : List Predecessor) (places : ℕ) → length predecessors ≡ places → All (IsLoop cuts) image.loops → HasPlaces cuts places
+pub begun_next : (image : ImageValue) (cuts : List Cut) (rows : List LoopRow) → rows ≡ image.loops →
+    (k : ℕ) (d : LoopRow) → k < length rows → (predecessors : List Predecessor) (places : ℕ) →
+    length predecessors ≡ places → All (IsLoop cuts) image.loops → HasPlaces cuts places
     → ((at : ℕ) → Begun image k at (predecessor_at predecessors at)) → (at : ℕ) → Begun image (k + 1) at (predecessor_at (slice_set predecessors (slice_index_or rows k d).head predecessor.Joined) at)
 begun_next image cuts rows same k d lt predecessors places sized loops inside begun at =
     subst (λ xs. Begun image (k + 1) at (predecessor_at (slice_set predecessors (get_or xs k d).head predecessor.Joined) at)) (sym same)
@@ -209,7 +238,9 @@ begun_next image cuts rows same k d lt predecessors places sized loops inside be
     less : k < length image.loops
     less = subst (λ xs. k < length xs) same lt
 
-pub begun_all : (image : ImageValue) (cuts : List Cut) (k : ℕ) → length image.loops ≤ k → (predecessors : List Predecessor) → ((at : ℕ) → Begun image k at (predecessor_at predecessors at)) → ArePredecessors image cuts (edges_in cuts) predecessors
+pub begun_all : (image : ImageValue) (cuts : List Cut) (k : ℕ) → length image.loops ≤ k →
+    (predecessors : List Predecessor) → ((at : ℕ) → Begun image k at (predecessor_at predecessors at)) →
+    ArePredecessors image cuts (edges_in cuts) predecessors
 begun_all image cuts k end predecessors begun at = reports (predecessor_at predecessors at) (begun at)
   where
     or_both : (p q r : Bool) → (p || q) ≡ true → (p || q || r) ≡ true
@@ -251,9 +282,15 @@ module _ (image : ImageValue) (cuts : List Cut) (predecessors : List Predecessor
       by_way predecessor.Joined is = absurd cc
 
   pub are_joins : KeepsNest image.loops image.workspace cuts → AreJoins image cuts (is_join_at predecessors)
-  are_joins kept = record { wide = are_wide; lone = lone image cuts kept (is_join_at predecessors) are_wide; falls = λ e to one alone leads. by_way e to one alone leads (predecessor_at predecessors to) refl (reports to) }
+  are_joins kept = record {
+    wide = are_wide;
+    lone = lone image cuts kept (is_join_at predecessors) are_wide;
+    falls = λ e to one alone leads. by_way e to one alone leads (predecessor_at predecessors to) refl (reports to);
+  }
     where
-      by_way : (e : Placed × Edge) (to : ℕ) → IsAmong (edges_in cuts) e → is_join_at predecessors to ≡ false → target_of image e ≡ Some to → (w : Predecessor) → predecessor_at predecessors to ≡ w → IsPredecessor image cuts [] to w → to ≡ e.0.next
+      by_way : (e : Placed × Edge) (to : ℕ) → IsAmong (edges_in cuts) e → is_join_at predecessors to ≡ false →
+          target_of image e ≡ Some to → (w : Predecessor) → predecessor_at predecessors to ≡ w →
+          IsPredecessor image cuts [] to w → to ≡ e.0.next
       by_way e to one alone leads predecessor.Unreached same is =
           let here : leads_to to (target_of image e) ≡ true = ap (leads_to to) leads ∙ itself in
           let some = count_one (λ g. leads_to to (target_of image g)) (edges_in cuts) one.0 e one.1 here in

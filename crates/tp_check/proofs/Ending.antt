@@ -1,5 +1,7 @@
 -- The passes come to a verdict: each of them refuses, leaves the table as it is, or leaves fewer changes to be made.
-use Rattle.std.proofs.Common.{◌≡◌, ℕ, zero, suc, ◌-◌, ◌<◌, ◌⊎◌, inl, inr, ◌==◌, nat_eq, if◌then◌else◌, false, IsTrue, List, [], ◌∷◌, replicate, length, length-set, slice_get, slice_set, Option, Some, None, Result, Ok, Err, refl, sym, ap, ◌∙◌, subst, arith}
+use Rattle.std.proofs.Common.{◌≡◌, ℕ, zero, suc, ◌-◌, ◌<◌, ◌⊎◌, inl, inr, ◌==◌, nat_eq, if◌then◌else◌, false, IsTrue}
+use Rattle.std.proofs.Common.{List, [], ◌∷◌, replicate, length, length-set, slice_get, slice_set, Option, Some, None}
+use Rattle.std.proofs.Common.{Result, Ok, Err, refl, sym, ap, ◌∙◌, subst, arith}
 use Rattle.std.specs.Prelude.{IfOk, IfSome}
 use Rattle.std.specs.List.{AllByRecursion, flat_map}
 use mathlib.Core.Path.{fun_ext}
@@ -136,7 +138,8 @@ module _ (image : ImageValue) (cuts : List Cut) (range : InRange image) (spelled
         goes : Result Table StateFault → Type 0
         goes r = IfOk r (Leads image places states)
 
-        by_target : (s v : State) → table_of states p.at ≡ Some s → after image p.at p.next p.instr edge s ≡ Ok v → IsSound image v → (o : Option ℕ) → target (ranges image.loops) p.at p.next p.instr edge ≡ o
+        by_target : (s v : State) → table_of states p.at ≡ Some s → after image p.at p.next p.instr edge s ≡ Ok v →
+            IsSound image v → (o : Option ℕ) → target (ranges image.loops) p.at p.next p.instr edge ≡ o
             → IfOk (enter o v (table_of states)) (Leads image places states)
         by_target s v here is sound None leads = subst (λ r. IfOk r (Leads image places states)) (sym (enter_none v (table_of states))) (stays image places states kept)
         by_target s v here is sound (Some to) leads =
@@ -164,8 +167,12 @@ module _ (image : ImageValue) (cuts : List Cut) (range : InRange image) (spelled
       → IfOk (along_edges image (flat_map edges_of ps) (table_of states)) (Leads image places states)
   all_lead [] ready states kept = stays image places states kept
   all_lead (p ∷ ps) ready states kept =
-      subst (λ r. IfOk r (Leads image places states)) (sym (ap (λ es. along_edges image es (table_of states)) (flat_map-cons edges_of p ps) ∙ along_append image (edges_of p) (flat_map edges_of ps) (table_of states)))
-      (in_turn image places states (along_edges image (edges_of p) (table_of states)) (along_edges image (flat_map edges_of ps)) (ways_lead p (ready 0 p refl) (asked p.instr) states kept) (all_lead ps (λ i q is. ready (suc i) q is)))
+      subst (λ r. IfOk r (Leads image places states)) (sym
+      (ap (λ es. along_edges image es (table_of states)) (flat_map-cons edges_of p ps) ∙
+      along_append image (edges_of p) (flat_map edges_of ps) (table_of states)))
+      (in_turn image places states (along_edges image (edges_of p) (table_of states))
+      (along_edges image (flat_map edges_of ps)) (ways_lead p (ready 0 p refl) (asked p.instr) states kept)
+      (all_lead ps (λ i q is. ready (suc i) q is)))
 
   module _ (inside : (at : ℕ) → IsTrue (is_start cuts at) → at < places) where
     ready_at : (i : ℕ) (p : Placed) → slice_get (placed_from 0 cuts) i ≡ Some p → IsReady image places p
@@ -180,14 +187,18 @@ module _ (image : ImageValue) (cuts : List Cut) (range : InRange image) (spelled
 
     -- a pass refuses, leaves the table as it is, or there are fewer changes left
     one_more : (states : List (Option State)) → IsKept image places states → (number : ℕ) → passes image cuts number ≡ Ok (table_of states)
-        → ((l : List (Option State)) → IsKept image places l → passes image cuts (suc number) ≡ Ok (table_of l) → table_height image l < table_height image states → (verdict : Result Table StateFault) × IsVerdict image cuts verdict)
+        → ((l : List (Option State)) → IsKept image places l → passes image cuts (suc number) ≡ Ok (table_of l) →
+        table_height image l < table_height image states → (verdict : Result Table StateFault) ×
+        IsVerdict image cuts verdict)
         → (verdict : Result Table StateFault) × IsVerdict image cuts verdict
     one_more states kept number arrives go = by_answer (pass image cuts (table_of states)) refl (pass_leads states kept)
       where
         comes_on : passes image cuts (suc number) ≡ pass image cuts (table_of states)
         comes_on = ap (λ r. r >>= pass image cuts) arrives
 
-        by_sink : (new : List (Option State)) → IsKept image places new → pass image cuts (table_of states) ≡ Ok (table_of new) → Sinks (table_height image) states new → (verdict : Result Table StateFault) × IsVerdict image cuts verdict
+        by_sink : (new : List (Option State)) → IsKept image places new →
+            pass image cuts (table_of states) ≡ Ok (table_of new) → Sinks (table_height image) states new →
+            (verdict : Result Table StateFault) × IsVerdict image cuts verdict
         by_sink new kept is (inl same) = (Ok (table_of states), record { number = number; arrives = arrives; stays = is ∙ ap (λ states. Ok (table_of states)) same })
         by_sink new kept is (inr fewer) = go new kept (comes_on ∙ is) fewer
 
@@ -234,7 +245,9 @@ module _ (image : ImageValue) (cuts : List Cut) (range : InRange image) (spelled
 
   from_places : (n : ℕ) → ((at : ℕ) → IsTrue (is_start cuts at) → at < suc n) → (verdict : Result Table StateFault) × IsVerdict image cuts verdict
   from_places n inside =
-      ends image cuts range spelled nest (suc n) inside (suc (table_height image (Some (entry image) ∷ replicate n None))) (Some (entry image) ∷ replicate n None) (first_kept n) 0 (ap Ok (sym (first_is image n))) (omega arith)
+      ends image cuts range spelled nest (suc n) inside (suc
+      (table_height image (Some (entry image) ∷ replicate n None))) (Some (entry image) ∷ replicate n None)
+      (first_kept n) 0 (ap Ok (sym (first_is image n))) (omega arith)
 
   pub a_verdict : (verdict : Result Table StateFault) × IsVerdict image cuts verdict
   a_verdict = by_last (slice_get (starts_from 0 cuts) (length (starts_from 0 cuts) - 1)) refl

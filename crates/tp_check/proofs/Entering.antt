@@ -104,7 +104,11 @@ module _ (image : ImageValue) (table : Table) (to : ℕ) (s : State) (grown : Ha
     rises x v above = by_place (cases_eq x to)
       where
         by_place : (x ≡ to) ⊎ (x ≡ to → ⊥) → HasAbove new x v
-        by_place (inl same) = record { state = e.state; there = ap new same ∙ there table to s new e; below = rises_there v above.state (table to) refl e.becomes (sym (ap table same) ∙ above.there) above.below }
+        by_place (inl same) = record {
+          state = e.state;
+          there = ap new same ∙ there table to s new e;
+          below = rises_there v above.state (table to) refl e.becomes (sym (ap table same) ∙ above.there) above.below;
+        }
         by_place (inr other) = record { state = above.state; there = elsewhere table to s new x e other ∙ above.there; below = above.below }
 
     -- the table goes on to grow

@@ -1,5 +1,7 @@
 -- Each change of a table leaves fewer changes to it.
-use Rattle.std.proofs.Common.{◌≡◌, ℕ, ◌+◌, ◌-◌, ◌*◌, ◌^◌, ◌<◌, ◌≤◌, ◌⊎◌, inl, inr, Bool, true, false, if◌then◌else◌, min, max, ℤ, pos, negsuc, ◌+ℤ◌, ◌-ℤ◌, ◌≤ℤ◌, int_le, FitsSigned, w32, List, [], ◌∷◌, length, slice_set, slice_index_or, Option, None, refl, ap, arith}
+use Rattle.std.proofs.Common.{◌≡◌, ℕ, ◌+◌, ◌-◌, ◌*◌, ◌^◌, ◌<◌, ◌≤◌, ◌⊎◌, inl, inr, Bool, true, false, if◌then◌else◌}
+use Rattle.std.proofs.Common.{min, max, ℤ, pos, negsuc, ◌+ℤ◌, ◌-ℤ◌, ◌≤ℤ◌, int_le, FitsSigned, w32, List, [], ◌∷◌}
+use Rattle.std.proofs.Common.{length, slice_set, slice_index_or, Option, None, refl, ap, arith}
 use Rattle.std.specs.Prelude.{sum_by}
 use Rattle.std.specs.Int.{int_min, int_max}
 use Rattle.std.specs.Ordering.{int_eq}
@@ -81,7 +83,8 @@ last_sinks b d fits = by_order (cases_lt b d)
     by_order (inr le) = inl (omega (arith, le))
 
 pub kind_sinks : (k l : Kind) → HasWordEnds l → Sinks kind_height k (join_kinds k l)
-kind_sinks (kind.Int a b) (kind.Int c d) ends = both_sink kind.Int (λ n. size (n +ℤ pos (2 ^ 31))) (λ n. size (pos (2 ^ 31 - 1) -ℤ n)) a (int_min a c) b (int_max b d) (low_sinks a c ends.0) (high_sinks b d ends.1)
+kind_sinks (kind.Int a b) (kind.Int c d) ends = both_sink kind.Int (λ n. size (n +ℤ pos (2 ^ 31)))
+    (λ n. size (pos (2 ^ 31 - 1) -ℤ n)) a (int_min a c) b (int_max b d) (low_sinks a c ends.0) (high_sinks b d ends.1)
 kind_sinks (kind.Ptr a b) (kind.Ptr c d) ends = both_sink kind.Ptr (λ n. n) (λ n. 2 ^ 32 - 1 - n) a (min a c) b (max b d) (first_sinks a c) (last_sinks b d ends.1)
 kind_sinks (kind.BytePtr a b) (kind.BytePtr c d) ends = both_sink kind.BytePtr (λ n. n) (λ n. 2 ^ 32 - 1 - n) a (min a c) b (max b d) (first_sinks a c) (last_sinks b d ends.1)
 kind_sinks kind.Undef l ends = inl refl
@@ -200,11 +203,16 @@ pub state_sinks : (t s : State) → HasWords s → length s.cells ≡ length t.c
 unfolding state_height
 state_sinks t s words long = by_parts (kind_sinks t.a s.a words.a) (kind_sinks t.b s.b words.b) (kind_sinks t.c s.c words.c) (cells_sink t.cells s.cells long)
   where
-    by_parts : Sinks kind_height t.a (join_kinds t.a s.a) → Sinks kind_height t.b (join_kinds t.b s.b) → Sinks kind_height t.c (join_kinds t.c s.c) → Sinks (sum_by cell_height) t.cells (joined_cells t.cells s.cells) → Sinks state_height t (join t s)
+    by_parts : Sinks kind_height t.a (join_kinds t.a s.a) → Sinks kind_height t.b (join_kinds t.b s.b) →
+        Sinks kind_height t.c (join_kinds t.c s.c) → Sinks (sum_by cell_height) t.cells (joined_cells t.cells s.cells) →
+        Sinks state_height t (join t s)
     by_parts (inl a) (inl b) (inl c) (inl cells) = inl (same_known t _ _ _ _ a b c cells)
-    by_parts (inr a) b c cells = let b_le = sinks_le kind_height _ _ b in let c_le = sinks_le kind_height _ _ c in let cells_le = sinks_le (sum_by cell_height) _ _ cells in inr (omega (arith, a, b_le, c_le, cells_le))
-    by_parts a (inr b) c cells = let a_le = sinks_le kind_height _ _ a in let c_le = sinks_le kind_height _ _ c in let cells_le = sinks_le (sum_by cell_height) _ _ cells in inr (omega (arith, b, a_le, c_le, cells_le))
-    by_parts a b (inr c) cells = let a_le = sinks_le kind_height _ _ a in let b_le = sinks_le kind_height _ _ b in let cells_le = sinks_le (sum_by cell_height) _ _ cells in inr (omega (arith, c, a_le, b_le, cells_le))
+    by_parts (inr a) b c cells = let b_le = sinks_le kind_height _ _ b in let c_le = sinks_le kind_height _ _ c in
+        let cells_le = sinks_le (sum_by cell_height) _ _ cells in inr (omega (arith, a, b_le, c_le, cells_le))
+    by_parts a (inr b) c cells = let a_le = sinks_le kind_height _ _ a in let c_le = sinks_le kind_height _ _ c in
+        let cells_le = sinks_le (sum_by cell_height) _ _ cells in inr (omega (arith, b, a_le, c_le, cells_le))
+    by_parts a b (inr c) cells = let a_le = sinks_le kind_height _ _ a in let b_le = sinks_le kind_height _ _ b in
+        let cells_le = sinks_le (sum_by cell_height) _ _ cells in inr (omega (arith, c, a_le, b_le, cells_le))
     by_parts a b c (inr cells) = let a_le = sinks_le kind_height _ _ a in let b_le = sinks_le kind_height _ _ b in let c_le = sinks_le kind_height _ _ c in inr (omega (arith, cells, a_le, b_le, c_le))
 
 -- an address without a state has more changes left than one with a state
@@ -217,6 +225,8 @@ state_light image s words long =
 -- ---- tables
 
 -- where one address sinks, the table does
-pub table_sinks : (image : ImageValue) (states : List (Option State)) (i : ℕ) (new : Option State) → i < length states → height image new < height image (slice_index_or states i None) → table_height image (slice_set states i new) < table_height image states
+pub table_sinks : (image : ImageValue) (states : List (Option State)) (i : ℕ) (new : Option State) → i < length states →
+    height image new < height image (slice_index_or states i None) →
+    table_height image (slice_set states i new) < table_height image states
 unfolding table_height
 table_sinks image states i new inside less = omega (arith, less, sum_by-set (height image) states i new None inside)

@@ -71,7 +71,8 @@ module _ (keeps : ℕ → Bool) (table : Table) (k : ℕ) (states : List (ℕ ×
       rising : (i j : ℕ) (a b : ℕ × State) → i < j → slice_get (states ++ (k, s) ∷ []) i ≡ Some a → slice_get (states ++ (k, s) ∷ []) j ≡ Some b → a.0 < b.0
       rising i j a b lt here there = by_place (there_one states (k, s) i a here) (there_one states (k, s) j b there)
         where
-          by_place : (slice_get states i ≡ Some a) ⊎ ((i ≡ length states) × (◌≡◌ {A = ℕ × State} (k, s) a)) → (slice_get states j ≡ Some b) ⊎ ((j ≡ length states) × (◌≡◌ {A = ℕ × State} (k, s) b)) → a.0 < b.0
+          by_place : (slice_get states i ≡ Some a) ⊎ ((i ≡ length states) × (◌≡◌ {A = ℕ × State} (k, s) a)) →
+              (slice_get states j ≡ Some b) ⊎ ((j ≡ length states) × (◌≡◌ {A = ℕ × State} (k, s) b)) → a.0 < b.0
           by_place (inl early) (inl late) = some.rising i j a b lt early late
           by_place (inl early) (inr (last, same)) = let less = some.below i a early in let e = ap (λ (p : ℕ × State). p.0) same in omega (arith, less, e)
           by_place (inr (last, same)) (inl late) = absurd (let within = slice_get_within states j b late in omega (arith, lt, last, within))
@@ -89,7 +90,8 @@ module _ (keeps : ℕ → Bool) (table : Table) (k : ℕ) (states : List (ℕ ×
 no_state_past : (states : List (Option State)) (at : ℕ) (s : State) → length states ≤ at → table_of states at ≡ Some s → ⊥
 no_state_past states at s past is = let none : table_of states at ≡ None = ap (option_and_then (λ x. x)) (slice_get_past states at past) in let no : None ≡ Some s = sym none ∙ is in cc
 
-pub some_all : (keeps : ℕ → Bool) (slots : List (Option State)) (k : ℕ) (states : List (ℕ × State)) → length slots ≤ k → AreSome keeps (table_of slots) k states → AreStatesOf keeps (table_of slots) states
+pub some_all : (keeps : ℕ → Bool) (slots : List (Option State)) (k : ℕ) (states : List (ℕ × State)) → length slots ≤ k →
+    AreSome keeps (table_of slots) k states → AreStatesOf keeps (table_of slots) states
 some_all keeps slots k states end some = record { rising = some.rising; each = some.each; all = λ at s is stood. by_place at s is stood (cases_lt at k) }
   where
     by_place : (at : ℕ) (s : State) → keeps at ≡ true → table_of slots at ≡ Some s → (at < k) ⊎ (k ≤ at) → (i : ℕ) × (slice_get states i ≡ Some (at, s))

@@ -82,11 +82,15 @@ module _ (image : ImageValue) (range : InRange image) (good : HasGoodLoops image
           let both = above_join to x w (h.below to x e) (above to refl) in
           (with_state to (join x w) table, rw both.0 refl, lower_with to (join x w) table h (join_sound image x w (h.sound to x e) sound) both.1)
 
-  goes_lower : (p : Placed) (edge : Edge) → LoadsWord p.instr → ((u : State) → respected p.at ≡ Some u → Respects image respected p.at p.next p.instr u edge) → (table : Table) → IsLower table → IsLowerOk (go_along image p edge (table p.at) table)
+  goes_lower : (p : Placed) (edge : Edge) → LoadsWord p.instr →
+      ((u : State) → respected p.at ≡ Some u → Respects image respected p.at p.next p.instr u edge) → (table : Table) →
+      IsLower table → IsLowerOk (go_along image p edge (table p.at) table)
   unfolding go_along
   goes_lower p edge loads respects table h = by_state (table p.at) refl
     where
-      by_outcome : (s u v : State) → IsSound image s → IsBelow s u → (r q : Result State StateCode) → Follows IsBelow r q → IfOk r (IsSound image) → q ≡ Ok v → ((to : ℕ) → target (ranges image.loops) p.at p.next p.instr edge ≡ Some to → HasAbove respected to v)
+      by_outcome : (s u v : State) → IsSound image s → IsBelow s u → (r q : Result State StateCode) →
+          Follows IsBelow r q → IfOk r (IsSound image) → q ≡ Ok v →
+          ((to : ℕ) → target (ranges image.loops) p.at p.next p.instr edge ≡ Some to → HasAbove respected to v)
           → IsLowerOk (with_place p.at r >>= λ t. enter (target (ranges image.loops) p.at p.next p.instr edge) t table)
       by_outcome s u v sound below (Ok w) (Ok y) follows w_sound is enters =
           let same : y ≡ v = cc in
@@ -103,14 +107,17 @@ module _ (image : ImageValue) (range : InRange image) (good : HasGoodLoops image
           let sound = h.sound p.at s e in
           let keeps = respects above.state above.there in
           by_outcome s above.state keeps.outcome sound above.below (after image p.at p.next p.instr edge s) (after image p.at p.next p.instr edge above.state)
-          (after_follows image range.rows good p.at p.next p.instr edge s above.state sound above.below) (after_sound image range good p.at p.next p.instr edge s loads sound) keeps.goes_on keeps.enters
+          (after_follows image range.rows good p.at p.next p.instr edge s above.state sound above.below)
+          (after_sound image range good p.at p.next p.instr edge s loads sound) keeps.goes_on keeps.enters
 
   -- ---- one edge after another
 
   then_lower : (r : Result Table StateFault) (f : Table → Result Table StateFault) → IsLowerOk r → ((table : Table) → IsLower table → IsLowerOk (f table)) → IsLowerOk (r >>= f)
   then_lower r f (table, is, h) go = rw is (go table h)
 
-  ways_lower : (p : Placed) → LoadsWord p.instr → (ways : List Edge) → ((u : State) → respected p.at ≡ Some u → All (Respects image respected p.at p.next p.instr u) ways) → (table : Table) → IsLower table → IsLowerOk (along_edges image (edges_from p ways) table)
+  ways_lower : (p : Placed) → LoadsWord p.instr → (ways : List Edge) →
+      ((u : State) → respected p.at ≡ Some u → All (Respects image respected p.at p.next p.instr u) ways) →
+      (table : Table) → IsLower table → IsLowerOk (along_edges image (edges_from p ways) table)
   ways_lower p loads [] respects table h = (table, refl, h)
   ways_lower p loads (e ∷ more) respects table h =
       then_lower (go_along image p e (table p.at) table) (along_edges image (edges_from p more)) (goes_lower p e loads (λ u there. respects u there 0 e (omega arith)) table h)
@@ -139,7 +146,9 @@ module _ (image : ImageValue) (range : InRange image) (good : HasGoodLoops image
 
 -- ---- the passes
 
-module _ (image : ImageValue) (cuts : List Cut) (range : InRange image) (spelled : AllByRecursion IsSpelled cuts) (nest : KeepsNest image.loops image.workspace cuts) (respected : Table) (every : EveryEdgeRespects image cuts respected) where
+module _ (image : ImageValue) (cuts : List Cut) (range : InRange image) (spelled : AllByRecursion IsSpelled cuts)
+    (nest : KeepsNest image.loops image.workspace cuts) (respected : Table)
+    (every : EveryEdgeRespects image cuts respected) where
   ready_at : (i : ℕ) (p : Placed) → slice_get (placed_from 0 cuts) i ≡ Some p → IsReady image range nest.good respected p
   ready_at i p is =
       let stands = stands_at cuts i p nest.spelled is in
@@ -176,8 +185,11 @@ module _ (image : ImageValue) (cuts : List Cut) (range : InRange image) (spelled
       differ x e is = cc
 
 -- where the passes have a fault, there is none
-pub none_respected : {X : Type 0} (image : ImageValue) (cuts : List Cut) → InRange image → KeepsNest image.loops image.workspace cuts → AllByRecursion IsSpelled cuts → (r : Result X StateFault) → IfErr r (IsRefusalOf image cuts)
+pub none_respected : {X : Type 0} (image : ImageValue) (cuts : List Cut) → InRange image →
+    KeepsNest image.loops image.workspace cuts → AllByRecursion IsSpelled cuts → (r : Result X StateFault) →
+    IfErr r (IsRefusalOf image cuts)
     → IfErr r (λ e. e ≢ state_fault.Memory → HasNoTable image cuts)
 none_respected image cuts range nest spelled (Ok x) says = tt
-none_respected image cuts range nest spelled (Err (state_fault.Refused code place)) says = λ some table every. no_refusal image cuts range spelled nest table every (state_fault.Refused code place) says
+none_respected image cuts range nest spelled (Err (state_fault.Refused code place)) says =
+    λ some table every. no_refusal image cuts range spelled nest table every (state_fault.Refused code place) says
 none_respected image cuts range nest spelled (Err state_fault.Memory) says = λ some table every. some refl

@@ -1,6 +1,8 @@
 -- Steps of the passes, one after another.
 use Rattle.std.proofs.lemmas.Bool.{cases_eq}
-use Rattle.std.proofs.Common.{◌≡◌, ℕ, zero, suc, ◌+◌, ◌<◌, ◌≤◌, ◌⊎◌, inl, inr, Bool, true, false, List, [], ◌∷◌, ◌++◌, length, Option, Result, Ok, Err, refl, sym, ap, ◌∙◌, subst, arith, get_or, drop, add-one, drop-cons}
+use Rattle.std.proofs.Common.{◌≡◌, ℕ, zero, suc, ◌+◌, ◌<◌, ◌≤◌, ◌⊎◌, inl, inr, Bool, true, false, List, [], ◌∷◌, ◌++◌}
+use Rattle.std.proofs.Common.{length, Option, Result, Ok, Err, refl, sym, ap, ◌∙◌, subst, arith, get_or, drop, add-one}
+use Rattle.std.proofs.Common.{drop-cons}
 use mathlib.Core.Path.{fun_ext}
 use Rattle.tp_decode.specs.declared.placed.Placed.{Placed}
 use Rattle.tp_flow.specs.declared.edge.Edge.{Edge}
@@ -34,7 +36,9 @@ moves_none image states = record { sized = refl; stays = λ e. refl; falls = λ 
 -- edges after edges
 pub along_append : (image : ImageValue) (xs ys : List (Placed × Edge)) (table : Table) → along_edges image (xs ++ ys) table ≡ (along_edges image xs table >>= along_edges image ys)
 along_append image [] ys table = refl
-along_append image (x ∷ xs) ys table = ap (λ f. go_along image x.0 x.1 (table x.0.at) table >>= f) (fun_ext λ t. along_append image xs ys t) ∙ sym (in_turn (go_along image x.0 x.1 (table x.0.at) table) (along_edges image xs) (along_edges image ys))
+along_append image (x ∷ xs) ys table = ap (λ f. go_along image x.0 x.1 (table x.0.at) table >>= f)
+    (fun_ext λ t. along_append image xs ys t) ∙ sym (in_turn (go_along image x.0 x.1 (table x.0.at) table)
+    (along_edges image xs) (along_edges image ys))
   where
     in_turn : (r : Result Table StateFault) (f g : Table → Result Table StateFault) → ((r >>= f) >>= g) ≡ (r >>= (λ t. f t >>= g))
     in_turn (Ok t) f g = refl
@@ -49,7 +53,9 @@ pub next_way : (p : Placed) (ways : List Edge) (i : ℕ) (d : Edge) → i < leng
 next_way p ways i d inside = ap (edges_from p) (drop-cons ways i d inside ∙ ap (λ n. get_or ways i d ∷ drop n ways) (sym (add-one i)))
 
 -- what holds of the edges before one, and of that one
-pub way_more : (P : Edge → Type 0) (ways : List Edge) (i : ℕ) (e : Edge) → i < length ways → ((k : ℕ) (d : Edge) → k < i → P (get_or ways k d)) → P (get_or ways i e) → (k : ℕ) (d : Edge) → k < i + 1 → P (get_or ways k d)
+pub way_more : (P : Edge → Type 0) (ways : List Edge) (i : ℕ) (e : Edge) → i < length ways →
+    ((k : ℕ) (d : Edge) → k < i → P (get_or ways k d)) → P (get_or ways i e) → (k : ℕ) (d : Edge) → k < i + 1 →
+    P (get_or ways k d)
 way_more P ways i e inside below here k d lt = by_place (cases_eq k i)
   where
     by_place : (k ≡ i) ⊎ (k ≡ i → ⊥) → P (get_or ways k d)

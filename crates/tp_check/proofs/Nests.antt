@@ -1,5 +1,7 @@
 -- A code whose nest is kept: the edges to addresses that do not join, and the states that may stand.
-use Rattle.std.proofs.Common.{◌≡◌, ◌≢◌, ℕ, zero, suc, ◌+◌, ◌<◌, ◌≤◌, ◌⊎◌, inl, inr, ◌==◌, nat_le, ◌||◌, Bool, true, false, if◌then◌else◌, List, [], ◌∷◌, ◌++◌, length, slice_get, Option, Some, None, Result, Ok, Err, refl, sym, ap, ◌∙◌, subst, arith}
+use Rattle.std.proofs.Common.{◌≡◌, ◌≢◌, ℕ, zero, suc, ◌+◌, ◌<◌, ◌≤◌, ◌⊎◌, inl, inr, ◌==◌, nat_le, ◌||◌, Bool, true}
+use Rattle.std.proofs.Common.{false, if◌then◌else◌, List, [], ◌∷◌, ◌++◌, length, slice_get, Option, Some, None, Result}
+use Rattle.std.proofs.Common.{Ok, Err, refl, sym, ap, ◌∙◌, subst, arith}
 use Rattle.std.specs.Prelude.{IfOk}
 use Rattle.std.specs.Option.{option_and_then}
 use Rattle.std.specs.List.{flat_map, count_by, list_any, AllByRecursion}
@@ -59,7 +61,8 @@ count_one p (y ∷ xs) zero x is holds =
     rw (sum_by-cons (λ x. if p x then 1 else 0) y xs, here) (omega arith)
 count_one p (y ∷ xs) (suc i) x is holds = let more = count_one p xs i x is holds in rw (sum_by-cons (λ x. if p x then 1 else 0) y xs) (omega arith)
 
-count_two : (p : Placed × Edge → Bool) (xs : List (Placed × Edge)) (i j : ℕ) (x y : Placed × Edge) → slice_get xs i ≡ Some x → slice_get xs j ≡ Some y → p x ≡ true → p y ≡ true → i < j → 2 ≤ count_by p xs
+count_two : (p : Placed × Edge → Bool) (xs : List (Placed × Edge)) (i j : ℕ) (x y : Placed × Edge) →
+    slice_get xs i ≡ Some x → slice_get xs j ≡ Some y → p x ≡ true → p y ≡ true → i < j → 2 ≤ count_by p xs
 count_two p [] i j x y is also holds too lt = absurd cc
 count_two p (z ∷ xs) i zero x y is also holds too lt = absurd (omega (arith, lt))
 count_two p (z ∷ xs) zero (suc j) x y is also holds too lt =
@@ -240,7 +243,12 @@ module _ (image : ImageValue) (cuts : List Cut) (kept : KeepsNest image.loops im
     }
 
     meet_there : (at : ℕ) (s t : State) → IsStateAt image at s → IsStateAt image at t → s.wptr ≡ t.wptr → s.phase ≡ t.phase → MayMeet s t
-    meet_there at s t f g w p = record { wptr = w; phase = p; sized = f.sound.placed.sized ∙ sym g.sound.placed.sized; cells = same_agree image.loops (is_around (ranges image.loops) at) s.cells t.cells f.live g.live }
+    meet_there at s t f g w p = record {
+      wptr = w;
+      phase = p;
+      sized = f.sound.placed.sized ∙ sym g.sound.placed.sized;
+      cells = same_agree image.loops (is_around (ranges image.loops) at) s.cells t.cells f.live g.live;
+    }
 
     after_stands : (e : Placed × Edge) (s t : State) (to : ℕ) → IsOne e → IsStateAt image e.0.at s → target_of image e ≡ Some to → outcome_of image e s ≡ Ok t → IsStateAt image to t
     after_stands e s t to among f goes gives = record {

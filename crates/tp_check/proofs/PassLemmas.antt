@@ -9,7 +9,8 @@ use Rattle.tp_check.specs.Tables.{Table}
 use Rattle.tp_check.specs.Passes.{pass, passes, IsVerdict}
 
 -- further passes stay at a verdict
-further : (image : ImageValue) (cuts : List Cut) (verdict : Result Table StateFault) (n k m : ℕ) → m ≡ k + n → passes image cuts n ≡ verdict → (verdict >>= pass image cuts) ≡ verdict → passes image cuts m ≡ verdict
+further : (image : ImageValue) (cuts : List Cut) (verdict : Result Table StateFault) (n k m : ℕ) → m ≡ k + n →
+    passes image cuts n ≡ verdict → (verdict >>= pass image cuts) ≡ verdict → passes image cuts m ≡ verdict
 further image cuts verdict n zero m sum arrives stays = let same : m ≡ n = omega (arith, sum) in ap (passes image cuts) same ∙ arrives
 further image cuts verdict n (suc k) m sum arrives stays =
     let same : m ≡ suc (k + n) = omega (arith, sum) in

@@ -1,5 +1,7 @@
 -- The instructions of a code, one after another.
-use Rattle.std.proofs.Common.{◌≡◌, ◌≢◌, ℕ, zero, suc, ◌+◌, ◌<◌, ◌⊎◌, inl, inr, IsTrue, Bool, true, false, if◌then◌else◌, List, [], ◌∷◌, length, slice_get, Option, Some, None, refl, sym, ap, ◌∙◌, subst, rules, arith}
+use Rattle.std.proofs.Common.{◌≡◌, ◌≢◌, ℕ, zero, suc, ◌+◌, ◌<◌, ◌⊎◌, inl, inr, IsTrue, Bool, true, false, if◌then◌else◌}
+use Rattle.std.proofs.Common.{List, [], ◌∷◌, length, slice_get, Option, Some, None, refl, sym, ap, ◌∙◌, subst, rules}
+use Rattle.std.proofs.Common.{arith}
 use Rattle.std.specs.Prelude.{All}
 use Rattle.std.specs.Option.{is_some, option_and_then, option_map}
 use Rattle.std.proofs.lemmas.Option.{same_Some}
@@ -35,7 +37,9 @@ is_back Back = inl refl
 is_back Out = inr (λ e. cc)
 
 -- no edge leads to its own instruction
-on_another : (image : ImageValue) (cuts : List Cut) → KeepsNest image.loops image.workspace cuts → (at to : ℕ) (edge : Edge) (cut : Cut) → cut_at cuts at ≡ Some cut → target (ranges image.loops) at (at + length cut.bytes) cut.instr edge ≡ Some to → to ≢ at
+on_another : (image : ImageValue) (cuts : List Cut) → KeepsNest image.loops image.workspace cuts →
+    (at to : ℕ) (edge : Edge) (cut : Cut) → cut_at cuts at ≡ Some cut →
+    target (ranges image.loops) at (at + length cut.bytes) cut.instr edge ≡ Some to → to ≢ at
 on_another image cuts kept at to edge cut stands leads = by_edge (is_back edge)
   where
     by_number : (o : Option ℕ) → number_ended_at (ranges image.loops) at ≡ o → option_and_then (head_of (ranges image.loops)) o ≡ Some to → to ≢ at
@@ -58,7 +62,9 @@ on_another image cuts kept at to edge cut stands leads = by_edge (is_back edge)
         let some = some_bytes cuts at cut kept.spelled stands in
         omega (arith, up, some, same)
 
-pub may_be_taken : (image : ImageValue) (cuts : List Cut) (places : ℕ) (p : Placed) → KeepsNest image.loops image.workspace cuts → ((at : ℕ) → IsTrue (is_start cuts at) → at < places) → IsInItsPlace cuts p → MayBeTaken image places p
+pub may_be_taken : (image : ImageValue) (cuts : List Cut) (places : ℕ) (p : Placed) →
+    KeepsNest image.loops image.workspace cuts → ((at : ℕ) → IsTrue (is_start cuts at) → at < places) →
+    IsInItsPlace cuts p → MayBeTaken image places p
 may_be_taken image cuts places p kept inside stands = subst (MayBeTaken image places) (sym stands.is) (record {
   inside = inside p.at (ap is_some stands.there);
   targets = λ edge to leads. inside to (kept.starts p.at to edge (record { cut = stands.cut; stands = stands.there; goes = leads }));

@@ -24,9 +24,15 @@ last_above from (c ∷ []) to last is starts = by_test (nat_eq to 0) refl (nat_l
         let same : last ≡ from = cc in omega (arith, none, same)
     by_test false e true starts = absurd cc
     by_test false e false starts = absurd cc
-last_above from (c ∷ d ∷ cuts) to last is starts = by_test (λ x. last_above (from + length c.bytes) (d ∷ cuts) x last (is ∙ last_later from (from + length c.bytes) (starts_from (from + length c.bytes + length d.bytes) cuts))) (nat_eq to 0) refl (nat_lt to (length c.bytes)) refl starts
+last_above from (c ∷ d ∷ cuts) to last is starts = by_test
+    (λ x. last_above (from + length c.bytes) (d ∷ cuts) x last
+    (is ∙ last_later from (from + length c.bytes) (starts_from (from + length c.bytes + length d.bytes) cuts)))
+    (nat_eq to 0) refl (nat_lt to (length c.bytes)) refl starts
   where
-    by_test : ((x : ℕ) → is_start (d ∷ cuts) x ≡ true → from + length c.bytes + x ≤ last) → (p : Bool) → nat_eq to 0 ≡ p → (q : Bool) → nat_lt to (length c.bytes) ≡ q → is_some (if p then Some c else if q then None else cut_at (d ∷ cuts) (to - length c.bytes)) ≡ true → from + to ≤ last
+    by_test : ((x : ℕ) → is_start (d ∷ cuts) x ≡ true → from + length c.bytes + x ≤ last) → (p : Bool) →
+        nat_eq to 0 ≡ p → (q : Bool) → nat_lt to (length c.bytes) ≡ q →
+        is_some (if p then Some c else if q then None else cut_at (d ∷ cuts) (to - length c.bytes)) ≡ true →
+        from + to ≤ last
     by_test behind true e q f starts =
         let none : to ≡ 0 = grind (arith, nat_tests) in
         omega (arith, none, behind 0 refl)
@@ -84,7 +90,9 @@ place_from from (c ∷ cuts) zero p is = let same = ap (λ q. q.at) (same_Some (
 place_from from (c ∷ cuts) (suc i) p is = let later = place_from (from + length c.bytes) cuts i p is in omega (arith, later)
 
 -- a later instruction stands at a higher address
-pub places_rise : (from : ℕ) (cuts : List Cut) (j i : ℕ) (q p : Placed) → AllByRecursion (λ c. 0 < length c.bytes) cuts → j < i → slice_get (placed_from from cuts) j ≡ Some q → slice_get (placed_from from cuts) i ≡ Some p → q.at < p.at
+pub places_rise : (from : ℕ) (cuts : List Cut) (j i : ℕ) (q p : Placed) →
+    AllByRecursion (λ c. 0 < length c.bytes) cuts → j < i → slice_get (placed_from from cuts) j ≡ Some q →
+    slice_get (placed_from from cuts) i ≡ Some p → q.at < p.at
 places_rise from [] j i q p spelled lt there is = absurd cc
 places_rise from (c ∷ cuts) j zero q p spelled lt there is = absurd (omega (arith, lt))
 places_rise from (c ∷ cuts) zero (suc i) q p spelled lt there is =

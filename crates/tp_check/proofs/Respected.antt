@@ -53,11 +53,18 @@ edge_there (q ∷ ps) (suc i) p is k d lt =
 
 module _ (image : ImageValue) (cuts : List Cut) (range : InRange image) (spelled : AllByRecursion IsSpelled cuts) (kept : KeepsNest image.loops image.workspace cuts) where
   abbrev Gone : Placed × Edge → Table → Table → Type 0
-  Gone e table new = HasGone image range.rows kept.good (is_kept image cuts) (IsOne image cuts kept (is_kept image cuts) (λ at e. e)) (IsStateAt image) (lone image cuts kept (is_kept image cuts) (λ at e. e)) (are_states image cuts kept (is_kept image cuts) (λ at e. e) range spelled) e table new
+  Gone e table new = HasGone image range.rows kept.good (is_kept image cuts)
+      (IsOne image cuts kept (is_kept image cuts) (λ at e. e)) (IsStateAt image)
+      (lone image cuts kept (is_kept image cuts) (λ at e. e))
+      (are_states image cuts kept (is_kept image cuts) (λ at e. e) range spelled) e table new
 
-  each_goes : (table : Table) → Good image cuts range spelled kept (is_kept image cuts) (λ at e. e) table → pass image cuts table ≡ Ok table → (e : Placed × Edge) → IsAmong (edges_in cuts) e → Gone e table table
+  each_goes : (table : Table) → Good image cuts range spelled kept (is_kept image cuts) (λ at e. e) table →
+      pass image cuts table ≡ Ok table → (e : Placed × Edge) → IsAmong (edges_in cuts) e → Gone e table table
   each_goes table good stays e among =
-      stays_on image range.rows kept.good (is_kept image cuts) (IsOne image cuts kept (is_kept image cuts) (λ at e. e)) (IsStateAt image) (lone image cuts kept (is_kept image cuts) (λ at e. e)) (are_states image cuts kept (is_kept image cuts) (λ at e. e) range spelled) (edges_in cuts) (λ i e is. (i, is)) table good stays among.0 e among.1
+      stays_on image range.rows kept.good (is_kept image cuts) (IsOne image cuts kept (is_kept image cuts) (λ at e. e))
+      (IsStateAt image) (lone image cuts kept (is_kept image cuts) (λ at e. e))
+      (are_states image cuts kept (is_kept image cuts) (λ at e. e) range spelled) (edges_in cuts) (λ i e is. (i, is))
+      table good stays among.0 e among.1
 
   respects_from : (table : Table) → Good image cuts range spelled kept (is_kept image cuts) (λ at e. e) table → pass image cuts table ≡ Ok table → (at : ℕ) → RespectsFrom image cuts table at
   respects_from table good stays at cut s stands there k d lt =
@@ -72,10 +79,16 @@ module _ (image : ImageValue) (cuts : List Cut) (range : InRange image) (spelled
   begins_after zero table is = subst (λ t. HasAbove t 0 (entry image)) (same_Ok _ _ is) (record { state = entry image; there = refl; below = is_below-self (entry image) })
   begins_after (suc n) table is = by_answer (passes image cuts n) refl is (begins_after n)
     where
-      by_answer : (r : Result Table StateFault) → passes image cuts n ≡ r → (r >>= pass image cuts) ≡ Ok table → ((t : Table) → passes image cuts n ≡ Ok t → HasAbove t 0 (entry image)) → HasAbove table 0 (entry image)
+      by_answer : (r : Result Table StateFault) → passes image cuts n ≡ r → (r >>= pass image cuts) ≡ Ok table →
+          ((t : Table) → passes image cuts n ≡ Ok t → HasAbove t 0 (entry image)) → HasAbove table 0 (entry image)
       by_answer (Ok t) before is go =
           let first = go t before in
-          let up = tables_rise image range.rows kept.good (is_kept image cuts) (IsOne image cuts kept (is_kept image cuts) (λ at e. e)) (IsStateAt image) (lone image cuts kept (is_kept image cuts) (λ at e. e)) (are_states image cuts kept (is_kept image cuts) (λ at e. e) range spelled) (edges_in cuts) (λ i e is. (i, is)) t table (good_after image cuts range spelled kept (is_kept image cuts) (λ at e. e) n t before) is 0 first.state first.there in
+          let up = tables_rise image range.rows kept.good (is_kept image cuts)
+          (IsOne image cuts kept (is_kept image cuts) (λ at e. e)) (IsStateAt image)
+          (lone image cuts kept (is_kept image cuts) (λ at e. e))
+          (are_states image cuts kept (is_kept image cuts) (λ at e. e) range spelled) (edges_in cuts)
+          (λ i e is. (i, is)) t table (good_after image cuts range spelled kept (is_kept image cuts) (λ at e. e) n t
+          before) is 0 first.state first.there in
           record { state = up.state; there = up.there; below = is_below-trans (entry image) first.state up.state first.below up.below }
       by_answer (Err f) before is go = cc
 

@@ -58,7 +58,9 @@ pub refuses_alike : (to : ℕ) (s : State) (table other : Table) (fault : StateF
 unfolding enter
 refuses_alike to s table other fault same is = by_meeting (with_place to (meeting_if_any (other to) s)) refl is
   where
-    by_meeting : (r : Result State StateFault) → with_place to (meeting_if_any (other to) s) ≡ r → (r >>= (λ t. Ok (with_state to t other))) ≡ Err fault → (with_place to (meeting_if_any (table to) s) >>= (λ t. Ok (with_state to t table))) ≡ Err fault
+    by_meeting : (r : Result State StateFault) → with_place to (meeting_if_any (other to) s) ≡ r →
+        (r >>= (λ t. Ok (with_state to t other))) ≡ Err fault →
+        (with_place to (meeting_if_any (table to) s) >>= (λ t. Ok (with_state to t table))) ≡ Err fault
     by_meeting (Ok t) e is = absurd cc
     by_meeting (Err f) e is =
         let one : f ≡ fault = cc in

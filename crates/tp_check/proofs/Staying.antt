@@ -73,7 +73,8 @@ module _ (image : ImageValue) (are : All IsRow image.loops) (good : All (IsGood 
       by_table : (v : State) → with_state to v table ≡ new → ((u : State) → table to ≡ Some u → IsBelow u v) → IsBelow t v → IsUnder table new × HasAbove new to t
       by_table v same above below = subst (λ n. IsUnder table n × HasAbove n to t) same (under_with to v table above, record { state = v; there = here v; below = below })
 
-      by_meeting : (x : State) → table to ≡ Some x → (r : Result State StateCode) → meeting x t ≡ r → (with_place to r >>= λ v. Ok (with_state to v table)) ≡ Ok new → IsUnder table new × HasAbove new to t
+      by_meeting : (x : State) → table to ≡ Some x → (r : Result State StateCode) → meeting x t ≡ r →
+          (with_place to r >>= λ v. Ok (with_state to v table)) ≡ Ok new → IsUnder table new × HasAbove new to t
       by_meeting x stood (Err c) m is = cc
       by_meeting x stood (Ok v) m is =
           let made = met_is image are good is_join IsEdge MayOccur lone states x t v m in
@@ -98,10 +99,25 @@ module _ (image : ImageValue) (are : All IsRow image.loops) (good : All (IsGood 
       by_target : (s t : State) → table e.0.at ≡ Some s → outcome_of image e s ≡ Ok t → (o : Option ℕ) → target_of image e ≡ o → enter o t table ≡ Ok new → HasGone e table new
       by_target s t there gives None goes is =
           let same : table ≡ new = same_Ok _ _ is in
-          record { under = subst (IsUnder table) same (under_self table); respects = λ u also. (t, ap (outcome_of image e) (same_Some u s (sym also ∙ there)) ∙ gives, λ to goes_too. absurd (let no : None ≡ Some to = sym goes ∙ goes_too in cc)) }
+          record {
+            under = subst (IsUnder table) same (under_self table);
+            respects = λ u also. (
+              t,
+              ap (outcome_of image e) (same_Some u s (sym also ∙ there)) ∙ gives,
+              λ to goes_too. absurd (let no : None ≡ Some to = sym goes ∙ goes_too in cc),
+            );
+          }
       by_target s t there gives (Some to) goes is =
           let done = arrived to t table new kept (states.after e s t to is_e (kept.stand e.0.at s there) goes gives) is in
-          record { under = done.0; respects = λ u also. (t, ap (outcome_of image e) (same_Some u s (sym also ∙ there)) ∙ gives, λ x goes_too. subst (λ y. HasAbove new y t) (same_Some to x (sym goes ∙ goes_too)) done.1) }
+          record {
+            under = done.0;
+            respects = λ u also. (
+              t,
+              ap (outcome_of image e) (same_Some u s (sym also ∙ there)) ∙
+                  gives,
+              λ x goes_too. subst (λ y. HasAbove new y t) (same_Some to x (sym goes ∙ goes_too)) done.1,
+            );
+          }
 
       by_outcome : (s : State) → table e.0.at ≡ Some s → (r : Result State StateFault) → outcome_of image e s ≡ r → (r >>= λ t. enter (target_of image e) t table) ≡ Ok new → HasGone e table new
       by_outcome s there (Ok t) gives is = by_target s t there gives (target_of image e) refl is
@@ -120,11 +136,14 @@ module _ (image : ImageValue) (are : All IsRow image.loops) (good : All (IsGood 
       by_answer (Ok t) e h = let same : t ≡ new = cc in subst HasTrails same h
       by_answer (Err f) e h = cc
 
-  pub tables_rise : (es : List (Placed × Edge)) → ((i : ℕ) (e : Placed × Edge) → slice_get es i ≡ Some e → IsEdge e) → (table new : Table) → HasTrails table → along_edges image es table ≡ Ok new → IsUnder table new
+  pub tables_rise : (es : List (Placed × Edge)) → ((i : ℕ) (e : Placed × Edge) → slice_get es i ≡ Some e → IsEdge e) →
+      (table new : Table) → HasTrails table → along_edges image es table ≡ Ok new → IsUnder table new
   tables_rise [] edges table new kept is = subst (IsUnder table) (same_Ok _ _ is) (under_self table)
   tables_rise (e ∷ more) edges table new kept is = by_answer (go_along image e.0 e.1 (table e.0.at) table) refl is (tables_rise more (λ i f is. edges (suc i) f is))
     where
-      by_answer : (r : Result Table StateFault) → go_along image e.0 e.1 (table e.0.at) table ≡ r → (r >>= along_edges image more) ≡ Ok new → ((t n : Table) → HasTrails t → along_edges image more t ≡ Ok n → IsUnder t n) → IsUnder table new
+      by_answer : (r : Result Table StateFault) → go_along image e.0 e.1 (table e.0.at) table ≡ r →
+          (r >>= along_edges image more) ≡ Ok new → ((t n : Table) → HasTrails t → along_edges image more t ≡ Ok n →
+          IsUnder t n) → IsUnder table new
       by_answer (Ok t) first is go = under_trans table t new (has_gone e (edges 0 e refl) table t kept first).under (go t new (kept_on e (edges 0 e refl) table t kept first) is)
       by_answer (Err f) first is go = cc
 

@@ -1,5 +1,7 @@
 -- What a table becomes where a state reaches an address.
-use Rattle.std.proofs.Common.{◌≡◌, ℕ, zero, suc, ◌<◌, ◌==◌, nat_eq, if◌then◌else◌, Bool, true, false, List, [], ◌∷◌, length, replicate, ◌++◌, slice_set, slice_index_or, Option, Some, None, Result, Ok, Err, refl, sym, ap, ◌∙◌, subst, arith}
+use Rattle.std.proofs.Common.{◌≡◌, ℕ, zero, suc, ◌<◌, ◌==◌, nat_eq, if◌then◌else◌, Bool, true, false, List, [], ◌∷◌}
+use Rattle.std.proofs.Common.{length, replicate, ◌++◌, slice_set, slice_index_or, Option, Some, None, Result, Ok, Err}
+use Rattle.std.proofs.Common.{refl, sym, ap, ◌∙◌, subst, arith}
 use mathlib.Core.Path.{fun_ext}
 use Rattle.std.specs.Option.{option_and_then}
 use Rattle.std.proofs.lemmas.Bool.Decides.{nat_tests}
@@ -55,17 +57,26 @@ table_set states i t h = fun_ext λ x. set_there states i t x h
 
 -- ---- a state reaches an address
 
-pub enter_gives : (states : List (Option State)) (i : ℕ) (there new : Option State) (s : State) (r : Result Bool StateFault) → i < length states → there ≡ slice_index_or states i None → GivesState r new (with_place i (meeting_if_any there s)) → Gives r (table_of (slice_set states i new)) (enter (Some i) s (table_of states))
+pub enter_gives : (states : List (Option State)) (i : ℕ) (there new : Option State) (s : State)
+    (r : Result Bool StateFault) → i < length states → there ≡ slice_index_or states i None →
+    GivesState r new (with_place i (meeting_if_any there s)) →
+    Gives r (table_of (slice_set states i new)) (enter (Some i) s (table_of states))
 unfolding enter
 enter_gives states i there new s r h is given = by_answer r (with_place i (meeting_if_any there s)) (ap (λ o. with_place i (meeting_if_any o s)) (table_at states i h ∙ sym is)) given
   where
-    by_answer : (r : Result Bool StateFault) (wanted : Result State StateFault) → with_place i (meeting_if_any (table_of states i) s) ≡ wanted → GivesState r new wanted → Gives r (table_of (slice_set states i new)) (with_place i (meeting_if_any (table_of states i) s) >>= (λ t. Ok (with_state i t (table_of states))))
-    by_answer (Ok x) wanted e (t, new_is, gives) = ap (λ r. r >>= (λ t. Ok (with_state i t (table_of states)))) (e ∙ gives) ∙ ap Ok (sym (table_set states i t h) ∙ ap (λ o. table_of (slice_set states i o)) (sym new_is))
+    by_answer : (r : Result Bool StateFault) (wanted : Result State StateFault) →
+        with_place i (meeting_if_any (table_of states i) s) ≡ wanted → GivesState r new wanted →
+        Gives r (table_of (slice_set states i new)) (with_place i (meeting_if_any (table_of states i) s)
+        >>= (λ t. Ok (with_state i t (table_of states))))
+    by_answer (Ok x) wanted e (t, new_is, gives) = ap (λ r. r >>= (λ t. Ok (with_state i t (table_of states))))
+        (e ∙ gives) ∙ ap Ok (sym (table_set states i t h) ∙ ap (λ o. table_of (slice_set states i o)) (sym new_is))
     by_answer (Err (Refused code place)) wanted e gives = ap (λ r. r >>= (λ t. Ok (with_state i t (table_of states)))) (e ∙ gives)
     by_answer (Err Memory) wanted e gives = tt
 
 -- a list reports a change where an address does
-set_tells : (states : List (Option State)) (i : ℕ) (there new : Option State) (moved : Bool) → i < length states → there ≡ slice_index_or states i None → ReportsChange moved there new → ReportsChange moved states (slice_set states i new)
+set_tells : (states : List (Option State)) (i : ℕ) (there new : Option State) (moved : Bool) → i < length states →
+    there ≡ slice_index_or states i None → ReportsChange moved there new →
+    ReportsChange moved states (slice_set states i new)
 set_tells states i there new moved h is reports = record {
   stays = λ same. ap (slice_set states i) (reports.stays same ∙ is) ∙ set-get_or states i None;
   moves = λ differs same. reports.moves differs (sym (get_or-set_same states i new None h) ∙ ap (λ items. slice_index_or items i None) same ∙ sym is);
@@ -87,7 +98,9 @@ same_lists (x ∷ xs) (y ∷ ys) sized each =
     ap (λ o. o ∷ xs) first ∙ ap (λ items. y ∷ items) others
 
 -- where a state reaches an address, the table is as before or has fewer changes left
-pub enter_sinks : (image : ImageValue) (states : List (Option State)) (to : ℕ) (s t : State) → to < length states → HasWords s → length s.cells ≡ image.workspace → IfSome (table_of states to) (λ u. length s.cells ≡ length u.cells) → Becomes (table_of states to) s t
+pub enter_sinks : (image : ImageValue) (states : List (Option State)) (to : ℕ) (s t : State) → to < length states →
+    HasWords s → length s.cells ≡ image.workspace → IfSome (table_of states to) (λ u. length s.cells ≡ length u.cells) →
+    Becomes (table_of states to) s t
     → Sinks (table_height image) states (slice_set states to (Some t))
 enter_sinks image states to s t inside words long sized becomes = by_state (table_of states to) refl sized becomes
   where
@@ -103,9 +116,17 @@ enter_sinks image states to s t inside words long sized becomes = by_state (tabl
         by_sink (inr less) = inr (table_sinks image states to (Some t) inside (rw (there_is ∙ is, same) less))
 
 -- so a list that reports a change has fewer changes left
-pub enter_moves : (image : ImageValue) (moved : Bool) (old new : List (Option State)) (to : ℕ) (s : State) → to < length old → length new ≡ length old → enter (Some to) s (table_of old) ≡ Ok (table_of new) → ReportsChange moved old new → HasWords s → length s.cells ≡ image.workspace
+pub enter_moves : (image : ImageValue) (moved : Bool) (old new : List (Option State)) (to : ℕ) (s : State) →
+    to < length old → length new ≡ length old → enter (Some to) s (table_of old) ≡ Ok (table_of new) →
+    ReportsChange moved old new → HasWords s → length s.cells ≡ image.workspace
     → IfSome (table_of old to) (λ u. length s.cells ≡ length u.cells) → Moves image moved old new
-enter_moves image moved old new to s inside sized gives reports words long alike = record { sized = sized; stays = reports.stays; falls = λ differs. by_sink differs (subst (Sinks (table_height image) old) (sym set) sinks) }
+enter_moves image moved old new to s inside sized gives reports words long alike =
+    record {
+      sized = sized;
+      stays = reports.stays;
+      falls = λ differs. by_sink differs
+          (subst (Sinks (table_height image) old) (sym set) sinks);
+    }
   where
     it : Entered (table_of old) to s (table_of new)
     it = entered (table_of old) to s (table_of new) gives

@@ -31,7 +31,10 @@ unfolding enter
 enter_none t table = refl
 
 -- an outcome is a state at the target
-pub arrives_at : (image : ImageValue) (p : Placed) (edge : Edge) (places to : ℕ) (table : Table) (s v : State) → MayBeTaken image places p → HasGrown image table → table p.at ≡ Some s → after image p.at p.next p.instr edge s ≡ Ok v → IsPlaced image v → target (ranges image.loops) p.at p.next p.instr edge ≡ Some to → IsPlacedAt image to v
+pub arrives_at : (image : ImageValue) (p : Placed) (edge : Edge) (places to : ℕ) (table : Table) (s v : State) →
+    MayBeTaken image places p → HasGrown image table → table p.at ≡ Some s →
+    after image p.at p.next p.instr edge s ≡ Ok v → IsPlaced image v →
+    target (ranges image.loops) p.at p.next p.instr edge ≡ Some to → IsPlacedAt image to v
 arrives_at image p edge places to table s v may grown here goes inside leads =
     let before = grown.states p.at s here in
     record { placed = inside; live = live_after image p.at p.next p.instr edge to s v may.around before.placed before.live leads goes }

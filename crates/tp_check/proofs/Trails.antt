@@ -43,7 +43,9 @@ module _ (image : ImageValue) (are : All IsRow image.loops) (good : All (IsGood 
   -- outcomes rise with what is known before
   pub rises : (e : Placed × Edge) (s t u v : State) → IsSound image s → IsBelow s t → outcome_of image e s ≡ Ok u → outcome_of image e t ≡ Ok v → IsBelow u v
   rises e s t u v sound below was is =
-      by_answers (after image e.0.at e.0.next e.0.instr e.1 s) (after image e.0.at e.0.next e.0.instr e.1 t) (after_follows image are good e.0.at e.0.next e.0.instr e.1 s t sound below) (placed_ok e.0.at _ u was) (placed_ok e.0.at _ v is)
+      by_answers (after image e.0.at e.0.next e.0.instr e.1 s) (after image e.0.at e.0.next e.0.instr e.1 t)
+      (after_follows image are good e.0.at e.0.next e.0.instr e.1 s t sound below) (placed_ok e.0.at _ u was)
+      (placed_ok e.0.at _ v is)
     where
       by_answers : (r q : Result State StateCode) → Follows IsBelow r q → r ≡ Ok u → q ≡ Ok v → IsBelow u v
       by_answers (Ok x) (Ok y) h f g = let a : x ≡ u = cc in let b : y ≡ v = cc in subst (λ z. IsBelow z v) a (subst (IsBelow x) b h)
@@ -91,10 +93,21 @@ module _ (image : ImageValue) (are : All IsRow image.loops) (good : All (IsGood 
       trail_at at s lone_at false e is =
           let t = h.trail at s lone_at is in
           let after_it = still t.edge.0.at t.now (t.edge.0.at == to) refl t.there in
-          record { edge = t.edge; is = t.is; goes = t.goes; now = after_it.0; there = after_it.1; old = t.old; stood = t.stood; below = is_below-trans t.old t.now after_it.0 t.below after_it.2; gave = t.gave }
+          record {
+            edge = t.edge;
+            is = t.is;
+            goes = t.goes;
+            now = after_it.0;
+            there = after_it.1;
+            old = t.old;
+            stood = t.stood;
+            below = is_below-trans t.old t.now after_it.0 t.below after_it.2;
+            gave = t.gave;
+          }
 
   -- the outcome that takes a lone target is above what stood there
-  above_old : (e : Placed × Edge) → IsEdge e → (to : ℕ) → target_of image e ≡ Some to → is_join to ≡ false → (table : Table) → Trails table → (s t : State) → table e.0.at ≡ Some s → outcome_of image e s ≡ Ok t
+  above_old : (e : Placed × Edge) → IsEdge e → (to : ℕ) → target_of image e ≡ Some to → is_join to ≡ false →
+      (table : Table) → Trails table → (s t : State) → table e.0.at ≡ Some s → outcome_of image e s ≡ Ok t
       → (u : State) → table to ≡ Some u → IsBelow u t
   above_old e is_e to goes lone_to table h s t there gives u stood =
       let trail = h.trail to u lone_to stood in
@@ -112,7 +125,9 @@ module _ (image : ImageValue) (are : All IsRow image.loops) (good : All (IsGood 
   pub met_is : (x t v : State) → meeting x t ≡ Ok v → (x.wptr ≡ t.wptr) × (x.phase ≡ t.phase) × (v ≡ join x t)
   met_is x t v is = by_tests (x.wptr == t.wptr) refl (x.phase == t.phase) refl is
     where
-      by_tests : (p : Bool) → (x.wptr == t.wptr) ≡ p → (q : Bool) → (x.phase == t.phase) ≡ q → (unless S6 p >> (unless S9 q >> Ok (join x t))) ≡ Ok v → (x.wptr ≡ t.wptr) × (x.phase ≡ t.phase) × (v ≡ join x t)
+      by_tests : (p : Bool) → (x.wptr == t.wptr) ≡ p → (q : Bool) → (x.phase == t.phase) ≡ q →
+          (unless S6 p >> (unless S9 q >> Ok (join x t))) ≡ Ok v → (x.wptr ≡ t.wptr) × (x.phase ≡ t.phase) ×
+          (v ≡ join x t)
       by_tests true e true f is = ((Decides-eqb x.wptr t.wptr).0 e, (Decides-eqb x.phase t.phase).0 f, sym (same_Ok _ _ is))
       by_tests true e false f is = cc
       by_tests false e q f is = cc
@@ -171,12 +186,16 @@ module _ (image : ImageValue) (are : All IsRow image.loops) (good : All (IsGood 
     arrives None goes = (enter_none t table, h)
     arrives (Some to) goes = by_test (is_join to) refl
       where
-        by_test : (b : Bool) → is_join to ≡ b → (enter (Some to) t table ≡ (if b then enter (Some to) t table else Ok (with_state to t table))) × IfOk (if b then enter (Some to) t table else Ok (with_state to t table)) Trails
+        by_test : (b : Bool) → is_join to ≡ b → (enter (Some to) t table ≡
+            (if b then enter (Some to) t table else Ok (with_state to t table))) ×
+            IfOk (if b then enter (Some to) t table else Ok (with_state to t table)) Trails
         by_test true joined = (refl, joined_target to goes joined)
         by_test false lone_to = lone_target to goes lone_to
 
   -- an edge does the same whichever way
-  pub one_edge : (e : Placed × Edge) → IsEdge e → (table : Table) → Trails table → (go_along image e.0 e.1 (table e.0.at) table ≡ go_over image is_join e (table e.0.at) table) × IfOk (go_over image is_join e (table e.0.at) table) Trails
+  pub one_edge : (e : Placed × Edge) → IsEdge e → (table : Table) → Trails table →
+      (go_along image e.0 e.1 (table e.0.at) table ≡ go_over image is_join e (table e.0.at) table) ×
+      IfOk (go_over image is_join e (table e.0.at) table) Trails
   unfolding go_along
   one_edge e is_e table h = by_state (table e.0.at) refl
     where
@@ -191,7 +210,9 @@ module _ (image : ImageValue) (are : All IsRow image.loops) (good : All (IsGood 
 
   -- ---- a pass
 
-  pub edge_by_edge : (es : List (Placed × Edge)) → ((i : ℕ) (e : Placed × Edge) → slice_get es i ≡ Some e → IsEdge e) → (table : Table) → Trails table → (along_edges image es table ≡ over image is_join es table) × IfOk (over image is_join es table) Trails
+  pub edge_by_edge : (es : List (Placed × Edge)) → ((i : ℕ) (e : Placed × Edge) → slice_get es i ≡ Some e → IsEdge e) →
+      (table : Table) → Trails table → (along_edges image es table ≡ over image is_join es table) ×
+      IfOk (over image is_join es table) Trails
   edge_by_edge [] edges table h = (refl, h)
   edge_by_edge (e ∷ more) edges table h =
       let first = one_edge e (edges 0 e refl) table h in

@@ -1,5 +1,7 @@
 -- An instruction's turn in a pass begins, or it is passed by.
-use Rattle.std.proofs.Common.{◌≡◌, ◌≢◌, ℕ, suc, ◌<◌, ◌⊎◌, inl, inr, Bool, true, false, List, [], ◌∷◌, length, Option, Some, None, Result, Ok, Err, refl, sym, ap, ◌∙◌, subst, rules, length-set, get_or-set_other}
+use Rattle.std.proofs.Common.{◌≡◌, ◌≢◌, ℕ, suc, ◌<◌, ◌⊎◌, inl, inr, Bool, true, false, List, [], ◌∷◌, length, Option}
+use Rattle.std.proofs.Common.{Some, None, Result, Ok, Err, refl, sym, ap, ◌∙◌, subst, rules, length-set}
+use Rattle.std.proofs.Common.{get_or-set_other}
 use Rattle.std.specs.Prelude.{IfSome}
 use Rattle.std.proofs.lemmas.Bool.{cases_eq}
 use Rattle.tp_decode.specs.declared.placed.Placed.{Placed}
@@ -24,7 +26,9 @@ use Rattle.tp_check.proofs.Waiting.{waiting, marked_waits, repeating, taken_repe
 
 -- ---- edges that change nothing
 
-pub over_one : (image : ImageValue) (is_join : ℕ → Bool) (e : Placed × Edge) (more : List (Placed × Edge)) (table : Table) → over image is_join (e ∷ more) table ≡ (over image is_join (e ∷ []) table >>= over image is_join more)
+pub over_one : (image : ImageValue) (is_join : ℕ → Bool) (e : Placed × Edge) (more : List (Placed × Edge))
+    (table : Table) → over image is_join (e ∷ more) table ≡
+    (over image is_join (e ∷ []) table >>= over image is_join more)
 over_one image is_join e more table = in_turn (go_over image is_join e (table e.0.at) table)
   where
     in_turn : (r : Result Table StateFault) → (r >>= over image is_join more) ≡ ((r >>= over image is_join []) >>= over image is_join more)
@@ -36,11 +40,14 @@ module _ (image : ImageValue) (is_join : ℕ → Bool) (table : Table) where
   pub edge_stays : (p : Placed) (edge : Edge) → IsDone image is_join table (p, edge) → over image is_join ((p, edge) ∷ []) table ≡ Ok table
   edge_stays p edge done = by_state (table p.at) refl
     where
-      by_join : (s : State) (here : table p.at ≡ Some s) (r : IsPropagated image is_join table (p, edge) s) (to : ℕ) → target_of image (p, edge) ≡ Some to → (b : Bool) → is_join to ≡ b → over image is_join ((p, edge) ∷ []) table ≡ Ok table
+      by_join : (s : State) (here : table p.at ≡ Some s) (r : IsPropagated image is_join table (p, edge) s) (to : ℕ) →
+          target_of image (p, edge) ≡ Some to → (b : Bool) → is_join to ≡ b →
+          over image is_join ((p, edge) ∷ []) table ≡ Ok table
       by_join s here r to leads true e = over_joined image is_join p edge table s here r.outcome r.goes_on to leads e ∙ enters_below table to r.outcome ((r.arrives to leads).joined e)
       by_join s here r to leads false e = over_alone image is_join p edge table s here r.outcome r.goes_on to leads e ∙ ap Ok (same_there table to r.outcome ((r.arrives to leads).alone e))
 
-      by_target : (s : State) (here : table p.at ≡ Some s) (r : IsPropagated image is_join table (p, edge) s) (o : Option ℕ) → target_of image (p, edge) ≡ o → over image is_join ((p, edge) ∷ []) table ≡ Ok table
+      by_target : (s : State) (here : table p.at ≡ Some s) (r : IsPropagated image is_join table (p, edge) s)
+          (o : Option ℕ) → target_of image (p, edge) ≡ o → over image is_join ((p, edge) ∷ []) table ≡ Ok table
       by_target s here r None leads = over_nowhere image is_join p edge table s here r.outcome r.goes_on leads
       by_target s here r (Some to) leads = by_join s here r to leads (is_join to) refl
 
@@ -65,7 +72,8 @@ pub record IsReady (image : ImageValue) (is_join : ℕ → Bool) (old mid : Pass
   pub quiet : mid.is_carried ≡ false → waits is_join old at at ≡ true → whole at ≡ None
   pub rests : mid.is_carried ≡ false → mid.taken.items ≡ old.taken.items
 
-module _ (image : ImageValue) (cuts : List Cut) (is_join : ℕ → Bool) (old mid : Passes) (at : ℕ) (whole : Table) (before : IsBefore image cuts is_join old at whole) (inside : at < length old.states.items) where
+module _ (image : ImageValue) (cuts : List Cut) (is_join : ℕ → Bool) (old mid : Passes) (at : ℕ) (whole : Table)
+    (before : IsBefore image cuts is_join old at whole) (inside : at < length old.states.items) where
   ready_joined : is_join at ≡ true → IsStarted at old mid → IsReady image is_join old mid at whole
   ready_joined is st = record {
     keeps = record {
@@ -130,20 +138,26 @@ module _ (image : ImageValue) (cuts : List Cut) (is_join : ℕ → Bool) (old mi
       by_join false e = subst (λ p. IsReady image is_join old p at whole) (sym (other e)) (ready_alone e)
 
 -- a state that is carried to where edges join is below the one that is kept there
-pub rises_to : (image : ImageValue) (cuts : List Cut) (is_join : ℕ → Bool) (p : Passes) (at : ℕ) (whole : Table) → IsBefore image cuts is_join p at whole → is_join at ≡ true → p.is_carried ≡ true → IfSome (table_of p.states.items at) (IsBelow p.carried)
+pub rises_to : (image : ImageValue) (cuts : List Cut) (is_join : ℕ → Bool) (p : Passes) (at : ℕ) (whole : Table) →
+    IsBefore image cuts is_join p at whole → is_join at ≡ true → p.is_carried ≡ true →
+    IfSome (table_of p.states.items at) (IsBelow p.carried)
 rises_to image cuts is_join p at whole before is on =
     let above = (before.here on).joined is in
     subst (λ o. IfSome o (IsBelow p.carried)) (sym above.there ∙ before.way.keeps.states at is) above.below
 
 -- a state that is kept has as many words as the one that is carried
-pub as_long : (image : ImageValue) (is_join : ℕ → Bool) (p : Passes) (whole : Table) → KeepsWhole image is_join p whole → (at : ℕ) → is_join at ≡ true → IfSome (table_of p.states.items at) (λ s. length s.cells ≡ length p.carried.cells)
+pub as_long : (image : ImageValue) (is_join : ℕ → Bool) (p : Passes) (whole : Table) →
+    KeepsWhole image is_join p whole → (at : ℕ) → is_join at ≡ true →
+    IfSome (table_of p.states.items at) (λ s. length s.cells ≡ length p.carried.cells)
 as_long image is_join p whole keeps at is = by_state (table_of p.states.items at) refl
   where
     by_state : (o : Option State) → table_of p.states.items at ≡ o → IfSome o (λ s. length s.cells ≡ length p.carried.cells)
     by_state None e = search rules
     by_state (Some s) e = (keeps.grown.states at s (keeps.states at is ∙ e)).placed.sized ∙ sym keeps.carried.sized
 
-module _ (image : ImageValue) (cuts : List Cut) (is_join : ℕ → Bool) (old mid : Passes) (place : Placed) (stands : IsInCode cuts place) (whole : Table) (before : IsBefore image cuts is_join old place.at whole) (now : IsReady image is_join old mid place.at whole) where
+module _ (image : ImageValue) (cuts : List Cut) (is_join : ℕ → Bool) (old mid : Passes) (place : Placed)
+    (stands : IsInCode cuts place) (whole : Table) (before : IsBefore image cuts is_join old place.at whole)
+    (now : IsReady image is_join old mid place.at whole) where
   source : (e : Placed × Edge) → IsAmong (edges_of place) e → e.0.at ≡ place.at
   source e among = ap (λ (p : Placed). p.at) (ways_at place (asked place.instr) e among)
 
@@ -174,11 +188,15 @@ module _ (image : ImageValue) (cuts : List Cut) (is_join : ℕ → Bool) (old mi
         by_case other (inl (joins, on)) = inl (other, joins, now.marks e.0.at other ∙ on)
         by_case other (inr (alone, same, on)) = absurd (other same)
 
-        by_place : waits is_join old place.at e.0.at ≡ true → (e.0.at ≡ place.at) ⊎ (e.0.at ≡ place.at → ⊥) → ((e.0.at ≢ place.at) × (is_join e.0.at ≡ true) × (is_in mid.changed.items e.0.at ≡ true)) ⊎ IsDone image is_join whole e
+        by_place : waits is_join old place.at e.0.at ≡ true → (e.0.at ≡ place.at) ⊎ (e.0.at ≡ place.at → ⊥) →
+            ((e.0.at ≢ place.at) × (is_join e.0.at ≡ true) × (is_in mid.changed.items e.0.at ≡ true)) ⊎ IsDone image
+            is_join whole e
         by_place on (inl same) = inr (nothing same on)
         by_place on (inr other) = by_case other (waiting is_join old place.at e.0.at on)
 
-        by_old : Waits is_join old [] place.at e ⊎ IsDone image is_join whole e → ((e.0.at ≢ place.at) × (is_join e.0.at ≡ true) × (is_in mid.changed.items e.0.at ≡ true)) ⊎ IsDone image is_join whole e
+        by_old : Waits is_join old [] place.at e ⊎ IsDone image is_join whole e →
+            ((e.0.at ≢ place.at) × (is_join e.0.at ≡ true) × (is_in mid.changed.items e.0.at ≡ true)) ⊎ IsDone image
+            is_join whole e
         by_old (inl (inl left)) = absurd (none_left e left)
         by_old (inl (inr on)) = by_place on (cases_eq e.0.at place.at)
         by_old (inr done) = inr done
@@ -205,17 +223,24 @@ module _ (image : ImageValue) (cuts : List Cut) (is_join : ℕ → Bool) (old mi
       },
     )
       where
-        each : (e : Placed × Edge) → ((e.0.at ≢ place.at) × (is_join e.0.at ≡ true) × (is_in mid.changed.items e.0.at ≡ true)) ⊎ IsDone image is_join whole e → Waits is_join mid [] place.next e ⊎ IsDone image is_join whole e
+        each : (e : Placed × Edge) → ((e.0.at ≢ place.at) × (is_join e.0.at ≡ true) ×
+            (is_in mid.changed.items e.0.at ≡ true)) ⊎ IsDone image is_join whole e →
+            Waits is_join mid [] place.next e ⊎ IsDone image is_join whole e
         each e (inl (other, joins, on)) = inl (inr (marked_waits is_join mid place.next e.0.at joins on))
         each e (inr done) = inr done
 
-        by_case : (e : Placed × Edge) → ((is_join e.0.at ≡ true) × (is_in mid.taken.items e.0.at ≡ true)) ⊎ ((is_join e.0.at ≡ false) × (e.0.at ≡ place.next) × (mid.is_carried ≡ true) × (mid.is_again ≡ true)) → repeats is_join old place.at e.0.at ≡ true
+        by_case : (e : Placed × Edge) → ((is_join e.0.at ≡ true) × (is_in mid.taken.items e.0.at ≡ true)) ⊎
+            ((is_join e.0.at ≡ false) × (e.0.at ≡ place.next) × (mid.is_carried ≡ true) × (mid.is_again ≡ true)) →
+            repeats is_join old place.at e.0.at ≡ true
         by_case e (inl (joins, taken)) = taken_repeats is_join old place.at e.0.at joins (sym (ap (λ items. is_in items e.0.at) (now.rests rests)) ∙ taken)
         by_case e (inr (alone, same, on, again)) = absurd (let no : true ≡ false = sym on ∙ rests in cc)
 
   -- ---- a state is carried
 
-  module _ (new : Passes) (states : new.states.items ≡ mid.states.items) (changed : new.changed.items ≡ mid.changed.items) (carried : new.carried ≡ mid.carried) (takes : new.taken.items ≡ mid.taken.items) (is_again : new.is_again ≡ mid.is_again) (rests : new.is_carried ≡ false) (on : mid.is_carried ≡ true) where
+  module _ (new : Passes) (states : new.states.items ≡ mid.states.items)
+      (changed : new.changed.items ≡ mid.changed.items) (carried : new.carried ≡ mid.carried)
+      (takes : new.taken.items ≡ mid.taken.items) (is_again : new.is_again ≡ mid.is_again)
+      (rests : new.is_carried ≡ false) (on : mid.is_carried ≡ true) where
     pub begun : IsUnderWay image cuts is_join new (edges_of place) place.next whole
     begun = record {
       keeps = record {
@@ -231,23 +256,33 @@ module _ (image : ImageValue) (cuts : List Cut) (is_join : ℕ → Bool) (old mi
       left_again = λ sure e among. was e (stands.all e among) (ap (repeats is_join old place.at) (source e among) ∙ now.again on (sym is_again ∙ sure));
     }
       where
-        by_case : (e : Placed × Edge) → IsAmong (edges_in cuts) e → e.0.at ≢ place.at → ((is_join e.0.at ≡ true) × (is_in old.changed.items e.0.at ≡ true)) ⊎ ((is_join e.0.at ≡ false) × (e.0.at ≡ place.at) × (old.is_carried ≡ true)) → Waits is_join new (edges_of place) place.next e
+        by_case : (e : Placed × Edge) → IsAmong (edges_in cuts) e → e.0.at ≢ place.at →
+            ((is_join e.0.at ≡ true) × (is_in old.changed.items e.0.at ≡ true)) ⊎
+            ((is_join e.0.at ≡ false) × (e.0.at ≡ place.at) × (old.is_carried ≡ true)) →
+            Waits is_join new (edges_of place) place.next e
         by_case e among other (inl (joins, on_flag)) = inr (marked_waits is_join new place.next e.0.at joins (ap (λ items. is_in items e.0.at) changed ∙ now.marks e.0.at other ∙ on_flag))
         by_case e among other (inr (alone, same, carried)) = absurd (other same)
 
-        by_place : (e : Placed × Edge) → IsAmong (edges_in cuts) e → waits is_join old place.at e.0.at ≡ true → (e.0.at ≡ place.at) ⊎ (e.0.at ≡ place.at → ⊥) → Waits is_join new (edges_of place) place.next e
+        by_place : (e : Placed × Edge) → IsAmong (edges_in cuts) e → waits is_join old place.at e.0.at ≡ true →
+            (e.0.at ≡ place.at) ⊎ (e.0.at ≡ place.at → ⊥) → Waits is_join new (edges_of place) place.next e
         by_place e among is (inl same) = inl (stands.only e among same)
         by_place e among is (inr other) = by_case e among other (waiting is_join old place.at e.0.at is)
 
-        by_old : (e : Placed × Edge) → IsAmong (edges_in cuts) e → Waits is_join old [] place.at e ⊎ IsDone image is_join whole e → Waits is_join new (edges_of place) place.next e ⊎ IsDone image is_join whole e
+        by_old : (e : Placed × Edge) → IsAmong (edges_in cuts) e →
+            Waits is_join old [] place.at e ⊎ IsDone image is_join whole e →
+            Waits is_join new (edges_of place) place.next e ⊎ IsDone image is_join whole e
         by_old e among (inl (inl left)) = absurd (none_left e left)
         by_old e among (inl (inr is)) = inl (by_place e among is (cases_eq e.0.at place.at))
         by_old e among (inr done) = inr done
 
         by_repeat : (e : Placed × Edge) → IsAmong (edges_in cuts) e → (e.0.at ≡ place.at) ⊎ (e.0.at ≡ place.at → ⊥)
-            → ((is_join e.0.at ≡ true) × (is_in new.taken.items e.0.at ≡ true)) ⊎ ((is_join e.0.at ≡ false) × (e.0.at ≡ place.next) × (new.is_carried ≡ true) × (new.is_again ≡ true)) → IsAmong (edges_of place) e ⊎ WasTaken image is_join whole e
+            → ((is_join e.0.at ≡ true) × (is_in new.taken.items e.0.at ≡ true)) ⊎
+            ((is_join e.0.at ≡ false) × (e.0.at ≡ place.next) × (new.is_carried ≡ true) × (new.is_again ≡ true)) →
+            IsAmong (edges_of place) e ⊎ WasTaken image is_join whole e
         by_repeat e among (inl same) is = inl (stands.only e among same)
-        by_repeat e among (inr other) (inl (joins, taken)) = inr (was e among (taken_repeats is_join old place.at e.0.at joins (sym (now.takes e.0.at other) ∙ sym (ap (λ items. is_in items e.0.at) takes) ∙ taken)))
+        by_repeat e among (inr other) (inl (joins, taken)) =
+            inr (was e among (taken_repeats is_join old place.at e.0.at joins
+            (sym (now.takes e.0.at other) ∙ sym (ap (λ items. is_in items e.0.at) takes) ∙ taken)))
         by_repeat e among (inr other) (inr (alone, same, sure, again)) = absurd (let no : true ≡ false = sym sure ∙ rests in cc)
 
     abbrev pub begins : AreJoins image cuts is_join → AreLeft image is_join new place (asked place.instr)

@@ -24,7 +24,9 @@ use Rattle.tp_check.proofs.Waiting.{leads_there}
 -- ---- one edge after the other
 
 -- whatever is carried
-pub way_with : (image : ImageValue) (cuts : List Cut) (is_join : ℕ → Bool) (p : Passes) (left : List (Placed × Edge)) (ahead : ℕ) (whole : Table) (x : State) → IsPlaced image x → IsUnderWay image cuts is_join p left ahead whole → IsUnderWay image cuts is_join (record p { carried = x }) left ahead whole
+pub way_with : (image : ImageValue) (cuts : List Cut) (is_join : ℕ → Bool) (p : Passes) (left : List (Placed × Edge))
+    (ahead : ℕ) (whole : Table) (x : State) → IsPlaced image x → IsUnderWay image cuts is_join p left ahead whole →
+    IsUnderWay image cuts is_join (record p { carried = x }) left ahead whole
 way_with image cuts is_join p left ahead whole x fits way = record {
   keeps = record { flags = way.keeps.flags; takes = way.keeps.takes; carried = fits; states = way.keeps.states; grown = way.keeps.grown; sound = way.keeps.sound };
   each = way.each;
@@ -33,7 +35,9 @@ way_with image cuts is_join p left ahead whole x fits way = record {
 }
 
 -- an edge that leads to the next instruction was taken last, or it was not
-came_on : (image : ImageValue) (cuts : List Cut) (is_join : ℕ → Bool) (old new : Passes) (place : Placed) (edge : Edge) (later : List Edge) (whole table : Table) → IsAfterEdge image cuts is_join old new place edge later whole table → old.is_carried ≡ false → new.is_carried ≡ true
+came_on : (image : ImageValue) (cuts : List Cut) (is_join : ℕ → Bool) (old new : Passes) (place : Placed) (edge : Edge)
+    (later : List Edge) (whole table : Table) → IsAfterEdge image cuts is_join old new place edge later whole table →
+    old.is_carried ≡ false → new.is_carried ≡ true
     → target_of image (place, edge) ≡ Some place.next
 came_on image cuts is_join old new place edge later whole table it rests sure = by_target (leads_there (target_of image (place, edge)) place.next)
   where
@@ -45,7 +49,8 @@ pub none_apart : (edge : Edge) → IsApart edge []
 none_apart edge place (i, is) = cc
 
 -- the edges that are left are those that an instruction has
-abbrev pub left_as : (image : ImageValue) (is_join : ℕ → Bool) (p : Passes) (place : Placed) (asks left : List Edge) → asks ≡ left → AreLeft image is_join p place asks → AreLeft image is_join p place left
+abbrev pub left_as : (image : ImageValue) (is_join : ℕ → Bool) (p : Passes) (place : Placed) (asks left : List Edge) →
+    asks ≡ left → AreLeft image is_join p place asks → AreLeft image is_join p place left
 left_as image is_join p place asks left same way = record {
   cuts = way.cuts;
   join = way.join;
@@ -69,17 +74,30 @@ module _ (image : ImageValue) (is_join : ℕ → Bool) (p : Passes) (place : Pla
   over_it : over image is_join (edges_of place) way.whole ≡ over image is_join ((place, edge) ∷ []) way.whole
   over_it = ap (λ ways. over image is_join (edges_from place ways) way.whole) alone
 
-  pub one_done : p.is_carried ≡ false → (new : Passes) (r : Result Bool StateFault) → Carries r (over image is_join ((place, edge) ∷ []) way.whole) (IsAfterEdge image way.cuts is_join p new place edge [] way.whole)
+  pub one_done : p.is_carried ≡ false → (new : Passes) (r : Result Bool StateFault) →
+      Carries r (over image is_join ((place, edge) ∷ []) way.whole)
+      (IsAfterEdge image way.cuts is_join p new place edge [] way.whole)
       → Carries r (over image is_join (edges_of place) way.whole) (IsBefore image way.cuts is_join new place.next)
   one_done rests new (Err (Refused code at)) gives = over_it ∙ gives
   one_done rests new (Err Memory) gives = tt
-  one_done rests new (Ok moved) (table, is, it) = (table, over_it ∙ is, record { way = it.way; here = λ sure. it.arrives place.next (came_on image way.cuts is_join p new place edge [] way.whole table it rests sure) })
+  one_done rests new (Ok moved) (table, is, it) = (
+    table,
+    over_it ∙ is,
+    record {
+      way = it.way;
+      here = λ sure. it.arrives place.next
+          (came_on image way.cuts is_join p new place edge [] way.whole table it rests sure);
+    },
+  )
 
 -- ---- an instruction of two
 
-module _ (image : ImageValue) (is_join : ℕ → Bool) (p : Passes) (place : Placed) (first last : Edge) (two : asked place.instr ≡ first ∷ last ∷ []) (way : AreLeft image is_join p place (asked place.instr)) where
+module _ (image : ImageValue) (is_join : ℕ → Bool) (p : Passes) (place : Placed) (first last : Edge)
+    (two : asked place.instr ≡ first ∷ last ∷ []) (way : AreLeft image is_join p place (asked place.instr)) where
   unlike : first ≢ last
-  unlike same = asked_apart place.instr 0 1 first last (subst (λ ways. 0 < length ways) (sym two) (omega arith)) (subst (λ ways. 1 < length ways) (sym two) (omega arith)) (λ e. cc) (ap (λ ways. slice_index_or ways 0 first) two ∙ same ∙ sym (ap (λ ways. slice_index_or ways 1 last) two))
+  unlike same = asked_apart place.instr 0 1 first last (subst (λ ways. 0 < length ways) (sym two) (omega arith))
+      (subst (λ ways. 1 < length ways) (sym two) (omega arith)) (λ e. cc)
+      (ap (λ ways. slice_index_or ways 0 first) two ∙ same ∙ sym (ap (λ ways. slice_index_or ways 1 last) two))
 
   pub first_apart : IsApart first (last ∷ [])
   first_apart q (zero, is) = unlike (sym (ap (λ (e : Placed × Edge). e.1) (same_Some (q, last) (q, first) is)))
@@ -91,26 +109,34 @@ module _ (image : ImageValue) (is_join : ℕ → Bool) (p : Passes) (place : Pla
   over_two : over image is_join (edges_of place) way.whole ≡ (over image is_join ((place, first) ∷ []) way.whole >>= over image is_join ((place, last) ∷ []))
   over_two = ap (λ ways. over image is_join (edges_from place ways) way.whole) two ∙ over_one image is_join (place, first) ((place, last) ∷ []) way.whole
 
-  pub first_refuses : (e : StateFault) (P Q : Table → Type 0) → Carries {X = Bool} (Err e) (over image is_join ((place, first) ∷ []) way.whole) P → Carries {X = Bool} (Err e) (over image is_join (edges_of place) way.whole) Q
+  pub first_refuses : (e : StateFault) (P Q : Table → Type 0) →
+      Carries {X = Bool} (Err e) (over image is_join ((place, first) ∷ []) way.whole) P →
+      Carries {X = Bool} (Err e) (over image is_join (edges_of place) way.whole) Q
   first_refuses e P Q refuses = then_more e _ (over image is_join ((place, first) ∷ []) way.whole) (over image is_join ((place, last) ∷ [])) P Q over_two refuses
 
   -- ---- after the first edge: what was carried before is carried again
 
-  module _ (fallen : Passes) (middle : Table) (goes : over image is_join ((place, first) ∷ []) way.whole ≡ Ok middle) (it : IsAfterEdge image way.cuts is_join p fallen place first (last ∷ []) way.whole middle) (back : Passes) (is_back : back ≡ record fallen { carried = p.carried }) where
+  module _ (fallen : Passes) (middle : Table) (goes : over image is_join ((place, first) ∷ []) way.whole ≡ Ok middle)
+      (it : IsAfterEdge image way.cuts is_join p fallen place first (last ∷ []) way.whole middle) (back : Passes)
+      (is_back : back ≡ record fallen { carried = p.carried }) where
     abbrev pub on_last : AreLeft image is_join back place (last ∷ [])
     on_last = record {
       cuts = way.cuts;
       join = way.join;
       among = λ e (i, is). on_first.among e (suc i, is);
       whole = middle;
-      way = subst (λ q. IsUnderWay image way.cuts is_join q (edges_from place (last ∷ [])) place.next middle) (sym is_back) (way_with image way.cuts is_join fallen (edges_from place (last ∷ [])) place.next middle p.carried way.way.keeps.carried it.way);
+      way = subst (λ q. IsUnderWay image way.cuts is_join q (edges_from place (last ∷ [])) place.next middle)
+          (sym is_back) (way_with image way.cuts is_join fallen (edges_from place (last ∷ [])) place.next middle p.carried
+          way.way.keeps.carried it.way);
       here = it.here ∙ way.here ∙ ap Some (sym (ap (λ (q : Passes). q.carried) is_back));
     }
 
     over_last : over image is_join (edges_of place) way.whole ≡ over image is_join ((place, last) ∷ []) middle
     over_last = over_two ∙ ap (λ r. r >>= over image is_join ((place, last) ∷ [])) goes
 
-    pub last_refuses : (e : StateFault) (P Q : Table → Type 0) → Carries {X = Bool} (Err e) (over image is_join ((place, last) ∷ []) middle) P → Carries {X = Bool} (Err e) (over image is_join (edges_of place) way.whole) Q
+    pub last_refuses : (e : StateFault) (P Q : Table → Type 0) →
+        Carries {X = Bool} (Err e) (over image is_join ((place, last) ∷ []) middle) P →
+        Carries {X = Bool} (Err e) (over image is_join (edges_of place) way.whole) Q
     last_refuses (Refused code at) P Q refuses = over_last ∙ refuses
     last_refuses Memory P Q refuses = tt
 
@@ -136,7 +162,10 @@ module _ (image : ImageValue) (is_join : ℕ → Bool) (p : Passes) (place : Pla
         still_there : HasArrived is_join taken.0 place.next fallen.carried
         still_there = let came = it.arrives place.next leads in record {
           joined = λ is. taken.2.rises place.next fallen.carried is (came.joined is);
-          alone = λ alone. taken.2.stays place.next alone (λ also. unlike (ap (λ (e : Placed × Edge). e.1) (way.join.lone.one (place, first) (place, last) place.next (on_first.among (place, first) (0, refl)) (on_first.among (place, last) (1, refl)) alone leads also))) ∙ came.alone alone;
+          alone = λ alone. taken.2.stays place.next alone (λ also. unlike
+              (ap (λ (e : Placed × Edge). e.1) (way.join.lone.one (place, first) (place, last) place.next
+              (on_first.among (place, first) (0, refl)) (on_first.among (place, last) (1, refl)) alone leads also))) ∙
+              came.alone alone;
         }
 
         pub first_done : (any : Bool) → Carries (Ok any) (over image is_join (edges_of place) way.whole) (IsBefore image way.cuts is_join new place.next)

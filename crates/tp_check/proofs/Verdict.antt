@@ -1,5 +1,7 @@
 -- One pass, instruction by instruction, and one after another.
-use Rattle.std.proofs.Common.{◌≡◌, ℕ, zero, suc, ◌+◌, ◌<◌, ◌≤◌, ◌^◌, ◌⊎◌, inl, inr, ◌==◌, nat_le, if◌then◌else◌, Bool, true, false, List, [], ◌∷◌, ◌++◌, length, slice_get, Option, Some, None, Result, Ok, Err, refl, sym, ap, ◌∙◌, subst, rules, arith, drop, add-one, drop-cons}
+use Rattle.std.proofs.Common.{◌≡◌, ℕ, zero, suc, ◌+◌, ◌<◌, ◌≤◌, ◌^◌, ◌⊎◌, inl, inr, ◌==◌, nat_le, if◌then◌else◌, Bool}
+use Rattle.std.proofs.Common.{true, false, List, [], ◌∷◌, ◌++◌, length, slice_get, Option, Some, None, Result, Ok, Err}
+use Rattle.std.proofs.Common.{refl, sym, ap, ◌∙◌, subst, rules, arith, drop, add-one, drop-cons}
 use mathlib.Core.Path.{fun_ext}
 use Rattle.std.specs.Prelude.{IfErr, IsErrAnd}
 use Rattle.std.specs.List.{flat_map, AllByRecursion}
@@ -58,7 +60,11 @@ own_among (p ∷ ps) e among = by_way (own_among ps e) (among_either (edges_of p
     by_way go (inr later) = go later
 
 pub stands_in : (cuts : List Cut) (i : ℕ) (p : Placed) → AllByRecursion (λ c. 0 < length c.bytes) cuts → slice_get (placed_from 0 cuts) i ≡ Some p → IsInCode cuts p
-stands_in cuts i p spelled is = record { all = among_of (placed_from 0 cuts) i p is; only = λ e among same. subst (λ q. IsAmong (edges_of q) e) (same_place e among same) (own_among (placed_from 0 cuts) e among) }
+stands_in cuts i p spelled is = record {
+  all = among_of (placed_from 0 cuts) i p is;
+  only = λ e among same. subst (λ q. IsAmong (edges_of q) e) (same_place e among same)
+      (own_among (placed_from 0 cuts) e among);
+}
   where
     same_place : (e : Placed × Edge) → IsAmong (edges_in cuts) e → e.0.at ≡ p.at → e.0 ≡ p
     same_place e among same =
@@ -105,12 +111,18 @@ module _ (image : ImageValue) (cuts : List Cut) (is_join : ℕ → Bool) where
   none_come first begun before = record { at = 0; whole = begun; gives = refl; before = before; past = λ j q lt. absurd (omega (arith, lt)); next = λ q is. first_at 0 cuts q is }
 
   module _ (i : ℕ) (p : Placed) (is : slice_get (placed_from 0 cuts) i ≡ Some p) where
-    next_edges : (table : Table) → over image is_join (flat_map edges_of (drop i (placed_from 0 cuts))) table ≡ (over image is_join (edges_of p) table >>= over image is_join (flat_map edges_of (drop (i + 1) (placed_from 0 cuts))))
+    next_edges : (table : Table) → over image is_join (flat_map edges_of (drop i (placed_from 0 cuts))) table ≡
+        (over image is_join (edges_of p) table >>= over image is_join
+        (flat_map edges_of (drop (i + 1) (placed_from 0 cuts))))
     next_edges table =
-        ap (λ ps. over image is_join (flat_map edges_of ps) table) next_one ∙ ap (λ es. over image is_join es table) (flat_map-cons edges_of p (drop (i + 1) (placed_from 0 cuts))) ∙ over_append image is_join (edges_of p) _ table
+        ap (λ ps. over image is_join (flat_map edges_of ps) table) next_one ∙
+        ap (λ es. over image is_join es table) (flat_map-cons edges_of p (drop (i + 1) (placed_from 0 cuts))) ∙
+        over_append image is_join (edges_of p) _ table
       where
         next_one : drop i (placed_from 0 cuts) ≡ p ∷ drop (i + 1) (placed_from 0 cuts)
-        next_one = drop-cons (placed_from 0 cuts) i p (slice_get_within (placed_from 0 cuts) i p is) ∙ ap (λ q. q ∷ drop (suc i) (placed_from 0 cuts)) (get_or_from_slice_get (placed_from 0 cuts) i p p is) ∙ ap (λ n. p ∷ drop n (placed_from 0 cuts)) (sym (add-one i))
+        next_one = drop-cons (placed_from 0 cuts) i p (slice_get_within (placed_from 0 cuts) i p is) ∙
+            ap (λ q. q ∷ drop (suc i) (placed_from 0 cuts)) (get_or_from_slice_get (placed_from 0 cuts) i p p is) ∙
+            ap (λ n. p ∷ drop n (placed_from 0 cuts)) (sym (add-one i))
 
     module _ (first now : Passes) (begun : Table) (on : Comes first now i begun) where
       pub here_before : IsBefore image cuts is_join now p.at on.whole
@@ -119,10 +131,14 @@ module _ (image : ImageValue) (cuts : List Cut) (is_join : ℕ → Bool) where
       goes : over image is_join (edges_in cuts) begun ≡ (over image is_join (edges_of p) on.whole >>= over image is_join (flat_map edges_of (drop (i + 1) (placed_from 0 cuts))))
       goes = on.gives ∙ next_edges on.whole
 
-      pub stop_there : (e : StateFault) (P Q : Table → Type 0) → Carries {X = Bool} (Err e) (over image is_join (edges_of p) on.whole) P → Carries {X = Bool} (Err e) (over image is_join (edges_in cuts) begun) Q
+      pub stop_there : (e : StateFault) (P Q : Table → Type 0) →
+          Carries {X = Bool} (Err e) (over image is_join (edges_of p) on.whole) P →
+          Carries {X = Bool} (Err e) (over image is_join (edges_in cuts) begun) Q
       stop_there e P Q refuses = then_more e _ (over image is_join (edges_of p) on.whole) (over image is_join (flat_map edges_of (drop (i + 1) (placed_from 0 cuts)))) P Q goes refuses
 
-      pub come_on : AllByRecursion (λ c. 0 < length c.bytes) cuts → (new : Passes) (moved : Bool) → Carries (Ok moved) (over image is_join (edges_of p) on.whole) (IsBefore image cuts is_join new p.next) → Comes first new (i + 1) begun
+      pub come_on : AllByRecursion (λ c. 0 < length c.bytes) cuts → (new : Passes) (moved : Bool) →
+          Carries (Ok moved) (over image is_join (edges_of p) on.whole) (IsBefore image cuts is_join new p.next) →
+          Comes first new (i + 1) begun
       come_on spelled new moved done = record {
         at = p.next;
         whole = done.0;
@@ -144,7 +160,9 @@ module _ (image : ImageValue) (cuts : List Cut) (is_join : ℕ → Bool) where
           passed j q lt there (inr other) = let less = on.past j q (omega (arith, lt, other)) there in let here = on.next p is in omega (arith, longer, less, here)
 
   -- after all of them
-  pub come_all : (first now new : Passes) (i : ℕ) (begun : Table) → length cuts ≤ i → Comes first now i begun → new.states.items ≡ now.states.items → new.changed.items ≡ now.changed.items → new.carried ≡ now.carried → new.taken.items ≡ now.taken.items → new.is_carried ≡ false → (moved : Bool)
+  pub come_all : (first now new : Passes) (i : ℕ) (begun : Table) → length cuts ≤ i → Comes first now i begun →
+      new.states.items ≡ now.states.items → new.changed.items ≡ now.changed.items → new.carried ≡ now.carried →
+      new.taken.items ≡ now.taken.items → new.is_carried ≡ false → (moved : Bool)
       → Carries (Ok moved) (over image is_join (edges_in cuts) begun) (IsBefore image cuts is_join new 0)
   come_all first now new i begun end on states changed carried takes rests moved = (
     on.whole,
@@ -176,7 +194,9 @@ module _ (image : ImageValue) (cuts : List Cut) (is_join : ℕ → Bool) where
           let within = slice_get_within (placed_from 0 cuts) number.0 e.0 number.1 in
           on.past number.0 e.0 (omega (arith, within, end, length-placed 0 cuts)) number.1
 
-      by_waits : (e : Placed × Edge) → IsAmong (edges_in cuts) e → ((is_join e.0.at ≡ true) × (is_in now.changed.items e.0.at ≡ true)) ⊎ ((is_join e.0.at ≡ false) × (e.0.at ≡ on.at) × (now.is_carried ≡ true)) → waits is_join new 0 e.0.at ≡ true
+      by_waits : (e : Placed × Edge) → IsAmong (edges_in cuts) e →
+          ((is_join e.0.at ≡ true) × (is_in now.changed.items e.0.at ≡ true)) ⊎
+          ((is_join e.0.at ≡ false) × (e.0.at ≡ on.at) × (now.is_carried ≡ true)) → waits is_join new 0 e.0.at ≡ true
       by_waits e among (inl (joins, flag)) = marked_waits is_join new 0 e.0.at joins (ap (λ items. is_in items e.0.at) changed ∙ flag)
       by_waits e among (inr (alone, same, sure)) = absurd (let less = earlier e among in omega (arith, less, same))
 
@@ -185,17 +205,22 @@ module _ (image : ImageValue) (cuts : List Cut) (is_join : ℕ → Bool) where
       by_old e among (inl (inr is)) = inl (inr (by_waits e among (waiting is_join now on.at e.0.at is)))
       by_old e among (inr done) = inr done
 
-      by_repeat : (e : Placed × Edge) → ((is_join e.0.at ≡ true) × (is_in new.taken.items e.0.at ≡ true)) ⊎ ((is_join e.0.at ≡ false) × (e.0.at ≡ 0) × (new.is_carried ≡ true) × (new.is_again ≡ true)) → repeats is_join now on.at e.0.at ≡ true
+      by_repeat : (e : Placed × Edge) → ((is_join e.0.at ≡ true) × (is_in new.taken.items e.0.at ≡ true)) ⊎
+          ((is_join e.0.at ≡ false) × (e.0.at ≡ 0) × (new.is_carried ≡ true) × (new.is_again ≡ true)) →
+          repeats is_join now on.at e.0.at ≡ true
       by_repeat e (inl (joins, taken)) = taken_repeats is_join now on.at e.0.at joins (sym (ap (λ items. is_in items e.0.at) takes) ∙ taken)
       by_repeat e (inr (alone, same, sure, again)) = absurd (let no : true ≡ false = sym sure ∙ rests in cc)
 
 -- ---- a pass that changes nothing
 
 -- where no address is marked, each edge is done
-nothing_marked : (image : ImageValue) (cuts : List Cut) (is_join : ℕ → Bool) (p : Passes) (whole : Table) → IsBefore image cuts is_join p 0 whole → p.is_carried ≡ false → ((at : ℕ) → is_in p.changed.items at ≡ false) → over image is_join (edges_in cuts) whole ≡ Ok whole
+nothing_marked : (image : ImageValue) (cuts : List Cut) (is_join : ℕ → Bool) (p : Passes) (whole : Table) →
+    IsBefore image cuts is_join p 0 whole → p.is_carried ≡ false → ((at : ℕ) → is_in p.changed.items at ≡ false) →
+    over image is_join (edges_in cuts) whole ≡ Ok whole
 nothing_marked image cuts is_join p whole before rests none = edges_stay image is_join whole (edges_in cuts) (λ e among. by_old e (before.way.each e among))
   where
-    by_waits : (e : Placed × Edge) → ((is_join e.0.at ≡ true) × (is_in p.changed.items e.0.at ≡ true)) ⊎ ((is_join e.0.at ≡ false) × (e.0.at ≡ 0) × (p.is_carried ≡ true)) → IsDone image is_join whole e
+    by_waits : (e : Placed × Edge) → ((is_join e.0.at ≡ true) × (is_in p.changed.items e.0.at ≡ true)) ⊎
+        ((is_join e.0.at ≡ false) × (e.0.at ≡ 0) × (p.is_carried ≡ true)) → IsDone image is_join whole e
     by_waits e (inl (joins, flag)) = absurd (let no : true ≡ false = sym flag ∙ none e.0.at in cc)
     by_waits e (inr (alone, same, sure)) = absurd (let no : true ≡ false = sym sure ∙ rests in cc)
 
@@ -226,7 +251,8 @@ module _ (image : ImageValue) (cuts : List Cut) (is_join : ℕ → Bool) (join :
       by_join false e = let no : true ≡ false = or_left true (is_head image 0) (nat_le 2 (reached image cuts 0)) (join.wide 0 e) in cc
 
   -- before the first pass
-  pub none_made : InRange image → KeepsNest image.loops image.workspace cuts → (p : Passes) (places : ℕ) → HasPlaces cuts places → places ≤ 2 ^ 32 → length p.states.items ≡ places → length p.changed.items ≡ places
+  pub none_made : InRange image → KeepsNest image.loops image.workspace cuts → (p : Passes) (places : ℕ) →
+      HasPlaces cuts places → places ≤ 2 ^ 32 → length p.states.items ≡ places → length p.changed.items ≡ places
       → table_of p.states.items ≡ first_table image → is_in p.changed.items 0 ≡ true → length p.taken.items ≡ places → ((at : ℕ) → at < places → is_in p.taken.items at ≡ false)
       → p.is_carried ≡ false → IsPlaced image p.carried → IsAfter image cuts is_join p 0
   none_made range kept p places inside few sized flags table marked takes fresh rests carried = record {
@@ -273,11 +299,14 @@ module _ (image : ImageValue) (cuts : List Cut) (is_join : ℕ → Bool) (join :
           let number = among_placed (placed_from 0 cuts) e among in
           inside e.0.at (ap is_some (stands_at cuts number.0 e.0 kept.spelled number.1).there)
 
-      never : (e : Placed × Edge) → IsAmong (edges_in cuts) e → ((is_join e.0.at ≡ true) × (is_in p.taken.items e.0.at ≡ true)) ⊎ ((is_join e.0.at ≡ false) × (e.0.at ≡ 0) × (p.is_carried ≡ true) × (p.is_again ≡ true)) → ⊥
+      never : (e : Placed × Edge) → IsAmong (edges_in cuts) e →
+          ((is_join e.0.at ≡ true) × (is_in p.taken.items e.0.at ≡ true)) ⊎
+          ((is_join e.0.at ≡ false) × (e.0.at ≡ 0) × (p.is_carried ≡ true) × (p.is_again ≡ true)) → ⊥
       never e among (inl (joins, taken)) = let no : true ≡ false = sym taken ∙ fresh e.0.at (starts e among) in cc
       never e among (inr (alone, same, sure, again)) = let no : true ≡ false = sym sure ∙ rests in cc
 
-module _ (image : ImageValue) (cuts : List Cut) (range : InRange image) (spelled : AllByRecursion IsSpelled cuts) (kept : KeepsNest image.loops image.workspace cuts) (is_join : ℕ → Bool) (join : AreJoins image cuts is_join) where
+module _ (image : ImageValue) (cuts : List Cut) (range : InRange image) (spelled : AllByRecursion IsSpelled cuts)
+    (kept : KeepsNest image.loops image.workspace cuts) (is_join : ℕ → Bool) (join : AreJoins image cuts is_join) where
   pub none_between : (p : Passes) → IsAfter image cuts is_join p 0 → IsBetween image cuts is_join p true
   none_between p none = record { number = 0; after = none; stays = λ e. absurd cc }
 
@@ -285,7 +314,9 @@ module _ (image : ImageValue) (cuts : List Cut) (range : InRange image) (spelled
   pub one_as_defined : (n : ℕ) (table : Table) → passes image cuts n ≡ Ok table → passes image cuts (suc n) ≡ over image is_join (edges_in cuts) table
   one_as_defined n table arrives =
       ap (λ r. r >>= pass image cuts) arrives
-      ∙ (edge_by_edge image range.rows kept.good is_join (IsOne image cuts kept is_join join.wide) (IsStateAt image) (lone image cuts kept is_join join.wide) (are_states image cuts kept is_join join.wide range spelled) (edges_in cuts) (λ i e is. (i, is)) table
+      ∙ (edge_by_edge image range.rows kept.good is_join (IsOne image cuts kept is_join join.wide) (IsStateAt image)
+      (lone image cuts kept is_join join.wide) (are_states image cuts kept is_join join.wide range spelled)
+      (edges_in cuts) (λ i e is. (i, is)) table
       (good_after image cuts range spelled kept is_join join.wide n table arrives)).0
 
   pub one_after : (old new : Passes) (n : ℕ) (m : Bool) → IsAfter image cuts is_join old n → new.is_carried ≡ false → Leaves image m old new
@@ -314,7 +345,9 @@ module _ (image : ImageValue) (cuts : List Cut) (range : InRange image) (spelled
         where
           alike : new.states.items ≡ old.states.items → (x : ℕ) (b : Bool) → is_join x ≡ b → only_joins is_join done.0 x ≡ only_joins is_join on.whole x
           alike same x true is =
-              ap (λ c. if c then done.0 x else None) is ∙ done.2.way.keeps.states x is ∙ ap (λ states. table_of states x) same ∙ sym (on.before.way.keeps.states x is) ∙ sym (ap (λ c. if c then on.whole x else None) is)
+              ap (λ c. if c then done.0 x else None) is ∙ done.2.way.keeps.states x is ∙
+              ap (λ states. table_of states x) same ∙ sym (on.before.way.keeps.states x is) ∙
+              sym (ap (λ c. if c then on.whole x else None) is)
           alike same x false is = ap (λ c. if c then done.0 x else None) is ∙ sym (ap (λ c. if c then on.whole x else None) is)
 
           by_end : (new.states.items ≡ old.states.items) ⊎ ((at : ℕ) → is_in new.changed.items at ≡ false) → pass image cuts done.0 ≡ Ok done.0
@@ -333,7 +366,9 @@ module _ (image : ImageValue) (cuts : List Cut) (range : InRange image) (spelled
       record { number = suc on.number; after = one.0; stays = one.1 }
 
   -- the refusal of a pass is the verdict
-  pub is_refusal : (old : Passes) (moved : Bool) (on : IsBetween image cuts is_join old moved) (e : StateFault) (P : Table → Type 0) → Carries {X = Bool} (Err e) (over image is_join (edges_in cuts) on.after.whole) P → IsRefusalOf image cuts e
+  pub is_refusal : (old : Passes) (moved : Bool) (on : IsBetween image cuts is_join old moved) (e : StateFault)
+      (P : Table → Type 0) → Carries {X = Bool} (Err e) (over image is_join (edges_in cuts) on.after.whole) P →
+      IsRefusalOf image cuts e
   is_refusal old moved on (Refused code place) P gives = record { number = suc on.number; arrives = one_as_defined on.number on.after.whole on.after.arrives ∙ gives; stays = refl }
   is_refusal old moved on Memory P gives = tt
 
@@ -341,7 +376,9 @@ module _ (image : ImageValue) (cuts : List Cut) (range : InRange image) (spelled
   pub is_settled : (p : Passes) → IsBetween image cuts is_join p false → IsSettled image cuts is_join p.states.items
   is_settled p on = record { few = on.after.few; whole = on.after.whole; verdict = on.stays refl; there = on.after.before.way.keeps.states }
 
-  pub is_table : (joined : List (Option State)) (keeps : ℕ → Bool) (states : List (ℕ × State)) → IsSettled image cuts is_join joined → ((at : ℕ) → keeps at ≡ is_kept image cuts at) → AreStatesOf keeps (table_of joined) states → IsTableOf image cuts states
+  pub is_table : (joined : List (Option State)) (keeps : ℕ → Bool) (states : List (ℕ × State)) →
+      IsSettled image cuts is_join joined → ((at : ℕ) → keeps at ≡ is_kept image cuts at) →
+      AreStatesOf keeps (table_of joined) states → IsTableOf image cuts states
   is_table joined keeps states on same are = record {
     whole = on.whole;
     verdict = on.verdict;
@@ -362,6 +399,7 @@ module _ (image : ImageValue) (cuts : List Cut) (range : InRange image) (spelled
   pub are_states_there : (states : List (ℕ × State)) → IsTableOf image cuts states → AreStatesThere image states
   are_states_there states t i a there = stands_there image cuts range spelled kept t.verdict.number t.whole t.verdict.arrives a.0 a.1 (t.kept.each i a there).1
 
-pub refusal_handed_on : {X : Type 0} (image : ImageValue) (cuts : List Cut) (r : Result X StateFault) (e : StateFault) → IsErrAnd r (λ x. x ≡ e) → IsRefusalOf image cuts e → IfErr r (IsRefusalOf image cuts)
+pub refusal_handed_on : {X : Type 0} (image : ImageValue) (cuts : List Cut) (r : Result X StateFault) (e : StateFault) →
+    IsErrAnd r (λ x. x ≡ e) → IsRefusalOf image cuts e → IfErr r (IsRefusalOf image cuts)
 refusal_handed_on image cuts (Ok x) e is refusal = search rules
 refusal_handed_on image cuts (Err x) e is refusal = rw is refusal

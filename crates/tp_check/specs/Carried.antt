@@ -1,6 +1,7 @@
 -- Passes that carry one state from instruction to instruction, and keep states only at some addresses: at each other
 -- address, which one edge alone reaches, what is known after that edge takes the place of what was known.
-use Rattle.std.specs.Prelude.{◌≡◌, ◌≢◌, ℕ, zero, suc, ◌==◌, ◌||◌, nat_le, ◌<◌, Bool, false, if◌then◌else◌, IsTrue, List, [], ◌∷◌, Option, Some, None, Result, Ok, slice_get}
+use Rattle.std.specs.Prelude.{◌≡◌, ◌≢◌, ℕ, zero, suc, ◌==◌, ◌||◌, nat_le, ◌<◌, Bool, false, if◌then◌else◌, IsTrue, List}
+use Rattle.std.specs.Prelude.{[], ◌∷◌, Option, Some, None, Result, Ok, slice_get}
 use Rattle.std.specs.List.{count_by, list_any}
 use Rattle.tp_decode.specs.declared.placed.Placed.{Placed}
 use Rattle.tp_decode.specs.Cutting.{Cut}

@@ -1,5 +1,6 @@
 -- How many changes are left to a table.
-use Rattle.std.specs.Prelude.{◌≡◌, ℕ, ◌+◌, ◌*◌, ◌-◌, ◌^◌, ◌<◌, Bool, true, false, ℤ, pos, negsuc, ◌+ℤ◌, ◌-ℤ◌, List, length, sum_by, Option, Some, None}
+use Rattle.std.specs.Prelude.{◌≡◌, ℕ, ◌+◌, ◌*◌, ◌-◌, ◌^◌, ◌<◌, Bool, true, false, ℤ, pos, negsuc, ◌+ℤ◌, ◌-ℤ◌, List}
+use Rattle.std.specs.Prelude.{length, sum_by, Option, Some, None}
 use Rattle.tp_image.specs.Image.{ImageValue}
 use Rattle.tp_state.specs.declared.kind.Kind.{Kind}
 use Rattle.tp_state.specs.declared.kind.Kind.TheVariants as kind

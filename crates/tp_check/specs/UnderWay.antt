@@ -1,5 +1,6 @@
 -- What holds while the passes are made: each edge waits, or has been propagated along.
-use Rattle.std.specs.Prelude.{◌≡◌, ℕ, ◌<◌, ◌≢◌, ◌==◌, ◌&&◌, Bool, true, false, if◌then◌else◌, List, [], length, slice_index_or, ◌⊎◌, Some, Ok}
+use Rattle.std.specs.Prelude.{◌≡◌, ℕ, ◌<◌, ◌≢◌, ◌==◌, ◌&&◌, Bool, true, false, if◌then◌else◌, List, [], length}
+use Rattle.std.specs.Prelude.{slice_index_or, ◌⊎◌, Some, Ok}
 use Rattle.tp_decode.specs.declared.placed.Placed.{Placed}
 use Rattle.tp_decode.specs.Cutting.{Cut}
 use Rattle.tp_flow.specs.declared.edge.Edge.{Edge}

@@ -19,8 +19,8 @@ pub fn passes_have_one_verdict()
         IsVerdict image cuts verdict → IsVerdict image cuts other → verdict ≡ other }
 {}
 
-/// The passes have a verdict, over spelled instructions whose nest is kept: after some number of them one refuses, or leaves
-/// its table as it is.
+/// The passes have a verdict, over spelled instructions whose nest is kept: after some number of them one refuses, or
+/// leaves its table as it is.
 pub fn passes_have_a_verdict()
     ensures { (image : ImageValue) (cuts : List Cut) → InRange image → AllByRecursion IsSpelled cuts →
         KeepsNest image.loops image.workspace cuts → (verdict : Result Table StateFault)

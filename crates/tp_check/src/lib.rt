@@ -1,4 +1,5 @@
-//! The verifier's table: what is known before each instruction of a worker's code.
+//! The verifier's table: what is known before each instruction of a worker's code, as the least fixpoint of the rules
+//! (Kildall's algorithm).
 //!
 //! The definitions are in `specs/`: tables, the tables that every edge respects, and the passes that find one.
 //! The laws are the contracts of the functions of [`laws`].

@@ -1,6 +1,7 @@
-//! The passes: a table is made edge by edge until a pass leaves no edge to be taken.
+//! The fixpoint: states are propagated along edges, in passes, until a pass changes nothing.
 
-ghost use Rattle.std.specs.Prelude.{◌≡◌, ◌≢◌, ◌<◌, ◌≤◌, ◌+◌, ◌^◌, ◌∷◌, [], ℕ, true, false, length, List, Some, Ok, IfOk, IfErr, IfSome, OnOk};
+ghost use Rattle.std.specs.Prelude.{◌≡◌, ◌≢◌, ◌<◌, ◌≤◌, ◌+◌, ◌^◌, ◌∷◌, [], ℕ, true, false, length, List, Some, Ok};
+ghost use Rattle.std.specs.Prelude.{IfOk, IfErr, IfSome, OnOk};
 ghost use Rattle.std.specs.List.{AllByRecursion};
 ghost use Rattle.tp_decode.specs.Cutting.{Cut, IsSpelled};
 ghost use Rattle.tp_flow.specs.declared.edge.Edge.{Edge as AnEdge};
@@ -15,8 +16,10 @@ ghost use Rattle.tp_check.specs.Passes.{enter, edges_of, edges_in, IsRefusalOf};
 ghost use Rattle.tp_check.specs.Carried.{over, IsTableOf};
 ghost use Rattle.tp_check.specs.StatesThere.{AreStatesThere};
 ghost use Rattle.tp_check.specs.Joining.{is_join_at};
-ghost use Rattle.tp_check.specs.UnderWay.{is_in, AreJoins, AreLeft, IsApart, MayBeTaken, IsInCode, IsBefore, KeepsSound};
-ghost use Rattle.tp_check.specs.Steps.{IsBeginning, Leaves, HasWhole, Carries, TakesEdges, marked, SameButStates, IsStarted, IsAfterEdge, IsLedOn, IsSettled};
+ghost use Rattle.tp_check.specs.UnderWay.{is_in, AreJoins, AreLeft, IsApart, MayBeTaken, IsInCode, IsBefore};
+ghost use Rattle.tp_check.specs.UnderWay.{KeepsSound};
+ghost use Rattle.tp_check.specs.Steps.{IsBeginning, Leaves, HasWhole, Carries, TakesEdges, marked, SameButStates};
+ghost use Rattle.tp_check.specs.Steps.{IsStarted, IsAfterEdge, IsLedOn, IsSettled};
 ghost use Rattle.tp_check.specs.Rising.{Moves};
 ghost use Rattle.tp_check.specs.Arrivals.{HasPlaces, Gives, ArrivedBefore};
 
@@ -30,9 +33,18 @@ use tp_flow::{Edge, Nest, edges};
 use tp_image::Image;
 use tp_state::{State, StateFault};
 
-/// The table of the passes, of an image whose flow has passed and of its code's listing: the states of the verdict's
-/// table at the first address, at those that two edges reach, and at loops' heads. Refused is the first refusal of the
-/// passes, and then no table exists that every edge respects; Memory is that a growth was refused.
+/// The least fixpoint of an image's rules, of an image whose flow has passed and of its code's listing: the states of
+/// the verdict's table at the first address, at those that two edges reach, and at loops' heads. Refused is the first
+/// refusal of the passes, and then no table exists that every edge respects; Memory is a growth that was refused.
+///
+/// ```
+/// let image = read_image(alloc, INCREMENT)?;
+/// let listing = decode(alloc, &image.code)?;
+/// let nest = check_flow(&image, &listing)?;
+/// let table = check_states(alloc, &image, &listing, &nest)?;
+/// // No edges join in it, so only the state before its first instruction is kept.
+/// assert_eq!(table.states.len(), 1);
+/// ```
 pub fn check_states(
     alloc: Global,
     image: &Image,
@@ -53,7 +65,7 @@ pub fn check_states(
     Ok(Table::of(alloc, states, &predecessors)?)
 }
 
-/// The states where edges join, when a pass leaves no edge to be taken; or the first refusal.
+/// The states at joins once a pass leaves nothing to propagate; or the first refusal.
 fn settle(
     alloc: Global,
     image: &Image,
@@ -68,14 +80,15 @@ fn settle(
     requires some { 0 < places }
     requires few { places ≤ 2 ^ 32 }
     requires all { HasPlaces listing.now places }
-    ensures settled { IfOk result (λ states. IsSettled image.now listing.now (is_join_at predecessors.now) states.items) }
+    ensures settled { IfOk result (λ states. IsSettled image.now listing.now (is_join_at predecessors.now)
+        states.items) }
     ensures refused { IfErr result (IsRefusalOf image.now listing.now) }
     ensures exact { IfErr result (λ e. e ≢ fault.Memory → HasNoTable image.now listing.now) }
-    // This is known of every image, and of every listing.
+    // Laws of every image and every listing.
     ensures in_range { InRange image.now }
     ensures spelled { AllByRecursion IsSpelled listing.now }
 {
-    listing.is_spelled();
+    listing.law_is_spelled();
     let mut passes = Passes::begin(alloc, image, places)?;
     let mut is_left = true;
     while is_left {
@@ -84,22 +97,20 @@ fn settle(
     Ok(passes.states)
 }
 
-/// The passes, between two edges.
+/// The iteration, between two edges.
 #[derive(Drop)]
 pub(crate) struct Passes {
-    /// What is known where edges join, by address.
+    /// `states[a]`: what is known at join `a`.
     states: Vec<Option<State>>,
-    /// By address, whether it is marked: edges join there, and the state has changed since the edges from there were last taken. At
-    /// first the first address is.
+    /// `changed[a]`: the state kept at join `a` has changed since it was last propagated. At first only `changed[0]`.
     changed: Vec<bool>,
-    /// Whether the edges from there were taken before.
+    /// `taken[a]`: the state at join `a` was propagated before.
     taken: Vec<bool>,
-    /// Whether a state is carried to the instruction that comes next.
+    /// Whether a state is carried to the next instruction.
     is_carried: bool,
-    /// Whether the edges of the instruction that is being taken were taken before; and so of the next one, to which its
-    /// state is carried.
+    /// Whether a state was propagated from this instruction before, and so is again to the next one.
     is_again: bool,
-    /// What is known before the instruction that is being taken, and then after its edge.
+    /// What is known before the instruction, and then after its edge.
     carried: State,
 }
 
@@ -109,11 +120,10 @@ impl Passes {
         requires some { 0 < places }
         requires few { places ≤ 2 ^ 32 }
         ensures begins { IfOk result (IsBeginning image.now places) }
-        // This is known of every image.
+        // A law of every image.
         ensures in_range { InRange image.now }
     {
-        // Naming a field of the image gives that it is in range.
-        let _ = &image.code;
+        image.law_is_in_range();
         let carried = State::entry(alloc, image)?;
         let states = first_states(alloc, image, places)?;
         let changed = first_marked(alloc, places)?;
@@ -128,8 +138,7 @@ impl Passes {
         })
     }
 
-    /// One pass. It answers whether it leaves edges to be taken: whether it has changed a state that is kept, and one is marked
-    /// from which they have still to be taken.
+    /// One pass. Returns whether another is needed: a kept state has changed, and one is still marked.
     pub(crate) fn pass(
         &mut self,
         alloc: Global,
@@ -158,7 +167,7 @@ impl Passes {
         }
     }
 
-    /// The edges of each instruction are taken, by rising address. It answers whether a state that is kept has changed.
+    /// Propagates along the edges of each instruction, by rising address. Returns whether a kept state has changed.
     fn take_all(
         &mut self,
         alloc: Global,
@@ -192,8 +201,8 @@ impl Passes {
         Ok(moved)
     }
 
-    /// The edges of an instruction are taken, if a state is carried to it, or the one that is kept there has changed since
-    /// they last were. It answers whether a state that is kept has changed.
+    /// Propagates along the edges of an instruction if a state is carried to it, or the one kept there is marked.
+    /// Returns whether a kept state has changed.
     fn take(
         &mut self,
         alloc: Global,
@@ -207,7 +216,8 @@ impl Passes {
         requires sound { KeepsSound image.now place }
         requires way { (cuts : List Cut) × IsInCode cuts place × AreJoins image.now cuts (is_join_at predecessors.now) ×
             HasWhole image.now cuts (is_join_at predecessors.now) self.old place.at }
-        ensures gives { (cuts : List Cut) → IsInCode cuts place → AreJoins image.now cuts (is_join_at predecessors.now) →
+        ensures gives { (cuts : List Cut) → IsInCode cuts place →
+            AreJoins image.now cuts (is_join_at predecessors.now) →
             TakesEdges image.now cuts (is_join_at predecessors.now) (edges_of place) self.old place.at
             result self.new place.next }
         ensures moves { IfOk result (λ moved. Moves image.now moved self.old.states.items self.new.states.items) }
@@ -220,8 +230,8 @@ impl Passes {
         self.take_edges(alloc, image, nest, predecessors, place)
     }
 
-    /// Where edges join, the state that is kept is carried from here on, if it has changed since it last was. One that is
-    /// carried here is below it, and rises to it.
+    /// At a join the kept state is carried from here on, if it is marked. One that is carried here is below it, and
+    /// rises to it.
     fn start(&mut self, predecessors: &Predecessors, at: usize)
         requires stands { at < length self.old.states.items }
         requires inside { at < length self.old.changed.items }
@@ -251,7 +261,7 @@ impl Passes {
         }
     }
 
-    /// The edges of an instruction are taken.
+    /// Propagates along the edges of an instruction.
     fn take_edges(
         &mut self,
         alloc: Global,
@@ -277,8 +287,8 @@ impl Passes {
         }
     }
 
-    /// Two edges are taken, each from the state that is carried: the second from a copy. Of what comes of both, that is carried on
-    /// which goes on to the next instruction.
+    /// Propagates along two edges, each from the carried state: the second from a copy. The one that leads to the next
+    /// instruction is carried on.
     fn take_two(
         &mut self,
         alloc: Global,
@@ -311,7 +321,7 @@ impl Passes {
         Ok(moved || also)
     }
 
-    /// An edge is taken: what is carried becomes what is known after it, and arrives at its target.
+    /// Propagates along an edge: the carried state becomes what is known after it, and arrives at the target.
     fn take_edge(
         &mut self,
         alloc: Global,
@@ -329,7 +339,8 @@ impl Passes {
         ensures gives { (later : List AnEdge) → IsApart edge later →
             (way : AreLeft image.now (is_join_at predecessors.now) self.old place (edge ∷ later)) →
             Carries result (over image.now (is_join_at predecessors.now) ((place, edge) ∷ []) way.whole)
-            (IsAfterEdge image.now way.cuts (is_join_at predecessors.now) self.old self.new place edge later way.whole) }
+            (IsAfterEdge image.now way.cuts (is_join_at predecessors.now) self.old self.new place edge later
+            way.whole) }
         ensures moves { IfOk result (λ moved. Moves image.now moved self.old.states.items self.new.states.items) }
     {
         let Placed { at, instr, next } = place;
@@ -345,7 +356,7 @@ impl Passes {
         }
     }
 
-    /// What is carried is carried on, if it goes on to the next instruction.
+    /// Carries the state on, if it goes on to the next instruction.
     fn lead_on(&mut self, to: usize, next: usize)
         ensures { IsLedOn to next self.old self.new }
     {
@@ -354,8 +365,8 @@ impl Passes {
         }
     }
 
-    /// What is carried arrives at an address: it joins what is kept there, if edges join there. It answers whether anything
-    /// changed.
+    /// The carried state arrives at an address: it is joined with the one kept there, if edges join there. Returns
+    /// whether anything changed.
     fn arrive(
         &mut self,
         alloc: Global,
@@ -369,7 +380,8 @@ impl Passes {
         requires again { is_join_at predecessors.now to ≡ true → self.old.is_again ≡ true →
             ArrivedBefore (table_of self.old.states.items to) self.old.carried }
         ensures is_join { is_join_at predecessors.now to ≡ true →
-            Gives result (table_of self.new.states.items) (enter (Some to) self.old.carried (table_of self.old.states.items)) }
+            Gives result (table_of self.new.states.items) (enter (Some to) self.old.carried
+            (table_of self.old.states.items)) }
         ensures marks { is_join_at predecessors.now to ≡ true →
             IfOk result (λ moved. self.new.changed.items ≡ marked moved to self.old.changed.items) }
         ensures rest { SameButStates self.old self.new }
@@ -389,7 +401,7 @@ impl Passes {
     }
 }
 
-/// The first of so many addresses is marked, and no other: it alone has a state before the first pass.
+/// Marks the first address alone, which alone has a state before the first pass.
 fn first_marked(alloc: Global, places: usize) -> Result<Vec<bool>, AllocError>
     requires { 0 < places }
     ensures sized { IfOk result (λ flags. length flags.items ≡ places) }
@@ -400,7 +412,7 @@ fn first_marked(alloc: Global, places: usize) -> Result<Vec<bool>, AllocError>
     Ok(flags)
 }
 
-/// So many addresses, none of them marked.
+/// A mark for each address, none set.
 fn none_marked(alloc: Global, places: usize) -> Result<Vec<bool>, AllocError>
     ensures sized { IfOk result (λ flags. length flags.items ≡ places) }
     ensures none { IfOk result (λ flags. (at : ℕ) → at < places → is_in flags.items at ≡ false) }

@@ -33,7 +33,7 @@ pub(crate) enum Predecessor {
 }
 
 impl Predecessor {
-    /// With one edge more.
+    /// Adds an edge.
     fn with_edge(self, falls: bool) -> Predecessor
         ensures { result ≡ with_edge falls self }
     {
@@ -74,7 +74,8 @@ impl Predecessors {
         requires some { 0 < places }
         requires places { HasPlaces listing.now places }
         ensures is_join { IfOk result (λ predecessors. AreJoins image.now listing.now (is_join_at predecessors)) }
-        ensures is_kept { IfOk result (λ predecessors. (at : ℕ) → is_kept_at predecessors at ≡ is_kept image.now listing.now at) }
+        ensures is_kept { IfOk result (λ predecessors. (at : ℕ) →
+            is_kept_at predecessors at ≡ is_kept image.now listing.now at) }
     {
         let mut predecessors = Predecessors::beginning(alloc, image, listing, places)?;
         for i in 0..listing.len() {
@@ -106,14 +107,15 @@ impl Predecessors {
         Ok(Predecessors { predecessors })
     }
 
-    /// The edges of an instruction are counted.
+    /// Counts the edges of an instruction.
     fn count(&mut self, image: &Image, nest: &Nest, place: Placed)
         requires nest { nest.now ≡ ranges image.now.loops }
         requires place { MayBeTaken image.now (length self.old) place }
         ensures sized { length self.new ≡ length self.old }
         ensures reports { (cuts : List Cut) (rest : List (APlace × AnEdge)) →
             ((e : APlace × AnEdge) → IsAmong (edges_of place) e → IsAmong (edges_in cuts) e) →
-            ArePredecessors image.now cuts (edges_of place ++ rest) self.old → ArePredecessors image.now cuts rest self.new }
+            ArePredecessors image.now cuts (edges_of place ++ rest) self.old →
+            ArePredecessors image.now cuts rest self.new }
     {
         let edges = asked(place.instr);
         for edge in edges {

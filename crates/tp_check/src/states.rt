@@ -10,7 +10,7 @@ use std::alloc::{AllocError, Global};
 use tp_image::Image;
 use tp_state::{State, StateFault};
 
-/// Before the first pass: of so many addresses the first alone has a state.
+/// The states before the first pass: the first address alone has one.
 pub fn first_states(
     alloc: Global,
     image: &Image,
@@ -26,7 +26,7 @@ pub fn first_states(
     Ok(states)
 }
 
-/// No address of so many has a state.
+/// A place for each address, none with a state.
 fn no_states(alloc: Global, places: usize) -> Result<Vec<Option<State>>, AllocError>
     ensures { IfOk result (λ states. states.items ≡ replicate places None) }
 {
@@ -37,9 +37,8 @@ fn no_states(alloc: Global, places: usize) -> Result<Vec<Option<State>>, AllocEr
     Ok(states)
 }
 
-/// A state arrives at an address: what holds of it and of the state there is kept there from then on. It answers whether that is
-/// another state than before. S6 and S9 are refused at the address. Where the state comes again, after one below it, no values
-/// of words are compared.
+/// A state arrives at an address and is joined with the one kept there. Returns whether that changed it. Fails with S6
+/// and S9 at the address. Where the state comes again, after one below it, no values of words are compared.
 pub fn enter(
     alloc: Global,
     states: &mut [Option<State>],
@@ -80,8 +79,8 @@ pub fn state_at(states: &[Option<State>], at: usize) -> Option<&State>
     }
 }
 
-/// A state takes the value of what is known at an address, if anything is: where it reaches the address, one above it; else any. True
-/// where something is known there.
+/// A state takes the value of what is known at an address, if anything is: where it reaches the address, one above it;
+/// else any. True where something is known there.
 pub(crate) fn read_into(
     states: &[Option<State>],
     at: usize,

@@ -12,8 +12,8 @@ use tp_state::State;
 /// What is known before some instructions of a code, from which the rest can be worked out.
 #[derive(Drop)]
 pub struct Table {
-    /// The states, each with its address, by rising address: at the first address, at those that two edges reach, and at
-    /// loops' heads, if a way leads there, and nowhere else.
+    /// The states, each with its address, by rising address: at the first address, at those that two edges reach, and
+    /// at loops' heads, if a way leads there, and nowhere else.
     pub states: Vec<(u32, State)>,
 }
 
@@ -25,7 +25,8 @@ impl Table {
         predecessors: &Predecessors,
     ) -> Result<Table, AllocError>
         requires few { length states.items ≤ 2 ^ 32 }
-        ensures { IfOk result (λ table. AreStatesOf (is_kept_at predecessors.now) (table_of states.items) table.states.items) }
+        ensures { IfOk result (λ table. AreStatesOf (is_kept_at predecessors.now) (table_of states.items)
+            table.states.items) }
     {
         let mut kept = Vec::new(alloc);
         for at in 0..states.len() {

@@ -20,8 +20,8 @@ pub enum Entry {
     Lost(LostCause),
 }
 
-/// What became of the packets of a batch: one entry for each, in the order of their numbers. A contract sees the list of
-/// these.
+/// What became of the packets of a batch: one entry for each, in the order of their numbers. A contract sees the list
+/// of these.
 #[derive(Drop)]
 pub struct Collected {
     pub entries: Vec<Entry>,

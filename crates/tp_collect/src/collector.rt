@@ -42,7 +42,8 @@ impl<'j> Model for Collector<'j> {
 }
 
 impl<'j> Collector<'j> {
-    /// A collector of a batch's packets, with nothing filed. It makes room for all entries, so no later call takes memory.
+    /// A collector of a batch's packets, with nothing filed. It makes room for all entries, so no later call takes
+    /// memory.
     pub fn new(
         alloc: Global,
         batch: u64,
@@ -80,8 +81,8 @@ impl<'j> Collector<'j> {
         Ok(())
     }
 
-    /// Files under a packet's number that a device refused a call for it. If it is refused, nothing changes. It takes no
-    /// memory.
+    /// Files under a packet's number that a device refused a call for it. If it is refused, nothing changes. It takes
+    /// no memory.
     pub fn lose(&mut self, number: u32, fault: LinkFault) -> Result<(), PutFault>
         ensures answer { result ≡ lose_answer (number_fault self.old.entries number) }
         ensures entry { self.new ≡ filed number (lost_by fault) (number_fault self.old.entries number) self.old }
@@ -97,8 +98,8 @@ impl<'j> Collector<'j> {
         Ok(())
     }
 
-    /// One entry for each packet, in order: what was filed under its number, else that it was lost by a stop. It takes no
-    /// memory.
+    /// One entry for each packet, in order: what was filed under its number, else that it was lost by a stop. It takes
+    /// no memory.
     pub fn finish(self) -> Collected
         ensures entries { result ≡ self.entry.entries }
         ensures collected { IsCollected self.entry.batch result }

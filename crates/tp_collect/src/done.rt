@@ -56,8 +56,8 @@ fn message(bytes: &[u8]) -> ArrayVec<u8, MESSAGE_BYTES>
 }
 
 impl Done {
-    /// The result of a packet of a batch: `bytes` are the packet's. It takes no memory, and borrows neither the image nor
-    /// the packet.
+    /// The result of a packet of a batch: `bytes` are the packet's. It takes no memory, and borrows neither the image
+    /// nor the packet.
     #[inline(always)]
     pub fn new(
         batch: u64,

@@ -2,8 +2,8 @@
 //!
 //! A [`Done`] is the result of one packet, and its type keeps that this is what the run of that packet alone gives. A
 //! [`Collector`] takes the results of a batch in any order and files each under its packet's number; [`Collected`] has
-//! one [`Entry`] for each packet, in order. It belongs to the caller, who needs neither the image nor the packets for it
-//! any more.
+//! one [`Entry`] for each packet, in order. It belongs to the caller, who needs neither the image nor the packets for
+//! it any more.
 #![tactic(auto)]
 
 mod collected;

@@ -42,7 +42,11 @@ pub not_found_at : (first : ℕ) (cuts : List Cut) (at : ℕ) → AreSome cuts �
 not_found_at first [] at are h = refl
 not_found_at first (cut ∷ cuts) at are h = by_test (not_found_at (first + length cut.bytes) cuts (at - length cut.bytes)) (nat_eq at 0) refl (nat_lt at (length cut.bytes)) refl
   where
-    by_test : (AreSome cuts → ((i : ℕ) → i < length cuts → get_or (starts_from (first + length cut.bytes) cuts) i 0 ≡ first + length cut.bytes + (at - length cut.bytes) → ⊥) → cut_at cuts (at - length cut.bytes) ≡ None) → (p : Bool) → nat_eq at 0 ≡ p → (q : Bool) → nat_lt at (length cut.bytes) ≡ q → (if p then Some cut else if q then None else cut_at cuts (at - length cut.bytes)) ≡ None
+    by_test : (AreSome cuts → ((i : ℕ) → i < length cuts →
+        get_or (starts_from (first + length cut.bytes) cuts) i 0 ≡ first + length cut.bytes + (at - length cut.bytes) → ⊥)
+        → cut_at cuts (at - length cut.bytes) ≡ None) → (p : Bool) → nat_eq at 0 ≡ p → (q : Bool) →
+        nat_lt at (length cut.bytes) ≡ q → (if p then Some cut else if q then None else cut_at cuts
+        (at - length cut.bytes)) ≡ None
     by_test go true e q e' = let zero_at : at ≡ 0 = grind (arith, nat_tests) in absurd (h 0 (omega arith) (omega arith))
     by_test go false e true e' = refl
     by_test go false e false e' =

@@ -1,5 +1,7 @@
 -- The cutting as a function is the cutting as a relation.
-use Rattle.std.proofs.Common.{◌≡◌, ◌≢◌, ℕ, zero, suc, ◌+◌, ◌<◌, ◌≤◌, Bool, true, false, ◌&&◌, nat_lt, ℤ, List, [], ◌∷◌, ◌++◌, length, take, Option, Some, None, Ok, Err, refl, ap, sym, ◌∙◌, arith, append_assoc, length-append}
+use Rattle.std.proofs.Common.{◌≡◌, ◌≢◌, ℕ, zero, suc, ◌+◌, ◌<◌, ◌≤◌, Bool, true, false, ◌&&◌, nat_lt, ℤ, List, [], ◌∷◌}
+use Rattle.std.proofs.Common.{◌++◌, length, take, Option, Some, None, Ok, Err, refl, ap, sym, ◌∙◌, arith, append_assoc}
+use Rattle.std.proofs.Common.{length-append}
 use Rattle.std.specs.List.{list_all}
 use Rattle.std.proofs.lemmas.Bool.Decides.{nat_tests}
 use Rattle.tp_prefix.specs.Spelling.{is_prefix, spelled}
@@ -24,7 +26,9 @@ unfolding cutting_from
 eighth_prefix at b rest prefixes is many =
     let test : nat_lt (length (prefixes ++ b ∷ [])) 8 ≡ false = grind (arith, nat_tests) in rw (is, test) refl
 
-pub last_of_spelling : (at b : ℕ) (rest prefixes : List ℕ) → is_prefix b ≡ false → cutting_from at (b ∷ rest) prefixes ≡ before at (prefixes ++ b ∷ []) (spelled_instruction (prefixes ++ b ∷ [])) (cutting_from (at + length (prefixes ++ b ∷ [])) rest [])
+pub last_of_spelling : (at b : ℕ) (rest prefixes : List ℕ) → is_prefix b ≡ false →
+    cutting_from at (b ∷ rest) prefixes ≡ before at (prefixes ++ b ∷ []) (spelled_instruction (prefixes ++ b ∷ []))
+    (cutting_from (at + length (prefixes ++ b ∷ [])) rest [])
 unfolding cutting_from
 last_of_spelling at b rest prefixes is = rw is refl
 
@@ -35,7 +39,8 @@ unfolding spelled
 cut_spelling at o [] rest prefixes r is few = absurd (none_some None r refl is)
 cut_spelling at o (b ∷ []) rest prefixes r is few = by_test (is_prefix b) refl
   where
-    by_test : (p : Bool) → is_prefix b ≡ p → cutting_from at (b ∷ rest) prefixes ≡ before at (prefixes ++ b ∷ []) (spelled_instruction (prefixes ++ b ∷ [])) (cutting_from (at + length (prefixes ++ b ∷ [])) rest [])
+    by_test : (p : Bool) → is_prefix b ≡ p → cutting_from at (b ∷ rest) prefixes ≡ before at (prefixes ++ b ∷ [])
+        (spelled_instruction (prefixes ++ b ∷ [])) (cutting_from (at + length (prefixes ++ b ∷ [])) rest [])
     by_test true e = absurd (none_some _ r (no_last o b e) is)
     by_test false e = last_of_spelling at b rest prefixes e
 cut_spelling at o (b ∷ c ∷ bytes) rest prefixes r is few = by_test (λ o'. cut_spelling at o' (c ∷ bytes) rest (prefixes ++ b ∷ []) r) (is_prefix b) refl
@@ -46,7 +51,12 @@ cut_spelling at o (b ∷ c ∷ bytes) rest prefixes r is few = by_test (λ o'. c
     longer : length (prefixes ++ b ∷ []) ≡ length prefixes + 1
     longer = length-append prefixes (b ∷ [])
 
-    by_test : ((o' : ℕ) → spelled o' (c ∷ bytes) ≡ Some r → length (prefixes ++ b ∷ []) + length (c ∷ bytes) ≤ 8 → cutting_from at (c ∷ bytes ++ rest) (prefixes ++ b ∷ []) ≡ before at ((prefixes ++ b ∷ []) ++ c ∷ bytes) (spelled_instruction ((prefixes ++ b ∷ []) ++ c ∷ bytes)) (cutting_from (at + length ((prefixes ++ b ∷ []) ++ c ∷ bytes)) rest [])) → (p : Bool) → is_prefix b ≡ p → cutting_from at (b ∷ c ∷ bytes ++ rest) prefixes ≡ before at (prefixes ++ b ∷ c ∷ bytes) (spelled_instruction (prefixes ++ b ∷ c ∷ bytes)) (cutting_from (at + length (prefixes ++ b ∷ c ∷ bytes)) rest [])
+    by_test : ((o' : ℕ) → spelled o' (c ∷ bytes) ≡ Some r → length (prefixes ++ b ∷ []) + length (c ∷ bytes) ≤ 8 →
+        cutting_from at (c ∷ bytes ++ rest) (prefixes ++ b ∷ []) ≡ before at ((prefixes ++ b ∷ []) ++ c ∷ bytes)
+        (spelled_instruction ((prefixes ++ b ∷ []) ++ c ∷ bytes))
+        (cutting_from (at + length ((prefixes ++ b ∷ []) ++ c ∷ bytes)) rest [])) → (p : Bool) → is_prefix b ≡ p →
+        cutting_from at (b ∷ c ∷ bytes ++ rest) prefixes ≡ before at (prefixes ++ b ∷ c ∷ bytes)
+        (spelled_instruction (prefixes ++ b ∷ c ∷ bytes)) (cutting_from (at + length (prefixes ++ b ∷ c ∷ bytes)) rest [])
     by_test go true e =
         one_prefix at b (c ∷ bytes ++ rest) prefixes e (omega (arith, longer)) ∙ go _ (sym (prefix_first o b c bytes e) ∙ is) (omega (arith, longer))
         ∙ ap (λ whole. before at whole (spelled_instruction whole) (cutting_from (at + length whole) rest [])) joined
@@ -76,7 +86,10 @@ cut_off at (b ∷ code) prefixes are some few = by_test (cut_off at code (prefix
     longer : length (prefixes ++ b ∷ []) ≡ length prefixes + 1
     longer = length-append prefixes (b ∷ [])
 
-    by_test : (ArePrefixes code → 0 < length (prefixes ++ b ∷ []) + length code → length (prefixes ++ b ∷ []) + length code < 8 → cutting_from at code (prefixes ++ b ∷ []) ≡ Err (Refused D1 at)) → (p : Bool) → is_prefix b ≡ p → (p && list_all is_prefix code) ≡ true → cutting_from at (b ∷ code) prefixes ≡ Err (Refused D1 at)
+    by_test : (ArePrefixes code → 0 < length (prefixes ++ b ∷ []) + length code →
+        length (prefixes ++ b ∷ []) + length code < 8 → cutting_from at code (prefixes ++ b ∷ []) ≡ Err (Refused D1 at)) →
+        (p : Bool) → is_prefix b ≡ p → (p && list_all is_prefix code) ≡ true →
+        cutting_from at (b ∷ code) prefixes ≡ Err (Refused D1 at)
     by_test go true e are = one_prefix at b code prefixes e (omega (arith, longer)) ∙ go are (omega (arith, longer)) (omega (arith, longer))
     by_test go false e are = cc
 
@@ -92,7 +105,9 @@ cut_too_long at (suc n) (b ∷ code) prefixes eight many are = by_test (cut_too_
     longer : length (prefixes ++ b ∷ []) ≡ length prefixes + 1
     longer = length-append prefixes (b ∷ [])
 
-    by_test : (length (prefixes ++ b ∷ []) + suc n ≡ 8 → suc n ≤ length code → ArePrefixes (take (suc n) code) → cutting_from at code (prefixes ++ b ∷ []) ≡ Err (Refused D2 at)) → (p : Bool) → is_prefix b ≡ p → (p && list_all is_prefix (take (suc n) code)) ≡ true → cutting_from at (b ∷ code) prefixes ≡ Err (Refused D2 at)
+    by_test : (length (prefixes ++ b ∷ []) + suc n ≡ 8 → suc n ≤ length code → ArePrefixes (take (suc n) code) →
+        cutting_from at code (prefixes ++ b ∷ []) ≡ Err (Refused D2 at)) → (p : Bool) → is_prefix b ≡ p →
+        (p && list_all is_prefix (take (suc n) code)) ≡ true → cutting_from at (b ∷ code) prefixes ≡ Err (Refused D2 at)
     by_test go true e are = one_prefix at b code prefixes e (omega (arith, longer)) ∙ go (omega (arith, longer)) (omega arith) are
     by_test go false e are = cc
 

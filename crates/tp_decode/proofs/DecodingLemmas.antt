@@ -1,5 +1,7 @@
 -- One instruction more in a listing, and what an answer says.
-use Rattle.std.proofs.Common.{◌≡◌, ◌≢◌, ℕ, ◌+◌, ◌-◌, ◌<◌, true, nat_lt, List, [], ◌∷◌, ◌++◌, length, take, drop, Option, Some, None, Result, Ok, Err, MatchResult, IfOk, IfErr, refl, subst, ap, sym, ◌∙◌, arith, length-append, length-drop, slice_range}
+use Rattle.std.proofs.Common.{◌≡◌, ◌≢◌, ℕ, ◌+◌, ◌-◌, ◌<◌, true, nat_lt, List, [], ◌∷◌, ◌++◌, length, take, drop, Option}
+use Rattle.std.proofs.Common.{Some, None, Result, Ok, Err, MatchResult, IfOk, IfErr, refl, subst, ap, sym, ◌∙◌, arith}
+use Rattle.std.proofs.Common.{length-append, length-drop, slice_range}
 use Rattle.std.specs.List.{list_all, AllByRecursion}
 use Rattle.std.proofs.lemmas.List.{length-map, append-nil, take-append-drop, drop-drop, map-append, length-take}
 use Rattle.std.proofs.lemmas.List.Folds.{list_all-append}
@@ -28,7 +30,8 @@ pub one_more : (code : List ℕ) (at : ℕ) (cuts : List Cut) (cut : Cut) → wi
 one_more code at cuts cut so_far begins =
     let n = length cut.bytes in
     let rest = drop (at + n) code in
-    let split : drop at code ≡ cut.bytes ++ rest = sym (take-append-drop n (drop at code)) ∙ ap (λ front. front ++ drop n (drop at code)) begins.front ∙ ap (λ r. cut.bytes ++ r) (drop-drop n at code) in
+    let split : drop at code ≡ cut.bytes ++ rest = sym (take-append-drop n (drop at code)) ∙
+    ap (λ front. front ++ drop n (drop at code)) begins.front ∙ ap (λ r. cut.bytes ++ r) (drop-drop n at code) in
     sym (with_front-append cuts (cut ∷ []) (cutting_from (at + n) rest []))
     ∙ ap (with_front cuts) (sym (ap (λ c. cutting_from at c []) split ∙ cut_one at cut rest begins.spelled ∙ before_is at cut _))
     ∙ so_far
@@ -45,7 +48,9 @@ gives_err (Refused D3 at) said is = is
 gives_err Memory said is = tt
 
 -- no instruction in front
-pub stopped : (code : List ℕ) (at : ℕ) (cuts : List Cut) (e : DecodeFault) → with_front cuts (cutting_from at (drop at code) []) ≡ cutting code → Stops (drop at code) at e → Gives (Err e) (cutting code)
+pub stopped : (code : List ℕ) (at : ℕ) (cuts : List Cut) (e : DecodeFault) →
+    with_front cuts (cutting_from at (drop at code) []) ≡ cutting code → Stops (drop at code) at e →
+    Gives (Err e) (cutting code)
 stopped code at cuts e so_far is = gives_err e (cutting code) (sym so_far ∙ ap (with_front cuts) (stops at (drop at code) e is))
 
 starts_more : (at : ℕ) (cuts : List Cut) (cut : Cut) → starts_from at (cuts ++ cut ∷ []) ≡ starts_from at cuts ++ (at + length (code_of cuts)) ∷ []
@@ -59,22 +64,33 @@ all_more [] cut all is = (is, tt)
 all_more (c ∷ cuts) cut all is = (all.0, all_more cuts cut all.1 is)
 
 -- a listing with one instruction more
-pub listing_more : (starts : List ℕ) (numbers : List (Option ℕ)) (pieces : List Piece) (piece : Piece) (at : ℕ) → IsListing starts numbers pieces → length (code_of (cuts_of pieces)) ≡ at → 0 < length (cut_of piece).bytes → IsSpelled (cut_of piece) →
+pub listing_more : (starts : List ℕ) (numbers : List (Option ℕ)) (pieces : List Piece) (piece : Piece) (at : ℕ) →
+    IsListing starts numbers pieces → length (code_of (cuts_of pieces)) ≡ at → 0 < length (cut_of piece).bytes →
+    IsSpelled (cut_of piece) →
     IsListing (starts ++ at ∷ []) (numbers ++ numbered (length pieces) (cut_of piece)) (pieces ++ piece ∷ [])
 listing_more starts numbers pieces piece at is place some spelled = record {
   counted =
       ap (λ ns. ns ++ numbered (length pieces) (cut_of piece)) is.counted
-      ∙ sym (ap (numbers_from 0) (map-append cut_of pieces (piece ∷ [])) ∙ numbers_more 0 (cuts_of pieces) (cut_of piece) ∙ ap (λ n. numbers_from 0 (cuts_of pieces) ++ numbered n (cut_of piece)) (omega (arith, length-map pieces cut_of)));
+      ∙ sym (ap (numbers_from 0) (map-append cut_of pieces (piece ∷ [])) ∙
+      numbers_more 0 (cuts_of pieces) (cut_of piece) ∙ ap
+      (λ n. numbers_from 0 (cuts_of pieces) ++ numbered n (cut_of piece)) (omega (arith, length-map pieces cut_of)));
   each = subst (AllByRecursion IsSpelled) (sym (map-append cut_of pieces (piece ∷ []))) (all_more (cuts_of pieces) (cut_of piece) is.each spelled);
-  rising = ap (λ xs. xs ++ at ∷ []) is.rising ∙ sym (ap (starts_from 0) (map-append cut_of pieces (piece ∷ [])) ∙ starts_more 0 (cuts_of pieces) (cut_of piece) ∙ ap (λ n. starts_from 0 (cuts_of pieces) ++ n ∷ []) (omega (arith, place)));
+  rising = ap (λ xs. xs ++ at ∷ []) is.rising ∙ sym (ap (starts_from 0) (map-append cut_of pieces (piece ∷ [])) ∙
+      starts_more 0 (cuts_of pieces) (cut_of piece) ∙ ap (λ n. starts_from 0 (cuts_of pieces) ++ n ∷ [])
+      (omega (arith, place)));
   some =
       let test : nat_lt 0 (length (cut_of piece).bytes) ≡ true = grind (arith, nat_tests) in
-      ap (list_all (λ cut. nat_lt 0 (length cut.bytes))) (map-append cut_of pieces (piece ∷ [])) ∙ list_all-append (λ cut. nat_lt 0 (length cut.bytes)) (cuts_of pieces) (cut_of piece ∷ []) ∙ rw (is.some, test) refl;
+      ap (list_all (λ cut. nat_lt 0 (length cut.bytes))) (map-append cut_of pieces (piece ∷ [])) ∙
+      list_all-append (λ cut. nat_lt 0 (length cut.bytes)) (cuts_of pieces) (cut_of piece ∷ []) ∙
+      rw (is.some, test) refl;
 }
 
 pub code_more : (pieces : List Piece) (piece : Piece) → length (code_of (cuts_of (pieces ++ piece ∷ []))) ≡ length (code_of (cuts_of pieces)) + length (cut_of piece).bytes
 code_more pieces piece =
-    ap (λ cuts. length (code_of cuts)) (map-append cut_of pieces (piece ∷ [])) ∙ ap length (flat_map-append (λ cut. cut.bytes) (cuts_of pieces) (cut_of piece ∷ [])) ∙ length-append (code_of (cuts_of pieces)) _ ∙ ap (λ bytes. length (code_of (cuts_of pieces)) + length bytes) (append-nil (cut_of piece).bytes)
+    ap (λ cuts. length (code_of cuts)) (map-append cut_of pieces (piece ∷ [])) ∙
+    ap length (flat_map-append (λ cut. cut.bytes) (cuts_of pieces) (cut_of piece ∷ [])) ∙
+    length-append (code_of (cuts_of pieces)) _ ∙ ap (λ bytes. length (code_of (cuts_of pieces)) + length bytes)
+    (append-nil (cut_of piece).bytes)
 
 -- what an answer says of the code
 pub said_cutting : (code : List ℕ) (r : Result (List Cut) DecodeFault) → Gives r (cutting code) → IfOk r (λ cuts. IsCutting code cuts)
@@ -130,7 +146,9 @@ unknown_in_front code at s stands none = record {
     missing None i e f = cc
     missing (Some j) i e f = cc
 
-pub known_in_front : (code : List ℕ) (at : ℕ) (s : Spelled) (bytes : List ℕ) (i : Instr) → IsSpelledAt code at s → instruction s.function s.operand ≡ Some i → bytes ≡ take (s.next - at) (drop at code) → BeginsWith (drop at code) record { bytes = bytes; instr = i }
+pub known_in_front : (code : List ℕ) (at : ℕ) (s : Spelled) (bytes : List ℕ) (i : Instr) → IsSpelledAt code at s →
+    instruction s.function s.operand ≡ Some i → bytes ≡ take (s.next - at) (drop at code) →
+    BeginsWith (drop at code) record { bytes = bytes; instr = i }
 known_in_front code at s bytes i stands found is =
     let has = given_entry s.function s.operand i found in
     let count : length bytes ≡ s.next - at = omega (arith, ap length is, length-take (s.next - at) (drop at code), length-drop at code, stands.within) in

@@ -1,5 +1,7 @@
 -- Lines of a listing.
-use Rattle.std.proofs.Common.{◌≡◌, ℕ, zero, suc, ◌+◌, ◌<◌, Bool, true, false, not, List, [], ◌∷◌, ◌++◌, length, get_or, codes, Option, Some, Result, Ok, Err, IfOk, refl, ap, sym, ◌∙◌, arith, append_assoc, slice_get}
+use Rattle.std.proofs.Common.{◌≡◌, ℕ, zero, suc, ◌+◌, ◌<◌, Bool, true, false, not, List, [], ◌∷◌, ◌++◌, length, get_or}
+use Rattle.std.proofs.Common.{codes, Option, Some, Result, Ok, Err, IfOk, refl, ap, sym, ◌∙◌, arith, append_assoc}
+use Rattle.std.proofs.Common.{slice_get}
 use Rattle.std.proofs.lemmas.Option.{same_Some}
 use Rattle.std.proofs.lemmas.List.{length-map, append-nil}
 use Rattle.std.specs.Str.{bytes_eq}
@@ -24,7 +26,9 @@ lines_at at (c ∷ cuts) zero cut e = ap (λ x. Some (line at x)) (same_Some c c
 lines_at at (c ∷ cuts) (suc i) cut e = lines_at (at + length c.bytes) cuts i cut e
 
 -- the line that a listing has of one of its pieces
-pub line_of_piece : (starts : List ℕ) (numbers : List (Option ℕ)) (pieces : List Piece) (i : ℕ) (piece : Piece) → IsListing starts numbers pieces → i < length pieces → piece ≡ get_or pieces i piece → slice_get (lines_from 0 (cuts_of pieces)) i ≡ Some (line (get_or starts i 0) (cut_of piece))
+pub line_of_piece : (starts : List ℕ) (numbers : List (Option ℕ)) (pieces : List Piece) (i : ℕ) (piece : Piece) →
+    IsListing starts numbers pieces → i < length pieces → piece ≡ get_or pieces i piece →
+    slice_get (lines_from 0 (cuts_of pieces)) i ≡ Some (line (get_or starts i 0) (cut_of piece))
 line_of_piece starts numbers pieces i piece is h e =
     lines_at 0 (cuts_of pieces) i (cut_of piece) (cut_there pieces i piece h e) ∙ ap (λ xs. Some (line (get_or xs i 0) (cut_of piece))) (sym is.rising)
   where
@@ -51,12 +55,15 @@ other_default (x ∷ xs) zero d e h = refl
 other_default (x ∷ xs) (suc i) d e h = other_default xs i d e (omega arith)
 
 -- the line that is made of a start and a piece
-pub made_of : (starts : List ℕ) (numbers : List (Option ℕ)) (pieces : List Piece) (i start : ℕ) (piece : Piece) → IsListing starts numbers pieces → i < length pieces → start ≡ get_or starts i start → piece ≡ get_or pieces i piece → slice_get (lines_from 0 (cuts_of pieces)) i ≡ Some (line start (cut_of piece))
+pub made_of : (starts : List ℕ) (numbers : List (Option ℕ)) (pieces : List Piece) (i start : ℕ) (piece : Piece) →
+    IsListing starts numbers pieces → i < length pieces → start ≡ get_or starts i start → piece ≡ get_or pieces i piece →
+    slice_get (lines_from 0 (cuts_of pieces)) i ≡ Some (line start (cut_of piece))
 made_of starts numbers pieces i start piece is h e e' =
     let within : i < length starts = omega (arith, starts_of_pieces starts numbers pieces is) in
     line_of_piece starts numbers pieces i piece is h e' ∙ ap (λ n. Some (line n (cut_of piece))) (other_default starts i 0 start within ∙ sym e)
 
-pub said_of : {S E : Type 0} (bytes : S → List ℕ) (r : Result S E) (line : List ℕ) (there : Option (List ℕ)) → there ≡ Some line → IfOk r (λ text. bytes text ≡ line) → IfOk r (λ text. there ≡ Some (bytes text))
+pub said_of : {S E : Type 0} (bytes : S → List ℕ) (r : Result S E) (line : List ℕ) (there : Option (List ℕ)) →
+    there ≡ Some line → IfOk r (λ text. bytes text ≡ line) → IfOk r (λ text. there ≡ Some (bytes text))
 said_of bytes (Ok text) line there e h = e ∙ ap Some (sym h)
 said_of bytes (Err e') line there e h = tt
 

@@ -1,5 +1,7 @@
 -- The numbers of instructions, by their addresses.
-use Rattle.std.proofs.Common.{◌≡◌, ℕ, zero, suc, ◌+◌, ◌-◌, ◌<◌, ◌≤◌, Bool, true, false, nat_eq, nat_lt, if◌then◌else◌, List, [], ◌∷◌, ◌++◌, length, get_or, replicate, Option, Some, None, refl, ap, sym, ◌∙◌, arith, append_assoc, slice_get, length-append}
+use Rattle.std.proofs.Common.{◌≡◌, ℕ, zero, suc, ◌+◌, ◌-◌, ◌<◌, ◌≤◌, Bool, true, false, nat_eq, nat_lt, if◌then◌else◌}
+use Rattle.std.proofs.Common.{List, [], ◌∷◌, ◌++◌, length, get_or, replicate, Option, Some, None, refl, ap, sym, ◌∙◌}
+use Rattle.std.proofs.Common.{arith, append_assoc, slice_get, length-append}
 use Rattle.std.specs.Option.{option_and_then, option_map}
 use Rattle.std.proofs.lemmas.Bool.Decides.{nat_tests}
 use Rattle.std.proofs.lemmas.List.{length-map, length-replicate, append-nil}
@@ -45,20 +47,27 @@ kept_is_number i (cut ∷ cuts) (suc at) are =
     some : 0 < length cut.bytes
     some = (some_first cut cuts are).0
 
-    by_test : kept_at (numbers_from (i + 1) cuts) (suc at - length cut.bytes) ≡ index_from (i + 1) cuts (suc at - length cut.bytes) → (p : Bool) → nat_lt (suc at) (length cut.bytes) ≡ p → kept_at (numbered i cut ++ numbers_from (i + 1) cuts) (suc at) ≡ (if p then None else index_from (i + 1) cuts (suc at - length cut.bytes))
+    by_test : kept_at (numbers_from (i + 1) cuts) (suc at - length cut.bytes) ≡ index_from (i + 1) cuts
+        (suc at - length cut.bytes) → (p : Bool) → nat_lt (suc at) (length cut.bytes) ≡ p →
+        kept_at (numbered i cut ++ numbers_from (i + 1) cuts) (suc at) ≡
+        (if p then None else index_from (i + 1) cuts (suc at - length cut.bytes))
     by_test go true e =
         let inside : suc at < length cut.bytes = grind (arith, nat_tests) in
         ap (option_and_then (λ n. n)) (get_left (numbered i cut) (numbers_from (i + 1) cuts) (suc at) (omega (arith, length-numbered i cut some))) ∙ none_of (length cut.bytes - 1) at
     by_test go false e =
         let past : length cut.bytes ≤ suc at = grind (arith, nat_tests) in
-        ap (option_and_then (λ n. n)) (get_right (numbered i cut) (numbers_from (i + 1) cuts) (suc at) (omega (arith, length-numbered i cut some)) ∙ ap (slice_get (numbers_from (i + 1) cuts)) (omega (arith, length-numbered i cut some)))
+        ap (option_and_then (λ n. n)) (get_right (numbered i cut) (numbers_from (i + 1) cuts) (suc at)
+        (omega (arith, length-numbered i cut some)) ∙ ap (slice_get (numbers_from (i + 1) cuts))
+        (omega (arith, length-numbered i cut some)))
         ∙ go
 
 -- one instruction more
 pub numbers_more : (i : ℕ) (cuts : List Cut) (cut : Cut) → numbers_from i (cuts ++ cut ∷ []) ≡ numbers_from i cuts ++ numbered (i + length cuts) cut
 numbers_more i [] cut = append-nil (numbered i cut) ∙ ap (λ n. numbered n cut) (omega arith)
 numbers_more i (c ∷ cuts) cut =
-    ap (λ ns. numbered i c ++ ns) (numbers_more (i + 1) cuts cut ∙ ap (λ n. numbers_from (i + 1) cuts ++ numbered n cut) (omega arith)) ∙ sym (append_assoc (numbered i c) (numbers_from (i + 1) cuts) (numbered (i + suc (length cuts)) cut))
+    ap (λ ns. numbered i c ++ ns) (numbers_more (i + 1) cuts cut ∙
+    ap (λ n. numbers_from (i + 1) cuts ++ numbered n cut) (omega arith)) ∙
+    sym (append_assoc (numbered i c) (numbers_from (i + 1) cuts) (numbered (i + suc (length cuts)) cut))
 
 -- a number for each byte of the code
 pub length-numbers : (i : ℕ) (cuts : List Cut) → AreSome cuts → length (numbers_from i cuts) ≡ length (code_of cuts)
@@ -80,7 +89,9 @@ cut_from i front (cut ∷ cuts) at is =
     by_test (cut_from (i + 1) (front ++ cut ∷ []) cuts (at - length cut.bytes) (length-append front (cut ∷ []) ∙ omega (arith, is))) (nat_eq at 0) (nat_lt at (length cut.bytes))
   where
     by_test : cut_at cuts (at - length cut.bytes) ≡ option_and_then (slice_get ((front ++ cut ∷ []) ++ cuts)) (index_from (i + 1) cuts (at - length cut.bytes)) → (p q : Bool) →
-        (if p then Some cut else if q then None else cut_at cuts (at - length cut.bytes)) ≡ option_and_then (slice_get (front ++ cut ∷ cuts)) (if p then Some i else if q then None else index_from (i + 1) cuts (at - length cut.bytes))
+        (if p then Some cut else if q then None else cut_at cuts (at - length cut.bytes)) ≡ option_and_then
+        (slice_get (front ++ cut ∷ cuts)) (if p then Some i else if q then None else index_from (i + 1) cuts
+        (at - length cut.bytes))
     by_test go true q = sym (get_at_seam front cut cuts i is)
     by_test go false true = refl
     by_test go false false = go ∙ ap (λ all. option_and_then (slice_get all) (index_from (i + 1) cuts (at - length cut.bytes))) (append_assoc front (cut ∷ []) cuts)
@@ -92,16 +103,22 @@ cut_by_number cuts at = cut_from 0 [] cuts at refl
 abbrev pub placed : ℕ → Cut → Placed
 placed at cut = record { at = at; instr = cut.instr; next = at + length cut.bytes }
 
-place_from : (i : ℕ) (front : List Placed) (cuts : List Cut) (first at : ℕ) → length front ≡ i → option_and_then (slice_get (front ++ placed_from first cuts)) (index_from i cuts at) ≡ option_map (placed (first + at)) (cut_at cuts at)
+place_from : (i : ℕ) (front : List Placed) (cuts : List Cut) (first at : ℕ) → length front ≡ i →
+    option_and_then (slice_get (front ++ placed_from first cuts)) (index_from i cuts at) ≡ option_map
+    (placed (first + at)) (cut_at cuts at)
 place_from i front [] first at is = refl
 place_from i front (cut ∷ cuts) first at is =
     let n = length cut.bytes in
     let here = placed first cut in
     by_test (place_from (i + 1) (front ++ here ∷ []) cuts (first + n) (at - n) (length-append front (here ∷ []) ∙ omega (arith, is))) (nat_eq at 0) refl (nat_lt at n) refl
   where
-    by_test : option_and_then (slice_get ((front ++ placed first cut ∷ []) ++ placed_from (first + length cut.bytes) cuts)) (index_from (i + 1) cuts (at - length cut.bytes)) ≡ option_map (placed (first + length cut.bytes + (at - length cut.bytes))) (cut_at cuts (at - length cut.bytes)) →
+    by_test : option_and_then (slice_get ((front ++ placed first cut ∷ []) ++
+        placed_from (first + length cut.bytes) cuts)) (index_from (i + 1) cuts (at - length cut.bytes)) ≡ option_map
+        (placed (first + length cut.bytes + (at - length cut.bytes))) (cut_at cuts (at - length cut.bytes)) →
         (p : Bool) → nat_eq at 0 ≡ p → (q : Bool) → nat_lt at (length cut.bytes) ≡ q →
-        option_and_then (slice_get (front ++ placed first cut ∷ placed_from (first + length cut.bytes) cuts)) (if p then Some i else if q then None else index_from (i + 1) cuts (at - length cut.bytes)) ≡ option_map (placed (first + at)) (if p then Some cut else if q then None else cut_at cuts (at - length cut.bytes))
+        option_and_then (slice_get (front ++ placed first cut ∷ placed_from (first + length cut.bytes) cuts))
+        (if p then Some i else if q then None else index_from (i + 1) cuts (at - length cut.bytes)) ≡ option_map
+        (placed (first + at)) (if p then Some cut else if q then None else cut_at cuts (at - length cut.bytes))
     by_test go true e q e' =
         let zero_at : at ≡ 0 = grind (arith, nat_tests) in
         get_at_seam front (placed first cut) (placed_from (first + length cut.bytes) cuts) i is ∙ ap (λ a. Some (placed a cut)) (omega arith)
@@ -130,12 +147,15 @@ place_of at [] i start piece h e e' = absurd (omega arith)
 place_of at (p ∷ pieces) zero start piece h e e' = ap (λ n. Some (placed n (cut_of p))) (sym e) ∙ ap (λ q. Some (placed start (cut_of q))) (sym e')
 place_of at (p ∷ pieces) (suc i) start piece h e e' = place_of (at + length (cut_of p).bytes) pieces i start piece (omega arith) e e'
 
-pub place_of_piece : (starts : List ℕ) (numbers : List (Option ℕ)) (pieces : List Piece) (i start : ℕ) (piece : Piece) → IsListing starts numbers pieces → i < length pieces → start ≡ get_or starts i start → piece ≡ get_or pieces i piece →
+pub place_of_piece : (starts : List ℕ) (numbers : List (Option ℕ)) (pieces : List Piece) (i start : ℕ) (piece : Piece) →
+    IsListing starts numbers pieces → i < length pieces → start ≡ get_or starts i start → piece ≡ get_or pieces i piece →
     slice_get (placed_from 0 (cuts_of pieces)) i ≡ Some (placed start (cut_of piece))
 place_of_piece starts numbers pieces i start piece is h e e' = place_of 0 pieces i start piece h (e ∙ ap (λ xs. get_or xs i start) is.rising) e'
 
 -- a listing has a number for each byte of its code, and no more starts
-pub listing_counts : (starts : List ℕ) (numbers : List (Option ℕ)) (pieces : List Piece) → IsListing starts numbers pieces → (length numbers ≡ length (code_of (cuts_of pieces))) × (length starts ≤ length numbers) × (length starts ≡ length pieces)
+pub listing_counts : (starts : List ℕ) (numbers : List (Option ℕ)) (pieces : List Piece) →
+    IsListing starts numbers pieces → (length numbers ≡ length (code_of (cuts_of pieces))) ×
+    (length starts ≤ length numbers) × (length starts ≡ length pieces)
 listing_counts starts numbers pieces is =
     let bytes = ap length is.counted ∙ length-numbers 0 (cuts_of pieces) is.some in
     let many = ap length is.rising ∙ length-starts 0 (cuts_of pieces) in

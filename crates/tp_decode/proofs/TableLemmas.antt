@@ -5,7 +5,11 @@ use Rattle.std.specs.Ordering.{int_eq}
 use Rattle.std.proofs.lemmas.Option.{same_Some}
 use Rattle.std.proofs.lemmas.Bool.Decides.{nat_tests, Decides-int_eq}
 use Rattle.tp_decode.specs.declared.instr.Instr.{Instr}
-use Rattle.tp_decode.specs.declared.instr.Instr.TheVariants.{Jump, Ldlp, Ldnl, Ldc, Ldnlp, Ldl, Adc, Cj, Ajw, Eqc, Stl, Stnl, Rev, Lb, Bsub, Diff, Add, Input, Prod, Gt, Wsub, Output, Sub, Seterr, Csub0, Stopp, Rem, Lend, Div, BitNot, BitXor, Sb, Shr, Shl, Mint, BitAnd, MoveBytes, BitOr, Sum, Mul}
+use Rattle.tp_decode.specs.declared.instr.Instr.TheVariants.{Jump, Ldlp, Ldnl, Ldc, Ldnlp, Ldl, Adc, Cj, Ajw, Eqc, Stl}
+use Rattle.tp_decode.specs.declared.instr.Instr.TheVariants.{Stnl, Rev, Lb, Bsub, Diff, Add, Input, Prod, Gt, Wsub}
+use Rattle.tp_decode.specs.declared.instr.Instr.TheVariants.{Output, Sub, Seterr, Csub0, Stopp, Rem, Lend, Div, BitNot}
+use Rattle.tp_decode.specs.declared.instr.Instr.TheVariants.{BitXor, Sb, Shr, Shl, Mint, BitAnd, MoveBytes, BitOr, Sum}
+use Rattle.tp_decode.specs.declared.instr.Instr.TheVariants.{Mul}
 use Rattle.tp_decode.specs.Table.{entry, functions, operations, operation, instruction}
 
 -- an instruction is that of its entry
@@ -62,7 +66,73 @@ find_passes Q p (j ∷ is) i all e = by_test (find_passes Q p is i all.1) (p j) 
     by_test go false is_false e = go e
 
 all_operations : AllByRecursion (λ i. (entry i).function ≡ 0xF) operations
-all_operations = (refl, (refl, (refl, (refl, (refl, (refl, (refl, (refl, (refl, (refl, (refl, (refl, (refl, (refl, (refl, (refl, (refl, (refl, (refl, (refl, (refl, (refl, (refl, (refl, (refl, (refl, (refl, (refl, tt))))))))))))))))))))))))))))
+all_operations = (
+  refl,
+  (
+    refl,
+    (
+      refl,
+      (
+        refl,
+        (
+          refl,
+          (
+            refl,
+            (
+              refl,
+              (
+                refl,
+                (
+                  refl,
+                  (
+                    refl,
+                    (
+                      refl,
+                      (
+                        refl,
+                        (
+                          refl,
+                          (
+                            refl,
+                            (
+                              refl,
+                              (
+                                refl,
+                                (
+                                  refl,
+                                  (
+                                    refl,
+                                    (
+                                      refl,
+                                      (
+                                        refl,
+                                        (
+                                          refl,
+                                          (
+                                            refl,
+                                            (refl, (refl, (refl, (refl, (refl, (refl, tt)))))),
+                                          ),
+                                        ),
+                                      ),
+                                    ),
+                                  ),
+                                ),
+                              ),
+                            ),
+                          ),
+                        ),
+                      ),
+                    ),
+                  ),
+                ),
+              ),
+            ),
+          ),
+        ),
+      ),
+    ),
+  ),
+)
 
 all_functions : (e : ℤ) → AllByRecursion (λ i. (entry i).operand ≡ e) (functions e)
 all_functions e = (refl, (refl, (refl, (refl, (refl, (refl, (refl, (refl, (refl, (refl, (refl, (refl, tt))))))))))))
@@ -72,7 +142,8 @@ pub given_entry : (f : ℕ) (e : ℤ) (i : Instr) → instruction f e ≡ Some i
 unfolding operation instruction
 given_entry f e i is = by_test (nat_eq f 0xF) refl is
   where
-    by_test : (b : Bool) → nat_eq f 0xF ≡ b → (if b then find (λ i. int_eq (entry i).operand e) operations else find (λ i. nat_eq (entry i).function f) (functions e)) ≡ Some i → ((entry i).function ≡ f) × ((entry i).operand ≡ e)
+    by_test : (b : Bool) → nat_eq f 0xF ≡ b → (if b then find (λ i. int_eq (entry i).operand e) operations else find
+        (λ i. nat_eq (entry i).function f) (functions e)) ≡ Some i → ((entry i).function ≡ f) × ((entry i).operand ≡ e)
     by_test true is_opr found =
         let passes = find_passes (λ i. (entry i).function ≡ 0xF) (λ i. int_eq (entry i).operand e) operations i all_operations found in
         let opr : f ≡ 0xF = grind (arith, nat_tests) in

@@ -1,5 +1,7 @@
 -- The cutting as a function says what the relations say.
-use Rattle.std.proofs.Common.{◌≡◌, ℕ, ◌+◌, ◌<◌, ◌≤◌, Bool, true, false, nat_lt, ℤ, List, [], ◌∷◌, ◌++◌, length, take, Option, Some, None, Result, Ok, Err, refl, ap, sym, ◌∙◌, arith, append_assoc, length-append}
+use Rattle.std.proofs.Common.{◌≡◌, ℕ, ◌+◌, ◌<◌, ◌≤◌, Bool, true, false, nat_lt, ℤ, List, [], ◌∷◌, ◌++◌, length, take}
+use Rattle.std.proofs.Common.{Option, Some, None, Result, Ok, Err, refl, ap, sym, ◌∙◌, arith, append_assoc}
+use Rattle.std.proofs.Common.{length-append}
 use Rattle.std.specs.List.{AllByRecursion}
 use Rattle.std.proofs.lemmas.List.{append-nil}
 use Rattle.std.proofs.Math.Seq.{take-append_seam}
@@ -35,7 +37,8 @@ with_front-append xs ys (Ok cuts) = ap Ok (sym (append_assoc xs ys cuts))
 with_front-append xs ys (Err e) = refl
 
 -- all that is cut in front
-pub cut_all : (at : ℕ) (cuts : List Cut) (rest : List ℕ) → AllByRecursion IsSpelled cuts → cutting_from at (code_of cuts ++ rest) [] ≡ with_front cuts (cutting_from (at + length (code_of cuts)) rest [])
+pub cut_all : (at : ℕ) (cuts : List Cut) (rest : List ℕ) → AllByRecursion IsSpelled cuts →
+    cutting_from at (code_of cuts ++ rest) [] ≡ with_front cuts (cutting_from (at + length (code_of cuts)) rest [])
 cut_all at [] rest all = sym (with_front-nil _ ∙ ap (λ n. cutting_from n rest []) (omega arith))
 cut_all at (cut ∷ cuts) rest all =
     let place : at + length cut.bytes + length (code_of cuts) ≡ at + length (cut.bytes ++ code_of cuts) = omega (arith, length-append cut.bytes (code_of cuts)) in
@@ -95,7 +98,8 @@ behind cut code first at B is b = record {
   breaks = b.breaks;
 }
 
-sound_before : (cut : Cut) (code : List ℕ) (first : ℕ) (r : Result (List Cut) DecodeFault) → IsSpelled cut → Sound code (first + length cut.bytes) r → Sound (cut.bytes ++ code) first (before first cut.bytes (Some cut.instr) r)
+sound_before : (cut : Cut) (code : List ℕ) (first : ℕ) (r : Result (List Cut) DecodeFault) → IsSpelled cut →
+    Sound code (first + length cut.bytes) r → Sound (cut.bytes ++ code) first (before first cut.bytes (Some cut.instr) r)
 sound_before cut code first (Ok cuts) is s = record { joined = ap (λ c. cut.bytes ++ c) s.joined; each = (is, s.each) }
 sound_before cut code first (Err (Refused D1 at)) is s = behind cut code first at IsCutOff is s
 sound_before cut code first (Err (Refused D2 at)) is s = behind cut code first at IsTooLong is s
@@ -107,7 +111,9 @@ none_some' None i e f = cc
 none_some' (Some j) i e f = cc
 
 -- one spelling in front, of an instruction or of none
-sound_spelling : (bytes code : List ℕ) (first f : ℕ) (e : ℤ) (r : Result (List Cut) DecodeFault) → IsSpelling bytes f e → Sound code (first + length bytes) r → Sound (bytes ++ code) first (before first bytes (spelled_instruction bytes) r)
+sound_spelling : (bytes code : List ℕ) (first f : ℕ) (e : ℤ) (r : Result (List Cut) DecodeFault) →
+    IsSpelling bytes f e → Sound code (first + length bytes) r →
+    Sound (bytes ++ code) first (before first bytes (spelled_instruction bytes) r)
 unfolding spelled_instruction
 sound_spelling bytes code first f e r is s = by_case (instruction f e) refl
   where
@@ -134,7 +140,8 @@ sound first [] [] are few = rw (nothing_left first) record { joined = refl; each
 sound first [] (p ∷ prefixes) are few =
     let all : (p ∷ prefixes) ++ [] ≡ p ∷ prefixes = append-nil (p ∷ prefixes) in
     rw (ended first p prefixes, all) (in_front (p ∷ prefixes) first IsCutOff record { some = omega arith; few = few; prefixes = are })
-sound first (b ∷ code) prefixes are few = by_test (sound first code (prefixes ++ b ∷ [])) (sound (first + length (prefixes ++ b ∷ [])) code []) (is_prefix b) refl (nat_lt (length (prefixes ++ b ∷ [])) 8) refl
+sound first (b ∷ code) prefixes are few = by_test (sound first code (prefixes ++ b ∷ []))
+    (sound (first + length (prefixes ++ b ∷ [])) code []) (is_prefix b) refl (nat_lt (length (prefixes ++ b ∷ [])) 8) refl
   where
     joined : (prefixes ++ b ∷ []) ++ code ≡ prefixes ++ b ∷ code
     joined = append_assoc prefixes (b ∷ []) code
@@ -158,7 +165,9 @@ sound first (b ∷ code) prefixes are few = by_test (sound first code (prefixes 
         })
     by_test more next false is q short =
         let reads = spelled_behind 0 b prefixes are ∙ last_byte (loaded 0 prefixes) b is in
-        rw (last_of_spelling first b code prefixes is, ← joined) (sound_spelling (prefixes ++ b ∷ []) code first _ _ _ record { short = omega (arith, longer); spells = reads } (next refl (omega arith)))
+        rw (last_of_spelling first b code prefixes is, ← joined)
+        (sound_spelling (prefixes ++ b ∷ []) code first _ _ _ record { short = omega (arith, longer); spells = reads }
+        (next refl (omega arith)))
 
 -- the whole code
 pub sound_ok : (code : List ℕ) (cuts : List Cut) → cutting code ≡ Ok cuts → IsCutting code cuts

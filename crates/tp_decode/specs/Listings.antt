@@ -1,5 +1,6 @@
 -- What a listing keeps of each instruction.
-use Rattle.std.specs.Prelude.{◌≡◌, ℕ, ◌+◌, ◌-◌, List, [], ◌∷◌, ◌++◌, map, replicate, length, nat_lt, IsTrue, Option, Some, None, Result, Ok, Err}
+use Rattle.std.specs.Prelude.{◌≡◌, ℕ, ◌+◌, ◌-◌, List, [], ◌∷◌, ◌++◌, map, replicate, length, nat_lt, IsTrue, Option}
+use Rattle.std.specs.Prelude.{Some, None, Result, Ok, Err}
 use Rattle.std.specs.List.{list_all, AllByRecursion}
 use Rattle.tp_decode.specs.declared.piece.Piece.{Piece}
 use Rattle.tp_decode.specs.declared.fault.DecodeFault.{DecodeFault}

@@ -1,6 +1,7 @@
 //! Decoding.
 
-ghost use Rattle.std.specs.Prelude.{◌≡◌, ◌≢◌, ◌≤◌, ◌<◌, ◌-◌, ◌∷◌, ◌++◌, drop, length, replicate, List, vec_len, OnOk, IfOk, IfErr, MatchResult};
+ghost use Rattle.std.specs.Prelude.{◌≡◌, ◌≢◌, ◌≤◌, ◌<◌, ◌-◌, ◌∷◌, ◌++◌, drop, length, replicate, List, vec_len, OnOk};
+ghost use Rattle.std.specs.Prelude.{IfOk, IfErr, MatchResult};
 ghost use Rattle.tp_decode.specs.declared.fault.DecodeFault.{DecodeFault};
 ghost use Rattle.tp_decode.specs.Cutting.{Cut, IsCutting, IsRefused, cutting};
 ghost use Rattle.tp_decode.specs.Front.{BeginsWith, Stops};

@@ -38,7 +38,7 @@ impl fmt::Display for DecodeCode {
 pub enum DecodeFault {
     /// It has no cutting. The place is the address of the first byte of the spelling, and the lowest such address.
     Refused { code: DecodeCode, place: usize },
-    /// A growth was refused.
+    /// Out of memory.
     Memory,
 }
 

@@ -47,8 +47,8 @@ impl Listing {
         }
     }
 
-    /// The bytes of each instruction spell it.
-    pub fn is_spelled(&self)
+    /// A law: the bytes of each instruction spell it.
+    pub fn law_is_spelled(&self)
         ensures { AllByRecursion IsSpelled self.now }
     {
         let _ = &self.starts;
@@ -119,8 +119,8 @@ impl Listing {
     }
 
     /// The listing line of instruction i, counted from 0, without its line feed: the address in decimal, the bytes in
-    /// hexadecimal, the name with the operand in signed decimal; and ` least ` with the canonical spelling where that is
-    /// another.
+    /// hexadecimal, the name with the operand in signed decimal; and ` least ` with the canonical spelling where that
+    /// is another.
     pub fn text(&self, alloc: Global, i: usize) -> Result<String, AllocError>
         requires { i < length self.now }
         ensures { IfOk result (λ text. slice_get (lines_from 0 self.now) i ≡ Some (string_bytes text)) }

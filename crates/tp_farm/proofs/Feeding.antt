@@ -2,7 +2,7 @@
 use Rattle.std.proofs.Common.{◌≡◌, ℕ, List, replicate, zero, suc, refl, sym, subst}
 use Rattle.std.specs.List.{All}
 use Rattle.std.proofs.lemmas.List.Elements.{All-nil, All-cons}
-use Rattle.tp_board.specs.Streams.{StreamView, HandView, FeederView, IsHandOf, hand_progress, new_hand_of, new_feeder_of}
+use Rattle.tp_stream.specs.Streams.{StreamView, HandView, FeederView, IsHandOf, hand_progress, new_hand_of, new_feeder_of}
 use Rattle.tp_farm.specs.Feeding.{HasOnlyFed}
 use Rattle.tp_farm.specs.Working.{IsFresh}
 

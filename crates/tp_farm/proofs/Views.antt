@@ -13,7 +13,7 @@ use Rattle.tp_board.specs.Views as view
 use Rattle.tp_board.specs.Rule.{total}
 use Rattle.tp_board.specs.Ledgers.{Balances}
 use Rattle.tp_board.specs.Sources.{Progress, progress_of}
-use Rattle.tp_board.specs.Streams.{HandView, FeederView, hand_seen, hand_progress, feeder_seen, all_seen}
+use Rattle.tp_stream.specs.Streams.{HandView, FeederView, hand_seen, hand_progress, feeder_seen, all_seen}
 use Rattle.tp_farm.specs.Closing.{all_finished, all_abandoned, put_down, IsBorneOut, AddsUp}
 use Rattle.tp_farm.specs.Feeding.{HasOnlyFed}
 use Rattle.tp_farm.proofs.Numbers.{times-append}

@@ -1,6 +1,6 @@
 -- What a batch's own thread does at its stream.
 use Rattle.std.specs.Prelude.{◌≡◌, ◌⊎◌, []}
-use Rattle.tp_board.specs.Streams.{FeederView, IsAllPushed}
+use Rattle.tp_stream.specs.Streams.{FeederView, IsAllPushed}
 
 -- it has put nothing down, and has not stopped the stream
 pub record HasOnlyFed (f : FeederView) : Type 0 where

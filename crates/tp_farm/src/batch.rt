@@ -4,7 +4,7 @@ ghost use Rattle.std.specs.Prelude.{◌≡◌, ◌==◌, ◌<◌, not, All, None
 ghost use Rattle.std.specs.Prelude.{List, length, vec_len};
 ghost use Rattle.tp_link.specs.declared.links.Links.{Links};
 ghost use Rattle.tp_board.specs.Ledgers.{Balances};
-ghost use Rattle.tp_board.specs.Streams.{IsHandOf, IsFeederOf, hand_progress, all_seen};
+ghost use Rattle.tp_stream.specs.Streams.{IsHandOf, IsFeederOf, hand_progress, all_seen};
 ghost use Rattle.tp_farm.specs.Feeding.{HasOnlyFed};
 ghost use Rattle.tp_farm.specs.Jobs.{value_of_job, AreWhole};
 ghost use Rattle.tp_farm.specs.Working.{HaveToSettle};
@@ -24,9 +24,9 @@ use crate::worker::{Returned, Shared};
 use std::alloc::{AllocError, Global};
 use std::sync::Wait;
 use std::thread::Threads;
-use tp_board::{Feeder, Ledger, MAX_MEMBERS, MAX_PACKETS, Packet, StreamHand, StreamQueue};
 use tp_collect::{Collected, Collector};
 use tp_link::{LinkDevice, Links};
+use tp_stream::{Feeder, Ledger, MAX_MEMBERS, MAX_PACKETS, Packet, StreamHand, StreamQueue};
 
 /// What became of a batch's packets, and the links in the order in which they were given.
 #[derive(Drop)]
@@ -127,8 +127,8 @@ fn close_stream<R: Wait>(
     }
 }
 
-/// Makes one batch of what the members give back: the stream is closed, which accounts for each number once, and all that
-/// was filed is gathered. The first fault of a member is the answer.
+/// Makes one batch of what the members give back: the stream is closed, which accounts for each number once, and all
+/// that was filed is gathered. The first fault of a member is the answer.
 fn settle<R: Wait, D: LinkDevice>(
     rt: &R,
     stream: StreamQueue<'_>,
@@ -138,7 +138,8 @@ fn settle<R: Wait, D: LinkDevice>(
     mut room: Reserved<StreamHand, D>,
 ) -> Result<Batch<D>, FarmFault>
     requires worked { (work : Work) × (before : List (Links D)) ×
-        HaveToSettle D.state (IsHandOf stream) hand_progress (length stream.packets) work before returned.items collector }
+        HaveToSettle D.state (IsHandOf stream) hand_progress (length stream.packets) work before returned.items
+        collector }
     requires feeder { IsFeederOf stream feeder }
     requires fed { HasOnlyFed feeder }
     requires members { vec_len returned ≡ stream.members }
@@ -158,14 +159,14 @@ fn settle<R: Wait, D: LinkDevice>(
     })
 }
 
-/// Runs the packets of a job, by a member for each of the links: a thread with a machine of its own. The links come back
-/// in the order given; where there is a fault they are dropped. It may wait.
+/// Runs the packets of a job, by a member for each of the links: a thread with a machine of its own. The links come
+/// back in the order given; where there is a fault they are dropped. It may wait.
 ///
 /// Accepted code never goes wrong: each packet's worker ends by stopp within the budget and is never stuck, and each
 /// result that is collected is what the run of its packet alone gives.
 ///
-/// G1, G2 and G3 are tested first, in this order. Where a thread cannot be started no further one is, and the members that were
-/// started go on until they end. A member to which memory was refused stops the batch first.
+/// G1, G2 and G3 are tested first, in this order. Where a thread cannot be started no further one is, and the members
+/// that were started go on until they end. A member to which memory was refused stops the batch first.
 pub fn run_batch<'j, R: Threads + Wait + Sync, D: LinkDevice + Send, G: Gate>(
     rt: &R,
     alloc: Global,

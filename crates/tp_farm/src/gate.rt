@@ -2,13 +2,14 @@
 
 ghost use Rattle.std.specs.Prelude.{◌≡◌, ℕ, Bool, true};
 
-/// Asked by each member before it takes a packet, and notified of the packets that it has taken and handled. All members ask
-/// one gate, from their own threads.
+/// Asked by each member before it takes a packet, and notified of the packets that it has taken and handled. All
+/// members ask one gate, from their own threads.
 pub trait Gate: Sync {
     // It will answer true, whenever it is asked.
     ghost open_for_good: { Self → Bool };
 
-    // It has answered the member of this number so. No other call than `ask` makes it so, whatever an impl says here.
+    // Its answer to the member of this number was this. No other call than `ask` makes it so, whatever an impl says
+    // here.
     ghost has_answered: { Self → ℕ → Bool → Type 0 };
 
     /// Whether the member may take another packet. Where not, it stops the batch.

@@ -1,6 +1,7 @@
 //! The handling of one packet.
 
-ghost use Rattle.std.specs.Prelude.{◌≡◌, ℕ, ◌*◌, ◌+◌, ◌≤◌, ◌<◌, List, length, [], take, slice_get, OnOk, IfOk, IfErr, Ok, Err, Some};
+ghost use Rattle.std.specs.Prelude.{◌≡◌, ℕ, ◌*◌, ◌+◌, ◌≤◌, ◌<◌, List, length, [], take, slice_get, OnOk, IfOk, IfErr};
+ghost use Rattle.std.specs.Prelude.{Ok, Err, Some};
 ghost use Rattle.tp_link.specs.Device.{failures};
 ghost use Rattle.tp_image.specs.Image.{ImageValue};
 ghost use Rattle.tp_outcome.specs.Devices.{devices_of};
@@ -14,11 +15,11 @@ ghost use Rattle.tp_farm.specs.Handled.{on_link, HasReason, RisesIn};
 
 use crate::job::Job;
 use tp_accept::Accepted;
-use tp_board::Packet;
 use tp_collect::Done;
 use tp_collect::limits::MESSAGE_BYTES;
 use tp_link::{DeviceFault, Link, LinkDevice, LinkFault, Links};
 use tp_machine::{Machine, Outcome};
+use tp_stream::Packet;
 
 /// A device's refusal, with its link.
 fn of_link<T>(link: Link, answer: Result<T, DeviceFault>) -> Result<T, LinkFault>

@@ -1,7 +1,7 @@
 //! What all members work on.
 
 use tp_accept::Accepted;
-use tp_board::Packet;
+use tp_stream::Packet;
 
 /// One batch: an accepted image, and the packets that its worker is to run on.
 #[derive(Clone, Copy)]

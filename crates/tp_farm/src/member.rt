@@ -11,10 +11,10 @@ use crate::job::Job;
 use std::alloc::Global;
 use std::snapshot::Snapshot;
 use std::sync::Wait;
-use tp_board::{Packet, Work, WorkSource};
 use tp_collect::Done;
 use tp_link::{LinkDevice, LinkFault, Links};
 use tp_machine::Machine;
+use tp_stream::{Packet, Work, WorkSource};
 
 /// What became of one packet.
 #[derive(Drop)]
@@ -114,7 +114,8 @@ fn take_packet<W: WorkSource, D: LinkDevice, G: Gate>(
     ensures allowed { result ≡ None → G.has_answered gate.now member.old.number true }
     ensures refused { IfSome result
         (IsRefused (G.has_answered gate.now member.old.number) (W.progress member.new.hand)) }
-    ensures end { IfSome result (EndsBy (value_of_job job.now) (G.open_for_good gate.now) (W.progress member.new.hand)) }
+    ensures end { IfSome result (EndsBy (value_of_job job.now) (G.open_for_good gate.now)
+        (W.progress member.new.hand)) }
 {
     if member.filed.reserve(1).is_err() {
         source.stop(&mut member.hand);
@@ -135,8 +136,8 @@ fn take_packet<W: WorkSource, D: LinkDevice, G: Gate>(
     }
 }
 
-/// A member's whole work: it makes room for its share, and takes packets until there are no more, or the batch is stopped, or a
-/// fault comes. One turn more than there are packets is enough.
+/// A member's whole work: it makes room for its share, and takes packets until there are no more, or the batch is
+/// stopped, or a fault comes. One turn more than there are packets is enough.
 pub(crate) fn work<W: WorkSource, D: LinkDevice, G: Gate>(
     rt: &impl Wait,
     job: &Job<'_>,

@@ -1,8 +1,9 @@
 //! The members of a batch, each in a thread of its own.
 
-ghost use Rattle.std.specs.Prelude.{◌≡◌, ◌≤◌, ◌+◌, ◌++◌, ◌∷◌, [], true, map, IfSome, IfOk, IfErr, All, vec_len, vec_capacity};
+ghost use Rattle.std.specs.Prelude.{◌≡◌, ◌≤◌, ◌+◌, ◌++◌, ◌∷◌, [], true, map, IfSome, IfOk, IfErr, All, vec_len};
+ghost use Rattle.std.specs.Prelude.{vec_capacity};
 ghost use Rattle.std.specs.List.{AllZip};
-ghost use Rattle.tp_board.specs.Streams.{IsHandOf, IsFeederOf, hand_progress};
+ghost use Rattle.tp_stream.specs.Streams.{IsHandOf, IsFeederOf, hand_progress};
 ghost use Rattle.tp_farm.specs.Feeding.{HasOnlyFed, HasEnded};
 ghost use Rattle.tp_farm.specs.Refused.{IsEnvironmental};
 ghost use Rattle.tp_farm.specs.Working.{IsSet, IsFresh, HasWorkedOn, HaveWorkedOn};
@@ -15,8 +16,8 @@ use std::snapshot::Snapshot;
 use std::sync::Wait;
 use std::thread;
 use std::thread::{Promise, PromisedHandle, Scope, Threads, join_promised};
-use tp_board::{Fed, Feeder, StreamHand, StreamQueue, WorkSource};
 use tp_link::{LinkDevice, Links};
+use tp_stream::{Fed, Feeder, StreamHand, StreamQueue, WorkSource};
 
 /// What a member's thread keeps: it has done the shared's work with the devices that it had.
 #[derive(Drop)]
@@ -169,8 +170,8 @@ where
     }
 }
 
-/// Starts the members, feeds their stream, and joins those that were started. Nothing returns between the first start and
-/// the last join; where a member could not be started the stream is stopped first.
+/// Starts the members, feeds their stream, and joins those that were started. Nothing returns between the first start
+/// and the last join; where a member could not be started the stream is stopped first.
 fn start_feed_and_join<'s, 'e, R: Threads + Wait + Sync, D: LinkDevice + Send + 'e, G: Gate>(
     rt: &'e R,
     scope: &'s Scope<'s, &'e ()>,
@@ -201,8 +202,8 @@ fn start_feed_and_join<'s, 'e, R: Threads + Wait + Sync, D: LinkDevice + Send + 
     Ok((returned, feeder))
 }
 
-/// Runs the members, each in a thread of its own, and feeds them until all is pushed; then waits for their ends. What they
-/// give back comes in the order of the links.
+/// Runs the members, each in a thread of its own, and feeds them until all is pushed; then waits for their ends. What
+/// they give back comes in the order of the links.
 pub(crate) fn run_members<R: Threads + Wait + Sync, D: LinkDevice + Send, G: Gate>(
     rt: &R,
     alloc: Global,

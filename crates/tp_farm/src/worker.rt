@@ -10,9 +10,9 @@ use crate::member::{End, Filed, Member, work};
 use std::alloc::Global;
 use std::snapshot::Snapshot;
 use std::sync::Wait;
-use tp_board::WorkSource;
 use tp_link::{LinkDevice, Links};
 use tp_machine::Machine;
+use tp_stream::WorkSource;
 
 /// What a member's thread gives back: its hand, its devices, what it filed, and why it ended.
 #[derive(Drop)]

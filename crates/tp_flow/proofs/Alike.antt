@@ -1,5 +1,7 @@
 -- Addresses that lie in the same loops, and instructions by their numbers.
-use Rattle.std.proofs.Common.{◌≡◌, ℕ, ◌+◌, ◌-◌, ◌<◌, ◌≤◌, Bool, true, false, ◌&&◌, ◌||◌, not, ◌==◌, nat_eq, nat_lt, if◌then◌else◌, List, [], ◌∷◌, length, get_or, Some, None, refl, ap, sym, ◌∙◌, subst, arith}
+use Rattle.std.proofs.Common.{◌≡◌, ℕ, ◌+◌, ◌-◌, ◌<◌, ◌≤◌, Bool, true, false, ◌&&◌, ◌||◌, not, ◌==◌, nat_eq, nat_lt}
+use Rattle.std.proofs.Common.{if◌then◌else◌, List, [], ◌∷◌, length, get_or, Some, None, refl, ap, sym, ◌∙◌, subst}
+use Rattle.std.proofs.Common.{arith}
 use Rattle.std.specs.Option.{is_some}
 use Rattle.std.proofs.lemmas.Bool.Decides.{nat_tests}
 use Rattle.std.proofs.lemmas.List.{get_or_default}
@@ -35,7 +37,9 @@ alike_keeps nest first last at to alike ge le low =
     neither false true h e = cc
 
 -- what holds of each element before one and of that one, which is read from a list that is the same
-pub each_more : {X : Type 0} (P : X → Type 0) (read xs : List X) → read ≡ xs → (i : ℕ) → i < length read → ((k : ℕ) (d : X) → k < i → P (get_or xs k d)) → (x : X) → P (get_or read i x) → (k : ℕ) (d : X) → k < i + 1 → P (get_or xs k d)
+pub each_more : {X : Type 0} (P : X → Type 0) (read xs : List X) → read ≡ xs → (i : ℕ) → i < length read →
+    ((k : ℕ) (d : X) → k < i → P (get_or xs k d)) → (x : X) → P (get_or read i x) → (k : ℕ) (d : X) → k < i + 1 →
+    P (get_or xs k d)
 each_more P read xs is i within before x here k d lt = by_place (nat_lt k i) refl
   where
     by_place : (b : Bool) → nat_lt k i ≡ b → P (get_or xs k d)

@@ -12,7 +12,9 @@ use Rattle.tp_flow.specs.FlowFaults.{first_flow_fault}
 use Rattle.tp_flow.proofs.FlowNest.{loops_nested}
 use Rattle.tp_flow.proofs.FlowDepth.{all_by_place, meet, within_trans}
 
-all_within : (inner outer : LoopRange) (others : List LoopRange) → lies_within inner outer ≡ true → AllByRecursion (λ other. lies_within other inner ≡ true) others → AllByRecursion (λ other. lies_within other outer ≡ true) others
+all_within : (inner outer : LoopRange) (others : List LoopRange) → lies_within inner outer ≡ true →
+    AllByRecursion (λ other. lies_within other inner ≡ true) others →
+    AllByRecursion (λ other. lies_within other outer ≡ true) others
 all_within inner outer [] is all = tt
 all_within inner outer (other ∷ others) is all = (within_trans other inner outer all.0 is, all_within inner outer others is all.1)
 
@@ -37,12 +39,16 @@ pub length_around : (nest : List LoopRange) (at : ℕ) → length (loops_around 
 length_around [] at = refl
 length_around (range ∷ nest) at = by_test (length_around nest at) (contains range at)
   where
-    by_test : length (loops_around nest at) ≡ length (filter (λ r. contains r at) nest) → (b : Bool) → length (if b then with_loop range (loops_around nest at) else loops_around nest at) ≡ length (cond b (range ∷ filter (λ r. contains r at) nest) (filter (λ r. contains r at) nest))
+    by_test : length (loops_around nest at) ≡ length (filter (λ r. contains r at) nest) → (b : Bool) →
+        length (if b then with_loop range (loops_around nest at) else loops_around nest at) ≡ length
+        (cond b (range ∷ filter (λ r. contains r at) nest) (filter (λ r. contains r at) nest))
     by_test go true = length_with range (loops_around nest at) ∙ ap suc go
     by_test go false = go
 
 module _ (nest : List LoopRange) (at : ℕ) (nested : IsNested nest) where
-  with_first : (range : LoopRange) (others : List LoopRange) → Contains nest range × (contains range at ≡ true) → AllByRecursion (λ r. Contains nest r × (contains r at ≡ true)) others → IsOutermostFirst others → IsOutermostFirst (with_loop range others)
+  with_first : (range : LoopRange) (others : List LoopRange) → Contains nest range × (contains range at ≡ true) →
+      AllByRecursion (λ r. Contains nest r × (contains r at ≡ true)) others → IsOutermostFirst others →
+      IsOutermostFirst (with_loop range others)
   with_first range [] here all first = (tt, tt)
   with_first range (other ∷ others) here all first = by_test (with_first range others here all.1 first.1) (lies_within other range) refl
     where
@@ -59,7 +65,11 @@ module _ (nest : List LoopRange) (at : ℕ) (nested : IsNested nest) where
   around_each [] all = (tt, tt)
   around_each (x ∷ xs) all = by_test (around_each xs all.1) (contains x at) refl
     where
-      by_test : AllByRecursion (λ r. Contains nest r × (contains r at ≡ true)) (loops_around xs at) × IsOutermostFirst (loops_around xs at) → (b : Bool) → contains x at ≡ b → AllByRecursion (λ r. Contains nest r × (contains r at ≡ true)) (if b then with_loop x (loops_around xs at) else loops_around xs at) × IsOutermostFirst (if b then with_loop x (loops_around xs at) else loops_around xs at)
+      by_test : AllByRecursion (λ r. Contains nest r × (contains r at ≡ true)) (loops_around xs at) ×
+          IsOutermostFirst (loops_around xs at) → (b : Bool) → contains x at ≡ b →
+          AllByRecursion (λ r. Contains nest r × (contains r at ≡ true))
+          (if b then with_loop x (loops_around xs at) else loops_around xs at) ×
+          IsOutermostFirst (if b then with_loop x (loops_around xs at) else loops_around xs at)
       by_test go true e = (all_with (λ r. Contains nest r × (contains r at ≡ true)) x (loops_around xs at) (all.0, e) go.0, with_first x (loops_around xs at) (all.0, e) go.0 go.1)
       by_test go false e = go
 

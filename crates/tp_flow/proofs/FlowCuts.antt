@@ -26,7 +26,9 @@ start_behind (c ∷ cuts) at cut is more = by_test (start_behind cuts (at - leng
     whole = length-append c.bytes (code_of cuts)
 
     by_test : (cut_at cuts (at - length c.bytes) ≡ Some cut → at - length c.bytes + length cut.bytes ≢ length (code_of cuts) → is_start cuts (at - length c.bytes + length cut.bytes) ≡ true)
-        → (p : Bool) → nat_eq at 0 ≡ p → (q : Bool) → nat_lt at (length c.bytes) ≡ q → (if p then Some c else if q then None else cut_at cuts (at - length c.bytes)) ≡ Some cut → is_start (c ∷ cuts) (at + length cut.bytes) ≡ true
+        → (p : Bool) → nat_eq at 0 ≡ p → (q : Bool) → nat_lt at (length c.bytes) ≡ q →
+        (if p then Some c else if q then None else cut_at cuts (at - length c.bytes)) ≡ Some cut →
+        is_start (c ∷ cuts) (at + length cut.bytes) ≡ true
     by_test go true e q e' is =
         let same : c ≡ cut = cc in
         let none : at ≡ 0 = grind (arith, nat_tests) in
@@ -43,11 +45,16 @@ start_behind (c ∷ cuts) at cut is more = by_test (start_behind cuts (at - leng
 -- and none in between
 pub none_between : (cuts : List Cut) (at : ℕ) (cut : Cut) (to : ℕ) → cut_at cuts at ≡ Some cut → is_start cuts to ≡ true → at < to → at + length cut.bytes ≤ to
 none_between [] at cut to is starts lt = absurd cc
-none_between (c ∷ cuts) at cut to is starts lt = by_test (none_between cuts (at - length c.bytes) cut (to - length c.bytes)) (nat_eq at 0) refl (nat_lt at (length c.bytes)) refl is (nat_eq to 0) refl (nat_lt to (length c.bytes)) refl starts
+none_between (c ∷ cuts) at cut to is starts lt = by_test
+    (none_between cuts (at - length c.bytes) cut (to - length c.bytes)) (nat_eq at 0) refl (nat_lt at (length c.bytes))
+    refl is (nat_eq to 0) refl (nat_lt to (length c.bytes)) refl starts
   where
-    by_test : (cut_at cuts (at - length c.bytes) ≡ Some cut → is_start cuts (to - length c.bytes) ≡ true → at - length c.bytes < to - length c.bytes → at - length c.bytes + length cut.bytes ≤ to - length c.bytes)
+    by_test : (cut_at cuts (at - length c.bytes) ≡ Some cut → is_start cuts (to - length c.bytes) ≡ true →
+        at - length c.bytes < to - length c.bytes → at - length c.bytes + length cut.bytes ≤ to - length c.bytes)
         → (p : Bool) → nat_eq at 0 ≡ p → (q : Bool) → nat_lt at (length c.bytes) ≡ q → (if p then Some c else if q then None else cut_at cuts (at - length c.bytes)) ≡ Some cut
-        → (r : Bool) → nat_eq to 0 ≡ r → (s : Bool) → nat_lt to (length c.bytes) ≡ s → is_some (if r then Some c else if s then None else cut_at cuts (to - length c.bytes)) ≡ true → at + length cut.bytes ≤ to
+        → (r : Bool) → nat_eq to 0 ≡ r → (s : Bool) → nat_lt to (length c.bytes) ≡ s →
+        is_some (if r then Some c else if s then None else cut_at cuts (to - length c.bytes)) ≡ true →
+        at + length cut.bytes ≤ to
     by_test go p e q e' is true f s f' starts = let none : to ≡ 0 = grind (arith, nat_tests) in absurd (omega arith)
     by_test go p e q e' is false f true f' starts = absurd cc
     by_test go true e q e' is false f false f' starts =

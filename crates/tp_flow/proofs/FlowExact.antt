@@ -1,5 +1,8 @@
 -- Where loops are a nest and edges keep to it, no rule of flow is broken.
-use Rattle.std.proofs.Common.{◌≡◌, ◌≢◌, ℕ, zero, suc, ◌+◌, ◌-◌, ◌^◌, ◌<◌, ◌≤◌, Bool, true, false, ◌&&◌, ◌||◌, ◌==◌, not, ◌⊎◌, inl, inr, nat_le, nat_lt, nat_eq, cond, if◌then◌else◌, ℤ, pos, negsuc, ◌+ℤ◌, ◌≤ℤ◌, int_lt, List, [], ◌∷◌, ◌++◌, length, take, drop, get_or, slice_get, Contains, Option, Some, None, IsSome, refl, ap, sym, ◌∙◌, subst, arith, length-append}
+use Rattle.std.proofs.Common.{◌≡◌, ◌≢◌, ℕ, zero, suc, ◌+◌, ◌-◌, ◌^◌, ◌<◌, ◌≤◌, Bool, true, false, ◌&&◌, ◌||◌, ◌==◌, not}
+use Rattle.std.proofs.Common.{◌⊎◌, inl, inr, nat_le, nat_lt, nat_eq, cond, if◌then◌else◌, ℤ, pos, negsuc, ◌+ℤ◌, ◌≤ℤ◌}
+use Rattle.std.proofs.Common.{int_lt, List, [], ◌∷◌, ◌++◌, length, take, drop, get_or, slice_get, Contains, Option}
+use Rattle.std.proofs.Common.{Some, None, IsSome, refl, ap, sym, ◌∙◌, subst, arith, length-append}
 use Rattle.std.specs.List.{find, filter_map, enumerate_from, AllByRecursion, cons_option}
 use Rattle.std.specs.Option.{option_map, option_and_then, is_some, is_none}
 use Rattle.std.proofs.Math.ListN.{get_or-map}
@@ -23,7 +26,8 @@ use Rattle.tp_flow.specs.declared.range.LoopRange.{LoopRange}
 use Rattle.tp_flow.specs.NestRanges.{range_of, ranges, contains, overlaps, lies_within, crosses, shares_an_end, number_ended_at, head_of}
 use Rattle.tp_flow.specs.Edges.{has_edge, address, jump_operand, jump_target, goes_to, target}
 use Rattle.tp_flow.specs.RowRules.{is_start, is_lend, last_index, is_bad_alone, is_bad_row, crosses_earlier, shares_with_earlier, lies_too_deep}
-use Rattle.tp_flow.specs.JumpRules.{Rule, rule, first_broken, names_no_loop, is_outside, goes_back, is_no_start, leaves, enters_inside, breaks_the_nest, runs_off, jump_rules, rules_on_jump, broken_rule}
+use Rattle.tp_flow.specs.JumpRules.{Rule, rule, first_broken, names_no_loop, is_outside, goes_back, is_no_start, leaves}
+use Rattle.tp_flow.specs.JumpRules.{enters_inside, breaks_the_nest, runs_off, jump_rules, rules_on_jump, broken_rule}
 use Rattle.tp_flow.specs.FlowFaults.{bad_row, fault_of, instruction_faults, first_flow_fault}
 use Rattle.tp_flow.specs.NestKept.{IsGood, IsLoop, IsEdge, KeepsNest}
 use Rattle.tp_flow.proofs.FlowNest.{body_of}
@@ -69,7 +73,10 @@ start_within (c ∷ cuts) to all is = by_test (start_within cuts (to - length c.
     some : 0 < length c.bytes
     some = all.0
 
-    by_test : (is_start cuts (to - length c.bytes) ≡ true → to - length c.bytes < length (code_of cuts)) → (p : Bool) → nat_eq to 0 ≡ p → (q : Bool) → nat_lt to (length c.bytes) ≡ q → is_some (if p then Some c else if q then None else cut_at cuts (to - length c.bytes)) ≡ true → to < length (c.bytes ++ code_of cuts)
+    by_test : (is_start cuts (to - length c.bytes) ≡ true → to - length c.bytes < length (code_of cuts)) → (p : Bool) →
+        nat_eq to 0 ≡ p → (q : Bool) → nat_lt to (length c.bytes) ≡ q →
+        is_some (if p then Some c else if q then None else cut_at cuts (to - length c.bytes)) ≡ true →
+        to < length (c.bytes ++ code_of cuts)
     by_test go true e q f is = let none : to ≡ 0 = grind (arith, nat_tests) in omega (arith, some, length-append c.bytes (code_of cuts))
     by_test go false e true f is = absurd cc
     by_test go false e false f is =
@@ -85,7 +92,13 @@ record IsPlacedFrom (from : ℕ) (cuts : List Cut) (p : Placed) : Type 0 where
 placed_stands : (from : ℕ) (cuts : List Cut) (i : ℕ) (p : Placed) → AllByRecursion (λ c. 0 < length c.bytes) cuts → slice_get (placed_from from cuts) i ≡ Some p → IsPlacedFrom from cuts p
 placed_stands from [] i p all is = absurd cc
 placed_stands from (c ∷ cuts) zero p all is =
-    let same : placed from c ≡ p = same_Some _ _ is in subst (IsPlacedFrom from (c ∷ cuts)) same record { cut = c; least = omega arith; stands = ap (cut_at (c ∷ cuts)) (let none : from - from ≡ 0 = omega arith in none); same = refl }
+    let same : placed from c ≡ p = same_Some _ _ is in subst (IsPlacedFrom from (c ∷ cuts)) same record {
+      cut = c;
+      least = omega arith;
+      stands = ap (cut_at (c ∷ cuts))
+          (let none : from - from ≡ 0 = omega arith in none);
+      same = refl;
+    }
 placed_stands from (c ∷ cuts) (suc i) p all is = later (placed_stands (from + length c.bytes) cuts i p all.1 is)
   where
     some : 0 < length c.bytes
@@ -94,7 +107,8 @@ placed_stands from (c ∷ cuts) (suc i) p all is = later (placed_stands (from + 
     later : IsPlacedFrom (from + length c.bytes) cuts p → IsPlacedFrom from (c ∷ cuts) p
     later s = record { cut = s.cut; least = omega (arith, s.least); stands = by_test (nat_eq (p.at - from) 0) refl (nat_lt (p.at - from) (length c.bytes)) refl; same = s.same }
       where
-        by_test : (b : Bool) → nat_eq (p.at - from) 0 ≡ b → (q : Bool) → nat_lt (p.at - from) (length c.bytes) ≡ q → (if b then Some c else if q then None else cut_at cuts (p.at - from - length c.bytes)) ≡ Some s.cut
+        by_test : (b : Bool) → nat_eq (p.at - from) 0 ≡ b → (q : Bool) → nat_lt (p.at - from) (length c.bytes) ≡ q →
+            (if b then Some c else if q then None else cut_at cuts (p.at - from - length c.bytes)) ≡ Some s.cut
         by_test true e q f = let none : p.at - from ≡ 0 = grind (arith, nat_tests) in absurd (omega (arith, s.least, some))
         by_test false e true f = let low : p.at - from < length c.bytes = grind (arith, nat_tests) in absurd (omega (arith, s.least))
         by_test false e false f =
@@ -172,11 +186,14 @@ module _ (image : ImageValue) (cuts : List Cut) (kept : KeepsNest image.loops im
       ap (shares_an_end (range_of (get_or image.loops k d))) there
       ∙ differs (range_of (get_or image.loops k d)) (range_of (get_or image.loops j d)) (kept.heads j k d low lt) (kept.lends j k d low lt)
 
-  deep_not : (k : ℕ) (d : LoopRange) (range : LoopRange) → k < length (ranges image.loops) → get_or (ranges image.loops) k d ≡ range → range.head < range.lend → lies_too_deep (take k (ranges image.loops) ++ drop (k + 1) (ranges image.loops)) range ≡ false
+  deep_not : (k : ℕ) (d : LoopRange) (range : LoopRange) → k < length (ranges image.loops) →
+      get_or (ranges image.loops) k d ≡ range → range.head < range.lend →
+      lies_too_deep (take k (ranges image.loops) ++ drop (k + 1) (ranges image.loops)) range ≡ false
   deep_not k d range lt there body =
       let nest = ranges image.loops in
       let all = count_all (λ other. lies_within range other) nest k d lt (ap (lies_within range) there ∙ within_itself range) in
-      let around = count_implied (λ other. lies_within range other) (λ other. contains other range.head) nest (all_by_place _ nest (λ j e in_nest within. around_head range (get_or nest j e) body within)) in
+      let around = count_implied (λ other. lies_within range other) (λ other. contains other range.head) nest
+      (all_by_place _ nest (λ j e in_nest within. around_head range (get_or nest j e) body within)) in
       few _ (omega (arith, all, around, kept.shallow range.head))
 
   rows_pass : (k : ℕ) (d : LoopRow) → k < length image.loops → is_bad_row image cuts k (get_or image.loops k d) ≡ false
@@ -185,7 +202,9 @@ module _ (image : ImageValue) (cuts : List Cut) (kept : KeepsNest image.loops im
       let there : get_or (ranges image.loops) k (range_of d) ≡ range = get_or-map range_of image.loops k d in
       let within : k < length (ranges image.loops) = omega (arith, length-map image.loops range_of) in
       neither _ _ (good_alone image cuts (get_or image.loops k d) (kept.good k d lt) (kept.loops k d lt))
-      (neither _ _ (neither _ _ (ap (crosses_earlier (take k (ranges image.loops))) (sym there) ∙ crosses_none k (range_of d) within) (shares_none k d lt)) (deep_not k (range_of d) range within there (kept.loops k d lt).body))
+      (neither _ _ (neither _ _ (ap (crosses_earlier (take k (ranges image.loops))) (sym there) ∙
+      crosses_none k (range_of d) within) (shares_none k d lt))
+      (deep_not k (range_of d) range within there (kept.loops k d lt).body))
 
   no_bad_row : bad_row image cuts ≡ None
   no_bad_row =
@@ -245,11 +264,14 @@ none_broken a b rules first between last = ap (λ x. if x then Some J7 else firs
     through [] is = ap (λ x. if x then Some J5 else None) last
     through (r ∷ rules) is = by_test (through rules) r.is_broken is
       where
-        by_test : (first_broken rules ≡ None → first_broken (rules ++ (rule b J5 ∷ [])) ≡ None) → (x : Bool) → (if x then Some r.code else first_broken rules) ≡ None → (if x then Some r.code else first_broken (rules ++ (rule b J5 ∷ []))) ≡ None
+        by_test : (first_broken rules ≡ None → first_broken (rules ++ (rule b J5 ∷ [])) ≡ None) → (x : Bool) →
+            (if x then Some r.code else first_broken rules) ≡ None →
+            (if x then Some r.code else first_broken (rules ++ (rule b J5 ∷ []))) ≡ None
         by_test go true is = cc
         by_test go false is = go is
 
-module _ (image : ImageValue) (cuts : List Cut) (cutting : IsCutting image.code cuts) (kept : KeepsNest image.loops image.workspace cuts) (at : ℕ) (cut : Cut) (stands : cut_at cuts at ≡ Some cut) where
+module _ (image : ImageValue) (cuts : List Cut) (cutting : IsCutting image.code cuts)
+    (kept : KeepsNest image.loops image.workspace cuts) (at : ℕ) (cut : Cut) (stands : cut_at cuts at ≡ Some cut) where
   within_code : (to : ℕ) → is_start cuts to ≡ true → to < length image.code
   within_code to starts = omega (arith, start_within cuts to kept.spelled starts, ap length cutting.joined)
 
@@ -262,7 +284,9 @@ module _ (image : ImageValue) (cuts : List Cut) (cutting : IsCutting image.code 
       let same = is_lend_of cut.instr lend in
       let P : Instr → Type 0 = λ i. is_lend i ≡ true → IsSome (target (ranges image.loops) at (at + length cut.bytes) i Back) in
       let has : has_edge cut.instr Back ≡ true = ap (λ i. has_edge i Back) same in
-      named_not (head_of (ranges image.loops)) (number_ended_at (ranges image.loops) at) (subst (λ i. IsSome (target (ranges image.loops) at (at + length cut.bytes) i Back)) same (kept.targets at cut Back stands has))
+      named_not (head_of (ranges image.loops)) (number_ended_at (ranges image.loops) at)
+      (subst (λ i. IsSome (target (ranges image.loops) at (at + length cut.bytes) i Back)) same
+      (kept.targets at cut Back stands has))
 
   off_not : runs_off image.code (at + length cut.bytes) cut.instr ≡ false
   off_not = not_both (has_edge cut.instr Next || has_edge cut.instr Out) _ λ has. by_edge (has_edge cut.instr Next) refl (has_edge cut.instr Out) refl has
@@ -297,7 +321,8 @@ module _ (image : ImageValue) (cuts : List Cut) (cutting : IsCutting image.code 
             let ends : at ≡ range.lend = kept.leaves at to Taken range e in_nest e1 (λ yes. contradict _ yes e2) in
             absurd (no_lend_jumps cut.instr n operand (lend_stands image.loops image.workspace cuts kept range cut in_nest (ap (cut_at cuts) (sym ends) ∙ stands)))
 
-        entered_not : (range : LoopRange) → Contains (ranges image.loops) range → (a : Bool) → contains range at ≡ a → (t : Bool) → contains range to ≡ t → (not a && t && not (to == range.head)) ≡ false
+        entered_not : (range : LoopRange) → Contains (ranges image.loops) range → (a : Bool) → contains range at ≡ a →
+            (t : Bool) → contains range to ≡ t → (not a && t && not (to == range.head)) ≡ false
         entered_not range in_nest true e1 t e2 = refl
         entered_not range in_nest false e1 false e2 = refl
         entered_not range in_nest false e1 true e2 =
@@ -309,7 +334,8 @@ module _ (image : ImageValue) (cuts : List Cut) (cutting : IsCutting image.code 
         let e : IsEdge (ranges image.loops) cuts at Taken to = record { cut = cut; stands = stands; goes = some.1 } in
         let there = to_there to some.1 in
         let starts = kept.starts at to Taken e in
-        four_kept _ _ _ _ (ap (is_outside image.code) there ∙ below to (length image.code) (within_code to starts)) (onward (at + length cut.bytes) to n (kept.forward at to Taken e (λ same. cc)) there)
+        four_kept _ _ _ _ (ap (is_outside image.code) there ∙ below to (length image.code) (within_code to starts))
+        (onward (at + length cut.bytes) to n (kept.forward at to Taken e (λ same. cc)) there)
         (ap (is_no_start cuts) there ∙ not_of (is_start cuts to) starts) (ap (breaks_the_nest (ranges image.loops) at) there ∙ keeps_loops to e)
       where
         four_kept : (a b c d : Bool) → a ≡ false → b ≡ false → c ≡ false → d ≡ false → first_broken (rule a J2 ∷ rule b J3 ∷ rule c J1 ∷ rule d J4 ∷ []) ≡ None
@@ -318,7 +344,10 @@ module _ (image : ImageValue) (cuts : List Cut) (cutting : IsCutting image.code 
   instruction_kept : broken_rule image cuts (placed at cut) ≡ None
   instruction_kept = by_operand (jump_operand cut.instr) refl
     where
-      by_operand : (o : Option ℤ) → jump_operand cut.instr ≡ o → first_broken ((rule (names_no_loop (ranges image.loops) at cut.instr) J7 ∷ []) ++ rules_on_jump image cuts at (at + length cut.bytes) o ++ (rule (runs_off image.code (at + length cut.bytes) cut.instr) J5 ∷ [])) ≡ None
+      by_operand : (o : Option ℤ) → jump_operand cut.instr ≡ o →
+          first_broken ((rule (names_no_loop (ranges image.loops) at cut.instr) J7 ∷ []) ++
+          rules_on_jump image cuts at (at + length cut.bytes) o ++
+          (rule (runs_off image.code (at + length cut.bytes) cut.instr) J5 ∷ [])) ≡ None
       by_operand None is = none_broken _ _ [] unnamed_not refl off_not
       by_operand (Some n) is = none_broken _ _ (jump_rules image cuts at (at + length cut.bytes) n) unnamed_not (jump_passes n is) off_not
 

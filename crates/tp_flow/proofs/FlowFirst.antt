@@ -14,7 +14,9 @@ use Rattle.tp_flow.specs.JumpRules.{broken_rule}
 use Rattle.tp_flow.specs.FlowFaults.{bad_row, fault_of, instruction_faults, first_flow_fault}
 use Rattle.tp_flow.proofs.FlowSearch.{given_more, given_here}
 
-module _ (image : ImageValue) (cuts : List Cut) (i : ℕ) (placed : Placed) (is : slice_get (placed_from 0 cuts) i ≡ Some placed) (before : filter_map (fault_of image cuts) (take i (placed_from 0 cuts)) ≡ []) where
+module _ (image : ImageValue) (cuts : List Cut) (i : ℕ) (placed : Placed)
+    (is : slice_get (placed_from 0 cuts) i ≡ Some placed) (before : filter_map (fault_of image cuts)
+    (take i (placed_from 0 cuts)) ≡ []) where
   -- the instruction there is refused
   pub refused_here : (code : FlowCode) → broken_rule image cuts placed ≡ Some code → slice_get (instruction_faults image cuts) 0 ≡ Some (record { code = code; place = placed.at })
   refused_here code broken =
@@ -28,7 +30,9 @@ module _ (image : ImageValue) (cuts : List Cut) (i : ℕ) (placed : Placed) (is 
       (ap (fault_of image cuts) (get_or_from_slice_get (placed_from 0 cuts) i placed placed is) ∙ ap (option_map (λ c. record { code = c; place = placed.at })) kept))
 
 -- all instructions are passed
-pub all_passed : (image : ImageValue) (cuts : List Cut) (i : ℕ) → length cuts ≤ i → filter_map (fault_of image cuts) (take i (placed_from 0 cuts)) ≡ [] → slice_get (instruction_faults image cuts) 0 ≡ None
+pub all_passed : (image : ImageValue) (cuts : List Cut) (i : ℕ) → length cuts ≤ i →
+    filter_map (fault_of image cuts) (take i (placed_from 0 cuts)) ≡ [] →
+    slice_get (instruction_faults image cuts) 0 ≡ None
 all_passed image cuts i all before =
     let whole : take i (placed_from 0 cuts) ≡ placed_from 0 cuts = take_all i (placed_from 0 cuts) (omega (arith, length-placed 0 cuts)) in
     ap (λ xs. slice_get xs 0) (ap (filter_map (fault_of image cuts)) (sym whole) ∙ before)

@@ -1,5 +1,7 @@
 -- Where no rule of flow is broken, edges go to instructions and keep to the nest.
-use Rattle.std.proofs.Common.{◌≡◌, ◌≢◌, ℕ, ◌+◌, ◌^◌, ◌<◌, ◌≤◌, Bool, true, false, ◌&&◌, ◌||◌, not, ◌⊎◌, inl, inr, nat_le, nat_lt, nat_eq, ◌==◌, if◌then◌else◌, ℤ, pos, negsuc, List, [], ◌∷◌, length, get_or, slice_get, Contains, Option, Some, None, refl, ap, sym, ◌∙◌, arith, IsSome}
+use Rattle.std.proofs.Common.{◌≡◌, ◌≢◌, ℕ, ◌+◌, ◌^◌, ◌<◌, ◌≤◌, Bool, true, false, ◌&&◌, ◌||◌, not, ◌⊎◌, inl, inr}
+use Rattle.std.proofs.Common.{nat_le, nat_lt, nat_eq, ◌==◌, if◌then◌else◌, ℤ, pos, negsuc, List, [], ◌∷◌, length}
+use Rattle.std.proofs.Common.{get_or, slice_get, Contains, Option, Some, None, refl, ap, sym, ◌∙◌, arith, IsSome}
 use Rattle.std.specs.Option.{option_map, option_and_then, is_some, is_none}
 use Rattle.std.proofs.lemmas.List.Folds.{list_any_at}
 use Rattle.std.proofs.lemmas.Bool.{or_parts}
@@ -75,7 +77,9 @@ keeps nest at to range is (k, k_in, at_k) = or_parts (leaves at to range) (enter
     by_test : (b : Bool) → (leaves at to range || enters_inside at to range) ≡ b → b ≡ false
     by_test false e = refl
     by_test true e =
-        let any : breaks_the_nest nest at (Some to) ≡ true = list_any_at (λ r. leaves at to r || enters_inside at to r) nest k range k_in (ap (λ r. leaves at to r || enters_inside at to r) at_k ∙ e) in
+        let any : breaks_the_nest nest at (Some to) ≡ true =
+        list_any_at (λ r. leaves at to r || enters_inside at to r) nest k range k_in
+        (ap (λ r. leaves at to r || enters_inside at to r) at_k ∙ e) in
         absurd cc
 
 enters_jump : (at to : ℕ) (range : LoopRange) → enters_inside at to range ≡ false → (contains range at ≡ true → ⊥) → contains range to ≡ true → to ≡ range.head
@@ -231,13 +235,18 @@ module _ (image : ImageValue) (cuts : List Cut) (cutting : IsCutting image.code 
       let starts = start_behind cuts at cut stands (λ e. more (e ∙ ap length cutting.joined)) in
       record { next = next; starts = ap (is_start cuts) (sym next) ∙ starts }
 
-  jump_way : (at : ℕ) (cut : Cut) (to : ℕ) → cut_at cuts at ≡ Some cut → option_and_then (jump_target (at + length cut.bytes)) (jump_operand cut.instr) ≡ Some to → IsJump (ranges image.loops) cuts at (at + length cut.bytes) to
+  jump_way : (at : ℕ) (cut : Cut) (to : ℕ) → cut_at cuts at ≡ Some cut →
+      option_and_then (jump_target (at + length cut.bytes)) (jump_operand cut.instr) ≡ Some to →
+      IsJump (ranges image.loops) cuts at (at + length cut.bytes) to
   jump_way at cut to stands goes =
       let next = at + length cut.bytes in
       let jump = from_jump next to (jump_operand cut.instr) goes in
       let passes = (instruction_passes image cuts is at cut stands).jumps jump.0 jump.1 in
-      let two = unbroken (rule (is_outside image.code (jump_target next jump.0)) J2) (rule (goes_back jump.0) J3 ∷ rule (is_no_start cuts (jump_target next jump.0)) J1 ∷ rule (breaks_the_nest (ranges image.loops) at (jump_target next jump.0)) J4 ∷ []) passes in
-      let three = unbroken (rule (goes_back jump.0) J3) (rule (is_no_start cuts (jump_target next jump.0)) J1 ∷ rule (breaks_the_nest (ranges image.loops) at (jump_target next jump.0)) J4 ∷ []) two.1 in
+      let two = unbroken (rule (is_outside image.code (jump_target next jump.0)) J2)
+      (rule (goes_back jump.0) J3 ∷ rule (is_no_start cuts (jump_target next jump.0)) J1 ∷ rule
+      (breaks_the_nest (ranges image.loops) at (jump_target next jump.0)) J4 ∷ []) passes in
+      let three = unbroken (rule (goes_back jump.0) J3) (rule (is_no_start cuts (jump_target next jump.0)) J1 ∷ rule
+      (breaks_the_nest (ranges image.loops) at (jump_target next jump.0)) J4 ∷ []) two.1 in
       let one = unbroken (rule (is_no_start cuts (jump_target next jump.0)) J1) (rule (breaks_the_nest (ranges image.loops) at (jump_target next jump.0)) J4 ∷ []) three.1 in
       let four = unbroken (rule (breaks_the_nest (ranges image.loops) at (jump_target next jump.0)) J4) [] one.1 in
       record {
@@ -249,7 +258,10 @@ module _ (image : ImageValue) (cuts : List Cut) (cutting : IsCutting image.code 
   back_way : (at to : ℕ) → option_and_then (head_of (ranges image.loops)) (number_ended_at (ranges image.loops) at) ≡ Some to → IsBack (ranges image.loops) at to
   back_way at to goes = from_back (ranges image.loops) at to (number_ended_at (ranges image.loops) at) refl goes
 
-  way : (at : ℕ) (cut : Cut) (to : ℕ) (edge : Edge) → cut_at cuts at ≡ Some cut → target (ranges image.loops) at (at + length cut.bytes) cut.instr edge ≡ Some to → IsOn cuts at cut to ⊎ (IsJump (ranges image.loops) cuts at (at + length cut.bytes) to ⊎ IsBack (ranges image.loops) at to)
+  way : (at : ℕ) (cut : Cut) (to : ℕ) (edge : Edge) → cut_at cuts at ≡ Some cut →
+      target (ranges image.loops) at (at + length cut.bytes) cut.instr edge ≡ Some to →
+      IsOn cuts at cut to ⊎ (IsJump (ranges image.loops) cuts at (at + length cut.bytes) to ⊎ IsBack (ranges image.loops)
+      at to)
   way at cut to Next stands goes =
       let has = from_if (has_edge cut.instr Next) (Some (at + length cut.bytes)) to goes in inl (on_way at cut to stands (or_left _ _ has.0) has.1)
   way at cut to Out stands goes =
@@ -277,7 +289,8 @@ module _ (image : ImageValue) (cuts : List Cut) (cutting : IsCutting image.code 
   enters_of at cut to range stands in_nest out in_range (inr (inr back)) =
       let loop = loop_in back.range back.in_nest in
       sym back.head
-      ∙ enters_back back.range range loop.body (loops_nested image cuts is back.range range back.in_nest in_nest) (λ e. out (ap (contains range) (sym back.lend) ∙ e)) (ap (contains range) back.head ∙ in_range)
+      ∙ enters_back back.range range loop.body (loops_nested image cuts is back.range range back.in_nest in_nest)
+      (λ e. out (ap (contains range) (sym back.lend) ∙ e)) (ap (contains range) back.head ∙ in_range)
 
   leaves_of : (at : ℕ) (cut : Cut) (to : ℕ) (range : LoopRange) → cut_at cuts at ≡ Some cut → Contains (ranges image.loops) range → contains range at ≡ true → (contains range to ≡ true → ⊥)
       → IsOn cuts at cut to ⊎ (IsJump (ranges image.loops) cuts at (at + length cut.bytes) to ⊎ IsBack (ranges image.loops) at to) → at ≡ range.lend
@@ -288,7 +301,8 @@ module _ (image : ImageValue) (cuts : List Cut) (cutting : IsCutting image.code 
   leaves_of at cut to range stands in_nest in_range out (inr (inr back)) =
       let loop = loop_in back.range back.in_nest in
       sym back.lend
-      ∙ leaves_back back.range range loop.body (loops_nested image cuts is back.range range back.in_nest in_nest) (ap (contains range) back.lend ∙ in_range) (λ e. out (ap (contains range) (sym back.head) ∙ e))
+      ∙ leaves_back back.range range loop.body (loops_nested image cuts is back.range range back.in_nest in_nest)
+      (ap (contains range) back.lend ∙ in_range) (λ e. out (ap (contains range) (sym back.head) ∙ e))
 
   forward_of : (at to : ℕ) (edge : Edge) (e : IsEdge (ranges image.loops) cuts at edge to) → edge ≢ Back → at + length e.cut.bytes ≤ to
   forward_of at to Next e other =
@@ -307,7 +321,9 @@ module _ (image : ImageValue) (cuts : List Cut) (cutting : IsCutting image.code 
       let next = at + length cut.bytes in
       let jump = some_is (jump_operand cut.instr) (taken_jumps cut.instr has) in
       let passes = (instruction_passes image cuts is at cut stands).jumps jump.0 jump.1 in
-      let two = unbroken (rule (is_outside image.code (jump_target next jump.0)) J2) (rule (goes_back jump.0) J3 ∷ rule (is_no_start cuts (jump_target next jump.0)) J1 ∷ rule (breaks_the_nest (ranges image.loops) at (jump_target next jump.0)) J4 ∷ []) passes in
+      let two = unbroken (rule (is_outside image.code (jump_target next jump.0)) J2)
+      (rule (goes_back jump.0) J3 ∷ rule (is_no_start cuts (jump_target next jump.0)) J1 ∷ rule
+      (breaks_the_nest (ranges image.loops) at (jump_target next jump.0)) J4 ∷ []) passes in
       ap (λ o. is_some (option_and_then (jump_target next) o)) jump.1 ∙ not_outside image.code (jump_target next jump.0) two.0
   target_of at cut Back stands has =
       named_some (ranges image.loops) at (is_lend cut.instr) (number_ended_at (ranges image.loops) at) refl (back_is_lend cut.instr has) (instruction_passes image cuts is at cut stands).named
@@ -329,5 +345,7 @@ module _ (image : ImageValue) (cuts : List Cut) (cutting : IsCutting image.code 
     leaves = λ at to edge range e in_nest in_range out. leaves_of at e.cut to range e.stands in_nest in_range out (way at e.cut to edge e.stands e.goes);
   }
     where
-      targets_of : (at : ℕ) (cut : Cut) (edge : Edge) → has_edge cut.instr edge ≡ true → is_some (goes_to (ranges image.loops) at (at + length cut.bytes) cut.instr edge) ≡ true → IsSome (target (ranges image.loops) at (at + length cut.bytes) cut.instr edge)
+      targets_of : (at : ℕ) (cut : Cut) (edge : Edge) → has_edge cut.instr edge ≡ true →
+          is_some (goes_to (ranges image.loops) at (at + length cut.bytes) cut.instr edge) ≡ true →
+          IsSome (target (ranges image.loops) at (at + length cut.bytes) cut.instr edge)
       targets_of at cut edge has some = rw has some

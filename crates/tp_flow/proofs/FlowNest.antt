@@ -1,5 +1,7 @@
 -- The rows of a code that breaks no rule of flow, and their ranges.
-use Rattle.std.proofs.Common.{◌≡◌, ◌≢◌, ℕ, ◌+◌, ◌<◌, ◌≤◌, Bool, true, false, ◌&&◌, ◌||◌, ◌==◌, not, ◌⊎◌, nat_le, nat_lt, nat_eq, ℤ, pos, int_lt, ◌≤ℤ◌, List, length, take, get_or, slice_get, All, Option, Some, None, refl, ap, sym, ◌∙◌, inl, inr, arith, subst, drop, ◌++◌}
+use Rattle.std.proofs.Common.{◌≡◌, ◌≢◌, ℕ, ◌+◌, ◌<◌, ◌≤◌, Bool, true, false, ◌&&◌, ◌||◌, ◌==◌, not, ◌⊎◌, nat_le, nat_lt}
+use Rattle.std.proofs.Common.{nat_eq, ℤ, pos, int_lt, ◌≤ℤ◌, List, length, take, get_or, slice_get, All, Option, Some}
+use Rattle.std.proofs.Common.{None, refl, ap, sym, ◌∙◌, inl, inr, arith, subst, drop, ◌++◌}
 use Rattle.std.specs.Option.{option_map, is_some}
 use Rattle.std.proofs.Math.ListN.{get_or-map}
 use Rattle.std.proofs.lemmas.Int.{ints}
@@ -13,7 +15,9 @@ use Rattle.tp_image.specs.Image.{ImageValue}
 use Rattle.tp_decode.specs.Cutting.{Cut}
 use Rattle.tp_flow.specs.declared.range.LoopRange.{LoopRange}
 use Rattle.tp_flow.specs.NestRanges.{range_of, ranges, contains, overlaps, lies_within, crosses, shares_an_end}
-use Rattle.tp_flow.specs.RowRules.{is_start, is_lend_cut, last_index, is_bad_alone, is_bad_among, crosses_earlier, has_no_start, has_no_body, begins_the_code, has_no_lend, has_no_block, turns_badly, counts_too_far, shares_with_earlier, lies_too_deep}
+use Rattle.tp_flow.specs.RowRules.{is_start, is_lend_cut, last_index, is_bad_alone, is_bad_among, crosses_earlier}
+use Rattle.tp_flow.specs.RowRules.{has_no_start, has_no_body, begins_the_code, has_no_lend, has_no_block, turns_badly}
+use Rattle.tp_flow.specs.RowRules.{counts_too_far, shares_with_earlier, lies_too_deep}
 use Rattle.tp_flow.specs.FlowFaults.{first_flow_fault}
 use Rattle.tp_flow.specs.LoopsAround.{is_around, IsOutside}
 use Rattle.tp_flow.specs.NestKept.{IsGood, IsLoop, IsNested, HasOwnHeads, HasOwnLends}
@@ -71,7 +75,9 @@ body_of cuts row loop = record { head = loop.head; lend = lend_starts _ loop.len
 pub not_crossing : (range other : LoopRange) → crosses range other ≡ false → overlaps range other ≡ true → (lies_within range other ≡ true) ⊎ (lies_within other range ≡ true)
 not_crossing range other apart over = by_test (overlaps range other) over (lies_within range other) refl (lies_within other range) refl apart
   where
-    by_test : (o : Bool) → o ≡ true → (p : Bool) → lies_within range other ≡ p → (q : Bool) → lies_within other range ≡ q → (o && not (p || q)) ≡ false → (lies_within range other ≡ true) ⊎ (lies_within other range ≡ true)
+    by_test : (o : Bool) → o ≡ true → (p : Bool) → lies_within range other ≡ p → (q : Bool) →
+        lies_within other range ≡ q → (o && not (p || q)) ≡ false →
+        (lies_within range other ≡ true) ⊎ (lies_within other range ≡ true)
     by_test o is true e q e' apart = inl e
     by_test o is false e true e' apart = inr e'
     by_test true is false e false e' apart = absurd cc
@@ -89,7 +95,9 @@ apart range other is =
     (λ same. grind (arith, nat_tests), λ same. grind (arith, nat_tests))
 
 -- what no range among some does, one of them does not
-none_does : (does : LoopRange → Bool) (earlier : List LoopRange) (i : ℕ) (d : LoopRange) → ((k : ℕ) (d : LoopRange) → k < length earlier → does (get_or earlier k d) ≡ true → ⊥) → i < length earlier → does (get_or earlier i d) ≡ false
+none_does : (does : LoopRange → Bool) (earlier : List LoopRange) (i : ℕ) (d : LoopRange) →
+    ((k : ℕ) (d : LoopRange) → k < length earlier → does (get_or earlier k d) ≡ true → ⊥) → i < length earlier →
+    does (get_or earlier i d) ≡ false
 none_does does earlier i d none lt = by_test (does (get_or earlier i d)) refl
   where
     by_test : (b : Bool) → does (get_or earlier i d) ≡ b → b ≡ false
@@ -148,7 +156,8 @@ at_place P xs l x all e = subst P (get_or_from_slice_get xs l x x e) (all l x (s
 
 module _ (image : ImageValue) (cuts : List Cut) (is : first_flow_fault image cuts ≡ None) where
   -- row k breaks no rule
-  passes : (k : ℕ) (d : LoopRow) → k < length image.loops → (is_bad_alone image cuts (get_or image.loops k d) ≡ false) × (is_bad_among (ranges image.loops) k (range_of (get_or image.loops k d)) ≡ false)
+  passes : (k : ℕ) (d : LoopRow) → k < length image.loops → (is_bad_alone image cuts (get_or image.loops k d) ≡ false) ×
+      (is_bad_among (ranges image.loops) k (range_of (get_or image.loops k d)) ≡ false)
   passes k d lt = or_parts (is_bad_alone image cuts (get_or image.loops k d)) (is_bad_among (ranges image.loops) k (range_of (get_or image.loops k d))) (row_passes image cuts is k d lt)
 
   pub all_good : All (IsGood image.workspace) image.loops
@@ -167,7 +176,9 @@ module _ (image : ImageValue) (cuts : List Cut) (is : first_flow_fault image cut
       subst P there (body_of cuts (get_or image.loops k row) (all_loops k row within), passes_among (ranges image.loops) k (range_of (get_or image.loops k row)) (passes k row within).1)
 
   -- a later range does not cross an earlier one
-  earlier_nested : (j k : ℕ) (range other : LoopRange) → j < k → k < length (ranges image.loops) → get_or (ranges image.loops) k range ≡ range → get_or (ranges image.loops) j other ≡ other → overlaps range other ≡ true → (lies_within range other ≡ true) ⊎ (lies_within other range ≡ true)
+  earlier_nested : (j k : ℕ) (range other : LoopRange) → j < k → k < length (ranges image.loops) →
+      get_or (ranges image.loops) k range ≡ range → get_or (ranges image.loops) j other ≡ other →
+      overlaps range other ≡ true → (lies_within range other ≡ true) ⊎ (lies_within other range ≡ true)
   earlier_nested j k range other lt in_nest at_k at_j over =
       let free = (good_at k range in_nest at_k).1.crosses in
       let here : get_or (take k (ranges image.loops)) j other ≡ other = get_or-take k (ranges image.loops) j other lt ∙ at_j in
@@ -186,7 +197,9 @@ module _ (image : ImageValue) (cuts : List Cut) (is : first_flow_fault image cut
           inl (within_itself range other (sym at_j ∙ ap (λ i. get_or (ranges image.loops) i range) same ∙ get_or_default (ranges image.loops) k range other k_in ∙ at_k))
 
   -- a later row shares no end with an earlier one
-  own_ends : (i j : ℕ) (d : LoopRow) → i < j → j < length image.loops → ((get_or image.loops i d).head ≢ (get_or image.loops j d).head) × ((get_or image.loops i d).lend ≢ (get_or image.loops j d).lend)
+  own_ends : (i j : ℕ) (d : LoopRow) → i < j → j < length image.loops →
+      ((get_or image.loops i d).head ≢ (get_or image.loops j d).head) ×
+      ((get_or image.loops i d).lend ≢ (get_or image.loops j d).lend)
   own_ends i j d lt in_rows =
       let nest = ranges image.loops in
       let range : LoopRange = range_of (get_or image.loops j d) in

@@ -11,7 +11,8 @@ find_more p [] i d h before here = absurd (omega arith)
 find_more p (x ∷ xs) zero d h before here = rw here refl
 find_more p (x ∷ xs) (suc i) d h before here = by_test (find_more p xs i d (omega arith)) (p x) refl before
   where
-    by_test : (find p (take i xs) ≡ None → p (get_or xs i d) ≡ false → find p (take (suc i) xs) ≡ None) → (b : Bool) → p x ≡ b → cond b (Some x) (find p (take i xs)) ≡ None → cond b (Some x) (find p (take (suc i) xs)) ≡ None
+    by_test : (find p (take i xs) ≡ None → p (get_or xs i d) ≡ false → find p (take (suc i) xs) ≡ None) → (b : Bool) →
+        p x ≡ b → cond b (Some x) (find p (take i xs)) ≡ None → cond b (Some x) (find p (take (suc i) xs)) ≡ None
     by_test go true e before = cc
     by_test go false e before = go before here
 
@@ -21,7 +22,8 @@ find_here p [] i d h before here = absurd (omega arith)
 find_here p (x ∷ xs) zero d h before here = rw here refl
 find_here p (x ∷ xs) (suc i) d h before here = by_test (find_here p xs i d (omega arith)) (p x) refl before
   where
-    by_test : (find p (take i xs) ≡ None → p (get_or xs i d) ≡ true → find p xs ≡ Some (get_or xs i d)) → (b : Bool) → p x ≡ b → cond b (Some x) (find p (take i xs)) ≡ None → cond b (Some x) (find p xs) ≡ Some (get_or xs i d)
+    by_test : (find p (take i xs) ≡ None → p (get_or xs i d) ≡ true → find p xs ≡ Some (get_or xs i d)) → (b : Bool) →
+        p x ≡ b → cond b (Some x) (find p (take i xs)) ≡ None → cond b (Some x) (find p xs) ≡ Some (get_or xs i d)
     by_test go true e before = cc
     by_test go false e before = go before here
 
@@ -31,16 +33,21 @@ given_more h [] i d lt before here = absurd (omega arith)
 given_more h (x ∷ xs) zero d lt before here = rw here refl
 given_more {X} {Y} h (x ∷ xs) (suc i) d lt before here = by_case (given_more h xs i d (omega arith)) (h x) refl before
   where
-    by_case : (filter_map h (take i xs) ≡ [] → h (get_or xs i d) ≡ None → filter_map h (take (suc i) xs) ≡ []) → (o : Option Y) → h x ≡ o → cons_option o (filter_map h (take i xs)) ≡ [] → cons_option o (filter_map h (take (suc i) xs)) ≡ []
+    by_case : (filter_map h (take i xs) ≡ [] → h (get_or xs i d) ≡ None → filter_map h (take (suc i) xs) ≡ []) →
+        (o : Option Y) → h x ≡ o → cons_option o (filter_map h (take i xs)) ≡ [] →
+        cons_option o (filter_map h (take (suc i) xs)) ≡ []
     by_case go None e before = go before here
     by_case go (Some y) e before = cc
 
-pub given_here : {X Y : Type 0} (h : X → Option Y) (xs : List X) (i : ℕ) (d : X) (y : Y) → i < length xs → filter_map h (take i xs) ≡ [] → h (get_or xs i d) ≡ Some y → slice_get (filter_map h xs) 0 ≡ Some y
+pub given_here : {X Y : Type 0} (h : X → Option Y) (xs : List X) (i : ℕ) (d : X) (y : Y) → i < length xs →
+    filter_map h (take i xs) ≡ [] → h (get_or xs i d) ≡ Some y → slice_get (filter_map h xs) 0 ≡ Some y
 given_here h [] i d y lt before here = absurd (omega arith)
 given_here h (x ∷ xs) zero d y lt before here = rw here refl
 given_here {X} {Y} h (x ∷ xs) (suc i) d y lt before here = by_case (given_here h xs i d y (omega arith)) (h x) refl before
   where
-    by_case : (filter_map h (take i xs) ≡ [] → h (get_or xs i d) ≡ Some y → slice_get (filter_map h xs) 0 ≡ Some y) → (o : Option Y) → h x ≡ o → cons_option o (filter_map h (take i xs)) ≡ [] → slice_get (cons_option o (filter_map h xs)) 0 ≡ Some y
+    by_case : (filter_map h (take i xs) ≡ [] → h (get_or xs i d) ≡ Some y → slice_get (filter_map h xs) 0 ≡ Some y) →
+        (o : Option Y) → h x ≡ o → cons_option o (filter_map h (take i xs)) ≡ [] →
+        slice_get (cons_option o (filter_map h xs)) 0 ≡ Some y
     by_case go None e before = go before here
     by_case go (Some z) e before = cc
 
@@ -50,11 +57,13 @@ module _ {X : Type 0} (p : ℕ × X → Bool) (xs read : List X) (same : read �
   numbered i d h =
       get_or-enumerate_from 0 xs i (i, d) (omega (arith, ap length same)) ∙ ap (λ n. (n, get_or xs i d)) (omega arith) ∙ ap (λ ys. (i, get_or ys i d)) (sym same)
 
-  pub numbered_more : (i : ℕ) (d : X) (b : Bool) → i < length read → find p (take i (enumerate_from 0 xs)) ≡ None → b ≡ p (i, get_or read i d) → b ≡ false → find p (take (i + 1) (enumerate_from 0 xs)) ≡ None
+  pub numbered_more : (i : ℕ) (d : X) (b : Bool) → i < length read → find p (take i (enumerate_from 0 xs)) ≡ None →
+      b ≡ p (i, get_or read i d) → b ≡ false → find p (take (i + 1) (enumerate_from 0 xs)) ≡ None
   numbered_more i d b h before answer is =
       rw add-one (find_more p (enumerate_from 0 xs) i (i, d) (omega (arith, length-enumerate_from 0 xs, ap length same)) before (ap p (numbered i d h) ∙ sym answer ∙ is))
 
-  pub numbered_here : (i : ℕ) (d : X) (b : Bool) → i < length read → find p (take i (enumerate_from 0 xs)) ≡ None → b ≡ p (i, get_or read i d) → b ≡ true → Some i ≡ option_map (λ x. x.0) (find p (enumerate_from 0 xs))
+  pub numbered_here : (i : ℕ) (d : X) (b : Bool) → i < length read → find p (take i (enumerate_from 0 xs)) ≡ None →
+      b ≡ p (i, get_or read i d) → b ≡ true → Some i ≡ option_map (λ x. x.0) (find p (enumerate_from 0 xs))
   numbered_here i d b h before answer is =
       let here : find p (enumerate_from 0 xs) ≡ Some (get_or (enumerate_from 0 xs) i (i, d)) =
       find_here p (enumerate_from 0 xs) i (i, d) (omega (arith, length-enumerate_from 0 xs, ap length same)) before (ap p (numbered i d h) ∙ sym answer ∙ is)

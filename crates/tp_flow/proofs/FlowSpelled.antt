@@ -15,7 +15,8 @@ pub some_bytes : (cuts : List Cut) (at : ℕ) (cut : Cut) → AllByRecursion (λ
 some_bytes [] at cut all is = absurd cc
 some_bytes (c ∷ cuts) at cut all is = by_test (some_bytes cuts (at - length c.bytes) cut all.1) (nat_eq at 0) (nat_lt at (length c.bytes)) is
   where
-    by_test : (cut_at cuts (at - length c.bytes) ≡ Some cut → 0 < length cut.bytes) → (p q : Bool) → (if p then Some c else if q then None else cut_at cuts (at - length c.bytes)) ≡ Some cut → 0 < length cut.bytes
+    by_test : (cut_at cuts (at - length c.bytes) ≡ Some cut → 0 < length cut.bytes) → (p q : Bool) →
+        (if p then Some c else if q then None else cut_at cuts (at - length c.bytes)) ≡ Some cut → 0 < length cut.bytes
     by_test go true q is = subst (λ x. 0 < length x.bytes) (same_Some _ _ is) all.0
     by_test go false true is = absurd cc
     by_test go false false is = go is
@@ -44,7 +45,9 @@ cut_at_start from (c ∷ cuts) (suc i) at all is = by_test (cut_at_start (from +
     some : 0 < length c.bytes
     some = all.0
 
-    by_test : cut_at cuts (at - (from + length c.bytes)) ≡ slice_get cuts i → (p : Bool) → nat_eq (at - from) 0 ≡ p → (q : Bool) → nat_lt (at - from) (length c.bytes) ≡ q → (if p then Some c else if q then None else cut_at cuts (at - from - length c.bytes)) ≡ slice_get cuts i
+    by_test : cut_at cuts (at - (from + length c.bytes)) ≡ slice_get cuts i → (p : Bool) → nat_eq (at - from) 0 ≡ p →
+        (q : Bool) → nat_lt (at - from) (length c.bytes) ≡ q →
+        (if p then Some c else if q then None else cut_at cuts (at - from - length c.bytes)) ≡ slice_get cuts i
     by_test go true e q f = let none : at - from ≡ 0 = grind (arith, nat_tests) in absurd (omega (arith, past, some))
     by_test go false e true f = let low : at - from < length c.bytes = grind (arith, nat_tests) in absurd (omega (arith, past))
     by_test go false e false f =

@@ -35,7 +35,13 @@ count_numbers [] at first p each = refl
 count_numbers (r ∷ nest) at first p each =
     let here : p first ≡ contains r at = ap p (let none : first ≡ first + 0 = omega arith in none) ∙ each 0 in
     let rest = count_numbers nest at (first + 1) p (λ i. ap p (let moved : first + 1 + i ≡ first + suc i = omega arith in moved) ∙ each (suc i)) in
-    omega (arith, sum_by-cons (λ i. cond {A = ℕ} (p i) 1 0) first (range_with_len (first + 1) (length nest)), sum_by-cons (λ range. cond {A = ℕ} (contains range at) 1 0) r nest, ap {B = ℕ} (λ b. cond b 1 0) here, rest)
+    omega (
+      arith,
+      sum_by-cons (λ i. cond {A = ℕ} (p i) 1 0) first (range_with_len (first + 1) (length nest)),
+      sum_by-cons (λ range. cond {A = ℕ} (contains range at) 1 0) r nest,
+      ap {B = ℕ} (λ b. cond b 1 0) here,
+      rest,
+    )
 
 pub length_numbers : (nest : List LoopRange) (at : ℕ) → length (rows_around nest at) ≡ depth_at nest at
 length_numbers nest at =

@@ -1,5 +1,6 @@
 -- When an instruction breaks a rule of flow.
-use Rattle.std.specs.Prelude.{ℕ, Bool, true, ◌&&◌, ◌||◌, not, nat_le, ◌==◌, List, [], ◌∷◌, ◌++◌, length, Option, Some, None, is_none, if◌then◌else◌, ℤ}
+use Rattle.std.specs.Prelude.{ℕ, Bool, true, ◌&&◌, ◌||◌, not, nat_le, ◌==◌, List, [], ◌∷◌, ◌++◌, length, Option, Some}
+use Rattle.std.specs.Prelude.{None, is_none, if◌then◌else◌, ℤ}
 use Rattle.std.specs.List.{list_any}
 use Rattle.std.specs.Int.{is_negative}
 use Rattle.tp_decode.specs.declared.instr.Instr.{Instr}

@@ -1,5 +1,6 @@
 -- The loops around an address, by the numbers of their rows, and how they change along an edge.
-use Rattle.std.specs.Prelude.{◌≡◌, ℕ, Bool, false, ◌&&◌, ◌||◌, not, ◌==◌, List, Option, Some, None, slice_get, position, filter, length}
+use Rattle.std.specs.Prelude.{◌≡◌, ℕ, Bool, false, ◌&&◌, ◌||◌, not, ◌==◌, List, Option, Some, None, slice_get, position}
+use Rattle.std.specs.Prelude.{filter, length}
 use Rattle.std.specs.Option.{option_map_or}
 use Rattle.std.specs.List.{range_with_len}
 use Rattle.tp_flow.specs.declared.edge.Edge.{Edge}

@@ -1,5 +1,6 @@
 -- What the rules of flow are for: loops that make a nest, and edges that go to instructions and keep to the nest.
-use Rattle.std.specs.Prelude.{◌≡◌, ◌≢◌, ℕ, ◌+◌, ◌<◌, ◌≤◌, ◌⊎◌, pos, ◌≤ℤ◌, List, length, count_by, All, AllPairs, Contains, IsTrue, Some, IsSome}
+use Rattle.std.specs.Prelude.{◌≡◌, ◌≢◌, ℕ, ◌+◌, ◌<◌, ◌≤◌, ◌⊎◌, pos, ◌≤ℤ◌, List, length, count_by, All, AllPairs}
+use Rattle.std.specs.Prelude.{Contains, IsTrue, Some, IsSome}
 use Rattle.std.specs.List.{AllByRecursion}
 use Rattle.tp_image.specs.declared.image.LoopRow.{LoopRow}
 use Rattle.tp_decode.specs.Cutting.{Cut, cut_at}

@@ -14,7 +14,7 @@ pub enum FlowCode {
     J3,
     /// A jump leaves a loop, or enters one at another place than its head.
     J4,
-    /// Control goes on behind the last instruction.
+    /// Control runs off behind the last instruction.
     J5,
     /// A bad loop row.
     J6,

@@ -3,7 +3,8 @@
 ghost use Rattle.std.specs.Prelude.{◌≡◌, Some, slice_get};
 ghost use Rattle.tp_flow.specs.NestRanges.{ranges};
 ghost use Rattle.tp_flow.specs.FlowFaults.{instruction_faults};
-ghost use Rattle.tp_flow.specs.JumpRules.{broken_rule, names_no_loop, breaks_the_nest, runs_off, jump_rules, first_broken};
+ghost use Rattle.tp_flow.specs.JumpRules.{broken_rule, names_no_loop, breaks_the_nest, runs_off, jump_rules};
+ghost use Rattle.tp_flow.specs.JumpRules.{first_broken};
 ghost use Rattle.tp_flow.specs.RowRules.{is_start};
 ghost use Rattle.tp_flow.specs.Stretches.{IsStretch};
 
@@ -67,7 +68,7 @@ fn names_no_loop(nest: &Nest, at: usize, instr: Instr) -> bool
     }
 }
 
-/// Whether control goes on behind an instruction at the end of the code.
+/// Whether control runs off behind an instruction at the end of the code.
 fn runs_off(image: &Image, next: usize, instr: Instr) -> bool
     ensures { result ≡ runs_off image.now.code next instr }
 {

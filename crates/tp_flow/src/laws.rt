@@ -1,6 +1,7 @@
 //! Laws of the flow of a code: each function's contract is the law.
 
-ghost use Rattle.std.specs.Prelude.{◌≡◌, ℕ, ◌+◌, ◌<◌, ◌≤◌, List, None, Some, length, filter, slice_get, Contains, IsTrue};
+ghost use Rattle.std.specs.Prelude.{◌≡◌, ℕ, ◌+◌, ◌<◌, ◌≤◌, List, None, Some, length, filter, slice_get, Contains};
+ghost use Rattle.std.specs.Prelude.{IsTrue};
 ghost use Rattle.tp_decode.specs.Cutting.{Cut, IsCutting, starts_from, cut_at};
 ghost use Rattle.tp_image.specs.Image.{ImageValue};
 ghost use Rattle.tp_flow.specs.declared.range.LoopRange.{LoopRange};

@@ -2,7 +2,8 @@
 
 ghost use Rattle.std.specs.Prelude.{◌≡◌, ◌<◌, ◌++◌, length};
 ghost use Rattle.tp_flow.specs.NestRanges.{ranges};
-ghost use Rattle.tp_flow.specs.RowRules.{has_no_start, turns_badly, counts_too_far, has_no_block, is_bad_alone, crosses_earlier, shares_with_earlier, lies_too_deep, is_bad_among, is_bad_row};
+ghost use Rattle.tp_flow.specs.RowRules.{has_no_start, turns_badly, counts_too_far, has_no_block, is_bad_alone};
+ghost use Rattle.tp_flow.specs.RowRules.{crosses_earlier, shares_with_earlier, lies_too_deep, is_bad_among, is_bad_row};
 ghost use Rattle.tp_flow.specs.FlowFaults.{bad_row};
 
 use crate::jumps::is_start;

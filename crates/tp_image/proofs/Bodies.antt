@@ -50,7 +50,15 @@ length-text image =
     let front = header_text (header_of image) in
     let rows = flat_map row_text image.loops in
     let words = flat_map word image.initial in
-    omega (arith, length-append (front ++ rows ++ words) image.code, length-append (front ++ rows) words, length-append front rows, length-header_text (header_of image), length-rows image.loops, length-words image.initial)
+    omega (
+      arith,
+      length-append (front ++ rows ++ words) image.code,
+      length-append (front ++ rows) words,
+      length-append front rows,
+      length-header_text (header_of image),
+      length-rows image.loops,
+      length-words image.initial,
+    )
 
 -- an image in range has a header in range, and the other way round
 pub ranges_of : (image : ImageValue) → InRange image → HasRanges (header_of image)

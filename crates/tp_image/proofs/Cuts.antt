@@ -42,7 +42,8 @@ AreBytes-drop n bytes fits i = rw get_or-drop (fits (n + i))
 pub All-AreBytes : (bytes : List ℕ) → AreBytes bytes → All (λ byte. byte < 256) bytes
 All-AreBytes bytes fits = λ k d lt. rw (get_or_default bytes k d 0 lt) (fits k)
 
-pub IsTextOf-cuts : (h : Header) (bytes table words code : List ℕ) (image : ImageValue) → AreBytes bytes → IsWholeHeader h bytes → AreCuts h bytes table words code → IsReadFrom h table words code image → IsTextOf bytes image
+pub IsTextOf-cuts : (h : Header) (bytes table words code : List ℕ) (image : ImageValue) → AreBytes bytes →
+    IsWholeHeader h bytes → AreCuts h bytes table words code → IsReadFrom h table words code image → IsTextOf bytes image
 IsTextOf-cuts h bytes table words code image fits whole cuts read =
     let size = passes_size h (length bytes) whole.passes in
     let body = drop (header_bytes h.version) bytes in
@@ -58,7 +59,9 @@ IsTextOf-cuts h bytes table words code image fits whole cuts read =
     same_header image h read.version read.workspace read.start read.packet read.result (ap length read.code_is ∙ code_length) (omega (arith, read.loops_count)) (omega (arith, read.initial_count)) in
     let parts : flat_map row_text image.loops ++ (flat_map word image.initial ++ image.code) ≡ body =
     rw (rows_are, words_are, read.code_is, cuts.table_is, cuts.words_is, cuts.code_is) (two_cuts body (12 * h.loops) (4 * h.initial)) in
-    let bytes_fit : AreBytes image.code = rw (read.code_is, cuts.code_is) (AreBytes-drop (4 * h.initial) rest (AreBytes-drop (12 * h.loops) body (AreBytes-drop (header_bytes h.version) bytes fits))) in
+    let bytes_fit : AreBytes image.code = rw (read.code_is, cuts.code_is)
+    (AreBytes-drop (4 * h.initial) rest (AreBytes-drop (12 * h.loops) body
+    (AreBytes-drop (header_bytes h.version) bytes fits))) in
     assembled bytes image fits
     (subst (λ (k : Header). IsWholeHeader k bytes) (sym header_is) whole)
     (parts ∙ ap (λ (k : Header). drop (header_bytes k.version) bytes) (sym header_is))

@@ -1,5 +1,7 @@
 -- Bytes that pass each test are an image's.
-use Rattle.std.proofs.Common.{◌≡◌, ℕ, zero, suc, pos, negsuc, ◌+◌, ◌*◌, ◌-◌, ◌^◌, ◌<◌, ◌≤◌, ltb, List, [], ◌∷◌, ◌++◌, length, take, drop, All, Option, None, Some, FitsSigned, refl, sym, ap, subst, ◌∙◌, inl, inr, arith}
+use Rattle.std.proofs.Common.{◌≡◌, ℕ, zero, suc, pos, negsuc, ◌+◌, ◌*◌, ◌-◌, ◌^◌, ◌<◌, ◌≤◌, ltb, List, [], ◌∷◌, ◌++◌}
+use Rattle.std.proofs.Common.{length, take, drop, All, Option, None, Some, FitsSigned, refl, sym, ap, subst, ◌∙◌, inl}
+use Rattle.std.proofs.Common.{inr, arith}
 use Rattle.std.specs.List.{flat_map}
 use Rattle.std.specs.Int.{w32, from_le_bytes, cast_signed, cast_unsigned}
 use Rattle.std.proofs.lemmas.Bool.{ltb-true, ltb-false, cond_both, cond-true, cond-false, cases_Bool, cases_lt}
@@ -90,7 +92,8 @@ length-rows_from (suc k) bytes = ap suc (length-rows_from k (drop 12 bytes))
 
 signed_fits : (n : ℕ) → n < 2 ^ 32 → FitsSigned w32 (cast_signed w32 n)
 signed_fits n lt =
-    cond_both (ltb n (2 ^ 31)) (pos n) (negsuc (2 ^ 32 - suc n)) (λ z. FitsSigned w32 z) (λ e. let below = ltb-true n (2 ^ 31) e in omega arith) (λ e. let above = ltb-false n (2 ^ 31) e in omega arith)
+    cond_both (ltb n (2 ^ 31)) (pos n) (negsuc (2 ^ 32 - suc n)) (λ z. FitsSigned w32 z)
+    (λ e. let below = ltb-true n (2 ^ 31) e in omega arith) (λ e. let above = ltb-false n (2 ^ 31) e in omega arith)
 
 IsRow-row_from : (bytes : List ℕ) → AreBytes bytes → IsRow (row_from bytes)
 unfolding row_from
@@ -108,7 +111,9 @@ row_from_spelled bytes fits long =
     let at = λ (place : ℕ). half-half_word_at bytes place fits in
     let n = word_from (drop 8 bytes) in
     let start : cast_unsigned w32 (cast_signed w32 n) ≡ n = of_z-to_z w32 n (word_below (drop 8 bytes) (AreBytes-drop 8 bytes fits)) in
-    row_spelled bytes _ _ _ _ _ long (at 0) (at 2) (at 4) (at 6) (ap word start ∙ word_spelled (drop 8 bytes) (AreBytes-drop 8 bytes fits) (omega (arith, length-drop 8 bytes)) ∙ ap (take 4) (drop-cells 4 8 bytes (omega arith)))
+    row_spelled bytes _ _ _ _ _ long (at 0) (at 2) (at 4) (at 6)
+    (ap word start ∙ word_spelled (drop 8 bytes) (AreBytes-drop 8 bytes fits) (omega (arith, length-drop 8 bytes)) ∙
+    ap (take 4) (drop-cells 4 8 bytes (omega arith)))
 
 rows_spelled : (k : ℕ) (bytes : List ℕ) → AreBytes bytes → length bytes ≡ 12 * k → flat_map row_text (rows_from k bytes) ≡ bytes
 unfolding rows_from
@@ -123,7 +128,9 @@ rows_spelled (suc k) bytes fits long =
 rows_in_range : (k : ℕ) (bytes : List ℕ) → AreBytes bytes → All IsRow (rows_from k bytes)
 unfolding rows_from
 rows_in_range zero bytes fits = All-nil IsRow
-rows_in_range (suc k) bytes fits = All-cons IsRow (row_from (take 12 bytes)) (rows_from k (drop 12 bytes)) (IsRow-row_from (take 12 bytes) (AreBytes-take 12 bytes fits)) (rows_in_range k (drop 12 bytes) (AreBytes-drop 12 bytes fits))
+rows_in_range (suc k) bytes fits = All-cons IsRow (row_from (take 12 bytes)) (rows_from k (drop 12 bytes))
+    (IsRow-row_from (take 12 bytes) (AreBytes-take 12 bytes fits))
+    (rows_in_range k (drop 12 bytes) (AreBytes-drop 12 bytes fits))
 
 -- ---- the whole
 
@@ -162,8 +169,11 @@ image_of_header h bytes fits whole =
     let parts : flat_map row_text image.loops ++ (flat_map word image.initial ++ image.code) ≡ body =
     ap (λ (front : List ℕ). front ++ (flat_map word image.initial ++ code)) (rows_spelled h.loops table table_fits table_length)
     ∙ ap (λ (middle : List ℕ). table ++ (middle ++ code)) (words_spelled h.initial words words_fit words_length)
-    ∙ two_cuts body (12 * h.loops) (4 * h.initial) in
-    (image, assembled bytes image fits (subst (λ (k : Header). IsWholeHeader k bytes) (sym header_is) whole) parts (rows_in_range h.loops table table_fits) (words_below h.initial words words_fit) (All-AreBytes code code_fits))
+    ∙ two_cuts body (12 * h.loops) (4 * h.initial) in (
+      image,
+      assembled bytes image fits (subst (λ (k : Header). IsWholeHeader k bytes) (sym header_is) whole) parts
+          (rows_in_range h.loops table table_fits) (words_below h.initial words words_fit) (All-AreBytes code code_fits),
+    )
 
 -- bytes that pass each test have a whole header
 whole_header : (o : Option Version) (bytes : List ℕ) → version_of bytes ≡ o → fault_of o bytes ≡ None → (h : Header) × IsWholeHeader h bytes

@@ -42,7 +42,8 @@ joined_2 : (bytes a b c d e f g : List ℕ)
 joined_2 bytes a b c d e f g a-is b-is c-is d-is e-is f-is g-is = rw (a-is, b-is, c-is, d-is, e-is, f-is, g-is) refl
 
 -- the header that is read at the front is spelled there
-pub header_spelled : (v : Version) (bytes : List ℕ) → AreBytes bytes → version_of bytes ≡ Some v → header_bytes v ≤ length bytes → bytes ≡ header_text (header_at v bytes) ++ drop (header_bytes v) bytes
+pub header_spelled : (v : Version) (bytes : List ℕ) → AreBytes bytes → version_of bytes ≡ Some v →
+    header_bytes v ≤ length bytes → bytes ≡ header_text (header_at v bytes) ++ drop (header_bytes v) bytes
 header_spelled One bytes fits is long =
     let at = λ (place : ℕ). half-half_word_at bytes place fits in
     version_front bytes One is
@@ -84,17 +85,23 @@ same_fields : (v : Version) (a b c d e f g a' b' c' d' e' f' g' : ℕ) → a ≡
 same_fields v a b c d e f g a' b' c' d' e' f' g' p q r s t u w = cc
 
 -- a header that is spelled is read again, whatever follows
-again : (v : Version) (code workspace start packet result loops initial : ℕ) (rest : List ℕ) → IsHeader (header_with v code workspace start packet result loops initial) → initial ≤ most_initial v workspace
+again : (v : Version) (code workspace start packet result loops initial : ℕ) (rest : List ℕ) →
+    IsHeader (header_with v code workspace start packet result loops initial) → initial ≤ most_initial v workspace
     → header_at v (header_text (header_with v code workspace start packet result loops initial) ++ rest) ≡ header_with v code workspace start packet result loops initial
 again One code workspace start packet result loops initial rest h none =
-    same_fields One _ _ _ _ _ _ _ code workspace start packet result loops initial (half_word_back code h.code) (half_word_back workspace h.workspace) (half_word_back start h.start) (half_word_back packet h.packet) (half_word_back result h.result) (half_word_back loops h.loops) (let e : 0 ≡ initial = omega arith in e)
+    same_fields One _ _ _ _ _ _ _ code workspace start packet result loops initial (half_word_back code h.code)
+    (half_word_back workspace h.workspace) (half_word_back start h.start) (half_word_back packet h.packet)
+    (half_word_back result h.result) (half_word_back loops h.loops) (let e : 0 ≡ initial = omega arith in e)
 again Two code workspace start packet result loops initial rest h most =
-    same_fields Two _ _ _ _ _ _ _ code workspace start packet result loops initial (half_word_back code h.code) (half_word_back workspace h.workspace) (half_word_back start h.start) (half_word_back packet h.packet) (half_word_back result h.result) (half_word_back loops h.loops) (half_word_back initial h.initial)
+    same_fields Two _ _ _ _ _ _ _ code workspace start packet result loops initial (half_word_back code h.code)
+    (half_word_back workspace h.workspace) (half_word_back start h.start) (half_word_back packet h.packet)
+    (half_word_back result h.result) (half_word_back loops h.loops) (half_word_back initial h.initial)
 
 pub header_at-text : (h : Header) (rest : List ℕ) → IsHeader h → h.initial ≤ most_initial h.version h.workspace → header_at h.version (header_text h ++ rest) ≡ h
 header_at-text h rest is_header most = again h.version h.code h.workspace h.start h.packet h.result h.loops h.initial rest is_header most
 
-version_again : (v : Version) (code workspace start packet result loops initial : ℕ) (rest : List ℕ) → version_of (header_text (header_with v code workspace start packet result loops initial) ++ rest) ≡ Some v
+version_again : (v : Version) (code workspace start packet result loops initial : ℕ) (rest : List ℕ) →
+    version_of (header_text (header_with v code workspace start packet result loops initial) ++ rest) ≡ Some v
 version_again One code workspace start packet result loops initial rest = refl
 version_again Two code workspace start packet result loops initial rest = refl
 

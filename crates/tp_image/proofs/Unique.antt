@@ -105,7 +105,8 @@ one_image bytes a b p q =
     let rests = append_cancel_left (header_text (header_of b)) (rest_of a) (rest_of b) (ap (λ (k : Header). header_text k ++ rest_of a) (sym headers) ∙ whole) in
     let loops_count = ap (λ (k : Header). k.loops) headers in
     let initial_count = ap (λ (k : Header). k.initial) headers in
-    let rows = split_same (flat_map row_text a.loops) (flat_map word a.initial ++ a.code) (flat_map row_text b.loops) (flat_map word b.initial ++ b.code) (omega (arith, length-rows a.loops, length-rows b.loops)) rests in
+    let rows = split_same (flat_map row_text a.loops) (flat_map word a.initial ++ a.code) (flat_map row_text b.loops)
+    (flat_map word b.initial ++ b.code) (omega (arith, length-rows a.loops, length-rows b.loops)) rests in
     let words = split_same (flat_map word a.initial) a.code (flat_map word b.initial) b.code (omega (arith, length-words a.initial, length-words b.initial)) rows.1 in
     same_image a b headers
     (same_rows a.loops b.loops p.0.rows q.0.rows loops_count rows.0)

@@ -1,5 +1,6 @@
 -- The first test that bytes fail.
-use Rattle.std.specs.Prelude.{◌≡◌, ◌≤◌, ℕ, ◌+◌, ◌*◌, Bool, List, [], ◌∷◌, ◌++◌, length, slice_index, Option, Some, None, nat_eq, nat_lt, nat_le, ◌||◌, if◌then◌else◌}
+use Rattle.std.specs.Prelude.{◌≡◌, ◌≤◌, ℕ, ◌+◌, ◌*◌, Bool, List, [], ◌∷◌, ◌++◌, length, slice_index, Option, Some, None}
+use Rattle.std.specs.Prelude.{nat_eq, nat_lt, nat_le, ◌||◌, if◌then◌else◌}
 use Rattle.std.specs.List.{starts_with}
 use Rattle.tp_image.specs.declared.fault.ImageCode.{ImageCode}
 use Rattle.tp_image.specs.declared.fault.ImageCode.TheVariants.{F1, F2, F3, F4, F5, F6, F7, F8, F9, F10}
@@ -8,7 +9,8 @@ use Rattle.tp_image.specs.declared.fault.ImageFault.TheVariants.{Refused}
 use Rattle.tp_image.specs.declared.image.Version.{Version}
 use Rattle.tp_image.specs.declared.image.Version.TheVariants.{One, Two}
 use Rattle.tp_image.specs.declared.header.Header.{Header}
-use Rattle.tp_image.specs.Layout.{code_at, workspace_at, start_at, packet_at, result_at, loops_at, initial_at, header_bytes, row_bytes, word_bytes}
+use Rattle.tp_image.specs.Layout.{code_at, workspace_at, start_at, packet_at, result_at, loops_at, initial_at}
+use Rattle.tp_image.specs.Layout.{header_bytes, row_bytes, word_bytes}
 use Rattle.tp_image.specs.Limits.{most_code, least_workspace, most_workspace, least_start, most_message, most_loops}
 use Rattle.tp_image.specs.Image.{most_initial}
 use Rattle.tp_image.specs.Text.{magic}

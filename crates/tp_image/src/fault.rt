@@ -61,7 +61,7 @@ pub enum ImageFault {
     /// The bytes are no image. The code is the first test that they fail, and the place is a byte
     /// offset in them.
     Refused { code: ImageCode, place: usize },
-    /// A growth was refused.
+    /// Out of memory.
     Memory,
 }
 

@@ -53,8 +53,8 @@ impl Fields {
 }
 
 impl Image {
-    /// The image with these fields, or the refusal of the first that is out of its range: F3 to F8, or F10, with the place that
-    /// the field has in an image's bytes. It takes no memory.
+    /// The image with these fields, or the refusal of the first that is out of its range: F3 to F8, or F10, with the
+    /// place that the field has in an image's bytes. It takes no memory.
     pub fn new(fields: Fields) -> Result<Image, ImageFault>
         requires rows { All IsRow fields.loops.items }
         ensures image { IfOk result (λ image. image ≡ image_said fields) }

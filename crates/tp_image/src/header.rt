@@ -3,7 +3,8 @@
 ghost use Rattle.std.specs.Prelude.{◌≡◌, ◌+◌, ◌≤◌, ◌<◌, length, MatchResult, None, Some, Err};
 ghost use Rattle.tp_image.specs.Image.{most_initial};
 ghost use Rattle.tp_image.specs.Text.{header_of};
-ghost use Rattle.tp_image.specs.Faults.{half_word_at, header_at, version_of, image_bytes, is_outside, field_fault, header_fault, first_fault, IsWholeHeader};
+ghost use Rattle.tp_image.specs.Faults.{half_word_at, header_at, version_of, image_bytes, is_outside, field_fault};
+ghost use Rattle.tp_image.specs.Faults.{header_fault, first_fault, IsWholeHeader};
 ghost use Rattle.tp_image.specs.Layout.{header_bytes};
 
 use crate::fault::{ImageCode, ImageFault};

@@ -92,10 +92,17 @@ impl Model for Image {
 }
 
 impl Image {
+    /// A law: every image is in range.
+    pub fn law_is_in_range(&self)
+        ensures { InRange self.now }
+    {
+        // Naming a field gives the type's invariant.
+        let _ = &self.code;
+    }
+
     /// The version of the format: 1 or 2.
     pub fn version(&self) -> u8
-        ensures number { result ≡ number_of self.now.version }
-        ensures in_range { InRange self.now }
+        ensures { result ≡ number_of self.now.version }
     {
         match self.version {
             Version::One => 1,

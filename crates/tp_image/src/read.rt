@@ -1,6 +1,7 @@
 //! Reading an image.
 
-ghost use Rattle.std.specs.Prelude.{◌≡◌, ◌<◌, ◌^◌, [], ◌∷◌, ◌⊎◌, length, All, MatchResult, IfOk, IfErr, IfSome, Err, Some};
+ghost use Rattle.std.specs.Prelude.{◌≡◌, ◌<◌, ◌^◌, [], ◌∷◌, ◌⊎◌, length, All, MatchResult, IfOk, IfErr, IfSome, Err};
+ghost use Rattle.std.specs.Prelude.{Some};
 ghost use Rattle.std.specs.List.{flat_map};
 ghost use Rattle.tp_image.specs.Image.{ImageValue, IsRow};
 ghost use Rattle.tp_image.specs.Text.{half_word as half_word_text, row_text, word, IsTextOf};
@@ -92,6 +93,13 @@ fn image_of(alloc: Global, header: &Header, bytes: &[u8]) -> Result<Image, Alloc
 /// Reads an image: a header, the loop rows, the initial words and the code, with nothing after them.
 /// Other bytes are refused by the first test that they fail, whose place is a byte offset in them.
 /// A refusal takes no memory.
+///
+/// ```
+/// // A worker that adds one to its packet: 16 code bytes, and a word of packet and of result.
+/// let image = read_image(alloc, b"TPW1\x10\0\x0C\0\x08\0\x01\0\x01\0\0\0\
+///     \x10\x24\xF2\x54\x44\xF7\x70\x81\xD0\x10\x24\xF2\x44\xFB\x21\xF5")?;
+/// assert_eq!((image.packet, image.result, image.code.len()), (1, 1, 16));
+/// ```
 pub fn read_image(alloc: Global, bytes: &[u8]) -> Result<Image, ImageFault>
     // What is read is the image of these bytes.
     ensures image { IfOk result (λ image. IsTextOf bytes.now image) }
@@ -100,7 +108,7 @@ pub fn read_image(alloc: Global, bytes: &[u8]) -> Result<Image, ImageFault>
         → MatchResult result (λ found. found ≡ image) (λ fault. fault ≡ ImageFault.Memory) }
     // Bytes that fail a test are refused by the first, whatever memory is left.
     ensures refused { IfSome (first_fault bytes.now) (λ fault. result ≡ Err fault) }
-    // Nothing else is answered.
+    // There is no other failure.
     ensures fault { IfErr result (λ fault. (fault ≡ ImageFault.Memory) ⊎ (first_fault bytes.now ≡ Some fault)) }
 {
     let header = read_header(bytes)?;

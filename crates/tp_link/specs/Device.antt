@@ -1,5 +1,6 @@
 -- What a link device means, and what each call does to that meaning.
-use Rattle.std.specs.Prelude.{◌≡◌, ℕ, ◌+◌, ◌<◌, ◌^◌, Bool, true, false, List, ◌++◌, length, take, drop, Result, Ok, Err, nat_le}
+use Rattle.std.specs.Prelude.{◌≡◌, ℕ, ◌+◌, ◌<◌, ◌^◌, Bool, true, false, List, ◌++◌, length, take, drop, Result, Ok, Err}
+use Rattle.std.specs.Prelude.{nat_le}
 use Rattle.std.specs.Prelude.{if◌then◌else◌}
 use Rattle.tp_link.specs.declared.device.DeviceFault.{DeviceFault}
 use Rattle.tp_link.specs.declared.device.DeviceFault.TheVariants.{Closed, Full, Short, Failed}

@@ -63,7 +63,8 @@ impl<'a> Drop for FaultyWire<'a> {
 
 impl<'a> LinkDevice for FaultyWire<'a> {
     ghost use Rattle.std.specs.Prelude.{length};
-    ghost use Rattle.tp_link.specs.Device.{after_send, after_receive, after_close, received, MayAnswerSend, MayAnswerReceive};
+    ghost use Rattle.tp_link.specs.Device.{after_send, after_receive, after_close, received, MayAnswerSend};
+    ghost use Rattle.tp_link.specs.Device.{MayAnswerReceive};
     ghost use Rattle.tp_link.specs.FaultyWire.{device_of, loan_of, plan_of, FollowsPlan};
 
     ghost state = { device_of };

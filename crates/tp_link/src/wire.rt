@@ -35,7 +35,8 @@ impl<'a> Drop for Wire<'a> {
 
 impl<'a> LinkDevice for Wire<'a> {
     ghost use Rattle.std.specs.Prelude.{length};
-    ghost use Rattle.tp_link.specs.Device.{after_send, after_receive, after_close, received, MayAnswerSend, MayAnswerReceive};
+    ghost use Rattle.tp_link.specs.Device.{after_send, after_receive, after_close, received, MayAnswerSend};
+    ghost use Rattle.tp_link.specs.Device.{MayAnswerReceive};
     ghost use Rattle.tp_link.specs.Wire.{device_of, loan_of};
 
     ghost state = { device_of };

@@ -3,7 +3,7 @@ use tp_link::LinkFault;
 /// What became of an instruction.
 #[derive(Clone, Copy)]
 pub(crate) enum Turn {
-    /// It had its effect, and the worker goes on.
+    /// It had its effect, and the worker runs on.
     Made,
     /// It had its effect, and the worker has stopped.
     Ended,

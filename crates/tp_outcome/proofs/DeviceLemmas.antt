@@ -1,5 +1,7 @@
 -- What devices took and gave, one call after another.
-use Rattle.std.proofs.Common.{◌≡◌, ℕ, ◌+◌, ◌*◌, ◌≤◌, Bool, true, false, nat_le, if◌then◌else◌, List, [], ◌++◌, length, take, replicate, Ok, Err, refl, sym, ap, ◌∙◌, arith, length-append, append_assoc, append-nil}
+use Rattle.std.proofs.Common.{◌≡◌, ℕ, ◌+◌, ◌*◌, ◌≤◌, Bool, true, false, nat_le, if◌then◌else◌, List, [], ◌++◌, length}
+use Rattle.std.proofs.Common.{take, replicate, Ok, Err, refl, sym, ap, ◌∙◌, arith, length-append, append_assoc}
+use Rattle.std.proofs.Common.{append-nil}
 use Rattle.std.proofs.lemmas.Bool.Decides.{nat_tests}
 use Rattle.std.proofs.lemmas.List.{length-replicate, length-take-le, take-append-le}
 use Rattle.tp_link.specs.declared.device.DeviceFault.{DeviceFault}
@@ -58,7 +60,9 @@ took_more d e f xs ys h can is =
     omega (arith, long, was.1, room, length-append xs ys) in
     record {
       could = λ some. can_send d (xs ++ ys) opened fits;
-      becomes = is ∙ rw h.becomes (ap (λ bytes. record d { held = bytes; faults = d.faults + 0 + 0 }) (append_assoc d.held xs ys) ∙ ap (λ k. record d { held = d.held ++ (xs ++ ys); faults = k }) (still (d.faults + 0)));
+      becomes = is ∙ rw h.becomes (ap (λ bytes. record d { held = bytes; faults = d.faults + 0 + 0 })
+          (append_assoc d.held xs ys) ∙ ap (λ k. record d { held = d.held ++ (xs ++ ys); faults = k })
+          (still (d.faults + 0)));
     }
 
 -- a packet has its length

@@ -28,7 +28,9 @@ module _ (image : ImageValue) (before now : DeviceState) (to_come : List ℕ) (a
       take_all (4 * image.packet) to_come (omega (arith, long)) ∙ all ∙ held
 
   -- and it has given the packet then
-  pub gave_packet : (source : DeviceState) → plain_receive now (4 * image.packet) ≡ Ok tt → source ≡ after_receive now (4 * image.packet) (Ok tt) → Gave before (4 * image.packet - length (drop (4 * image.packet) to_come)) source
+  pub gave_packet : (source : DeviceState) → plain_receive now (4 * image.packet) ≡ Ok tt →
+      source ≡ after_receive now (4 * image.packet) (Ok tt) →
+      Gave before (4 * image.packet - length (drop (4 * image.packet) to_come)) source
   gave_packet source can is =
       let long = to_come_length in
       let left = length-drop (4 * image.packet) to_come in

@@ -31,17 +31,23 @@ with_more m a xs ys = fun_ext λ x. at x (cases_lt x a) (cases_lt x (a + length 
     all : length (cells (xs ++ ys)) ≡ length xs + length ys
     all = some (xs ++ ys) ∙ length-append xs ys
 
-    at : (x : ℕ) → (x < a) ⊎ (a ≤ x) → (x < a + length xs) ⊎ (a + length xs ≤ x) → (x < a + length xs + length ys) ⊎ (a + length xs + length ys ≤ x) → with_cells (with_cells m a (cells xs)) (a + length xs) (cells ys) x ≡ with_cells m a (cells (xs ++ ys)) x
+    at : (x : ℕ) → (x < a) ⊎ (a ≤ x) → (x < a + length xs) ⊎ (a + length xs ≤ x) →
+        (x < a + length xs + length ys) ⊎ (a + length xs + length ys ≤ x) →
+        with_cells (with_cells m a (cells xs)) (a + length xs) (cells ys) x ≡ with_cells m a (cells (xs ++ ys)) x
     at x (inl below) _ _ =
         cell_below (with_cells m a (cells xs)) (a + length xs) (cells ys) x (omega arith) ∙ cell_below m a (cells xs) x below ∙ sym (cell_below m a (cells (xs ++ ys)) x below)
     at x (inr above) (inl first) _ =
         cell_below (with_cells m a (cells xs)) (a + length xs) (cells ys) x first
         ∙ cell_in m a (cells xs) x above (omega (arith, some xs))
-        ∙ sym (cell_in m a (cells (xs ++ ys)) x above (omega (arith, all)) ∙ ap (λ l. slice_index_or l (x - a) None) both ∙ get_or_append_left (cells xs) (cells ys) None (x - a) (omega (arith, some xs)))
+        ∙ sym (cell_in m a (cells (xs ++ ys)) x above (omega (arith, all)) ∙
+        ap (λ l. slice_index_or l (x - a) None) both ∙ get_or_append_left (cells xs) (cells ys) None (x - a)
+        (omega (arith, some xs)))
     at x (inr above) (inr past) (inl second) =
         let on : x - a ≡ length (cells xs) + (x - (a + length xs)) = omega (arith, some xs) in
         cell_in (with_cells m a (cells xs)) (a + length xs) (cells ys) x past (omega (arith, some ys))
-        ∙ sym (cell_in m a (cells (xs ++ ys)) x above (omega (arith, all)) ∙ ap (λ l. slice_index_or l (x - a) None) both ∙ ap (λ j. slice_index_or (cells xs ++ cells ys) j None) on ∙ get_or-append-add (cells xs) (cells ys) (x - (a + length xs)) None)
+        ∙ sym (cell_in m a (cells (xs ++ ys)) x above (omega (arith, all)) ∙
+        ap (λ l. slice_index_or l (x - a) None) both ∙ ap (λ j. slice_index_or (cells xs ++ cells ys) j None) on ∙
+        get_or-append-add (cells xs) (cells ys) (x - (a + length xs)) None)
     at x (inr above) (inr past) (inr beyond) =
         cell_above (with_cells m a (cells xs)) (a + length xs) (cells ys) x (omega (arith, some ys))
         ∙ cell_above m a (cells xs) x (omega (arith, some xs))
@@ -64,7 +70,9 @@ module _ (image : ImageValue) (range : InRange image) where
   long-first = length-first image fits
 
   pub word_more : (i word : ℕ) → i < image.workspace → word ≡ slice_index_or image.initial i 0
-      → with_bytes (with_bytes nothing_defined mem_start (flat_map (to_le_bytes w32) (take i (first_words image)))) (mem_start + 4 * i) (to_le_bytes w32 word) ≡ with_bytes nothing_defined mem_start (flat_map (to_le_bytes w32) (take (i + 1) (first_words image)))
+      → with_bytes (with_bytes nothing_defined mem_start (flat_map (to_le_bytes w32) (take i (first_words image))))
+      (mem_start + 4 * i) (to_le_bytes w32 word) ≡ with_bytes nothing_defined mem_start
+      (flat_map (to_le_bytes w32) (take (i + 1) (first_words image)))
   word_more i word lt is =
       let before : List ℕ = take i (first_words image) in
       let bytes : List ℕ = flat_map (to_le_bytes w32) before in

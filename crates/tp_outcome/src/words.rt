@@ -1,7 +1,8 @@
 //! Arithmetic on words.
 #![tactic(auto, using(crate::proofs::Casts::casts))]
 
-ghost use Rattle.std.specs.Prelude.{◌≡◌, ◌*◌, ◌%◌, ◌/◌, ◌^◌, ◌<◌, ◌||◌, ◌&&◌, ◌+ℤ◌, ◌-ℤ◌, ◌*ℤ◌, pos, negsuc, int_lt, int_div, int_rem, if◌then◌else◌, Some, None};
+ghost use Rattle.std.specs.Prelude.{◌≡◌, ◌*◌, ◌%◌, ◌/◌, ◌^◌, ◌<◌, ◌||◌, ◌&&◌, ◌+ℤ◌, ◌-ℤ◌, ◌*ℤ◌, pos, negsuc, int_lt};
+ghost use Rattle.std.specs.Prelude.{int_div, int_rem, if◌then◌else◌, Some, None};
 ghost use Rattle.std.specs.Ordering.{int_eq};
 ghost use Rattle.tp_decode.specs.Words.{signed, low_word, complement};
 ghost use Rattle.tp_decode.specs.Spelling.{shifted, shifted_complement};

@@ -1,5 +1,7 @@
 -- What the canonical spelling spells, and how long it is.
-use Rattle.std.proofs.Common.{◌≡◌, ◌≢◌, ℕ, zero, suc, ◌+◌, ◌-◌, ◌*◌, ◌/◌, ◌%◌, ◌^◌, ◌<◌, ◌≤◌, Bool, true, false, ◌||◌, ◌&&◌, nat_eq, nat_lt, if◌then◌else◌, pos, negsuc, List, [], ◌∷◌, ◌++◌, length, Some, refl, ap, sym, ◌∙◌, arith, length-append}
+use Rattle.std.proofs.Common.{◌≡◌, ◌≢◌, ℕ, zero, suc, ◌+◌, ◌-◌, ◌*◌, ◌/◌, ◌%◌, ◌^◌, ◌<◌, ◌≤◌, Bool, true, false, ◌||◌}
+use Rattle.std.proofs.Common.{◌&&◌, nat_eq, nat_lt, if◌then◌else◌, pos, negsuc, List, [], ◌∷◌, ◌++◌, length, Some, refl}
+use Rattle.std.proofs.Common.{ap, sym, ◌∙◌, arith, length-append}
 use Rattle.std.specs.List.{list_all}
 use Rattle.std.proofs.lemmas.Bool.Decides.{nat_tests}
 use Rattle.tp_prefix.specs.Words.{signed}
@@ -33,7 +35,9 @@ spelled_behind o b (c ∷ []) are = by_test (is_prefix c) refl are
     by_test false e are = cc
 spelled_behind o b (c ∷ d ∷ bytes) are = by_test (λ o. spelled_behind o b (d ∷ bytes)) (is_prefix c) refl are
   where
-    by_test : ((o : ℕ) → ArePrefixes (d ∷ bytes) → spelled o ((d ∷ bytes) ++ b ∷ []) ≡ spelled (loaded o (d ∷ bytes)) (b ∷ [])) → (p : Bool) → is_prefix c ≡ p → (p && list_all is_prefix (d ∷ bytes)) ≡ true → spelled o (c ∷ d ∷ bytes ++ b ∷ []) ≡ spelled (loaded (prefixed o c) (d ∷ bytes)) (b ∷ [])
+    by_test : ((o : ℕ) → ArePrefixes (d ∷ bytes) → spelled o ((d ∷ bytes) ++ b ∷ []) ≡ spelled (loaded o (d ∷ bytes))
+        (b ∷ [])) → (p : Bool) → is_prefix c ≡ p → (p && list_all is_prefix (d ∷ bytes)) ≡ true →
+        spelled o (c ∷ d ∷ bytes ++ b ∷ []) ≡ spelled (loaded (prefixed o c) (d ∷ bytes)) (b ∷ [])
     by_test go true e are = prefix_first o c d (bytes ++ b ∷ []) e ∙ go _ are
     by_test go false e are = cc
 
@@ -101,7 +105,9 @@ natural_reads digits f e h h' small no_pfix no_nfix =
     let byte = 16 * f + e % 16 in
     let function = (byte_parts f (e % 16) (omega arith)).0 in
     let digit = (byte_parts f (e % 16) (omega arith)).1 in
-    ap (spelled 0) parts.is ∙ spelled_behind 0 byte parts.front parts.are ∙ last_byte (loaded 0 parts.front) byte (rw function (other_function f no_pfix no_nfix)) ∙ rw (function, digit, parts.operand) refl
+    ap (spelled 0) parts.is ∙ spelled_behind 0 byte parts.front parts.are ∙
+    last_byte (loaded 0 parts.front) byte (rw function (other_function f no_pfix no_nfix)) ∙
+    rw (function, digit, parts.operand) refl
 
 signed_complement : (c : ℕ) → c < 2 ^ 31 → signed (2 ^ 32 - 1 - c) ≡ negsuc c
 signed_complement c h = by_test (nat_lt (2 ^ 32 - 1 - c) (2 ^ 31)) refl
@@ -136,7 +142,9 @@ unfolding natural_spelling
 natural_length zero f e = omega arith
 natural_length (suc digits) f e = by_test (natural_length digits 2 (e / 16)) (nat_lt e 16) refl
   where
-    by_test : length (natural_spelling digits 2 (e / 16)) ≤ digits → (p : Bool) → nat_lt e 16 ≡ p → length (if nat_lt e 16 then (16 * f + e) ∷ [] else natural_spelling digits 2 (e / 16) ++ (16 * f + e % 16) ∷ []) ≤ suc digits
+    by_test : length (natural_spelling digits 2 (e / 16)) ≤ digits → (p : Bool) → nat_lt e 16 ≡ p →
+        length (if nat_lt e 16 then (16 * f + e) ∷ [] else natural_spelling digits 2 (e / 16) ++ (16 * f + e % 16) ∷ []) ≤
+        suc digits
     by_test go true test = rw test (omega arith)
     by_test go false test = rw (test, length-append) (omega arith)
 
@@ -147,7 +155,8 @@ more_digits zero f e h =
     let test : nat_lt e 16 ≡ true = grind (arith, nat_tests) in rw test refl
 more_digits (suc n) f e h = by_test (more_digits n 2 (e / 16)) (nat_lt e 16) refl
   where
-    by_test : (e / 16 < bound n → natural_spelling (suc n) 2 (e / 16) ≡ natural_spelling (suc (suc n)) 2 (e / 16)) → (p : Bool) → nat_lt e 16 ≡ p → natural_spelling (suc (suc n)) f e ≡ natural_spelling (suc (suc (suc n))) f e
+    by_test : (e / 16 < bound n → natural_spelling (suc n) 2 (e / 16) ≡ natural_spelling (suc (suc n)) 2 (e / 16)) →
+        (p : Bool) → nat_lt e 16 ≡ p → natural_spelling (suc (suc n)) f e ≡ natural_spelling (suc (suc (suc n))) f e
     by_test go true test = rw test refl
     by_test go false test = rw test (ap (λ bytes. bytes ++ (16 * f + e % 16) ∷ []) (go (omega arith)))
 

@@ -1,5 +1,7 @@
 -- How far from zero an operand may be that so many bytes spell, and how many bytes the canonical spelling takes of it.
-use Rattle.std.proofs.Common.{◌≡◌, ◌≢◌, ℕ, zero, suc, ◌+◌, ◌-◌, ◌*◌, ◌/◌, ◌%◌, ◌^◌, ◌<◌, ◌≤◌, ◌⊎◌, inl, inr, Bool, true, false, nat_lt, if◌then◌else◌, ℤ, pos, negsuc, List, [], ◌∷◌, ◌++◌, length, Some, None, refl, ap, sym, ◌∙◌, arith, length-append}
+use Rattle.std.proofs.Common.{◌≡◌, ◌≢◌, ℕ, zero, suc, ◌+◌, ◌-◌, ◌*◌, ◌/◌, ◌%◌, ◌^◌, ◌<◌, ◌≤◌, ◌⊎◌, inl, inr, Bool, true}
+use Rattle.std.proofs.Common.{false, nat_lt, if◌then◌else◌, ℤ, pos, negsuc, List, [], ◌∷◌, ◌++◌, length, Some, None}
+use Rattle.std.proofs.Common.{refl, ap, sym, ◌∙◌, arith, length-append}
 use Rattle.std.proofs.lemmas.Option.{same_Some}
 use Rattle.std.proofs.lemmas.Int.{ints}
 use Rattle.std.proofs.lemmas.Bool.Decides.{nat_tests}
@@ -97,7 +99,9 @@ reach (b ∷ c ∷ rest) o m f e is near top = by_test (λ o. reach (c ∷ rest)
     roomy : 16 * m ≤ 2 ^ 31
     roomy = omega (arith, scaled_ge (16 * m) (c ∷ rest))
 
-    by_test : ((o : ℕ) → spelled o (c ∷ rest) ≡ Some (f, e) → Near (16 * m) o → scaled (16 * m) (c ∷ rest) ≤ 2 ^ 31 → Within (scaled (16 * m) (c ∷ rest)) e) → (p : Bool) → is_pfix b ≡ p → (q : Bool) → is_nfix b ≡ q → Within (scaled (16 * m) (c ∷ rest)) e
+    by_test : ((o : ℕ) → spelled o (c ∷ rest) ≡ Some (f, e) → Near (16 * m) o → scaled (16 * m) (c ∷ rest) ≤ 2 ^ 31 →
+        Within (scaled (16 * m) (c ∷ rest)) e) → (p : Bool) → is_pfix b ≡ p → (q : Bool) → is_nfix b ≡ q →
+        Within (scaled (16 * m) (c ∷ rest)) e
     by_test go true is_p q is_q = go _ (sym (rw is_p refl) ∙ is) (near_shifted m o (digit_of b) near (omega arith) roomy) top
     by_test go false is_p true is_q = go _ (sym (rw (is_p, is_q) refl) ∙ is) (near_complement m o (digit_of b) near (omega arith) roomy) top
     by_test go false is_p false is_q = let no : None ≡ Some (f, e) = sym (rw (is_p, is_q) refl) ∙ is in cc
@@ -110,7 +114,9 @@ natural_short zero (suc digits) f e h =
     let test : nat_lt e 16 ≡ true = grind (arith, nat_tests) in rw test (omega arith)
 natural_short (suc n) (suc digits) f e h = by_test (natural_short n digits 2 (e / 16)) (nat_lt e 16) refl
   where
-    by_test : (e / 16 < bound n → length (natural_spelling digits 2 (e / 16)) ≤ suc n) → (p : Bool) → nat_lt e 16 ≡ p → length (if nat_lt e 16 then (16 * f + e) ∷ [] else natural_spelling digits 2 (e / 16) ++ (16 * f + e % 16) ∷ []) ≤ suc (suc n)
+    by_test : (e / 16 < bound n → length (natural_spelling digits 2 (e / 16)) ≤ suc n) → (p : Bool) → nat_lt e 16 ≡ p →
+        length (if nat_lt e 16 then (16 * f + e) ∷ [] else natural_spelling digits 2 (e / 16) ++ (16 * f + e % 16) ∷ []) ≤
+        suc (suc n)
     by_test go true test = rw test (omega arith)
     by_test go false test = rw (test, length-append) (omega (arith, go (omega arith)))
 

@@ -1,5 +1,7 @@
 -- What a reader of bytes has found, and that it is all that is there.
-use Rattle.std.proofs.Common.{◌≡◌, ℕ, zero, suc, ◌+◌, ◌-◌, ◌/◌, ◌%◌, ◌<◌, ◌≤◌, Bool, true, false, ◌&&◌, ℤ, List, [], ◌∷◌, ◌++◌, length, take, drop, get_or, Result, Ok, Err, refl, ap, sym, ◌∙◌, arith, append_assoc, length-drop}
+use Rattle.std.proofs.Common.{◌≡◌, ℕ, zero, suc, ◌+◌, ◌-◌, ◌/◌, ◌%◌, ◌<◌, ◌≤◌, Bool, true, false, ◌&&◌, ℤ, List, []}
+use Rattle.std.proofs.Common.{◌∷◌, ◌++◌, length, take, drop, get_or, Result, Ok, Err, refl, ap, sym, ◌∙◌, arith}
+use Rattle.std.proofs.Common.{append_assoc, length-drop}
 use Rattle.std.specs.List.{list_all}
 use Rattle.std.proofs.lemmas.List.{take_more, take-append-drop, length-take}
 use Rattle.std.proofs.Math.Seq.{take-length, drop-append_seam, take-append_seam}
@@ -16,7 +18,9 @@ use Rattle.tp_prefix.proofs.CanonicalLemmas.{ArePrefixes-append}
 abbrev pub Behind : List ℕ → ℕ → ℕ → Type 0
 Behind bytes i o = (b : ℕ) (tail : List ℕ) → spelled 0 (take i bytes ++ b ∷ tail) ≡ spelled o (b ∷ tail)
 
-pub found : (bytes : List ℕ) (i o : ℕ) → i < length bytes → i < 8 → Behind bytes i o → is_prefix (get_or bytes i 0) ≡ false → IsSpelling (take (i + 1) bytes) (get_or bytes i 0 / 16) (signed (o + get_or bytes i 0 % 16))
+pub found : (bytes : List ℕ) (i o : ℕ) → i < length bytes → i < 8 → Behind bytes i o →
+    is_prefix (get_or bytes i 0) ≡ false → IsSpelling (take (i + 1) bytes) (get_or bytes i 0 / 16)
+    (signed (o + get_or bytes i 0 % 16))
 found bytes i o h few behind other =
     let b = get_or bytes i 0 in
     let more : take (i + 1) bytes ≡ take i bytes ++ b ∷ [] = take_more bytes i 0 h in
@@ -29,7 +33,8 @@ pub more_behind : (bytes : List ℕ) (i o o' : ℕ) → i < length bytes → Beh
 more_behind bytes i o o' h behind is e c tail =
     let b = get_or bytes i 0 in
     let more : take (i + 1) bytes ≡ take i bytes ++ b ∷ [] = take_more bytes i 0 h in
-    ap (λ front. spelled 0 (front ++ c ∷ tail)) more ∙ ap (spelled 0) (append_assoc (take i bytes) (b ∷ []) (c ∷ tail)) ∙ behind b (c ∷ tail) ∙ prefix_first o b c tail is ∙ ap (λ n. spelled n (c ∷ tail)) e
+    ap (λ front. spelled 0 (front ++ c ∷ tail)) more ∙ ap (spelled 0) (append_assoc (take i bytes) (b ∷ []) (c ∷ tail))
+    ∙ behind b (c ∷ tail) ∙ prefix_first o b c tail is ∙ ap (λ n. spelled n (c ∷ tail)) e
 
 pub more_prefixes : (bytes : List ℕ) (i : ℕ) → i < length bytes → ArePrefixes (take i bytes) → is_prefix (get_or bytes i 0) ≡ true → ArePrefixes (take (i + 1) bytes)
 more_prefixes bytes i h are is =
@@ -80,7 +85,9 @@ pub only_one : (bytes : List ℕ) (at : ℕ) (r : Result Spelled PrefixFault) (s
 only_one bytes at (Ok t) s reads begins =
     let n = t.next - at in
     let m = s.next - at in
-    let same = one_reading 0 (take n bytes) (take m bytes) (drop n bytes) (drop m bytes) (t.function, t.operand) (s.function, s.operand) reads.2.spells begins.2.spells (take-append-drop n bytes ∙ sym (take-append-drop m bytes)) in
+    let same = one_reading 0 (take n bytes) (take m bytes) (drop n bytes) (drop m bytes) (t.function, t.operand)
+    (s.function, s.operand) reads.2.spells begins.2.spells
+    (take-append-drop n bytes ∙ sym (take-append-drop m bytes)) in
     let lengths : n ≡ m = omega (arith, length-take n bytes, length-take m bytes, ap length same.0) in
     ap Ok (same_spelled t s (ap (λ p. p.0) same.1) (ap (λ p. p.1) same.1) (omega arith))
 only_one bytes at (Err (D1 place)) s reads begins = absurd (cut_off_none bytes (s.next - at) s.function s.operand reads.1 begins.2)

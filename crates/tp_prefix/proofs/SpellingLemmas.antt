@@ -90,8 +90,11 @@ one_reading o (c ∷ c' ∷ a) (d ∷ d' ∷ b) x y r s ra sb e = by_test (λ o.
     heads : c ≡ d
     heads = cc
 
-    by_test : ((o : ℕ) → spelled o (c' ∷ a) ≡ Some r → spelled o (d' ∷ b) ≡ Some s → (c' ∷ a) ++ x ≡ (d' ∷ b) ++ y → (c' ∷ a ≡ d' ∷ b) × (r ≡ s)) → (p : Bool) → is_prefix c ≡ p → (c ∷ c' ∷ a ≡ d ∷ d' ∷ b) × (r ≡ s)
+    by_test : ((o : ℕ) → spelled o (c' ∷ a) ≡ Some r → spelled o (d' ∷ b) ≡ Some s → (c' ∷ a) ++ x ≡ (d' ∷ b) ++ y →
+        (c' ∷ a ≡ d' ∷ b) × (r ≡ s)) → (p : Bool) → is_prefix c ≡ p → (c ∷ c' ∷ a ≡ d ∷ d' ∷ b) × (r ≡ s)
     by_test go true is =
-        let same = go (prefixed o c) (sym (prefix_first o c c' a is) ∙ ra) (sym (ap (λ n. spelled o (n ∷ d' ∷ b)) heads ∙ prefix_first o d d' b (ap is_prefix (sym heads) ∙ is) ∙ ap (λ n. spelled (prefixed o n) (d' ∷ b)) (sym heads)) ∙ ap (λ n. spelled o (n ∷ d' ∷ b)) heads ∙ sb) cc in
+        let same = go (prefixed o c) (sym (prefix_first o c c' a is) ∙ ra)
+        (sym (ap (λ n. spelled o (n ∷ d' ∷ b)) heads ∙ prefix_first o d d' b (ap is_prefix (sym heads) ∙ is) ∙
+        ap (λ n. spelled (prefixed o n) (d' ∷ b)) (sym heads)) ∙ ap (λ n. spelled o (n ∷ d' ∷ b)) heads ∙ sb) cc in
         (cc, same.1)
     by_test go false is = let none = not_last o c c' a is in let no : None ≡ Some r = sym none ∙ ra in cc

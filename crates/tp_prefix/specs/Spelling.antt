@@ -2,7 +2,8 @@
 --
 -- Compiler Writer's Guide, "Prefixing": an instruction byte has its function in the high four bits and data in the
 -- low four. Each byte loads its data into Oreg. pfix then shifts Oreg up four places; nfix complements it first.
-use Rattle.std.specs.Prelude.{◌≡◌, ℕ, ◌+◌, ◌*◌, ◌/◌, ◌%◌, ◌<◌, ◌≤◌, Bool, ◌||◌, ◌==◌, IsTrue, if◌then◌else◌, ℤ, pos, List, [], ◌∷◌, length, take, slice_range, Option, Some, None}
+use Rattle.std.specs.Prelude.{◌≡◌, ℕ, ◌+◌, ◌*◌, ◌/◌, ◌%◌, ◌<◌, ◌≤◌, Bool, ◌||◌, ◌==◌, IsTrue, if◌then◌else◌, ℤ, pos}
+use Rattle.std.specs.Prelude.{List, [], ◌∷◌, length, take, slice_range, Option, Some, None}
 use Rattle.std.specs.List.{list_all}
 use Rattle.tp_prefix.specs.Words.{signed, low_word, complement}
 use Rattle.tp_prefix.specs.declared.spelled.Spelled.{Spelled}

@@ -1,5 +1,7 @@
 -- What the matches of the program's command hold.
-use Rattle.std.proofs.Common.{◌||◌, ◌≡◌, ◌∙◌, ◌<◌, ◌≤◌, ap, ap₂, ℕ, Bool, zero, suc, true, false, List, [], ◌∷◌, length, is_some, Option, Some, None, Result, Ok, Err, refl, sym, subst, inl, inr, arith, codes, slice_index}
+use Rattle.std.proofs.Common.{◌||◌, ◌≡◌, ◌∙◌, ◌<◌, ◌≤◌, ap, ap₂, ℕ, Bool, zero, suc, true, false, List, [], ◌∷◌, length}
+use Rattle.std.proofs.Common.{is_some, Option, Some, None, Result, Ok, Err, refl, sym, subst, inl, inr, arith, codes}
+use Rattle.std.proofs.Common.{slice_index}
 use Rattle.std.specs.List.{slice_index_or}
 use Rattle.std.specs.Prelude.{slice_get, unwrap_or}
 use Rattle.std.proofs.lemmas.Slice.Eq.{bytes_eq-Decides}

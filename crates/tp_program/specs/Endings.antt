@@ -17,8 +17,8 @@ use Rattle.tp_program.specs.Program.{fault_line, kind_status}
 abbrev pub Reports : (errors errors' : Option (List ℕ)) → ServeFault → Type 0
 Reports errors errors' fault = (some : ℕ) × Appends errors errors' (take some (fault_line fault))
 
--- what an ending leaves of standard output and standard error, and its status: a text that is asked for goes to standard
--- output, and where it cannot be written, that is reported
+-- what an ending leaves of standard output and standard error, and its status: a text that is asked for goes to
+-- standard output, and where it cannot be written, that is reported
 abbrev pub IsConcluded : Ending → (old new errors errors' : Option (List ℕ)) → (status : ℕ) → Type 0
 IsConcluded (Shown error) old new errors errors' status =
     ((status ≡ 0) × (errors' ≡ errors)) ⊎ ((status ≡ 1) × Reports errors errors' Write)

@@ -51,8 +51,8 @@ kind_status kind = 2
 abbrev pub IsStatusBy : Kinds → ℕ → Type 0
 IsStatusBy kinds status = ((kind : ErrorKind) × IsAmong kind kinds × (status ≡ kind_status kind)) ⊎ (status ≡ 1)
 
--- Nothing is read. With status 0 standard error is as it was, and with status 1 a fault is reported there, as far as that can
--- be written.
+-- Nothing is read. With status 0 standard error is as it was, and with status 1 a fault is reported there, as far as
+-- that can be written.
 pub record EndsUnserved (kinds : Kinds) (input left errors errors' : Option (List ℕ)) (status : ℕ) : Type 0 where
   pub status_is : IsStatusBy kinds status
   pub unread : left ≡ input

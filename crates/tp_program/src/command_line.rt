@@ -10,7 +10,8 @@ use clap::{Arg, ArgAction, Command, Error, value_parser};
 use std::alloc::Global;
 use std::convert::AsStr;
 
-/// What `--version` says behind the name: the version, the commit where a package is built, and the kit that the proofs are made with.
+/// What `--version` says behind the name: the version, the commit where a package is built, and the kit that the proofs
+/// are made with.
 const VERSION: &str = "0.1 (unreleased, rattle-kit-13f)";
 
 /// What `--help` says below the options.
@@ -64,8 +65,8 @@ fn command<'a>(alloc: Global) -> Result<Command<'a>, Error>
     Ok(command)
 }
 
-/// What words ask for, the first of which names the program. An error is a request for help or for the version, words
-/// that are not taken, or want of memory; its text is for the user.
+/// What words ask for, the first of which names the program. Fails with a request for help or for the version, with
+/// words that are not taken, or out of memory; the error's text is for the user.
 pub fn options<'a, S: AsStr>(alloc: Global, words: &'a [S]) -> Result<Options, Error>
     ensures asked { IfOk result (AsksFor (map S.text words.now)) }
     ensures fails { FailsBy (fault_of farmd (map S.text words.now)) result }

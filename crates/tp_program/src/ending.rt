@@ -70,10 +70,12 @@ fn show<W: Write>(writer: &mut W, text: &clap::Error) -> Result<(), ServeFault>
 }
 
 impl Ending {
-    /// Writes the text that the command line asks for to `writer`, or why the program ends to `errors`, as far as the streams
-    /// take it, and returns the status: 0 where a text was asked for, 1 after a fault, 2 where the command line is refused.
+    /// Writes the text that the command line asks for to `writer`, or why the program ends to `errors`, as far as the
+    /// streams take it, and returns the status: 0 where a text was asked for, 1 after a fault, 2 where the command line
+    /// is refused.
     pub fn conclude<W: Write, E: Write>(&self, writer: &mut W, errors: &mut E) -> ExitCode
-        ensures { IsConcluded self.now (W.contents writer.old) (W.contents writer.new) (E.contents errors.old) (E.contents errors.new)
+        ensures { IsConcluded self.now (W.contents writer.old) (W.contents writer.new) (E.contents errors.old)
+            (E.contents errors.new)
             (exit_status result) }
     {
         match self {

@@ -1,4 +1,5 @@
-//! What the program `farmd` is made of, all but the naming of its streams: its words, its members, its statuses and texts.
+//! What the program `farmd` is made of, all but the naming of its streams: its words, its members, its statuses and
+//! texts.
 #![tactic(auto)]
 
 mod chosen;

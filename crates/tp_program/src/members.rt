@@ -16,7 +16,7 @@ use tp_collect::limits::MESSAGE_BYTES;
 use tp_link::{LinkDevice, Links, Media, Wire};
 use tp_session::{Farm, ServeFault, serve};
 
-/// The media of so many members.
+/// Media for each member.
 fn media_of(alloc: Global, members: usize) -> Result<Vec<Media>, AllocError>
     ensures count { IfOk result (λ media. vec_len media ≡ members) }
     ensures room { IfOk result (λ media. All HaveRoom media.items) }

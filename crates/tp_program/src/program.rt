@@ -35,8 +35,8 @@ fn asked<S: AsStr>(alloc: Global, words: &[S]) -> Result<Options, Ending>
     }
 }
 
-/// Does what these words ask for, the first of which names the program: serves, or shows a text. Writes to `errors` why it ends
-/// early, if it does.
+/// Does what these words ask for, the first of which names the program: serves, or shows a text. Writes to `errors` why
+/// it ends early, if it does.
 pub fn run_words<T: Threads + Wait + Sync, S: AsStr, R: Read, W: Write, E: Write>(
     rt: &T,
     words: &[S],
@@ -57,7 +57,8 @@ pub fn run_words<T: Threads + Wait + Sync, S: AsStr, R: Read, W: Write, E: Write
     }
 }
 
-/// Does what the words of a command line ask for, as `env::args` gives them. Writes to `errors` why it ends early, if it does.
+/// Does what the words of a command line ask for, as `env::args` gives them. Writes to `errors` why it ends early, if
+/// it does.
 pub fn run<T: Threads + Wait + Sync, R: Read, W: Write, E: Write>(
     rt: &T,
     words: io::Result<Args>,

@@ -24,7 +24,7 @@ fn listed(words: Args, alloc: Global) -> Result<Vec<String>, AllocError>
     Ok(all)
 }
 
-/// The words that were had, the first of which names the program.
+/// The words of the command line, the first of which names the program.
 pub fn words_of(words: io::Result<Args>, alloc: Global) -> Result<Vec<String>, Ending>
     ensures words { IfOk words (λ given. IfOk result (λ all. all.items ≡ into_iter_items given)) }
     ensures want { IfOk words (λ given. IfErr result (λ ending. ending ≡ Fault ServeFault.Memory)) }

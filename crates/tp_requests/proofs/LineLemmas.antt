@@ -1,5 +1,6 @@
 -- The lines of the protocol are those that are read.
-use Rattle.std.proofs.Common.{◌≡◌, ℕ, drop, take, length, Bool, true, false, ◌&&◌, if◌then◌else◌, List, ◌∷◌, ◌++◌, codes, Option, Some, None, Result, Ok, Err, IfOk, refl, ap, sym, ◌∙◌, subst, append_assoc}
+use Rattle.std.proofs.Common.{◌≡◌, ℕ, drop, take, length, Bool, true, false, ◌&&◌, if◌then◌else◌, List, ◌∷◌, ◌++◌}
+use Rattle.std.proofs.Common.{codes, Option, Some, None, Result, Ok, Err, IfOk, refl, ap, sym, ◌∙◌, subst, append_assoc}
 use Rattle.std.specs.Option.{option_map}
 use Rattle.std.specs.Cmp.Lexicographic.{bytes_decides}
 use Rattle.std.proofs.lemmas.Bool.{both_ways, false_from_ne_true, and_parts}

@@ -1,5 +1,6 @@
 -- Which digits spell bytes, and how many.
-use Rattle.std.proofs.Common.{◌≡◌, ℕ, zero, suc, nat_eq, nat_lt, ◌<◌, ◌*◌, ◌/◌, ◌%◌, true, false, List, [], ◌∷◌, length, unwrap_or, is_some, Option, Some, None, Result, Ok, Err, refl, ap, sym, ◌∙◌, arith}
+use Rattle.std.proofs.Common.{◌≡◌, ℕ, zero, suc, nat_eq, nat_lt, ◌<◌, ◌*◌, ◌/◌, ◌%◌, true, false, List, [], ◌∷◌, length}
+use Rattle.std.proofs.Common.{unwrap_or, is_some, Option, Some, None, Result, Ok, Err, refl, ap, sym, ◌∙◌, arith}
 use Rattle.std.specs.Prelude.{IsTrue}
 use Rattle.std.proofs.lemmas.Bool.Decides.{nat_tests}
 use Rattle.std.specs.List.{list_all}

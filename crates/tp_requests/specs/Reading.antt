@@ -1,5 +1,6 @@
 -- How a line is read: by what stands before and behind its first space.
-use Rattle.std.specs.Prelude.{ℕ, nat_le, ◌&&◌, ◌||◌, Bool, if◌then◌else◌, List, length, take, drop, codes, Option, Some, None}
+use Rattle.std.specs.Prelude.{ℕ, nat_le, ◌&&◌, ◌||◌, Bool, if◌then◌else◌, List, length, take, drop, codes, Option, Some}
+use Rattle.std.specs.Prelude.{None}
 use Rattle.std.specs.List.{list_all}
 use Rattle.std.specs.Option.{option_map}
 use Rattle.tp_requests.specs.Fields.{is_text, hex_bytes}

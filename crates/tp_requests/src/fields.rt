@@ -1,6 +1,7 @@
 //! The fields of a line.
 
-ghost use Rattle.std.specs.Prelude.{◌≡◌, ◌∷◌, ◌++◌, if◌then◌else◌, MatchOption, IfOk, IfSome, Some, None, position, ◌==◌, ◌<◌, length};
+ghost use Rattle.std.specs.Prelude.{◌≡◌, ◌∷◌, ◌++◌, if◌then◌else◌, MatchOption, IfOk, IfSome, Some, None, position};
+ghost use Rattle.std.specs.Prelude.{◌==◌, ◌<◌, length};
 ghost use Rattle.std.specs.Option.{option_map};
 ghost use Rattle.std.specs.List.{list_all};
 ghost use Rattle.tp_requests.specs.Fields.{hex_bytes};

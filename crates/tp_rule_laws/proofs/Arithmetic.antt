@@ -12,7 +12,9 @@ use Rattle.tp_state.specs.declared.fault.StateCode.TheVariants.{S10}
 use Rattle.tp_state.specs.Answer.{◌>>=◌, ◌>>◌, unless}
 use Rattle.tp_state.specs.Kinds.{full, range, at_ends}
 use Rattle.tp_state.specs.Order.{kind_below, IsBelow}
-use Rattle.tp_state.specs.Rules.{rule, one_number, two_numbers, set_areg, replace_pair, truth_value, quotients, remainders, conjunctions, shifted_up, shifted_down, are_shift_counts, sum_of, difference, product}
+use Rattle.tp_state.specs.Rules.{rule, one_number, two_numbers, set_areg, replace_pair, truth_value, quotients}
+use Rattle.tp_state.specs.Rules.{remainders, conjunctions, shifted_up, shifted_down, are_shift_counts, sum_of}
+use Rattle.tp_state.specs.Rules.{difference, product}
 use Rattle.tp_state.proofs.OrderLemmas.{kind_below-self}
 use Rattle.tp_state.specs.Sound.{IsSound, IsSoundKind}
 use Rattle.tp_state.specs.declared.kind.Kind.TheVariants as kind
@@ -33,20 +35,28 @@ shift_counts a b w e =
 
 module _ {image : ImageValue} {s t : State} (pair : AreOrdered image s t) where
   -- what two numbers give
-  computes : (f : ℤ × ℤ → ℤ × ℤ → Kind) → ((b a d c : ℤ × ℤ) → IsWithin b d → IsWithin a c → IsTrue (kind_below (f b a) (f d c))) → Goes (two_numbers s >>= (λ p. Ok (replace_pair (f p.1 p.0) s))) (two_numbers t >>= (λ p. Ok (replace_pair (f p.1 p.0) t)))
+  computes : (f : ℤ × ℤ → ℤ × ℤ → Kind) → ((b a d c : ℤ × ℤ) → IsWithin b d → IsWithin a c →
+      IsTrue (kind_below (f b a) (f d c))) → Goes (two_numbers s >>= (λ p. Ok (replace_pair (f p.1 p.0) s)))
+      (two_numbers t >>= (λ p. Ok (replace_pair (f p.1 p.0) t)))
   computes f keeps = bind IsBelow AreBoth (two_numbers s) (two_numbers t) _ _ (two_numbers_follow pair) λ p q in_p. given s t pair.below _ _ (keeps p.1 p.0 q.1 q.0 in_p.1 in_p.0)
 
-  replaces : (f : ℤ × ℤ → Kind) → ((a c : ℤ × ℤ) → IsWithin a c → IsTrue (kind_below (f a) (f c))) → Goes (one_number s >>= (λ a. Ok (set_areg (f a) s))) (one_number t >>= (λ a. Ok (set_areg (f a) t)))
+  replaces : (f : ℤ × ℤ → Kind) → ((a c : ℤ × ℤ) → IsWithin a c → IsTrue (kind_below (f a) (f c))) →
+      Goes (one_number s >>= (λ a. Ok (set_areg (f a) s))) (one_number t >>= (λ a. Ok (set_areg (f a) t)))
   replaces f keeps = bind IsBelow IsWithin (one_number s) (one_number t) _ _ (one_number_follows pair) λ a c is. replaced s t pair.below _ _ (keeps a c is)
 
   shifts : (f : ℤ × ℤ → ℤ × ℤ → Kind) → ((b a d c : ℤ × ℤ) → are_shift_counts c ≡ true → IsWithin b d → IsWithin a c → IsTrue (kind_below (f b a) (f d c)))
-      → Goes (two_numbers s >>= (λ p. unless S10 (are_shift_counts p.0) >> Ok (replace_pair (f p.1 p.0) s))) (two_numbers t >>= (λ p. unless S10 (are_shift_counts p.0) >> Ok (replace_pair (f p.1 p.0) t)))
-  shifts f keeps = bind IsBelow AreBoth (two_numbers s) (two_numbers t) _ _ (two_numbers_follow pair) λ p q in_p. tested IsBelow S10 _ _ _ _ (shift_counts p.0 q.0 in_p.0) λ counts. given s t pair.below _ _ (keeps p.1 p.0 q.1 q.0 counts in_p.1 in_p.0)
+      → Goes (two_numbers s >>= (λ p. unless S10 (are_shift_counts p.0) >> Ok (replace_pair (f p.1 p.0) s)))
+      (two_numbers t >>= (λ p. unless S10 (are_shift_counts p.0) >> Ok (replace_pair (f p.1 p.0) t)))
+  shifts f keeps = bind IsBelow AreBoth (two_numbers s) (two_numbers t) _ _ (two_numbers_follow pair) λ p q in_p. tested
+      IsBelow S10 _ _ _ _ (shift_counts p.0 q.0 in_p.0) λ counts. given s t pair.below _ _
+      (keeps p.1 p.0 q.1 q.0 counts in_p.1 in_p.0)
 
 module _ {image : ImageValue} {s t : State} (pair : AreOrdered image s t) (at next : ℕ) (edge : Edge) where
   pub adc_follows : (n : ℤ) → KeepsOrder image s t at next edge (Adc n)
   unfolding rule
-  adc_follows n = replaces pair (λ a. range (a.0 +ℤ n) (a.1 +ℤ n)) λ a c is. let l = is.low in let o = is.ordered in let hi = is.high in range_below (a.0 +ℤ n) (a.1 +ℤ n) (c.0 +ℤ n) (c.1 +ℤ n) (omega (arith, ints)) (omega (arith, ints)) (omega (arith, ints))
+  adc_follows n = replaces pair (λ a. range (a.0 +ℤ n) (a.1 +ℤ n)) λ a c is. let l = is.low in let o = is.ordered in
+      let hi = is.high in range_below (a.0 +ℤ n) (a.1 +ℤ n) (c.0 +ℤ n) (c.1 +ℤ n) (omega (arith, ints))
+      (omega (arith, ints)) (omega (arith, ints))
 
   pub add_follows : KeepsOrder image s t at next edge Add
   unfolding rule
@@ -119,7 +129,8 @@ module _ {image : ImageValue} {s t : State} (pair : AreOrdered image s t) (at ne
 -- ---- sound states
 
 complements_have : (a : ℤ × ℤ) → IsOne a → IsSoundKind (kind.Int (negsuc 0 -ℤ a.1) (negsuc 0 -ℤ a.0))
-complements_have a r = let l = r.least in let o = r.ordered in let g = r.greatest in range_of_words (negsuc 0 -ℤ a.1) (negsuc 0 -ℤ a.0) (omega (arith, ints)) (omega (arith, ints)) (omega (arith, ints))
+complements_have a r = let l = r.least in let o = r.ordered in let g = r.greatest in
+    range_of_words (negsuc 0 -ℤ a.1) (negsuc 0 -ℤ a.0) (omega (arith, ints)) (omega (arith, ints)) (omega (arith, ints))
 
 truth : IsSoundKind truth_value
 truth = range_of_words (pos 0) (pos 1) (omega (arith, ints)) (omega (arith, ints)) (omega (arith, ints))
@@ -133,8 +144,11 @@ module _ {image : ImageValue} {t : State} (h : HasSoundState image t) where
   replaces_sound : (f : ℤ × ℤ → Kind) → ((a : ℤ × ℤ) → IsOne a → IsSoundKind (f a)) → IfOk (one_number t >>= (λ a. Ok (set_areg (f a) t))) (IsSound image)
   replaces_sound f ends = with_fact (IsSound image) IsOne (one_number t) _ (one_number_has t h.sound.a) λ a words. sets h _ (ends a words)
 
-  shifts_sound : (f : ℤ × ℤ → ℤ × ℤ → Kind) → ((b a : ℤ × ℤ) → are_shift_counts a ≡ true → IsOne b → IsOne a → IsSoundKind (f b a)) → IfOk (two_numbers t >>= (λ p. unless S10 (are_shift_counts p.0) >> Ok (replace_pair (f p.1 p.0) t))) (IsSound image)
-  shifts_sound f ends = with_fact (IsSound image) AreOnes (two_numbers t) _ (two_numbers_have t h.sound.a h.sound.b) λ p words. tested_sound image _ _ _ λ counts. gives h _ (ends p.1 p.0 counts words.1 words.0)
+  shifts_sound : (f : ℤ × ℤ → ℤ × ℤ → Kind) → ((b a : ℤ × ℤ) → are_shift_counts a ≡ true → IsOne b → IsOne a →
+      IsSoundKind (f b a)) → IfOk (two_numbers t >>= (λ p. unless S10 (are_shift_counts p.0) >> Ok
+      (replace_pair (f p.1 p.0) t))) (IsSound image)
+  shifts_sound f ends = with_fact (IsSound image) AreOnes (two_numbers t) _ (two_numbers_have t h.sound.a h.sound.b) λ p
+      words. tested_sound image _ _ _ λ counts. gives h _ (ends p.1 p.0 counts words.1 words.0)
 
   adds : (n : ℤ) (a : ℤ × ℤ) → IsOne a → IsSound image (set_areg (range (a.0 +ℤ n) (a.1 +ℤ n)) t)
   adds n a is = let o = is.ordered in sets h _ (range_has (a.0 +ℤ n) (a.1 +ℤ n) (omega (arith, ints)))

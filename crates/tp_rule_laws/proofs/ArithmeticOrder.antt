@@ -1,5 +1,7 @@
 -- What operations give from narrower ranges is narrower.
-use Rattle.std.proofs.Common.{◌≡◌, ℕ, zero, suc, ◌+◌, ◌-◌, ◌*◌, ◌/◌, ◌^◌, ◌<◌, ◌≤◌, Bool, true, false, ◌&&◌, not, if◌then◌else◌, IsTrue, ℤ, pos, negsuc, ◌-ℤ◌, ◌*ℤ◌, ◌≤ℤ◌, int_le, FitsSigned, w32, refl, sym, ap, ◌∙◌, subst, arith, pow_pos, pow-add}
+use Rattle.std.proofs.Common.{◌≡◌, ℕ, zero, suc, ◌+◌, ◌-◌, ◌*◌, ◌/◌, ◌^◌, ◌<◌, ◌≤◌, Bool, true, false, ◌&&◌, not}
+use Rattle.std.proofs.Common.{if◌then◌else◌, IsTrue, ℤ, pos, negsuc, ◌-ℤ◌, ◌*ℤ◌, ◌≤ℤ◌, int_le, FitsSigned, w32, refl}
+use Rattle.std.proofs.Common.{sym, ap, ◌∙◌, subst, arith, pow_pos, pow-add}
 use Rattle.std.specs.Prelude.{int_lt, int_div}
 use Rattle.std.specs.Ordering.{int_eq}
 use Rattle.std.proofs.lemmas.Int.{ints, quot_fits}
@@ -93,13 +95,16 @@ quotients_below b a d c in_b in_a = by_test (is_positive c) refl
 
 -- ---- remainders
 
-remainders_of : (b a : ℤ × ℤ) (p q : Bool) → is_positive a ≡ p → int_le (pos 0) b.0 ≡ q → remainders b a ≡ (if not p then full else if q then kind.Int (pos 0) (a.0 -ℤ pos 1) else kind.Int (pos 1 -ℤ a.0) (a.0 -ℤ pos 1))
+remainders_of : (b a : ℤ × ℤ) (p q : Bool) → is_positive a ≡ p → int_le (pos 0) b.0 ≡ q →
+    remainders b a ≡ (if not p then full else if q then kind.Int (pos 0) (a.0 -ℤ pos 1) else kind.Int (pos 1 -ℤ a.0)
+    (a.0 -ℤ pos 1))
 remainders_of b a p q e f = rw (e, f) refl
 
 pub remainders_below : (b a d c : ℤ × ℤ) → IsWithin b d → IsWithin a c → IsTrue (kind_below (remainders b a) (remainders d c))
 remainders_below b a d c in_b in_a = by_test (is_positive c) refl (is_positive a) refl (int_le (pos 0) d.0) refl (int_le (pos 0) b.0) refl
   where
-    by_test : (p : Bool) → is_positive c ≡ p → (o : Bool) → is_positive a ≡ o → (q : Bool) → int_le (pos 0) d.0 ≡ q → (r : Bool) → int_le (pos 0) b.0 ≡ r → IsTrue (kind_below (remainders b a) (remainders d c))
+    by_test : (p : Bool) → is_positive c ≡ p → (o : Bool) → is_positive a ≡ o → (q : Bool) → int_le (pos 0) d.0 ≡ q →
+        (r : Bool) → int_le (pos 0) b.0 ≡ r → IsTrue (kind_below (remainders b a) (remainders d c))
     by_test false e false f q g r h = rw (remainders_of d c false q e g, remainders_of b a false r f h) full_self
     by_test false e true f q g true h = one_positive a.0 a.1 f λ k low high. let wo = in_a.ordered in let wg = in_a.greatest in
         rw (remainders_of d c false q e g, remainders_of b a true true f h) (fits_full (pos 0) (a.0 -ℤ pos 1) (omega (arith, ints)) (omega (arith, ints)))
@@ -111,7 +116,9 @@ remainders_below b a d c in_b in_a = by_test (is_positive c) refl (is_positive a
     by_test true e true f true g false h =
         let some = at_least_zero d.0 g in let none = below_zero b.0 h in let wl = in_b.low in absurd (omega (arith, ints))
     by_test true e true f false g true h = narrow_positive a c in_a e λ k low high.
-        rw (remainders_of d c true false e g, remainders_of b a true true f h, low, high) (ints_below (pos 0) (pos (suc k) -ℤ pos 1) (pos 1 -ℤ pos (suc k)) (pos (suc k) -ℤ pos 1) (omega (arith, ints)) (omega (arith, ints)))
+        rw (remainders_of d c true false e g, remainders_of b a true true f h, low, high)
+        (ints_below (pos 0) (pos (suc k) -ℤ pos 1) (pos 1 -ℤ pos (suc k)) (pos (suc k) -ℤ pos 1) (omega (arith, ints))
+        (omega (arith, ints)))
     by_test true e true f false g false h = narrow_positive a c in_a e λ k low high.
         rw (remainders_of d c true false e g, remainders_of b a true false f h, low, high) (kind_below-self (kind.Int (pos 1 -ℤ pos (suc k)) (pos (suc k) -ℤ pos 1)))
 
@@ -120,7 +127,8 @@ remainders_below b a d c in_b in_a = by_test (is_positive c) refl (is_positive a
 high_of : (b a : ℤ × ℤ) → ℤ
 high_of b a = if int_le (pos 0) b.0 && int_lt b.1 a.1 then b.1 else a.1
 
-conjunctions_of : (b a : ℤ × ℤ) (p q : Bool) → int_le (pos 0) a.0 ≡ p → int_le (pos 0) b.0 ≡ q → conjunctions b a ≡ (if p then kind.Int (pos 0) (high_of b a) else if q then kind.Int (pos 0) b.1 else full)
+conjunctions_of : (b a : ℤ × ℤ) (p q : Bool) → int_le (pos 0) a.0 ≡ p → int_le (pos 0) b.0 ≡ q →
+    conjunctions b a ≡ (if p then kind.Int (pos 0) (high_of b a) else if q then kind.Int (pos 0) b.1 else full)
 unfolding high_of
 conjunctions_of b a p q e f = rw (e, f) refl
 
@@ -172,7 +180,9 @@ conjunctions_below b a d c in_b in_a = by_test (int_le (pos 0) c.0) refl (int_le
     zero_word : least_integer ≤ℤ pos 0
     zero_word = omega (arith, ints)
 
-    by_test : (p : Bool) → int_le (pos 0) c.0 ≡ p → (o : Bool) → int_le (pos 0) a.0 ≡ o → (q : Bool) → int_le (pos 0) d.0 ≡ q → (r : Bool) → int_le (pos 0) b.0 ≡ r → IsTrue (kind_below (conjunctions b a) (conjunctions d c))
+    by_test : (p : Bool) → int_le (pos 0) c.0 ≡ p → (o : Bool) → int_le (pos 0) a.0 ≡ o → (q : Bool) →
+        int_le (pos 0) d.0 ≡ q → (r : Bool) → int_le (pos 0) b.0 ≡ r →
+        IsTrue (kind_below (conjunctions b a) (conjunctions d c))
     by_test true e true f q g r h = rw (conjunctions_of d c true q e g, conjunctions_of b a true r f h) (ints_below _ _ _ _ nought (high_below b a d c in_b in_a))
     by_test true e false f q g r h = let x = at_least_zero c.0 e in let y = below_zero a.0 f in let w = in_a.low in absurd (omega (arith, ints))
     by_test false e o f true g false h = let x = at_least_zero d.0 g in let y = below_zero b.0 h in let w = in_b.low in absurd (omega (arith, ints))
@@ -237,7 +247,9 @@ natural_is : {P : Type 0} (z : ℤ) → pos 0 ≤ℤ z → ((n : ℕ) → z ≡ 
 natural_is (pos n) h go = go n refl
 natural_is (negsuc n) h go = absurd (omega (arith, ints))
 
-down_of : (b a : ℤ × ℤ) (p q : Bool) → int_le (pos 0) b.0 ≡ p → int_le (pos 1) a.0 ≡ q → shifted_down b a ≡ (if p then kind.Int (int_div b.0 (power a.1)) (int_div b.1 (power a.0)) else if q then kind.Int (pos 0) (power (pos 32 -ℤ a.0) -ℤ pos 1) else full)
+down_of : (b a : ℤ × ℤ) (p q : Bool) → int_le (pos 0) b.0 ≡ p → int_le (pos 1) a.0 ≡ q →
+    shifted_down b a ≡ (if p then kind.Int (int_div b.0 (power a.1)) (int_div b.1 (power a.0)) else if q then kind.Int
+    (pos 0) (power (pos 32 -ℤ a.0) -ℤ pos 1) else full)
 down_of b a p q e f = rw (e, f) refl
 
 rest_is : (z : ℤ) (n : ℕ) → z ≡ pos n → n ≤ 31 → power (pos 32 -ℤ z) ≡ pos (2 ^ (32 - n))
@@ -284,9 +296,12 @@ module _ (b a d c : ℤ × ℤ) (counts : are_shift_counts c ≡ true) (in_b : I
       natural_is d.1 (omega (arith, ints)) λ y1 d1.
       let first : y0 / 2 ^ n1 ≤ x0 / 2 ^ m1 = div_more y0 x0 (2 ^ m1) (2 ^ n1) (pow_pos m1) (pow-le-pow_right (omega arith) up1) (omega (arith, ints)) in
       let last : x1 / 2 ^ m0 ≤ y1 / 2 ^ n0 = div_more x1 y1 (2 ^ n0) (2 ^ m0) (pow_pos n0) (pow-le-pow_right (omega arith) up0) (omega (arith, ints)) in
-      rw (a0, a1, c0, c1, b0, b1, d0, d1) (ints_below (int_div (pos x0) (pos (2 ^ m1))) (int_div (pos x1) (pos (2 ^ m0))) (int_div (pos y0) (pos (2 ^ n1))) (int_div (pos y1) (pos (2 ^ n0))) (omega (arith, ints)) (omega (arith, ints)))
+      rw (a0, a1, c0, c1, b0, b1, d0, d1) (ints_below (int_div (pos x0) (pos (2 ^ m1)))
+      (int_div (pos x1) (pos (2 ^ m0))) (int_div (pos y0) (pos (2 ^ n1))) (int_div (pos y1) (pos (2 ^ n0)))
+      (omega (arith, ints)) (omega (arith, ints)))
 
-  natural_below : (z : ℤ) → pos 0 ≤ℤ b.0 → ((x m : ℕ) → b.1 ≡ pos x → x < 2 ^ 31 → a.0 ≡ pos m → pos (x / 2 ^ m) ≤ℤ z) → IsTrue (kind_below (kind.Int (int_div b.0 (power a.1)) (int_div b.1 (power a.0))) (kind.Int (pos 0) z))
+  natural_below : (z : ℤ) → pos 0 ≤ℤ b.0 → ((x m : ℕ) → b.1 ≡ pos x → x < 2 ^ 31 → a.0 ≡ pos m → pos (x / 2 ^ m) ≤ℤ z) →
+      IsTrue (kind_below (kind.Int (int_div b.0 (power a.1)) (int_div b.1 (power a.0))) (kind.Int (pos 0) z))
   natural_below z some go =
       by_counts λ m0 m1 n0 n1 a0 a1 c0 c1 up0 up up1 few.
       by_numbers some λ x0 x1 b0 b1 small.
@@ -296,7 +311,9 @@ module _ (b a d c : ℤ × ℤ) (counts : are_shift_counts c ≡ true) (in_b : I
   pub shifted_down_below : IsTrue (kind_below (shifted_down b a) (shifted_down d c))
   shifted_down_below = by_test (int_le (pos 0) d.0) refl (int_le (pos 1) c.0) refl (int_le (pos 0) b.0) refl (int_le (pos 1) a.0) refl
     where
-      by_test : (p : Bool) → int_le (pos 0) d.0 ≡ p → (q : Bool) → int_le (pos 1) c.0 ≡ q → (o : Bool) → int_le (pos 0) b.0 ≡ o → (r : Bool) → int_le (pos 1) a.0 ≡ r → IsTrue (kind_below (shifted_down b a) (shifted_down d c))
+      by_test : (p : Bool) → int_le (pos 0) d.0 ≡ p → (q : Bool) → int_le (pos 1) c.0 ≡ q → (o : Bool) →
+          int_le (pos 0) b.0 ≡ o → (r : Bool) → int_le (pos 1) a.0 ≡ r →
+          IsTrue (kind_below (shifted_down b a) (shifted_down d c))
       by_test true e q f true g r k = rw (down_of d c true q e f, down_of b a true r g k) (both_natural (at_least_zero d.0 e))
       by_test true e q f false g r k = let x = at_least_zero d.0 e in let y = below_zero b.0 g in let w = in_b.low in absurd (omega (arith, ints))
       by_test false e true f true g r k =

@@ -91,7 +91,9 @@ ordered_in_full (kind.BytePtr a b) h go = absurd (search rules)
 
 quotients_single : (y x : ℤ) → IsRange y y → IsRange x x → IsSoundKind (quotients (y, y) (x, x))
 quotients_single y x in_y in_x =
-    ordered_in_full (quotients (y, y) (x, x)) (quotients_below (y, y) (x, x) (least_integer, greatest_integer) (least_integer, greatest_integer) (all_numbers (y, y) in_y) (all_numbers (x, x) in_x)) (by_test (is_positive (x, x)))
+    ordered_in_full (quotients (y, y) (x, x)) (quotients_below (y, y) (x, x) (least_integer, greatest_integer)
+    (least_integer, greatest_integer) (all_numbers (y, y) in_y) (all_numbers (x, x) in_x))
+    (by_test (is_positive (x, x)))
   where
     by_test : (p : Bool) (a b : ℤ) → (if p then kind.Int (int_div y x) (int_div y x) else full) ≡ kind.Int a b → a ≤ℤ b
     by_test true a b e = let same : int_div y x ≡ a = cc in let also : int_div y x ≡ b = cc in omega (arith, ints)
@@ -102,12 +104,16 @@ quotients_has = result_has quotients quotients_below refl quotients_single
 
 remainders_single : (y x : ℤ) → IsRange y y → IsRange x x → IsSoundKind (remainders (y, y) (x, x))
 remainders_single y x in_y in_x =
-    ordered_in_full (remainders (y, y) (x, x)) (remainders_below (y, y) (x, x) (least_integer, greatest_integer) (least_integer, greatest_integer) (all_numbers (y, y) in_y) (all_numbers (x, x) in_x)) (by_test (is_positive (x, x)) refl (int_le (pos 0) y))
+    ordered_in_full (remainders (y, y) (x, x)) (remainders_below (y, y) (x, x) (least_integer, greatest_integer)
+    (least_integer, greatest_integer) (all_numbers (y, y) in_y) (all_numbers (x, x) in_x))
+    (by_test (is_positive (x, x)) refl (int_le (pos 0) y))
   where
     some : is_positive (x, x) ≡ true → pos 1 ≤ℤ x
     some e = above_zero x ((and_parts (int_eq x x) (int_lt (pos 0) x) e).1)
 
-    by_test : (p : Bool) → is_positive (x, x) ≡ p → (q : Bool) (a b : ℤ) → (if not p then full else if q then kind.Int (pos 0) (x -ℤ pos 1) else kind.Int (pos 1 -ℤ x) (x -ℤ pos 1)) ≡ kind.Int a b → a ≤ℤ b
+    by_test : (p : Bool) → is_positive (x, x) ≡ p → (q : Bool) (a b : ℤ) →
+        (if not p then full else if q then kind.Int (pos 0) (x -ℤ pos 1) else kind.Int (pos 1 -ℤ x) (x -ℤ pos 1)) ≡
+        kind.Int a b → a ≤ℤ b
     by_test true f true a b e = let more = some f in let same : pos 0 ≡ a = cc in let also : x -ℤ pos 1 ≡ b = cc in omega (arith, ints)
     by_test true f false a b e = let more = some f in let same : pos 1 -ℤ x ≡ a = cc in let also : x -ℤ pos 1 ≡ b = cc in omega (arith, ints)
     by_test false f q a b e = let same : least_integer ≡ a = cc in let also : greatest_integer ≡ b = cc in omega (arith, ints)
@@ -117,9 +123,13 @@ remainders_has = result_has remainders remainders_below refl remainders_single
 
 conjunctions_single : (y x : ℤ) → IsRange y y → IsRange x x → IsSoundKind (conjunctions (y, y) (x, x))
 conjunctions_single y x in_y in_x =
-    ordered_in_full (conjunctions (y, y) (x, x)) (conjunctions_below (y, y) (x, x) (least_integer, greatest_integer) (least_integer, greatest_integer) (all_numbers (y, y) in_y) (all_numbers (x, x) in_x)) (by_test (int_le (pos 0) x) refl (int_le (pos 0) y) refl (int_lt y x))
+    ordered_in_full (conjunctions (y, y) (x, x)) (conjunctions_below (y, y) (x, x) (least_integer, greatest_integer)
+    (least_integer, greatest_integer) (all_numbers (y, y) in_y) (all_numbers (x, x) in_x))
+    (by_test (int_le (pos 0) x) refl (int_le (pos 0) y) refl (int_lt y x))
   where
-    by_test : (p : Bool) → int_le (pos 0) x ≡ p → (q : Bool) → int_le (pos 0) y ≡ q → (r : Bool) (a b : ℤ) → (if p then kind.Int (pos 0) (if q && r then y else x) else if q then kind.Int (pos 0) y else full) ≡ kind.Int a b → a ≤ℤ b
+    by_test : (p : Bool) → int_le (pos 0) x ≡ p → (q : Bool) → int_le (pos 0) y ≡ q → (r : Bool) (a b : ℤ) →
+        (if p then kind.Int (pos 0) (if q && r then y else x) else if q then kind.Int (pos 0) y else full) ≡ kind.Int a b
+        → a ≤ℤ b
     by_test true f true g true a b e = let more = at_least_zero y g in let same : pos 0 ≡ a = cc in let also : y ≡ b = cc in omega (arith, ints)
     by_test true f true g false a b e = let more = at_least_zero x f in let same : pos 0 ≡ a = cc in let also : x ≡ b = cc in omega (arith, ints)
     by_test true f false g r a b e = let more = at_least_zero x f in let same : pos 0 ≡ a = cc in let also : x ≡ b = cc in omega (arith, ints)
@@ -143,7 +153,14 @@ counts_within : (a : ℤ × ℤ) → are_shift_counts a ≡ true → IsOne a →
 counts_within a e r =
     let o = r.ordered in
     let parts = and_parts (is_shift_count a.0) (is_shift_count a.1) e in
-    record { least = r.least; low = at_least_zero a.0 ((and_parts (int_le (pos 0) a.0) (int_le a.0 (pos 31)) parts.0).0); ordered = o; high = up_to (a.1) ((and_parts (int_le (pos 0) a.1) (int_le a.1 (pos 31)) parts.1).1); greatest = r.greatest }
+    record {
+      least = r.least;
+      low = at_least_zero a.0 ((and_parts (int_le (pos 0) a.0) (int_le a.0 (pos 31))
+          parts.0).0);
+      ordered = o;
+      high = up_to (a.1) ((and_parts (int_le (pos 0) a.1) (int_le a.1 (pos 31)) parts.1).1);
+      greatest = r.greatest;
+    }
   where
     up_to : (z : ℤ) → int_le z (pos 31) ≡ true → z ≤ℤ pos 31
     up_to z e = grind (arith, ints, nat_tests)
@@ -160,7 +177,9 @@ down_single y x counts in_y in_x =
   where
     by_test : (p q : Bool) (a b : ℤ) → (if p then kind.Int (int_div y (power x)) (int_div y (power x)) else if q then kind.Int (pos 0) (power (pos 32 -ℤ x) -ℤ pos 1) else full) ≡ kind.Int a b → a ≤ℤ b
     by_test true q a b e = let same : int_div y (power x) ≡ a = cc in let also : int_div y (power x) ≡ b = cc in omega (arith, ints)
-    by_test false true a b e = let same : pos 0 ≡ a = cc in let also : power (pos 32 -ℤ x) -ℤ pos 1 ≡ b = cc in let more = rest_some (count_of (pos 32 -ℤ x)) in subst (λ u. a ≤ℤ u) also (subst (λ u. u ≤ℤ (power (pos 32 -ℤ x) -ℤ pos 1)) same more)
+    by_test false true a b e = let same : pos 0 ≡ a = cc in let also : power (pos 32 -ℤ x) -ℤ pos 1 ≡ b = cc in
+        let more = rest_some (count_of (pos 32 -ℤ x)) in subst (λ u. a ≤ℤ u) also
+        (subst (λ u. u ≤ℤ (power (pos 32 -ℤ x) -ℤ pos 1)) same more)
     by_test false false a b e = let same : least_integer ≡ a = cc in let also : greatest_integer ≡ b = cc in omega (arith, ints)
 
 pub shifted_down_has : (b a : ℤ × ℤ) → are_shift_counts a ≡ true → IsOne b → IsOne a → IsSoundKind (shifted_down b a)
@@ -168,7 +187,9 @@ shifted_down_has b a counts in_b in_a =
     let count = (and_parts (is_shift_count a.0) (is_shift_count a.1) counts).0 in
     let single_counts : are_shift_counts (a.0, a.0) ≡ true = rw count refl in
     let y = first b in_b in let x = first a in_a in
-    has_range (shifted_down b a) (shifted_down (b.0, b.0) (a.0, a.0)) (down_in_full b a counts in_b in_a) (shifted_down_below (b.0, b.0) (a.0, a.0) b a counts (lowest b in_b) (lowest a in_a)) (down_single b.0 a.0 single_counts y x) (down_in_full (b.0, b.0) (a.0, a.0) single_counts y x)
+    has_range (shifted_down b a) (shifted_down (b.0, b.0) (a.0, a.0)) (down_in_full b a counts in_b in_a)
+    (shifted_down_below (b.0, b.0) (a.0, a.0) b a counts (lowest b in_b) (lowest a in_a))
+    (down_single b.0 a.0 single_counts y x) (down_in_full (b.0, b.0) (a.0, a.0) single_counts y x)
   where
     first : (a : ℤ × ℤ) → IsOne a → IsRange a.0 a.0
     first a r = let o = r.ordered in let g = r.greatest in record { least = r.least; ordered = omega (arith, ints); greatest = omega (arith, ints) }

@@ -87,7 +87,8 @@ pub byte_pointer_follows : (k l : Kind) → IsTrue (kind_below k l) → IsSoundK
 unfolding byte_pointer
 byte_pointer_follows k kind.Undef h r = tt
 byte_pointer_follows k (kind.Int c d) h r = tt
-byte_pointer_follows (kind.Ptr a b) (kind.Ptr c d) h r = let o = r.ordered in let low = nat_low a b c d h in let high = nat_high a b c d h in record { low = omega arith; ordered = omega arith; high = omega arith }
+byte_pointer_follows (kind.Ptr a b) (kind.Ptr c d) h r = let o = r.ordered in let low = nat_low a b c d h in let high =
+    nat_high a b c d h in record { low = omega arith; ordered = omega arith; high = omega arith }
 byte_pointer_follows (kind.BytePtr a b) (kind.BytePtr c d) h r = record { low = nat_low a b c d h; ordered = r.ordered; high = nat_high a b c d h }
 byte_pointer_follows kind.Undef (kind.Ptr c d) h r = absurd (search rules)
 byte_pointer_follows (kind.Int a b) (kind.Ptr c d) h r = absurd (search rules)
@@ -202,7 +203,9 @@ module _ (image : ImageValue) where
       range_below _ _ _ _ (omega (arith, ints)) (omega (arith, ints)) (omega (arith, ints))
   words_further_follow n (kind.Ptr a b) (kind.Ptr c d) h r =
       bind (λ (x y : Kind). IsTrue (kind_below x y)) (AreWithin image.workspace) (words_on image (a, b) (n, n)) (words_on image (c, d) (n, n)) _ _
-      (words_on_follow (a, b) (c, d) (n, n) (n, n) (record { low = nat_low a b c d h; ordered = r.ordered; high = nat_high a b c d h }) (omega (arith, ints)) (omega (arith, ints)) (omega (arith, ints)))
+      (words_on_follow (a, b) (c, d) (n, n) (n, n) (record
+      { low = nat_low a b c d h; ordered = r.ordered; high = nat_high a b c d h }) (omega (arith, ints))
+      (omega (arith, ints)) (omega (arith, ints)))
       λ w v is. ptr_below w v is
     where
       ptr_below : (w v : ℕ × ℕ) → AreWithin image.workspace w v → IsTrue (kind_below (kind.Ptr w.0 w.1) (kind.Ptr v.0 v.1))

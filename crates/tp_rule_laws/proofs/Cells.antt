@@ -1,5 +1,7 @@
 -- Words of which less is known than of others.
-use Rattle.std.proofs.Common.{◌≡◌, ℕ, zero, suc, ◌+◌, ◌-◌, ◌<◌, ◌≤◌, ◌⊎◌, inl, inr, Bool, true, false, if◌then◌else◌, IsTrue, ℤ, ◌≤ℤ◌, List, [], ◌∷◌, ◌++◌, length, take, drop, map, min, slice_set, refl, sym, ap, ◌∙◌, rules, arith}
+use Rattle.std.proofs.Common.{◌≡◌, ℕ, zero, suc, ◌+◌, ◌-◌, ◌<◌, ◌≤◌, ◌⊎◌, inl, inr, Bool, true, false, if◌then◌else◌}
+use Rattle.std.proofs.Common.{IsTrue, ℤ, ◌≤ℤ◌, List, [], ◌∷◌, ◌++◌, length, take, drop, map, min, slice_set, refl, sym}
+use Rattle.std.proofs.Common.{ap, ◌∙◌, rules, arith}
 use Rattle.std.specs.List.{list_all}
 use Rattle.std.specs.Ordering.{int_eq}
 use Rattle.std.proofs.lemmas.Bool.{and_parts}

@@ -19,7 +19,9 @@ use Rattle.tp_state.specs.declared.kind.Kind.TheVariants as kind
 use Rattle.tp_rule_laws.proofs.Follows.{bind}
 use Rattle.tp_rule_laws.proofs.States.{registers, in_frame, pushed, popped, stored}
 use Rattle.tp_rule_laws.proofs.Ordered.{KindsBelow, AreOrdered, KeepsOrder, known_a_then, known_b_then, local_then, read_at, unless_free_at, same_then}
-use Rattle.tp_rule_laws.proofs.SoundStates.{with_fact, known_has, local_place, registers_sound, popped_sound, stored_sound, HasSoundState, KeepsSound, pushes, range_of_words, any_sound, also_sound, read_then, sound_a_then}
+use Rattle.tp_rule_laws.proofs.SoundStates.{with_fact, known_has, local_place, registers_sound, popped_sound}
+use Rattle.tp_rule_laws.proofs.SoundStates.{stored_sound, HasSoundState, KeepsSound, pushes, range_of_words, any_sound}
+use Rattle.tp_rule_laws.proofs.SoundStates.{also_sound, read_then, sound_a_then}
 
 -- ---- the order
 
@@ -115,7 +117,9 @@ module _ {image : ImageValue} {t : State} (h : HasSoundState image t) (at next :
 
   pub rev_sound : KeepsSound image t at next edge Rev
   unfolding rule
-  rev_sound = with_fact (IsSound image) IsSoundKind _ _ (known_has t.a h.sound.a) λ a a_ends. with_fact (IsSound image) IsSoundKind _ _ (known_has t.b h.sound.b) λ b b_ends. registers_sound image t b a t.c h.sound b_ends a_ends h.sound.c
+  rev_sound = with_fact (IsSound image) IsSoundKind _ _ (known_has t.a h.sound.a) λ a a_ends. with_fact (IsSound image)
+      IsSoundKind _ _ (known_has t.b h.sound.b) λ b b_ends. registers_sound image t b a t.c h.sound b_ends a_ends
+      h.sound.c
 
   pub seterr_sound : KeepsSound image t at next edge Seterr
   unfolding rule

@@ -27,15 +27,22 @@ use Rattle.tp_rule_laws.proofs.Ranges.{IsWithin}
 use Rattle.tp_rule_laws.proofs.Asked.{exactly_one}
 use Rattle.tp_rule_laws.proofs.Cells.{replaced_below, below_themselves}
 use Rattle.tp_rule_laws.proofs.States.{cells_of, new_cells, in_phase, popped, replaced, free_from, defined_from, way_given, gives_way}
-use Rattle.tp_rule_laws.proofs.Ordered.{one_is, equal_ends, Goes, AreOrdered, KeepsOrder, also_known_a, also_known_b, also_known_c, also_number_a, also_number_b, number_a_then, one_word_c_then, also_number, message_then, same_then, exactly_a, exactly_b}
-use Rattle.tp_rule_laws.proofs.SoundStates.{words_with, cells_sound, phase_sound, tested_sound, way_sound, message_room, HasSoundState, KeepsSound, sets, range_of_words, any_sound, also_sound, way_then, pop_one}
+use Rattle.tp_rule_laws.proofs.Ordered.{one_is, equal_ends, Goes, AreOrdered, KeepsOrder, also_known_a, also_known_b}
+use Rattle.tp_rule_laws.proofs.Ordered.{also_known_c, also_number_a, also_number_b, number_a_then, one_word_c_then}
+use Rattle.tp_rule_laws.proofs.Ordered.{also_number, message_then, same_then, exactly_a, exactly_b}
+use Rattle.tp_rule_laws.proofs.SoundStates.{words_with, cells_sound, phase_sound, tested_sound, way_sound, message_room}
+use Rattle.tp_rule_laws.proofs.SoundStates.{HasSoundState, KeepsSound, sets, range_of_words, any_sound, also_sound}
+use Rattle.tp_rule_laws.proofs.SoundStates.{way_then, pop_one}
 
 -- ---- the order
 
 module _ {image : ImageValue} {s t : State} (pair : AreOrdered image s t) where
   -- a packet comes
-  packet : (x : ℕ) → Goes (message_in image x image.packet >> (unless S5 (are_free (cells_from s.cells x image.packet)) >> descheduled (record s { cells = with_cells s.cells x (replicate image.packet cell.Any); phase = 1 })))
-      (message_in image x image.packet >> (unless S5 (are_free (cells_from t.cells x image.packet)) >> descheduled (record t { cells = with_cells t.cells x (replicate image.packet cell.Any); phase = 1 })))
+  packet : (x : ℕ) → Goes (message_in image x image.packet >>
+      (unless S5 (are_free (cells_from s.cells x image.packet)) >> descheduled
+      (record s { cells = with_cells s.cells x (replicate image.packet cell.Any); phase = 1 })))
+      (message_in image x image.packet >> (unless S5 (are_free (cells_from t.cells x image.packet)) >> descheduled
+      (record t { cells = with_cells t.cells x (replicate image.packet cell.Any); phase = 1 })))
   packet x = message_then pair x image.packet _ _ (tested IsBelow S5 _ _ _ _ (free_from s t pair.below x image.packet) λ _.
       gives_way _ _ (in_phase _ _ (new_cells s t pair.below _ _ (replaced_below x s.cells t.cells _ _ (cells_of s t pair.below) (below_themselves (replicate image.packet cell.Any)))) 1))
 
@@ -55,15 +62,21 @@ module _ {image : ImageValue} {s t : State} (pair : AreOrdered image s t) where
   unfolding words_to_send
   words_sent a b w = by_test (is_exactly (channel link0_output) t.b) refl (is_exactly (channel link1_output) t.b) refl
     where
-      by_length : (e : StateCode) (p : ℤ × ℤ → Bool) (f : ℤ × ℤ → Result ℕ StateCode) → ((a b : ℤ × ℤ) → a ≡ b → Follows IsSent (f a) (f b)) → (is_one_length b && p b ≡ true → a ≡ b) → Follows IsSent (unless e (is_one_length a && p a) >> f a) (unless e (is_one_length b && p b) >> f b)
+      by_length : (e : StateCode) (p : ℤ × ℤ → Bool) (f : ℤ × ℤ → Result ℕ StateCode) →
+          ((a b : ℤ × ℤ) → a ≡ b → Follows IsSent (f a) (f b)) → (is_one_length b && p b ≡ true → a ≡ b) →
+          Follows IsSent (unless e (is_one_length a && p a) >> f a) (unless e (is_one_length b && p b) >> f b)
       by_length e p f go one = tested IsSent e (is_one_length a && p a) (is_one_length b && p b) (f a) (f b) (λ yes. rw (one yes) yes) (λ yes. go a b (one yes))
 
       one : (p : ℤ × ℤ → Bool) → is_one_length b && p b ≡ true → a ≡ b
       one p e = one_is a b w (equal_ends b (int_le (pos 0) b.0) ((and_parts (is_one_length b) (p b) e).0))
 
       by_test : (p : Bool) → is_exactly (channel link0_output) t.b ≡ p → (q : Bool) → is_exactly (channel link1_output) t.b ≡ q
-          → Follows IsSent (if is_exactly (channel link0_output) s.b then (unless S7 (is_one_length a && (count_of a.0 == 4 * image.result)) >> Ok image.result) else if is_exactly (channel link1_output) s.b then (unless S7 (is_one_length a && is_trace_length (count_of a.0)) >> Ok (count_of a.0 / 4)) else Err S8)
-          (if p then (unless S7 (is_one_length b && (count_of b.0 == 4 * image.result)) >> Ok image.result) else if q then (unless S7 (is_one_length b && is_trace_length (count_of b.0)) >> Ok (count_of b.0 / 4)) else Err S8)
+          → Follows IsSent (if is_exactly (channel link0_output) s.b then
+          (unless S7 (is_one_length a && (count_of a.0 == 4 * image.result)) >> Ok image.result) else if is_exactly
+          (channel link1_output) s.b then (unless S7 (is_one_length a && is_trace_length (count_of a.0)) >> Ok
+          (count_of a.0 / 4)) else Err S8)
+          (if p then (unless S7 (is_one_length b && (count_of b.0 == 4 * image.result)) >> Ok image.result) else if q
+          then (unless S7 (is_one_length b && is_trace_length (count_of b.0)) >> Ok (count_of b.0 / 4)) else Err S8)
       by_test true e true f = absurd (two_channels (exactly_one _ _ t.b f e))
       by_test true e false f =
           let on_first = exactly_b pair (channel link0_output) e in
@@ -77,7 +90,9 @@ module _ {image : ImageValue} {s t : State} (pair : AreOrdered image s t) where
               by_answer false g = refl
       by_test false e true f =
           let on_second = exactly_b pair (channel link1_output) f in
-          rw (no_result on_second, on_second) (by_length S7 (λ c. is_trace_length (count_of c.0)) (λ c. Ok (count_of c.0 / 4)) (λ c d same_range. (ap (λ u. count_of u.0 / 4) same_range, on_second ∙ sym f)) (one (λ c. is_trace_length (count_of c.0))))
+          rw (no_result on_second, on_second) (by_length S7 (λ c. is_trace_length (count_of c.0))
+          (λ c. Ok (count_of c.0 / 4)) (λ c d same_range. (ap (λ u. count_of u.0 / 4) same_range, on_second ∙ sym f))
+          (one (λ c. is_trace_length (count_of c.0))))
         where
           no_result : is_exactly (channel link1_output) s.b ≡ true → is_exactly (channel link0_output) s.b ≡ false
           no_result e = by_answer (is_exactly (channel link0_output) s.b) refl
@@ -139,7 +154,9 @@ zero_ends : IsSoundKind (exactly (pos 0))
 zero_ends = range_of_words (pos 0) (pos 0) (omega (arith, ints)) (omega (arith, ints)) (omega (arith, ints))
 
 module _ (image : ImageValue) where
-  packet_comes : (t : State) (x : ℕ) → IsSound image t → IfOk (message_in image x image.packet >> (unless S5 (are_free (cells_from t.cells x image.packet)) >> descheduled (record t { cells = with_cells t.cells x (replicate image.packet cell.Any); phase = 1 }))) (IsSound image)
+  packet_comes : (t : State) (x : ℕ) → IsSound image t →
+      IfOk (message_in image x image.packet >> (unless S5 (are_free (cells_from t.cells x image.packet)) >> descheduled
+      (record t { cells = with_cells t.cells x (replicate image.packet cell.Any); phase = 1 }))) (IsSound image)
   unfolding message_in
   packet_comes t x h =
       tested_sound image S3 (nat_le (x + image.packet) image.workspace) _ λ room.

@@ -44,12 +44,16 @@ entering_follows rows None s t h = h
 entering_follows rows (Some l) s t h =
     bind IsBelow Same (found S5 (slice_get rows l)) (found S5 (slice_get rows l)) _ _ (same Same (found S5 (slice_get rows l)) (λ row. refl)) λ row also_row e. rw e (enters also_row)
   where
-    both_known : (row : LoopRow) → (is_known row.start (cell_at t.cells row.control) && is_known (pos row.count) (cell_at t.cells (row.control + 1))) ≡ true → (is_known row.start (cell_at s.cells row.control) && is_known (pos row.count) (cell_at s.cells (row.control + 1))) ≡ true
+    both_known : (row : LoopRow) → (is_known row.start (cell_at t.cells row.control) && is_known (pos row.count)
+        (cell_at t.cells (row.control + 1))) ≡ true → (is_known row.start (cell_at s.cells row.control) && is_known
+        (pos row.count) (cell_at s.cells (row.control + 1))) ≡ true
     both_known row e =
         let parts = and_parts (is_known row.start (cell_at t.cells row.control)) (is_known (pos row.count) (cell_at t.cells (row.control + 1))) e in
         rw (known_goes row.start _ _ (h.cells row.control) parts.0, known_goes (pos row.count) _ _ (h.cells (row.control + 1)) parts.1) refl
 
-    enters : (row : LoopRow) → Follows IsBelow (unless S5 (is_known row.start (cell_at s.cells row.control) && is_known (pos row.count) (cell_at s.cells (row.control + 1))) >> Ok (with_block row (cell.Index l) (cell.Count l) s))
+    enters : (row : LoopRow) → Follows IsBelow (unless S5
+        (is_known row.start (cell_at s.cells row.control) && is_known (pos row.count) (cell_at s.cells (row.control + 1)))
+        >> Ok (with_block row (cell.Index l) (cell.Count l) s))
         (unless S5 (is_known row.start (cell_at t.cells row.control) && is_known (pos row.count) (cell_at t.cells (row.control + 1))) >> Ok (with_block row (cell.Index l) (cell.Count l) t))
     enters row = tested IsBelow S5 _ _ _ _ (both_known row) (λ _. block_set s t h row (cell.Index l) (cell.Count l))
 
@@ -57,7 +61,8 @@ module _ {image : ImageValue} {s t : State} (pair : AreOrdered image s t) where
   ends_turn : (edge : Edge) (row : LoopRow) → Goes (descheduled s >>= λ u. Ok (leaving edge row u)) (descheduled t >>= λ u. Ok (leaving edge row u))
   ends_turn edge row = bind IsBelow IsBelow (descheduled s) (descheduled t) _ _ (gives_way s t pair.below) λ u v below. left u v below edge row
 
-  ends_here : (row : LoopRow) (next : ℕ) → (points_at row.control t.b && is_exactly (pos next -ℤ pos row.head) t.a) ≡ true → (points_at row.control s.b && is_exactly (pos next -ℤ pos row.head) s.a) ≡ true
+  ends_here : (row : LoopRow) (next : ℕ) → (points_at row.control t.b && is_exactly (pos next -ℤ pos row.head) t.a) ≡
+      true → (points_at row.control s.b && is_exactly (pos next -ℤ pos row.head) s.a) ≡ true
   ends_here row next e =
       let parts = and_parts (points_at row.control t.b) (is_exactly (pos next -ℤ pos row.head) t.a) e in
       rw (points_below row.control s.b t.b pair.below.b pair.sound.b parts.0, exactly_a pair (pos next -ℤ pos row.head) parts.1) refl

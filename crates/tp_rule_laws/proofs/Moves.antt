@@ -35,13 +35,18 @@ move_length a b w e =
     let is = one_is a b w ((Decides-int_eq b.0 b.1).0 one) in (rw is e, is)
 
 module _ {image : ImageValue} {s t : State} (pair : AreOrdered image s t) where
-  copies : (n x y : ℕ) → Goes (unless S3 (are_apart n x y) >> (unless S4 (are_defined (cells_from s.cells y n)) >> (unless S5 (are_free (cells_from s.cells x n)) >> Ok (no_registers (record s { cells = with_cells s.cells x (map copied (cells_from s.cells y n)) })))))
-      (unless S3 (are_apart n x y) >> (unless S4 (are_defined (cells_from t.cells y n)) >> (unless S5 (are_free (cells_from t.cells x n)) >> Ok (no_registers (record t { cells = with_cells t.cells x (map copied (cells_from t.cells y n)) })))))
+  copies : (n x y : ℕ) → Goes (unless S3 (are_apart n x y) >>
+      (unless S4 (are_defined (cells_from s.cells y n)) >> (unless S5 (are_free (cells_from s.cells x n)) >> Ok
+      (no_registers (record s { cells = with_cells s.cells x (map copied (cells_from s.cells y n)) })))))
+      (unless S3 (are_apart n x y) >> (unless S4 (are_defined (cells_from t.cells y n)) >>
+      (unless S5 (are_free (cells_from t.cells x n)) >> Ok
+      (no_registers (record t { cells = with_cells t.cells x (map copied (cells_from t.cells y n)) })))))
   copies n x y =
       tested IsBelow S3 (are_apart n x y) (are_apart n x y) _ _ (λ e. e) λ _.
       tested IsBelow S4 (are_defined (cells_from s.cells y n)) (are_defined (cells_from t.cells y n)) _ _ (defined_from s t pair.below y n) λ _.
       tested IsBelow S5 (are_free (cells_from s.cells x n)) (are_free (cells_from t.cells x n)) _ _ (free_from s t pair.below x n) λ _.
-      no_more_known _ _ (new_cells s t pair.below _ _ (replaced_below x s.cells t.cells _ _ (cells_of s t pair.below) (mapped_below copied copied_below _ _ (part_below y n s.cells t.cells (cells_of s t pair.below)))))
+      no_more_known _ _ (new_cells s t pair.below _ _ (replaced_below x s.cells t.cells _ _ (cells_of s t pair.below)
+      (mapped_below copied copied_below _ _ (part_below y n s.cells t.cells (cells_of s t pair.below)))))
 
   moving : (a b : ℤ × ℤ) (x y : ℕ) → a ≡ b
       → Goes (message_in image x (count_of a.0 / 4) >> (message_in image y (count_of a.0 / 4) >> moved (count_of a.0 / 4) x y s))

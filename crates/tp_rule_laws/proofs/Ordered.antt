@@ -178,12 +178,18 @@ module _ {image : ImageValue} {s t : State} (pair : AreOrdered image s t) where
 
   pub local_then : (n : ℤ) (f f' : ℕ → Result State StateCode) → ((x : ℕ) → Goes (f x) (f' x)) → Goes (local image s n >>= f) (local image t n >>= f')
   unfolding local
-  local_then n f f' go = bind IsBelow (λ (x y : ℕ). x ≡ y) _ _ f f' (same_as (word_in image (pos s.wptr +ℤ n)) (word_in image (pos t.wptr +ℤ n)) (ap (λ w. word_in image (pos w +ℤ n)) pair.below.wptr)) λ x y e. rw e (go y)
+  local_then n f f' go = bind IsBelow (λ (x y : ℕ). x ≡ y) _ _ f f'
+      (same_as (word_in image (pos s.wptr +ℤ n)) (word_in image (pos t.wptr +ℤ n))
+      (ap (λ w. word_in image (pos w +ℤ n)) pair.below.wptr)) λ x y e. rw e (go y)
 
-  pub words_then : (p q : ℕ × ℕ) (n m : ℤ × ℤ) (f f' : ℕ × ℕ → Result State StateCode) → IsPart p q → m.0 ≤ℤ n.0 → n.0 ≤ℤ n.1 → n.1 ≤ℤ m.1 → ((w v : ℕ × ℕ) → AreWithin image.workspace w v → Goes (f w) (f' v)) → Goes (words_on image p n >>= f) (words_on image q m >>= f')
+  pub words_then : (p q : ℕ × ℕ) (n m : ℤ × ℤ) (f f' : ℕ × ℕ → Result State StateCode) → IsPart p q → m.0 ≤ℤ n.0 →
+      n.0 ≤ℤ n.1 → n.1 ≤ℤ m.1 → ((w v : ℕ × ℕ) → AreWithin image.workspace w v → Goes (f w) (f' v)) →
+      Goes (words_on image p n >>= f) (words_on image q m >>= f')
   words_then p q n m f f' part low ordered high go = bind IsBelow (AreWithin image.workspace) (words_on image p n) (words_on image q m) f f' (words_on_follow image p q n m part low ordered high) go
 
-  pub words_at : (p q : ℕ × ℕ) (n : ℤ) (f f' : ℕ × ℕ → Result State StateCode) → IsPart p q → ((w v : ℕ × ℕ) → AreWithin image.workspace w v → Goes (f w) (f' v)) → Goes (words_on image p (n, n) >>= f) (words_on image q (n, n) >>= f')
+  pub words_at : (p q : ℕ × ℕ) (n : ℤ) (f f' : ℕ × ℕ → Result State StateCode) → IsPart p q →
+      ((w v : ℕ × ℕ) → AreWithin image.workspace w v → Goes (f w) (f' v)) →
+      Goes (words_on image p (n, n) >>= f) (words_on image q (n, n) >>= f')
   words_at p q n f f' part go = words_then p q (n, n) (n, n) f f' part (omega (arith, ints)) (omega (arith, ints)) (omega (arith, ints)) go
 
   pub read_at : (x : ℕ) → Follows KindsBelow (read image.loops (cell_at s.cells x)) (read image.loops (cell_at t.cells x))
@@ -195,10 +201,14 @@ module _ {image : ImageValue} {s t : State} (pair : AreOrdered image s t) where
   pub part_of : (bound : ℕ) (w v : ℕ × ℕ) → AreWithin bound w v → IsPart w v
   part_of bound w v is = record { low = is.low; ordered = is.ordered; high = is.high }
 
-  pub unless_defined : (w v : ℕ × ℕ) (p q : Result State StateCode) → IsPart w v → (are_defined (between t.cells v) ≡ true → Goes p q) → Goes (unless S4 (are_defined (between s.cells w)) >> p) (unless S4 (are_defined (between t.cells v)) >> q)
+  pub unless_defined : (w v : ℕ × ℕ) (p q : Result State StateCode) → IsPart w v →
+      (are_defined (between t.cells v) ≡ true → Goes p q) →
+      Goes (unless S4 (are_defined (between s.cells w)) >> p) (unless S4 (are_defined (between t.cells v)) >> q)
   unless_defined w v p q is go = tested IsBelow S4 _ _ p q (part_all is_defined defined_goes s t pair.below w v is) go
 
-  pub unless_free : (w v : ℕ × ℕ) (p q : Result State StateCode) → IsPart w v → (are_free (between t.cells v) ≡ true → Goes p q) → Goes (unless S5 (are_free (between s.cells w)) >> p) (unless S5 (are_free (between t.cells v)) >> q)
+  pub unless_free : (w v : ℕ × ℕ) (p q : Result State StateCode) → IsPart w v →
+      (are_free (between t.cells v) ≡ true → Goes p q) → Goes (unless S5 (are_free (between s.cells w)) >> p)
+      (unless S5 (are_free (between t.cells v)) >> q)
   unless_free w v p q is go = tested IsBelow S5 _ _ p q (part_all is_free free_goes s t pair.below w v is) go
 
   pub unless_free_at : (x : ℕ) (p q : Result State StateCode) → Goes p q → Goes (unless S5 (is_free (cell_at s.cells x)) >> p) (unless S5 (is_free (cell_at t.cells x)) >> q)

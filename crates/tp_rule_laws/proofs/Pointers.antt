@@ -23,8 +23,14 @@ use Rattle.tp_rule_laws.proofs.Ranges.{full_self, fits_full}
 use Rattle.tp_rule_laws.proofs.Asked.{IsNarrower, AreWithin, IsPart, bytes_on_follow, words_further_follow}
 use Rattle.tp_rule_laws.proofs.Cells.{defined_goes}
 use Rattle.tp_rule_laws.proofs.States.{popped_two, replaced, given, stored, blurs, one_of_them}
-use Rattle.tp_rule_laws.proofs.Ordered.{read_word, number_at, KindsBelow, AreOrdered, KeepsOrder, also_known_a, also_known_b, also_number_b, known_b_then, number_b_then, pointer_a_then, byte_pointer_a_then, words_then, words_at, read_at, long_t, part_of, unless_defined, unless_free}
-use Rattle.tp_rule_laws.proofs.SoundStates.{with_fact, number_has, IsUp, pointer_has, byte_pointer_has, ArePlaces, words_further_has, popped_two_sound, blurs_sound, one_or_more, HasSoundState, KeepsSound, sets, gives, reads, range_of_words, any_sound, also_sound, sound_b_then, sound_words_then, bytes_then}
+use Rattle.tp_rule_laws.proofs.Ordered.{read_word, number_at, KindsBelow, AreOrdered, KeepsOrder, also_known_a}
+use Rattle.tp_rule_laws.proofs.Ordered.{also_known_b, also_number_b, known_b_then, number_b_then, pointer_a_then}
+use Rattle.tp_rule_laws.proofs.Ordered.{byte_pointer_a_then, words_then, words_at, read_at, long_t, part_of}
+use Rattle.tp_rule_laws.proofs.Ordered.{unless_defined, unless_free}
+use Rattle.tp_rule_laws.proofs.SoundStates.{with_fact, number_has, IsUp, pointer_has, byte_pointer_has, ArePlaces}
+use Rattle.tp_rule_laws.proofs.SoundStates.{words_further_has, popped_two_sound, blurs_sound, one_or_more}
+use Rattle.tp_rule_laws.proofs.SoundStates.{HasSoundState, KeepsSound, sets, gives, reads, range_of_words, any_sound}
+use Rattle.tp_rule_laws.proofs.SoundStates.{also_sound, sound_b_then, sound_words_then, bytes_then}
 use Rattle.tp_rule_laws.proofs.ArithmeticSound.{IsOne, full_range}
 
 -- ---- the order
@@ -49,16 +55,24 @@ module _ {image : ImageValue} {s t : State} (pair : AreOrdered image s t) where
       let l = is.low in let o = is.ordered in let hi = is.high in
       (grind (arith, nat_tests), omega arith)
 
-  reads_one : (w v : ℕ × ℕ) → AreWithin image.workspace w v → are_defined (between t.cells v) ≡ true → Follows KindsBelow (if w.0 == w.1 then read image.loops (cell_at s.cells w.0) else Ok full) (if v.0 == v.1 then read image.loops (cell_at t.cells v.0) else Ok full)
+  reads_one : (w v : ℕ × ℕ) → AreWithin image.workspace w v → are_defined (between t.cells v) ≡ true →
+      Follows KindsBelow (if w.0 == w.1 then read image.loops (cell_at s.cells w.0) else Ok full)
+      (if v.0 == v.1 then read image.loops (cell_at t.cells v.0) else Ok full)
   reads_one w v is e = by_test (v.0 == v.1) refl (w.0 == w.1) refl
     where
-      by_test : (p : Bool) → (v.0 == v.1) ≡ p → (q : Bool) → (w.0 == w.1) ≡ q → Follows KindsBelow (if q then read image.loops (cell_at s.cells w.0) else Ok full) (if p then read image.loops (cell_at t.cells v.0) else Ok full)
+      by_test : (p : Bool) → (v.0 == v.1) ≡ p → (q : Bool) → (w.0 == w.1) ≡ q →
+          Follows KindsBelow (if q then read image.loops (cell_at s.cells w.0) else Ok full)
+          (if p then read image.loops (cell_at t.cells v.0) else Ok full)
       by_test true f true g = rw ((one_in_one w v is f).1) (read_at pair v.0)
       by_test true f false g = let yes = (one_in_one w v is f).0 in let no : true ≡ false = sym yes ∙ g in absurd cc
-      by_test false f true e' = read_word image.workspace image.loops pair.rows pair.good (cell_at s.cells w.0) (number_at image.loops s.cells pair.sound.words w.0) (defined_at w v is e) λ low high reads r. rw reads (fits_full low high r.least r.greatest)
+      by_test false f true e' = read_word image.workspace image.loops pair.rows pair.good (cell_at s.cells w.0)
+          (number_at image.loops s.cells pair.sound.words w.0) (defined_at w v is e) λ low high reads r. rw reads
+          (fits_full low high r.least r.greatest)
       by_test false f false g = full_self
 
-  puts : (w v : ℕ × ℕ) (k l : Kind) → AreWithin image.workspace w v → IsNarrower k l → are_free (between t.cells v) ≡ true → IsBelow (if w.0 == w.1 then with_word w.0 k s else with_blurred w s) (if v.0 == v.1 then with_word v.0 l t else with_blurred v t)
+  puts : (w v : ℕ × ℕ) (k l : Kind) → AreWithin image.workspace w v → IsNarrower k l →
+      are_free (between t.cells v) ≡ true → IsBelow (if w.0 == w.1 then with_word w.0 k s else with_blurred w s)
+      (if v.0 == v.1 then with_word v.0 l t else with_blurred v t)
   puts w v k l is n free = by_test (v.0 == v.1) refl (w.0 == w.1) refl
     where
       by_test : (p : Bool) → (v.0 == v.1) ≡ p → (q : Bool) → (w.0 == w.1) ≡ q → IsBelow (if q then with_word w.0 k s else with_blurred w s) (if p then with_word v.0 l t else with_blurred v t)
@@ -127,7 +141,9 @@ module _ {image : ImageValue} {t : State} (h : HasSoundState image t) where
       by_test true = reads h w.0
       by_test false = full_range
 
-  read_one_then : (w : ℕ × ℕ) (f : Kind → Result State StateCode) → ((k : Kind) → IsSoundKind k → IfOk (f k) (IsSound image)) → IfOk ((if w.0 == w.1 then read image.loops (cell_at t.cells w.0) else Ok full) >>= f) (IsSound image)
+  read_one_then : (w : ℕ × ℕ) (f : Kind → Result State StateCode) →
+      ((k : Kind) → IsSoundKind k → IfOk (f k) (IsSound image)) →
+      IfOk ((if w.0 == w.1 then read image.loops (cell_at t.cells w.0) else Ok full) >>= f) (IsSound image)
   read_one_then w f go = with_fact (IsSound image) IsSoundKind _ f (reads_one_sound w) go
 
   puts_sound : (w : ℕ × ℕ) (k : Kind) → IsSoundKind k → IsSound image (pop_two (if w.0 == w.1 then with_word w.0 k t else with_blurred w t))
@@ -160,11 +176,16 @@ module _ {image : ImageValue} {t : State} (h : HasSoundState image t) (at next :
 
   pub wsub_sound : KeepsSound image t at next edge Wsub
   unfolding rule
-  wsub_sound = also_sound h (known t.a) _ (also_sound h (known t.b) _ (with_fact (IsSound image) IsUp (pointer t.a) _ (pointer_has t.a h.sound.a) λ p up. with_fact (IsSound image) IsOne (number t.b) _ (number_has t.b h.sound.b) λ n is. sound_words_then h p n _ up is.ordered λ w are. pointed h w are))
+  wsub_sound = also_sound h (known t.a) _ (also_sound h (known t.b) _
+      (with_fact (IsSound image) IsUp (pointer t.a) _ (pointer_has t.a h.sound.a) λ p up. with_fact (IsSound image) IsOne
+      (number t.b) _ (number_has t.b h.sound.b) λ n is. sound_words_then h p n _ up is.ordered λ w are. pointed h w are))
 
   pub bsub_sound : KeepsSound image t at next edge Bsub
   unfolding rule
-  bsub_sound = also_sound h (known t.a) _ (also_sound h (known t.b) _ (with_fact (IsSound image) IsUp (byte_pointer t.a) _ (byte_pointer_has t.a h.sound.a) λ p up. with_fact (IsSound image) IsOne (number t.b) _ (number_has t.b h.sound.b) λ n is. bytes_then h p n _ up is.ordered λ w are. byte_pointed h w are))
+  bsub_sound = also_sound h (known t.a) _ (also_sound h (known t.b) _
+      (with_fact (IsSound image) IsUp (byte_pointer t.a) _ (byte_pointer_has t.a h.sound.a) λ p up. with_fact
+      (IsSound image) IsOne (number t.b) _ (number_has t.b h.sound.b) λ n is. bytes_then h p n _ up is.ordered λ w are.
+      byte_pointed h w are))
 
   pub lb_sound : KeepsSound image t at next edge Lb
   unfolding rule

@@ -3,7 +3,11 @@ use Rattle.std.proofs.Common.{◌≡◌, ℕ, ◌≤◌, Result, Ok, Err, refl, 
 use Rattle.std.specs.Prelude.{All, IfOk}
 use Rattle.tp_flow.specs.NestKept.{IsGood}
 use Rattle.tp_decode.specs.declared.instr.Instr.{Instr}
-use Rattle.tp_decode.specs.declared.instr.Instr.TheVariants.{Jump, Ldlp, Ldnl, Ldc, Ldnlp, Ldl, Adc, Cj, Ajw, Eqc, Stl, Stnl, Rev, Lb, Bsub, Diff, Add, Input, Prod, Gt, Wsub, Output, Sub, Seterr, Csub0, Stopp, Rem, Lend, Div, BitNot, BitXor, Sb, Shr, Shl, Mint, BitAnd, MoveBytes, BitOr, Sum, Mul}
+use Rattle.tp_decode.specs.declared.instr.Instr.TheVariants.{Jump, Ldlp, Ldnl, Ldc, Ldnlp, Ldl, Adc, Cj, Ajw, Eqc, Stl}
+use Rattle.tp_decode.specs.declared.instr.Instr.TheVariants.{Stnl, Rev, Lb, Bsub, Diff, Add, Input, Prod, Gt, Wsub}
+use Rattle.tp_decode.specs.declared.instr.Instr.TheVariants.{Output, Sub, Seterr, Csub0, Stopp, Rem, Lend, Div, BitNot}
+use Rattle.tp_decode.specs.declared.instr.Instr.TheVariants.{BitXor, Sb, Shr, Shl, Mint, BitAnd, MoveBytes, BitOr, Sum}
+use Rattle.tp_decode.specs.declared.instr.Instr.TheVariants.{Mul}
 use Rattle.tp_image.specs.Image.{ImageValue, InRange, IsRow}
 use Rattle.tp_flow.specs.declared.edge.Edge.{Edge}
 use Rattle.tp_state.specs.declared.state.State.{State}
@@ -20,9 +24,19 @@ use Rattle.tp_image.specs.Limits.{most_workspace}
 use Rattle.tp_rule_laws.proofs.Follows.{Follows, bind}
 use Rattle.tp_rule_laws.proofs.Ordered.{AreOrdered, KeepsOrder}
 use Rattle.tp_rule_laws.proofs.SoundStates.{with_fact, HasSoundState, KeepsSound}
-use Rattle.tp_rule_laws.proofs.Constants.{ldc_follows, mint_follows, ldl_follows, stl_follows, ldlp_follows, ajw_follows, rev_follows, seterr_follows, ldc_sound, mint_sound, ldl_sound, stl_sound, ldlp_sound, ajw_sound, rev_sound, seterr_sound}
-use Rattle.tp_rule_laws.proofs.Arithmetic.{adc_follows, add_follows, sub_follows, sum_follows, diff_follows, mul_follows, prod_follows, div_follows, rem_follows, bit_not_follows, bit_and_follows, bit_or_follows, bit_xor_follows, shl_follows, shr_follows, eqc_follows, gt_follows, csub0_follows, adc_sound, add_sound, sub_sound, sum_sound, diff_sound, mul_sound, prod_sound, div_sound, rem_sound, bit_not_sound, bit_and_sound, bit_or_sound, bit_xor_sound, shl_sound, shr_sound, eqc_sound, gt_sound, csub0_sound}
-use Rattle.tp_rule_laws.proofs.Pointers.{ldnl_follows, stnl_follows, ldnlp_follows, wsub_follows, bsub_follows, lb_follows, sb_follows, ldnl_sound, stnl_sound, ldnlp_sound, wsub_sound, bsub_sound, lb_sound, sb_sound}
+use Rattle.tp_rule_laws.proofs.Constants.{ldc_follows, mint_follows, ldl_follows, stl_follows, ldlp_follows}
+use Rattle.tp_rule_laws.proofs.Constants.{ajw_follows, rev_follows, seterr_follows, ldc_sound, mint_sound, ldl_sound}
+use Rattle.tp_rule_laws.proofs.Constants.{stl_sound, ldlp_sound, ajw_sound, rev_sound, seterr_sound}
+use Rattle.tp_rule_laws.proofs.Arithmetic.{adc_follows, add_follows, sub_follows, sum_follows, diff_follows}
+use Rattle.tp_rule_laws.proofs.Arithmetic.{mul_follows, prod_follows, div_follows, rem_follows, bit_not_follows}
+use Rattle.tp_rule_laws.proofs.Arithmetic.{bit_and_follows, bit_or_follows, bit_xor_follows, shl_follows, shr_follows}
+use Rattle.tp_rule_laws.proofs.Arithmetic.{eqc_follows, gt_follows, csub0_follows, adc_sound, add_sound, sub_sound}
+use Rattle.tp_rule_laws.proofs.Arithmetic.{sum_sound, diff_sound, mul_sound, prod_sound, div_sound, rem_sound}
+use Rattle.tp_rule_laws.proofs.Arithmetic.{bit_not_sound, bit_and_sound, bit_or_sound, bit_xor_sound, shl_sound}
+use Rattle.tp_rule_laws.proofs.Arithmetic.{shr_sound, eqc_sound, gt_sound, csub0_sound}
+use Rattle.tp_rule_laws.proofs.Pointers.{ldnl_follows, stnl_follows, ldnlp_follows, wsub_follows, bsub_follows}
+use Rattle.tp_rule_laws.proofs.Pointers.{lb_follows, sb_follows, ldnl_sound, stnl_sound, ldnlp_sound, wsub_sound}
+use Rattle.tp_rule_laws.proofs.Pointers.{bsub_sound, lb_sound, sb_sound}
 use Rattle.tp_rule_laws.proofs.Control.{jump_follows, cj_follows, input_follows, output_follows, stopp_follows, jump_sound, cj_sound, input_sound, output_sound, stopp_sound}
 use Rattle.tp_rule_laws.proofs.Loops.{lend_follows, lend_sound, entering_follows, entered_sound}
 use Rattle.tp_rule_laws.proofs.Moves.{move_bytes_follows, move_bytes_sound}
@@ -133,7 +147,9 @@ after_follows image are good at next instr edge s t g h =
     λ u v below. entering_follows image.loops (entered_at image at next instr edge) u v below
 
 -- the same of outcomes
-pub keeps_order : (image : ImageValue) → InRange image → HasGoodLoops image → (at next : ℕ) (instr : Instr) (edge : Edge) (s t u : State) → IsSound image s → IsBelow s t → after image at next instr edge t ≡ Ok u → (v : State) × (after image at next instr edge s ≡ Ok v) × IsBelow v u
+pub keeps_order : (image : ImageValue) → InRange image → HasGoodLoops image →
+    (at next : ℕ) (instr : Instr) (edge : Edge) (s t u : State) → IsSound image s → IsBelow s t →
+    after image at next instr edge t ≡ Ok u → (v : State) × (after image at next instr edge s ≡ Ok v) × IsBelow v u
 keeps_order image range good at next instr edge s t u sound below ok =
     goes (after image at next instr edge s) (after image at next instr edge t) (after_follows image range.rows good at next instr edge s t sound below) ok
   where
@@ -149,7 +165,11 @@ small_workspace image range = by_version image.version range.workspace.1
     by_version One le = omega (arith, le)
     by_version Two le = le
 
-pub after_sound : (image : ImageValue) → InRange image → HasGoodLoops image → (at next : ℕ) (instr : Instr) (edge : Edge) (t : State) → LoadsWord instr → IsSound image t → IfOk (after image at next instr edge t) (IsSound image)
+pub after_sound : (image : ImageValue) → InRange image → HasGoodLoops image →
+    (at next : ℕ) (instr : Instr) (edge : Edge) (t : State) → LoadsWord instr → IsSound image t →
+    IfOk (after image at next instr edge t) (IsSound image)
 unfolding after
 after_sound image range good at next instr edge t loads h =
-    with_fact (IsSound image) (IsSound image) _ _ (rule_sound (record { small = small_workspace image range; rows = range.rows; good = good; sound = h }) at next instr edge loads) λ u g. entered_sound image _ u g
+    with_fact (IsSound image) (IsSound image) _ _ (rule_sound
+    (record { small = small_workspace image range; rows = range.rows; good = good; sound = h }) at next instr edge
+    loads) λ u g. entered_sound image _ u g

@@ -24,7 +24,12 @@ use Rattle.tp_state.proofs.WordLemmas.{signed_above, signed_below}
 -- ---- joins
 
 int_join : (a b c d : ℤ) → IsSoundKind (kind.Int a b) → IsSoundKind (kind.Int c d) → IsSoundKind (join_kinds (kind.Int a b) (kind.Int c d))
-int_join a b c d f g = let fl = f.least in let fo = f.ordered in let fg = f.greatest in let gl = g.least in let go = g.ordered in let gg = g.greatest in record { least = omega (arith, ints, clamps); ordered = omega (arith, ints, clamps); greatest = omega (arith, ints, clamps) }
+int_join a b c d f g = let fl = f.least in let fo = f.ordered in let fg = f.greatest in let gl = g.least in let go =
+    g.ordered in let gg = g.greatest in record {
+      least = omega (arith, ints, clamps);
+      ordered = omega (arith, ints, clamps);
+      greatest = omega (arith, ints, clamps);
+    }
 
 places_join : (p q r s : ℕ) → AreInOrder p q → AreInOrder r s → AreInOrder (min p r) (max q s)
 places_join p q r s f g = let fo = f.ordered in let fg = f.greatest in let go = g.ordered in let gg = g.greatest in record { ordered = omega arith; greatest = omega arith }
@@ -108,7 +113,10 @@ entry_sound image range = record {
   a = tt;
   b = tt;
   c = tt;
-  words = All-append (IsSoundCell image.loops) _ _ (All-map (IsSoundCell image.loops) (λ word. cell.Known (signed word)) image.initial (λ i d lt. signed_fits _ (range.words i d lt))) (All-replicate (IsSoundCell image.loops) (image.workspace - length image.initial) (cell.Known (pos 0)) (record { least = omega (arith, ints); ordered = omega (arith, ints); greatest = omega (arith, ints) }));
+  words = All-append (IsSoundCell image.loops) _ _ (All-map (IsSoundCell image.loops) (λ word. cell.Known (signed word))
+      image.initial (λ i d lt. signed_fits _ (range.words i d lt)))
+      (All-replicate (IsSoundCell image.loops) (image.workspace - length image.initial) (cell.Known (pos 0))
+      (record { least = omega (arith, ints); ordered = omega (arith, ints); greatest = omega (arith, ints) }));
 }
   where
     sized : length (entry image).cells ≡ image.workspace

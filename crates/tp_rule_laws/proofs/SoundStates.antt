@@ -1,5 +1,7 @@
 -- Sound states: what a rule asks of one on the way, and what its parts keep.
-use Rattle.std.proofs.Common.{◌≡◌, ℕ, ◌+◌, ◌-◌, ◌*◌, ◌<◌, ◌≤◌, Bool, true, false, ◌==◌, nat_le, if◌then◌else◌, ℤ, ◌≤ℤ◌, List, map, replicate, length, Result, Ok, Err, refl, ◌∙◌, arith, ◌^◌, length-set, slice_set}
+use Rattle.std.proofs.Common.{◌≡◌, ℕ, ◌+◌, ◌-◌, ◌*◌, ◌<◌, ◌≤◌, Bool, true, false, ◌==◌, nat_le, if◌then◌else◌, ℤ, ◌≤ℤ◌}
+use Rattle.std.proofs.Common.{List, map, replicate, length, Result, Ok, Err, refl, ◌∙◌, arith, ◌^◌, length-set}
+use Rattle.std.proofs.Common.{slice_set}
 use Rattle.std.specs.Prelude.{All, IfOk}
 use Rattle.tp_flow.specs.NestKept.{IsGood}
 use Rattle.std.specs.Ordering.{int_eq}
@@ -19,7 +21,9 @@ use Rattle.tp_state.specs.declared.fault.StateCode.TheVariants.{S5}
 use Rattle.tp_state.specs.Answer.{◌>>=◌, ◌>>◌, unless}
 use Rattle.tp_state.specs.Kinds.{known, number, pointer, byte_pointer, word_in}
 use Rattle.tp_state.specs.CellRules.{cell_at, cells_from, with_cells, are_free, is_defined, read, copied, written, blurred}
-use Rattle.tp_state.specs.Rules.{rule, one_number, two_numbers, local, words_on, between, with_block, set_areg, replace_pair, no_registers, with_word, with_blurred, suspended, descheduled, words_further, bytes_on, push, pop, pop_two, below_wptr}
+use Rattle.tp_state.specs.Rules.{rule, one_number, two_numbers, local, words_on, between, with_block, set_areg}
+use Rattle.tp_state.specs.Rules.{replace_pair, no_registers, with_word, with_blurred, suspended, descheduled}
+use Rattle.tp_state.specs.Rules.{words_further, bytes_on, push, pop, pop_two, below_wptr}
 use Rattle.tp_state.proofs.OrderLemmas.{kind_below-self}
 use Rattle.tp_state.specs.Sound.{IsRange, IsSoundCell, IsSound, AreInOrder, IsSoundKind}
 use Rattle.std.proofs.lemmas.List.Elements.{All-set, All-take, All-drop, All-map, All-append, All-replicate}
@@ -173,7 +177,9 @@ module _ (rows : List LoopRow) (cells : List Cell) (words : All (IsSoundCell row
   unfolding with_cells
   words_with x these are = All-append (IsSoundCell rows) _ _ (All-take (IsSoundCell rows) x cells words) (All-append (IsSoundCell rows) these _ are (All-drop (IsSoundCell rows) _ cells words))
 
-pub words_mapped : (rows : List LoopRow) (f : Cell → Cell) → ((c : Cell) → IsSoundCell rows c → IsSoundCell rows (f c)) → (cells : List Cell) → All (IsSoundCell rows) cells → All (IsSoundCell rows) (map f cells)
+pub words_mapped : (rows : List LoopRow) (f : Cell → Cell) →
+    ((c : Cell) → IsSoundCell rows c → IsSoundCell rows (f c)) → (cells : List Cell) → All (IsSoundCell rows) cells →
+    All (IsSoundCell rows) (map f cells)
 words_mapped rows f keeps cells words = All-map (IsSoundCell rows) f cells (λ i d lt. keeps _ (words i d lt))
 
 -- ---- states
@@ -229,7 +235,9 @@ module _ (image : ImageValue) where
 
   pub blurs_sound : (t : State) (w : ℕ × ℕ) → IsSound image t → IsSound image (with_blurred w t)
   unfolding between
-  blurs_sound t w h = cells_sound t _ h (blur_long t.cells w.0 (w.1 + 1 - w.0)) (words_with image.loops t.cells h.words w.0 _ (words_mapped image.loops blurred (blurred_has image.loops) _ (words_from image.loops t.cells h.words w.0 (w.1 + 1 - w.0))))
+  blurs_sound t w h = cells_sound t _ h (blur_long t.cells w.0 (w.1 + 1 - w.0))
+      (words_with image.loops t.cells h.words w.0 _ (words_mapped image.loops blurred (blurred_has image.loops) _
+      (words_from image.loops t.cells h.words w.0 (w.1 + 1 - w.0))))
 
   pub one_or_more : (t : State) (w : ℕ × ℕ) (k : Kind) → IsSound image t → IsSoundKind k → IsSound image (if w.0 == w.1 then with_word w.0 k t else with_blurred w t)
   one_or_more t w k h ends = by_test (w.0 == w.1)
@@ -296,10 +304,12 @@ module _ {image : ImageValue} {t : State} (h : HasSoundState image t) where
   pub sound_b_then : (f : Kind → Result State StateCode) → ((k : Kind) → IsSoundKind k → IfOk (f k) (IsSound image)) → IfOk (known t.b >>= f) (IsSound image)
   sound_b_then f go = with_fact (IsSound image) IsSoundKind _ f (known_has t.b h.sound.b) go
 
-  pub sound_words_then : (p : ℕ × ℕ) (n : ℤ × ℤ) (f : ℕ × ℕ → Result State StateCode) → IsUp p → n.0 ≤ℤ n.1 → ((w : ℕ × ℕ) → ArePlaces w → IfOk (f w) (IsSound image)) → IfOk (words_on image p n >>= f) (IsSound image)
+  pub sound_words_then : (p : ℕ × ℕ) (n : ℤ × ℤ) (f : ℕ × ℕ → Result State StateCode) → IsUp p → n.0 ≤ℤ n.1 →
+      ((w : ℕ × ℕ) → ArePlaces w → IfOk (f w) (IsSound image)) → IfOk (words_on image p n >>= f) (IsSound image)
   sound_words_then p n f up le go = with_fact (IsSound image) ArePlaces _ f (words_on_up image h.small p n up le) go
 
-  pub bytes_then : (p : ℕ × ℕ) (n : ℤ × ℤ) (f : ℕ × ℕ → Result State StateCode) → IsUp p → n.0 ≤ℤ n.1 → ((w : ℕ × ℕ) → ArePlaces w → IfOk (f w) (IsSound image)) → IfOk (bytes_on image p n >>= f) (IsSound image)
+  pub bytes_then : (p : ℕ × ℕ) (n : ℤ × ℤ) (f : ℕ × ℕ → Result State StateCode) → IsUp p → n.0 ≤ℤ n.1 →
+      ((w : ℕ × ℕ) → ArePlaces w → IfOk (f w) (IsSound image)) → IfOk (bytes_on image p n >>= f) (IsSound image)
   bytes_then p n f up le go = with_fact (IsSound image) ArePlaces _ f (bytes_on_up image h.small p n up le) go
 
   pub way_then : (f : State → Result State StateCode) → ((u : State) → IsSound image u → IfOk (f u) (IsSound image)) → IfOk (descheduled t >>= f) (IsSound image)

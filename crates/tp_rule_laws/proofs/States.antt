@@ -1,5 +1,7 @@
 -- States that are below others, and what the rules make of both.
-use Rattle.std.proofs.Common.{◌≡◌, ℕ, suc, ◌+◌, ◌-◌, ◌<◌, ◌≤◌, ◌⊎◌, inl, inr, Bool, true, IsTrue, List, [], ◌∷◌, map, replicate, length, drop, length-take, length-drop, slice_set, length-set, get_or-set_same, get_or-set_other, refl, sym, ap, ◌∙◌, rules, arith}
+use Rattle.std.proofs.Common.{◌≡◌, ℕ, suc, ◌+◌, ◌-◌, ◌<◌, ◌≤◌, ◌⊎◌, inl, inr, Bool, true, IsTrue, List, [], ◌∷◌, map}
+use Rattle.std.proofs.Common.{replicate, length, drop, length-take, length-drop, slice_set, length-set, get_or-set_same}
+use Rattle.std.proofs.Common.{get_or-set_other, refl, sym, ap, ◌∙◌, rules, arith}
 use Rattle.std.specs.List.{list_all}
 use Rattle.std.proofs.lemmas.Bool.{cases_lt, cases_eq}
 use Rattle.std.proofs.lemmas.List.{get_or_past}
@@ -20,7 +22,9 @@ use Rattle.tp_state.proofs.CellOrder.{cell_below-self}
 use Rattle.tp_state.proofs.StretchLemmas.{all_within}
 use Rattle.tp_rule_laws.proofs.Follows.{Follows, tested}
 use Rattle.tp_rule_laws.proofs.Asked.{IsNarrower, IsPart}
-use Rattle.tp_rule_laws.proofs.Cells.{AreBelow, from_places, to_place, as_long, below_themselves, set_below, part_below, replaced_below, all_below, free_goes, defined_goes, blurred_below, blurred_more, written_below, written_blurred, blur_out, blur_in, blur_long}
+use Rattle.tp_rule_laws.proofs.Cells.{AreBelow, from_places, to_place, as_long, below_themselves, set_below, part_below}
+use Rattle.tp_rule_laws.proofs.Cells.{replaced_below, all_below, free_goes, defined_goes, blurred_below, blurred_more}
+use Rattle.tp_rule_laws.proofs.Cells.{written_below, written_blurred, blur_out, blur_in, blur_long}
 
 pub cells_of : (s t : State) → IsBelow s t → AreBelow s.cells t.cells
 cells_of s t h = from_places s.cells t.cells h.sized h.cells
@@ -109,7 +113,9 @@ list_all-from_places p [] all = refl
 list_all-from_places p (c ∷ cs) all = rw (all 0 (omega arith), list_all-from_places p cs (λ i lt. all (suc i) (omega (arith, lt)))) refl
 
 -- some of the words of some words
-pub part_all : (p : Cell → Bool) → ((c d : Cell) → IsTrue (cell_below c d) → p d ≡ true → p c ≡ true) → (s t : State) → IsBelow s t → (w v : ℕ × ℕ) → IsPart w v → list_all p (between t.cells v) ≡ true → list_all p (between s.cells w) ≡ true
+pub part_all : (p : Cell → Bool) → ((c d : Cell) → IsTrue (cell_below c d) → p d ≡ true → p c ≡ true) → (s t : State) →
+    IsBelow s t → (w v : ℕ × ℕ) → IsPart w v → list_all p (between t.cells v) ≡ true →
+    list_all p (between s.cells w) ≡ true
 unfolding between
 part_all p goes s t h w v is e =
     list_all-from_places p (cells_from s.cells w.0 (w.1 + 1 - w.0)) λ i lt.
@@ -154,18 +160,29 @@ module _ (s t : State) (h : IsBelow s t) (w v : ℕ × ℕ) (is : IsPart w v) wh
     cells = λ i. by_place i (cases_lt i (length s.cells));
   }
     where
-      at : (i : ℕ) → i < length s.cells → i < length t.cells → (i < v.0) ⊎ (v.0 ≤ i) → (v.1 < i) ⊎ (i ≤ v.1) → (i < w.0) ⊎ (w.0 ≤ i) → (w.1 < i) ⊎ (i ≤ w.1) → IsTrue (cell_below (cell_at (with_blurred w s).cells i) (cell_at (with_blurred v t).cells i))
+      at : (i : ℕ) → i < length s.cells → i < length t.cells → (i < v.0) ⊎ (v.0 ≤ i) → (v.1 < i) ⊎ (i ≤ v.1) →
+          (i < w.0) ⊎ (w.0 ≤ i) → (w.1 < i) ⊎ (i ≤ w.1) → IsTrue
+          (cell_below (cell_at (with_blurred w s).cells i) (cell_at (with_blurred v t).cells i))
       at i in_s in_t (inl below) _ _ _ = let l = is.low in rw (at_out s.cells w is.ordered i in_s (inl (omega arith)), at_out t.cells v v_up i in_t (inl below)) (h.cells i)
       at i in_s in_t (inr low) (inl above) _ _ = let hi = is.high in rw (at_out s.cells w is.ordered i in_s (inr (omega arith)), at_out t.cells v v_up i in_t (inr above)) (h.cells i)
-      at i in_s in_t (inr low) (inr high) (inl below) _ = rw (at_out s.cells w is.ordered i in_s (inl below), at_in t.cells v v_up i in_t low high) (blurred_more (cell_at s.cells i) (cell_at t.cells i) (h.cells i))
-      at i in_s in_t (inr low) (inr high) (inr from) (inl above) = rw (at_out s.cells w is.ordered i in_s (inr above), at_in t.cells v v_up i in_t low high) (blurred_more (cell_at s.cells i) (cell_at t.cells i) (h.cells i))
-      at i in_s in_t (inr low) (inr high) (inr from) (inr to) = rw (at_in s.cells w is.ordered i in_s from to, at_in t.cells v v_up i in_t low high) (blurred_below (cell_at s.cells i) (cell_at t.cells i) (h.cells i))
+      at i in_s in_t (inr low) (inr high) (inl below) _ = rw
+          (at_out s.cells w is.ordered i in_s (inl below), at_in t.cells v v_up i in_t low high)
+          (blurred_more (cell_at s.cells i) (cell_at t.cells i) (h.cells i))
+      at i in_s in_t (inr low) (inr high) (inr from) (inl above) =
+          rw (at_out s.cells w is.ordered i in_s (inr above), at_in t.cells v v_up i in_t low high)
+          (blurred_more (cell_at s.cells i) (cell_at t.cells i) (h.cells i))
+      at i in_s in_t (inr low) (inr high) (inr from) (inr to) =
+          rw (at_in s.cells w is.ordered i in_s from to, at_in t.cells v v_up i in_t low high)
+          (blurred_below (cell_at s.cells i) (cell_at t.cells i) (h.cells i))
 
       by_place : (i : ℕ) → (i < length s.cells) ⊎ (length s.cells ≤ i) → IsTrue (cell_below (cell_at (with_blurred w s).cells i) (cell_at (with_blurred v t).cells i))
       by_place i (inl lt) = let sized = h.sized in at i lt (omega arith) (cases_lt i v.0) (cases_lt v.1 i) (cases_lt i w.0) (cases_lt w.1 i)
       by_place i (inr past) =
           let sized = h.sized in
-          rw (get_or_past (with_blurred w s).cells i cell.Undef (omega (arith, long_blurred s.cells w)), get_or_past (with_blurred v t).cells i cell.Undef (omega (arith, long_blurred t.cells v))) (search rules)
+          rw (
+            get_or_past (with_blurred w s).cells i cell.Undef (omega (arith, long_blurred s.cells w)),
+            get_or_past (with_blurred v t).cells i cell.Undef (omega (arith, long_blurred t.cells v)),
+          ) (search rules)
 
   is_free_at : are_free (between t.cells v) ≡ true → (j : ℕ) → v.0 ≤ j → j ≤ v.1 → j < length t.cells → is_free (cell_at t.cells j) ≡ true
   unfolding between
@@ -183,10 +200,18 @@ module _ (s t : State) (h : IsBelow s t) (w v : ℕ × ℕ) (is : IsPart w v) wh
     cells = λ i. by_place i (cases_lt i (length s.cells));
   }
     where
-      at : (i : ℕ) → i < length s.cells → i < length t.cells → (i < v.0) ⊎ (v.0 ≤ i) → (v.1 < i) ⊎ (i ≤ v.1) → (i ≡ w.0) ⊎ (i ≡ w.0 → ⊥) → IsTrue (cell_below (cell_at (slice_set s.cells w.0 (written k)) i) (cell_at (with_blurred v t).cells i))
+      at : (i : ℕ) → i < length s.cells → i < length t.cells → (i < v.0) ⊎ (v.0 ≤ i) → (v.1 < i) ⊎ (i ≤ v.1) →
+          (i ≡ w.0) ⊎ (i ≡ w.0 → ⊥) → IsTrue (cell_below (cell_at (slice_set s.cells w.0 (written k)) i)
+          (cell_at (with_blurred v t).cells i))
       at i in_s in_t (inl below) _ _ = let l = is.low in rw (get_or-set_other s.cells w.0 i (written k) cell.Undef (λ e. omega (arith, e)), at_out t.cells v v_up i in_t (inl below)) (h.cells i)
-      at i in_s in_t (inr low) (inl above) _ = let o = is.ordered in let hi = is.high in rw (get_or-set_other s.cells w.0 i (written k) cell.Undef (λ e. omega (arith, e)), at_out t.cells v v_up i in_t (inr above)) (h.cells i)
-      at i in_s in_t (inr low) (inr high) (inr other) = rw (get_or-set_other s.cells w.0 i (written k) cell.Undef other, at_in t.cells v v_up i in_t low high) (blurred_more (cell_at s.cells i) (cell_at t.cells i) (h.cells i))
+      at i in_s in_t (inr low) (inl above) _ = let o = is.ordered in let hi = is.high in
+          rw (
+            get_or-set_other s.cells w.0 i (written k) cell.Undef (λ e. omega (arith, e)),
+            at_out t.cells v v_up i in_t (inr above),
+          ) (h.cells i)
+      at i in_s in_t (inr low) (inr high) (inr other) = rw
+          (get_or-set_other s.cells w.0 i (written k) cell.Undef other, at_in t.cells v v_up i in_t low high)
+          (blurred_more (cell_at s.cells i) (cell_at t.cells i) (h.cells i))
       at i in_s in_t (inr low) (inr high) (inl same) =
           rw (at_in t.cells v v_up i in_t low high, ap (cell_at (slice_set s.cells w.0 (written k))) same, get_or-set_same s.cells w.0 (written k) cell.Undef (omega arith))
           (written_blurred k (cell_at s.cells i) (cell_at t.cells i) there (is_free_at free i low high in_t))
@@ -195,4 +220,8 @@ module _ (s t : State) (h : IsBelow s t) (w v : ℕ × ℕ) (is : IsPart w v) wh
       by_place i (inl lt) = let sized = h.sized in at i lt (omega arith) (cases_lt i v.0) (cases_lt v.1 i) (cases_eq i w.0)
       by_place i (inr past) =
           let sized = h.sized in
-          rw (get_or_past (slice_set s.cells w.0 (written k)) i cell.Undef (omega (arith, length-set s.cells w.0 (written k))), get_or_past (with_blurred v t).cells i cell.Undef (omega (arith, long_blurred t.cells v))) (search rules)
+          rw (
+            get_or_past (slice_set s.cells w.0 (written k)) i cell.Undef
+                (omega (arith, length-set s.cells w.0 (written k))),
+            get_or_past (with_blurred v t).cells i cell.Undef (omega (arith, long_blurred t.cells v)),
+          ) (search rules)

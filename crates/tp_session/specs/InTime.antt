@@ -10,8 +10,8 @@ use Rattle.tp_answers.specs.Rules.{IsVerdict, IsOutcome}
 abbrev pub IsBudgetOf : ImageValue → ℕ → Type 0
 IsBudgetOf image budget = (text : List ℕ) × IsVerdict text (Accepts image budget)
 
--- the outcome of a packet: its run alone ends within the budget that YES stated for its image, and no state on its way is
--- stuck
+-- the outcome of a packet: its run alone ends within the budget that YES stated for its image, and no state on its way
+-- is stuck
 pub record IsOutcomeInTime (image : ImageValue) (packet : List ℕ) (outcome : Option RunResult) : Type 0 where
   pub is : IsOutcome image packet outcome
   pub budget : ℕ

@@ -15,8 +15,8 @@ use Rattle.tp_session.specs.Protocol.{most_line, next_number, AreAnswers}
 use Rattle.tp_session.specs.Served.{AreWrittenBefore, ServesSome}
 use Rattle.tp_session.specs.Fitness.{AreFit}
 
--- the bytes that were taken, the lines that they end and what has come of the next line; what was answered to these lines,
--- and the sessions after them
+-- the bytes that were taken, the lines that they end and what has come of the next line; what was answered to these
+-- lines, and the sessions after them
 pub record Point : Type 0 where
   pub taken : List ℕ
   pub lines : List Line

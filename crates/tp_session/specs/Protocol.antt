@@ -2,7 +2,8 @@
 --
 -- The verdict on an image and the outcome of a packet are parameters. `Served` has what is answered by the rules of the
 -- product.
-use Rattle.std.specs.Prelude.{◌≡◌, ℕ, ◌+◌, ◌-◌, ◌^◌, min, nat_lt, Bool, true, false, List, [], ◌∷◌, ◌++◌, length, Option, None}
+use Rattle.std.specs.Prelude.{◌≡◌, ℕ, ◌+◌, ◌-◌, ◌^◌, min, nat_lt, Bool, true, false, List, [], ◌∷◌, ◌++◌, length}
+use Rattle.std.specs.Prelude.{Option, None}
 use Rattle.tp_image.specs.Image.{ImageValue}
 use Rattle.tp_answers.specs.Results.{RunResult}
 use Rattle.tp_requests.specs.Lines.{Line, lines_of, said_in}

@@ -1,4 +1,4 @@
-//! What serving is lent.
+//! The members and the form of the answers that `serve` works with.
 
 ghost use Rattle.std.specs.Prelude.{◌≡◌, ◌≤◌, vec_len};
 ghost use Rattle.tp_board.specs.Limits.{most_members};
@@ -15,10 +15,11 @@ pub struct Farm<D> {
 }
 
 impl<D> Farm<D> {
-    /// A farm of a member for each of the links, of which there are 1 to 64. With `trace`, each result is followed by the
-    /// bytes that its worker sent on link 1.
+    /// A farm of a member for each of the links, of which there are 1 to 64. With `trace`, each result is followed by
+    /// the bytes that its worker sent on link 1.
     ///
-    /// What [`serve`](crate::serve) promises, it promises for devices that are open, cannot fail and have room for 256 bytes.
+    /// What [`serve`](crate::serve) promises, it promises for devices that are open, cannot fail and have room for 256
+    /// bytes.
     pub fn new(links: Vec<Links<D>>, trace: bool) -> Farm<D>
         requires least { 1 ≤ vec_len links }
         requires most { vec_len links ≤ most_members }

@@ -13,9 +13,9 @@ pub enum ServeFault {
     Read,
     /// The writer failed, took no byte, or could not be flushed. A beginning of the answers is written.
     Write,
-    /// A growth was refused. The answers of the lines before the one that wanted it are written.
+    /// Out of memory. The answers of the lines before the one that needed it are written.
     Memory,
-    /// A member's thread could not be started. The answers of the lines before the one that wanted it are written.
+    /// A member's thread could not be started. The answers of the lines before the one that needed it are written.
     Thread,
 }
 

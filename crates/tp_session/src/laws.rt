@@ -16,24 +16,27 @@ use tp_accept::laws::one_text_has_one_answer;
 
 /// What is served for an input is a function of the input, and of whether traces are written.
 pub fn one_input_has_one_answer()
-    ensures { (trace : Bool) (input output output' : List ℕ) → IsServed trace input output → IsServed trace input output' →
+    ensures { (trace : Bool) (input output output' : List ℕ) → IsServed trace input output →
+        IsServed trace input output' →
         output ≡ output' }
 {
     one_text_has_one_answer();
 }
 
-/// What is served is what the protocol alone says, whatever functions give the verdicts and the outcomes. These determine it.
-/// So a reader of the protocol needs neither the rules of the verifier nor those of the machine.
+/// What is served is what the protocol alone says, whatever functions give the verdicts and the outcomes. These
+/// determine it. So a reader of the protocol needs neither the rules of the verifier nor those of the machine.
 pub fn what_is_served_follows_the_protocol()
-    ensures follows { (verdict : List ℕ → Verdict) (outcome : ImageValue → List ℕ → Option RunResult) → AreRuled verdict outcome →
-        (trace : Bool) (input output : List ℕ) → IsServed trace input output → IsServedBy verdict outcome trace input output }
+    ensures follows { (verdict : List ℕ → Verdict) (outcome : ImageValue → List ℕ → Option RunResult) →
+        AreRuled verdict outcome →
+        (trace : Bool) (input output : List ℕ) → IsServed trace input output →
+        IsServedBy verdict outcome trace input output }
     ensures one { (verdict : List ℕ → Verdict) (outcome : ImageValue → List ℕ → Option RunResult)
         (trace : Bool) (input output output' : List ℕ) → IsServedBy verdict outcome trace input output →
         IsServedBy verdict outcome trace input output' → output ≡ output' }
 {}
 
-/// The headline, read off what is written: each result that is served is that of a run which ends within the budget that `YES`
-/// answered for its image, and no state on the run's way is stuck.
+/// The headline, read off what is written: each result that is served is that of a run which ends within the budget of
+/// its image's `YES`, and no state on the run's way is stuck.
 pub fn results_are_in_time()
     ensures { (trace : Bool) (input output : List ℕ) → IsServed trace input output →
         protocol.AreAnswered IsVerdict IsOutcomeInTime trace (lines_of input) output }

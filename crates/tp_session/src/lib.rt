@@ -1,7 +1,7 @@
 //! Lines in, answers out.
 //!
-//! A service reads an input line by line and writes an answer to each line. Lines open sessions, give them packets and run
-//! these on a farm. What is written for what is read is said in `specs/Served.antt`, line by line in
+//! A service reads an input line by line and writes an answer to each line. Lines open sessions, give them packets and
+//! run these on a farm. What is written for what is read is said in `specs/Served.antt`, line by line in
 //! `tp_answers/specs/Answers.antt`.
 #![tactic(auto)]
 

@@ -110,7 +110,8 @@ fn send<W: Write>(
     number: u64,
     answer: &Answer,
 ) -> Result<(), ServeFault>
-    ensures ok { OnOk result (Appends (W.contents writer.old) (W.contents writer.new) (answer_text trace number answer.now)) }
+    ensures ok { OnOk result (Appends (W.contents writer.old) (W.contents writer.new)
+        (answer_text trace number answer.now)) }
     ensures err { IfErr result (IsSentInPart (W.contents writer.old) (W.contents writer.new)
         (answer_text trace number answer.now)) }
 {
@@ -133,8 +134,10 @@ fn end_line<R: Threads + Wait + Sync, D: LinkDevice + Send, W: Write>(
     ensures ok { AtEachPoint D.state progress.old service.old (W.contents writer.old) (λ trace begun s.
         OnOk result
         (GoesOn D.state trace begun progress.new service.new (W.contents writer.new) (s.taken ++ 10 ∷ []))) }
-    ensures err { AtEachPoint D.state progress.old service.old (W.contents writer.old) (λ trace begun s. (input : List ℕ) →
-        Begins input (s.taken ++ 10 ∷ []) → IfErr result (Fails trace input (s.taken ++ 10 ∷ []) 1 begun (W.contents writer.new))) }
+    ensures err { AtEachPoint D.state progress.old service.old (W.contents writer.old)
+        (λ trace begun s. (input : List ℕ) →
+        Begins input (s.taken ++ 10 ∷ []) → IfErr result (Fails trace input (s.taken ++ 10 ∷ []) 1 begun
+        (W.contents writer.new))) }
     ensures members { OnOk result (AreAsMany service.old.links.items service.new.links.items) }
 {
     let answer = answer(service, rt, alloc, progress, true)?;
@@ -178,7 +181,8 @@ pub(crate) fn feed<R: Threads + Wait + Sync, D: LinkDevice + Send, W: Write>(
     ensures ok { AtEachPoint D.state progress.old service.old (W.contents writer.old) (λ trace begun s.
         OnOk result
         (GoesOn D.state trace begun progress.new service.new (W.contents writer.new) (s.taken ++ bytes.now))) }
-    ensures err { AtEachPoint D.state progress.old service.old (W.contents writer.old) (λ trace begun s. (input : List ℕ) →
+    ensures err { AtEachPoint D.state progress.old service.old (W.contents writer.old)
+        (λ trace begun s. (input : List ℕ) →
         Begins input (s.taken ++ bytes.now) →
         IfErr result (Fails trace input (s.taken ++ bytes.now) (length bytes.now) begun (W.contents writer.new))) }
     ensures members { OnOk result (AreAsMany service.old.links.items service.new.links.items) }

@@ -37,7 +37,7 @@ fn fault_of(fault: FarmFault) -> ServeFault
     }
 }
 
-/// Runs the packets of a job on the members, from a stream. The links come back, as many as there were.
+/// Runs the packets of a job on the members, from a stream. Returns as many links as there were.
 fn run_packets<R: Threads + Wait + Sync, D: LinkDevice + Send>(
     rt: &R,
     alloc: Global,
@@ -62,7 +62,7 @@ fn run_packets<R: Threads + Wait + Sync, D: LinkDevice + Send>(
     }
 }
 
-/// Runs the packets of a job on no more members than there are packets: the others rest. The links come back, as many as there
+/// Runs the packets of a job on no more members than there are packets: the others rest. Returns as many links as there
 /// were.
 fn run_on_enough<R: Threads + Wait + Sync, D: LinkDevice + Send>(
     rt: &R,
@@ -71,7 +71,8 @@ fn run_on_enough<R: Threads + Wait + Sync, D: LinkDevice + Send>(
     job: &Job<'_>,
 ) -> Result<Collected, ServeFault>
     requires members { HasMembers links.old.items }
-    requires begins { (members : ℕ) → 1 ≤ members → members ≤ most_members → job_fault members (value_of_job job.now) ≡ None }
+    requires begins { (members : ℕ) → 1 ≤ members → members ≤ most_members →
+        job_fault members (value_of_job job.now) ≡ None }
     ensures outcomes { AreFit D.state links.old.items → IfOk result (λ entries.
         AllZip (IsOutcome (value_of_job job.now).image) (value_of_job job.now).packets (map outcome_of entries)) }
     ensures members { OnOk result (AreAsMany links.old.items links.new.items) }

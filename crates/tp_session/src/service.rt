@@ -1,6 +1,7 @@
 //! The service: what is kept between two lines, and the answer to each.
 
-ghost use Rattle.std.specs.Prelude.{◌≡◌, ◌≤◌, ◌<◌, ◌+◌, ◌%◌, ◌^◌, [], Some, map, length, slice_get, slice_set, IfOk, IfErr, OnOk};
+ghost use Rattle.std.specs.Prelude.{◌≡◌, ◌≤◌, ◌<◌, ◌+◌, ◌%◌, ◌^◌, [], Some, map, length, slice_get, slice_set, IfOk};
+ghost use Rattle.std.specs.Prelude.{IfErr, OnOk};
 ghost use Rattle.tp_requests.specs.Requests.{asked};
 ghost use Rattle.tp_answers.specs.Sessions.{Session, named, with_changed, without_packets};
 ghost use Rattle.tp_answers.specs.Rules.{IsOutcome};

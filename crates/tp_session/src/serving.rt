@@ -20,8 +20,8 @@ const READ_SIZE: usize = 4096;
 /// Answers each line of an input, until the reader ends or fails.
 ///
 /// A line is the bytes up to a line feed; a carriage return just before it is dropped, and a rest at the end of the
-/// input that is not empty is a line. The answer to a line is built whole, then written and flushed. Where a growth or a
-/// thread is refused, or the reader or the writer fails, serving ends with that fault. It waits for its members while
+/// input that is not empty is a line. The answer to a line is built whole, then written and flushed. Where a growth or
+/// a thread is refused, or the reader or the writer fails, serving ends with that fault. It waits for its members while
 /// packets are run.
 pub fn serve<T: Threads + Wait + Sync, D: LinkDevice + Send, R: Read, W: Write>(
     rt: &T,
@@ -34,8 +34,10 @@ pub fn serve<T: Threads + Wait + Sync, D: LinkDevice + Send, R: Read, W: Write>(
         (R.remaining reader.old) (R.remaining reader.new) (W.contents writer.old) (W.contents writer.new)) }
     ensures read { AreFit D.state farm.links.items → result ≡ Err ServeFault.Read → ServesRead farm.trace
         (R.remaining reader.old) (R.remaining reader.new) (W.contents writer.old) (W.contents writer.new) }
-    ensures want { AreFit D.state farm.links.items → (result ≡ Err ServeFault.Memory) ⊎ (result ≡ Err ServeFault.Thread) →
-        ServesBefore farm.trace (R.remaining reader.old) (R.remaining reader.new) (W.contents writer.old) (W.contents writer.new) }
+    ensures want { AreFit D.state farm.links.items → (result ≡ Err ServeFault.Memory) ⊎ (result ≡ Err ServeFault.Thread)
+        →
+        ServesBefore farm.trace (R.remaining reader.old) (R.remaining reader.new) (W.contents writer.old)
+        (W.contents writer.new) }
     ensures write { AreFit D.state farm.links.items → result ≡ Err ServeFault.Write → ServesSome farm.trace
         (R.remaining reader.old) (W.contents writer.old) (W.contents writer.new) }
 {

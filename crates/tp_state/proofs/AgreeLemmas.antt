@@ -62,7 +62,8 @@ risen_cell p q p' q' v u h = by_ways (below_ways (cell_of p q v) (cell_of p' q' 
 pub risen : (values other_values : List ℕ) (planes others : List Bits) → IsWhole values planes → IsWhole other_values others → length other_values ≡ length values
     → ((i : ℕ) → IsTrue (cell_below (cell_at (seen values planes) i) (cell_at (seen other_values others) i)))
     → (i : ℕ) → i < 64 * length others → cell_in values others i ≡ cell_in other_values others i
-risen values other_values planes others h g long below i lt = cell_in-word values others i (i / 64) refl ∙ by_place (cases_lt i (length values)) ∙ sym (cell_in-word other_values others i (i / 64) refl)
+risen values other_values planes others h g long below i lt = cell_in-word values others i (i / 64) refl ∙
+    by_place (cases_lt i (length values)) ∙ sym (cell_in-word other_values others i (i / 64) refl)
   where
     mine : Bits
     mine = get_or planes (i / 64) no_bits
@@ -73,9 +74,12 @@ risen values other_values planes others h g long below i lt = cell_in-word value
     by_place : (i < length values) ⊎ (length values ≤ i) → bits_cell theirs (i % 64) (get_or values i 0) ≡ bits_cell theirs (i % 64) (get_or other_values i 0)
     by_place (inl inside) =
         let own : cell_at (seen values planes) i ≡ bits_cell mine (i % 64) (get_or values i 0) = cell_at-seen values planes i inside ∙ cell_in-word values planes i (i / 64) refl in
-        let their : cell_at (seen other_values others) i ≡ bits_cell theirs (i % 64) (get_or other_values i 0) = cell_at-seen other_values others i (omega (arith, inside, long)) ∙ cell_in-word other_values others i (i / 64) refl in
+        let their : cell_at (seen other_values others) i ≡ bits_cell theirs (i % 64) (get_or other_values i 0) =
+        cell_at-seen other_values others i (omega (arith, inside, long)) ∙
+        cell_in-word other_values others i (i / 64) refl in
         let here : IsTrue (cell_below (cell_at (seen values planes) i) (cell_at (seen other_values others) i)) = below i in
-        risen_cell (is_set mine.first (i % 64)) (is_set mine.second (i % 64)) (is_set theirs.first (i % 64)) (is_set theirs.second (i % 64)) (get_or values i 0) (get_or other_values i 0) (rw (own, their) at here)
+        risen_cell (is_set mine.first (i % 64)) (is_set mine.second (i % 64)) (is_set theirs.first (i % 64))
+        (is_set theirs.second (i % 64)) (get_or values i 0) (get_or other_values i 0) (rw (own, their) at here)
     by_place (inr past) =
         let undefined : bits_cell theirs (i % 64) (get_or other_values i 0) ≡ Undef = sym (cell_in-word other_values others i (i / 64) refl) ∙ g.padded i (omega (arith, past, long)) lt in
         undefined_bits (is_set theirs.first (i % 64)) (is_set theirs.second (i % 64)) (get_or other_values i 0) (get_or values i 0) undefined ∙ sym undefined
@@ -83,12 +87,17 @@ risen values other_values planes others h g long below i lt = cell_in-word value
 pub whole_risen : (values other_values : List ℕ) (planes others : List Bits) → IsWhole values planes → IsWhole other_values others → length other_values ≡ length values
     → ((i : ℕ) → IsTrue (cell_below (cell_at (seen values planes) i) (cell_at (seen other_values others) i)))
     → IsWhole values others
-whole_risen values other_values planes others h g long below = whole_after other_values values others others g (sym long) refl (λ i lt. inl (risen values other_values planes others h g long below i lt))
+whole_risen values other_values planes others h g long below =
+    whole_after other_values values others others g (sym long) refl
+    (λ i lt. inl (risen values other_values planes others h g long below i lt))
 
 pub seen_risen : (values other_values : List ℕ) (planes others : List Bits) → IsWhole values planes → IsWhole other_values others → length other_values ≡ length values
     → ((i : ℕ) → IsTrue (cell_below (cell_at (seen values planes) i) (cell_at (seen other_values others) i)))
     → seen values others ≡ seen other_values others
-seen_risen values other_values planes others h g long below = seen_is values others (seen other_values others) (sym (length_seen other_values others ∙ long)) (λ i lt. risen values other_values planes others h g long below i (omega (arith, lt, long, g.enough)) ∙ sym (cell_at-seen other_values others i (omega (arith, lt, long))))
+seen_risen values other_values planes others h g long below =
+    seen_is values others (seen other_values others) (sym (length_seen other_values others ∙ long))
+    (λ i lt. risen values other_values planes others h g long below i (omega (arith, lt, long, g.enough)) ∙
+    sym (cell_at-seen other_values others i (omega (arith, lt, long))))
 
 -- ---- planes that are joined
 
@@ -137,14 +146,24 @@ tells_agreeing values other_values old others mid w agree room still p here clea
     valued' = ap has_value theirs ∙ value_open (is_set (get_or others w no_bits).second (p % 64)) (get_or other_values p 0)
 
     alike : get_or values p 0 ≡ get_or other_values p 0
-    alike = values_alike (is_set (get_or mid w no_bits).second (p % 64)) (is_set (get_or others w no_bits).second (p % 64)) (get_or values p 0) (get_or other_values p 0) (agree.words p) (agree.other_words p) (sym mine ∙ agree.alike p (omega (arith, here, room)) valued valued' ∙ theirs)
+    alike = values_alike (is_set (get_or mid w no_bits).second (p % 64))
+        (is_set (get_or others w no_bits).second (p % 64)) (get_or values p 0) (get_or other_values p 0) (agree.words p)
+        (agree.other_words p) (sym mine ∙ agree.alike p (omega (arith, here, room)) valued valued' ∙ theirs)
 
 pub agree_seen : (values other_values : List ℕ) (planes others : List Bits) → IsWhole values planes → length other_values ≡ length values → AreWords values → AreWords other_values
     → ((i : ℕ) → has_value (cell_at (seen values planes) i) ≡ true → has_value (cell_at (seen other_values others) i) ≡ true → cell_at (seen values planes) i ≡ cell_at (seen other_values others) i)
     → Agree values other_values planes others
-agree_seen values other_values planes others h long words other_words same = record { words = words; other_words = other_words; alike = λ i lt valued valued'. at i lt valued valued' (cases_lt i (length values)) }
+agree_seen values other_values planes others h long words other_words same =
+    record {
+      words = words;
+      other_words = other_words;
+      alike = λ i lt valued valued'. at i lt valued valued'
+          (cases_lt i (length values));
+    }
   where
-    at : (i : ℕ) → i < 64 * length planes → has_value (cell_in values planes i) ≡ true → has_value (cell_in other_values others i) ≡ true → (i < length values) ⊎ (length values ≤ i) → cell_in values planes i ≡ cell_in other_values others i
+    at : (i : ℕ) → i < 64 * length planes → has_value (cell_in values planes i) ≡ true →
+        has_value (cell_in other_values others i) ≡ true → (i < length values) ⊎ (length values ≤ i) →
+        cell_in values planes i ≡ cell_in other_values others i
     at i lt valued valued' (inl inside) =
         let mine : cell_at (seen values planes) i ≡ cell_in values planes i = cell_at-seen values planes i inside in
         let theirs : cell_at (seen other_values others) i ≡ cell_in other_values others i = cell_at-seen other_values others i (omega (arith, inside, long)) in

@@ -1,5 +1,7 @@
 -- Cells that are replaced, one by one.
-use Rattle.std.proofs.Common.{◌≡◌, IsTrue, ℕ, ◌+◌, ◌-◌, ◌<◌, ◌≤◌, ◌⊎◌, inl, inr, List, [], length, drop, map, slice_set, min, length-set, length-drop, append-nil, get_or-set_same, get_or-set_other, refl, sym, ap, ◌∙◌, arith}
+use Rattle.std.proofs.Common.{◌≡◌, IsTrue, ℕ, ◌+◌, ◌-◌, ◌<◌, ◌≤◌, ◌⊎◌, inl, inr, List, [], length, drop, map, slice_set}
+use Rattle.std.proofs.Common.{min, length-set, length-drop, append-nil, get_or-set_same, get_or-set_other, refl, sym}
+use Rattle.std.proofs.Common.{ap, ◌∙◌, arith}
 use Rattle.std.proofs.lemmas.Bool.{cases_lt, cases_eq}
 use Rattle.std.proofs.lemmas.List.{places, ext_get_or, get_or-map, length-map, take_all}
 use Rattle.std.proofs.Math.ListN.{drop_of_length-le}
@@ -14,11 +16,13 @@ pub length-with_cells : (cells : List Cell) (x : ℕ) (these : List Cell) → x 
 unfolding with_cells
 length-with_cells cells x these room = grind (arith, places)
 
-pub cell_at-with_cells_in : (cells : List Cell) (x : ℕ) (these : List Cell) (i : ℕ) → x + length these ≤ length cells → x ≤ i → i < x + length these → cell_at (with_cells cells x these) i ≡ cell_at these (i - x)
+pub cell_at-with_cells_in : (cells : List Cell) (x : ℕ) (these : List Cell) (i : ℕ) → x + length these ≤ length cells →
+    x ≤ i → i < x + length these → cell_at (with_cells cells x these) i ≡ cell_at these (i - x)
 unfolding with_cells
 cell_at-with_cells_in cells x these i room low high = grind (arith, places)
 
-pub cell_at-with_cells_out : (cells : List Cell) (x : ℕ) (these : List Cell) (i : ℕ) → x + length these ≤ length cells → (i < x) ⊎ (x + length these ≤ i) → cell_at (with_cells cells x these) i ≡ cell_at cells i
+pub cell_at-with_cells_out : (cells : List Cell) (x : ℕ) (these : List Cell) (i : ℕ) → x + length these ≤ length cells →
+    (i < x) ⊎ (x + length these ≤ i) → cell_at (with_cells cells x these) i ≡ cell_at cells i
 unfolding with_cells
 cell_at-with_cells_out cells x these i room (inl below) = grind (arith, places)
 cell_at-with_cells_out cells x these i room (inr above) = grind (arith, places)
@@ -40,7 +44,8 @@ pub record ChangesFrom (old new : List Cell) (f : Cell → Cell) (x y n : ℕ) :
 pub changes_none : (old : List Cell) (f : Cell → Cell) (x y : ℕ) → ChangesFrom old old f x y 0
 changes_none old f x y = record { long = refl; inside = λ i lt. absurd (omega (arith, lt)); outside = λ i out. refl }
 
-pub changes_one : (old new : List Cell) (f : Cell → Cell) (x y n : ℕ) (c : Cell) → ChangesFrom old new f x y n → x + n < length old → c ≡ f (cell_at old (y + n)) → ChangesFrom old (slice_set new (x + n) c) f x y (n + 1)
+pub changes_one : (old new : List Cell) (f : Cell → Cell) (x y n : ℕ) (c : Cell) → ChangesFrom old new f x y n →
+    x + n < length old → c ≡ f (cell_at old (y + n)) → ChangesFrom old (slice_set new (x + n) c) f x y (n + 1)
 changes_one old new f x y n c h room is = record {
   long = length-set new (x + n) c ∙ h.long;
   inside = λ i lt. inside i lt (cases_eq i n);
@@ -110,10 +115,15 @@ none_left cells x n none =
     let more : drop (x + 0) cells ≡ [] = drop_of_length-le cells (omega (arith, none)) in
     rw (nothing, take-nil n, more, take_all x cells none) (append-nil cells)
 
-pub blurred_part : (cells : List Cell) (x n : ℕ) → with_cells cells (min x (length cells)) (map blurred (cells_from cells (min x (length cells)) (min n (length cells - min x (length cells))))) ≡ with_cells cells x (map blurred (cells_from cells x n))
+pub blurred_part : (cells : List Cell) (x n : ℕ) → with_cells cells (min x (length cells))
+    (map blurred (cells_from cells (min x (length cells)) (min n (length cells - min x (length cells))))) ≡ with_cells
+    cells x (map blurred (cells_from cells x n))
 blurred_part cells x n = by_place (cases_lt x (length cells)) (cases_lt (length cells) (x + n))
   where
-    by_place : (x < length cells) ⊎ (length cells ≤ x) → (length cells < x + n) ⊎ (x + n ≤ length cells) → with_cells cells (min x (length cells)) (map blurred (cells_from cells (min x (length cells)) (min n (length cells - min x (length cells))))) ≡ with_cells cells x (map blurred (cells_from cells x n))
+    by_place : (x < length cells) ⊎ (length cells ≤ x) → (length cells < x + n) ⊎ (x + n ≤ length cells) →
+        with_cells cells (min x (length cells)) (map blurred
+        (cells_from cells (min x (length cells)) (min n (length cells - min x (length cells))))) ≡ with_cells cells x
+        (map blurred (cells_from cells x n))
     by_place _ (inr all) =
         let at : min x (length cells) ≡ x = omega (arith, all) in
         let so_many : min n (length cells - x) ≡ n = omega (arith, all) in

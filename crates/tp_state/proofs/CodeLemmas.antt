@@ -1,5 +1,7 @@
 -- An instruction of a cutting as it stands in the code.
-use Rattle.std.proofs.Common.{◌≡◌, ℕ, ◌+◌, ◌-◌, ◌*◌, ◌%◌, ◌^◌, ◌<◌, ◌≤◌, Bool, true, false, nat_eq, nat_lt, if◌then◌else◌, ℤ, pos, List, [], ◌∷◌, ◌++◌, length, take, drop, Option, Some, None, refl, sym, ap, ◌∙◌, subst, arith, append_assoc, length-append}
+use Rattle.std.proofs.Common.{◌≡◌, ℕ, ◌+◌, ◌-◌, ◌*◌, ◌%◌, ◌^◌, ◌<◌, ◌≤◌, Bool, true, false, nat_eq, nat_lt}
+use Rattle.std.proofs.Common.{if◌then◌else◌, ℤ, pos, List, [], ◌∷◌, ◌++◌, length, take, drop, Option, Some, None, refl}
+use Rattle.std.proofs.Common.{sym, ap, ◌∙◌, subst, arith, append_assoc, length-append}
 use Rattle.std.proofs.lemmas.Int.{ints}
 use Rattle.std.proofs.lemmas.Bool.Decides.{nat_tests, Decides-eqb}
 use Rattle.std.proofs.lemmas.List.{take_at, drop_at}
@@ -54,7 +56,8 @@ pub stands : (code : List ℕ) (cuts : List Cut) (at : ℕ) (cut : Cut) → IsCu
 stands code cuts at cut cutting here =
     let l = lies cuts at cut cutting.each here in
     let code_is : code ≡ l.front ++ (cut.bytes ++ l.rest) = sym cutting.joined ∙ l.joined in
-    let long : length code ≡ length l.front + (length cut.bytes + length l.rest) = ap length code_is ∙ length-append l.front (cut.bytes ++ l.rest) ∙ ap (λ n. length l.front + n) (length-append cut.bytes l.rest) in
+    let long : length code ≡ length l.front + (length cut.bytes + length l.rest) = ap length code_is ∙
+    length-append l.front (cut.bytes ++ l.rest) ∙ ap (λ n. length l.front + n) (length-append cut.bytes l.rest) in
     let bytes_are : take (at + length cut.bytes - at) (drop at code) ≡ cut.bytes =
     ap (λ c. take (at + length cut.bytes - at) (drop at c)) code_is
     ∙ ap (λ n. take (n + length cut.bytes - n) (drop n (l.front ++ (cut.bytes ++ l.rest)))) (sym l.place)
@@ -92,7 +95,8 @@ operand_small (b ∷ c ∷ rest) o f n lt even e =
     by_test (λ o. operand_small (c ∷ rest) o f n) (is_pfix b) (is_nfix b) e
   where
     by_test : ((o : ℕ) → o < 2 ^ 32 → o % 16 ≡ 0 → spelled o (c ∷ rest) ≡ Some (f, n) → overflows n ≡ false) → (p q : Bool)
-        → ◌≡◌ {A = Option (ℕ × ℤ)} (if p then spelled (shifted (o + digit_of b)) (c ∷ rest) else if q then spelled (shifted_complement (o + digit_of b)) (c ∷ rest) else None) (Some (f, n)) → overflows n ≡ false
+        → ◌≡◌ {A = Option (ℕ × ℤ)} (if p then spelled (shifted (o + digit_of b)) (c ∷ rest) else if q then spelled
+        (shifted_complement (o + digit_of b)) (c ∷ rest) else None) (Some (f, n)) → overflows n ≡ false
     by_test go true q e = go (shifted (o + digit_of b)) (shifted_lt (o + digit_of b)) (shifted_even (o + digit_of b)) e
     by_test go false true e = go (shifted_complement (o + digit_of b)) (shifted_lt (complement (o + digit_of b))) (shifted_even (complement (o + digit_of b))) e
     by_test go false false e = cc

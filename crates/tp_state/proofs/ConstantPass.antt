@@ -46,7 +46,8 @@ module _ (image : ImageValue) (small : image.workspace ≤ 512) (around : ℕ �
   pub mint_makes : rule image at next Mint e t ≡ Ok t' → Makes image around None next Mint t' s
   unfolding rule effect
   mint_makes ok =
-      registers_made image around next t s f Mint t' (exactly least_integer) t.a t.b (Some (low_word least_integer)) s.areg s.breg s.error refl ok (constant_fits image least_integer refl) f.registers.a f.registers.b
+      registers_made image around next t s f Mint t' (exactly least_integer) t.a t.b (Some (low_word least_integer))
+      s.areg s.breg s.error refl ok (constant_fits image least_integer refl) f.registers.a f.registers.b
 
   pub ldlp_makes : (n : ℤ) → rule image at next (Ldlp n) e t ≡ Ok t' → Makes image around None next (Ldlp n) t' s
   unfolding rule effect
@@ -76,7 +77,9 @@ module _ (image : ImageValue) (small : image.workspace ≤ 512) (around : ℕ �
       known_is image t.a k s.areg small k_is f.registers.a λ v v_is word same.
       let fits : KindFits image k (Some v) = subst (λ u. KindFits image u (Some v)) same (subst (KindFits image t.a) v_is f.registers.a) in
       words_made image around next t s f (Stl n) t' (slice_set t.cells x (written k)) (with_word s.memory (word_address x) v) t.b t.c kind.Undef s.breg s.creg None
-      (stored_there machine_pop (λ a. store image (machine_local s n) a s) s.areg v (record s { memory = with_word s.memory (word_address x) v }) v_is (store_there image s (machine_local s n) x v address lt)) ok
+      (stored_there machine_pop (λ a. store image (machine_local s n) a s) s.areg v
+      (record s { memory = with_word s.memory (word_address x) v }) v_is
+      (store_there image s (machine_local s n) x v address lt)) ok
       (word_taken image.loops image.workspace t.cells s.memory x (written k) v word (omega (arith, f.words.sized)) free (written_free k) (written_fits image k v word fits))
       (word_small s.memory (word_address x) v f.bytes.memory) f.registers.b f.registers.c tt
 

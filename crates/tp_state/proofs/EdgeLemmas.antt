@@ -1,5 +1,7 @@
 -- Where an instruction's effect leaves Iptr.
-use Rattle.std.proofs.Common.{◌≡◌, ℕ, Bool, true, false, ◌⊎◌, inl, inr, ◌^◌, ◌==◌, nat_lt, int_lt, if◌then◌else◌, ℤ, pos, negsuc, ◌+ℤ◌, ◌-ℤ◌, List, [], ◌∷◌, Option, Some, None, IsSome, refl, sym, ap, ◌∙◌, subst, arith}
+use Rattle.std.proofs.Common.{◌≡◌, ℕ, Bool, true, false, ◌⊎◌, inl, inr, ◌^◌, ◌==◌, nat_lt, int_lt, if◌then◌else◌, ℤ}
+use Rattle.std.proofs.Common.{pos, negsuc, ◌+ℤ◌, ◌-ℤ◌, List, [], ◌∷◌, Option, Some, None, IsSome, refl, sym, ap, ◌∙◌}
+use Rattle.std.proofs.Common.{subst, arith}
 use Rattle.std.specs.Prelude.{option_and_then}
 use Rattle.std.specs.Option.{option_map}
 use Rattle.std.specs.List.{list_any}
@@ -7,7 +9,11 @@ use Rattle.std.proofs.lemmas.Option.{same_Some}
 use Rattle.std.proofs.lemmas.Int.{ints}
 use Rattle.tp_decode.specs.Words.{signed, low_word}
 use Rattle.tp_decode.specs.declared.instr.Instr.{Instr}
-use Rattle.tp_decode.specs.declared.instr.Instr.TheVariants.{Jump, Ldlp, Ldnl, Ldc, Ldnlp, Ldl, Adc, Cj, Ajw, Eqc, Stl, Stnl, Rev, Lb, Bsub, Diff, Add, Input, Prod, Gt, Wsub, Output, Sub, Seterr, Csub0, Stopp, Rem, Lend, Div, BitNot, BitXor, Sb, Shr, Shl, Mint, BitAnd, MoveBytes, BitOr, Sum, Mul}
+use Rattle.tp_decode.specs.declared.instr.Instr.TheVariants.{Jump, Ldlp, Ldnl, Ldc, Ldnlp, Ldl, Adc, Cj, Ajw, Eqc, Stl}
+use Rattle.tp_decode.specs.declared.instr.Instr.TheVariants.{Stnl, Rev, Lb, Bsub, Diff, Add, Input, Prod, Gt, Wsub}
+use Rattle.tp_decode.specs.declared.instr.Instr.TheVariants.{Output, Sub, Seterr, Csub0, Stopp, Rem, Lend, Div, BitNot}
+use Rattle.tp_decode.specs.declared.instr.Instr.TheVariants.{BitXor, Sb, Shr, Shl, Mint, BitAnd, MoveBytes, BitOr, Sum}
+use Rattle.tp_decode.specs.declared.instr.Instr.TheVariants.{Mul}
 use Rattle.tp_image.specs.Image.{ImageValue}
 use Rattle.tp_flow.specs.declared.edge.Edge.TheVariants.{Next, Taken, Back, Out}
 use Rattle.tp_flow.specs.NestRanges.{ranges}
@@ -163,7 +169,8 @@ lend_goes image s t is =
     bind (Turned s) s.breg _ λ block.
     bind (Turned s) (load image s block) _ λ index.
     bind (Turned s) (load image s (words_on block (pos 1))) _ λ count.
-    chain (Turned s) (HasIptr s.iptr) (store image (words_on block (pos 1)) (low_word (signed count -ℤ pos 1)) s) _ (store_stays s.iptr image (words_on block (pos 1)) (low_word (signed count -ℤ pos 1)) s refl) λ s' here.
+    chain (Turned s) (HasIptr s.iptr) (store image (words_on block (pos 1)) (low_word (signed count -ℤ pos 1)) s) _
+    (store_stays s.iptr image (words_on block (pos 1)) (low_word (signed count -ℤ pos 1)) s refl) λ s' here.
     turn_goes image block index (low_word (signed count -ℤ pos 1)) a s s' a_is here)
 
 -- a stopp stops
@@ -178,7 +185,9 @@ true_false : {P : Type 0} → ◌≡◌ {A = Bool} true false → P
 true_false e = cc
 
 module _ (image : ImageValue) (at next : ℕ) (s t : State) (here : s.iptr ≡ pos next) where
-  by_jump : (n : ℤ) (instr : Instr) → KeepsAround image.loops image.workspace at next instr → has_edge instr Taken ≡ true → goes_to (ranges image.loops) at next instr Taken ≡ jump_target next n → t.iptr ≡ s.iptr +ℤ n → IsAlongAnEdge (ranges image.loops) at next instr t
+  by_jump : (n : ℤ) (instr : Instr) → KeepsAround image.loops image.workspace at next instr →
+      has_edge instr Taken ≡ true → goes_to (ranges image.loops) at next instr Taken ≡ jump_target next n →
+      t.iptr ≡ s.iptr +ℤ n → IsAlongAnEdge (ranges image.loops) at next instr t
   by_jump n instr kept has same there =
       let to = some_is (target (ranges image.loops) at next instr Taken) (kept.targets Taken has) in
       let goes : jump_target next n ≡ Some to.0 = sym same ∙ sym (ap (λ b. if b then goes_to (ranges image.loops) at next instr Taken else None) has) ∙ to.1 in
@@ -204,7 +213,9 @@ module _ (image : ImageValue) (at next : ℕ) (s t : State) (here : s.iptr ≡ p
     stands = after_is (HasIptr s.iptr) (effect image instr s) t is (effect_stays s.iptr image instr s only refl) ∙ here;
   }
 
-  pub goes_along : (instr : Instr) → KeepsAround image.loops image.workspace at next instr → KnowsItsHead (ranges image.loops) at next instr s → effect image instr s ≡ Some t → t.stopped ≡ false → IsAlongAnEdge (ranges image.loops) at next instr t
+  pub goes_along : (instr : Instr) → KeepsAround image.loops image.workspace at next instr →
+      KnowsItsHead (ranges image.loops) at next instr s → effect image instr s ≡ Some t → t.stopped ≡ false →
+      IsAlongAnEdge (ranges image.loops) at next instr t
   goes_along (Jump n) kept knows is on = by_jump n (Jump n) kept refl refl (jump_goes image n s t is)
   goes_along (Cj n) kept knows is on = by_cj n kept (cj_goes image n s t is)
   goes_along Lend kept knows is on = by_lend kept knows (lend_goes image s t is)

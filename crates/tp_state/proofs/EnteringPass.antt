@@ -1,5 +1,6 @@
 -- What entering a loop makes of a state that fits, whatever the instruction.
-use Rattle.std.proofs.Common.{◌≡◌, ℕ, ◌+◌, ◌<◌, ◌^◌, Bool, true, ◌&&◌, ℤ, pos, ◌+ℤ◌, ◌≤ℤ◌, List, length, length-set, slice_set, slice_get, Option, Some, None, Result, Ok, refl, sym, ap, ◌∙◌, subst, arith}
+use Rattle.std.proofs.Common.{◌≡◌, ℕ, ◌+◌, ◌<◌, ◌^◌, Bool, true, ◌&&◌, ℤ, pos, ◌+ℤ◌, ◌≤ℤ◌, List, length, length-set}
+use Rattle.std.proofs.Common.{slice_set, slice_get, Option, Some, None, Result, Ok, refl, sym, ap, ◌∙◌, subst, arith}
 use Rattle.std.specs.Prelude.{unwrap_or}
 use Rattle.std.proofs.lemmas.Int.{ints}
 use Rattle.std.proofs.lemmas.Bool.{and_parts}
@@ -60,7 +61,8 @@ pub record Enters (image : ImageValue) (around : ℕ → Bool) (at : ℕ) (o : O
   pub fits : FitsAmong image (along_with o around) at t' s
   pub turns : HasAllTurns image o s
 
-pub entered : (image : ImageValue) (around : ℕ → Bool) (at : ℕ) (o : Option ℕ) (t t' : State) (s : Machine) → HasGoodLoops image → FitsAmong image around at t s → entering image.loops o t ≡ Ok t' → Enters image around at o t' s
+pub entered : (image : ImageValue) (around : ℕ → Bool) (at : ℕ) (o : Option ℕ) (t t' : State) (s : Machine) →
+    HasGoodLoops image → FitsAmong image around at t s → entering image.loops o t ≡ Ok t' → Enters image around at o t' s
 unfolding entering
 entered image around at None t t' s good f ok = record { fits = subst (λ u. FitsAmong image around at u s) (same_Ok _ _ ok) f; turns = λ l row is row_is. cc }
 entered image around at (Some l) t t' s good f ok =
@@ -68,7 +70,11 @@ entered image around at (Some l) t t' s good f ok =
     held S5 (is_known row.start (cell_at t.cells row.control) && is_known (pos row.count) (cell_at t.cells (row.control + 1))) _ t' ok λ tests ok.
     by_row row (found_is S5 _ row is_found) (and_parts (is_known row.start (cell_at t.cells row.control)) (is_known (pos row.count) (cell_at t.cells (row.control + 1))) tests) ok
   where
-    by_row : (row : LoopRow) → slice_get image.loops l ≡ Some row → (is_known row.start (cell_at t.cells row.control) ≡ true) × (is_known (pos row.count) (cell_at t.cells (row.control + 1)) ≡ true) → ◌≡◌ {A = Result State StateCode} (Ok (with_block row (cell.Index l) (cell.Count l) t)) (Ok t') → Enters image around at (Some l) t' s
+    by_row : (row : LoopRow) → slice_get image.loops l ≡ Some row →
+        (is_known row.start (cell_at t.cells row.control) ≡ true) ×
+        (is_known (pos row.count) (cell_at t.cells (row.control + 1)) ≡ true) →
+        ◌≡◌ {A = Result State StateCode} (Ok (with_block row (cell.Index l) (cell.Count l) t)) (Ok t') →
+        Enters image around at (Some l) t' s
     by_row row row_is tests ok =
         let g = good_row image l row good row_is in
         let block = g.block in
@@ -107,7 +113,9 @@ entered image around at (Some l) t t' s good f ok =
           turns = all_turns row row_is count second.is second.word count_at;
         }
       where
-        all_turns : (row : LoopRow) → slice_get image.loops l ≡ Some row → (count : ℕ) → word_at s.memory (word_address (row.control + 1)) ≡ Some count → count < 2 ^ 32 → signed count ≡ pos row.count → HasAllTurns image (Some l) s
+        all_turns : (row : LoopRow) → slice_get image.loops l ≡ Some row → (count : ℕ) →
+            word_at s.memory (word_address (row.control + 1)) ≡ Some count → count < 2 ^ 32 →
+            signed count ≡ pos row.count → HasAllTurns image (Some l) s
         all_turns row row_is count is word at_count k other k_is other_is =
             let same_number : l ≡ k = cc in
             let same_row : other ≡ row = same_of (ap (slice_get image.loops) same_number ∙ other_is) row_is in

@@ -1,5 +1,8 @@
 -- The start of a run fits the first state.
-use Rattle.std.proofs.Common.{◌≡◌, ◌⊎◌, inl, inr, ℕ, ◌+◌, ◌-◌, ◌*◌, zero, suc, ◌/◌, ◌%◌, ◌<◌, ◌≤◌, ◌^◌, Bool, true, false, pos, List, length, map, replicate, slice_index_or, Option, Some, None, All, refl, sym, [], ◌∷◌, nat_le, nat_lt, ◌&&◌, if◌then◌else◌, get_or, ap, ◌∙◌, subst, arith, length-append}
+use Rattle.std.proofs.Common.{◌≡◌, ◌⊎◌, inl, inr, ℕ, ◌+◌, ◌-◌, ◌*◌, zero, suc, ◌/◌, ◌%◌, ◌<◌, ◌≤◌, ◌^◌, Bool, true}
+use Rattle.std.proofs.Common.{false, pos, List, length, map, replicate, slice_index_or, Option, Some, None, All, refl}
+use Rattle.std.proofs.Common.{sym, [], ◌∷◌, nat_le, nat_lt, ◌&&◌, if◌then◌else◌, get_or, ap, ◌∙◌, subst, arith}
+use Rattle.std.proofs.Common.{length-append}
 use Rattle.std.proofs.lemmas.Int.{ints}
 use Rattle.std.proofs.lemmas.Bool.{cases_lt}
 use Rattle.std.proofs.lemmas.Option.{same_Some}
@@ -131,7 +134,8 @@ free_first image fits x = by_place (cases_lt x image.workspace)
     by_place (inl lt) = ap is_free (first_cell image fits x lt)
     by_place (inr past) = ap is_free (get_or_past (first_cells image) x Undef (omega (arith, length-first_cells image fits, past)))
 
-pub start_fits : (image : ImageValue) (packet : List ℕ) → InRange image → 4 * image.packet ≤ length packet → All (λ byte. byte < 256) packet → IsOutside (ranges image.loops) 0 → Fits image 0 (entry image) (start image packet)
+pub start_fits : (image : ImageValue) (packet : List ℕ) → InRange image → 4 * image.packet ≤ length packet →
+    All (λ byte. byte < 256) packet → IsOutside (ranges image.loops) 0 → Fits image 0 (entry image) (start image packet)
 unfolding start
 start_fits image packet range long small outside =
     let fits = few image.version (length image.initial) image.workspace range.initial in

@@ -71,7 +71,9 @@ free_above c d h live = by_ways (below_ways c d h)
     by_ways (inr (inl (undef, free))) = absurd (cc)
     by_ways (inr (inr (any, known))) = absurd (cc)
 
-loops_fit_above : (rows : List LoopRow) (around : ℕ → Bool) (cells cells' : List Cell) (m : Memory) → ((i : ℕ) → IsTrue (cell_below (cell_at cells i) (cell_at cells' i))) → LoopsFit rows around cells m → LoopsFit rows around cells' m
+loops_fit_above : (rows : List LoopRow) (around : ℕ → Bool) (cells cells' : List Cell) (m : Memory) →
+    ((i : ℕ) → IsTrue (cell_below (cell_at cells i) (cell_at cells' i))) → LoopsFit rows around cells m →
+    LoopsFit rows around cells' m
 loops_fit_above rows around cells cells' m below f = record {
   live = λ l row is row_is.
       let b = f.live l row is row_is in

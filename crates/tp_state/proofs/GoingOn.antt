@@ -1,5 +1,7 @@
 -- A machine whose state fits goes on by its instruction: the instruction's own rule, then entering.
-use Rattle.std.proofs.Common.{◌≡◌, ◌⊎◌, inl, inr, ℕ, suc, ◌+◌, ◌-◌, ◌<◌, ◌≤◌, Bool, true, false, ◌&&◌, not, ◌==◌, nat_lt, if◌then◌else◌, ℤ, pos, ◌+ℤ◌, List, [], ◌∷◌, length, slice_get, All, Option, Some, None, Result, Ok, Err, refl, sym, ap, ◌∙◌, subst, arith}
+use Rattle.std.proofs.Common.{◌≡◌, ◌⊎◌, inl, inr, ℕ, suc, ◌+◌, ◌-◌, ◌<◌, ◌≤◌, Bool, true, false, ◌&&◌, not, ◌==◌}
+use Rattle.std.proofs.Common.{nat_lt, if◌then◌else◌, ℤ, pos, ◌+ℤ◌, List, [], ◌∷◌, length, slice_get, All, Option, Some}
+use Rattle.std.proofs.Common.{None, Result, Ok, Err, refl, sym, ap, ◌∙◌, subst, arith}
 use Rattle.std.specs.Prelude.{IsOk, Contains}
 use Rattle.std.specs.Option.{option_and_then}
 use Rattle.std.proofs.lemmas.Bool.{and_parts, or_cases, not-true, false_from_ne_true, cases_eq}
@@ -7,7 +9,11 @@ use Rattle.std.proofs.lemmas.Bool.Decides.{Decides-eqb}
 use Rattle.std.proofs.lemmas.Option.{same_Some, slice_get-get_or}
 use Rattle.tp_decode.specs.Cutting.{Cut, cut_at, IsCutting}
 use Rattle.tp_decode.specs.declared.instr.Instr.{Instr}
-use Rattle.tp_decode.specs.declared.instr.Instr.TheVariants.{Jump, Ldlp, Ldnl, Ldc, Ldnlp, Ldl, Adc, Cj, Ajw, Eqc, Stl, Stnl, Rev, Lb, Bsub, Diff, Add, Input, Prod, Gt, Wsub, Output, Sub, Seterr, Csub0, Stopp, Rem, Lend, Div, BitNot, BitXor, Sb, Shr, Shl, Mint, BitAnd, MoveBytes, BitOr, Sum, Mul}
+use Rattle.tp_decode.specs.declared.instr.Instr.TheVariants.{Jump, Ldlp, Ldnl, Ldc, Ldnlp, Ldl, Adc, Cj, Ajw, Eqc, Stl}
+use Rattle.tp_decode.specs.declared.instr.Instr.TheVariants.{Stnl, Rev, Lb, Bsub, Diff, Add, Input, Prod, Gt, Wsub}
+use Rattle.tp_decode.specs.declared.instr.Instr.TheVariants.{Output, Sub, Seterr, Csub0, Stopp, Rem, Lend, Div, BitNot}
+use Rattle.tp_decode.specs.declared.instr.Instr.TheVariants.{BitXor, Sb, Shr, Shl, Mint, BitAnd, MoveBytes, BitOr, Sum}
+use Rattle.tp_decode.specs.declared.instr.Instr.TheVariants.{Mul}
 use Rattle.tp_decode.specs.Table.{entry}
 use Rattle.tp_image.specs.declared.image.LoopRow.{LoopRow}
 use Rattle.tp_image.specs.declared.image.Version.{Version}
@@ -42,7 +48,9 @@ use Rattle.tp_state.proofs.LoopsPart.{loops_alike}
 use Rattle.tp_state.proofs.RestLemmas.{fits_at}
 use Rattle.tp_state.proofs.Makes.{Makes, KeepsTurns, one_less}
 use Rattle.tp_state.proofs.ConstantPass.{ldc_makes, mint_makes, ldlp_makes, ldl_makes, stl_makes, ajw_makes, rev_makes, seterr_makes}
-use Rattle.tp_state.proofs.NumberPass.{adc_makes, eqc_makes, add_makes, sub_makes, sum_makes, diff_makes, gt_makes, mul_makes, prod_makes, div_makes, rem_makes, not_makes, and_makes, or_makes, xor_makes, csub0_makes, shr_makes, shl_makes}
+use Rattle.tp_state.proofs.NumberPass.{adc_makes, eqc_makes, add_makes, sub_makes, sum_makes, diff_makes, gt_makes}
+use Rattle.tp_state.proofs.NumberPass.{mul_makes, prod_makes, div_makes, rem_makes, not_makes, and_makes, or_makes}
+use Rattle.tp_state.proofs.NumberPass.{xor_makes, csub0_makes, shr_makes, shl_makes}
 use Rattle.tp_state.proofs.PointerPass.{ldnlp_makes, wsub_makes, bsub_makes, ldnl_makes, lb_makes, sb_makes, stnl_makes}
 use Rattle.tp_state.proofs.JumpPass.{jump_makes, cj_looks, cj_stays, cj_goes, stopp_stops}
 use Rattle.tp_state.proofs.MessagePass.{input_makes, output_makes}
@@ -106,20 +114,26 @@ module _ (image : ImageValue) (at : ℕ) (edge : Edge) (to : ℕ) (m m' : Memory
       is : slice_get image.loops l ≡ Some row
       is = (numbered image.loops row among).1
 
-      stays : (l : ℕ) (row : LoopRow) → slice_get image.loops l ≡ Some row → without (left_by (ranges image.loops) at edge) (is_around (ranges image.loops) at) l ≡ true → contains (range_of row) at ≡ true
+      stays : (l : ℕ) (row : LoopRow) → slice_get image.loops l ≡ Some row →
+          without (left_by (ranges image.loops) at edge) (is_around (ranges image.loops) at) l ≡ true →
+          contains (range_of row) at ≡ true
       stays l row is around = sym (around_is image.loops at l row is) ∙ was_around (left_by (ranges image.loops) at edge) around
         where
           was_around : (o : Option ℕ) → without o (is_around (ranges image.loops) at) l ≡ true → is_around (ranges image.loops) at l ≡ true
           was_around None e = e
           was_around (Some k) e = (and_parts (is_around (ranges image.loops) at l) (not (l == k)) e).0
 
-      by_number : (l : ℕ) (row : LoopRow) → slice_get image.loops l ≡ Some row → along_with (entered_by (ranges image.loops) at to) (without (left_by (ranges image.loops) at edge) (is_around (ranges image.loops) at)) l ≡ true → turns_in m' row ≡ turns_after at edge row (turns_in m row)
+      by_number : (l : ℕ) (row : LoopRow) → slice_get image.loops l ≡ Some row →
+          along_with (entered_by (ranges image.loops) at to) (without (left_by (ranges image.loops) at edge)
+          (is_around (ranges image.loops) at)) l ≡ true → turns_in m' row ≡ turns_after at edge row (turns_in m row)
       by_number l row is around = by_entered (entered_by (ranges image.loops) at to) refl around
         where
           as_before : without (left_by (ranges image.loops) at edge) (is_around (ranges image.loops) at) l ≡ true → turns_in m' row ≡ turns_after at edge row (turns_in m row)
           as_before there = rw (stays l row is there) (kept l row there is ∙ left l row (turns_in m row) is)
 
-          by_entered : (o : Option ℕ) → entered_by (ranges image.loops) at to ≡ o → along_with o (without (left_by (ranges image.loops) at edge) (is_around (ranges image.loops) at)) l ≡ true → turns_in m' row ≡ turns_after at edge row (turns_in m row)
+          by_entered : (o : Option ℕ) → entered_by (ranges image.loops) at to ≡ o →
+              along_with o (without (left_by (ranges image.loops) at edge) (is_around (ranges image.loops) at)) l ≡ true →
+              turns_in m' row ≡ turns_after at edge row (turns_in m row)
           by_entered None enters there = as_before there
           by_entered (Some k) enters there = by_case (or_cases (without (left_by (ranges image.loops) at edge) (is_around (ranges image.loops) at) l) (l == k) there)
             where
@@ -163,7 +177,9 @@ module _ (image : ImageValue) (at next : ℕ) (instr : Instr) (t : State) (s : M
           leads = leads;
           outcome = ok.0;
           known = ok.1;
-          fits = fits_alike image (along_with (entered_by (ranges image.loops) at to) (without (left_by (ranges image.loops) at edge) (is_around (ranges image.loops) at))) (is_around (ranges image.loops) to) to ok.0 m.end (kept.moves edge to leads) e.fits;
+          fits = fits_alike image (along_with (entered_by (ranges image.loops) at to)
+              (without (left_by (ranges image.loops) at edge) (is_around (ranges image.loops) at)))
+              (is_around (ranges image.loops) to) to ok.0 m.end (kept.moves edge to leads) e.fits;
           turns = turns_along image at edge to s.memory m.end.memory back (kept.moves edge to leads) m.turns e.turns left;
           follows = follows;
         };
@@ -227,7 +243,8 @@ module _ (image : ImageValue) (at next : ℕ) (t : State) (s : Machine) (f : Fit
 
 -- ---- lend
 
-module _ (image : ImageValue) (small : image.workspace ≤ 512) (own_lends : HasOwnLends image.loops) (at next : ℕ) (t : State) (s : Machine) (f : Fits image at t s) (kept : KeepsAround image.loops image.workspace at next Lend) where
+module _ (image : ImageValue) (small : image.workspace ≤ 512) (own_lends : HasOwnLends image.loops) (at next : ℕ)
+    (t : State) (s : Machine) (f : Fits image at t s) (kept : KeepsAround image.loops image.workspace at next Lend) where
   -- the lend of the loop that ends here
   lend_is : (l : ℕ) (row : LoopRow) → Ends image at l row → row.lend ≡ at
   lend_is l row ends = (Decides-eqb row.lend at).0 (found_passes (λ range. range.lend == at) (ranges image.loops) l (range_of row) (range_at image.loops l row ends.row_is) ends.number)
@@ -288,7 +305,9 @@ module _ (image : ImageValue) (small : image.workspace ≤ 512) (own_lends : Has
           by_count : (again : Bool) → nat_lt 1 b.left ≡ again → Outcome image at next Lend t s
           by_count true is =
               along image at next Lend t s kept Back row.head (Some l) (kept.ends l row ends.number ends.row_is).back (accepted 0 Back (omega arith))
-              (λ t' ok. lend_back image small around next t (behind next s) l row ends.row_is (good_row image l row kept.good ends.row_is) own here is t' (lend_ruled image at next l row Back t t' ends ok))
+              (λ t' ok. lend_back image small around next t (behind next s) l row ends.row_is
+              (good_row image l row kept.good ends.row_is) own here is t'
+              (lend_ruled image at next l row Back t t' ends ok))
               (one_turn_less l row ends) (λ _. way_is Back l row ends (rw (turns, is) refl))
           by_count false is =
               along image at next Lend t s kept Out next None refl (accepted 1 Out (omega arith))
@@ -359,7 +378,8 @@ accepted_goes_on image cuts range cutting nest at cut there t s f accepted =
     let count : at + length cut.bytes - at ≡ length cut.bytes = omega arith in
     record {
       end = o.end;
-      runs = ap (λ n. steps image n s) (sym count) ∙ instruction_runs image s at (at + length cut.bytes) cut.instr f.place.running f.place.oreg f.place.iptr (stands image.code cuts at cut cutting there) ∙ o.made;
+      runs = ap (λ n. steps image n s) (sym count) ∙ instruction_runs image s at (at + length cut.bytes) cut.instr
+          f.place.running f.place.oreg f.place.iptr (stands image.code cuts at cut cutting there) ∙ o.made;
       goes = o.goes;
     }
 

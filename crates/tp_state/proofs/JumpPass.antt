@@ -60,7 +60,9 @@ module _ (image : ImageValue) (around : ℕ → Bool) (next : ℕ) (t : State) (
       record {
         end = go n s;
         made = one_there (λ a. if a == 0 then go n s else machine_pop s) s.areg 0 is;
-        fits = subst (λ u. FitsAmong image around to u (go n s)) (same_Ok (set_areg (exactly (pos 0)) t) t' ok) (fits_at image around next to (set_areg (exactly (pos 0)) t) s (s.iptr +ℤ n) (ap (λ z. z +ℤ n) f.place.iptr ∙ target) fits);
+        fits = subst (λ u. FitsAmong image around to u (go n s)) (same_Ok (set_areg (exactly (pos 0)) t) t' ok)
+            (fits_at image around next to (set_areg (exactly (pos 0)) t) s (s.iptr +ℤ n)
+            (ap (λ z. z +ℤ n) f.place.iptr ∙ target) fits);
         turns = λ l row is row_is. refl;
       }
 

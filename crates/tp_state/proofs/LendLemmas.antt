@@ -69,7 +69,9 @@ lend_ruled image at next l row e t t' ends ok =
 
 -- ---- words
 
-pub cell_word : (rows : List LoopRow) (workspace : ℕ) (cells : List Cell) (m : Memory) (i : ℕ) (c : Cell) (v : ℕ) → WordsFit rows workspace cells m → i < workspace → cell_at cells i ≡ c → word_at m (word_address i) ≡ Some v → CellFits rows c (Some v)
+pub cell_word : (rows : List LoopRow) (workspace : ℕ) (cells : List Cell) (m : Memory) (i : ℕ) (c : Cell) (v : ℕ) →
+    WordsFit rows workspace cells m → i < workspace → cell_at cells i ≡ c → word_at m (word_address i) ≡ Some v →
+    CellFits rows c (Some v)
 cell_word rows workspace cells m i c v f lt c_is is = subst (λ r. CellFits rows c r) is (subst (λ u. CellFits rows u (word_at m (word_address i))) c_is (f.word i lt))
 
 pub index_range : (rows : List LoopRow) (l : ℕ) (row : LoopRow) (v : ℕ) → slice_get rows l ≡ Some row → CellFits rows (cell.Index l) (Some v) → InRange row.start (last_index row) v

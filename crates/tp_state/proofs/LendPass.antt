@@ -1,5 +1,7 @@
 -- What a lend makes of a state that fits: another turn follows, or the loop is left.
-use Rattle.std.proofs.Common.{◌≡◌, ℕ, ◌+◌, ◌-◌, ◌^◌, ◌<◌, ◌≤◌, ◌⊎◌, inl, inr, Bool, true, false, ◌==◌, if◌then◌else◌, ℤ, pos, ◌+ℤ◌, ◌-ℤ◌, ◌≤ℤ◌, nat_lt, length, length-set, map, slice_set, slice_get, Some, None, refl, sym, ap, ◌∙◌, subst, arith}
+use Rattle.std.proofs.Common.{◌≡◌, ℕ, ◌+◌, ◌-◌, ◌^◌, ◌<◌, ◌≤◌, ◌⊎◌, inl, inr, Bool, true, false, ◌==◌, if◌then◌else◌, ℤ}
+use Rattle.std.proofs.Common.{pos, ◌+ℤ◌, ◌-ℤ◌, ◌≤ℤ◌, nat_lt, length, length-set, map, slice_set, slice_get, Some, None}
+use Rattle.std.proofs.Common.{refl, sym, ap, ◌∙◌, subst, arith}
 use Rattle.std.specs.Prelude.{int_lt, unwrap_or}
 use Rattle.std.specs.Int.{w32, to_le_bytes}
 use Rattle.std.proofs.lemmas.Int.{ints}
@@ -47,7 +49,9 @@ less_signed left count word most low high =
     let no_overflow : overflows (signed left -ℤ pos 1) ≡ false = grind (arith, ints, nat_tests) in
     signed_low_word _ no_overflow
 
-more_signed : (index left count : ℕ) (start : ℤ) → index < 2 ^ 32 → pos 2 ≤ℤ signed left → (signed index +ℤ signed left) ≡ (start +ℤ pos count) → (start +ℤ pos count -ℤ pos 1) ≤ℤ pos (2 ^ 31 - 1) → signed (more index) ≡ signed index +ℤ pos 1
+more_signed : (index left count : ℕ) (start : ℤ) → index < 2 ^ 32 → pos 2 ≤ℤ signed left →
+    (signed index +ℤ signed left) ≡ (start +ℤ pos count) → (start +ℤ pos count -ℤ pos 1) ≤ℤ pos (2 ^ 31 - 1) →
+    signed (more index) ≡ signed index +ℤ pos 1
 unfolding more
 more_signed index left count start word two sum ends =
     let low = signed_above index word in
@@ -123,15 +127,21 @@ record IsReady (image : ImageValue) (s : Machine) (c a index left : ℕ) : Type 
   left_is : word_at s.memory (word_address (c + 1)) ≡ Some left
   five : in_workspace image (s.wptr - 20) 20 ≡ true
 
-goes_back : (image : ImageValue) (s : Machine) (c a index left : ℕ) → IsReady image s c a index left → int_lt (pos 0) (signed (less left)) ≡ true → effect image Lend s ≡ Some (go (pos 0 -ℤ signed a) (rested (record s { memory = turned s.memory c index left })))
+goes_back : (image : ImageValue) (s : Machine) (c a index left : ℕ) → IsReady image s c a index left →
+    int_lt (pos 0) (signed (less left)) ≡ true → effect image Lend s ≡ Some
+    (go (pos 0 -ℤ signed a) (rested (record s { memory = turned s.memory c index left })))
 unfolding effect load store machine_descheduled turned less more
 goes_back image s c a index left r another = rw (r.areg, r.breg, r.first, r.index_is, r.next, r.second, r.left_is, another, r.five)
 
-goes_on : (image : ImageValue) (s : Machine) (c a index left : ℕ) → IsReady image s c a index left → int_lt (pos 0) (signed (less left)) ≡ false → effect image Lend s ≡ Some (record (rested s) { memory = ended s.memory c left s.wptr })
+goes_on : (image : ImageValue) (s : Machine) (c a index left : ℕ) → IsReady image s c a index left →
+    int_lt (pos 0) (signed (less left)) ≡ false → effect image Lend s ≡ Some
+    (record (rested s) { memory = ended s.memory c left s.wptr })
 unfolding effect load store machine_descheduled ended less
 goes_on image s c a index left r no_more = rw (r.areg, r.breg, r.first, r.index_is, r.next, r.second, r.left_is, no_more, r.five)
 
-module _ (image : ImageValue) (small : image.workspace ≤ 512) (around : ℕ → Bool) (next : ℕ) (t : State) (s : Machine) (l : ℕ) (row : LoopRow) (row_is : slice_get image.loops l ≡ Some row) (good : IsGood image.workspace row) (own : around l ≡ true) (f : FitsAmong image around next t s) where
+module _ (image : ImageValue) (small : image.workspace ≤ 512) (around : ℕ → Bool) (next : ℕ) (t : State) (s : Machine)
+    (l : ℕ) (row : LoopRow) (row_is : slice_get image.loops l ≡ Some row) (good : IsGood image.workspace row)
+    (own : around l ≡ true) (f : FitsAmong image around next t s) where
   -- the loop's block
   pub block : IsLive t.cells s.memory l row
   block = f.loops.live l row own row_is
@@ -139,10 +149,13 @@ module _ (image : ImageValue) (small : image.workspace ≤ 512) (around : ℕ �
   index_in : InRange row.start (last_index row) block.index
   index_in =
       let inside = good.block in
-      index_range image.loops l row block.index row_is (cell_word image.loops image.workspace t.cells s.memory row.control (cell.Index l) block.index f.words (omega arith) block.index_cell block.index_is)
+      index_range image.loops l row block.index row_is (cell_word image.loops image.workspace t.cells s.memory
+      row.control (cell.Index l) block.index f.words (omega arith) block.index_cell block.index_is)
 
   pub count_in : InRange (pos 1) (pos row.count) block.left
-  count_in = count_range image.loops l row block.left row_is (cell_word image.loops image.workspace t.cells s.memory (row.control + 1) (cell.Count l) block.left f.words good.block block.count_cell block.left_is)
+  count_in = count_range image.loops l row block.left row_is
+      (cell_word image.loops image.workspace t.cells s.memory (row.control + 1) (cell.Count l) block.left f.words
+      good.block block.count_cell block.left_is)
 
   -- the live count is the turns that the loop still has to make
   pub turns_are : turns_in s.memory row ≡ block.left
@@ -215,13 +228,35 @@ module _ (image : ImageValue) (small : image.workspace ≤ 512) (around : ℕ �
         let left_above : pos 1 ≤ℤ signed (less block.left) = omega (arith, ints) in
         let left_below : signed (less block.left) ≤ℤ pos row.count = omega (arith, ints) in
         let kept : (signed (more block.index) +ℤ signed (less block.left)) ≡ (row.start +ℤ pos row.count) = omega (arith, ints) in
-        let index_fits : CellFits image.loops (cell.Index l) (Some (more block.index)) = (row, row_is, more block.index, refl, record { word = more_lt block.index; above = index_above; below = index_below }) in
-        let left_fits : CellFits image.loops (cell.Count l) (Some (less block.left)) = (row, row_is, less block.left, refl, record { word = less_lt block.left; above = left_above; below = left_below }) in
+        let index_fits : CellFits image.loops (cell.Index l) (Some (more block.index)) = (
+          row,
+          row_is,
+          more block.index,
+          refl,
+          record {
+            word = more_lt block.index;
+            above = index_above;
+            below = index_below;
+          },
+        ) in
+        let left_fits : CellFits image.loops (cell.Count l) (Some (less block.left)) = (
+          row,
+          row_is,
+          less block.left,
+          refl,
+          record {
+            word = less_lt block.left;
+            above = left_above;
+            below = left_below;
+          },
+        ) in
         record {
           place = record { running = f.place.running; iptr = f.place.iptr; oreg = f.place.oreg; wptr = f.place.wptr; roomy = f.place.roomy; inside = f.place.inside };
           phase = f.phase;
           registers = record { a = f.registers.a; b = f.registers.b; c = f.registers.c };
-          words = words_block image.loops image.workspace t.cells t.cells s.memory after_turn row.control refl (λ i n. refl) turned_others (rw (block.index_cell, turned_first) index_fits) (rw (block.count_cell, turned_second) left_fits) f.words;
+          words = words_block image.loops image.workspace t.cells t.cells s.memory after_turn row.control refl
+              (λ i n. refl) turned_others (rw (block.index_cell, turned_first) index_fits)
+              (rw (block.count_cell, turned_second) left_fits) f.words;
           bytes = record { memory = turned_small; packet = f.bytes.packet };
           packet = f.packet;
           loops = loops_turned image.loops around t.cells s.memory after_turn l row row_is own turned_others f.loops (more block.index) (less block.left) turned_first turned_second kept;

@@ -1,5 +1,7 @@
 -- Cells that are replaced, and the live control words among them.
-use Rattle.std.proofs.Common.{◌≡◌, ℕ, ◌+◌, ◌-◌, ◌<◌, ◌≤◌, ◌⊎◌, inl, inr, true, false, List, map, replicate, length, min, slice_set, length-set, get_or-set_same, get_or-set_other, refl, sym, ap, ◌∙◌, subst, arith}
+use Rattle.std.proofs.Common.{◌≡◌, ℕ, ◌+◌, ◌-◌, ◌<◌, ◌≤◌, ◌⊎◌, inl, inr, true, false, List, map, replicate, length, min}
+use Rattle.std.proofs.Common.{slice_set, length-set, get_or-set_same, get_or-set_other, refl, sym, ap, ◌∙◌, subst}
+use Rattle.std.proofs.Common.{arith}
 use Rattle.std.proofs.lemmas.Bool.{cases_lt, cases_eq}
 use Rattle.std.proofs.lemmas.List.{get_or-map, length-map, length-replicate, get_or-replicate, get_or_past}
 use Rattle.std.proofs.lemmas.List.Folds.{list_all_at}
@@ -63,7 +65,9 @@ live_out cells x n i room free live = by_place (cases_lt i x) (cases_lt i (x + n
         true_false (sym free ∙ list_all_at is_free (cells_from cells x n) (i - x) cell.Undef short here)
 
 -- free words take free cells
-pub cells_keep : (cells : List Cell) (x n : ℕ) (these : List Cell) → length these ≡ n → x + n ≤ length cells → are_free (cells_from cells x n) ≡ true → ((i : ℕ) → i < n → is_free (cell_at these i) ≡ true) → KeepsLive cells (with_cells cells x these)
+pub cells_keep : (cells : List Cell) (x n : ℕ) (these : List Cell) → length these ≡ n → x + n ≤ length cells →
+    are_free (cells_from cells x n) ≡ true → ((i : ℕ) → i < n → is_free (cell_at these i) ≡ true) →
+    KeepsLive cells (with_cells cells x these)
 cells_keep cells x n these long room was free = record {
   cell = λ i live. cell_at-with_cells_out cells x these i fits (out (live_out cells x n i room was live));
   free = λ i is. at i is (cases_lt i x) (cases_lt i (x + n));
@@ -95,7 +99,8 @@ copied_free (cell.Index l) = refl
 copied_free (cell.Count l) = refl
 
 -- copies of others
-pub copies_keep : (cells : List Cell) (x y n : ℕ) → x + n ≤ length cells → y + n ≤ length cells → are_free (cells_from cells x n) ≡ true → KeepsLive cells (with_cells cells x (map copied (cells_from cells y n)))
+pub copies_keep : (cells : List Cell) (x y n : ℕ) → x + n ≤ length cells → y + n ≤ length cells →
+    are_free (cells_from cells x n) ≡ true → KeepsLive cells (with_cells cells x (map copied (cells_from cells y n)))
 copies_keep cells x y n room from was =
     let long : length (map copied (cells_from cells y n)) ≡ n = length-map (cells_from cells y n) copied ∙ length-cells_from cells y n from in
     cells_keep cells x n (map copied (cells_from cells y n)) long room was λ i lt.

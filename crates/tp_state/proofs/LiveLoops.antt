@@ -1,5 +1,7 @@
 -- The live control words follow the loops: where nothing is left or entered, where a loop is left, where one is entered.
-use Rattle.std.proofs.Common.{◌≡◌, ℕ, ◌+◌, ◌<◌, ◌≤◌, ◌⊎◌, inl, inr, Bool, true, false, IsTrue, if◌then◌else◌, not, ◌==◌, List, length, length-set, slice_set, slice_get, get_or-set_same, get_or-set_other, Some, refl, sym, ap, ◌∙◌, subst, arith}
+use Rattle.std.proofs.Common.{◌≡◌, ℕ, ◌+◌, ◌<◌, ◌≤◌, ◌⊎◌, inl, inr, Bool, true, false, IsTrue, if◌then◌else◌, not, ◌==◌}
+use Rattle.std.proofs.Common.{List, length, length-set, slice_set, slice_get, get_or-set_same, get_or-set_other, Some}
+use Rattle.std.proofs.Common.{refl, sym, ap, ◌∙◌, subst, arith}
 use Rattle.std.proofs.lemmas.Bool.{cases_lt, cases_eq, and_parts, and_from, or_cases, or_left, or_right, not_from_true, not_from_false, false_from_ne_true}
 use Rattle.std.proofs.lemmas.Bool.Decides.{Decides-eqb}
 use Rattle.std.proofs.lemmas.Option.{same_Some}
@@ -38,7 +40,8 @@ blocks_apart cells l k row other a b differ = record {
 }
 
 -- one number, one row
-own_named : (rows : List LoopRow) (cells : List Cell) (l k : ℕ) (row other : LoopRow) → slice_get rows l ≡ Some row → slice_get rows k ≡ Some other → k ≡ l → NamesLoop cells l row → NamesLoop cells k other
+own_named : (rows : List LoopRow) (cells : List Cell) (l k : ℕ) (row other : LoopRow) → slice_get rows l ≡ Some row →
+    slice_get rows k ≡ Some other → k ≡ l → NamesLoop cells l row → NamesLoop cells k other
 own_named rows cells l k row other row_is its same b =
     let row_same : row ≡ other = same_Some _ _ (sym row_is ∙ ap (slice_get rows) (sym same) ∙ its) in
     subst (λ r. NamesLoop cells k r) row_same (subst (λ n. NamesLoop cells n row) (sym same) b)
@@ -170,9 +173,16 @@ module _ (rows : List LoopRow) (around : ℕ → Bool) (cells : List Cell) (l : 
 
 -- ---- a loop is entered, whose words were free
 
-module _ (rows : List LoopRow) (around : ℕ → Bool) (cells : List Cell) (l : ℕ) (row : LoopRow) (row_is : slice_get rows l ≡ Some row) (room : row.control + 1 < length cells) (index_free : is_free (cell_at cells row.control) ≡ true) (count_free : is_free (cell_at cells (row.control + 1)) ≡ true) (f : LiveWordsAre rows around cells) where
+module _ (rows : List LoopRow) (around : ℕ → Bool) (cells : List Cell) (l : ℕ) (row : LoopRow)
+    (row_is : slice_get rows l ≡ Some row) (room : row.control + 1 < length cells)
+    (index_free : is_free (cell_at cells row.control) ≡ true)
+    (count_free : is_free (cell_at cells (row.control + 1)) ≡ true) (f : LiveWordsAre rows around cells) where
   pub live_entered : LiveWordsAre rows (along_with (Some l) around) (with_two cells row.control (cell.Index l) (cell.Count l))
-  live_entered = record { live = λ k other is its. by_number k other is its (cases_eq k l); only = λ i is. which i row.control (λ e. (l, own, record { row = row; is = row_is; place = inl e })) (λ e. (l, own, record { row = row; is = row_is; place = inr e })) (λ n. its_only i n is) }
+  live_entered = record {
+    live = λ k other is its. by_number k other is its (cases_eq k l);
+    only = λ i is. which i row.control (λ e. (l, own, record { row = row; is = row_is; place = inl e }))
+        (λ e. (l, own, record { row = row; is = row_is; place = inr e })) (λ n. its_only i n is);
+  }
     where
       own : along_with (Some l) around l ≡ true
       own = or_right (around l) (l == l) ((Decides-eqb l l).1 refl)
@@ -184,7 +194,8 @@ module _ (rows : List LoopRow) (around : ℕ → Bool) (cells : List Cell) (l : 
       off : (i : ℕ) → is_free (cell_at cells i) ≡ false → IsElse i row.control
       off i live = record { first = elsewhere cells i row.control live index_free; second = elsewhere cells i (row.control + 1) live count_free }
 
-      by_number : (k : ℕ) (other : LoopRow) → along_with (Some l) around k ≡ true → slice_get rows k ≡ Some other → (k ≡ l) ⊎ (k ≡ l → ⊥) → NamesLoop (with_two cells row.control (cell.Index l) (cell.Count l)) k other
+      by_number : (k : ℕ) (other : LoopRow) → along_with (Some l) around k ≡ true → slice_get rows k ≡ Some other →
+          (k ≡ l) ⊎ (k ≡ l → ⊥) → NamesLoop (with_two cells row.control (cell.Index l) (cell.Count l)) k other
       by_number k other is its (inl same) =
           own_named rows (with_two cells row.control (cell.Index l) (cell.Count l)) l k row other row_is its same record {
             index = first_set cells row.control (cell.Index l) (cell.Count l) room;
@@ -194,7 +205,9 @@ module _ (rows : List LoopRow) (around : ℕ → Bool) (cells : List Cell) (l : 
           let b = f.live k other (was_other around l k is differ) its in
           record { index = set other.control (off _ (ap is_free b.index)) ∙ b.index; count = set (other.control + 1) (off _ (ap is_free b.count)) ∙ b.count }
 
-      its_only : (i : ℕ) → IsElse i row.control → is_free (cell_at (with_two cells row.control (cell.Index l) (cell.Count l)) i) ≡ false → (k : ℕ) × (along_with (Some l) around k ≡ true) × IsInBlock rows i k
+      its_only : (i : ℕ) → IsElse i row.control → is_free (cell_at
+          (with_two cells row.control (cell.Index l) (cell.Count l)) i) ≡ false → (k : ℕ) ×
+          (along_with (Some l) around k ≡ true) × IsInBlock rows i k
       its_only i n is =
           let found = f.only i (ap is_free (sym (set i n)) ∙ is) in
           (found.0, or_left (around found.0) (found.0 == l) found.1, found.2)
@@ -239,7 +252,9 @@ module _ (rows : List LoopRow) (around : ℕ → Bool) (cells others : List Cell
   pub same_agree : (x : ℕ) → IsTrue (cells_agree (cell_at cells x) (cell_at others x))
   same_agree x = by_cells (free_or_live (cell_at cells x)) (free_or_live (cell_at others x))
     where
-      by_cells : (is_free (cell_at cells x) ≡ true) ⊎ (is_free (cell_at cells x) ≡ false) → (is_free (cell_at others x) ≡ true) ⊎ (is_free (cell_at others x) ≡ false) → IsTrue (cells_agree (cell_at cells x) (cell_at others x))
+      by_cells : (is_free (cell_at cells x) ≡ true) ⊎ (is_free (cell_at cells x) ≡ false) →
+          (is_free (cell_at others x) ≡ true) ⊎ (is_free (cell_at others x) ≡ false) →
+          IsTrue (cells_agree (cell_at cells x) (cell_at others x))
       by_cells (inr live) _ = in_block x (f.only x live)
       by_cells (inl free) (inr live) = in_block x (g.only x live)
       by_cells (inl e) (inl h) = agree_free _ _ e h

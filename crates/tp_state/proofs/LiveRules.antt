@@ -1,10 +1,16 @@
 -- The rules of the instructions keep the live control words, but for lend's on the edge that leaves its loop.
-use Rattle.std.proofs.Common.{◌≡◌, ℕ, ◌+◌, ◌-◌, ◌<◌, ◌≤◌, ◌⊎◌, inl, inr, Bool, true, false, ◌==◌, ◌/◌, nat_le, if◌then◌else◌, List, replicate, length, Result, Ok, Err, IfOk, refl, sym, ap, subst, arith}
+use Rattle.std.proofs.Common.{◌≡◌, ℕ, ◌+◌, ◌-◌, ◌<◌, ◌≤◌, ◌⊎◌, inl, inr, Bool, true, false, ◌==◌, ◌/◌, nat_le}
+use Rattle.std.proofs.Common.{if◌then◌else◌, List, replicate, length, Result, Ok, Err, IfOk, refl, sym, ap, subst}
+use Rattle.std.proofs.Common.{arith}
 use Rattle.std.proofs.lemmas.Bool.{cases_lt}
 use Rattle.std.proofs.lemmas.Bool.Decides.{nat_tests, Decides-eqb}
 use Rattle.std.proofs.lemmas.List.{get_or_past}
 use Rattle.tp_decode.specs.declared.instr.Instr.{Instr}
-use Rattle.tp_decode.specs.declared.instr.Instr.TheVariants.{Jump, Ldlp, Ldnl, Ldc, Ldnlp, Ldl, Adc, Cj, Ajw, Eqc, Stl, Stnl, Rev, Lb, Bsub, Diff, Add, Input, Prod, Gt, Wsub, Output, Sub, Seterr, Csub0, Stopp, Rem, Lend, Div, BitNot, BitXor, Sb, Shr, Shl, Mint, BitAnd, MoveBytes, BitOr, Sum, Mul}
+use Rattle.tp_decode.specs.declared.instr.Instr.TheVariants.{Jump, Ldlp, Ldnl, Ldc, Ldnlp, Ldl, Adc, Cj, Ajw, Eqc, Stl}
+use Rattle.tp_decode.specs.declared.instr.Instr.TheVariants.{Stnl, Rev, Lb, Bsub, Diff, Add, Input, Prod, Gt, Wsub}
+use Rattle.tp_decode.specs.declared.instr.Instr.TheVariants.{Output, Sub, Seterr, Csub0, Stopp, Rem, Lend, Div, BitNot}
+use Rattle.tp_decode.specs.declared.instr.Instr.TheVariants.{BitXor, Sb, Shr, Shl, Mint, BitAnd, MoveBytes, BitOr, Sum}
+use Rattle.tp_decode.specs.declared.instr.Instr.TheVariants.{Mul}
 use Rattle.tp_image.specs.declared.image.LoopRow.{LoopRow}
 use Rattle.tp_image.specs.Image.{ImageValue}
 use Rattle.tp_flow.specs.declared.edge.Edge.{Edge}
@@ -117,7 +123,8 @@ module _ (image : ImageValue) (t : State) (placed : IsPlaced image t) where
   message_room x n e = grind (arith, nat_tests, placed.sized)
 
   -- a packet comes, and the process gives way
-  packet_keeps : (x n : ℕ) → x + n ≤ length t.cells → are_free (cells_from t.cells x n) ≡ true → IfOk (descheduled (record t { cells = with_cells t.cells x (replicate n cell.Any); phase = 1 })) (Keeps t)
+  packet_keeps : (x n : ℕ) → x + n ≤ length t.cells → are_free (cells_from t.cells x n) ≡ true →
+      IfOk (descheduled (record t { cells = with_cells t.cells x (replicate n cell.Any); phase = 1 })) (Keeps t)
   packet_keeps x n room free = chained (descheduled taken) (packet_gives_way)
     where
       taken : State
@@ -142,7 +149,9 @@ module _ (image : ImageValue) (t : State) (placed : IsPlaced image t) where
   sent_keeps : (phase : ℕ) → IfOk (descheduled t >>= λ u. Ok (record u { phase = phase })) (Keeps t)
   sent_keeps phase = chain (Keeps t) (Keeps t) (descheduled t) _ gives_way (λ u h. h)
 
-  packet_comes : (x : ℕ) → IfOk (message_in image x image.packet >> (unless S5 (are_free (cells_from t.cells x image.packet)) >> descheduled (record t { cells = with_cells t.cells x (replicate image.packet cell.Any); phase = 1 }))) (Keeps t)
+  packet_comes : (x : ℕ) → IfOk (message_in image x image.packet >>
+      (unless S5 (are_free (cells_from t.cells x image.packet)) >> descheduled
+      (record t { cells = with_cells t.cells x (replicate image.packet cell.Any); phase = 1 }))) (Keeps t)
   unfolding message_in
   packet_comes x = held (Keeps t) _ _ _ λ room. held (Keeps t) _ _ _ λ free. packet_keeps x image.packet (message_room x image.packet room) free
 

@@ -1,5 +1,7 @@
 -- The live control words after an instruction.
-use Rattle.std.proofs.Common.{◌≡◌, ℕ, ◌+◌, ◌<◌, ◌≤◌, ◌⊎◌, inl, inr, Bool, true, false, ◌&&◌, if◌then◌else◌, pos, ℤ, ◌-ℤ◌, List, length, slice_get, Option, Some, None, Result, Ok, IfOk, zero, suc, ◌-◌, [], ◌∷◌, map, replicate, All, refl, sym, ap, ◌∙◌, subst, arith}
+use Rattle.std.proofs.Common.{◌≡◌, ℕ, ◌+◌, ◌<◌, ◌≤◌, ◌⊎◌, inl, inr, Bool, true, false, ◌&&◌, if◌then◌else◌, pos, ℤ}
+use Rattle.std.proofs.Common.{◌-ℤ◌, List, length, slice_get, Option, Some, None, Result, Ok, IfOk, zero, suc, ◌-◌, []}
+use Rattle.std.proofs.Common.{◌∷◌, map, replicate, All, refl, sym, ap, ◌∙◌, subst, arith}
 use Rattle.std.specs.Option.{option_and_then}
 use Rattle.std.proofs.lemmas.Bool.{cases_lt, and_parts}
 use Rattle.std.proofs.lemmas.List.Elements.{All-nil, All-cons, All-append}
@@ -51,7 +53,9 @@ numbered : (image : ImageValue) (at : ℕ) (row : LoopRow) → row_ended_at imag
 unfolding row_ended_at
 numbered image at row e = by_number (number_ended_at (ranges image.loops) at) refl e
   where
-    by_number : (o : Option ℕ) → number_ended_at (ranges image.loops) at ≡ o → option_and_then (slice_get image.loops) o ≡ Some row → (l : ℕ) × (number_ended_at (ranges image.loops) at ≡ Some l) × (slice_get image.loops l ≡ Some row)
+    by_number : (o : Option ℕ) → number_ended_at (ranges image.loops) at ≡ o →
+        option_and_then (slice_get image.loops) o ≡ Some row → (l : ℕ) ×
+        (number_ended_at (ranges image.loops) at ≡ Some l) × (slice_get image.loops l ≡ Some row)
     by_number None is e = cc
     by_number (Some l) is e = (l, is, e)
 
@@ -87,7 +91,9 @@ module _ (image : ImageValue) (at next : ℕ) (t : State) (placed : IsPlaced ima
   stays_live instr edge u stays ok =
       live_kept image.loops _ t.cells u.cells (if_ok (λ u. KeepsLive t.cells u.cells) _ u ok (rule_keeps image t placed at next instr edge stays)) f
 
-  leaves_live : (u : State) → KeepsAround image.loops image.workspace at next Lend → IsLeft image at t u → LiveWordsAre image.loops (without (number_ended_at (ranges image.loops) at) (is_around (ranges image.loops) at)) u.cells
+  leaves_live : (u : State) → KeepsAround image.loops image.workspace at next Lend → IsLeft image at t u →
+      LiveWordsAre image.loops (without (number_ended_at (ranges image.loops) at) (is_around (ranges image.loops) at))
+      u.cells
   leaves_live u kept left =
       let own = (kept.ends left.number left.row left.ended left.row_is).around in
       let keeps = if_ok (λ u. KeepsLive t.cells u.cells) _ left.rest left.rests (descheduled_keeps t placed.roomy (omega (arith, placed.inside, placed.sized))) in
@@ -96,7 +102,10 @@ module _ (image : ImageValue) (at next : ℕ) (t : State) (placed : IsPlaced ima
       subst (λ u. LiveWordsAre image.loops (without (number_ended_at (ranges image.loops) at) (is_around (ranges image.loops) at)) u.cells) left.is
       (subst (λ o. LiveWordsAre image.loops (without o (is_around (ranges image.loops) at)) (with_block left.row cell.Undef cell.Undef left.rest).cells) (sym left.ended) h)
 
-  ruled_live : (instr : Instr) (edge : Edge) (u : State) → KeepsAround image.loops image.workspace at next instr → has_edge instr edge ≡ true → rule image at next instr edge t ≡ Ok u → LiveWordsAre image.loops (without (left_by (ranges image.loops) at edge) (is_around (ranges image.loops) at)) u.cells
+  ruled_live : (instr : Instr) (edge : Edge) (u : State) → KeepsAround image.loops image.workspace at next instr →
+      has_edge instr edge ≡ true → rule image at next instr edge t ≡ Ok u →
+      LiveWordsAre image.loops (without (left_by (ranges image.loops) at edge) (is_around (ranges image.loops) at))
+      u.cells
   ruled_live instr Next u kept has ok = stays_live instr Next u tt ok
   ruled_live instr Taken u kept has ok = stays_live instr Taken u tt ok
   ruled_live instr Back u kept has ok = stays_live instr Back u tt ok
@@ -132,7 +141,11 @@ entered_live rows around (Some l) t u f ok =
 
 -- ---- the whole
 
-pub live_after : (image : ImageValue) (at next : ℕ) (instr : Instr) (edge : Edge) (to : ℕ) (t u : State) → KeepsAround image.loops image.workspace at next instr → IsPlaced image t → LiveWordsAre image.loops (is_around (ranges image.loops) at) t.cells → target (ranges image.loops) at next instr edge ≡ Some to → after image at next instr edge t ≡ Ok u → LiveWordsAre image.loops (is_around (ranges image.loops) to) u.cells
+pub live_after : (image : ImageValue) (at next : ℕ) (instr : Instr) (edge : Edge) (to : ℕ) (t u : State) →
+    KeepsAround image.loops image.workspace at next instr → IsPlaced image t →
+    LiveWordsAre image.loops (is_around (ranges image.loops) at) t.cells →
+    target (ranges image.loops) at next instr edge ≡ Some to → after image at next instr edge t ≡ Ok u →
+    LiveWordsAre image.loops (is_around (ranges image.loops) to) u.cells
 unfolding after
 live_after image at next instr edge to t u kept placed f leads ok =
     through (rule image at next instr edge t) _ u ok λ t' is_ruled enters.
@@ -163,7 +176,9 @@ all_zero (suc n) = All-cons (λ c. is_free c ≡ true) (cell.Known (pos 0)) (rep
 pub none_live : (image : ImageValue) → IsOutside (ranges image.loops) 0 → LiveWordsAre image.loops (is_around (ranges image.loops) 0) (first_cells image)
 none_live image outside =
     let zeros = replicate (image.workspace - length image.initial) (cell.Known (pos 0)) in
-    let free = all_free (first_cells image) (All-append (λ c. is_free c ≡ true) (map (λ word. cell.Known (signed word)) image.initial) zeros (all_known image.initial) (all_zero (image.workspace - length image.initial))) in
+    let free = all_free (first_cells image) (All-append (λ c. is_free c ≡ true)
+    (map (λ word. cell.Known (signed word)) image.initial) zeros (all_known image.initial)
+    (all_zero (image.workspace - length image.initial))) in
     record {
       live = λ l row is row_is. true_false (sym is ∙ outside l);
       only = λ x is. true_false (sym (free x) ∙ is);

@@ -21,7 +21,8 @@ unfolding store
 store_there image s a x v same lt = rw (same, is_word_at image x lt)
 
 -- one step after another
-pub stored_there : {X : Type 0} (g : Machine → X) (o : ℕ → Option Machine) (r : Option ℕ) (a : ℕ) (s' : Machine) → r ≡ Some a → o a ≡ Some s' → option_and_then (λ a. option_and_then (λ s. Some (g s)) (o a)) r ≡ Some (g s')
+pub stored_there : {X : Type 0} (g : Machine → X) (o : ℕ → Option Machine) (r : Option ℕ) (a : ℕ) (s' : Machine) →
+    r ≡ Some a → o a ≡ Some s' → option_and_then (λ a. option_and_then (λ s. Some (g s)) (o a)) r ≡ Some (g s')
 stored_there g o r a s' is its = rw (is, its)
 
 pub loaded_there : {X : Type 0} (g : ℕ → X) (o : ℕ → Option ℕ) (r : Option ℕ) (a v : ℕ) → r ≡ Some a → o a ≡ Some v → option_and_then (λ a. option_and_then (λ v. Some (g v)) (o a)) r ≡ Some (g v)
@@ -32,7 +33,9 @@ pub both_stored : {X : Type 0} (g : Machine → X) (o : ℕ → ℕ → Option M
 both_stored g o ra rb a b s' is its stored = rw (is, its, stored)
 
 -- the address of a local
-pub local_is : {P : Type 0} (image : ImageValue) (around : ℕ → Bool) (at : ℕ) (t : State) (s : Machine) (n : ℤ) (x : ℕ) → image.workspace ≤ 512 → FitsAmong image around at t s → local image t n ≡ Ok x → (machine_local s n ≡ word_address x → x < image.workspace → P) → P
+pub local_is : {P : Type 0} (image : ImageValue) (around : ℕ → Bool) (at : ℕ) (t : State) (s : Machine) (n : ℤ) (x : ℕ)
+    → image.workspace ≤ 512 → FitsAmong image around at t s → local image t n ≡ Ok x →
+    (machine_local s n ≡ word_address x → x < image.workspace → P) → P
 unfolding local
 local_is image around at t s n x small f is go =
     let (x_is, lt) = word_in_is image (pos t.wptr +ℤ n) x is in

@@ -33,7 +33,8 @@ block_kept cells cells' m m' l row b c0 c1 w0 w1 = record {
 }
 
 -- one number, one row
-own_live : (rows : List LoopRow) (cells : List Cell) (m : Memory) (l k : ℕ) (row other : LoopRow) → slice_get rows l ≡ Some row → slice_get rows k ≡ Some other → k ≡ l → IsLive cells m l row → IsLive cells m k other
+own_live : (rows : List LoopRow) (cells : List Cell) (m : Memory) (l k : ℕ) (row other : LoopRow) →
+    slice_get rows l ≡ Some row → slice_get rows k ≡ Some other → k ≡ l → IsLive cells m l row → IsLive cells m k other
 own_live rows cells m l k row other row_is its same b =
     let row_same : row ≡ other = same_Some _ _ (sym row_is ∙ ap (slice_get rows) (sym same) ∙ its) in
     subst (λ r. IsLive cells m k r) row_same (subst (λ n. IsLive cells m n row) (sym same) b)
@@ -51,7 +52,10 @@ named cells m l row b = record { index = b.index_cell; count = b.count_cell }
 
 -- ---- a turn, and the end of the last: the words of one block change
 
-module _ (rows : List LoopRow) (around : ℕ → Bool) (cells : List Cell) (m m' : Memory) (l : ℕ) (row : LoopRow) (row_is : slice_get rows l ≡ Some row) (own : around l ≡ true) (others : (i : ℕ) → IsElse i row.control → word_at m' (word_address i) ≡ word_at m (word_address i)) (f : LoopsFit rows around cells m) where
+module _ (rows : List LoopRow) (around : ℕ → Bool) (cells : List Cell) (m m' : Memory) (l : ℕ) (row : LoopRow)
+    (row_is : slice_get rows l ≡ Some row) (own : around l ≡ true)
+    (others : (i : ℕ) → IsElse i row.control → word_at m' (word_address i) ≡ word_at m (word_address i))
+    (f : LoopsFit rows around cells m) where
   own_block : IsLive cells m l row
   own_block = f.live l row own row_is
 
@@ -69,7 +73,9 @@ module _ (rows : List LoopRow) (around : ℕ → Bool) (cells : List Cell) (m m'
       let off = other_block k other (f.live k other is its) differ in
       rw (others (other.control + 1) off.1) refl
 
-  pub loops_turned : (index left : ℕ) → word_at m' (word_address row.control) ≡ Some index → word_at m' (word_address (row.control + 1)) ≡ Some left → (signed index +ℤ signed left) ≡ (row.start +ℤ pos row.count) → LoopsFit rows around cells m'
+  pub loops_turned : (index left : ℕ) → word_at m' (word_address row.control) ≡ Some index →
+      word_at m' (word_address (row.control + 1)) ≡ Some left →
+      (signed index +ℤ signed left) ≡ (row.start +ℤ pos row.count) → LoopsFit rows around cells m'
   loops_turned index left index_is left_is sum = record { live = λ k other is its. by_number k other is its (cases_eq k l); only = f.only }
     where
       by_number : (k : ℕ) (other : LoopRow) → around k ≡ true → slice_get rows k ≡ Some other → (k ≡ l) ⊎ (k ≡ l → ⊥) → IsLive cells m' k other
@@ -107,7 +113,8 @@ module _ (rows : List LoopRow) (around : ℕ → Bool) (cells : List Cell) (m m'
             let b = f.live k other is.0 its in
             let off = other_block k other b is.1 in
             let set = others_set cells row.control cell.Undef cell.Undef room in
-            block_kept cells (with_two cells row.control cell.Undef cell.Undef) m m' k other b (set other.control off.0) (set (other.control + 1) off.1) (others other.control off.0) (others (other.control + 1) off.1)
+            block_kept cells (with_two cells row.control cell.Undef cell.Undef) m m' k other b (set other.control off.0)
+            (set (other.control + 1) off.1) (others other.control off.0) (others (other.control + 1) off.1)
 
         not_own : (i k : ℕ) → IsElse i row.control → IsInBlock rows i k → k ≡ l → ⊥
         not_own i k n block e =
@@ -125,9 +132,19 @@ module _ (rows : List LoopRow) (around : ℕ → Bool) (cells : List Cell) (m m'
 
 -- ---- a loop is entered: its block holds the first index and the declared count
 
-module _ (rows : List LoopRow) (around : ℕ → Bool) (cells : List Cell) (m : Memory) (l : ℕ) (row : LoopRow) (row_is : slice_get rows l ≡ Some row) (room : row.control + 1 < length cells) (index_free : is_free (cell_at cells row.control) ≡ true) (count_free : is_free (cell_at cells (row.control + 1)) ≡ true) (f : LoopsFit rows around cells m) where
-  pub loops_entered : (index left : ℕ) → word_at m (word_address row.control) ≡ Some index → word_at m (word_address (row.control + 1)) ≡ Some left → (signed index +ℤ signed left) ≡ (row.start +ℤ pos row.count) → LoopsFit rows (along_with (Some l) around) (with_two cells row.control (cell.Index l) (cell.Count l)) m
-  loops_entered index left index_is left_is sum = record { live = λ k other is its. by_number k other is its (cases_eq k l); only = λ i is. which i row.control (λ e. (l, own, record { row = row; is = row_is; place = inl e })) (λ e. (l, own, record { row = row; is = row_is; place = inr e })) (λ n. its_only i n is) }
+module _ (rows : List LoopRow) (around : ℕ → Bool) (cells : List Cell) (m : Memory) (l : ℕ) (row : LoopRow)
+    (row_is : slice_get rows l ≡ Some row) (room : row.control + 1 < length cells)
+    (index_free : is_free (cell_at cells row.control) ≡ true)
+    (count_free : is_free (cell_at cells (row.control + 1)) ≡ true) (f : LoopsFit rows around cells m) where
+  pub loops_entered : (index left : ℕ) → word_at m (word_address row.control) ≡ Some index →
+      word_at m (word_address (row.control + 1)) ≡ Some left →
+      (signed index +ℤ signed left) ≡ (row.start +ℤ pos row.count) →
+      LoopsFit rows (along_with (Some l) around) (with_two cells row.control (cell.Index l) (cell.Count l)) m
+  loops_entered index left index_is left_is sum = record {
+    live = λ k other is its. by_number k other is its (cases_eq k l);
+    only = λ i is. which i row.control (λ e. (l, own, record { row = row; is = row_is; place = inl e }))
+        (λ e. (l, own, record { row = row; is = row_is; place = inr e })) (λ n. its_only i n is);
+  }
     where
       own : along_with (Some l) around l ≡ true
       own = or_right (around l) (l == l) ((Decides-eqb l l).1 refl)
@@ -136,7 +153,8 @@ module _ (rows : List LoopRow) (around : ℕ → Bool) (cells : List Cell) (m : 
       off : (i : ℕ) → is_free (cell_at cells i) ≡ false → IsElse i row.control
       off i live = record { first = elsewhere cells i row.control live index_free; second = elsewhere cells i (row.control + 1) live count_free }
 
-      by_number : (k : ℕ) (other : LoopRow) → along_with (Some l) around k ≡ true → slice_get rows k ≡ Some other → (k ≡ l) ⊎ (k ≡ l → ⊥) → IsLive (with_two cells row.control (cell.Index l) (cell.Count l)) m k other
+      by_number : (k : ℕ) (other : LoopRow) → along_with (Some l) around k ≡ true → slice_get rows k ≡ Some other →
+          (k ≡ l) ⊎ (k ≡ l → ⊥) → IsLive (with_two cells row.control (cell.Index l) (cell.Count l)) m k other
       by_number k other is its (inl same) =
           own_live rows (with_two cells row.control (cell.Index l) (cell.Count l)) m l k row other row_is its same record {
             index_cell = first_set cells row.control (cell.Index l) (cell.Count l) room;
@@ -150,9 +168,13 @@ module _ (rows : List LoopRow) (around : ℕ → Bool) (cells : List Cell) (m : 
       by_number k other is its (inr differ) =
           let b = f.live k other (was_other around l k is differ) its in
           let set = others_set cells row.control (cell.Index l) (cell.Count l) room in
-          block_kept cells (with_two cells row.control (cell.Index l) (cell.Count l)) m m k other b (set other.control (off _ (ap is_free b.index_cell))) (set (other.control + 1) (off _ (ap is_free b.count_cell))) refl refl
+          block_kept cells (with_two cells row.control (cell.Index l) (cell.Count l)) m m k other b
+          (set other.control (off _ (ap is_free b.index_cell)))
+          (set (other.control + 1) (off _ (ap is_free b.count_cell))) refl refl
 
-      its_only : (i : ℕ) → IsElse i row.control → is_free (cell_at (with_two cells row.control (cell.Index l) (cell.Count l)) i) ≡ false → (k : ℕ) × (along_with (Some l) around k ≡ true) × IsInBlock rows i k
+      its_only : (i : ℕ) → IsElse i row.control → is_free (cell_at
+          (with_two cells row.control (cell.Index l) (cell.Count l)) i) ≡ false → (k : ℕ) ×
+          (along_with (Some l) around k ≡ true) × IsInBlock rows i k
       its_only i n is =
           let found = f.only i (ap is_free (sym (others_set cells row.control (cell.Index l) (cell.Count l) room i n)) ∙ is) in
           (found.0, or_left (around found.0) (found.0 == l) found.1, found.2)

@@ -1,5 +1,7 @@
 -- What in and out make of a state that fits.
-use Rattle.std.proofs.Common.{◌≡◌, ◌⊎◌, inl, inr, ℕ, ◌+◌, ◌*◌, ◌/◌, ◌%◌, ◌<◌, ◌≤◌, Bool, true, false, ◌&&◌, ◌==◌, nat_eq, nat_le, if◌then◌else◌, ℤ, pos, negsuc, List, ◌++◌, length, take, drop, replicate, get_or, Option, Some, None, Ok, Err, refl, sym, ap, ◌∙◌, subst, arith}
+use Rattle.std.proofs.Common.{◌≡◌, ◌⊎◌, inl, inr, ℕ, ◌+◌, ◌*◌, ◌/◌, ◌%◌, ◌<◌, ◌≤◌, Bool, true, false, ◌&&◌, ◌==◌}
+use Rattle.std.proofs.Common.{nat_eq, nat_le, if◌then◌else◌, ℤ, pos, negsuc, List, ◌++◌, length, take, drop, replicate}
+use Rattle.std.proofs.Common.{get_or, Option, Some, None, Ok, Err, refl, sym, ap, ◌∙◌, subst, arith}
 use Rattle.std.specs.Prelude.{int_le}
 use Rattle.std.specs.Ordering.{int_eq}
 use Rattle.std.proofs.lemmas.Int.{ints}
@@ -48,18 +50,23 @@ message_inside image x n b e go =
 byte_at_place : (x i k : ℕ) → word_address (x + i) + k ≡ word_address x + (4 * i + k)
 byte_at_place x i k = omega arith
 
-pub words_written : (rows : List LoopRow) (m : Memory) (x n i : ℕ) (bytes : List ℕ) → AreSmall (with_bytes m (word_address x) bytes) → length bytes ≡ 4 * n → i < n → CellFits rows cell.Any (word_at (with_bytes m (word_address x) bytes) (word_address (x + i)))
+pub words_written : (rows : List LoopRow) (m : Memory) (x n i : ℕ) (bytes : List ℕ) →
+    AreSmall (with_bytes m (word_address x) bytes) → length bytes ≡ 4 * n → i < n →
+    CellFits rows cell.Any (word_at (with_bytes m (word_address x) bytes) (word_address (x + i)))
 words_written rows m x n i bytes small long lt =
     bytes_word rows (with_bytes m (word_address x) bytes) (word_address (x + i)) small
     (bytes_of (with_bytes m (word_address x) bytes) (word_address (x + i)) (λ k k_lt.
     (get_or bytes (4 * i + k) 0, ap (with_bytes m (word_address x) bytes) (byte_at_place x i k) ∙ written_in m (word_address x) bytes (4 * i + k) (omega arith))))
 
-pub words_elsewhere : (m : Memory) (x n i : ℕ) (bytes : List ℕ) → length bytes ≡ 4 * n → (i < x) ⊎ (x + n ≤ i) → word_at (with_bytes m (word_address x) bytes) (word_address i) ≡ word_at m (word_address i)
+pub words_elsewhere : (m : Memory) (x n i : ℕ) (bytes : List ℕ) → length bytes ≡ 4 * n → (i < x) ⊎ (x + n ≤ i) →
+    word_at (with_bytes m (word_address x) bytes) (word_address i) ≡ word_at m (word_address i)
 words_elsewhere m x n i bytes long (inl below) = written_apart m (word_address x) bytes (word_address i) (inl (omega arith))
 words_elsewhere m x n i bytes long (inr above) = written_apart m (word_address x) bytes (word_address i) (inr (omega arith))
 
 -- defined words are read
-pub words_read : (rows : List LoopRow) (workspace : ℕ) (cells : List Cell) (m : Memory) (x n : ℕ) → WordsFit rows workspace cells m → x + n ≤ workspace → are_defined (cells_from cells x n) ≡ true → Reads m (word_address x) (4 * n)
+pub words_read : (rows : List LoopRow) (workspace : ℕ) (cells : List Cell) (m : Memory) (x n : ℕ) →
+    WordsFit rows workspace cells m → x + n ≤ workspace → are_defined (cells_from cells x n) ≡ true →
+    Reads m (word_address x) (4 * n)
 words_read rows workspace cells m x n f room defined = reads m (4 * n) (word_address x) byte
   where
     byte : (k : ℕ) → k < 4 * n → IsByte m (word_address x + k)
@@ -97,7 +104,11 @@ input_is image s x h =
 
     by_registers : (ra rb rc : Option ℕ) → ra ≡ Some (4 * image.packet) → rb ≡ Some link0_input → rc ≡ Some (word_address x)
         → (s.phase == 0) ≡ true → nat_le (4 * image.packet) (length s.to_come) ≡ true → in_workspace image (word_address x) (4 * image.packet) ≡ true
-        → option_and_then (λ n. option_and_then (λ channel. option_and_then (λ target. only_if (is_packet image channel n s && nat_le n (length s.to_come)) >>? (only_if (in_workspace image target n) >>? machine_descheduled image (record s { memory = with_bytes s.memory target (take n s.to_come); to_come = drop n s.to_come; phase = 1 }))) rc) rb) ra
+        → option_and_then (λ n. option_and_then (λ channel. option_and_then
+        (λ target. only_if (is_packet image channel n s && nat_le n (length s.to_come)) >>?
+        (only_if (in_workspace image target n) >>? machine_descheduled image
+        (record s { memory = with_bytes s.memory target (take n s.to_come); to_come = drop n s.to_come; phase = 1 })))
+        rc) rb) ra
         ≡ machine_descheduled image (record s { memory = with_bytes s.memory (word_address x) (take (4 * image.packet) s.to_come); to_come = drop (4 * image.packet) s.to_come; phase = 1 })
     by_registers ra rb rc ea eb ec phase long inside =
         let same : nat_eq (4 * image.packet) (4 * image.packet) ≡ true = (Decides-eqb (4 * image.packet) (4 * image.packet)).1 refl in
@@ -105,7 +116,10 @@ input_is image s x h =
 
 module _ (image : ImageValue) (around : ℕ → Bool) (next : ℕ) (t : State) (s : Machine) (f : FitsAmong image around next t s) (at : ℕ) (e : Edge) (t' : State) where
   input_fits : (x : ℕ) → IsTaking image s x → are_free (cells_from t.cells x image.packet) ≡ true
-      → FitsAmong image around next (record t { cells = with_cells t.cells x (replicate image.packet cell.Any); phase = 1 }) (taken image x s) × KeepsTurns image.loops around None s.memory (taken image x s).memory
+      → FitsAmong image around next (record t {
+        cells = with_cells t.cells x (replicate image.packet cell.Any);
+        phase = 1;
+      }) (taken image x s) × KeepsTurns image.loops around None s.memory (taken image x s).memory
   unfolding taken
   input_fits x h free =
       let w = words_fit image around next t s f cells' m' change small in (
@@ -183,10 +197,12 @@ module _ (image : ImageValue) (around : ℕ → Bool) (next : ℕ) (t : State) (
 -- a message of n words goes out, of this length, on this channel, and this is the phase after it
 record Sends (image : ImageValue) (s : Machine) (phase after n v w : ℕ) : Type 0 where
   whole : v ≡ 4 * n
-  sent : (bytes : List ℕ) (r : Machine) → length bytes ≡ v → r.phase ≡ phase → (out : List ℕ) × (trace : List ℕ) × (sent_on image w bytes r ≡ Some (record r { phase = after; sent = out; traced = trace }))
+  sent : (bytes : List ℕ) (r : Machine) → length bytes ≡ v → r.phase ≡ phase → (out : List ℕ) × (trace : List ℕ) ×
+      (sent_on image w bytes r ≡ Some (record r { phase = after; sent = out; traced = trace }))
   later : after ≡ 0 → phase ≡ 0
 
-result_sent : (image : ImageValue) (bytes : List ℕ) (r : Machine) → length bytes ≡ 4 * image.result → r.phase ≡ 1 → sent_on image link0_output bytes r ≡ Some (record r { phase = 2; sent = r.sent ++ bytes })
+result_sent : (image : ImageValue) (bytes : List ℕ) (r : Machine) → length bytes ≡ 4 * image.result → r.phase ≡ 1 →
+    sent_on image link0_output bytes r ≡ Some (record r { phase = 2; sent = r.sent ++ bytes })
 result_sent image bytes r long phase =
     let size : (length bytes == 4 * image.result) ≡ true = (Decides-eqb (length bytes) (4 * image.result)).1 long in
     let first : (r.phase == 1) ≡ true = (Decides-eqb r.phase 1).1 phase in
@@ -212,7 +228,8 @@ one_length (pos n, high) v in_a e go =
 one_length (negsuc n, high) v in_a e go =
     let parts = and_parts (int_eq (negsuc n) high) (int_le (pos 0) (negsuc n)) e in true_false (sym parts.1)
 
-sends : {P : Type 0} (image : ImageValue) (s : Machine) (k : Kind) (r : Option ℕ) (a : ℤ × ℤ) (n phase after v : ℕ) → KindFits image k r → InRange a.0 a.1 v → words_to_send image k a ≡ Ok n → phase_after k phase ≡ Ok after
+sends : {P : Type 0} (image : ImageValue) (s : Machine) (k : Kind) (r : Option ℕ) (a : ℤ × ℤ) (n phase after v : ℕ) →
+    KindFits image k r → InRange a.0 a.1 v → words_to_send image k a ≡ Ok n → phase_after k phase ≡ Ok after
     → ((w : ℕ) → r ≡ Some w → Sends image s phase after n v w → P) → P
 unfolding words_to_send phase_after
 sends {P} image s k r a n phase after v fits in_a sized later go =
@@ -294,7 +311,10 @@ output_is image s r x v w bytes end h = by_registers s.areg s.breg s.creg (machi
   where
     by_registers : (ra rb rc : Option ℕ) (o : Option Machine) → ra ≡ Some v → rb ≡ Some w → rc ≡ Some (word_address x) → o ≡ Some r
         → in_workspace image (word_address x) v ≡ true → bytes_at r.memory (word_address x) v ≡ Some bytes → sent_on image w bytes r ≡ Some end
-        → option_and_then (λ n. option_and_then (λ channel. option_and_then (λ source. only_if (in_workspace image source n) >>? option_and_then (λ s. option_and_then (λ message. sent_on image channel message s) (bytes_at s.memory source n)) o) rc) rb) ra ≡ Some end
+        → option_and_then (λ n. option_and_then (λ channel. option_and_then
+        (λ source. only_if (in_workspace image source n) >>? option_and_then
+        (λ s. option_and_then (λ message. sent_on image channel message s) (bytes_at s.memory source n)) o) rc) rb) ra
+        ≡ Some end
     by_registers ra rb rc o ea eb ec eo inside are sent = rw (ea, eb, ec, eo, inside, are) sent
 
 module _ (image : ImageValue) (around : ℕ → Bool) (next : ℕ) (t : State) (s : Machine) (f : FitsAmong image around next t s) where
@@ -330,7 +350,9 @@ module _ (image : ImageValue) (around : ℕ → Bool) (next : ℕ) (t : State) (
       number_is image t.a s.areg a a_is f.registers.a λ v v_is in_a.
       sends image s t.b s.breg a n t.phase after v f.registers.b in_a n_is after_is λ w w_is sending.
       rest image around next t s f u u_is λ free fits turns same.
-      let read : Reads (rested s).memory (word_address x) (4 * n) = words_read image.loops image.workspace u.cells (rested s).memory x n fits.words inside (ap (λ (z : State). are_defined (cells_from z.cells x n)) (sym same) ∙ defined) in
+      let read : Reads (rested s).memory (word_address x) (4 * n) =
+      words_read image.loops image.workspace u.cells (rested s).memory x n fits.words inside
+      (ap (λ (z : State). are_defined (cells_from z.cells x n)) (sym same) ∙ defined) in
       let v_whole : v ≡ 4 * n = sending.whole in
       let (out, trace, sent) = sending.sent read.bytes (rested s) (read.long ∙ sym v_whole) f.phase in
       let send : IsSending image s (rested s) x v w read.bytes (record (rested s) { phase = after; sent = out; traced = trace }) = record {

@@ -61,7 +61,8 @@ moves (negsuc n, high) v in_a e =
     true_false (sym second.1)
 
 -- the machine allows it
-allowed : (image : ImageValue) (x y n : ℕ) → 1 ≤ n → n ≤ 512 → x + n ≤ image.workspace → y + n ≤ image.workspace → are_apart n x y ≡ true → may_move image (4 * n) (word_address x) (word_address y) ≡ true
+allowed : (image : ImageValue) (x y n : ℕ) → 1 ≤ n → n ≤ 512 → x + n ≤ image.workspace → y + n ≤ image.workspace →
+    are_apart n x y ≡ true → may_move image (4 * n) (word_address x) (word_address y) ≡ true
 unfolding are_apart
 allowed image x y n some few target source apart =
     let whole : nat_eq ((4 * n) % 4) 0 ≡ true = grind (arith, nat_tests) in
@@ -81,13 +82,18 @@ record IsMoving (image : ImageValue) (s : Machine) (x y n : ℕ) (bytes : List �
   may : may_move image (4 * n) (word_address x) (word_address y) ≡ true
   are : bytes_at s.memory (word_address y) (4 * n) ≡ Some bytes
 
-move_is : (image : ImageValue) (s : Machine) (x y n : ℕ) (bytes : List ℕ) → IsMoving image s x y n bytes → effect image MoveBytes s ≡ Some (machine_no_registers (record s { memory = with_bytes s.memory (word_address x) bytes }))
+move_is : (image : ImageValue) (s : Machine) (x y n : ℕ) (bytes : List ℕ) → IsMoving image s x y n bytes →
+    effect image MoveBytes s ≡ Some (machine_no_registers (record s
+    { memory = with_bytes s.memory (word_address x) bytes }))
 unfolding effect
 move_is image s x y n bytes h = by_registers s.areg s.breg s.creg h.length_is h.target_is h.source_is h.has h.may h.are
   where
     by_registers : (ra rb rc : Option ℕ) → ra ≡ Some (4 * n) → rb ≡ Some (word_address x) → rc ≡ Some (word_address y)
         → has_move image.version ≡ true → may_move image (4 * n) (word_address x) (word_address y) ≡ true → bytes_at s.memory (word_address y) (4 * n) ≡ Some bytes
-        → option_and_then (λ n. option_and_then (λ target. option_and_then (λ source. only_if (has_move image.version && may_move image n target source) >>? option_and_then (λ bytes. Some (machine_no_registers (record s { memory = with_bytes s.memory target bytes }))) (bytes_at s.memory source n)) rc) rb) ra
+        → option_and_then (λ n. option_and_then (λ target. option_and_then
+        (λ source. only_if (has_move image.version && may_move image n target source) >>? option_and_then
+        (λ bytes. Some (machine_no_registers (record s { memory = with_bytes s.memory target bytes })))
+        (bytes_at s.memory source n)) rc) rb) ra
         ≡ Some (machine_no_registers (record s { memory = with_bytes s.memory (word_address x) bytes }))
     by_registers ra rb rc ea eb ec has may are = rw (ea, eb, ec, has, may, are)
 
@@ -132,6 +138,8 @@ module _ (image : ImageValue) (around : ℕ → Bool) (next : ℕ) (t : State) (
       }) ok
       (copies_taken image.loops image.workspace t.cells s.memory m' x y n f.words (omega (arith, f.words.sized)) (omega (arith, f.words.sized)) free
       (λ i lt. word_moved s.memory m' (word_address (x + i)) (word_address (y + i)) (λ k k_lt.
-      ap m' (copied_place x i k) ∙ written_in s.memory (word_address x) read.bytes (4 * i + k) (omega (arith, read.long)) ∙ sym (read.each (4 * i + k) (omega arith)) ∙ ap s.memory (sym (copied_place y i k))))
+      ap m' (copied_place x i k) ∙ written_in s.memory (word_address x) read.bytes (4 * i + k)
+      (omega (arith, read.long)) ∙ sym (read.each (4 * i + k) (omega arith)) ∙
+      ap s.memory (sym (copied_place y i k))))
       (λ i out lt. words_elsewhere s.memory x n i read.bytes read.long out))
       (written_small s.memory (word_address x) read.bytes f.bytes.memory (reads_small s.memory (word_address y) (4 * n) read f.bytes.memory)) tt tt tt

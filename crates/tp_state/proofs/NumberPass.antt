@@ -1,5 +1,7 @@
 -- What instructions on numbers make of a state that fits: arithmetic, shifts, comparisons.
-use Rattle.std.proofs.Common.{◌≡◌, ℕ, suc, ◌+◌, ◌-◌, ◌*◌, ◌/◌, ◌^◌, ◌<◌, ◌≤◌, Bool, true, false, ◌&&◌, ◌||◌, not, nat_lt, nat_le, if◌then◌else◌, ℤ, pos, negsuc, ◌+ℤ◌, ◌-ℤ◌, ◌*ℤ◌, ◌≤ℤ◌, Option, Some, None, Ok, refl, sym, ap, ◌∙◌, arith, pow_pos, pow-add, mul-le-mul_left}
+use Rattle.std.proofs.Common.{◌≡◌, ℕ, suc, ◌+◌, ◌-◌, ◌*◌, ◌/◌, ◌^◌, ◌<◌, ◌≤◌, Bool, true, false, ◌&&◌, ◌||◌, not}
+use Rattle.std.proofs.Common.{nat_lt, nat_le, if◌then◌else◌, ℤ, pos, negsuc, ◌+ℤ◌, ◌-ℤ◌, ◌*ℤ◌, ◌≤ℤ◌, Option, Some, None}
+use Rattle.std.proofs.Common.{Ok, refl, sym, ap, ◌∙◌, arith, pow_pos, pow-add, mul-le-mul_left}
 use Rattle.std.specs.Prelude.{int_le, int_lt, int_div, int_rem, bit_and, bit_or, bit_xor}
 use Rattle.std.specs.Ordering.{int_eq}
 use Rattle.std.specs.Option.{option_and_then}
@@ -23,7 +25,9 @@ use Rattle.tp_state.specs.declared.state.State.{State}
 use Rattle.tp_state.specs.declared.fault.StateCode.TheVariants.{S10}
 use Rattle.tp_state.specs.Kinds.{full, range, at_ends}
 use Rattle.tp_state.specs.Answer.{◌>>=◌, ◌>>◌, unless}
-use Rattle.tp_state.specs.Rules.{replace_pair, power, rule, one_number, two_numbers, sum_of, difference, product, is_positive, quotients, remainders, conjunctions, shifted_up, shifted_down, truth_value, are_shift_counts}
+use Rattle.tp_state.specs.Rules.{replace_pair, power, rule, one_number, two_numbers, sum_of, difference, product}
+use Rattle.tp_state.specs.Rules.{is_positive, quotients, remainders, conjunctions, shifted_up, shifted_down}
+use Rattle.tp_state.specs.Rules.{truth_value, are_shift_counts}
 use Rattle.tp_state.specs.Fits.{InRange, KindFits, FitsAmong}
 use Rattle.tp_state.proofs.Passing.{through, bound, held, past_is}
 use Rattle.tp_state.proofs.Products.{between_corners, mul_up, div_more, quotient_up, remainder_low, remainder_high, remainder_sign}
@@ -105,7 +109,9 @@ divided_is : (divide : ℤ → ℤ → ℤ) (b a : ℤ) (s : Machine) → divide
 unfolding refuses divided_word divided_error
 divided_is divide b a s = by_test (int_eq a (pos 0) || (int_eq b least_integer && int_eq a minus_one))
   where
-    by_test : (c : Bool) → (if c then machine_replace_pair 0 (record s { error = true }) else machine_replace_pair (low_word (divide b a)) s) ≡ machine_replace_pair (if c then 0 else low_word (divide b a)) (record s { error = if c then true else s.error })
+    by_test : (c : Bool) → (if c then machine_replace_pair 0 (record s { error = true }) else machine_replace_pair
+        (low_word (divide b a)) s) ≡ machine_replace_pair (if c then 0 else low_word (divide b a))
+        (record s { error = if c then true else s.error })
     by_test true = refl
     by_test false = refl
 
@@ -131,7 +137,8 @@ pub from_zero : (z : ℤ) → int_le (pos 0) z ≡ true → pos 0 ≤ℤ z
 from_zero z e = grind (arith, ints, nat_tests)
 
 -- one divisor above 0
-one_divisor : {P : Type 0} (a : ℤ × ℤ) (x : ℕ) → InRange a.0 a.1 x → int_eq a.0 a.1 ≡ true → int_lt (pos 0) a.0 ≡ true → ((d : ℕ) → 0 < d → d < 2 ^ 31 → a.0 ≡ pos d → a.1 ≡ pos d → signed x ≡ pos d → P) → P
+one_divisor : {P : Type 0} (a : ℤ × ℤ) (x : ℕ) → InRange a.0 a.1 x → int_eq a.0 a.1 ≡ true → int_lt (pos 0) a.0 ≡ true →
+    ((d : ℕ) → 0 < d → d < 2 ^ 31 → a.0 ≡ pos d → a.1 ≡ pos d → signed x ≡ pos d → P) → P
 one_divisor a x in_a same positive go =
     let same' : a.0 ≡ a.1 = (Decides-int_eq a.0 a.1).0 same in
     let above = in_a.above in
@@ -291,7 +298,8 @@ shift_test a x c =
 power_up : (j k : ℕ) → j ≤ k → 2 ^ j ≤ 2 ^ k
 power_up j k h = pow-le-pow_right (omega arith) h
 
-down_bounds : (x y low high : ℕ) (b : ℤ × ℤ) → low ≤ x → x ≤ high → pos 0 ≤ℤ b.0 → b.0 ≤ℤ pos y → pos y ≤ℤ b.1 → (int_div b.0 (pos (2 ^ high)) ≤ℤ pos (y / 2 ^ x)) × (pos (y / 2 ^ x) ≤ℤ int_div b.1 (pos (2 ^ low)))
+down_bounds : (x y low high : ℕ) (b : ℤ × ℤ) → low ≤ x → x ≤ high → pos 0 ≤ℤ b.0 → b.0 ≤ℤ pos y → pos y ≤ℤ b.1 →
+    (int_div b.0 (pos (2 ^ high)) ≤ℤ pos (y / 2 ^ x)) × (pos (y / 2 ^ x) ≤ℤ int_div b.1 (pos (2 ^ low)))
 down_bounds x y low high (pos m, pos n) above below zero_low at_least at_most =
     let least = div_more m y (2 ^ x) (2 ^ high) (pow_pos x) (power_up x high below) (omega (arith, ints)) in
     let most = div_more y n (2 ^ low) (2 ^ x) (pow_pos low) (power_up low x above) (omega (arith, ints)) in
@@ -372,15 +380,18 @@ module _ (image : ImageValue) (around : ℕ → Bool) (next : ℕ) (t : State) (
 
   pub eqc_makes : (n : ℤ) → rule image at next (Eqc n) e t ≡ Ok t' → Makes image around None next (Eqc n) t' s
   unfolding rule effect
-  eqc_makes n ok = replaced image around next t s f (Eqc n) t' (λ a. truth_value) (λ x. truth (int_eq (signed x) n)) (λ x. s.error) refl (bound (one_number t) _ t' ok) λ a x in_a. truth_fits image (int_eq (signed x) n)
+  eqc_makes n ok = replaced image around next t s f (Eqc n) t' (λ a. truth_value) (λ x. truth (int_eq (signed x) n))
+      (λ x. s.error) refl (bound (one_number t) _ t' ok) λ a x in_a. truth_fits image (int_eq (signed x) n)
 
   pub add_makes : rule image at next Add e t ≡ Ok t' → Makes image around None next Add t' s
   unfolding rule effect
-  add_makes ok = operated image around next t s f Add t' (at_ends sum_of) (λ y x. low_word (signed y +ℤ signed x)) (λ y x. s.error || overflows (signed y +ℤ signed x)) _ refl (λ y x. refl) ok (sum_fits image)
+  add_makes ok = operated image around next t s f Add t' (at_ends sum_of) (λ y x. low_word (signed y +ℤ signed x))
+      (λ y x. s.error || overflows (signed y +ℤ signed x)) _ refl (λ y x. refl) ok (sum_fits image)
 
   pub sub_makes : rule image at next Sub e t ≡ Ok t' → Makes image around None next Sub t' s
   unfolding rule effect
-  sub_makes ok = operated image around next t s f Sub t' (at_ends difference) (λ y x. low_word (signed y -ℤ signed x)) (λ y x. s.error || overflows (signed y -ℤ signed x)) _ refl (λ y x. refl) ok (difference_fits image)
+  sub_makes ok = operated image around next t s f Sub t' (at_ends difference) (λ y x. low_word (signed y -ℤ signed x))
+      (λ y x. s.error || overflows (signed y -ℤ signed x)) _ refl (λ y x. refl) ok (difference_fits image)
 
   pub sum_makes : rule image at next Sum e t ≡ Ok t' → Makes image around None next Sum t' s
   unfolding rule effect
@@ -394,12 +405,15 @@ module _ (image : ImageValue) (around : ℕ → Bool) (next : ℕ) (t : State) (
 
   pub gt_makes : rule image at next Gt e t ≡ Ok t' → Makes image around None next Gt t' s
   unfolding rule effect
-  gt_makes ok = operated image around next t s f Gt t' (λ b a. truth_value) (λ y x. truth (int_lt (signed x) (signed y))) (λ y x. s.error) _ refl (λ y x. refl) (bound (two_numbers t) _ t' ok) λ a b x y in_a in_b.
+  gt_makes ok = operated image around next t s f Gt t' (λ b a. truth_value)
+      (λ y x. truth (int_lt (signed x) (signed y))) (λ y x. s.error) _ refl (λ y x. refl) (bound (two_numbers t) _ t' ok)
+      λ a b x y in_a in_b.
       truth_fits image (int_lt (signed x) (signed y))
 
   pub mul_makes : rule image at next Mul e t ≡ Ok t' → Makes image around None next Mul t' s
   unfolding rule effect
-  mul_makes ok = operated image around next t s f Mul t' (at_ends product) (λ y x. low_word (signed y *ℤ signed x)) (λ y x. s.error || overflows (signed y *ℤ signed x)) _ refl (λ y x. refl) ok (product_fits image)
+  mul_makes ok = operated image around next t s f Mul t' (at_ends product) (λ y x. low_word (signed y *ℤ signed x))
+      (λ y x. s.error || overflows (signed y *ℤ signed x)) _ refl (λ y x. refl) ok (product_fits image)
 
   pub prod_makes : rule image at next Prod e t ≡ Ok t' → Makes image around None next Prod t' s
   unfolding rule effect
@@ -407,11 +421,15 @@ module _ (image : ImageValue) (around : ℕ → Bool) (next : ℕ) (t : State) (
 
   pub div_makes : rule image at next Div e t ≡ Ok t' → Makes image around None next Div t' s
   unfolding rule effect
-  div_makes ok = operated image around next t s f Div t' quotients (λ y x. divided_word int_div (signed y) (signed x)) (λ y x. divided_error (signed y) (signed x) s.error) _ refl (λ y x. divided_is int_div (signed y) (signed x) s) ok (quotient_fits image)
+  div_makes ok = operated image around next t s f Div t' quotients (λ y x. divided_word int_div (signed y) (signed x))
+      (λ y x. divided_error (signed y) (signed x) s.error) _ refl (λ y x. divided_is int_div (signed y) (signed x) s) ok
+      (quotient_fits image)
 
   pub rem_makes : rule image at next Rem e t ≡ Ok t' → Makes image around None next Rem t' s
   unfolding rule effect
-  rem_makes ok = operated image around next t s f Rem t' remainders (λ y x. divided_word int_rem (signed y) (signed x)) (λ y x. divided_error (signed y) (signed x) s.error) _ refl (λ y x. divided_is int_rem (signed y) (signed x) s) ok (remainder_fits image)
+  rem_makes ok = operated image around next t s f Rem t' remainders (λ y x. divided_word int_rem (signed y) (signed x))
+      (λ y x. divided_error (signed y) (signed x) s.error) _ refl (λ y x. divided_is int_rem (signed y) (signed x) s) ok
+      (remainder_fits image)
 
   pub not_makes : rule image at next BitNot e t ≡ Ok t' → Makes image around None next BitNot t' s
   unfolding rule effect

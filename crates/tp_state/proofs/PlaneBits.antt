@@ -1,8 +1,12 @@
 -- Bits of numbers, as tests.
-use Rattle.std.proofs.Common.{◌≡◌, ◌⊎◌, inl, inr, ℕ, ◌+◌, ◌-◌, ◌*◌, ◌^◌, ◌<◌, ◌≤◌, ◌==◌, nat_lt, nat_le, Bool, true, false, not, ◌&&◌, ◌||◌, bit_and, bit_or, bit_xor, min, max, w64, refl, sym, ap, ◌∙◌, arith, ◌%◌}
+use Rattle.std.proofs.Common.{◌≡◌, ◌⊎◌, inl, inr, ℕ, ◌+◌, ◌-◌, ◌*◌, ◌^◌, ◌<◌, ◌≤◌, ◌==◌, nat_lt, nat_le, Bool, true}
+use Rattle.std.proofs.Common.{false, not, ◌&&◌, ◌||◌, bit_and, bit_or, bit_xor, min, max, w64, refl, sym, ap, ◌∙◌}
+use Rattle.std.proofs.Common.{arith, ◌%◌}
 use Rattle.std.proofs.lemmas.Bool.{cases_lt}
 use Rattle.std.proofs.lemmas.Bool.Decides.{nat_tests}
-use Rattle.std.proofs.lemmas.Nat.Bits.{bit_at-lt, bit_at_or, bit_at_and, bit_at_xor, bit_at_ones, bit_at_ones_above, bit_at-pow_same, bit_at-pow_other, bit_at-zero, bit_at-trailing_zeros, same_from_bits}
+use Rattle.std.proofs.lemmas.Nat.Bits.{bit_at-lt, bit_at_or, bit_at_and, bit_at_xor, bit_at_ones, bit_at_ones_above}
+use Rattle.std.proofs.lemmas.Nat.Bits.{bit_at-pow_same, bit_at-pow_other, bit_at-zero, bit_at-trailing_zeros}
+use Rattle.std.proofs.lemmas.Nat.Bits.{same_from_bits}
 use Rattle.std.specs.Int.{bit_at, trailing_zeros}
 use Rattle.tp_state.specs.Planes.{is_set}
 
@@ -70,7 +74,9 @@ set_one_other k j other = ap (λ n. n == 1) (bit_at-pow_other k j other)
 one_of_tests : (x end w j : ℕ) → x ≤ end → j < 64 → one_of (nat_lt j (min (end - 64 * w) 64)) (nat_lt j (min (x - 64 * w) 64)) ≡ (nat_le x (64 * w + j) && nat_lt (64 * w + j) end)
 one_of_tests x end w j order lt = by_place (cases_lt (64 * w + j) x) (cases_lt (64 * w + j) end)
   where
-    by_place : (64 * w + j < x) ⊎ (x ≤ 64 * w + j) → (64 * w + j < end) ⊎ (end ≤ 64 * w + j) → one_of (nat_lt j (min (end - 64 * w) 64)) (nat_lt j (min (x - 64 * w) 64)) ≡ (nat_le x (64 * w + j) && nat_lt (64 * w + j) end)
+    by_place : (64 * w + j < x) ⊎ (x ≤ 64 * w + j) → (64 * w + j < end) ⊎ (end ≤ 64 * w + j) →
+        one_of (nat_lt j (min (end - 64 * w) 64)) (nat_lt j (min (x - 64 * w) 64)) ≡
+        (nat_le x (64 * w + j) && nat_lt (64 * w + j) end)
     by_place (inl before) (inl under) =
         let a : nat_lt j (min (end - 64 * w) 64) ≡ true = grind (arith, nat_tests) in
         let b : nat_lt j (min (x - 64 * w) 64) ≡ true = grind (arith, nat_tests) in
@@ -90,8 +96,10 @@ one_of_tests x end w j order lt = by_place (cases_lt (64 * w + j) x) (cases_lt (
         let d : nat_lt (64 * w + j) end ≡ false = grind (arith, nat_tests) in
         rw (a, b, c, d) refl
 
-pub set_within : (x end w j a b : ℕ) → a ≡ min (end - 64 * w) 64 → b ≡ min (x - 64 * w) 64 → x ≤ end → j < 64 → is_set (bit_xor (2 ^ a - 1) (2 ^ b - 1)) j ≡ (nat_le x (64 * w + j) && nat_lt (64 * w + j) end)
-set_within x end w j a b e f order lt = rw (e, f) (set-xor (2 ^ min (end - 64 * w) 64 - 1) (2 ^ min (x - 64 * w) 64 - 1) j ∙ rw (set_ones (min (end - 64 * w) 64) j, set_ones (min (x - 64 * w) 64) j) (one_of_tests x end w j order lt))
+pub set_within : (x end w j a b : ℕ) → a ≡ min (end - 64 * w) 64 → b ≡ min (x - 64 * w) 64 → x ≤ end → j < 64 →
+    is_set (bit_xor (2 ^ a - 1) (2 ^ b - 1)) j ≡ (nat_le x (64 * w + j) && nat_lt (64 * w + j) end)
+set_within x end w j a b e f order lt = rw (e, f) (set-xor (2 ^ min (end - 64 * w) 64 - 1) (2 ^ min (x - 64 * w) 64 - 1)
+    j ∙ rw (set_ones (min (end - 64 * w) 64) j, set_ones (min (x - 64 * w) 64) j) (one_of_tests x end w j order lt))
 
 -- ---- whether any is set
 

@@ -1,5 +1,7 @@
 -- What words of planes say of cells, bit by bit.
-use Rattle.std.proofs.Common.{◌≡◌, ◌⊎◌, inl, inr, ℕ, ◌-◌, ◌^◌, ◌<◌, ◌≤◌, ◌==◌, nat_lt, Bool, true, false, not, IsTrue, if◌then◌else◌, ◌&&◌, ◌||◌, bit_and, bit_or, bit_xor, ℤ, w32, refl, sym, ap, ◌∙◌, arith, rules}
+use Rattle.std.proofs.Common.{◌≡◌, ◌⊎◌, inl, inr, ℕ, ◌-◌, ◌^◌, ◌<◌, ◌≤◌, ◌==◌, nat_lt, Bool, true, false, not, IsTrue}
+use Rattle.std.proofs.Common.{if◌then◌else◌, ◌&&◌, ◌||◌, bit_and, bit_or, bit_xor, ℤ, w32, refl, sym, ap, ◌∙◌, arith}
+use Rattle.std.proofs.Common.{rules}
 use Rattle.std.proofs.lemmas.Bool.{cases_lt, cases_eq}
 use Rattle.std.proofs.lemmas.Bool.Decides.{nat_tests}
 use Rattle.std.proofs.lemmas.Int.{of_z-to_z}
@@ -82,13 +84,19 @@ kept_bit false false v = refl
 kept_bit false true v = refl
 
 set-blurred : (mask : ℕ) (b : Bits) (j : ℕ) → is_set (bit_or b.first (bit_xor (bit_and b.second mask) mask)) j ≡ (is_set b.first j || one_of (is_set b.second j && is_set mask j) (is_set mask j))
-set-blurred mask b j = set-or b.first (bit_xor (bit_and b.second mask) mask) j ∙ ap (λ t. is_set b.first j || t) (set-xor (bit_and b.second mask) mask j ∙ ap (λ t. one_of t (is_set mask j)) (set-and b.second mask j))
+set-blurred mask b j = set-or b.first (bit_xor (bit_and b.second mask) mask) j ∙
+    ap (λ t. is_set b.first j || t) (set-xor (bit_and b.second mask) mask j ∙
+    ap (λ t. one_of t (is_set mask j)) (set-and b.second mask j))
 
 pub blurred_in : (mask : ℕ) (b : Bits) (j v : ℕ) → is_set mask j ≡ true → bits_cell (blurred_bits mask b) j v ≡ blurred (bits_cell b j v)
-blurred_in mask b j v e = ap (λ t. cell_of t (is_set b.second j) v) (set-blurred mask b j ∙ ap (λ t. is_set b.first j || one_of (is_set b.second j && t) t) e) ∙ blurred_bit (is_set b.first j) (is_set b.second j) v
+blurred_in mask b j v e = ap (λ t. cell_of t (is_set b.second j) v)
+    (set-blurred mask b j ∙ ap (λ t. is_set b.first j || one_of (is_set b.second j && t) t) e) ∙
+    blurred_bit (is_set b.first j) (is_set b.second j) v
 
 pub blurred_out : (mask : ℕ) (b : Bits) (j v : ℕ) → is_set mask j ≡ false → bits_cell (blurred_bits mask b) j v ≡ bits_cell b j v
-blurred_out mask b j v e = ap (λ t. cell_of t (is_set b.second j) v) (set-blurred mask b j ∙ ap (λ t. is_set b.first j || one_of (is_set b.second j && t) t) e) ∙ kept_bit (is_set b.first j) (is_set b.second j) v
+blurred_out mask b j v e = ap (λ t. cell_of t (is_set b.second j) v)
+    (set-blurred mask b j ∙ ap (λ t. is_set b.first j || one_of (is_set b.second j && t) t) e) ∙
+    kept_bit (is_set b.first j) (is_set b.second j) v
 
 live_bit : (p q : Bool) (v : ℕ) → (q && one_of p q) ≡ not (is_free (cell_of p q v))
 live_bit true true v = refl
@@ -170,7 +178,8 @@ join_any_live u (inl (is, _)) = rw is refl
 join_any_live u (inr (is, _)) = rw is refl
 
 -- a join is an OR, and the first bit of words whose second bits or values differ
-pub join_bit : (p q p' q' d : Bool) (v u : ℕ) → v < 2 ^ 32 → u < 2 ^ 32 → (p ≡ false → p' ≡ false → d ≡ not (v == u)) → cell_of (((p || p') || one_of q q') || d) (q || q') v ≡ join_cells (cell_of p q v) (cell_of p' q' u)
+pub join_bit : (p q p' q' d : Bool) (v u : ℕ) → v < 2 ^ 32 → u < 2 ^ 32 → (p ≡ false → p' ≡ false → d ≡ not (v == u)) →
+    cell_of (((p || p') || one_of q q') || d) (q || q') v ≡ join_cells (cell_of p q v) (cell_of p' q' u)
 join_bit true true p' q' d v u small small' reports = refl
 join_bit true false true true d v u small small' reports = refl
 join_bit true false true false d v u small small' reports = refl
@@ -201,13 +210,16 @@ join_bit false false false false d v u small small' reports = by_values (cases_e
         let on : d ≡ true = reports refl refl ∙ other_test v u other in
         rw on (sym (join_known_other v u small small' other))
 
-pub joined_where : (d : ℕ) (b c : Bits) (j v u : ℕ) → v < 2 ^ 32 → u < 2 ^ 32 → (is_set b.first j ≡ false → is_set c.first j ≡ false → is_set d j ≡ not (v == u)) → bits_cell (joined_bits d b c) j v ≡ join_cells (bits_cell b j v) (bits_cell c j u)
+pub joined_where : (d : ℕ) (b c : Bits) (j v u : ℕ) → v < 2 ^ 32 → u < 2 ^ 32 →
+    (is_set b.first j ≡ false → is_set c.first j ≡ false → is_set d j ≡ not (v == u)) →
+    bits_cell (joined_bits d b c) j v ≡ join_cells (bits_cell b j v) (bits_cell c j u)
 joined_where d b c j v u small small' reports =
     ap (λ t. cell_of t (is_set (bit_or b.second c.second) j) v) first
     ∙ ap (λ t. cell_of (((is_set b.first j || is_set c.first j) || one_of (is_set b.second j) (is_set c.second j)) || is_set d j) t v) (set-or b.second c.second j)
     ∙ join_bit (is_set b.first j) (is_set b.second j) (is_set c.first j) (is_set c.second j) (is_set d j) v u small small' reports
   where
-    first : is_set (bit_or (bit_or (bit_or b.first c.first) (bit_xor b.second c.second)) d) j ≡ (((is_set b.first j || is_set c.first j) || one_of (is_set b.second j) (is_set c.second j)) || is_set d j)
+    first : is_set (bit_or (bit_or (bit_or b.first c.first) (bit_xor b.second c.second)) d) j ≡
+        (((is_set b.first j || is_set c.first j) || one_of (is_set b.second j) (is_set c.second j)) || is_set d j)
     first =
         set-or (bit_or (bit_or b.first c.first) (bit_xor b.second c.second)) d j
         ∙ ap (λ t. t || is_set d j) (set-or (bit_or b.first c.first) (bit_xor b.second c.second) j
@@ -289,5 +301,7 @@ below_bit false false false false d v u small small' reports = by_values (cases_
 set-failing : (d : ℕ) (b c : Bits) (j : ℕ) → is_set (failing_bits d b c) j ≡ fails (is_set b.first j) (is_set b.second j) (is_set c.first j) (is_set c.second j) (is_set d j)
 set-failing d b c j = simp (set-or, set-and, set-xor)
 
-pub failing_where : (d : ℕ) (b c : Bits) (j v u : ℕ) → v < 2 ^ 32 → u < 2 ^ 32 → (is_set b.first j ≡ false → is_set c.first j ≡ false → is_set d j ≡ not (v == u)) → is_set (failing_bits d b c) j ≡ not (cell_below (bits_cell b j v) (bits_cell c j u))
+pub failing_where : (d : ℕ) (b c : Bits) (j v u : ℕ) → v < 2 ^ 32 → u < 2 ^ 32 →
+    (is_set b.first j ≡ false → is_set c.first j ≡ false → is_set d j ≡ not (v == u)) →
+    is_set (failing_bits d b c) j ≡ not (cell_below (bits_cell b j v) (bits_cell c j u))
 failing_where d b c j v u small small' reports = set-failing d b c j ∙ below_bit (is_set b.first j) (is_set b.second j) (is_set c.first j) (is_set c.second j) (is_set d j) v u small small' reports

@@ -1,5 +1,7 @@
 -- Words of planes that are joined, or compared.
-use Rattle.std.proofs.Common.{◌≡◌, ◌⊎◌, inl, inr, ℕ, zero, suc, ◌+◌, ◌-◌, ◌*◌, ◌/◌, ◌%◌, ◌^◌, ◌<◌, ◌≤◌, ◌==◌, nat_lt, Bool, true, false, not, ◌||◌, List, length, min, slice_set, get_or, bit_or, bit_xor, refl, sym, ap, ◌∙◌, arith}
+use Rattle.std.proofs.Common.{◌≡◌, ◌⊎◌, inl, inr, ℕ, zero, suc, ◌+◌, ◌-◌, ◌*◌, ◌/◌, ◌%◌, ◌^◌, ◌<◌, ◌≤◌, ◌==◌, nat_lt}
+use Rattle.std.proofs.Common.{Bool, true, false, not, ◌||◌, List, length, min, slice_set, get_or, bit_or, bit_xor, refl}
+use Rattle.std.proofs.Common.{sym, ap, ◌∙◌, arith}
 use Rattle.std.proofs.lemmas.Bool.{cases_lt, cases_eq, false≢true}
 use Rattle.std.proofs.lemmas.Bool.Decides.{nat_tests}
 use Rattle.std.proofs.lemmas.List.{set-get_or}
@@ -39,7 +41,8 @@ same_none : (a b : Bool) → a ≡ b → one_of a b ≡ false
 same_none true b e = rw (← e) refl
 same_none false b e = sym e
 
-pub some_moved : (new old : Bits) → not (bit_or (bit_xor new.first old.first) (bit_xor new.second old.second) == 0) ≡ true → bit_or (bit_xor new.first old.first) (bit_xor new.second old.second) < 2 ^ 64 → Moves old new
+pub some_moved : (new old : Bits) → not (bit_or (bit_xor new.first old.first) (bit_xor new.second old.second) == 0) ≡
+    true → bit_or (bit_xor new.first old.first) (bit_xor new.second old.second) < 2 ^ 64 → Moves old new
 some_moved new old e small =
     let found = some_set (bit_or (bit_xor new.first old.first) (bit_xor new.second old.second)) (is_some (bit_or (bit_xor new.first old.first) (bit_xor new.second old.second)) e) small in
     (found.0, found.1, λ same. false≢true (sym (clear found.0 same) ∙ found.2))
@@ -106,17 +109,23 @@ abbrev pub TellsDiffer : List ℕ → List ℕ → (w d : ℕ) → Bits → Bits
 TellsDiffer values others w d b c = (p : ℕ) → p / 64 ≡ w → is_set b.first (p % 64) ≡ false → is_set c.first (p % 64) ≡ false → is_set d (p % 64) ≡ not (get_or values p 0 == get_or others p 0)
 
 -- words behind the workspace have none
-open_inside : (values : List ℕ) (planes : List Bits) (w p : ℕ) → ((x : ℕ) → length values ≤ x → x / 64 ≡ w → cell_in values planes x ≡ Undef) → p / 64 ≡ w → is_set (get_or planes w no_bits).first (p % 64) ≡ false → p < length values
+open_inside : (values : List ℕ) (planes : List Bits) (w p : ℕ) →
+    ((x : ℕ) → length values ≤ x → x / 64 ≡ w → cell_in values planes x ≡ Undef) → p / 64 ≡ w →
+    is_set (get_or planes w no_bits).first (p % 64) ≡ false → p < length values
 open_inside values planes w p padded here clear = by_place (cases_lt p (length values))
   where
     by_place : (p < length values) ⊎ (length values ≤ p) → p < length values
     by_place (inl lt) = lt
     by_place (inr past) =
         let undefined : bits_cell (get_or planes w no_bits) (p % 64) (get_or values p 0) ≡ Undef = sym (cell_in-word values planes p w here) ∙ padded p past here in
-        let on : is_set (get_or planes w no_bits).first (p % 64) ≡ true = (same_bits (is_set (get_or planes w no_bits).first (p % 64)) (is_set (get_or planes w no_bits).second (p % 64)) true true (get_or values p 0) undefined).0 in
+        let on : is_set (get_or planes w no_bits).first (p % 64) ≡ true =
+        (same_bits (is_set (get_or planes w no_bits).first (p % 64))
+        (is_set (get_or planes w no_bits).second (p % 64)) true true (get_or values p 0) undefined).0 in
         absurd (false≢true (sym clear ∙ on))
 
-tells_inside : (values others : List ℕ) (w k d : ℕ) (b c : Bits) → DifferAt values others w k d → Closes k b c → (p : ℕ) → p / 64 ≡ w → p < length values → is_set b.first (p % 64) ≡ false → is_set c.first (p % 64) ≡ false → is_set d (p % 64) ≡ not (get_or values p 0 == get_or others p 0)
+tells_inside : (values others : List ℕ) (w k d : ℕ) (b c : Bits) → DifferAt values others w k d → Closes k b c →
+    (p : ℕ) → p / 64 ≡ w → p < length values → is_set b.first (p % 64) ≡ false → is_set c.first (p % 64) ≡ false →
+    is_set d (p % 64) ≡ not (get_or values p 0 == get_or others p 0)
 tells_inside values others w k d b c differ closes p here lt clear other =
     let back : 64 * w + p % 64 ≡ p = omega (arith, here) in
     differ (p % 64) (in_word p) (omega (arith, back, lt)) (not_closed k b c (p % 64) closes clear other) ∙ ap (λ i. not (get_or values i 0 == get_or others i 0)) back
@@ -126,13 +135,17 @@ pub tells_joining : (values other_values : List ℕ) (old others mid : List Bits
     → ChangesPlanes values old mid (λ i c. join_cells c (cell_in other_values others i)) 0 (min (64 * length old) (64 * w))
     → DifferAt values other_values w k d → Closes k (get_or mid w no_bits) (get_or others w no_bits)
     → TellsDiffer values other_values w d (get_or mid w no_bits) (get_or others w no_bits)
-tells_joining values other_values old others mid w k d padded room h differ closes p here clear other = tells_inside values other_values w k d (get_or mid w no_bits) (get_or others w no_bits) differ closes p here (open_inside values mid w p still here clear) clear other
+tells_joining values other_values old others mid w k d padded room h differ closes p here clear other =
+    tells_inside values other_values w k d (get_or mid w no_bits) (get_or others w no_bits) differ closes p here
+    (open_inside values mid w p still here clear) clear other
   where
     -- the words from w on are as they were
     still : (x : ℕ) → length values ≤ x → x / 64 ≡ w → cell_in values mid x ≡ Undef
     still x past at = h.outside x (inr (omega (arith, at))) ∙ padded x past (omega (arith, at, room, h.long))
 
-pub tells_comparing : (values other_values : List ℕ) (planes others : List Bits) (w k d : ℕ) → ((x : ℕ) → length other_values ≤ x → x < 64 * length others → cell_in other_values others x ≡ Undef) → w < length others → length other_values ≡ length values
+pub tells_comparing : (values other_values : List ℕ) (planes others : List Bits) (w k d : ℕ) →
+    ((x : ℕ) → length other_values ≤ x → x < 64 * length others → cell_in other_values others x ≡ Undef) →
+    w < length others → length other_values ≡ length values
     → DifferAt values other_values w k d → Closes k (get_or planes w no_bits) (get_or others w no_bits)
     → TellsDiffer values other_values w d (get_or planes w no_bits) (get_or others w no_bits)
 tells_comparing values other_values planes others w k d padded room long differ closes p here clear other =
@@ -153,7 +166,9 @@ pub joined_more : (values other_values : List ℕ) (old others mid : List Bits) 
     → ChangesPlanes values old mid (λ i c. join_cells c (cell_in other_values others i)) 0 (min (64 * length old) (64 * w))
     → b ≡ joined_bits d (get_or mid w no_bits) (get_or others w no_bits)
     → ChangesPlanes values old (slice_set mid w b) (λ i c. join_cells c (cell_in other_values others i)) 0 (min (64 * length old) (64 * (w + 1)))
-joined_more values other_values old others mid w d b words other_words reports room h is = changes_more values old mid (λ i c. join_cells c (cell_in other_values others i)) 0 (64 * length old) w b h room takes keeps
+joined_more values other_values old others mid w d b words other_words reports room h is =
+    changes_more values old mid (λ i c. join_cells c (cell_in other_values others i)) 0 (64 * length old) w b h room takes
+    keeps
   where
     was : Bits
     was = get_or mid w no_bits
@@ -169,16 +184,21 @@ joined_more values other_values old others mid w d b words other_words reports r
     keeps p here (inr past) = absurd (omega (arith, here, past, room, h.long))
 
 -- a word that moved moved a cell
-moved_cell : (values : List ℕ) (mid : List Bits) (w : ℕ) (b : Bits) → w < length mid → Moves (get_or mid w no_bits) b → (i : ℕ) × (i / 64 ≡ w) × ¬ (cell_in values (slice_set mid w b) i ≡ cell_in values mid i)
+moved_cell : (values : List ℕ) (mid : List Bits) (w : ℕ) (b : Bits) → w < length mid → Moves (get_or mid w no_bits) b →
+    (i : ℕ) × (i / 64 ≡ w) × ¬ (cell_in values (slice_set mid w b) i ≡ cell_in values mid i)
 moved_cell values mid w b room moves =
     let word_of : (64 * w + moves.0) / 64 ≡ w = omega (arith, moves.1) in
     let bit_of : (64 * w + moves.0) % 64 ≡ moves.0 = omega (arith, moves.1) in
     (64 * w + moves.0, word_of, λ same. moves.2 (at moves.0 (64 * w + moves.0) word_of bit_of same))
   where
-    at : (j p : ℕ) → p / 64 ≡ w → p % 64 ≡ j → cell_in values (slice_set mid w b) p ≡ cell_in values mid p → (is_set b.first j ≡ is_set (get_or mid w no_bits).first j) × (is_set b.second j ≡ is_set (get_or mid w no_bits).second j)
+    at : (j p : ℕ) → p / 64 ≡ w → p % 64 ≡ j → cell_in values (slice_set mid w b) p ≡ cell_in values mid p →
+        (is_set b.first j ≡ is_set (get_or mid w no_bits).first j) ×
+        (is_set b.second j ≡ is_set (get_or mid w no_bits).second j)
     at j p word_of bit_of same =
         let new : cell_in values (slice_set mid w b) p ≡ bits_cell b j (get_or values p 0) = cell_in-set_same values mid w b p room word_of ∙ ap (λ k. bits_cell b k (get_or values p 0)) bit_of in
-        let old : cell_in values mid p ≡ bits_cell (get_or mid w no_bits) j (get_or values p 0) = cell_in-word values mid p w word_of ∙ ap (λ k. bits_cell (get_or mid w no_bits) k (get_or values p 0)) bit_of in
+        let old : cell_in values mid p ≡ bits_cell (get_or mid w no_bits) j (get_or values p 0) =
+        cell_in-word values mid p w word_of ∙ ap (λ k. bits_cell (get_or mid w no_bits) k (get_or values p 0))
+        bit_of in
         same_bits (is_set b.first j) (is_set b.second j) (is_set (get_or mid w no_bits).first j) (is_set (get_or mid w no_bits).second j) (get_or values p 0) (sym new ∙ same ∙ old)
 
 pub joins_none : (values other_values : List ℕ) (old others : List Bits) → JoinsPlanes values other_values old others old 0 false
@@ -240,7 +260,9 @@ joins_more values other_values old others mid w d b before (suc m) words other_w
     let some : 0 < bit_or before (suc m) = omega (arith, le_or_r before (suc m)) in
     rw (is_positive (bit_or before (suc m)) some) (joins_moved values other_values old others mid w d b (not (before == 0)) words other_words reports room h is (moves (omega arith)))
 
-pub joined_end : (values other_values : List ℕ) (old others new : List Bits) (w : ℕ) (changed : Bool) → JoinsPlanes values other_values old others new w changed → w ≡ length old → ChangesPlanes values old new (λ i c. join_cells c (cell_in other_values others i)) 0 (64 * length old)
+pub joined_end : (values other_values : List ℕ) (old others new : List Bits) (w : ℕ) (changed : Bool) →
+    JoinsPlanes values other_values old others new w changed → w ≡ length old →
+    ChangesPlanes values old new (λ i c. join_cells c (cell_in other_values others i)) 0 (64 * length old)
 joined_end values other_values old others new w changed h end =
     let whole : min (64 * length old) (64 * w) ≡ 64 * length old = omega (arith, end) in
     rw whole at h.joined
@@ -265,7 +287,9 @@ pub below_more : (values other_values : List ℕ) (planes others : List Bits) (w
 below_more values other_values planes others w d n words other_words reports room is none h i lt = by_word (cases_eq (i / 64) w)
   where
     by_word : (i / 64 ≡ w) ⊎ (i / 64 ≡ w → ⊥) → cell_below (cell_in values planes i) (cell_in other_values others i) ≡ true
-    by_word (inl at) = not_false (cell_below (cell_in values planes i) (cell_in other_values others i)) (sym (fails_here values other_values planes others w d n i words other_words reports room is at) ∙ ap (λ m. is_set m (i % 64)) none ∙ none_set (i % 64))
+    by_word (inl at) = not_false (cell_below (cell_in values planes i) (cell_in other_values others i))
+        (sym (fails_here values other_values planes others w d n i words other_words reports room is at) ∙
+        ap (λ m. is_set m (i % 64)) none ∙ none_set (i % 64))
     by_word (inr other) = h i (omega (arith, lt, other))
 
 pub below_found : (values other_values : List ℕ) (planes others : List Bits) (w d n : ℕ)
@@ -280,7 +304,9 @@ below_found values other_values planes others w d n words other_words reports ro
     at j lt on =
         let word_of : (64 * w + j) / 64 ≡ w = omega (arith, lt) in
         let bit_of : (64 * w + j) % 64 ≡ j = omega (arith, lt) in
-        let fails : not (cell_below (cell_in values planes (64 * w + j)) (cell_in other_values others (64 * w + j))) ≡ true = sym (fails_here values other_values planes others w d n (64 * w + j) words other_words reports room is word_of) ∙ ap (λ k. is_set n k) bit_of ∙ on in
+        let fails : not (cell_below (cell_in values planes (64 * w + j)) (cell_in other_values others (64 * w + j))) ≡
+        true = sym (fails_here values other_values planes others w d n (64 * w + j) words other_words reports room is
+        word_of) ∙ ap (λ k. is_set n k) bit_of ∙ on in
         (64 * w + j, omega (arith, lt, room), not_true (cell_below (cell_in values planes (64 * w + j)) (cell_in other_values others (64 * w + j))) fails)
 
 -- bits that say Undef say it with any value

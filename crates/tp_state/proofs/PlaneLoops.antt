@@ -1,5 +1,7 @@
 -- Loops over the words of planes.
-use Rattle.std.proofs.Common.{◌≡◌, ◌⊎◌, inl, inr, ℕ, ◌+◌, ◌*◌, ◌/◌, ◌%◌, ◌^◌, ◌<◌, ◌≤◌, nat_lt, nat_le, Bool, true, false, not, ◌&&◌, List, length, min, slice_set, get_or, bit_and, length-set, get_or-set_same, get_or-set_other, refl, sym, ap, ◌∙◌, arith}
+use Rattle.std.proofs.Common.{◌≡◌, ◌⊎◌, inl, inr, ℕ, ◌+◌, ◌*◌, ◌/◌, ◌%◌, ◌^◌, ◌<◌, ◌≤◌, nat_lt, nat_le, Bool, true}
+use Rattle.std.proofs.Common.{false, not, ◌&&◌, List, length, min, slice_set, get_or, bit_and, length-set}
+use Rattle.std.proofs.Common.{get_or-set_same, get_or-set_other, refl, sym, ap, ◌∙◌, arith}
 use Rattle.std.proofs.lemmas.Bool.{cases_lt, cases_eq, false≢true}
 use Rattle.std.proofs.lemmas.Bool.Decides.{nat_tests}
 use Rattle.tp_state.specs.declared.cell.Cell.{Cell}
@@ -22,11 +24,14 @@ pub cell_in-word : (values : List ℕ) (planes : List Bits) (p w : ℕ) → p / 
 unfolding cell_in
 cell_in-word values planes p w e = rw e refl
 
-pub cell_in-set_same : (values : List ℕ) (planes : List Bits) (w : ℕ) (b : Bits) (p : ℕ) → w < length planes → p / 64 ≡ w → cell_in values (slice_set planes w b) p ≡ bits_cell b (p % 64) (get_or values p 0)
+pub cell_in-set_same : (values : List ℕ) (planes : List Bits) (w : ℕ) (b : Bits) (p : ℕ) → w < length planes →
+    p / 64 ≡ w → cell_in values (slice_set planes w b) p ≡ bits_cell b (p % 64) (get_or values p 0)
 cell_in-set_same values planes w b p lt e = cell_in-word values (slice_set planes w b) p w e ∙ ap (λ c. bits_cell c (p % 64) (get_or values p 0)) (get_or-set_same planes w b no_bits lt)
 
 pub cell_in-set_other : (values : List ℕ) (planes : List Bits) (w : ℕ) (b : Bits) (p : ℕ) → (p / 64 ≡ w → ⊥) → cell_in values (slice_set planes w b) p ≡ cell_in values planes p
-cell_in-set_other values planes w b p other = cell_in-word values (slice_set planes w b) p (p / 64) refl ∙ ap (λ c. bits_cell c (p % 64) (get_or values p 0)) (get_or-set_other planes w (p / 64) b no_bits other) ∙ sym (cell_in-word values planes p (p / 64) refl)
+cell_in-set_other values planes w b p other = cell_in-word values (slice_set planes w b) p (p / 64) refl ∙
+    ap (λ c. bits_cell c (p % 64) (get_or values p 0)) (get_or-set_other planes w (p / 64) b no_bits other) ∙
+    sym (cell_in-word values planes p (p / 64) refl)
 
 -- ---- words that are changed, one after another
 
@@ -61,7 +66,8 @@ changes_more values old mid f x end w b h room takes keeps = record {
     outside p (inl below) (inr other) = cell_in-set_other values mid w b p other ∙ h.outside p (inl below)
     outside p (inr above) (inr other) = cell_in-set_other values mid w b p other ∙ h.outside p (inr (omega (arith, above)))
 
-pub changes_end : (values : List ℕ) (old new : List Bits) (f : ℕ → Cell → Cell) (x end w : ℕ) → ChangesPlanes values old new f x (min end (64 * w)) → end ≤ 64 * w → ChangesPlanes values old new f x end
+pub changes_end : (values : List ℕ) (old new : List Bits) (f : ℕ → Cell → Cell) (x end w : ℕ) →
+    ChangesPlanes values old new f x (min end (64 * w)) → end ≤ 64 * w → ChangesPlanes values old new f x end
 changes_end values old new f x end w h past =
     let whole : min end (64 * w) ≡ end = omega (arith, past) in
     rw whole at h
@@ -90,7 +96,9 @@ is_without mask w x end p h here (inr above) =
     never false = refl
 
 -- where a bit of a word's mask is set, the word that it tells of is one of those
-pub found_within : (mask w x end j : ℕ) → ((j : ℕ) → j < 64 → is_set mask j ≡ (nat_le x (64 * w + j) && nat_lt (64 * w + j) end)) → j < 64 → is_set mask j ≡ true → (x ≤ 64 * w + j) × (64 * w + j < end)
+pub found_within : (mask w x end j : ℕ) → ((j : ℕ) → j < 64 →
+    is_set mask j ≡ (nat_le x (64 * w + j) && nat_lt (64 * w + j) end)) → j < 64 → is_set mask j ≡ true →
+    (x ≤ 64 * w + j) × (64 * w + j < end)
 found_within mask w x end j h lt on = by_tests (nat_le x (64 * w + j)) (nat_lt (64 * w + j) end) refl refl (sym (h j lt) ∙ on)
   where
     by_tests : (a b : Bool) → nat_le x (64 * w + j) ≡ a → nat_lt (64 * w + j) end ≡ b → (nat_le x (64 * w + j) && nat_lt (64 * w + j) end) ≡ true → (x ≤ 64 * w + j) × (64 * w + j < end)
@@ -100,7 +108,8 @@ found_within mask w x end j h lt on = by_tests (nat_le x (64 * w + j)) (nat_lt (
 
 -- ---- the words that take a cell's bits, and those that may have taken something
 
-pub put_more : (values : List ℕ) (old mid : List Bits) (first second : Bool) (x end w mask : ℕ) (b : Bits) → ChangesPlanes values old mid (λ i c. cell_of first second (get_or values i 0)) x (min end (64 * w)) → w < length mid
+pub put_more : (values : List ℕ) (old mid : List Bits) (first second : Bool) (x end w mask : ℕ) (b : Bits) →
+    ChangesPlanes values old mid (λ i c. cell_of first second (get_or values i 0)) x (min end (64 * w)) → w < length mid
     → ((j : ℕ) → j < 64 → is_set mask j ≡ (nat_le x (64 * w + j) && nat_lt (64 * w + j) end))
     → b.first ≡ with_mask first mask (get_or mid w no_bits).first → b.second ≡ with_mask second mask (get_or mid w no_bits).second
     → ChangesPlanes values old (slice_set mid w b) (λ i c. cell_of first second (get_or values i 0)) x (min end (64 * (w + 1)))
@@ -198,8 +207,14 @@ tested_found word test reports values planes x end w mask n e masks small some =
         let inside = found_within mask w x end j masks lt both.1 in
         let word_of : (64 * w + j) / 64 ≡ w = omega (arith, lt) in
         let bit_of : (64 * w + j) % 64 ≡ j = omega (arith, lt) in
-        let not_so : not (test (bits_cell was j (get_or values (64 * w + j) 0))) ≡ true = sym (reports was j (get_or values (64 * w + j) 0)) ∙ ap (λ m. is_set m j) (sym e) ∙ both.0 in
-        (64 * w + j, inside.0, inside.1, ap test (cell_in-word values planes (64 * w + j) w word_of ∙ ap (λ k. bits_cell was k (get_or values (64 * w + j) 0)) bit_of) ∙ not_true (test (bits_cell was j (get_or values (64 * w + j) 0))) not_so)
+        let not_so : not (test (bits_cell was j (get_or values (64 * w + j) 0))) ≡ true = sym (reports was j (get_or values (64 * w + j) 0)) ∙ ap (λ m. is_set m j) (sym e) ∙ both.0 in (
+          64 * w + j,
+          inside.0,
+          inside.1,
+          ap test (cell_in-word values planes (64 * w + j) w word_of ∙
+              ap (λ k. bits_cell was k (get_or values (64 * w + j) 0)) bit_of) ∙
+              not_true (test (bits_cell was j (get_or values (64 * w + j) 0))) not_so,
+        )
 
 -- the mask of one word
 pub one_within : (x j : ℕ) → j < 64 → is_set (2 ^ (x % 64)) j ≡ (nat_le x (64 * (x / 64) + j) && nat_lt (64 * (x / 64) + j) (x + 1))

@@ -37,7 +37,10 @@ or_one_other bits j k other = set-or bits (2 ^ j) k ∙ ap (λ t. is_set bits k 
     as_it_was false = refl
 
 pub differ_more : (values others : List ℕ) (bits j : ℕ) → Differ values others bits j → (get_or values j 0 ≡ get_or others j 0 → ⊥) → Differ values others (bit_or bits (2 ^ j)) (j + 1)
-differ_more values others bits j h apart = record { told = λ k lt. told k lt (cases_eq k j); others = λ k ge. or_one_other bits j k (λ e. absurd (omega (arith, ge, e))) ∙ h.others k (omega (arith, ge)) }
+differ_more values others bits j h apart = record {
+  told = λ k lt. told k lt (cases_eq k j);
+  others = λ k ge. or_one_other bits j k (λ e. absurd (omega (arith, ge, e))) ∙ h.others k (omega (arith, ge));
+}
   where
     told : (k : ℕ) → k < j + 1 → (k ≡ j) ⊎ (k ≡ j → ⊥) → is_set (bit_or bits (2 ^ j)) k ≡ not (get_or values k 0 == get_or others k 0)
     told k lt (inl here) =

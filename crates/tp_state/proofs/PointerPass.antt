@@ -1,5 +1,7 @@
 -- What pointers make of a state that fits: words and bytes by their addresses.
-use Rattle.std.proofs.Common.{◌≡◌, ◌⊎◌, inl, inr, ℕ, ◌+◌, ◌-◌, ◌*◌, ◌/◌, ◌%◌, ◌^◌, ◌<◌, ◌≤◌, Bool, true, false, ◌==◌, if◌then◌else◌, ℤ, pos, negsuc, ◌+ℤ◌, ◌*ℤ◌, ◌≤ℤ◌, List, [], ◌∷◌, map, slice_set, All, Option, Some, None, Result, Ok, refl, sym, ap, ◌∙◌, subst, arith}
+use Rattle.std.proofs.Common.{◌≡◌, ◌⊎◌, inl, inr, ℕ, ◌+◌, ◌-◌, ◌*◌, ◌/◌, ◌%◌, ◌^◌, ◌<◌, ◌≤◌, Bool, true, false, ◌==◌}
+use Rattle.std.proofs.Common.{if◌then◌else◌, ℤ, pos, negsuc, ◌+ℤ◌, ◌*ℤ◌, ◌≤ℤ◌, List, [], ◌∷◌, map, slice_set, All}
+use Rattle.std.proofs.Common.{Option, Some, None, Result, Ok, refl, sym, ap, ◌∙◌, subst, arith}
 use Rattle.std.proofs.lemmas.Int.{ints}
 use Rattle.std.proofs.lemmas.Bool.{cases_eq}
 use Rattle.std.proofs.lemmas.Bool.Decides.{Decides-eqb}
@@ -27,7 +29,9 @@ use Rattle.tp_state.specs.Rules.{rule, words_on, bytes_on, words_further, betwee
 use Rattle.tp_state.specs.Fits.{InRange, KindFits, CellFits, FitsAmong, word_address}
 use Rattle.tp_state.proofs.Passing.{through, past, past_is, held, same_Ok}
 use Rattle.tp_state.proofs.WordLemmas.{low_word_alike, unsigned_is, words_on_is, byte_inside}
-use Rattle.tp_state.proofs.KindLemmas.{word_in_is, byte_in_is, full_fits, within_fits, range_fits, pointer_fits, byte_pointer_fits, number_is, pointer_is, byte_pointer_is, known_is, read_fits, written_fits, written_free, defined_word}
+use Rattle.tp_state.proofs.KindLemmas.{word_in_is, byte_in_is, full_fits, within_fits, range_fits, pointer_fits}
+use Rattle.tp_state.proofs.KindLemmas.{byte_pointer_fits, number_is, pointer_is, byte_pointer_is, known_is, read_fits}
+use Rattle.tp_state.proofs.KindLemmas.{written_fits, written_free, defined_word}
 use Rattle.tp_state.proofs.WordsChange.{Change, word_taken, written_word, unwritten_word}
 use Rattle.tp_state.proofs.StretchLemmas.{all_inside, all_within, cut_within, blurred_taken}
 use Rattle.tp_state.proofs.ByteLemmas.{AreSmall, has_bytes, byte_of, bytes_of, bytes_word, word_small, written_defined, written_apart, written_small}
@@ -106,7 +110,9 @@ number_further image low high n v in_it =
     let is : machine_words_on v n ≡ low_word (signed v +ℤ (n *ℤ pos 4)) = low_word_alike (pos v +ℤ (n *ℤ pos 4)) (signed v +ℤ (n *ℤ pos 4)) k (omega (arith, ints)) in
     rw is (range_fits image (low +ℤ (n *ℤ pos 4)) (high +ℤ (n *ℤ pos 4)) (signed v +ℤ (n *ℤ pos 4)) (omega (arith, ints)) (omega (arith, ints)))
 
-further_fits : {P : Type 0} (image : ImageValue) (n : ℤ) (k k' : Kind) (r : Option ℕ) → image.workspace ≤ 512 → words_further image n k ≡ Ok k' → KindFits image k r → ((v : ℕ) → r ≡ Some v → KindFits image k' (Some (machine_words_on v n)) → P) → P
+further_fits : {P : Type 0} (image : ImageValue) (n : ℤ) (k k' : Kind) (r : Option ℕ) → image.workspace ≤ 512 →
+    words_further image n k ≡ Ok k' → KindFits image k r →
+    ((v : ℕ) → r ≡ Some v → KindFits image k' (Some (machine_words_on v n)) → P) → P
 unfolding words_further
 further_fits image n kind.Undef k' r small ok h go = cc
 further_fits image n (kind.Int low high) k' r small ok (v, is, in_it) go =
@@ -133,7 +139,9 @@ byte_elsewhere m x byte i (inl below) = written_apart m (mem_start + x) (byte �
 byte_elsewhere m x byte i (inr above) = written_apart m (mem_start + x) (byte ∷ []) (word_address i) (inr (omega arith))
 
 -- and leaves a defined word defined
-word_still : (rows : List LoopRow) (m : Memory) (x i : ℕ) (bytes : List ℕ) → AreSmall (with_bytes m x bytes) → CellFits rows cell.Any (word_at m (word_address i)) → CellFits rows cell.Any (word_at (with_bytes m x bytes) (word_address i))
+word_still : (rows : List LoopRow) (m : Memory) (x i : ℕ) (bytes : List ℕ) → AreSmall (with_bytes m x bytes) →
+    CellFits rows cell.Any (word_at m (word_address i)) → CellFits rows cell.Any
+    (word_at (with_bytes m x bytes) (word_address i))
 word_still rows m x i bytes small (v, is, lt) =
     let was = has_bytes m (word_address i) v is in
     bytes_word rows (with_bytes m x bytes) (word_address i) small
@@ -192,7 +200,9 @@ module _ (image : ImageValue) (small : image.workspace ≤ 512) (around : ℕ �
       (rw address (byte_pointer_fits image w.0 w.1 l.place y_low y_high (omega arith))) f.registers.c tt
 
   -- of several words, any value
-  read_of_some : {P : Type 0} (w : ℕ × ℕ) (k : Kind) (y : ℕ) → are_defined (between t.cells w) ≡ true → (if w.0 == w.1 then read image.loops (cell_at t.cells w.0) else Ok full) ≡ Ok k → w.0 ≤ y → y ≤ w.1 → w.1 < image.workspace
+  read_of_some : {P : Type 0} (w : ℕ × ℕ) (k : Kind) (y : ℕ) → are_defined (between t.cells w) ≡ true →
+      (if w.0 == w.1 then read image.loops (cell_at t.cells w.0) else Ok full) ≡ Ok k → w.0 ≤ y → y ≤ w.1 →
+      w.1 < image.workspace
       → ((v : ℕ) → word_at s.memory (word_address y) ≡ Some v → KindFits image k (Some v) → P) → P
   unfolding between
   read_of_some {P} w k y defined is low high lt go = by_test (w.0 == w.1) refl is
@@ -223,7 +233,8 @@ module _ (image : ImageValue) (small : image.workspace ≤ 512) (around : ℕ �
       let address : machine_words_on (word_address x) n ≡ word_address l.place = words_on_is x l.place n (omega arith) (omega arith) l.is in
       read_of_some w k l.place defined k_is y_low y_high lt1 λ v v_is fits.
       registers_made image around next t s f (Ldnl n) t' k t.b t.c (Some v) s.breg s.creg s.error
-      (loaded_there (λ word. machine_set_areg word s) (λ a. load image s (machine_words_on a n)) s.areg (word_address x) v x_is (load_there image s _ l.place v address (omega arith) v_is)) ok fits f.registers.b f.registers.c
+      (loaded_there (λ word. machine_set_areg word s) (λ a. load image s (machine_words_on a n)) s.areg (word_address x)
+      v x_is (load_there image s _ l.place v address (omega arith) v_is)) ok fits f.registers.b f.registers.c
 
   pub lb_makes : rule image at next Lb e t ≡ Ok t' → Makes image around None next Lb t' s
   unfolding rule effect between
@@ -270,7 +281,9 @@ module _ (image : ImageValue) (small : image.workspace ≤ 512) (around : ℕ �
       (subst (λ cs. Change image.loops image.workspace t.cells (with_cells t.cells (p.0 / 4) (map blurred cs)) s.memory m') (sym cut.same) change) still f.registers.c tt tt
     where
       byte_stored : (ra rb : Option ℕ) (a b : ℕ) → ra ≡ Some a → rb ≡ Some b → in_workspace image a 1 ≡ true
-          → option_and_then (λ a. option_and_then (λ b. only_if (in_workspace image a 1) >>? Some (machine_pop_two (record s { memory = with_bytes s.memory a (b % 256 ∷ []) }))) rb) ra ≡ Some (machine_pop_two (record s { memory = with_bytes s.memory a (b % 256 ∷ []) }))
+          → option_and_then (λ a. option_and_then (λ b. only_if (in_workspace image a 1) >>? Some
+          (machine_pop_two (record s { memory = with_bytes s.memory a (b % 256 ∷ []) }))) rb) ra ≡ Some
+          (machine_pop_two (record s { memory = with_bytes s.memory a (b % 256 ∷ []) }))
       byte_stored ra rb a b is its inside = rw (is, its, inside)
 
       elsewhere : (w n x i : ℕ) → w ≤ x / 4 → x / 4 < w + n → (i < w) ⊎ (w + n ≤ i) → (i < x / 4) ⊎ (x / 4 + 1 ≤ i)
@@ -296,7 +309,9 @@ module _ (image : ImageValue) (small : image.workspace ≤ 512) (around : ℕ �
       let address : machine_words_on (word_address x) n ≡ word_address y = words_on_is x y n (omega arith) (omega arith) l.is in
       let m' : Memory = with_word s.memory (word_address y) v in
       let fits : KindFits image k (Some v) = subst (λ u. KindFits image u (Some v)) same (subst (KindFits image t.b) v_is f.registers.b) in
-      let made = both_stored machine_pop_two (λ a b. store image (machine_words_on a n) b s) s.areg s.breg (word_address x) v (record s { memory = m' }) x_is v_is (store_there image s (machine_words_on (word_address x) n) y v address (omega arith)) in
+      let made = both_stored machine_pop_two (λ a b. store image (machine_words_on a n) b s) s.areg s.breg
+      (word_address x) v (record s { memory = m' }) x_is v_is
+      (store_there image s (machine_words_on (word_address x) n) y v address (omega arith)) in
       by_test w y k v y_low y_high lt1 free word fits made (w.0 == w.1) refl ok
     where
       by_test : (w : ℕ × ℕ) (y : ℕ) (k : Kind) (v : ℕ) → w.0 ≤ y → y ≤ w.1 → w.1 < image.workspace → are_free (between t.cells w) ≡ true → v < 2 ^ 32 → KindFits image k (Some v)
@@ -313,13 +328,16 @@ module _ (image : ImageValue) (small : image.workspace ≤ 512) (around : ℕ �
           (word_small s.memory (word_address w.0) v f.bytes.memory) f.registers.c tt tt
       by_test w y k v low high lt free word fits made false many ok =
           let sized = f.words.sized in
-          words_made image around next t s f (Stnl n) t' (with_cells t.cells w.0 (map blurred (cells_from t.cells w.0 (w.1 + 1 - w.0)))) (with_word s.memory (word_address y) v) t.c kind.Undef kind.Undef s.creg None None made ok
+          words_made image around next t s f (Stnl n) t' (with_cells t.cells w.0
+          (map blurred (cells_from t.cells w.0 (w.1 + 1 - w.0)))) (with_word s.memory (word_address y) v) t.c
+          kind.Undef kind.Undef s.creg None None made ok
           (blurred_taken image.loops image.workspace t.cells s.memory (with_word s.memory (word_address y) v) w.0 (w.1 + 1 - w.0) f.words (omega arith) free
           (λ i lt was. inside (w.0 + i) (cases_eq (w.0 + i) y) was)
           (λ i out i_lt. unwritten_word s.memory y i v (other i out)))
           (word_small s.memory (word_address y) v f.bytes.memory) f.registers.c tt tt
         where
-          inside : (i : ℕ) → (i ≡ y) ⊎ (i ≡ y → ⊥) → CellFits image.loops cell.Any (word_at s.memory (word_address i)) → CellFits image.loops cell.Any (word_at (with_word s.memory (word_address y) v) (word_address i))
+          inside : (i : ℕ) → (i ≡ y) ⊎ (i ≡ y → ⊥) → CellFits image.loops cell.Any (word_at s.memory (word_address i)) →
+              CellFits image.loops cell.Any (word_at (with_word s.memory (word_address y) v) (word_address i))
           inside i (inl here) was = (v, ap (λ j. word_at (with_word s.memory (word_address y) v) (word_address j)) here ∙ written_word s.memory y v word, word)
           inside i (inr other) was = rw (unwritten_word s.memory y i v other) was
 

@@ -45,7 +45,9 @@ between_ends a b x (negsuc k) low high =
     (omega (arith, ints, clamps), omega (arith, ints, clamps))
 
 -- a product lies between the products at the corners
-pub between_corners : (a b c d x y : ℤ) → a ≤ℤ x → x ≤ℤ b → c ≤ℤ y → y ≤ℤ d → (int_min (int_min (a *ℤ c) (a *ℤ d)) (int_min (b *ℤ c) (b *ℤ d)) ≤ℤ (x *ℤ y)) × ((x *ℤ y) ≤ℤ int_max (int_max (a *ℤ c) (a *ℤ d)) (int_max (b *ℤ c) (b *ℤ d)))
+pub between_corners : (a b c d x y : ℤ) → a ≤ℤ x → x ≤ℤ b → c ≤ℤ y → y ≤ℤ d →
+    (int_min (int_min (a *ℤ c) (a *ℤ d)) (int_min (b *ℤ c) (b *ℤ d)) ≤ℤ (x *ℤ y)) ×
+    ((x *ℤ y) ≤ℤ int_max (int_max (a *ℤ c) (a *ℤ d)) (int_max (b *ℤ c) (b *ℤ d)))
 between_corners a b c d x y al xl cl yl =
     let outer = between_ends a b x y al xl in
     let at_a = turned c d y a cl yl in

@@ -43,7 +43,9 @@ module _ (image : ImageValue) (around : ℕ → Bool) (at : ℕ) (t : State) (s 
 
     pub suspended_fits : FitsAmong image around at (suspended t) (rested s)
     suspended_fits =
-        let w = words_fit image around at t s f (with_cells t.cells (t.wptr - 5) (replicate 5 cell.Undef)) (undefined s.memory (s.wptr - 20) 20) rest_change (undefined_small s.memory (s.wptr - 20) 20 f.bytes.memory) in
+        let w = words_fit image around at t s f (with_cells t.cells (t.wptr - 5) (replicate 5 cell.Undef))
+        (undefined s.memory (s.wptr - 20) 20) rest_change (undefined_small s.memory (s.wptr - 20) 20
+        f.bytes.memory) in
         record {
           place = record { running = w.place.running; iptr = w.place.iptr; oreg = w.place.oreg; wptr = w.place.wptr; roomy = w.place.roomy; inside = w.place.inside };
           phase = w.phase;
@@ -58,7 +60,9 @@ module _ (image : ImageValue) (around : ℕ → Bool) (at : ℕ) (t : State) (s 
     rest_turns = words_turns image around at t s f (with_cells t.cells (t.wptr - 5) (replicate 5 cell.Undef)) (undefined s.memory (s.wptr - 20) 20) rest_change
 
   -- the rule of descheduling refused nothing
-  pub rest : {P : Type 0} (t' : State) → descheduled t ≡ Ok t' → (are_free (below_wptr t) ≡ true → FitsAmong image around at t' (rested s) → KeepsTurns image.loops around None s.memory (rested s).memory → suspended t ≡ t' → P) → P
+  pub rest : {P : Type 0} (t' : State) → descheduled t ≡ Ok t' →
+      (are_free (below_wptr t) ≡ true → FitsAmong image around at t' (rested s) →
+      KeepsTurns image.loops around None s.memory (rested s).memory → suspended t ≡ t' → P) → P
   unfolding descheduled
   rest t' ok go =
       held S5 (are_free (below_wptr t)) _ t' ok λ free ok.

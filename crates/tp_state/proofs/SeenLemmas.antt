@@ -1,5 +1,8 @@
 -- The cells that planes and values are seen as.
-use Rattle.std.proofs.Common.{◌≡◌, ◌⊎◌, inl, inr, ℕ, ◌+◌, ◌-◌, ◌*◌, ◌/◌, ◌%◌, ◌<◌, ◌≤◌, Bool, true, false, IsTrue, List, [], ◌∷◌, ◌++◌, length, map, take, drop, replicate, slice_set, min, pos, get_or, length-set, get_or-set_same, get_or-set_other, if◌then◌else◌, ◌==◌, zero, suc, refl, sym, ap, ◌∙◌, arith, rules}
+use Rattle.std.proofs.Common.{◌≡◌, ◌⊎◌, inl, inr, ℕ, ◌+◌, ◌-◌, ◌*◌, ◌/◌, ◌%◌, ◌<◌, ◌≤◌, Bool, true, false, IsTrue, List}
+use Rattle.std.proofs.Common.{[], ◌∷◌, ◌++◌, length, map, take, drop, replicate, slice_set, min, pos, get_or}
+use Rattle.std.proofs.Common.{length-set, get_or-set_same, get_or-set_other, if◌then◌else◌, ◌==◌, zero, suc, refl, sym}
+use Rattle.std.proofs.Common.{ap, ◌∙◌, arith, rules}
 use Rattle.std.specs.List.{list_all}
 use Rattle.std.proofs.lemmas.Bool.{cases_lt, cases_eq, false≢true}
 use Rattle.std.proofs.lemmas.List.{places, ext_get_or, get_or-map, length-map, map-append}
@@ -30,7 +33,8 @@ cell_at-seen values planes i lt = get_or-map-range_with_len (cell_in values plan
 pub cell_at-seen_past : (values : List ℕ) (planes : List Bits) (i : ℕ) → length values ≤ i → cell_at (seen values planes) i ≡ Undef
 cell_at-seen_past values planes i past = get_or-eq_default (seen values planes) Undef (omega (arith, length_seen values planes, past))
 
-pub seen_is : (values : List ℕ) (planes : List Bits) (cells : List Cell) → length values ≡ length cells → ((i : ℕ) → i < length values → cell_in values planes i ≡ cell_at cells i) → seen values planes ≡ cells
+pub seen_is : (values : List ℕ) (planes : List Bits) (cells : List Cell) → length values ≡ length cells →
+    ((i : ℕ) → i < length values → cell_in values planes i ≡ cell_at cells i) → seen values planes ≡ cells
 seen_is values planes cells long same = ext_get_or Undef (seen values planes) cells (length_seen values planes ∙ long) (λ i lt. at i (omega (arith, length_seen values planes, lt)))
   where
     at : (i : ℕ) → i < length values → get_or (seen values planes) i Undef ≡ get_or cells i Undef
@@ -49,7 +53,9 @@ whole_after values values' planes planes' h long longer each = record {
   rows = λ i lt. row i (omega (arith, lt, long)) (each i (omega (arith, lt, long, h.enough)));
 }
   where
-    padded : (i : ℕ) → length values ≤ i → i < 64 * length planes → (cell_in values' planes' i ≡ cell_in values planes i) ⊎ ((i < length values) × HasByteRow (cell_in values' planes' i)) → cell_in values' planes' i ≡ Undef
+    padded : (i : ℕ) → length values ≤ i → i < 64 * length planes →
+        (cell_in values' planes' i ≡ cell_in values planes i) ⊎
+        ((i < length values) × HasByteRow (cell_in values' planes' i)) → cell_in values' planes' i ≡ Undef
     padded i past lt (inl same) = same ∙ h.padded i past lt
     padded i past lt (inr (inside, _)) = absurd (omega (arith, past, inside))
 
@@ -67,25 +73,37 @@ cell_in-set_value_other values planes x v i other = rw (get_or-set_other values 
 abbrev pub Puts : (first second : Bool) (x end : ℕ) → List Bits → List Bits → Type 0
 Puts first second x end planes planes' = (values : List ℕ) → ChangesPlanes values planes planes' (λ i c. cell_of first second (get_or values i 0)) x end
 
-set_at : (values : List ℕ) (planes planes' : List Bits) (x v : ℕ) (first second : Bool) (c : Cell) → x < length values → Puts first second x (x + 1) planes planes' → cell_of first second v ≡ c → cell_in (slice_set values x v) planes' x ≡ c
+set_at : (values : List ℕ) (planes planes' : List Bits) (x v : ℕ) (first second : Bool) (c : Cell) → x < length values →
+    Puts first second x (x + 1) planes planes' → cell_of first second v ≡ c → cell_in (slice_set values x v) planes' x ≡ c
 set_at values planes planes' x v first second c lt puts is = (puts (slice_set values x v)).inside x (omega arith) (omega arith) ∙ ap (cell_of first second) (get_or-set_same values x v 0 lt) ∙ is
 
-set_beside : (values : List ℕ) (planes planes' : List Bits) (x v i : ℕ) (first second : Bool) → Puts first second x (x + 1) planes planes' → (i ≡ x → ⊥) → cell_in (slice_set values x v) planes' i ≡ cell_in values planes i
+set_beside : (values : List ℕ) (planes planes' : List Bits) (x v i : ℕ) (first second : Bool) →
+    Puts first second x (x + 1) planes planes' → (i ≡ x → ⊥) →
+    cell_in (slice_set values x v) planes' i ≡ cell_in values planes i
 set_beside values planes planes' x v i first second puts other = (puts (slice_set values x v)).outside i (apart (cases_lt i x)) ∙ cell_in-set_value_other values planes x v i other
   where
     apart : (i < x) ⊎ (x ≤ i) → (i < x) ⊎ (x + 1 ≤ i)
     apart (inl below) = inl below
     apart (inr above) = inr (omega (arith, above, other))
 
-pub whole_set : (values : List ℕ) (planes planes' : List Bits) (x v : ℕ) (first second : Bool) (c : Cell) → IsWhole values planes → x < length values → Puts first second x (x + 1) planes planes' → cell_of first second v ≡ c → HasByteRow c → IsWhole (slice_set values x v) planes'
-whole_set values planes planes' x v first second c h lt puts is byte = whole_after values (slice_set values x v) planes planes' h (length-set values x v) (puts values).long (λ i _. at i (cases_eq i x))
+pub whole_set : (values : List ℕ) (planes planes' : List Bits) (x v : ℕ) (first second : Bool) (c : Cell) →
+    IsWhole values planes → x < length values → Puts first second x (x + 1) planes planes' → cell_of first second v ≡ c →
+    HasByteRow c → IsWhole (slice_set values x v) planes'
+whole_set values planes planes' x v first second c h lt puts is byte =
+    whole_after values (slice_set values x v) planes planes' h (length-set values x v) (puts values).long
+    (λ i _. at i (cases_eq i x))
   where
     at : (i : ℕ) → (i ≡ x) ⊎ (i ≡ x → ⊥) → (cell_in (slice_set values x v) planes' i ≡ cell_in values planes i) ⊎ ((i < length values) × HasByteRow (cell_in (slice_set values x v) planes' i))
     at i (inl same) = rw same (inr (lt, rw (set_at values planes planes' x v first second c lt puts is) byte))
     at i (inr other) = inl (set_beside values planes planes' x v i first second puts other)
 
-pub seen_set : (values : List ℕ) (planes planes' : List Bits) (x v : ℕ) (first second : Bool) (c : Cell) → x < length values → Puts first second x (x + 1) planes planes' → cell_of first second v ≡ c → seen (slice_set values x v) planes' ≡ slice_set (seen values planes) x c
-seen_set values planes planes' x v first second c lt puts is = seen_is (slice_set values x v) planes' (slice_set (seen values planes) x c) (length-set values x v ∙ sym (length-set (seen values planes) x c ∙ length_seen values planes)) (λ i inside. at i (omega (arith, inside, length-set values x v)) (cases_eq i x))
+pub seen_set : (values : List ℕ) (planes planes' : List Bits) (x v : ℕ) (first second : Bool) (c : Cell) →
+    x < length values → Puts first second x (x + 1) planes planes' → cell_of first second v ≡ c →
+    seen (slice_set values x v) planes' ≡ slice_set (seen values planes) x c
+seen_set values planes planes' x v first second c lt puts is =
+    seen_is (slice_set values x v) planes' (slice_set (seen values planes) x c)
+    (length-set values x v ∙ sym (length-set (seen values planes) x c ∙ length_seen values planes))
+    (λ i inside. at i (omega (arith, inside, length-set values x v)) (cases_eq i x))
   where
     at : (i : ℕ) → i < length values → (i ≡ x) ⊎ (i ≡ x → ⊥) → cell_in (slice_set values x v) planes' i ≡ cell_at (slice_set (seen values planes) x c) i
     at i inside (inl same) = rw same (set_at values planes planes' x v first second c lt puts is ∙ sym (get_or-set_same (seen values planes) x c Undef (omega (arith, lt, length_seen values planes))))
@@ -137,7 +155,9 @@ changes_seen values planes planes' x n room blurs = record {
     outside i out (inl lt) = cell_at-seen values planes' i lt ∙ (blurs values).outside i out ∙ sym (cell_at-seen values planes i lt)
     outside i out (inr past) = cell_at-seen_past values planes' i past ∙ sym (cell_at-seen_past values planes i past)
 
-pub seen_blurred : (values : List ℕ) (planes planes' : List Bits) (x n : ℕ) → Blurs (min x (length values)) (min x (length values) + min n (length values - min x (length values))) planes planes' → seen values planes' ≡ with_cells (seen values planes) x (map blurred (cells_from (seen values planes) x n))
+pub seen_blurred : (values : List ℕ) (planes planes' : List Bits) (x n : ℕ) →
+    Blurs (min x (length values)) (min x (length values) + min n (length values - min x (length values))) planes planes' →
+    seen values planes' ≡ with_cells (seen values planes) x (map blurred (cells_from (seen values planes) x n))
 seen_blurred values planes planes' x n blurs =
     let long : length (seen values planes) ≡ length values = length_seen values planes in
     let first : ℕ = min x (length values) in
@@ -160,15 +180,22 @@ pub record FillsValues (old new : List ℕ) (x n v : ℕ) : Type 0 where
   pub inside : (i : ℕ) → x ≤ i → i < x + n → get_or new i 0 ≡ v
   pub outside : (i : ℕ) → (i < x) ⊎ (x + n ≤ i) → get_or new i 0 ≡ get_or old i 0
 
-filled_in : (values values' : List ℕ) (planes planes' : List Bits) (x n v : ℕ) (first second : Bool) (c : Cell) → FillsValues values values' x n v → Puts first second x (x + n) planes planes' → cell_of first second v ≡ c → (i : ℕ) → x ≤ i → i < x + n → cell_in values' planes' i ≡ c
+filled_in : (values values' : List ℕ) (planes planes' : List Bits) (x n v : ℕ) (first second : Bool) (c : Cell) →
+    FillsValues values values' x n v → Puts first second x (x + n) planes planes' → cell_of first second v ≡ c → (i : ℕ) →
+    x ≤ i → i < x + n → cell_in values' planes' i ≡ c
 filled_in values values' planes planes' x n v first second c fills puts is i low high = (puts values').inside i low high ∙ ap (cell_of first second) (fills.inside i low high) ∙ is
 
-filled_out : (values values' : List ℕ) (planes planes' : List Bits) (x n v : ℕ) (first second : Bool) → FillsValues values values' x n v → Puts first second x (x + n) planes planes' → (i : ℕ) → (i < x) ⊎ (x + n ≤ i) → cell_in values' planes' i ≡ cell_in values planes i
+filled_out : (values values' : List ℕ) (planes planes' : List Bits) (x n v : ℕ) (first second : Bool) →
+    FillsValues values values' x n v → Puts first second x (x + n) planes planes' → (i : ℕ) → (i < x) ⊎ (x + n ≤ i) →
+    cell_in values' planes' i ≡ cell_in values planes i
 unfolding cell_in
 filled_out values values' planes planes' x n v first second fills puts i out = (puts values').outside i out ∙ rw (fills.outside i out) refl
 
-pub whole_filled : (values values' : List ℕ) (planes planes' : List Bits) (x n v : ℕ) (first second : Bool) (c : Cell) → IsWhole values planes → x + n ≤ length values → FillsValues values values' x n v → Puts first second x (x + n) planes planes' → cell_of first second v ≡ c → HasByteRow c → IsWhole values' planes'
-whole_filled values values' planes planes' x n v first second c h room fills puts is byte = whole_after values values' planes planes' h fills.long (puts values).long (λ i _. at i (by_part x (x + n) i))
+pub whole_filled : (values values' : List ℕ) (planes planes' : List Bits) (x n v : ℕ) (first second : Bool) (c : Cell) →
+    IsWhole values planes → x + n ≤ length values → FillsValues values values' x n v →
+    Puts first second x (x + n) planes planes' → cell_of first second v ≡ c → HasByteRow c → IsWhole values' planes'
+whole_filled values values' planes planes' x n v first second c h room fills puts is byte =
+    whole_after values values' planes planes' h fills.long (puts values).long (λ i _. at i (by_part x (x + n) i))
   where
     at : (i : ℕ) → (i < x) ⊎ ((x ≤ i) × (i < x + n)) ⊎ (x + n ≤ i) → (cell_in values' planes' i ≡ cell_in values planes i) ⊎ ((i < length values) × HasByteRow (cell_in values' planes' i))
     at i (inl below) = inl (filled_out values values' planes planes' x n v first second fills puts i (inl below))
@@ -177,17 +204,23 @@ whole_filled values values' planes planes' x n v first second c h room fills put
         inr (lt, rw (filled_in values values' planes planes' x n v first second c fills puts is i from under) byte)
     at i (inr (inr past)) = inl (filled_out values values' planes planes' x n v first second fills puts i (inr past))
 
-pub seen_filled : (values values' : List ℕ) (planes planes' : List Bits) (x n v : ℕ) (first second : Bool) (c : Cell) → x + n ≤ length values → FillsValues values values' x n v → Puts first second x (x + n) planes planes' → cell_of first second v ≡ c → seen values' planes' ≡ with_cells (seen values planes) x (replicate n c)
+pub seen_filled : (values values' : List ℕ) (planes planes' : List Bits) (x n v : ℕ) (first second : Bool) (c : Cell) →
+    x + n ≤ length values → FillsValues values values' x n v → Puts first second x (x + n) planes planes' →
+    cell_of first second v ≡ c → seen values' planes' ≡ with_cells (seen values planes) x (replicate n c)
 seen_filled values values' planes planes' x n v first second c room fills puts is =
     let room' : x + n ≤ length (seen values planes) = omega (arith, room, length_seen values planes) in
     changes_all (seen values planes) (seen values' planes') (λ _. c) x x n changes room' room'
     ∙ ap (with_cells (seen values planes) x) (map_one (cells_from (seen values planes) x n) c ∙ ap (λ k. replicate k c) (length-cells_from (seen values planes) x n room'))
   where
     inside : (i : ℕ) → i < n → cell_at (seen values' planes') (x + i) ≡ c
-    inside i lt = cell_at-seen values' planes' (x + i) (omega (arith, lt, room, fills.long)) ∙ filled_in values values' planes planes' x n v first second c fills puts is (x + i) (omega arith) (omega (arith, lt))
+    inside i lt = cell_at-seen values' planes' (x + i) (omega (arith, lt, room, fills.long)) ∙
+        filled_in values values' planes planes' x n v first second c fills puts is (x + i) (omega arith)
+        (omega (arith, lt))
 
     outside : (i : ℕ) → (i < x) ⊎ (x + n ≤ i) → (i < length values) ⊎ (length values ≤ i) → cell_at (seen values' planes') i ≡ cell_at (seen values planes) i
-    outside i out (inl lt) = cell_at-seen values' planes' i (omega (arith, lt, fills.long)) ∙ filled_out values values' planes planes' x n v first second fills puts i out ∙ sym (cell_at-seen values planes i lt)
+    outside i out (inl lt) = cell_at-seen values' planes' i (omega (arith, lt, fills.long)) ∙
+        filled_out values values' planes planes' x n v first second fills puts i out ∙
+        sym (cell_at-seen values planes i lt)
     outside i out (inr past) = cell_at-seen_past values' planes' i (omega (arith, past, fills.long)) ∙ sym (cell_at-seen_past values planes i past)
 
     changes : ChangesFrom (seen values planes) (seen values' planes') (λ _. c) x x n
@@ -237,15 +270,21 @@ row_join (Count l) (Count k) h = by_test (l == k)
 abbrev pub Joins : List ℕ → List ℕ → List Bits → List Bits → List Bits → Type 0
 Joins values other_values old others new = ChangesPlanes values old new (λ i c. join_cells c (cell_in other_values others i)) 0 (64 * length old)
 
-pub whole_joined : (values other_values : List ℕ) (old others new : List Bits) → IsWhole values old → IsWhole other_values others → length other_values ≡ length values → Joins values other_values old others new → IsWhole values new
+pub whole_joined : (values other_values : List ℕ) (old others new : List Bits) → IsWhole values old →
+    IsWhole other_values others → length other_values ≡ length values → Joins values other_values old others new →
+    IsWhole values new
 whole_joined values other_values old others new h g long joins = whole_after values values old new h refl joins.long (λ i lt. at i lt (cases_lt i (length values)))
   where
     at : (i : ℕ) → i < 64 * length old → (i < length values) ⊎ (length values ≤ i) → (cell_in values new i ≡ cell_in values old i) ⊎ ((i < length values) × HasByteRow (cell_in values new i))
     at i lt (inl inside) = inr (inside, rw (joins.inside i (omega arith) lt) (row_join (cell_in values old i) (cell_in other_values others i) (h.rows i inside)))
     at i lt (inr past) = inl (joins.inside i (omega arith) lt ∙ ap (λ c. join_cells c (cell_in other_values others i)) (h.padded i past lt) ∙ sym (h.padded i past lt))
 
-pub seen_joined : (values other_values : List ℕ) (old others new : List Bits) → IsWhole values old → length other_values ≡ length values → Joins values other_values old others new → seen values new ≡ joined_cells (seen values old) (seen other_values others)
-seen_joined values other_values old others new h long joins = seen_is values new (joined_cells (seen values old) (seen other_values others)) (sym (length-joined (seen values old) (seen other_values others) longs ∙ length_seen values old)) at
+pub seen_joined : (values other_values : List ℕ) (old others new : List Bits) → IsWhole values old →
+    length other_values ≡ length values → Joins values other_values old others new →
+    seen values new ≡ joined_cells (seen values old) (seen other_values others)
+seen_joined values other_values old others new h long joins =
+    seen_is values new (joined_cells (seen values old) (seen other_values others))
+    (sym (length-joined (seen values old) (seen other_values others) longs ∙ length_seen values old)) at
   where
     longs : length (seen other_values others) ≡ length (seen values old)
     longs = length_seen other_values others ∙ long ∙ sym (length_seen values old)
@@ -289,7 +328,8 @@ below_seen values other_values planes others h long all i = by_place (cases_lt i
         let theirs = cell_at-seen_past other_values others i (omega (arith, past, long)) in
         rw (mine, theirs) (search rules)
 
-pub not_below_seen : (values other_values : List ℕ) (planes others : List Bits) → IsWhole values planes → IsWhole other_values others → length other_values ≡ length values → length others ≡ length planes
+pub not_below_seen : (values other_values : List ℕ) (planes others : List Bits) → IsWhole values planes →
+    IsWhole other_values others → length other_values ≡ length values → length others ≡ length planes
     → ((i : ℕ) × (i < 64 * length planes) × (cell_below (cell_in values planes i) (cell_in other_values others i) ≡ false))
     → (i : ℕ) × (cell_below (cell_at (seen values planes) i) (cell_at (seen other_values others) i) ≡ false)
 not_below_seen values other_values planes others h g long longer (i, lt, fails) = by_place (cases_lt i (length values))
@@ -327,7 +367,8 @@ part_long values planes x n i lt inside =
     let long = length_seen values planes in
     grind (arith, places)
 
-pub tested_seen : (p : Cell → Bool) (values : List ℕ) (planes : List Bits) (x n first end : ℕ) (answer : Bool) → first ≡ min x (length values) → end ≡ min x (length values) + min n (length values - min x (length values))
+pub tested_seen : (p : Cell → Bool) (values : List ℕ) (planes : List Bits) (x n first end : ℕ) (answer : Bool) →
+    first ≡ min x (length values) → end ≡ min x (length values) + min n (length values - min x (length values))
     → (answer ≡ true → (values : List ℕ) (i : ℕ) → first ≤ i → i < end → p (cell_in values planes i) ≡ true)
     → (answer ≡ false → (values : List ℕ) → (i : ℕ) × (first ≤ i) × (i < end) × (p (cell_in values planes i) ≡ false))
     → answer ≡ list_all p (cells_from (seen values planes) x n)
@@ -362,19 +403,30 @@ fills_cut values x n v room = record {
 
 -- ---- the first cells
 
-pub clear_known : (planes : List Bits) → ((k : ℕ) → k < length planes → get_or planes k no_bits ≡ no_bits) → (values : List ℕ) (i : ℕ) → cell_in values planes i ≡ cell_of false false (get_or values i 0)
-clear_known planes clear values i = cell_in-word values planes i (i / 64) refl ∙ ap (λ b. bits_cell b (i % 64) (get_or values i 0)) (by_place (cases_lt (i / 64) (length planes))) ∙ ap (λ t. cell_of t t (get_or values i 0)) (none_set (i % 64))
+pub clear_known : (planes : List Bits) → ((k : ℕ) → k < length planes → get_or planes k no_bits ≡ no_bits) →
+    (values : List ℕ) (i : ℕ) → cell_in values planes i ≡ cell_of false false (get_or values i 0)
+clear_known planes clear values i = cell_in-word values planes i (i / 64) refl ∙
+    ap (λ b. bits_cell b (i % 64) (get_or values i 0)) (by_place (cases_lt (i / 64) (length planes))) ∙
+    ap (λ t. cell_of t t (get_or values i 0)) (none_set (i % 64))
   where
     by_place : (i / 64 < length planes) ⊎ (length planes ≤ i / 64) → get_or planes (i / 64) no_bits ≡ no_bits
     by_place (inl lt) = clear (i / 64) lt
     by_place (inr past) = get_or-eq_default planes no_bits past
 
-pub seen_known : (values : List ℕ) (planes : List Bits) → ((i : ℕ) → i < length values → cell_in values planes i ≡ cell_of false false (get_or values i 0)) → seen values planes ≡ map (λ word. Known (signed word)) values
-seen_known values planes known = seen_is values planes (map (λ word. Known (signed word)) values) (sym (length-map values (λ word. Known (signed word)))) (λ i lt. known i lt ∙ sym (get_or-map (λ (word : ℕ). Known (signed word)) values i 0 Undef lt))
+pub seen_known : (values : List ℕ) (planes : List Bits) →
+    ((i : ℕ) → i < length values → cell_in values planes i ≡ cell_of false false (get_or values i 0)) →
+    seen values planes ≡ map (λ word. Known (signed word)) values
+seen_known values planes known = seen_is values planes (map (λ word. Known (signed word)) values)
+    (sym (length-map values (λ word. Known (signed word))))
+    (λ i lt. known i lt ∙ sym (get_or-map (λ (word : ℕ). Known (signed word)) values i 0 Undef lt))
 
 map_replicate : (n : ℕ) → map (λ word. Known (signed word)) (replicate n 0) ≡ replicate n (Known (pos 0))
 map_replicate zero = refl
 map_replicate (suc n) = ap (λ l. Known (pos 0) ∷ l) (map_replicate n)
 
-pub first_seen : (values : List ℕ) (planes : List Bits) (words : List ℕ) (n : ℕ) → ((i : ℕ) → i < length values → cell_in values planes i ≡ cell_of false false (get_or values i 0)) → values ≡ words ++ replicate n 0 → seen values planes ≡ map (λ word. Known (signed word)) words ++ replicate n (Known (pos 0))
-first_seen values planes words n known is = seen_known values planes known ∙ ap (map (λ word. Known (signed word))) is ∙ map-append (λ word. Known (signed word)) words (replicate n 0) ∙ ap (λ l. map (λ word. Known (signed word)) words ++ l) (map_replicate n)
+pub first_seen : (values : List ℕ) (planes : List Bits) (words : List ℕ) (n : ℕ) →
+    ((i : ℕ) → i < length values → cell_in values planes i ≡ cell_of false false (get_or values i 0)) → values ≡ words ++
+    replicate n 0 → seen values planes ≡ map (λ word. Known (signed word)) words ++ replicate n (Known (pos 0))
+first_seen values planes words n known is = seen_known values planes known ∙ ap (map (λ word. Known (signed word))) is ∙
+    map-append (λ word. Known (signed word)) words (replicate n 0) ∙
+    ap (λ l. map (λ word. Known (signed word)) words ++ l) (map_replicate n)

@@ -111,7 +111,8 @@ blurred_fits rows (cell.Known n) r r' e (v, is, range) go = go (v, is, range.wor
 blurred_fits rows (cell.Index l) r r' e h go = cc
 blurred_fits rows (cell.Count l) r r' e h go = cc
 
-pub blurred_taken : (rows : List LoopRow) (workspace : ℕ) (cells : List Cell) (m m' : Memory) (x n : ℕ) → WordsFit rows workspace cells m → x + n ≤ length cells → are_free (cells_from cells x n) ≡ true
+pub blurred_taken : (rows : List LoopRow) (workspace : ℕ) (cells : List Cell) (m m' : Memory) (x n : ℕ) →
+    WordsFit rows workspace cells m → x + n ≤ length cells → are_free (cells_from cells x n) ≡ true
     → ((i : ℕ) → i < n → CellFits rows cell.Any (word_at m (word_address (x + i))) → CellFits rows cell.Any (word_at m' (word_address (x + i))))
     → ((i : ℕ) → (i < x) ⊎ (x + n ≤ i) → i < workspace → word_at m' (word_address i) ≡ word_at m (word_address i))
     → Change rows workspace cells (with_cells cells x (map blurred (cells_from cells x n))) m m'
@@ -119,7 +120,9 @@ blurred_taken rows workspace cells m m' x n f room free inside outside =
     stretch_taken rows workspace cells (map blurred (cells_from cells x n)) m m' x n (length-map (cells_from cells x n) blurred ∙ length-cells_from cells x n room) room
     (λ i lt.
     let short : i < length (cells_from cells x n) = omega (arith, length-cells_from cells x n room) in
-    let here : cell_at (map blurred (cells_from cells x n)) i ≡ blurred (cell_at cells (x + i)) = get_or-map blurred (cells_from cells x n) i cell.Undef cell.Undef short ∙ ap blurred (cell_at-cells_from cells x n i lt) in
+    let here : cell_at (map blurred (cells_from cells x n)) i ≡ blurred (cell_at cells (x + i)) =
+    get_or-map blurred (cells_from cells x n) i cell.Undef cell.Undef short ∙
+    ap blurred (cell_at-cells_from cells x n i lt) in
     let was = all_between is_free cells x n i free room lt in
     record {
       was = was;
@@ -137,7 +140,8 @@ copied_fits rows (cell.Known n) r h = h
 copied_fits rows (cell.Index l) r (row, row_is, v, is, range) = (v, is, range.word)
 copied_fits rows (cell.Count l) r (row, row_is, v, is, range) = (v, is, range.word)
 
-pub copies_taken : (rows : List LoopRow) (workspace : ℕ) (cells : List Cell) (m m' : Memory) (x y n : ℕ) → WordsFit rows workspace cells m → x + n ≤ length cells → y + n ≤ length cells → are_free (cells_from cells x n) ≡ true
+pub copies_taken : (rows : List LoopRow) (workspace : ℕ) (cells : List Cell) (m m' : Memory) (x y n : ℕ) →
+    WordsFit rows workspace cells m → x + n ≤ length cells → y + n ≤ length cells → are_free (cells_from cells x n) ≡ true
     → ((i : ℕ) → i < n → word_at m' (word_address (x + i)) ≡ word_at m (word_address (y + i)))
     → ((i : ℕ) → (i < x) ⊎ (x + n ≤ i) → i < workspace → word_at m' (word_address i) ≡ word_at m (word_address i))
     → Change rows workspace cells (with_cells cells x (map copied (cells_from cells y n))) m m'
@@ -145,7 +149,9 @@ copies_taken rows workspace cells m m' x y n f room from free inside outside =
     stretch_taken rows workspace cells (map copied (cells_from cells y n)) m m' x n (length-map (cells_from cells y n) copied ∙ length-cells_from cells y n from) room
     (λ i lt.
     let short : i < length (cells_from cells y n) = omega (arith, length-cells_from cells y n from) in
-    let here : cell_at (map copied (cells_from cells y n)) i ≡ copied (cell_at cells (y + i)) = get_or-map copied (cells_from cells y n) i cell.Undef cell.Undef short ∙ ap copied (cell_at-cells_from cells y n i lt) in
+    let here : cell_at (map copied (cells_from cells y n)) i ≡ copied (cell_at cells (y + i)) =
+    get_or-map copied (cells_from cells y n) i cell.Undef cell.Undef short ∙
+    ap copied (cell_at-cells_from cells y n i lt) in
     record {
       was = all_between is_free cells x n i free room lt;
       free = ap is_free here ∙ copied_free (cell_at cells (y + i));

@@ -1,5 +1,7 @@
 -- Free words that take something that fits, and what else stays.
-use Rattle.std.proofs.Common.{◌≡◌, ◌⊎◌, inl, inr, ℕ, ◌+◌, ◌*◌, ◌^◌, ◌<◌, ◌≤◌, Bool, true, false, List, length, length-set, slice_set, slice_get, get_or-set_same, get_or-set_other, Some, refl, sym, ap, ◌∙◌, arith}
+use Rattle.std.proofs.Common.{◌≡◌, ◌⊎◌, inl, inr, ℕ, ◌+◌, ◌*◌, ◌^◌, ◌<◌, ◌≤◌, Bool, true, false, List, length}
+use Rattle.std.proofs.Common.{length-set, slice_set, slice_get, get_or-set_same, get_or-set_other, Some, refl, sym, ap}
+use Rattle.std.proofs.Common.{◌∙◌, arith}
 use Rattle.std.proofs.lemmas.Bool.{cases_eq}
 use Rattle.tp_image.specs.declared.image.LoopRow.{LoopRow}
 use Rattle.tp_step.specs.Memory.{Memory, word_at, with_word, undefined}
@@ -84,10 +86,14 @@ module _ (rows : List LoopRow) (workspace : ℕ) (cells cells' : List Cell) (m m
 pub no_change : (rows : List LoopRow) (workspace : ℕ) (cells : List Cell) (m : Memory) → Change rows workspace cells cells m m
 no_change rows workspace cells m = record { sized = refl; word = λ x lt. inl record { cell = refl; word = refl } }
 
-pub changes : (rows : List LoopRow) (workspace : ℕ) (cells cells' cells'' : List Cell) (m m' m'' : Memory) → Change rows workspace cells cells' m m' → Change rows workspace cells' cells'' m' m'' → Change rows workspace cells cells'' m m''
+pub changes : (rows : List LoopRow) (workspace : ℕ) (cells cells' cells'' : List Cell) (m m' m'' : Memory) →
+    Change rows workspace cells cells' m m' → Change rows workspace cells' cells'' m' m'' →
+    Change rows workspace cells cells'' m m''
 changes rows workspace cells cells' cells'' m m' m'' c d = record { sized = d.sized ∙ c.sized; word = λ x lt. at x (c.word x lt) (d.word x lt) }
   where
-    at : (x : ℕ) → IsKept cells cells' m m' x ⊎ IsTaken rows cells cells' m' x → IsKept cells' cells'' m' m'' x ⊎ IsTaken rows cells' cells'' m'' x → IsKept cells cells'' m m'' x ⊎ IsTaken rows cells cells'' m'' x
+    at : (x : ℕ) → IsKept cells cells' m m' x ⊎ IsTaken rows cells cells' m' x →
+        IsKept cells' cells'' m' m'' x ⊎ IsTaken rows cells' cells'' m'' x →
+        IsKept cells cells'' m m'' x ⊎ IsTaken rows cells cells'' m'' x
     at x (inl a) (inl b) = inl record { cell = b.cell ∙ a.cell; word = b.word ∙ a.word }
     at x (inl a) (inr b) = inr record { was = ap is_free (sym a.cell) ∙ b.was; free = b.free; fits = b.fits }
     at x (inr a) (inl b) = inr record { was = a.was; free = ap is_free b.cell ∙ a.free; fits = rw (b.cell, b.word) a.fits }
@@ -108,7 +114,9 @@ pub kept_word : (m : Memory) (x n i : ℕ) → (i < x) ⊎ (x + n ≤ i) → wor
 kept_word m x n i (inl below) = word_kept m (word_address i) (word_address x) (4 * n) (inl (omega arith))
 kept_word m x n i (inr above) = word_kept m (word_address i) (word_address x) (4 * n) (inr (omega arith))
 
-pub word_taken : (rows : List LoopRow) (workspace : ℕ) (cells : List Cell) (m : Memory) (x : ℕ) (c : Cell) (v : ℕ) → v < 2 ^ 32 → x < length cells → is_free (cell_at cells x) ≡ true → is_free c ≡ true → CellFits rows c (Some v) → Change rows workspace cells (slice_set cells x c) m (with_word m (word_address x) v)
+pub word_taken : (rows : List LoopRow) (workspace : ℕ) (cells : List Cell) (m : Memory) (x : ℕ) (c : Cell) (v : ℕ) →
+    v < 2 ^ 32 → x < length cells → is_free (cell_at cells x) ≡ true → is_free c ≡ true → CellFits rows c (Some v) →
+    Change rows workspace cells (slice_set cells x c) m (with_word m (word_address x) v)
 word_taken rows workspace cells m x c v small room was free fits = record { sized = length-set cells x c; word = λ i lt. at i (cases_eq i x) }
   where
     at : (i : ℕ) → (i ≡ x) ⊎ (i ≡ x → ⊥) → IsKept cells (slice_set cells x c) m (with_word m (word_address x) v) i ⊎ IsTaken rows cells (slice_set cells x c) (with_word m (word_address x) v) i

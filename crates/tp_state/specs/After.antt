@@ -1,5 +1,6 @@
 -- What is known after an instruction on one of its edges: its own rule, and then entering.
-use Rattle.std.specs.Prelude.{ℕ, ◌+◌, Bool, false, ◌&&◌, pos, ℤ, List, [], ◌∷◌, slice_get, Option, Some, None, Result, Ok}
+use Rattle.std.specs.Prelude.{ℕ, ◌+◌, Bool, false, ◌&&◌, pos, ℤ, List, [], ◌∷◌, slice_get, Option, Some, None, Result}
+use Rattle.std.specs.Prelude.{Ok}
 use Rattle.std.specs.Ordering.{int_eq}
 use Rattle.std.specs.Option.{option_and_then}
 use Rattle.tp_decode.specs.declared.instr.Instr.{Instr}

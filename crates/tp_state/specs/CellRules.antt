@@ -1,5 +1,6 @@
 -- What is known of the workspace's words: reading and writing.
-use Rattle.std.specs.Prelude.{ℕ, ◌+◌, Bool, true, false, if◌then◌else◌, pos, List, ◌++◌, length, take, drop, slice_index_or, slice_get, Result, Ok, Err}
+use Rattle.std.specs.Prelude.{ℕ, ◌+◌, Bool, true, false, if◌then◌else◌, pos, List, ◌++◌, length, take, drop}
+use Rattle.std.specs.Prelude.{slice_index_or, slice_get, Result, Ok, Err}
 use Rattle.std.specs.List.{list_all}
 use Rattle.std.specs.Ordering.{int_eq}
 use Rattle.tp_image.specs.declared.image.LoopRow.{LoopRow}

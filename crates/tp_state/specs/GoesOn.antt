@@ -1,5 +1,6 @@
 -- What becomes of a machine whose state fits what is known before an instruction that is not refused.
-use Rattle.std.specs.Prelude.{◌≡◌, ℕ, ◌+◌, ◌-◌, ◌==◌, ◌⊎◌, nat_lt, true, ◌&&◌, if◌then◌else◌, List, All, Contains, IsTrue, IsOk, length, Some, Ok, unwrap_or}
+use Rattle.std.specs.Prelude.{◌≡◌, ℕ, ◌+◌, ◌-◌, ◌==◌, ◌⊎◌, nat_lt, true, ◌&&◌, if◌then◌else◌, List, All, Contains}
+use Rattle.std.specs.Prelude.{IsTrue, IsOk, length, Some, Ok, unwrap_or}
 use Rattle.tp_decode.specs.Cutting.{Cut}
 use Rattle.tp_decode.specs.declared.instr.Instr.{Instr}
 use Rattle.tp_decode.specs.declared.instr.Instr.TheVariants.{Lend, Stopp}

@@ -1,5 +1,6 @@
 -- What is known of a register, and of what is made of registers.
-use Rattle.std.specs.Prelude.{ℕ, ◌*◌, ◌^◌, ◌<◌, ◌==◌, Bool, false, ◌&&◌, nat_lt, if◌then◌else◌, ℤ, pos, negsuc, Result, Ok, Err, FitsSigned}
+use Rattle.std.specs.Prelude.{ℕ, ◌*◌, ◌^◌, ◌<◌, ◌==◌, Bool, false, ◌&&◌, nat_lt, if◌then◌else◌, ℤ, pos, negsuc, Result}
+use Rattle.std.specs.Prelude.{Ok, Err, FitsSigned}
 use Rattle.std.specs.Ordering.{int_eq}
 use Rattle.std.specs.Int.{w32, int_min, int_max}
 use Rattle.tp_image.specs.Image.{ImageValue}

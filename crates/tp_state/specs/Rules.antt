@@ -5,12 +5,18 @@
 -- S4, S5. The effects of the instructions stand in tp_step/specs/Effects.antt, in the same order.
 --
 -- Sums of a word's number and an operand are whole numbers, never wrapped.
-use Rattle.std.specs.Prelude.{◌≡◌, ℕ, ◌+◌, ◌-◌, ◌*◌, ◌/◌, ◌%◌, ◌^◌, ◌==◌, Bool, ◌&&◌, ◌||◌, not, nat_le, nat_lt, if◌then◌else◌, ℤ, pos, negsuc, ◌+ℤ◌, ◌-ℤ◌, ◌*ℤ◌, int_le, int_lt, int_div, List, map, replicate, slice_get, slice_set, Option, Result, Ok, Err}
+use Rattle.std.specs.Prelude.{◌≡◌, ℕ, ◌+◌, ◌-◌, ◌*◌, ◌/◌, ◌%◌, ◌^◌, ◌==◌, Bool, ◌&&◌, ◌||◌, not, nat_le, nat_lt}
+use Rattle.std.specs.Prelude.{if◌then◌else◌, ℤ, pos, negsuc, ◌+ℤ◌, ◌-ℤ◌, ◌*ℤ◌, int_le, int_lt, int_div, List, map}
+use Rattle.std.specs.Prelude.{replicate, slice_get, slice_set, Option, Result, Ok, Err}
 use Rattle.std.specs.Ordering.{int_eq}
 use Rattle.std.specs.Option.{option_and_then}
 use Rattle.tp_decode.specs.Words.{signed}
 use Rattle.tp_decode.specs.declared.instr.Instr.{Instr}
-use Rattle.tp_decode.specs.declared.instr.Instr.TheVariants.{Jump, Ldlp, Ldnl, Ldc, Ldnlp, Ldl, Adc, Cj, Ajw, Eqc, Stl, Stnl, Rev, Lb, Bsub, Diff, Add, Input, Prod, Gt, Wsub, Output, Sub, Seterr, Csub0, Stopp, Rem, Lend, Div, BitNot, BitXor, Sb, Shr, Shl, Mint, BitAnd, MoveBytes, BitOr, Sum, Mul}
+use Rattle.tp_decode.specs.declared.instr.Instr.TheVariants.{Jump, Ldlp, Ldnl, Ldc, Ldnlp, Ldl, Adc, Cj, Ajw, Eqc, Stl}
+use Rattle.tp_decode.specs.declared.instr.Instr.TheVariants.{Stnl, Rev, Lb, Bsub, Diff, Add, Input, Prod, Gt, Wsub}
+use Rattle.tp_decode.specs.declared.instr.Instr.TheVariants.{Output, Sub, Seterr, Csub0, Stopp, Rem, Lend, Div, BitNot}
+use Rattle.tp_decode.specs.declared.instr.Instr.TheVariants.{BitXor, Sb, Shr, Shl, Mint, BitAnd, MoveBytes, BitOr, Sum}
+use Rattle.tp_decode.specs.declared.instr.Instr.TheVariants.{Mul}
 use Rattle.tp_image.specs.declared.image.LoopRow.{LoopRow}
 use Rattle.tp_image.specs.Image.{ImageValue}
 use Rattle.tp_flow.specs.declared.edge.Edge.{Edge}
@@ -26,8 +32,10 @@ use Rattle.tp_state.specs.declared.state.State.{State}
 use Rattle.tp_state.specs.declared.fault.StateCode.{StateCode}
 use Rattle.tp_state.specs.declared.fault.StateCode.TheVariants.{S1, S2, S3, S4, S5, S6, S7, S8, S9, S10, S11}
 use Rattle.tp_state.specs.Answer.{◌>>=◌, ◌>>◌, unless, found, answered}
-use Rattle.tp_state.specs.Kinds.{full, exactly, is_exactly, points_at, known, number, pointer, one_word, byte_pointer, word_in, byte_in, range, at_ends}
-use Rattle.tp_state.specs.CellRules.{cell_at, cells_from, with_cells, is_free, are_free, are_defined, read, written, blurred, copied}
+use Rattle.tp_state.specs.Kinds.{full, exactly, is_exactly, points_at, known, number, pointer, one_word, byte_pointer}
+use Rattle.tp_state.specs.Kinds.{word_in, byte_in, range, at_ends}
+use Rattle.tp_state.specs.CellRules.{cell_at, cells_from, with_cells, is_free, are_free, are_defined, read, written}
+use Rattle.tp_state.specs.CellRules.{blurred, copied}
 
 -- ---- registers: as in the effects
 

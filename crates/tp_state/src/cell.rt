@@ -44,7 +44,7 @@ impl Cell {
         }
     }
 
-    /// What holds of both.
+    /// The join.
     pub fn join(self, other: Cell) -> Cell
         ensures { result ≡ join_cells self other }
     {
@@ -55,7 +55,7 @@ impl Cell {
         }
     }
 
-    /// Whether it says as much as the other or more.
+    /// Whether it is below the other.
     pub fn is_below(self, other: Cell) -> bool
         ensures { result ≡ cell_below self other }
     {

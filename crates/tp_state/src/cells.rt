@@ -1,6 +1,7 @@
 //! What is known of the words of a workspace.
 
-ghost use Rattle.std.specs.Prelude.{◌≡◌, ◌+◌, ◌≤◌, ◌<◌, length, map, replicate, take, drop, slice_set, min, IsTrue, IfOk, ◌++◌, ◌-◌, true, false};
+ghost use Rattle.std.specs.Prelude.{◌≡◌, ◌+◌, ◌≤◌, ◌<◌, length, map, replicate, take, drop, slice_set, min, IsTrue};
+ghost use Rattle.std.specs.Prelude.{IfOk, ◌++◌, ◌-◌, true, false};
 ghost use Rattle.tp_state.specs.CellRules.{cell_at, cells_from, with_cells, are_free, are_defined, blurred, copied};
 ghost use Rattle.tp_state.specs.Rules.{are_apart};
 ghost use Rattle.tp_state.specs.Order.{joined_cells, ReportsChange, AreBelow, OneIsNotBelow, AgreeOnValues};
@@ -61,7 +62,7 @@ impl Cells {
         Ok(new)
     }
 
-    /// A list of them.
+    /// A list of cells.
     pub fn to_vec(&self, alloc: Global) -> Result<Vec<Cell>, AllocError>
         ensures { IfOk result (λ cells. cells.items ≡ self.now) }
     {
@@ -99,7 +100,7 @@ impl Cells {
         Ok(Cells { values, planes })
     }
 
-    /// It takes the other's value, of as many words.
+    /// Copies the cells of the other, which has as many words.
     pub(crate) fn set_to(&mut self, others: &Cells)
         requires { length others.now ≡ length self.old }
         ensures { self.new ≡ others.now }
@@ -112,7 +113,7 @@ impl Cells {
         );
     }
 
-    /// It takes the value of cells that say as much or less: a value that means something there is here already.
+    /// Copies the cells of another that is above it: a value that means something there is here already.
     pub(crate) fn raise_to(&mut self, others: &Cells)
         requires sized { length others.now ≡ length self.old }
         requires below { AreBelow self.old others.now }
@@ -121,8 +122,8 @@ impl Cells {
         set_planes(&mut self.planes, &others.planes);
     }
 
-    /// What holds of both, word by word. Where words that have a value in both are known to have the same, no value is looked
-    /// at. It answers whether anything changed.
+    /// What holds of both, word by word. Where words that have a value in both are known to have the same, no value is
+    /// looked at. It answers whether anything changed.
     pub(crate) fn join(&mut self, others: &Cells, agree: bool) -> bool
         requires sized { length others.now ≡ length self.old }
         requires agree { agree ≡ true → AgreeOnValues self.old others.now }
@@ -138,7 +139,7 @@ impl Cells {
         )
     }
 
-    /// Whether each says as much as the other's of the same word or more.
+    /// Whether each cell is below the other's of the same word.
     pub(crate) fn are_below(&self, others: &Cells) -> bool
         requires { length others.now ≡ length self.now }
         ensures yes { result ≡ true → AreBelow self.now others.now }
@@ -224,7 +225,7 @@ fn set_word(values: &mut [u32], planes: &mut [Bits], x: usize, cell: Cell)
     put_one(planes, x, kept);
 }
 
-/// All words take those of others, of which there are as many.
+/// Copies all cells from `others`, which has the same length.
 #[tactic(auto, using(crate::proofs::SeenLemmas::length_seen))]
 fn set_words(values: &mut [u32], planes: &mut [Bits], other_values: &[u32], others: &[Bits])
     requires whole { IsWhole values.old planes.old }
@@ -249,8 +250,8 @@ fn first_values(alloc: Global, initial: &[u32], words: usize) -> Result<Vec<u32>
     Ok(values)
 }
 
-/// What holds of both, word by word. Where words that have a value in both are known to have the same, no value is looked at. It
-/// answers whether anything changed.
+/// What holds of both, word by word. Where words that have a value in both are known to have the same, no value is
+/// looked at. It answers whether anything changed.
 #[tactic(auto, using(crate::proofs::SeenLemmas::length_seen))]
 fn join_words(
     values: &[u32],
@@ -271,7 +272,7 @@ fn join_words(
     join_planes(planes, others, values, other_values, agree)
 }
 
-/// Whether each word says as much as the other's of the same number or more.
+/// Whether each cell is below the other's of the same word.
 #[tactic(auto, using(crate::proofs::SeenLemmas::length_seen))]
 fn words_below(values: &[u32], planes: &[Bits], other_values: &[u32], others: &[Bits]) -> bool
     requires whole { IsWhole values.now planes.now }

@@ -65,7 +65,7 @@ pub enum StateFault {
     /// A rule is broken. The place is an address in the code, in bytes: of the instruction, or, where two edges may not
     /// meet, of their target.
     Refused { code: StateCode, place: usize },
-    /// A growth was refused.
+    /// Out of memory.
     Memory,
 }
 

@@ -2,7 +2,8 @@
 
 ghost use Rattle.std.specs.Prelude.{◌≡◌, ◌<◌, ◌^◌, IfOk};
 ghost use Rattle.tp_state.specs.Order.{kind_below, join_kinds};
-ghost use Rattle.tp_state.specs.Kinds.{known, number, pointer, one_word, byte_pointer, is_exactly, points_at, HasWordEnds};
+ghost use Rattle.tp_state.specs.Kinds.{known, number, pointer, one_word, byte_pointer, is_exactly, points_at};
+ghost use Rattle.tp_state.specs.Kinds.{HasWordEnds};
 
 use crate::cell::Cell;
 use crate::fault::StateCode;
@@ -113,7 +114,7 @@ impl Kind {
     }
 
     /// A law: the ends of its range are words.
-    pub(crate) fn has_word_ends(self)
+    pub(crate) fn law_has_word_ends(self)
         ensures { HasWordEnds self }
     {
         match self {
@@ -124,7 +125,7 @@ impl Kind {
         }
     }
 
-    /// What holds of both: the least range that has two of one form.
+    /// The join: the least range that has two of one form.
     pub fn join(self, other: Kind) -> Kind
         ensures { result ≡ join_kinds self other }
     {
@@ -136,7 +137,7 @@ impl Kind {
         }
     }
 
-    /// Whether it says as much as the other or more: its range lies within the other's, or the other says nothing.
+    /// Whether it is below the other: its range lies within the other's, or the other says nothing.
     pub fn is_below(self, other: Kind) -> bool
         ensures { result ≡ kind_below self other }
     {

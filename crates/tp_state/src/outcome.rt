@@ -13,9 +13,9 @@ use tp_decode::Instr;
 use tp_flow::{Edge, Nest};
 use tp_image::Image;
 
-/// What is known after the instruction at an address, where the next one is behind it, on an edge that it
-/// has; stopp, which has none, is asked with Next and gives the state back. The refusal's place is the instruction's
-/// address. [`State::go_on`] is the same in place.
+/// The transfer function: what is known after the instruction at an address, on an edge that it has, where the next
+/// instruction is behind it; stopp, which has no edge, is asked with Next and returns the state. Fails at the
+/// instruction's address. [`State::go_on`] is the same in place.
 pub fn after(
     alloc: Global,
     state: &State,

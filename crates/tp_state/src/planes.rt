@@ -1,9 +1,13 @@
 //! Planes of bits: two bits of each workspace word say what its cell is, but for the value of one that has a value.
 
-ghost use Rattle.std.specs.Prelude.{◌≡◌, ℕ, ◌+◌, ◌-◌, ◌*◌, ◌^◌, ◌<◌, ◌≤◌, ◌==◌, ◌&&◌, nat_le, nat_lt, length, List, true, false, slice_index_or, bit_or, bit_xor};
+ghost use Rattle.std.specs.Prelude.{◌≡◌, ℕ, ◌+◌, ◌-◌, ◌*◌, ◌^◌, ◌<◌, ◌≤◌, ◌==◌, ◌&&◌, nat_le, nat_lt, length, List};
+ghost use Rattle.std.specs.Prelude.{true, false, slice_index_or, bit_or, bit_xor};
 ghost use Rattle.tp_state.specs.declared.cell.Cell.TheVariants.{Undef};
 ghost use Rattle.tp_state.specs.CellRules.{blurred, is_free, is_defined};
-ghost use Rattle.tp_state.specs.Planes.{is_set, live_of, cell_of, bits_cell, HasByteRow, with_mask, blurred_bits, live_bits, undefined_bits, joined_bits, failing_bits, no_bits, cell_in, IsWhole, ChangesPlanes, AreKnown, ArePadded, EachIs, OneIsNot, OneChanges, with_bits, Agree, Moves};
+ghost use Rattle.tp_state.specs.Planes.{is_set, live_of, cell_of, bits_cell, HasByteRow, with_mask, blurred_bits};
+ghost use Rattle.tp_state.specs.Planes.{live_bits, undefined_bits, joined_bits, failing_bits, no_bits, cell_in};
+ghost use Rattle.tp_state.specs.Planes.{IsWhole, ChangesPlanes, AreKnown, ArePadded, EachIs, OneIsNot, OneChanges};
+ghost use Rattle.tp_state.specs.Planes.{with_bits, Agree, Moves};
 ghost use Rattle.tp_state.specs.Order.{cell_below};
 ghost use Rattle.tp_state.specs.PlaneJoins.{TakesJoins};
 
@@ -23,8 +27,8 @@ pub(crate) type Planes = ArrayVec<Bits, PLANES>;
 /// The first of the values that mean a loop's count, and not its index.
 const COUNTS: u32 = 256;
 
-/// Two bits of each of 64 words: Known has 00, Any 10, Undef 11, and a live control word 01. So a join is an OR, and the
-/// first bit of words that differ.
+/// Two bits of each of 64 words: Known has 00, Any 10, Undef 11, and a live control word 01. So a join is an OR, and
+/// the first bit of words that differ.
 #[derive(Clone, Copy, Debug, Default, PartialEq, Eq)]
 pub(crate) struct Bits {
     pub(crate) first: u64,
@@ -158,7 +162,7 @@ impl Bits {
         }
     }
 
-    /// What holds of both, given which values differ.
+    /// The join; `differ` marks unequal values.
     fn joined(self, other: Bits, differ: u64) -> Bits
         ensures { result ≡ joined_bits differ self other }
     {
@@ -168,14 +172,14 @@ impl Bits {
         }
     }
 
-    /// The words that are neither known nor live control words here or there: their values mean nothing.
+    /// The words that have no value here or none there: their values mean nothing.
     fn closed(self, other: Bits) -> u64
         ensures { result ≡ bit_or self.first other.first }
     {
         self.first | other.first
     }
 
-    /// The words of which it does not say as much as the other or more, given which values differ.
+    /// The words whose cell is not below the other's; `differ` marks unequal values.
     fn failing(self, other: Bits, differ: u64) -> u64
         ensures { result ≡ failing_bits differ self other }
     {
@@ -220,7 +224,7 @@ pub(crate) fn whole_planes(words: usize) -> Planes
     planes
 }
 
-/// Planes of so many words, with no bit set.
+/// Planes with no bit set.
 fn clear_planes(many: usize) -> Planes
     requires { many ≤ 8 }
     ensures long { length result.items ≡ many }
@@ -246,7 +250,7 @@ pub(crate) fn copied_planes(planes: &Planes) -> Planes
     copy
 }
 
-/// Behind so many words the bits of planes that have none say that nothing is known.
+/// Sets the bits of planes that have no word to those of a word of which nothing is known.
 fn close_planes(planes: &mut [Bits], words: usize)
     requires enough { words ≤ 64 * length planes.old }
     requires few { length planes.old < 2 ^ 32 }
@@ -258,7 +262,7 @@ fn close_planes(planes: &mut [Bits], words: usize)
     put_all(planes, words, end, Kept::of(Cell::Undef));
 }
 
-/// What holds of both, given which values differ. It answers with a bit for each word that has changed.
+/// The join, in place; `differ` marks unequal values. Returns a bit for each word that has changed.
 fn join_bits(bits: &mut Bits, other: Bits, differ: u64) -> u64
     ensures value { bits.new ≡ joined_bits differ bits.old other }
     ensures stays { result ≡ 0 → bits.new ≡ bits.old }
@@ -336,7 +340,7 @@ pub(crate) fn all_defined(planes: &[Bits], x: usize, end: usize) -> bool
     true
 }
 
-/// All words take the bits of others.
+/// Copies all bits from `others`.
 pub(crate) fn set_planes(planes: &mut [Bits], others: &[Bits])
     requires { length others.now ≡ length planes.old }
     ensures { planes.new ≡ others.now }
@@ -344,8 +348,8 @@ pub(crate) fn set_planes(planes: &mut [Bits], others: &[Bits])
     planes.copy_from_slice(others);
 }
 
-/// What holds of both, word by word. Where words that have a value in both are known to have the same, no value is looked at. It
-/// answers whether anything changed.
+/// The join, word by word, in place. Where words that have a value in both are known to have the same, no value is
+/// looked at. Returns whether anything changed.
 pub(crate) fn join_planes(
     planes: &mut [Bits],
     others: &[Bits],
@@ -373,7 +377,7 @@ pub(crate) fn join_planes(
     moved != 0
 }
 
-/// Whether each word says as much as the other's of the same number or more.
+/// Whether each cell is below the other's of the same word.
 pub(crate) fn planes_below(
     planes: &[Bits],
     others: &[Bits],

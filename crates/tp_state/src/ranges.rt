@@ -2,7 +2,8 @@
 
 ghost use Rattle.std.specs.Prelude.{◌≡◌, ◌+ℤ◌, ◌≤ℤ◌, pos, ◌^◌, ◌*ℤ◌, ◌-ℤ◌, int_div, IsTrue};
 ghost use Rattle.tp_state.specs.Kinds.{range, hull, at_ends};
-ghost use Rattle.tp_state.specs.Rules.{sum_of, difference, product, quotients, remainders, conjunctions, is_positive, is_shift_count, are_shift_counts, power, shifted_up, shifted_down};
+ghost use Rattle.tp_state.specs.Rules.{sum_of, difference, product, quotients, remainders, conjunctions, is_positive};
+ghost use Rattle.tp_state.specs.Rules.{is_shift_count, are_shift_counts, power, shifted_up, shifted_down};
 
 use crate::kind::Kind;
 

@@ -21,8 +21,8 @@ use tp_flow::{Edge, Nest};
 use tp_image::Image;
 
 impl State {
-    /// What is known after the instruction at an address, where the next one is behind it, on an edge
-    /// that it has: the state itself takes it. After a refusal the state is not to be used. It takes no memory.
+    /// The transfer function, in place: what is known after the instruction at an address, on an edge that it has,
+    /// where the next instruction is behind it. After a refusal the state is not to be used. It takes no memory.
     #[tactic(auto, unfolding(crate::specs::After::after))]
     pub fn go_on(
         &mut self,

@@ -5,7 +5,8 @@ ghost use Rattle.tp_state.specs.Answer.{answered};
 ghost use Rattle.tp_state.specs.Conditions.{KeepsPlace, IsPlaced};
 ghost use Rattle.tp_state.specs.Order.{AgreeOnValues, IsBelow, join, join_kinds, meeting, ReportsChange};
 ghost use Rattle.tp_state.specs.Entry.{entry};
-ghost use Rattle.tp_state.specs.Rules.{push, pop, pop_two, set_areg, replace_pair, no_registers, one_number, two_numbers, local, below_wptr, suspended, descheduled};
+ghost use Rattle.tp_state.specs.Rules.{push, pop, pop_two, set_areg, replace_pair, no_registers, one_number};
+ghost use Rattle.tp_state.specs.Rules.{two_numbers, local, below_wptr, suspended, descheduled};
 ghost use Rattle.tp_state.specs.CellRules.{are_free};
 ghost use Rattle.tp_state.specs.Kinds.{HasWordEnds};
 
@@ -67,7 +68,7 @@ impl State {
         })
     }
 
-    /// It takes the other's value, of a workspace as large. It takes no memory.
+    /// Copies another state, of a workspace as large. It takes no memory.
     pub fn set_to(&mut self, other: &State)
         requires { length other.now.cells ≡ length self.old.cells }
         ensures { self.new ≡ other.now }
@@ -80,8 +81,8 @@ impl State {
         self.cells.set_to(&other.cells);
     }
 
-    /// It takes the value of a state that says as much or less. It takes no memory, and no word's value is copied: a word
-    /// that has a value there has it here.
+    /// Copies a state that is above it. It takes no memory, and no word's value is copied: a word that has a value
+    /// there has it here.
     pub fn raise_to(&mut self, other: &State)
         requires { IsBelow self.old other.now }
         ensures { self.new ≡ other.now }
@@ -93,18 +94,18 @@ impl State {
     }
 
     /// A law: the ends of its registers' ranges are words.
-    pub fn has_word_ends(&self)
+    pub fn law_has_word_ends(&self)
         ensures a { HasWordEnds self.now.a }
         ensures b { HasWordEnds self.now.b }
         ensures c { HasWordEnds self.now.c }
     {
-        self.a.has_word_ends();
-        self.b.has_word_ends();
-        self.c.has_word_ends();
+        self.a.law_has_word_ends();
+        self.b.law_has_word_ends();
+        self.c.law_has_word_ends();
     }
 
-    /// What holds of both states, where they may meet: the state itself takes it. It answers whether anything changed;
-    /// after a refusal, S6 or S9, nothing has. It takes no memory.
+    /// The join, in place, where the states may meet. Returns whether anything changed; fails with S6 or S9, and then
+    /// nothing has. It takes no memory.
     pub fn join(&mut self, other: &State) -> Result<bool, StateCode>
         requires { length other.now.cells ≡ length self.old.cells }
         ensures value { answered result self.new ≡ meeting self.old other.now }
@@ -120,8 +121,8 @@ impl State {
         Ok(self.join_known(other, false))
     }
 
-    /// What holds of both states, where some state is below both: the state itself takes it. They meet, and a word that has
-    /// a value in both has one, so no values are compared. It answers whether anything changed. It takes no memory.
+    /// The join, in place, where some state is below both. They may meet, and a word that has a value in both has the
+    /// same, so no values are compared. Returns whether anything changed. It takes no memory.
     pub fn join_compatible(&mut self, other: &State) -> bool
         requires { (t : State) × IsBelow t self.old × IsBelow t other.now }
         ensures value { self.new ≡ join self.old other.now }
@@ -130,7 +131,7 @@ impl State {
         self.join_known(other, true)
     }
 
-    /// Whether the state says as much as the other or more.
+    /// Whether the state is below the other: it says as much or more.
     pub fn is_below(&self, other: &State) -> bool
         requires { length other.now.cells ≡ length self.now.cells }
         ensures yes { result ≡ true → IsBelow self.now other.now }
@@ -144,8 +145,8 @@ impl State {
             && self.cells.are_below(&other.cells)
     }
 
-    /// What holds of both, of registers and words. Where words that have a value in both are known to have the same, no value
-    /// is looked at.
+    /// The join of registers and words, in place. Where words that have a value in both are known to have the same, no
+    /// value is looked at.
     fn join_known(&mut self, other: &State, agree: bool) -> bool
         requires sized { length other.now.cells ≡ length self.old.cells }
         requires agree { agree ≡ true → AgreeOnValues self.old.cells other.now.cells }
@@ -156,7 +157,7 @@ impl State {
         self.join_registers(other) || cells
     }
 
-    /// What holds of both, of registers alone. It answers whether any changed.
+    /// The join of the registers, in place. Returns whether any changed.
     fn join_registers(&mut self, other: &State) -> bool
         ensures value { self.new ≡ record self.old {
           a = join_kinds self.old.a other.now.a;
@@ -287,7 +288,7 @@ impl State {
     }
 }
 
-/// What holds of both, of one register. It answers whether it changed. Most that meet are alike: the test is inlined.
+/// The join of one register, in place. Returns whether it changed. Most that meet are alike, so the test is inlined.
 #[tactic(auto, using(crate::proofs::OrderLemmas::join_kinds_same))]
 #[inline(always)]
 pub(crate) fn join_kind(kind: &mut Kind, other: Kind) -> bool
@@ -300,7 +301,7 @@ pub(crate) fn join_kind(kind: &mut Kind, other: Kind) -> bool
     join_unlike(kind, other)
 }
 
-/// The same where they are not alike, which is rare: it is not inlined, which lets the test before it be.
+/// The rare case, out of line so that the equality test is inlined.
 #[inline(never)]
 fn join_unlike(kind: &mut Kind, other: Kind) -> bool
     ensures value { kind.new ≡ join_kinds kind.old other }

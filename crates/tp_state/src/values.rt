@@ -6,7 +6,7 @@ ghost use Rattle.tp_state.specs.Planes.{is_set, differ_at};
 use crate::planes::{WORDS, one};
 use std::simd::prelude::*;
 
-/// Which values differ, of the words of word w of a plane; of those whose bits are set in a mask nothing is said.
+/// A bit for each word of word w of a plane whose values differ; the bits in the mask mean nothing.
 pub(crate) fn differing(values: &[u32], others: &[u32], w: usize, closed: u64) -> u64
     requires same { length others.now ≡ length values.now }
     requires some { 64 * w < length values.now }

@@ -53,7 +53,9 @@ steps_last image n s t leads =
     record { flag = lasted.flag; sent = lasted.result; traced = lasted.trace; to_come = lasted.left; phase = lasted.phase_up }
 
 -- what a state on the way of a packet's run has sent, the run sends first
-pub sends_first : (image : ImageValue) (packet : List ℕ) (run : Run) → RunsAlone image packet run → (n : ℕ) (s : State) → steps image n (start image packet) ≡ Some s → Begins s.sent run.result × Begins s.traced run.trace
+pub sends_first : (image : ImageValue) (packet : List ℕ) (run : Run) → RunsAlone image packet run →
+    (n : ℕ) (s : State) → steps image n (start image packet) ≡ Some s → Begins s.sent run.result ×
+    Begins s.traced run.trace
 sends_first image packet run alone n s leads =
     let last = ends_in image packet run alone in
     let within : n ≤ run.steps = within_run image packet run s alone record { count = n; leads = leads } in

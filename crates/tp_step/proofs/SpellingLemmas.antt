@@ -1,5 +1,7 @@
 -- The steps of an instruction with its prefixes.
-use Rattle.std.proofs.Common.{◌≡◌, ℕ, zero, suc, ◌+◌, ◌-◌, ◌<◌, ◌≤◌, Bool, true, false, ◌||◌, if◌then◌else◌, ℤ, pos, List, [], ◌∷◌, length, take, drop, slice_get, slice_range, Option, Some, None, refl, sym, ap, ◌∙◌, arith, length-drop}
+use Rattle.std.proofs.Common.{◌≡◌, ℕ, zero, suc, ◌+◌, ◌-◌, ◌<◌, ◌≤◌, Bool, true, false, ◌||◌, if◌then◌else◌, ℤ, pos}
+use Rattle.std.proofs.Common.{List, [], ◌∷◌, length, take, drop, slice_get, slice_range, Option, Some, None, refl, sym}
+use Rattle.std.proofs.Common.{ap, ◌∙◌, arith, length-drop}
 use Rattle.std.proofs.lemmas.Option.{same_Some}
 use Rattle.std.proofs.lemmas.List.{length-take}
 use Rattle.tp_image.specs.Image.{ImageValue}
@@ -54,19 +56,28 @@ only_one image s = by_step (step image s)
 abbrev pub outcome : ImageValue → State → ℕ → ℕ × ℤ → Option State
 outcome image s next (f, n) = performed image f n (at s next 0)
 
-pub spelled_runs : (image : ImageValue) (bytes : List ℕ) (s : State) (a : ℕ) (fn : ℕ × ℤ) → s.stopped ≡ false → s.iptr ≡ pos a → HasBytesAt image.code a bytes → spelled s.oreg bytes ≡ Some fn → steps image (length bytes) s ≡ outcome image s (a + length bytes) fn
+pub spelled_runs : (image : ImageValue) (bytes : List ℕ) (s : State) (a : ℕ) (fn : ℕ × ℤ) → s.stopped ≡ false →
+    s.iptr ≡ pos a → HasBytesAt image.code a bytes → spelled s.oreg bytes ≡ Some fn →
+    steps image (length bytes) s ≡ outcome image s (a + length bytes) fn
 unfolding spelled
 spelled_runs image [] s a fn running place stand e = cc
 spelled_runs image (b ∷ []) s a fn running place stand e = by_test (is_pfix b) refl (is_nfix b) refl e
   where
-    by_test : (p : Bool) → is_pfix b ≡ p → (q : Bool) → is_nfix b ≡ q → ◌≡◌ {A = Option (ℕ × ℤ)} (if p || q then None else Some (function_of b, signed (s.oreg + digit_of b))) (Some fn) → steps image 1 s ≡ outcome image s (a + 1) fn
+    by_test : (p : Bool) → is_pfix b ≡ p → (q : Bool) → is_nfix b ≡ q →
+        ◌≡◌ {A = Option (ℕ × ℤ)} (if p || q then None else Some (function_of b, signed (s.oreg + digit_of b))) (Some fn) →
+        steps image 1 s ≡ outcome image s (a + 1) fn
     by_test true is q is' e = cc
     by_test false is true is' e = cc
     by_test false is false is' e = only_one image s ∙ last_step image s a b running place stand.0 is is' ∙ ap (outcome image s (a + 1)) (same_Some _ _ e)
 spelled_runs image (b ∷ c ∷ rest) s a fn running place stand e =
     by_test (λ o. spelled_runs image (c ∷ rest) (at s (a + 1) o) (a + 1) fn running refl stand.1) (is_pfix b) refl (is_nfix b) refl e
   where
-    by_test : ((o : ℕ) → spelled o (c ∷ rest) ≡ Some fn → steps image (length (c ∷ rest)) (at s (a + 1) o) ≡ outcome image s (a + 1 + length (c ∷ rest)) fn) → (p : Bool) → is_pfix b ≡ p → (q : Bool) → is_nfix b ≡ q → ◌≡◌ {A = Option (ℕ × ℤ)} (if p then spelled (shifted (s.oreg + digit_of b)) (c ∷ rest) else if q then spelled (shifted_complement (s.oreg + digit_of b)) (c ∷ rest) else None) (Some fn) → steps image (length (b ∷ c ∷ rest)) s ≡ outcome image s (a + length (b ∷ c ∷ rest)) fn
+    by_test : ((o : ℕ) → spelled o (c ∷ rest) ≡ Some fn →
+        steps image (length (c ∷ rest)) (at s (a + 1) o) ≡ outcome image s (a + 1 + length (c ∷ rest)) fn) → (p : Bool) →
+        is_pfix b ≡ p → (q : Bool) → is_nfix b ≡ q → ◌≡◌ {A = Option (ℕ × ℤ)}
+        (if p then spelled (shifted (s.oreg + digit_of b)) (c ∷ rest) else if q then spelled
+        (shifted_complement (s.oreg + digit_of b)) (c ∷ rest) else None) (Some fn) →
+        steps image (length (b ∷ c ∷ rest)) s ≡ outcome image s (a + length (b ∷ c ∷ rest)) fn
     by_test go true is q is' e =
         one_more image s _ (length (c ∷ rest)) (pfix_step image s a b running place stand.0 is) ∙ go _ e ∙ ap (λ n. outcome image s n fn) (omega arith)
     by_test go false is true is' e =
@@ -91,7 +102,9 @@ length-range : (n : ℕ) (code : List ℕ) (a : ℕ) → a + n ≤ length code �
 length-range n code a h = rw (length-take, length-drop) (omega arith)
 
 -- a spelling that stands in the code runs through
-pub spelling_runs : (image : ImageValue) (s : State) (a next f : ℕ) (n : ℤ) → s.stopped ≡ false → s.oreg ≡ 0 → s.iptr ≡ pos a → IsSpelledAt image.code a record { function = f; operand = n; next = next } → steps image (next - a) s ≡ performed image f n (record s { iptr = pos next })
+pub spelling_runs : (image : ImageValue) (s : State) (a next f : ℕ) (n : ℤ) → s.stopped ≡ false → s.oreg ≡ 0 →
+    s.iptr ≡ pos a → IsSpelledAt image.code a record { function = f; operand = n; next = next } →
+    steps image (next - a) s ≡ performed image f n (record s { iptr = pos next })
 spelling_runs image s a next f n running empty place stands =
     let bytes = slice_range image.code a next in
     let roomy : a + (next - a) ≤ length image.code = omega (arith, stands.forward, stands.within) in
@@ -106,7 +119,12 @@ same_oreg : (image : ImageValue) (instr : Instr) (s : State) (next : ℕ) → s.
 same_oreg image instr s next empty = ap (λ o. effect image instr (at s next o)) (sym empty)
 
 -- and so does an instruction
-pub instruction_runs : (image : ImageValue) (s : State) (a next : ℕ) (instr : Instr) → s.stopped ≡ false → s.oreg ≡ 0 → s.iptr ≡ pos a → IsSpelledAt image.code a record { function = (entry instr).function; operand = (entry instr).operand; next = next } → steps image (next - a) s ≡ effect image instr (record s { iptr = pos next })
+pub instruction_runs : (image : ImageValue) (s : State) (a next : ℕ) (instr : Instr) → s.stopped ≡ false → s.oreg ≡ 0 →
+    s.iptr ≡ pos a → IsSpelledAt image.code a record {
+      function = (entry instr).function;
+      operand = (entry instr).operand;
+      next = next;
+    } → steps image (next - a) s ≡ effect image instr (record s { iptr = pos next })
 instruction_runs image s a next instr running empty place stands =
     let found = entry_gives instr in
     spelling_runs image s a next (entry instr).function (entry instr).operand running empty place stands

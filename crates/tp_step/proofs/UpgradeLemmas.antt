@@ -26,7 +26,10 @@ no_move : (image : ImageValue) (s : State) → image.version ≡ One → effect 
 unfolding effect
 no_move image s is = by_registers s.areg s.breg s.creg
   where
-    by_registers : (a b c : Option ℕ) → (a >>= λ n. b >>= λ target. c >>= λ source. only_if (has_move image.version && may_move image n target source) >> (bytes_at s.memory source n >>= λ bytes. Some (no_registers (record s { memory = with_bytes s.memory target bytes })))) ≡ None
+    by_registers : (a b c : Option ℕ) → (a >>= λ n. b >>= λ target. c >>= λ source. only_if
+        (has_move image.version && may_move image n target source) >>
+        (bytes_at s.memory source n >>= λ bytes. Some (no_registers
+        (record s { memory = with_bytes s.memory target bytes })))) ≡ None
     by_registers None b c = refl
     by_registers (Some n) None c = refl
     by_registers (Some n) (Some target) None = refl
@@ -44,16 +47,23 @@ step_upgraded image s t is = by_runs (not s.stopped) (code_byte image.code s.ipt
     ahead : State
     ahead = record s { iptr = s.iptr +ℤ pos 1 }
 
-    by_instruction : (o : Option Instr) → option_and_then (λ instr. effect image instr (record ahead { oreg = 0 })) o ≡ Some t → option_and_then (λ instr. effect (upgraded image) instr (record ahead { oreg = 0 })) o ≡ Some t
+    by_instruction : (o : Option Instr) → option_and_then (λ instr. effect image instr (record ahead { oreg = 0 })) o ≡
+        Some t → option_and_then (λ instr. effect (upgraded image) instr (record ahead { oreg = 0 })) o ≡ Some t
     by_instruction None e = cc
     by_instruction (Some instr) e = effect_upgraded image instr (record ahead { oreg = 0 }) t is e
 
-    by_test : (byte oreg : ℕ) (p q : Bool) (u v : State) → (if p then Some u else if q then Some v else performed image (function_of byte) (signed oreg) ahead) ≡ Some t → (if p then Some u else if q then Some v else performed (upgraded image) (function_of byte) (signed oreg) ahead) ≡ Some t
+    by_test : (byte oreg : ℕ) (p q : Bool) (u v : State) →
+        (if p then Some u else if q then Some v else performed image (function_of byte) (signed oreg) ahead) ≡ Some t →
+        (if p then Some u else if q then Some v else performed (upgraded image) (function_of byte) (signed oreg) ahead) ≡
+        Some t
     by_test byte oreg true q u v e = e
     by_test byte oreg false true u v e = e
     by_test byte oreg false false u v e = by_instruction (instruction (function_of byte) (signed oreg)) e
 
-    by_runs : (runs : Bool) (o : Option ℕ) → (only_if runs >> option_and_then (λ byte. executed image byte (s.oreg + digit_of byte) ahead) o) ≡ Some t → (only_if runs >> option_and_then (λ byte. executed (upgraded image) byte (s.oreg + digit_of byte) ahead) o) ≡ Some t
+    by_runs : (runs : Bool) (o : Option ℕ) → (only_if runs >> option_and_then
+        (λ byte. executed image byte (s.oreg + digit_of byte) ahead) o) ≡ Some t →
+        (only_if runs >> option_and_then (λ byte. executed (upgraded image) byte (s.oreg + digit_of byte) ahead) o) ≡ Some
+        t
     by_runs false o e = cc
     by_runs true None e = cc
     by_runs true (Some byte) e = by_test byte (s.oreg + digit_of byte) (is_pfix byte) (is_nfix byte) _ _ e
@@ -63,7 +73,9 @@ unfolding steps
 steps_of_one image zero s t is e = e
 steps_of_one image (suc n) s t is e = by_step (λ u. steps_of_one image n u t is) (step image s) refl e
   where
-    by_step : ((u : State) → steps image n u ≡ Some t → steps (upgraded image) n u ≡ Some t) → (o : Option State) → step image s ≡ o → (o >>= steps image n) ≡ Some t → (step (upgraded image) s >>= steps (upgraded image) n) ≡ Some t
+    by_step : ((u : State) → steps image n u ≡ Some t → steps (upgraded image) n u ≡ Some t) → (o : Option State) →
+        step image s ≡ o → (o >>= steps image n) ≡ Some t → (step (upgraded image) s >>= steps (upgraded image) n) ≡ Some
+        t
     by_step go None here e = cc
     by_step go (Some u) here e = rw (step_upgraded image s u is here) (go u e)
 

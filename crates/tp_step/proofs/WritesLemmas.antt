@@ -1,5 +1,7 @@
 -- Who writes what: effects change no byte but those that are listed, and these lie in the workspace.
-use Rattle.std.proofs.Common.{◌≡◌, ℕ, zero, suc, ◌+◌, ◌-◌, ◌*◌, ◌%◌, ◌^◌, ◌<◌, ◌≤◌, ◌⊎◌, inl, inr, Bool, true, false, not, ◌&&◌, ◌||◌, if◌then◌else◌, nat_le, ℤ, pos, List, [], ◌∷◌, ◌++◌, length, map, take, drop, replicate, Option, Some, None, refl, ap, subst, sym, ◌∙◌, arith}
+use Rattle.std.proofs.Common.{◌≡◌, ℕ, zero, suc, ◌+◌, ◌-◌, ◌*◌, ◌%◌, ◌^◌, ◌<◌, ◌≤◌, ◌⊎◌, inl, inr, Bool, true, false}
+use Rattle.std.proofs.Common.{not, ◌&&◌, ◌||◌, if◌then◌else◌, nat_le, ℤ, pos, List, [], ◌∷◌, ◌++◌, length, map, take}
+use Rattle.std.proofs.Common.{drop, replicate, Option, Some, None, refl, ap, subst, sym, ◌∙◌, arith}
 use Rattle.std.specs.Prelude.{option_and_then, All, int_lt, ◌-ℤ◌, ◌+ℤ◌}
 use Rattle.std.specs.Int.{w32, to_le_bytes}
 use Rattle.std.specs.Option.{option_map_or}
@@ -10,7 +12,11 @@ use Rattle.tp_decode.specs.Words.{signed, low_word}
 use Rattle.tp_decode.specs.Spelling.{function_of, digit_of, is_pfix, is_nfix, shifted, shifted_complement}
 use Rattle.tp_decode.specs.Table.{instruction}
 use Rattle.tp_decode.specs.declared.instr.Instr.{Instr}
-use Rattle.tp_decode.specs.declared.instr.Instr.TheVariants.{Jump, Ldlp, Ldnl, Ldc, Ldnlp, Ldl, Adc, Cj, Ajw, Eqc, Stl, Stnl, Rev, Lb, Bsub, Diff, Add, Input, Prod, Gt, Wsub, Output, Sub, Seterr, Csub0, Stopp, Rem, Lend, Div, BitNot, BitXor, Sb, Shr, Shl, Mint, BitAnd, MoveBytes, BitOr, Sum, Mul}
+use Rattle.tp_decode.specs.declared.instr.Instr.TheVariants.{Jump, Ldlp, Ldnl, Ldc, Ldnlp, Ldl, Adc, Cj, Ajw, Eqc, Stl}
+use Rattle.tp_decode.specs.declared.instr.Instr.TheVariants.{Stnl, Rev, Lb, Bsub, Diff, Add, Input, Prod, Gt, Wsub}
+use Rattle.tp_decode.specs.declared.instr.Instr.TheVariants.{Output, Sub, Seterr, Csub0, Stopp, Rem, Lend, Div, BitNot}
+use Rattle.tp_decode.specs.declared.instr.Instr.TheVariants.{BitXor, Sb, Shr, Shl, Mint, BitAnd, MoveBytes, BitOr, Sum}
+use Rattle.tp_decode.specs.declared.instr.Instr.TheVariants.{Mul}
 use Rattle.tp_image.specs.declared.image.Version.{Version}
 use Rattle.tp_image.specs.declared.image.Version.TheVariants.{One, Two}
 use Rattle.tp_image.specs.Limits.{most_workspace}
@@ -76,7 +82,9 @@ one image a n before after inside only =
     let high : a + n ≤ mem_start + 4 * image.workspace = grind (arith, nat_tests) in
     record { inside = inside_more image (stretch a n) [] (low, high) (inside_none image); only = λ x off. only x (first_off (stretch a n) [] x off) }
 
-two : (image : ImageValue) (a n b k : ℕ) (before after : Memory) → in_workspace image a n ≡ true → in_workspace image b k ≡ true → ((x : ℕ) → IsOff a n x → IsOff b k x → after x ≡ before x) → Writes image (stretch a n ∷ stretch b k ∷ []) before after
+two : (image : ImageValue) (a n b k : ℕ) (before after : Memory) → in_workspace image a n ≡ true →
+    in_workspace image b k ≡ true → ((x : ℕ) → IsOff a n x → IsOff b k x → after x ≡ before x) →
+    Writes image (stretch a n ∷ stretch b k ∷ []) before after
 two image a n b k before after inside also only =
     let low : mem_start ≤ a = grind (arith, nat_tests) in
     let high : a + n ≤ mem_start + 4 * image.workspace = grind (arith, nat_tests) in
@@ -112,7 +120,8 @@ stored : (image : ImageValue) (a word : ℕ) (s t : State) → store image a wor
 unfolding store
 stored image a word s t is = by_test (is_word image a) refl is
   where
-    by_test : (b : Bool) → is_word image a ≡ b → (only_if b >> Some (record s { memory = with_word s.memory a word })) ≡ Some t → (is_word image a ≡ true) × (t ≡ record s { memory = with_word s.memory a word })
+    by_test : (b : Bool) → is_word image a ≡ b → (only_if b >> Some (record s { memory = with_word s.memory a word })) ≡
+        Some t → (is_word image a ≡ true) × (t ≡ record s { memory = with_word s.memory a word })
     by_test false e is' = absurd cc
     by_test true e is' = (e, sym (same_Some _ _ is'))
 
@@ -120,7 +129,14 @@ rested : (image : ImageValue) (s t : State) → descheduled image s ≡ Some t �
 unfolding descheduled
 rested image s t is = by_test (in_workspace image (s.wptr - 20) 20) refl is
   where
-    by_test : (b : Bool) → in_workspace image (s.wptr - 20) 20 ≡ b → (only_if b >> Some (record s { areg = None; breg = None; creg = None; memory = undefined s.memory (s.wptr - 20) 20 })) ≡ Some t → (in_workspace image (s.wptr - 20) 20 ≡ true) × (t.memory ≡ undefined s.memory (s.wptr - 20) 20)
+    by_test : (b : Bool) → in_workspace image (s.wptr - 20) 20 ≡ b →
+        (only_if b >> Some (record s {
+          areg = None;
+          breg = None;
+          creg = None;
+          memory = undefined s.memory (s.wptr - 20) 20;
+        })) ≡ Some t → (in_workspace image (s.wptr - 20) 20 ≡ true) ×
+        (t.memory ≡ undefined s.memory (s.wptr - 20) 20)
     by_test false e is' = absurd cc
     by_test true e is' = (e, ap (λ (u : State). u.memory) (sym (same_Some _ _ is')))
 
@@ -146,11 +162,13 @@ unfolding bytes_at
 length-bytes_at m a zero bytes is = ap length (sym (same_Some _ _ is))
 length-bytes_at m a (suc n) bytes is = by_first (λ rest e. length-bytes_at m (a + 1) n rest e) (m a) is
   where
-    by_rest : ((rest : List ℕ) → bytes_at m (a + 1) n ≡ Some rest → length rest ≡ n) → (b : ℕ) (o : Option (List ℕ)) → bytes_at m (a + 1) n ≡ o → (o >>= λ rest. Some (b ∷ rest)) ≡ Some bytes → length bytes ≡ suc n
+    by_rest : ((rest : List ℕ) → bytes_at m (a + 1) n ≡ Some rest → length rest ≡ n) → (b : ℕ) (o : Option (List ℕ)) →
+        bytes_at m (a + 1) n ≡ o → (o >>= λ rest. Some (b ∷ rest)) ≡ Some bytes → length bytes ≡ suc n
     by_rest go b None e is' = absurd cc
     by_rest go b (Some rest) e is' = omega (arith, ap length (sym (same_Some _ _ is')), go rest e)
 
-    by_first : ((rest : List ℕ) → bytes_at m (a + 1) n ≡ Some rest → length rest ≡ n) → (o : Option ℕ) → (o >>= λ b. bytes_at m (a + 1) n >>= λ rest. Some (b ∷ rest)) ≡ Some bytes → length bytes ≡ suc n
+    by_first : ((rest : List ℕ) → bytes_at m (a + 1) n ≡ Some rest → length rest ≡ n) → (o : Option ℕ) →
+        (o >>= λ b. bytes_at m (a + 1) n >>= λ rest. Some (b ∷ rest)) ≡ Some bytes → length bytes ≡ suc n
     by_first go None is' = absurd cc
     by_first go (Some b) is' = by_rest go b (bytes_at m (a + 1) n) refl is'
 
@@ -215,7 +233,8 @@ jump_writes : (image : ImageValue) (s : State) (n : ℤ) → After image (writte
 unfolding effect
 jump_writes image s n = bind image _ s.memory (descheduled image s) _ λ t is. descheduled_writes image s t is
 
-sent_memory : (image : ImageValue) (channel : ℕ) (message : List ℕ) (parts : List Stretch) (m : Memory) (s : State) → Writes image parts m s.memory → After image parts m (sent_on image channel message s)
+sent_memory : (image : ImageValue) (channel : ℕ) (message : List ℕ) (parts : List Stretch) (m : Memory) (s : State) →
+    Writes image parts m s.memory → After image parts m (sent_on image channel message s)
 sent_memory image channel message parts m s h = by_test (is_result image channel (length message) s) (is_trace channel (length message))
   where
     by_test : (b c : Bool) → After image parts m (if b then Some (record s { phase = 2; sent = s.sent ++ message }) else if c then Some (record s { traced = s.traced ++ message }) else None)
@@ -250,7 +269,9 @@ input_writes image s =
     long : (n channel : ℕ) → (is_packet image channel n s && nat_le n (length s.to_come)) ≡ true → n ≤ length s.to_come
     long n channel may = grind (arith, nat_tests)
 
-    taken : (n target : ℕ) → s.areg ≡ Some n → s.creg ≡ Some target → (o : Option State) → descheduled image (received n target) ≡ o → n ≤ length s.to_come → in_workspace image target n ≡ true → After image (written Input s) s.memory o
+    taken : (n target : ℕ) → s.areg ≡ Some n → s.creg ≡ Some target → (o : Option State) →
+        descheduled image (received n target) ≡ o → n ≤ length s.to_come → in_workspace image target n ≡ true →
+        After image (written Input s) s.memory o
     taken n target is_n is_target None is there inside = tt
     taken n target is_n is_target (Some t) is there inside =
         let rest = rested image (received n target) t is in
@@ -258,10 +279,13 @@ input_writes image s =
         subst (λ r. Writes image (below_wptr s ∷ where_defined r (λ n. where_defined s.creg (λ target. stretch target n ∷ []))) s.memory t.memory) (sym is_n)
         (subst (λ r. Writes image (below_wptr s ∷ where_defined r (λ target. stretch target n ∷ [])) s.memory t.memory) (sym is_target)
         (two image (s.wptr - 20) 20 target n s.memory t.memory rest.0 inside
-        (λ x off also. ap (λ (m : Memory). m x) rest.1 ∙ undefined_off (with_bytes s.memory target (take n s.to_come)) (s.wptr - 20) 20 x off ∙ bytes_off s.memory target n (take n s.to_come) x bytes also)))
+        (λ x off also. ap (λ (m : Memory). m x) rest.1 ∙ undefined_off (with_bytes s.memory target (take n s.to_come))
+        (s.wptr - 20) 20 x off ∙ bytes_off s.memory target n (take n s.to_come) x bytes also)))
 
 -- the block is written, then the words below Wptr; after the last turn the block once more
-lend_turn : (image : ImageValue) (s t : State) (block index left : ℕ) (back : ℤ) → InRange image → is_word image block ≡ true → is_word image (block + 4) ≡ true → t.wptr ≡ s.wptr → ((x : ℕ) → IsOff block 8 x → t.memory x ≡ s.memory x)
+lend_turn : (image : ImageValue) (s t : State) (block index left : ℕ) (back : ℤ) → InRange image →
+    is_word image block ≡ true → is_word image (block + 4) ≡ true → t.wptr ≡ s.wptr →
+    ((x : ℕ) → IsOff block 8 x → t.memory x ≡ s.memory x)
     → After image (below_wptr s ∷ stretch block 8 ∷ []) s.memory (turn_ended image block index left back t)
 lend_turn image s t block index left back range first second same only =
     after_either image _ s.memory (int_lt (pos 0) (signed left)) _ _
@@ -271,7 +295,9 @@ lend_turn image s t block index left back range first second same only =
     let wptr : u.wptr ≡ s.wptr = ap (λ (w : State). w.wptr) there.1 ∙ same in
     let rest = rested image u v is' in
     two image (s.wptr - 20) 20 block 8 s.memory v.memory (subst (λ w. in_workspace image (w - 20) 20 ≡ true) wptr rest.0) whole
-    (λ x off also. ap (λ (m : Memory). m x) rest.1 ∙ undefined_off u.memory (u.wptr - 20) 20 x (subst (λ w. IsOff (w - 20) 20 x) (sym wptr) off) ∙ ap (λ (w : State). w.memory x) there.1 ∙ word_off t.memory block (low_word (signed index +ℤ pos 1)) x (front x also) ∙ only x also))
+    (λ x off also. ap (λ (m : Memory). m x) rest.1 ∙ undefined_off u.memory (u.wptr - 20) 20 x
+    (subst (λ w. IsOff (w - 20) 20 x) (sym wptr) off) ∙ ap (λ (w : State). w.memory x) there.1 ∙
+    word_off t.memory block (low_word (signed index +ℤ pos 1)) x (front x also) ∙ only x also))
     (bind image _ s.memory (descheduled image t) _ λ v is'.
     let rest = rested image t v is' in
     two image (s.wptr - 20) 20 block 8 s.memory (undefined v.memory block 8) (subst (λ w. in_workspace image (w - 20) 20 ≡ true) same rest.0) whole
@@ -386,10 +412,14 @@ step_writes image s range =
 
     by_instruction : (o : Option Instr) → After image (written_by s o) s.memory (option_and_then (λ instr. effect image instr (record (ahead s) { oreg = 0 })) o)
     by_instruction None = tt
-    by_instruction (Some instr) = subst (λ parts. After image parts s.memory (effect image instr (record (ahead s) { oreg = 0 }))) (written_there instr s (s.iptr +ℤ pos 1) 0) (effect_writes image instr (record (ahead s) { oreg = 0 }) range)
+    by_instruction (Some instr) = subst (λ parts. After image parts s.memory
+        (effect image instr (record (ahead s) { oreg = 0 }))) (written_there instr s (s.iptr +ℤ pos 1) 0)
+        (effect_writes image instr (record (ahead s) { oreg = 0 }) range)
 
     by_test : (byte : ℕ) (p q : Bool) → After image (written_by s (if p || q then None else instruction (function_of byte) (signed (s.oreg + digit_of byte)))) s.memory
-        (if p then Some (record (ahead s) { oreg = shifted (s.oreg + digit_of byte) }) else if q then Some (record (ahead s) { oreg = shifted_complement (s.oreg + digit_of byte) }) else performed image (function_of byte) (signed (s.oreg + digit_of byte)) (ahead s))
+        (if p then Some (record (ahead s) { oreg = shifted (s.oreg + digit_of byte) }) else if q then Some
+        (record (ahead s) { oreg = shifted_complement (s.oreg + digit_of byte) }) else performed image
+        (function_of byte) (signed (s.oreg + digit_of byte)) (ahead s))
     by_test byte true q = nothing image s.memory
     by_test byte false true = nothing image s.memory
     by_test byte false false = by_instruction (instruction (function_of byte) (signed (s.oreg + digit_of byte)))

@@ -1,5 +1,6 @@
 -- What is written: the stretches of memory that an instruction may change.
-use Rattle.std.specs.Prelude.{◌≡◌, ℕ, ◌+◌, ◌-◌, ◌*◌, ◌<◌, ◌≤◌, ◌⊎◌, List, [], ◌∷◌, All, Option, if◌then◌else◌, ◌||◌, None}
+use Rattle.std.specs.Prelude.{◌≡◌, ℕ, ◌+◌, ◌-◌, ◌*◌, ◌<◌, ◌≤◌, ◌⊎◌, List, [], ◌∷◌, All, Option, if◌then◌else◌, ◌||◌}
+use Rattle.std.specs.Prelude.{None}
 use Rattle.std.specs.Option.{option_map_or, option_and_then}
 use Rattle.tp_decode.specs.Words.{signed}
 use Rattle.tp_decode.specs.Spelling.{function_of, digit_of, is_pfix, is_nfix}

@@ -2,7 +2,8 @@
 
 pub mod memory;
 
-ghost use Rattle.std.specs.Prelude.{◌≡◌, ℕ, ◌+◌, ◌-◌, ◌*◌, ◌≤◌, ℤ, pos, List, length, [], ◌∷◌, true, false, Some, None, option_and_then};
+ghost use Rattle.std.specs.Prelude.{◌≡◌, ℕ, ◌+◌, ◌-◌, ◌*◌, ◌≤◌, ℤ, pos, List, length, [], ◌∷◌, true, false, Some, None};
+ghost use Rattle.std.specs.Prelude.{option_and_then};
 ghost use Rattle.tp_decode.specs.Spelling.{IsSpelledAt};
 ghost use Rattle.tp_decode.specs.Table.{entry};
 ghost use Rattle.tp_decode.specs.declared.instr.Instr.{Instr};
@@ -83,8 +84,8 @@ pub fn packet_and_result_go_whole()
         Reaches image (start image packet) s → HasExchanged image packet s.phase s.to_come s.sent }
 {}
 
-/// Steps take nothing back: the error flag stays set once it is set; what was sent on either link stays, with what is sent
-/// later behind it; bytes to come are taken from their front alone; and no phase comes again.
+/// Steps take nothing back: the error flag stays set once it is set; what was sent on either link stays, with what is
+/// sent later behind it; bytes to come are taken from their front alone; and no phase comes again.
 pub fn steps_take_nothing_back()
     ensures { (image : ImageValue) (n : ℕ) (s t : State) → steps image n s ≡ Some t → TakesNothingBack s t }
 {}
@@ -95,9 +96,9 @@ pub fn runs_send_first_what_was_sent()
         steps image n (start image packet) ≡ Some s → Begins s.sent run.result × Begins s.traced run.trace }
 {}
 
-/// Who writes what is a list: an instruction writes the stretches of memory that the list has for it, in the workspace, and
-/// every other byte stays as it was. A step writes what the instruction whose last byte it executes writes; a prefix writes
-/// nothing.
+/// Who writes what is a list: an instruction writes the stretches of memory that the list has for it, in the workspace,
+/// and every other byte stays as it was. A step writes what the instruction whose last byte it executes writes; a
+/// prefix writes nothing.
 pub fn instructions_write_what_is_listed()
     ensures instruction { (image : ImageValue) (instr : Instr) (s t : State) → InRange image →
         effect image instr s ≡ Some t → Writes image (written instr s) s.memory t.memory }
@@ -111,8 +112,8 @@ pub fn steps_change_the_workspace_alone()
         steps image n s ≡ Some t → ChangesOnly (workspace image ∷ []) s.memory t.memory }
 {}
 
-/// What an image does, the upgraded image does: its steps are steps of the upgraded one, and so is each run. Nothing but
-/// move reads the version, and an image of version 1 has no step there, where the upgraded one may have.
+/// What an image does, the upgraded image does: its steps are steps of the upgraded one, and so is each run. Nothing
+/// but move reads the version, and an image of version 1 has no step there, where the upgraded one may have.
 pub fn upgraded_images_do_the_same()
     ensures steps { (image : ImageValue) (n : ℕ) (s t : State) →
         steps image n s ≡ Some t → steps (upgraded image) n s ≡ Some t }

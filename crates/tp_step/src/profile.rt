@@ -1,4 +1,5 @@
-//! What the profile fixes in numbers, for the crates that run or judge worker code. The definitions have the same numbers.
+//! What the profile fixes in numbers, for the crates that run or judge worker code. The definitions have the same
+//! numbers.
 
 ghost use Rattle.std.specs.Prelude.{◌≡◌};
 ghost use Rattle.tp_step.specs.Effects.{has_move};

@@ -1,5 +1,7 @@
 -- A program has one image, or one kind of fault.
-use Rattle.std.proofs.Common.{◌≡◌, ℕ, ◌+◌, ◌≤◌, Bool, true, false, if◌then◌else◌, List, [], ◌∷◌, length, map, sum, Option, Some, None, Result, Ok, Err, MatchResult, IfOk, IfErr, refl, sym, ap, subst, ◌∙◌, arith, length-append}
+use Rattle.std.proofs.Common.{◌≡◌, ℕ, ◌+◌, ◌≤◌, Bool, true, false, if◌then◌else◌, List, [], ◌∷◌, length, map, sum}
+use Rattle.std.proofs.Common.{Option, Some, None, Result, Ok, Err, MatchResult, IfOk, IfErr, refl, sym, ap, subst, ◌∙◌}
+use Rattle.std.proofs.Common.{arith, length-append}
 use Rattle.std.specs.List.{concat}
 use Rattle.std.specs.Option.{option_and_then, option_or, option_map}
 use Rattle.tp_image.specs.Limits.{most_code}
@@ -102,7 +104,8 @@ is_narrow number [] lengths e is = cc
 is_narrow number (line ∷ lines) [] e is = cc
 is_narrow number (line ∷ lines) (x ∷ lengths) e is = by_test (is_narrow (number + 1) lines lengths e) (is_stated line x) is
   where
-    by_test : (first_narrow (number + 1) lines lengths ≡ Some e → (n : ℕ) × (e ≡ Narrow n)) → (p : Bool) → (if p then first_narrow (number + 1) lines lengths else Some (Narrow number)) ≡ Some e → (n : ℕ) × (e ≡ Narrow n)
+    by_test : (first_narrow (number + 1) lines lengths ≡ Some e → (n : ℕ) × (e ≡ Narrow n)) → (p : Bool) →
+        (if p then first_narrow (number + 1) lines lengths else Some (Narrow number)) ≡ Some e → (n : ℕ) × (e ≡ Narrow n)
     by_test go true is = go is
     by_test go false is = (number, sym (same_Some _ _ is))
 
@@ -124,5 +127,6 @@ has_addresses program addresses lengths has is = are_addresses addresses lengths
 pub has_count : (program : Program) (addresses lengths : List ℕ) → HasLengths program lengths → addresses ≡ addresses_from 0 lengths → length addresses ≡ length program.lines.items + 1
 has_count program addresses lengths has is = omega (arith, ap length is, length-addresses 0 lengths, layout_count program.lines.items lengths has.layout.least.layout)
 
-pub code_is : (program : Program) (addresses lengths code : List ℕ) → addresses ≡ addresses_from 0 lengths → code ≡ concat (spelled_from addresses 0 program.lines.items) → code ≡ code_of lengths program.lines.items
+pub code_is : (program : Program) (addresses lengths code : List ℕ) → addresses ≡ addresses_from 0 lengths →
+    code ≡ concat (spelled_from addresses 0 program.lines.items) → code ≡ code_of lengths program.lines.items
 code_is program addresses lengths code is made = made ∙ ap (λ xs. concat (spelled_from xs 0 program.lines.items)) is

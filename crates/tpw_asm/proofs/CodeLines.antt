@@ -54,7 +54,8 @@ pub lines_more : (code : List ℕ) (at next : ℕ) (lines : List Line) (cut : Cu
     → LinesTo code next (lines ++ cut_lines cut)
 lines_more code at next lines cut h h' so_far begins size = record {
   cuts = so_far.cuts ++ cut ∷ [];
-  joined = code_of-push so_far.cuts cut ∙ ap (λ xs. xs ++ cut.bytes) so_far.joined ∙ ap (λ xs. take at code ++ xs) (sym begins.front ∙ ap (λ n. take n (drop at code)) size) ∙ take_range code at next h;
+  joined = code_of-push so_far.cuts cut ∙ ap (λ xs. xs ++ cut.bytes) so_far.joined ∙
+      ap (λ xs. take at code ++ xs) (sym begins.front ∙ ap (λ n. take n (drop at code)) size) ∙ take_range code at next h;
   each = all_push so_far.cuts cut so_far.each begins.spelled;
   are = ap (λ xs. xs ++ cut_lines cut) so_far.are ∙ sym (lines-push so_far.cuts cut);
 }

@@ -52,7 +52,9 @@ pub record HasFields (program : Program) (image : ImageValue) : Type 0 where
   pub result : program.result ≡ image.result
   pub initial : program.initial.items ≡ image.initial
 
-fields_said : (program : Program) (image : ImageValue) (lengths : List ℕ) → HasFields program image → map (row_of (addresses_from 0 lengths)) program.loops.items ≡ image.loops → code_of lengths program.lines.items ≡ image.code
+fields_said : (program : Program) (image : ImageValue) (lengths : List ℕ) → HasFields program image →
+    map (row_of (addresses_from 0 lengths)) program.loops.items ≡ image.loops →
+    code_of lengths program.lines.items ≡ image.code
     → image ≡ assembled program lengths
 fields_said program image lengths has rows code =
     let version = has.version in
@@ -83,7 +85,8 @@ fields_said program image lengths has rows code =
     } ≡ made = cc in
     same
 
-pub disassembly_is_assembly : (program : Program) (image : ImageValue) (unlabelled : List Line) (lengths : List ℕ) → InRange image → HasFields program image → AreLinesOf image.code unlabelled → IsLeastLayout unlabelled lengths
+pub disassembly_is_assembly : (program : Program) (image : ImageValue) (unlabelled : List Line) (lengths : List ℕ) →
+    InRange image → HasFields program image → AreLinesOf image.code unlabelled → IsLeastLayout unlabelled lengths
     → program.lines.items ≡ labelled_from (addresses_from 0 lengths) 0 unlabelled → program.loops.items ≡ map (loop_of (addresses_from 0 lengths)) image.loops → IsAssembly program image
 disassembly_is_assembly program image unlabelled lengths in_range has are_lines least lines loops =
     let addresses = addresses_from 0 lengths in
@@ -93,7 +96,9 @@ disassembly_is_assembly program image unlabelled lengths in_range has are_lines 
     let count : length program.lines.items ≡ length unlabelled = ap length lines ∙ length-labelled addresses 0 unlabelled in
     let spelled = all_spelled_same addresses 0 unlabelled in
     let layout : IsLayout all lengths = ap (map length) spelled ∙ least.layout in
-    let sound : first_fault (length all) 0 all ≡ None = ap (λ n. first_fault n 0 all) (length-labelled addresses 0 unlabelled) ∙ lines_sound addresses (length unlabelled) 0 unlabelled size spells.own in
+    let sound : first_fault (length all) 0 all ≡ None = ap (λ n. first_fault n 0 all)
+    (length-labelled addresses 0 unlabelled) ∙ lines_sound addresses (length unlabelled) 0 unlabelled size
+    spells.own in
     let code : code_of lengths program.lines.items ≡ image.code = ap (code_of lengths) lines ∙ ap concat spelled ∙ spells.code addresses 0 in
     let short : sum lengths ≤ most_code image.version = omega (arith, length-code lengths unlabelled least.layout, ap length (spells.code addresses 0), in_range.code) in
     let narrow : first_narrow 0 all lengths ≡ None = ap (first_narrow 0 all) (sym least.layout) ∙ none_narrow addresses addresses 0 unlabelled spells.own in

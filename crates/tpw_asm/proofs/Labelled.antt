@@ -1,5 +1,7 @@
 -- Lines with places for distances are spelled as the lines were, and have no other layout.
-use Rattle.std.proofs.Common.{◌≡◌, ℕ, zero, suc, ◌+◌, ◌-◌, ◌<◌, ◌≤◌, true, false, nat_eq, nat_lt, ℤ, pos, negsuc, List, [], ◌∷◌, ◌++◌, length, map, drop, get_or, sum, Option, Some, None, unwrap_or, refl, sym, ap, subst, ◌∙◌, arith, append_assoc, length-append, length-drop}
+use Rattle.std.proofs.Common.{◌≡◌, ℕ, zero, suc, ◌+◌, ◌-◌, ◌<◌, ◌≤◌, true, false, nat_eq, nat_lt, ℤ, pos, negsuc, List}
+use Rattle.std.proofs.Common.{[], ◌∷◌, ◌++◌, length, map, drop, get_or, sum, Option, Some, None, unwrap_or, refl, sym}
+use Rattle.std.proofs.Common.{ap, subst, ◌∙◌, arith, append_assoc, length-append, length-drop}
 use Rattle.std.specs.List.{position, AllByRecursion}
 use Rattle.std.specs.Option.{option_map}
 use Rattle.std.proofs.lemmas.Bool.Decides.{nat_tests}
@@ -81,33 +83,38 @@ way_sound count from to h h' =
     let forward : nat_lt to from ≡ false = grind (arith, nat_tests) in
     rw (within, forward) refl
 
-jump_sound : (addresses : List ℕ) (count line : ℕ) (bytes : ℤ) → length addresses ≡ count + 1 → operation_fault count line (to_place JumpTo (Plain (Jump bytes)) (place_ahead addresses (line + 1) bytes)) ≡ None
+jump_sound : (addresses : List ℕ) (count line : ℕ) (bytes : ℤ) → length addresses ≡ count + 1 →
+    operation_fault count line (to_place JumpTo (Plain (Jump bytes)) (place_ahead addresses (line + 1) bytes)) ≡ None
 jump_sound addresses count line bytes size = by_case (place_ahead addresses (line + 1) bytes) refl
   where
     by_case : (o : Option ℕ) → place_ahead addresses (line + 1) bytes ≡ o → operation_fault count line (to_place JumpTo (Plain (Jump bytes)) o) ≡ None
     by_case None is = refl
     by_case (Some place) is = let p = place_is addresses (line + 1) bytes place is in way_sound count (line + 1) place p.forward (omega (arith, p.within))
 
-cj_sound : (addresses : List ℕ) (count line : ℕ) (bytes : ℤ) → length addresses ≡ count + 1 → operation_fault count line (to_place CjTo (Plain (Cj bytes)) (place_ahead addresses (line + 1) bytes)) ≡ None
+cj_sound : (addresses : List ℕ) (count line : ℕ) (bytes : ℤ) → length addresses ≡ count + 1 →
+    operation_fault count line (to_place CjTo (Plain (Cj bytes)) (place_ahead addresses (line + 1) bytes)) ≡ None
 cj_sound addresses count line bytes size = by_case (place_ahead addresses (line + 1) bytes) refl
   where
     by_case : (o : Option ℕ) → place_ahead addresses (line + 1) bytes ≡ o → operation_fault count line (to_place CjTo (Plain (Cj bytes)) o) ≡ None
     by_case None is = refl
     by_case (Some place) is = let p = place_is addresses (line + 1) bytes place is in way_sound count (line + 1) place p.forward (omega (arith, p.within))
 
-operation_sound_placed : (addresses : List ℕ) (count line : ℕ) (operation : Operation) → length addresses ≡ count + 1 → operation_fault count line operation ≡ None → operation_fault count line (placed addresses line operation) ≡ None
+operation_sound_placed : (addresses : List ℕ) (count line : ℕ) (operation : Operation) → length addresses ≡ count + 1 →
+    operation_fault count line operation ≡ None → operation_fault count line (placed addresses line operation) ≡ None
 operation_sound_placed addresses count line (Plain (Jump bytes)) size sound = jump_sound addresses count line bytes size
 operation_sound_placed addresses count line (Plain (Cj bytes)) size sound = cj_sound addresses count line bytes size
 operation_sound_placed addresses count line operation size sound = sound
 
-line_sound : (addresses : List ℕ) (count number : ℕ) (line : Line) → length addresses ≡ count + 1 → line_fault count number line ≡ None → line_fault count number (labelled addresses number line) ≡ None
+line_sound : (addresses : List ℕ) (count number : ℕ) (line : Line) → length addresses ≡ count + 1 →
+    line_fault count number line ≡ None → line_fault count number (labelled addresses number line) ≡ None
 line_sound addresses count number (Byte byte) size sound = refl
 line_sound addresses count number (Spelled operation bytes) size sound =
     let parts = operation_sound count number operation bytes sound in
     let few : nat_lt 8 (unwrap_or bytes 0) ≡ false = grind (arith, nat_tests, parts.1) in
     rw few (operation_sound_placed addresses count number operation size parts.0)
 
-pub lines_sound : (addresses : List ℕ) (count number : ℕ) (lines : List Line) → length addresses ≡ count + 1 → AllByRecursion IsOwn lines → first_fault count number (labelled_from addresses number lines) ≡ None
+pub lines_sound : (addresses : List ℕ) (count number : ℕ) (lines : List Line) → length addresses ≡ count + 1 →
+    AllByRecursion IsOwn lines → first_fault count number (labelled_from addresses number lines) ≡ None
 lines_sound addresses count number [] size own = refl
 lines_sound addresses count number (line ∷ lines) size own =
     let first = line_sound addresses count number line size (own.0.sound count number) in
@@ -124,7 +131,8 @@ stated_same addresses number n (Spelled operation None) = refl
 stated_same addresses number n (Spelled operation (Some bytes)) = refl
 
 -- each line is as long as it states
-pub none_narrow : (addresses others : List ℕ) (number : ℕ) (lines : List Line) → AllByRecursion IsOwn lines → first_narrow number (labelled_from others number lines) (map length (spelled_from addresses number lines)) ≡ None
+pub none_narrow : (addresses others : List ℕ) (number : ℕ) (lines : List Line) → AllByRecursion IsOwn lines →
+    first_narrow number (labelled_from others number lines) (map length (spelled_from addresses number lines)) ≡ None
 none_narrow addresses others number [] own = refl
 none_narrow addresses others number (line ∷ lines) own =
     let fits : is_stated (labelled others number line) (length (spelled_at addresses number line)) ≡ true =
@@ -186,10 +194,13 @@ ways a b x y rest n to ea eb sound =
     let way = way_is (n + 1 + length rest) (n + 1) to sound in
     let left = way_behind a x rest to (omega arith) (omega arith) in
     let right = way_behind b y rest to (omega arith) (omega arith) in
-    ap (λ m. distance (addresses_from 0 (a ++ x ∷ rest)) (m + 1) to) (sym ea) ∙ left ∙ ap (λ m. get_or (addresses_from 0 rest) (to - (m + 1)) 0) (ea ∙ sym eb) ∙ sym right ∙ ap (λ m. distance (addresses_from 0 (b ++ y ∷ rest)) (m + 1) to) eb
+    ap (λ m. distance (addresses_from 0 (a ++ x ∷ rest)) (m + 1) to) (sym ea) ∙ left ∙
+    ap (λ m. get_or (addresses_from 0 rest) (to - (m + 1)) 0) (ea ∙ sym eb) ∙ sym right ∙
+    ap (λ m. distance (addresses_from 0 (b ++ y ∷ rest)) (m + 1) to) eb
 
 -- the lines behind a line that has no distance decide how it is spelled
-operation_behind : (a b : List ℕ) (x y : ℕ) (rest : List ℕ) (n : ℕ) (operation : Operation) → length a ≡ n → length b ≡ n → IsAheadOperation operation → operation_fault (n + 1 + length rest) n operation ≡ None
+operation_behind : (a b : List ℕ) (x y : ℕ) (rest : List ℕ) (n : ℕ) (operation : Operation) → length a ≡ n →
+    length b ≡ n → IsAheadOperation operation → operation_fault (n + 1 + length rest) n operation ≡ None
     → instr_at (addresses_from 0 (a ++ x ∷ rest)) n operation ≡ instr_at (addresses_from 0 (b ++ y ∷ rest)) n operation
 operation_behind a b x y rest n (Plain instr) ea eb ahead sound = refl
 operation_behind a b x y rest n (JumpTo to) ea eb ahead sound = ap (λ d. Jump (pos d)) (ways a b x y rest n to ea eb sound)

@@ -1,5 +1,7 @@
 -- Lines grow with the lines between their labels.
-use Rattle.std.proofs.Common.{◌≡◌, ◌≢◌, ◌⊎◌, inl, inr, ℕ, zero, suc, ◌+◌, ◌-◌, ◌*◌, ◌/◌, ◌%◌, ◌<◌, ◌≤◌, ◌^◌, Bool, true, false, nat_lt, if◌then◌else◌, ℤ, pos, negsuc, List, [], ◌∷◌, ◌++◌, length, map, replicate, get_or, sum, Option, Some, None, unwrap_or, refl, ap, ◌∙◌, arith, length-append}
+use Rattle.std.proofs.Common.{◌≡◌, ◌≢◌, ◌⊎◌, inl, inr, ℕ, zero, suc, ◌+◌, ◌-◌, ◌*◌, ◌/◌, ◌%◌, ◌<◌, ◌≤◌, ◌^◌, Bool, true}
+use Rattle.std.proofs.Common.{false, nat_lt, if◌then◌else◌, ℤ, pos, negsuc, List, [], ◌∷◌, ◌++◌, length, map, replicate}
+use Rattle.std.proofs.Common.{get_or, sum, Option, Some, None, unwrap_or, refl, ap, ◌∙◌, arith, length-append}
 use Rattle.std.specs.Option.{option_or, option_map}
 use Rattle.std.proofs.lemmas.Bool.Decides.{nat_tests}
 use Rattle.std.proofs.lemmas.Grind.{common_steps}
@@ -83,7 +85,8 @@ natural_grows zero f g e e' h = omega arith
 natural_grows (suc digits) f g e e' h = by_test (natural_grows digits 2 2 (e / 16) (e' / 16)) (nat_lt e 16) refl (nat_lt e' 16) refl
   where
     by_test : (e / 16 ≤ e' / 16 → length (natural_spelling digits 2 (e / 16)) ≤ length (natural_spelling digits 2 (e' / 16))) → (p : Bool) → nat_lt e 16 ≡ p → (q : Bool) → nat_lt e' 16 ≡ q
-        → length (if p then (16 * f + e) ∷ [] else natural_spelling digits 2 (e / 16) ++ (16 * f + e % 16) ∷ []) ≤ length (if q then (16 * g + e') ∷ [] else natural_spelling digits 2 (e' / 16) ++ (16 * g + e' % 16) ∷ [])
+        → length (if p then (16 * f + e) ∷ [] else natural_spelling digits 2 (e / 16) ++ (16 * f + e % 16) ∷ []) ≤
+        length (if q then (16 * g + e') ∷ [] else natural_spelling digits 2 (e' / 16) ++ (16 * g + e' % 16) ∷ [])
     by_test go true test true test' = omega arith
     by_test go true test false test' = rw length-append (omega arith)
     by_test go false test true test' = absurd (grind (arith, nat_tests))
@@ -116,10 +119,14 @@ operation_grows xs ys number (CjTo target) most sound = let way = way_is _ _ _ s
 operation_grows xs ys number (Distance from to) most sound = let way = way_is _ _ _ sound in canonical_grows 0x4 _ _ (way_grows 0 0 xs ys from to most way.0 way.1)
 
 -- what a line without a fault is
-pub operation_sound : (count number : ℕ) (operation : Operation) (bytes : Option ℕ) → line_fault count number (Spelled operation bytes) ≡ None → (operation_fault count number operation ≡ None) × (unwrap_or bytes 0 ≤ 8)
+pub operation_sound : (count number : ℕ) (operation : Operation) (bytes : Option ℕ) →
+    line_fault count number (Spelled operation bytes) ≡ None → (operation_fault count number operation ≡ None) ×
+    (unwrap_or bytes 0 ≤ 8)
 operation_sound count number operation bytes sound = by_test (nat_lt 8 (unwrap_or bytes 0)) refl sound
   where
-    by_test : (p : Bool) → nat_lt 8 (unwrap_or bytes 0) ≡ p → (if p then Some TooWide else operation_fault count number operation) ≡ None → (operation_fault count number operation ≡ None) × (unwrap_or bytes 0 ≤ 8)
+    by_test : (p : Bool) → nat_lt 8 (unwrap_or bytes 0) ≡ p →
+        (if p then Some TooWide else operation_fault count number operation) ≡ None →
+        (operation_fault count number operation ≡ None) × (unwrap_or bytes 0 ≤ 8)
     by_test true test is = cc
     by_test false test is = (is, grind (arith, nat_tests))
 
@@ -130,10 +137,14 @@ line_grows xs ys number (Spelled operation bytes) most sound =
     filled_grows (unwrap_or bytes 0) _ _ (operation_grows xs ys number operation most ((operation_sound (length xs) number operation bytes sound).0))
 
 -- the first of lines without a fault has none, and the others have none
-pub sound_first : (count number : ℕ) (line : Line) (lines : List Line) → first_fault count number (line ∷ lines) ≡ None → (line_fault count number line ≡ None) × (first_fault count (number + 1) lines ≡ None)
+pub sound_first : (count number : ℕ) (line : Line) (lines : List Line) →
+    first_fault count number (line ∷ lines) ≡ None → (line_fault count number line ≡ None) ×
+    (first_fault count (number + 1) lines ≡ None)
 sound_first count number line lines sound = by_case (line_fault count number line) refl sound
   where
-    by_case : (fault : Option LineFault) → line_fault count number line ≡ fault → option_or (option_map (λ fault. AssemblyFault.Line number fault) fault) (first_fault count (number + 1) lines) ≡ None → (line_fault count number line ≡ None) × (first_fault count (number + 1) lines ≡ None)
+    by_case : (fault : Option LineFault) → line_fault count number line ≡ fault →
+        option_or (option_map (λ fault. AssemblyFault.Line number fault) fault) (first_fault count (number + 1) lines) ≡
+        None → (line_fault count number line ≡ None) × (first_fault count (number + 1) lines ≡ None)
     by_case None is sound = (is, sound)
     by_case (Some fault) is sound = cc
 

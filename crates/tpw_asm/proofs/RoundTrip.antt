@@ -1,5 +1,6 @@
 -- The lines of a code spell its bytes.
-use Rattle.std.proofs.Common.{◌≡◌, ℕ, suc, ◌+◌, ◌-◌, ◌≤◌, Bool, true, false, ◌&&◌, nat_eq, nat_lt, if◌then◌else◌, List, [], ◌∷◌, ◌++◌, length, map, take, drop, replicate, Some, None, refl, sym, ap, ◌∙◌, arith}
+use Rattle.std.proofs.Common.{◌≡◌, ℕ, suc, ◌+◌, ◌-◌, ◌≤◌, Bool, true, false, ◌&&◌, nat_eq, nat_lt, if◌then◌else◌, List}
+use Rattle.std.proofs.Common.{[], ◌∷◌, ◌++◌, length, map, take, drop, replicate, Some, None, refl, sym, ap, ◌∙◌, arith}
 use Rattle.std.specs.List.{concat, flat_map, list_all, AllByRecursion}
 use Rattle.std.proofs.lemmas.Bool.Decides.{nat_tests}
 use Rattle.tp_decode.specs.declared.instr.Instr.{Instr}
@@ -46,7 +47,9 @@ all_zeros : (xs : List ℕ) → list_all (λ byte. nat_eq byte 0x20) xs ≡ true
 all_zeros [] e = refl
 all_zeros (x ∷ xs) e = by_test (all_zeros xs) (nat_eq x 0x20) refl e
   where
-    by_test : (list_all (λ byte. nat_eq byte 0x20) xs ≡ true → xs ≡ replicate (length xs) 0x20) → (p : Bool) → nat_eq x 0x20 ≡ p → (p && list_all (λ byte. nat_eq byte 0x20) xs) ≡ true → x ∷ xs ≡ replicate (suc (length xs)) 0x20
+    by_test : (list_all (λ byte. nat_eq byte 0x20) xs ≡ true → xs ≡ replicate (length xs) 0x20) → (p : Bool) →
+        nat_eq x 0x20 ≡ p → (p && list_all (λ byte. nat_eq byte 0x20) xs) ≡ true →
+        x ∷ xs ≡ replicate (suc (length xs)) 0x20
     by_test go true is e = let x_is : x ≡ 0x20 = grind (arith, nat_tests) in let rest = go e in cc
     by_test go false is e = cc
 
@@ -59,7 +62,9 @@ filled_is bytes least e h =
     let back : drop pad bytes ≡ least = (bytes_eq-Decides (drop pad bytes) least).0 parts.1 in
     sym (take-append-drop pad bytes) ∙ ap (λ xs. xs ++ drop pad bytes) front ∙ ap (λ xs. replicate pad 0x20 ++ xs) back
 
-own_filled : (bytes : List ℕ) (instr : Instr) → is_filled bytes (shortest instr) ≡ true → length (shortest instr) ≤ length bytes → length bytes ≤ 8 → IsOwn (Spelled (Plain instr) (stated bytes (shortest instr)))
+own_filled : (bytes : List ℕ) (instr : Instr) → is_filled bytes (shortest instr) ≡ true →
+    length (shortest instr) ≤ length bytes → length bytes ≤ 8 →
+    IsOwn (Spelled (Plain instr) (stated bytes (shortest instr)))
 own_filled bytes instr e h h' = by_test (nat_eq (length bytes) (length (shortest instr))) refl
   where
     is : bytes ≡ replicate (length bytes - length (shortest instr)) 0x20 ++ shortest instr
@@ -102,7 +107,9 @@ pub record Spells (lines : List Line) (bytes : List ℕ) : Type 0 where
   pub own : AllByRecursion IsOwn lines
   pub code : (addresses : List ℕ) (number : ℕ) → concat (spelled_from addresses number lines) ≡ bytes
 
-spelled_from-append : (addresses : List ℕ) (number : ℕ) (xs ys : List Line) → spelled_from addresses number (xs ++ ys) ≡ spelled_from addresses number xs ++ spelled_from addresses (number + length xs) ys
+spelled_from-append : (addresses : List ℕ) (number : ℕ) (xs ys : List Line) →
+    spelled_from addresses number (xs ++ ys) ≡ spelled_from addresses number xs ++
+    spelled_from addresses (number + length xs) ys
 spelled_from-append addresses number [] ys = ap (λ n. spelled_from addresses n ys) (omega arith)
 spelled_from-append addresses number (x ∷ xs) ys =
     ap (λ zs. spelled_at addresses number x ∷ zs) (spelled_from-append addresses (number + 1) xs ys ∙ ap (λ n. spelled_from addresses (number + 1) xs ++ spelled_from addresses n ys) (omega arith))

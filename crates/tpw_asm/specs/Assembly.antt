@@ -15,7 +15,8 @@ use Rattle.tpw_asm.specs.declared.program.Spot.TheVariants.{Place, Address}
 use Rattle.tpw_asm.specs.declared.program.Loop.{Loop}
 use Rattle.tpw_asm.specs.declared.program.Program.{Program}
 use Rattle.tpw_asm.specs.declared.fault.AssemblyFault.{AssemblyFault}
-use Rattle.tpw_asm.specs.declared.fault.AssemblyFault.TheVariants.{Line as LineRefused, Row, TooLong, Narrow, Field, Memory as NoMemory}
+use Rattle.tpw_asm.specs.declared.fault.AssemblyFault.TheVariants.{Line as LineRefused, Row, TooLong, Narrow, Field}
+use Rattle.tpw_asm.specs.declared.fault.AssemblyFault.TheVariants.{Memory as NoMemory}
 use Rattle.tpw_asm.specs.Layout.{addresses_from, code_of, IsLeastLayout}
 use Rattle.tpw_asm.specs.Faults.{AreSound, first_fault, first_row, first_narrow}
 use Rattle.tpw_asm.specs.Outcome.{IsLong}

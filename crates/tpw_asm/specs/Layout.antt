@@ -1,5 +1,6 @@
 -- Layouts: how long the lines of a program are, and what they are spelled as.
-use Rattle.std.specs.Prelude.{◌≡◌, ◌≤◌, ℕ, ◌+◌, ◌-◌, pos, List, [], ◌∷◌, ◌++◌, length, map, replicate, slice_index, unwrap_or}
+use Rattle.std.specs.Prelude.{◌≡◌, ◌≤◌, ℕ, ◌+◌, ◌-◌, pos, List, [], ◌∷◌, ◌++◌, length, map, replicate, slice_index}
+use Rattle.std.specs.Prelude.{unwrap_or}
 use Rattle.std.specs.List.{concat}
 use Rattle.tp_decode.specs.declared.instr.Instr.{Instr}
 use Rattle.tp_decode.specs.declared.instr.Instr.TheVariants.{Jump, Cj, Ldc}
@@ -39,7 +40,8 @@ spelled_at addresses line (Spelled operation bytes) = filled (unwrap_or bytes 0)
 -- what lines are spelled as, the first of which has a number
 abbrev pub spelled_from : List ℕ → ℕ → List Line → List (List ℕ)
 spelled_from addresses number [] = []
-spelled_from addresses number (line ∷ lines) = spelled_at addresses number line ∷ spelled_from addresses (number + 1) lines
+spelled_from addresses number (line ∷ lines) = spelled_at addresses number line ∷ spelled_from addresses (number + 1)
+    lines
 
 -- what lines that are so many bytes long are spelled as
 abbrev pub spellings : List ℕ → List Line → List (List ℕ)

@@ -3,7 +3,8 @@ use Rattle.std.specs.Prelude.{◌≡◌, ◌≤◌, ◌<◌, ◌^◌, ℕ, List,
 use Rattle.tpw_asm.specs.declared.program.Line.{Line}
 use Rattle.tpw_asm.specs.declared.layout.Layout.{Layout}
 use Rattle.tpw_asm.specs.declared.fault.AssemblyFault.{AssemblyFault}
-use Rattle.tpw_asm.specs.declared.fault.AssemblyFault.TheVariants.{Line as LineRefused, Row, TooLong, Narrow, Field, Memory}
+use Rattle.tpw_asm.specs.declared.fault.AssemblyFault.TheVariants.{Line as LineRefused, Row, TooLong, Narrow, Field}
+use Rattle.tpw_asm.specs.declared.fault.AssemblyFault.TheVariants.{Memory}
 use Rattle.tpw_asm.specs.Layout.{addresses_from, IsLayout, IsLeastLayout}
 
 -- addresses that rise, each of them small

@@ -27,7 +27,8 @@ fn layout_of(alloc: Global, program: &Program) -> Result<Layout, AssemblyFault>
     Ok(layout)
 }
 
-/// The address of each place of a program, in its least layout: one more than there are lines. Or why it has no such layout.
+/// The address of each place of a program, in its least layout: one more than there are lines. Or why it has no such
+/// layout.
 pub fn addresses(alloc: Global, program: &Program) -> Result<Vec<u32>, AssemblyFault>
     ensures addresses { IfOk result (λ found. AreItsAddresses program.now found.items) }
     ensures refused { IfErr result (λ fault. IsRefused program.now fault) }
@@ -60,9 +61,9 @@ fn assembly_of(alloc: Global, program: &Program) -> Result<Image, AssemblyFault>
     }
 }
 
-/// The image of a program, or the first fault. Its instructions are those of the lines, one by one: each in its canonical spelling
-/// where no other length is stated, and a jump to a label with the distance to the label's address. Its rows are those of the loops.
-/// Of all layouts for which this holds, it has the least.
+/// The image of a program, or the first fault. Its instructions are those of the lines, one by one: each in its
+/// canonical spelling where no other length is stated, and a jump to a label with the distance to the label's address.
+/// Its rows are those of the loops. Of all layouts for which this holds, it has the least.
 pub fn assemble(alloc: Global, program: &Program) -> Result<Image, AssemblyFault>
     ensures image { IfOk result (λ image. IsAssembly program.now image) }
     ensures refused { IfErr result (λ fault. IsRefused program.now fault) }

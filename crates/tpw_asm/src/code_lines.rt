@@ -1,6 +1,7 @@
 //! The lines of a code.
 
-ghost use Rattle.std.specs.Prelude.{◌≡◌, ◌==◌, ◌≤◌, ◌<◌, ◌⊎◌, [], ◌++◌, map, drop, length, slice_range, IfOk, OnOk, MatchOption};
+ghost use Rattle.std.specs.Prelude.{◌≡◌, ◌==◌, ◌≤◌, ◌<◌, ◌⊎◌, [], ◌++◌, map, drop, length, slice_range, IfOk, OnOk};
+ghost use Rattle.std.specs.Prelude.{MatchOption};
 ghost use Rattle.std.specs.List.{list_all};
 ghost use Rattle.tp_decode.specs.declared.fault.DecodeFault.{DecodeFault};
 ghost use Rattle.tp_decode.specs.Lines.{shortest};

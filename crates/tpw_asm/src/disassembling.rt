@@ -11,9 +11,9 @@ use crate::program::Program;
 use std::alloc::{AllocError, Global};
 use tp_image::Image;
 
-/// A program that is assembled to the image: a line for each instruction, and a jump to a place has that place as its target. A
-/// spelling longer than the canonical one has its length stated. A spelling that no stated length gives is written as bytes, and so
-/// is the rest of a code that cannot be cut any further.
+/// A program that is assembled to the image: a line for each instruction, and a jump to a place has that place as its
+/// target. A spelling longer than the canonical one has its length stated. A spelling that no stated length gives is
+/// written as bytes, and so is the rest of a code that cannot be cut any further.
 pub fn disassemble(alloc: Global, image: &Image) -> Result<Program, AllocError>
     ensures disassembled { IfOk result (λ program. IsDisassembly image.now program) }
     ensures assembled { IfOk result (λ program. IsAssembly program image.now) }

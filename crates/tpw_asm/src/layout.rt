@@ -93,7 +93,8 @@ fn lengths_of(alloc: Global, addresses: &[u32], lines: &[Line]) -> Result<Vec<u8
     Ok(lengths)
 }
 
-/// The least layout of lines, if its code has at most so many bytes. It begins with a byte for each line, and lines only grow.
+/// The least layout of lines, if its code has at most so many bytes. It begins with a byte for each line, and lines
+/// only grow.
 pub fn least_layout(alloc: Global, lines: &[Line], most: usize) -> Result<Layout, AssemblyFault>
     requires most { most ≤ MOST_BYTES }
     requires sound { AreSound lines.now }

@@ -2,7 +2,8 @@
 
 ghost use Rattle.std.specs.Prelude.{◌≡◌, ◌<◌, length};
 ghost use Rattle.std.specs.Result.{result_err};
-ghost use Rattle.tpw_asm.specs.Faults.{way_fault, operation_fault, line_fault, first_fault, is_behind, is_row_behind, first_row, is_stated, first_narrow};
+ghost use Rattle.tpw_asm.specs.Faults.{way_fault, operation_fault, line_fault, first_fault, is_behind, is_row_behind};
+ghost use Rattle.tpw_asm.specs.Faults.{first_row, is_stated, first_narrow};
 
 use crate::fault::{AssemblyFault, LineFault};
 use crate::program::{Line, Loop, Operation, Spot};

@@ -3,8 +3,8 @@
 use tp_decode::Instr;
 use tp_image::Version;
 
-/// An instruction as it is, or one whose operand is a distance between places. Places lie between lines: place `n` is before line `n`,
-/// counted from 0, and the last place is behind the last line.
+/// An instruction as it is, or one whose operand is a distance between places. Places lie between lines: place `n` is
+/// before line `n`, counted from 0, and the last place is behind the last line.
 #[derive(Clone, Copy, Debug, PartialEq, Eq)]
 pub enum Operation {
     /// An instruction as it is.
@@ -13,8 +13,8 @@ pub enum Operation {
     JumpTo(usize),
     /// `cj` to a place behind it.
     CjTo(usize),
-    /// `ldc` of the number of bytes from one place to another that is not before it. A loop that begins at `from` has one before its
-    /// `lend`, behind which is `to` (Compiler Writer's Guide, "Loops").
+    /// `ldc` of the number of bytes from one place to another that is not before it. A loop that begins at `from` has
+    /// one before its `lend`, behind which is `to` (Compiler Writer's Guide, "Loops").
     Distance { from: usize, to: usize },
 }
 

@@ -1,4 +1,2 @@
-mod Positions
 mod Naming
-mod Reading
 mod Lines

@@ -2,13 +2,12 @@
 
 ghost use Rattle.std.specs.Prelude.{◌≡◌, ◌≤◌, All, IfOk, OnOk, length};
 
-use crate::ending::{Ending, Failure, Refusal};
-use crate::fault::InputFault;
-use crate::input::{Inputs, is_standard, utf8};
+use crate::ending::{Ending, Refusal};
 use std::alloc::Global;
 use std::io::Read;
 use std::rt::Files;
-use tp_board::Packet;
+use tp_stream::Packet;
+use tpw_inputs::{Failure, InputFault, Inputs, is_standard, utf8};
 use tpw_run_text::{Expected, Notation, PacketFault, fields_of, packet_of, packets_of, results_of};
 use tpw_text::Position;
 
@@ -93,6 +92,15 @@ fn no_messages(fault: PacketFault) -> Failure {
     }
 }
 
+/// The text of a file of messages.
+fn messages_in(text: &[u8]) -> Result<&str, Failure> {
+    let text = utf8(text)?;
+    if text.starts_with('\u{FEFF}') {
+        return Err(Failure::Input(InputFault::ByteOrderMark));
+    }
+    Ok(text)
+}
+
 /// The packets of so many bytes that a file says, one a line. A fault of the file does not name it.
 fn packets_within<T: Files, R: Read>(
     alloc: Global,
@@ -105,7 +113,7 @@ fn packets_within<T: Files, R: Read>(
     ensures { IfOk result (λ packets. All (λ p. length p.items ≡ bytes) packets.items) }
 {
     let text = inputs.read_file(alloc, name)?;
-    match packets_of(alloc, utf8(&text)?, bytes, notation) {
+    match packets_of(alloc, messages_in(&text)?, bytes, notation) {
         Ok(packets) => Ok(packets),
         Err(fault) => Err(no_messages(fault)),
     }
@@ -198,7 +206,7 @@ impl Expecting {
         requires { bytes ≤ 256 }
     {
         let text = inputs.read_file(alloc, self.name.as_str())?;
-        match results_of(alloc, utf8(&text)?, bytes, self.notation) {
+        match results_of(alloc, messages_in(&text)?, bytes, self.notation) {
             Ok(results) => Ok(results),
             Err(fault) => Err(no_messages(fault)),
         }

@@ -2,16 +2,17 @@
 
 use crate::asking::{Asking, Expecting, PacketFile};
 use crate::ending::{Ending, Refusal};
-use crate::input::{Input, is_standard};
 use crate::refusing::Report;
 use crate::running::Running;
 use crate::stepping::{FROM, Picked, Stepping, UNTIL, WATCH};
 use clap::{Arg, ArgAction, ArgMatches, Command, Error, value_parser};
 use std::alloc::Global;
 use std::convert::AsStr;
+use tpw_inputs::{Input, is_standard};
 use tpw_run_text::{Notation, Style};
 
-/// What `--version` says behind the name: the version, the commit where a package is built, and the kit that the proofs are made with.
+/// What `--version` says behind the name: the version, the commit where a package is built, and the kit that the proofs
+/// are made with.
 const VERSION: &str = "0.1 (unreleased, rattle-kit-13f)";
 
 /// The name of the command that prints a run.

@@ -3,14 +3,13 @@
 ghost use Rattle.std.specs.Prelude.{IfOk, string_bytes};
 ghost use Rattle.tpw_commands.specs.Programs.{AreTextOf};
 
-use crate::assembly::write_line;
-use crate::ending::{Failure, Outcome};
-use crate::input::hex_bytes;
-use crate::noting::places_of;
+use crate::assembling::write_line;
+use crate::ending::Outcome;
 use std::alloc::Global;
 use std::io::Write;
 use tp_image::read_image;
 use tpw_asm::{Program, disassemble};
+use tpw_inputs::{Failure, hex_bytes, places_of};
 use tpw_text::{LineRemark, LoopRemark, Remarks, source_text};
 use tpw_why::{Costs, Counted, LoopCost, costs_of};
 

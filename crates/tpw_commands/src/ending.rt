@@ -3,23 +3,18 @@
 ghost use Rattle.std.specs.Prelude.{◌≡◌, if◌then◌else◌};
 ghost use Rattle.clap.specs.Words.{kind_of};
 ghost use Rattle.tpw_commands.specs.declared.ending.Ending.TheVariants as ending;
-ghost use Rattle.tpw_commands.specs.declared.ending.Failure.TheVariants as failure;
+ghost use Rattle.tpw_inputs.specs.declared.failure.Failure.TheVariants as failure;
 ghost use Rattle.tpw_commands.specs.declared.ending.Outcome.TheVariants.{Good, Bad};
-ghost use Rattle.tpw_commands.specs.Endings.{of_image, of_source, of_run, of_words, status_of, status_on};
+ghost use Rattle.tpw_commands.specs.Endings.{of_run, of_words, status_of, status_on};
 
-use crate::fault::InputFault;
-use crate::input::is_standard;
 use crate::stepping::{PlaceKind, WatchKind};
 use clap::error::ErrorKind;
-use std::alloc::{AllocError, AllocFailed, Global};
-use std::io;
+use std::alloc::{AllocError, AllocFailed};
 use thiserror::Error;
-use tp_image::ImageFault;
+use tpw_inputs::Failure;
 use tpw_run_text::PacketKind;
 use tpw_runs::RunFault;
-use tpw_source::ShowFault;
 use tpw_step::End;
-use tpw_text::{SourceFault, TextFault as SourceKind};
 
 /// What a command that has run answers.
 #[derive(Clone, Copy, Debug, PartialEq, Eq)]
@@ -95,46 +90,6 @@ pub enum Refusal {
     StandardTwice,
 }
 
-/// Why a command fails, with its text.
-#[derive(Debug, Drop, Error)]
-pub enum Failure {
-    /// The file of this name is none that the command takes.
-    #[error("{0}{1}\n")]
-    File(String, InputFault),
-    /// Standard input, where a file is asked for, is none that the command takes.
-    #[error("tpw: standard input{0}\n")]
-    InStandard(InputFault),
-    /// An input is none that the command takes, and that is reported.
-    #[error("")]
-    Reported,
-    /// A thread could not be started.
-    #[error("tpw: thread\n")]
-    Thread,
-    /// An input is none that the command takes. The program names the input.
-    #[error("tpw{0}\n")]
-    Input(InputFault),
-    /// Standard output could not be written.
-    #[error("tpw: write\n")]
-    Write,
-    /// Standard output could not be written, and this is why.
-    #[error("tpw: write: {0}\n")]
-    Unwritten(io::Error),
-    /// A growth was refused.
-    #[error("tpw: memory\n")]
-    Memory,
-}
-
-impl Failure {
-    /// The same, where a fault of an input is one of the file of a name.
-    pub fn in_file(self, alloc: Global, name: &str) -> Result<Failure, AllocError> {
-        match self {
-            Failure::Input(fault) if is_standard(name) => Ok(Failure::InStandard(fault)),
-            Failure::Input(fault) => Ok(Failure::File(String::from_str(alloc, name)?, fault)),
-            failure => Ok(failure),
-        }
-    }
-}
-
 /// Why the program ends before it has done what it was asked for, with its text.
 #[derive(Debug, Drop, Error)]
 pub enum Ending {
@@ -206,59 +161,11 @@ impl<T: Drop> From<AllocFailed<T>> for Ending {
     }
 }
 
-impl From<RunFault> for Failure {
-    fn from(fault: RunFault) -> Self {
-        match fault {
-            RunFault::Thread => Failure::Thread,
-            RunFault::Memory => Failure::Memory,
-            RunFault::Write => Failure::Write,
-        }
-    }
-}
-
-impl From<ImageFault> for Failure {
-    ghost from_gives = { λ fault e. e ≡ of_image fault };
-
-    fn from(fault: ImageFault) -> Self {
-        match fault {
-            ImageFault::Memory => Failure::Memory,
-            ImageFault::Refused { .. } => Failure::Input(InputFault::Image(fault)),
-        }
-    }
-}
-
-impl From<SourceFault> for Failure {
-    ghost from_gives = { λ fault e. e ≡ of_source fault };
-
-    fn from(fault: SourceFault) -> Self {
-        match fault.fault {
-            SourceKind::Memory => Failure::Memory,
-            _ => Failure::Input(InputFault::Source(fault)),
-        }
-    }
-}
-
-impl From<ShowFault> for Failure {
-    fn from(fault: ShowFault) -> Self {
-        match fault {
-            ShowFault::Memory => Failure::Memory,
-            ShowFault::Write => Failure::Write,
-        }
-    }
-}
-
-impl From<AllocError> for Failure {
-    ghost from_gives = { λ _ e. e ≡ failure.Memory };
-
-    fn from(_: AllocError) -> Self {
-        Failure::Memory
-    }
-}
-
-impl<T: Drop> From<AllocFailed<T>> for Failure {
-    ghost from_gives = { λ _ e. e ≡ failure.Memory };
-
-    fn from(_: AllocFailed<T>) -> Self {
-        Failure::Memory
+/// Why a batch of runs fails.
+pub fn failure_of_run(fault: RunFault) -> Failure {
+    match fault {
+        RunFault::Thread => Failure::Thread,
+        RunFault::Memory => Failure::Memory,
+        RunFault::Write => Failure::Write,
     }
 }

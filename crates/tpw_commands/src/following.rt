@@ -1,8 +1,8 @@
 //! The command that follows a packet's run, ready to be copied.
 
 use crate::asking::{Asking, Origin};
-use crate::input::Input;
 use std::fmt;
+use tpw_inputs::Input;
 use tpw_run_text::Notation;
 
 /// A word of a shell's command line, quoted where it has to be.

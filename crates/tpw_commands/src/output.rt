@@ -3,9 +3,10 @@
 ghost use Rattle.std.specs.Prelude.{◌≡◌, ◌≤◌, None};
 ghost use Rattle.tpw_commands.specs.Endings.{settled, status_by};
 
-use crate::ending::{Ending, Failure, Outcome};
+use crate::ending::{Ending, Outcome};
 use std::io;
 use std::io::{ErrorKind, Write};
+use tpw_inputs::Failure;
 
 /// A writer, and why it has failed, if it has.
 #[derive(Drop)]
@@ -51,7 +52,8 @@ impl<W: Write> Write for Output<W> {
     }
 }
 
-/// What a command answers that has failed, beside why its output could not be written: that the reader of that has gone is no fault.
+/// What a command answers that has failed, beside why its output could not be written: that the reader of that has gone
+/// is no fault.
 pub fn settle(failure: Failure, fault: Option<io::Error>) -> Result<Outcome, Ending>
     ensures said { result ≡ settled fault failure }
     ensures status { status_by result ≤ 1 }

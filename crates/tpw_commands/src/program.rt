@@ -4,19 +4,16 @@ ghost use Rattle.std.specs.Prelude.{◌≡◌, ◌≤◌, IfErr};
 ghost use Rattle.std.specs.Process.{exit_status};
 ghost use Rattle.tpw_commands.specs.Endings.{EndsEarly, status_by, status_of};
 
-use crate::assembly::assemble_text;
+use crate::assembling::assemble_text;
 use crate::command_line::{Asked, Task, asked_by};
 use crate::disassembly::disassemble_image;
-use crate::ending::{Ending, Failure, Outcome};
-use crate::input::{Input, Inputs};
+use crate::ending::{Ending, Outcome};
 use crate::output::{Output, settle};
 use crate::profiling::profile_worker;
 use crate::refusing::judge;
-use crate::reporting::report_fault;
 use crate::running::run_worker;
 use crate::stepping::step;
 use crate::terminal::Terminal;
-use crate::traps::note_traps;
 use crate::words::words_of;
 use std::alloc::Global;
 use std::env::Env;
@@ -26,21 +23,7 @@ use std::rt::Files;
 use std::sync::Wait;
 use std::thread::Threads;
 use std::time::Clock;
-
-/// Notes what is written otherwise than it may be meant in a text that is to be a worker.
-fn note_asked<E: Write>(
-    alloc: Global,
-    errors: &mut E,
-    asked: &Asked,
-    text: &[u8],
-) -> Result<(), Failure> {
-    match &asked.task {
-        Task::Run(_) | Task::Profile(_) | Task::Judge(_) | Task::Assemble(_) => {
-            note_traps(alloc, errors, &asked.input, text)
-        }
-        Task::Step(_) | Task::Disassemble => Ok(()),
-    }
-}
+use tpw_inputs::{Failure, Input, Inputs, note_traps, read_worker, report_fault};
 
 /// Does what is asked with the text of the input.
 fn perform<T, R: Read, W: Write, E: Write>(
@@ -57,18 +40,27 @@ where
     ensures { IfErr result (λ e. status_of e ≡ 2 → W.contents writer.new ≡ W.contents writer.old) }
 {
     let input = &asked.input;
-    note_asked(alloc, terminal.errors, asked, text)?;
     match &asked.task {
         Task::Profile(asking) => {
-            profile_worker(alloc, inputs, input, text, writer, terminal, asking)
-        },
-        Task::Run(running) => {
-            run_worker(rt, alloc, inputs, input, text, writer, terminal, running)
+            let worker = read_worker(alloc, terminal.errors, input, text)?;
+            profile_worker(alloc, inputs, &worker, writer, terminal, asking)
         }
-        Task::Step(stepping) => step(alloc, inputs, input, text, writer, stepping),
-        Task::Judge(report) => Ok(judge(alloc, input, text, *report, writer)?),
-        Task::Assemble(Some(name)) => Ok(assemble_text(alloc, text, writer, Some(name.as_str()))?),
-        Task::Assemble(None) => Ok(assemble_text(alloc, text, writer, None)?),
+        Task::Run(running) => {
+            let worker = read_worker(alloc, terminal.errors, input, text)?;
+            run_worker(rt, alloc, inputs, input, &worker, writer, terminal, running)
+        }
+        Task::Step(stepping) => {
+            let worker = read_worker(alloc, terminal.errors, input, text)?;
+            step(alloc, inputs, &worker, writer, stepping)
+        }
+        Task::Judge(report) => {
+            let worker = read_worker(alloc, terminal.errors, input, text)?;
+            Ok(judge(alloc, &worker, *report, writer)?)
+        }
+        Task::Assemble(name) => {
+            note_traps(alloc, terminal.errors, input, text)?;
+            Ok(assemble_text(alloc, text, writer, name.as_deref())?)
+        }
         Task::Disassemble => Ok(disassemble_image(alloc, text, writer)?),
     }
 }
@@ -188,7 +180,8 @@ where
     }
 }
 
-/// Does what the words ask for. Where that ends early, it says why on the terminal; where the reader of the output went away, nothing.
+/// Does what the words ask for. Where that ends early, it says why on the terminal; where the reader of the output went
+/// away, nothing.
 pub fn run<T, R: Read, W: Write, E: Write>(
     rt: &T,
     words: &impl Env,

@@ -1,13 +1,10 @@
 //! The commands `why` and `list`: the verdict on an image, why it is refused, and its code with what it costs.
 
-use crate::ending::{Failure, Outcome};
-use crate::fielding::assembled_text;
-use crate::input::{Input, TextFault, bytes_of, utf8};
-use crate::noting::Notes;
+use crate::ending::Outcome;
 use std::alloc::Global;
 use std::io::Write;
-use tpw_source::SourceText;
-use tpw_text::read_source;
+use tp_accept::{Accepted, Refusal, accept};
+use tpw_inputs::{Failure, Worker};
 use tpw_why::{explain, list};
 
 /// How a verdict is written.
@@ -19,78 +16,50 @@ pub enum Report {
     List,
 }
 
-/// Judges the bytes of an image, and writes the verdict.
-fn judge_bytes<W: Write>(
+/// Judges a worker, and writes the verdict.
+fn write_verdict<W: Write>(
     alloc: Global,
-    bytes: &[u8],
-    source: SourceText<'_>,
+    worker: &Worker<'_>,
     report: Report,
     writer: &mut W,
 ) -> Result<bool, Failure> {
+    let source = worker.source_text();
     match report {
-        Report::Why => Ok(explain(alloc, bytes, source, writer)?),
-        Report::List => Ok(list(alloc, bytes, source, writer)?),
+        Report::Why => Ok(explain(alloc, &worker.bytes, source, writer)?),
+        Report::List => Ok(list(alloc, &worker.bytes, source, writer)?),
     }
 }
 
-/// Judges the image that an assembly text says, and writes the verdict.
-fn judge_source<W: Write>(
-    alloc: Global,
-    input: &Input,
-    text: &str,
-    report: Report,
-    writer: &mut W,
-) -> Result<bool, Failure> {
-    let source = read_source(alloc, text)?;
-    let image = assembled_text(alloc, text, &source)?;
-    let notes = Notes::new(alloc, input, text, &source)?;
-    judge_bytes(alloc, &image, notes.source_text(), report, writer)
-}
-
-/// Judges the image that a text says, and writes the verdict: the image's bytes in hexadecimal, or else a worker in assembly text.
-fn judge_text<W: Write>(
-    alloc: Global,
-    input: &Input,
-    text: &[u8],
-    report: Report,
-    writer: &mut W,
-) -> Result<bool, Failure> {
-    match bytes_of(alloc, text) {
-        Ok(bytes) => judge_bytes(alloc, &bytes, SourceText::NONE, report, writer),
-        Err(TextFault::Memory) => Err(Failure::Memory),
-        Err(TextFault::NotADigit(_) | TextFault::HalfAByte(_)) => {
-            judge_source(alloc, input, utf8(text)?, report, writer)
-        }
-    }
-}
-
-/// The bytes of the image that a text says: in hexadecimal, or else as assembly text.
-pub fn image_bytes(alloc: Global, text: &[u8]) -> Result<Vec<u8>, Failure> {
-    match bytes_of(alloc, text) {
-        Ok(bytes) => Ok(bytes),
-        Err(TextFault::Memory) => Err(Failure::Memory),
-        Err(TextFault::NotADigit(_) | TextFault::HalfAByte(_)) => {
-            let text = utf8(text)?;
-            let source = read_source(alloc, text)?;
-            assembled_text(alloc, text, &source)
-        }
-    }
-}
-
-/// Judges the image that a text says, in hexadecimal or as assembly text, and writes the verdict; of a refusal also what it means, what
-/// is known there, and what helps; or else the code with its costs. Beside the instructions of a text are its lines and its labels.
+/// Judges a worker, and writes the verdict; of a refusal also what it means, what is known there, and what helps; or
+/// else the code with its costs. Beside the instructions of a text are its lines and its labels.
 pub fn judge<W: Write>(
     alloc: Global,
-    input: &Input,
-    text: &[u8],
+    worker: &Worker<'_>,
     report: Report,
     writer: &mut W,
 ) -> Result<Outcome, Failure> {
-    let judged = judge_text(alloc, input, text, report, writer);
+    let judged = write_verdict(alloc, worker, report, writer);
     let flushed = writer.flush();
     let is_accepted = judged?;
     match flushed {
         Ok(()) => Ok(Outcome::of(is_accepted)),
         Err(_) => Err(Failure::Write),
+    }
+}
+
+/// The worker's image, where it is accepted. Where it is refused, `errors` has the explanation of `why`.
+pub fn accepted_of<E: Write>(
+    alloc: Global,
+    worker: &Worker<'_>,
+    errors: &mut E,
+) -> Result<Option<Accepted>, Failure> {
+    let bytes = Vec::from_slice(alloc, &worker.bytes)?;
+    match accept(alloc, bytes) {
+        Ok(accepted) => Ok(Some(accepted)),
+        Err(Refusal::Memory) => Err(Failure::Memory),
+        Err(Refusal::Refused { .. }) => {
+            judge(alloc, worker, Report::Why, errors)?;
+            Ok(None)
+        }
     }
 }

@@ -4,11 +4,10 @@ ghost use Rattle.std.specs.Prelude.{◌≡◌, ◌≤◌, ◌*◌, All, IfOk, If
 ghost use Rattle.tpw_commands.specs.Endings.{status_of};
 
 use crate::asking::{Asking, Expecting};
-use crate::ending::{Ending, Failure, Outcome};
+use crate::ending::{Ending, Outcome, failure_of_run};
 use crate::following::Following;
-use crate::input::{Input, Inputs, is_standard};
+use crate::refusing::accepted_of;
 use crate::terminal::Terminal;
-use crate::worker::accepted_of;
 use std::alloc::Global;
 use std::io::{self, Eprint, Read, Write};
 use std::rt::Files;
@@ -16,7 +15,8 @@ use std::sync::Wait;
 use std::thread::Threads;
 use std::time::Clock;
 use tp_accept::Accepted;
-use tp_board::Packet;
+use tp_stream::Packet;
+use tpw_inputs::{Failure, Input, Inputs, Worker, is_standard};
 use tpw_run_text::{Expected, Form, StepRange, Style, Tally};
 use tpw_runs::{Progress, run_on_members};
 
@@ -117,7 +117,8 @@ fn write_differing<W: Write>(
     Ok(())
 }
 
-/// Writes how many packets were run, how many of them were lost, their steps, and what differs where results are expected.
+/// Writes how many packets were run, how many of them were lost, their steps, and what differs where results are
+/// expected.
 fn write_counts<W: Write>(
     writer: &mut W,
     budget: u32,
@@ -201,7 +202,7 @@ where
     let members = packets.len().min(members).min(MAX_MEMBERS).max(1);
     let ran = run_on_members(rt, alloc, image, packets, members, &progress, form, writer);
     progress.clear();
-    let tally = ran?;
+    let tally = ran.map_err(|fault| failure_of_run(fault))?;
     match form {
         // A picture or a pipe has the results alone.
         Form::Raw if tally.lost == 0 => {}
@@ -214,19 +215,18 @@ where
     Ok(Outcome::of(is_as_expected(&tally, form)))
 }
 
-/// What is to be run: on the worker that a text says, where it is accepted, the packets that are asked for, each as long as its own.
+/// What is to be run: on a worker, where it is accepted, the packets that are asked for, each as long as its own.
 fn prepare_run<T: Files, R: Read, E: Write>(
     alloc: Global,
     inputs: &mut Inputs<'_, T, R>,
-    input: &Input,
-    text: &[u8],
+    worker: &Worker<'_>,
     errors: &mut E,
     asked: &Running,
 ) -> Result<Option<Prepared>, Ending>
     ensures { IfOk result (λ found. IfSome found (λ run.
         All (λ p. length p.items ≡ 4 * run.image.image.packet) run.packets.items)) }
 {
-    let Some(image) = accepted_of(alloc, input, text, errors)? else {
+    let Some(image) = accepted_of(alloc, worker, errors)? else {
         return Ok(None);
     };
     let packets = asked.asking.packets(alloc, inputs, image.packet_bytes())?;
@@ -270,13 +270,13 @@ where
     }
 }
 
-/// Runs the packets on the worker that a text says, and writes what becomes of each.
+/// Runs the packets on the worker of an input, and writes what becomes of each.
 pub fn run_worker<T, R: Read, W: Write, E: Write>(
     rt: &T,
     alloc: Global,
     inputs: &mut Inputs<'_, T, R>,
     input: &Input,
-    text: &[u8],
+    worker: &Worker<'_>,
     writer: &mut W,
     terminal: &mut Terminal<'_, E>,
     asked: &Running,
@@ -285,7 +285,7 @@ where
     T: Files + Threads + Wait + Clock + Eprint + Sync,
     ensures { IfErr result (λ e. status_of e ≡ 2 → W.contents writer.new ≡ W.contents writer.old) }
 {
-    match prepare_run(alloc, inputs, input, text, terminal.errors, asked)? {
+    match prepare_run(alloc, inputs, worker, terminal.errors, asked)? {
         Some(prepared) => Ok(write_run(rt, alloc, &prepared, asked, input, writer, terminal)?),
         None => Ok(Outcome::Bad),
     }

@@ -1,11 +1,11 @@
 //! A profile as lines: the steps of each line of a text, or of each instruction, and of each loop, the most first.
 
-use crate::ending::Failure;
 use std::alloc::Global;
 use std::fmt;
 use std::io::Write;
 use tp_decode::{DecodeFault, Listing, decode};
 use tp_image::{Image, LoopRow};
+use tpw_inputs::Failure;
 use tpw_source::SourceText;
 use tpw_step::Profile;
 
@@ -55,7 +55,8 @@ fn shares_of(alloc: Global, shares: Shares<'_, '_>) -> Result<Vec<Share>, Failur
     Ok(found)
 }
 
-/// A part of all steps: its percentage with one digit behind the point, the steps, and a bar beside the most of any part.
+/// A part of all steps: its percentage with one digit behind the point, the steps, and a bar beside the most of any
+/// part.
 #[derive(Clone, Copy)]
 struct Part {
     steps: u64,

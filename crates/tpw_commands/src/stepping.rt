@@ -4,21 +4,17 @@ ghost use Rattle.std.specs.Prelude.{◌≡◌, ◌≤◌, IfOk, IfErr};
 ghost use Rattle.tpw_commands.specs.Endings.{status_of};
 
 use crate::asking::Asking;
-use crate::ending::{Ending, Failure, Outcome, Refusal};
-use crate::fielding::assembled_text;
-use crate::input::{Input, Inputs, TextFault, bytes_of, utf8};
-use crate::noting::Notes;
+use crate::ending::{Ending, Outcome, Refusal};
 use crate::place::place_of;
-use crate::worker::image_in;
 use std::alloc::Global;
 use std::io::{Read, Write};
 use std::rt::Files;
 use thiserror::Error;
 use tp_image::Image;
 use tp_image::layout::WORD_BYTES;
+use tpw_inputs::{Failure, Inputs, Worker};
 use tpw_source::{Named, SourceText};
 use tpw_step::{Place, Shown, Span, show_run};
-use tpw_text::read_source;
 
 /// The names of the options that take a place.
 pub const FROM: &str = "from";
@@ -35,7 +31,8 @@ pub struct Picked {
     pub number: usize,
 }
 
-/// What `step` is to show: a packet's run, from the place that a word names and as far as another, and of it the changes of some words.
+/// What `step` is to show: a packet's run, from the place that a word names and as far as another, and of it the
+/// changes of some words.
 #[derive(Drop)]
 pub struct Stepping {
     /// The packet, where one is given.
@@ -266,7 +263,7 @@ fn packet_of<T: Files, R: Read>(
     }
 }
 
-/// What is to be shown of the run of an image: from where and as far as what, and the changes of which words.
+/// Which part of the run to show, and which words to watch.
 fn prepare_step<'a, T: Files, R: Read>(
     alloc: Global,
     inputs: &mut Inputs<'_, T, R>,
@@ -306,18 +303,18 @@ fn write_step<W: Write>(
     }
 }
 
-/// Runs an image with the packet, and writes its lines.
-fn step_image<T: Files, R: Read, W: Write>(
+/// Runs a worker with the packet, and writes its lines.
+pub fn step<T: Files, R: Read, W: Write>(
     alloc: Global,
     inputs: &mut Inputs<'_, T, R>,
-    image: Image,
-    source: SourceText<'_>,
+    worker: &Worker<'_>,
     writer: &mut W,
     stepping: &Stepping,
 ) -> Result<Outcome, Ending>
-    requires { image.packet ≤ 64 }
     ensures { IfErr result (λ e. status_of e ≡ 2 → W.contents writer.new ≡ W.contents writer.old) }
 {
+    let image = worker.image(alloc)?;
+    let source = worker.source_text();
     let prepared = prepare_step(alloc, inputs, &image, source, stepping)?;
     let shown = Shown {
         span: prepared.span,
@@ -326,44 +323,4 @@ fn step_image<T: Files, R: Read, W: Write>(
         hexadecimal: stepping.hexadecimal,
     };
     Ok(write_step(alloc, image, &prepared.packet, shown, writer)?)
-}
-
-/// The image that an assembly text says, and its notes.
-fn read_text<'a>(
-    alloc: Global,
-    input: &Input,
-    text: &'a [u8],
-) -> Result<(Image, Notes<'a>), Failure>
-    ensures { IfOk result (λ read. read.0.packet ≤ 64) }
-{
-    let text = utf8(text)?;
-    let source = read_source(alloc, text)?;
-    let bytes = assembled_text(alloc, text, &source)?;
-    let image = image_in(alloc, &bytes)?;
-    let notes = Notes::new(alloc, input, text, &source)?;
-    Ok((image, notes))
-}
-
-/// Runs the image that a text says, in hexadecimal or as assembly text, with the packet, and writes its lines.
-pub fn step<T: Files, R: Read, W: Write>(
-    alloc: Global,
-    inputs: &mut Inputs<'_, T, R>,
-    input: &Input,
-    text: &[u8],
-    writer: &mut W,
-    stepping: &Stepping,
-) -> Result<Outcome, Ending>
-    ensures { IfErr result (λ e. status_of e ≡ 2 → W.contents writer.new ≡ W.contents writer.old) }
-{
-    match bytes_of(alloc, text) {
-        Ok(bytes) => {
-            let image = image_in(alloc, &bytes)?;
-            step_image(alloc, inputs, image, SourceText::NONE, writer, stepping)
-        }
-        Err(TextFault::Memory) => Err(Ending::Failed(Failure::Memory)),
-        Err(TextFault::NotADigit(_) | TextFault::HalfAByte(_)) => {
-            let (image, notes) = read_text(alloc, input, text)?;
-            step_image(alloc, inputs, image, notes.source_text(), writer, stepping)
-        }
-    }
 }

@@ -1,10 +1,11 @@
 //! The words of a command line.
 
-use crate::ending::{Ending, Failure, Refusal};
+use crate::ending::{Ending, Refusal};
 use std::alloc::Global;
 use std::env;
 use std::env::Env;
 use std::io::ErrorKind;
+use tpw_inputs::Failure;
 
 /// The words of a command line, the first of which names the program.
 pub fn words_of<E: Env>(environment: &E, alloc: Global) -> Result<Vec<String>, Ending> {

@@ -1,5 +1,7 @@
 -- The machine's bytes as a memory.
-use Rattle.std.proofs.Common.{◌≡◌, ℕ, ◌+◌, ◌-◌, ◌<◌, ◌≤◌, ◌⊎◌, inl, inr, Bool, true, false, nat_le, List, length, map, take, drop, ◌++◌, replicate, Option, Some, None, refl, sym, ap, ◌∙◌, arith, slice_index, slice_index_or}
+use Rattle.std.proofs.Common.{◌≡◌, ℕ, ◌+◌, ◌-◌, ◌<◌, ◌≤◌, ◌⊎◌, inl, inr, Bool, true, false, nat_le, List, length, map}
+use Rattle.std.proofs.Common.{take, drop, ◌++◌, replicate, Option, Some, None, refl, sym, ap, ◌∙◌, arith, slice_index}
+use Rattle.std.proofs.Common.{slice_index_or}
 use Rattle.std.proofs.lemmas.Bool.Decides.{nat_tests}
 use mathlib.Core.Path.{fun_ext}
 use Rattle.std.proofs.lemmas.Bool.{cases_lt}
@@ -38,7 +40,9 @@ pub after_part : {X : Type 0} (i k : ℕ) (xs ys : List X) (j : ℕ) (d : X) →
 after_part i k xs ys j d len within lo = grind (arith, places)
 
 -- bytes that agree at a place agree in the memory
-same_byte : (d d' : List Bool) (m m' : List ℕ) (x : ℕ) → (mem_start ≤ x → slice_index_or d' (x - mem_start) false ≡ slice_index_or d (x - mem_start) false) → (mem_start ≤ x → slice_index m' (x - mem_start) ≡ slice_index m (x - mem_start)) → memory_of d' m' x ≡ memory_of d m x
+same_byte : (d d' : List Bool) (m m' : List ℕ) (x : ℕ) →
+    (mem_start ≤ x → slice_index_or d' (x - mem_start) false ≡ slice_index_or d (x - mem_start) false) →
+    (mem_start ≤ x → slice_index m' (x - mem_start) ≡ slice_index m (x - mem_start)) → memory_of d' m' x ≡ memory_of d m x
 unfolding memory_of
 same_byte d d' m m' x same_d same_m = by_place (cases_lt x mem_start)
   where
@@ -47,7 +51,9 @@ same_byte d d' m m' x same_d same_m = by_place (cases_lt x mem_start)
     by_place (inr above) = rw (same_d above, same_m above)
 
 -- bytes put into the machine's workspace stand in the memory
-pub memory_put : (d : List Bool) (m : List ℕ) (a i k : ℕ) (bs : List ℕ) → a ≡ mem_start + i → length bs ≡ k → i + k ≤ length d → i + k ≤ length m → memory_of (put_mid i k d (replicate k true)) (put_mid i k m bs) ≡ with_bytes (memory_of d m) a bs
+pub memory_put : (d : List Bool) (m : List ℕ) (a i k : ℕ) (bs : List ℕ) → a ≡ mem_start + i → length bs ≡ k →
+    i + k ≤ length d → i + k ≤ length m → memory_of (put_mid i k d (replicate k true)) (put_mid i k m bs) ≡ with_bytes
+    (memory_of d m) a bs
 unfolding with_bytes
 memory_put d m a i k bs a_is len in_d in_m = fun_ext λ x. at x (cases_lt x a) (cases_lt x (a + k))
   where

@@ -22,7 +22,15 @@ use Rattle.tp_outcome.proofs.Receiving as receiving
 module _ (image : ImageValue) (s : State) (n channel target : ℕ) (a_is : s.areg ≡ Some n) (b_is : s.breg ≡ Some channel) (c_is : s.creg ≡ Some target) where
   -- in, where it is the packet's and its places are in the workspace
   pub input_made : is_packet image channel n s ≡ true → n ≤ length s.to_come → in_workspace image target n ≡ true → in_workspace image (s.wptr - 20) 20 ≡ true
-      → effect image Input s ≡ Some (record s { areg = None; breg = None; creg = None; memory = undefined (with_bytes s.memory target (take n s.to_come)) (s.wptr - 20) 20; phase = 1; to_come = drop n s.to_come })
+      → effect image Input s ≡ Some (record s {
+        areg = None;
+        breg = None;
+        creg = None;
+        memory = undefined (with_bytes s.memory target (take n s.to_come)) (s.wptr - 20) 20;
+        phase = 1;
+        to_come =
+            drop n s.to_come;
+      })
   unfolding effect descheduled
   input_made packet enough inside place =
       let le : nat_le n (length s.to_come) ≡ true = grind (arith, nat_tests) in
@@ -37,7 +45,10 @@ module _ (image : ImageValue) (s : State) (n channel target : ℕ) (a_is : s.are
   unfolding effect descheduled
   input_outside outside = rw (a_is, b_is, c_is) (by_test (is_packet image channel n s && nat_le n (length s.to_come)) outside)
     where
-      by_test : (b : Bool) → in_workspace image target n ≡ false → (only_if b >> (only_if (in_workspace image target n) >> descheduled image (record s { memory = with_bytes s.memory target (take n s.to_come); to_come = drop n s.to_come; phase = 1 }))) ≡ None
+      by_test : (b : Bool) → in_workspace image target n ≡ false →
+          (only_if b >> (only_if (in_workspace image target n) >> descheduled image
+          (record s { memory = with_bytes s.memory target (take n s.to_come); to_come = drop n s.to_come; phase = 1 }))) ≡
+          None
       by_test true e = rw e
       by_test false e = refl
 
@@ -45,13 +56,17 @@ module _ (image : ImageValue) (s : State) (n channel target : ℕ) (a_is : s.are
   unfolding effect descheduled
   input_no_place outside = rw (a_is, b_is, c_is) (by_test (is_packet image channel n s && nat_le n (length s.to_come)) (in_workspace image target n) outside)
     where
-      by_test : (b c : Bool) → in_workspace image (s.wptr - 20) 20 ≡ false → (only_if b >> (only_if c >> descheduled image (record s { memory = with_bytes s.memory target (take n s.to_come); to_come = drop n s.to_come; phase = 1 }))) ≡ None
+      by_test : (b c : Bool) → in_workspace image (s.wptr - 20) 20 ≡ false →
+          (only_if b >> (only_if c >> descheduled image (record s
+          { memory = with_bytes s.memory target (take n s.to_come); to_come = drop n s.to_come; phase = 1 }))) ≡ None
       by_test true true e = rw e
       by_test true false e = refl
       by_test false c e = refl
 
 -- out, where its message is defined
-pub output_sends : (image : ImageValue) (s t : State) (n channel source : ℕ) (message : List ℕ) → s.areg ≡ Some n → s.breg ≡ Some channel → s.creg ≡ Some source → in_workspace image source n ≡ true → descheduled image s ≡ Some t → bytes_at t.memory source n ≡ Some message → effect image Output s ≡ sent_on image channel message t
+pub output_sends : (image : ImageValue) (s t : State) (n channel source : ℕ) (message : List ℕ) → s.areg ≡ Some n →
+    s.breg ≡ Some channel → s.creg ≡ Some source → in_workspace image source n ≡ true → descheduled image s ≡ Some t →
+    bytes_at t.memory source n ≡ Some message → effect image Output s ≡ sent_on image channel message t
 unfolding effect descheduled
 output_sends image s t n channel source message a_is b_is c_is inside place read = rw (a_is, b_is, c_is, inside, place, read)
 
@@ -81,7 +96,9 @@ module _ (image : ImageValue) (before now : Devices) (p : Messages) (h : HasExch
   refused_receive = receiving.refused_receive image before.source now.source p.to_come (h.to_come refl) h.source
 
 -- what stands after the result, and after a trace message
-pub standing_sent : (image : ImageValue) (before now : Devices) (p : Messages) (message : List ℕ) (sink : DeviceState) → HasExchanged image before BeforeResult p now → plain_send now.sink message ≡ Ok tt → sink ≡ after_send now.sink message (Ok tt)
+pub standing_sent : (image : ImageValue) (before now : Devices) (p : Messages) (message : List ℕ) (sink : DeviceState) →
+    HasExchanged image before BeforeResult p now → plain_send now.sink message ≡ Ok tt →
+    sink ≡ after_send now.sink message (Ok tt)
     → HasExchanged image before AfterResult (record p { phase = AfterResult; sent = p.sent ++ message }) (record now { sink = sink })
 standing_sent image before now p message sink h can is = record {
   phase_is = refl;
@@ -91,7 +108,9 @@ standing_sent image before now p message sink h can is = record {
   trace = h.trace;
 }
 
-pub standing_traced : (image : ImageValue) (before now : Devices) (phase : Phase) (p : Messages) (message : List ℕ) (trace : DeviceState) → HasExchanged image before phase p now → plain_send now.trace message ≡ Ok tt → trace ≡ after_send now.trace message (Ok tt)
+pub standing_traced : (image : ImageValue) (before now : Devices) (phase : Phase) (p : Messages) (message : List ℕ)
+    (trace : DeviceState) → HasExchanged image before phase p now → plain_send now.trace message ≡ Ok tt →
+    trace ≡ after_send now.trace message (Ok tt)
     → HasExchanged image before phase (record p { traced = p.traced ++ message }) (record now { trace = trace })
 standing_traced image before now phase p message trace h can is = record {
   phase_is = h.phase_is;
@@ -121,39 +140,67 @@ second_phase AfterResult e = cc
 second_phase Stopped e = cc
 
 -- what the tests of a packet and of a result say
-pub packet_is : (image : ImageValue) (channel n : ℕ) (phase : Phase) → (nat_eq channel link0_input && nat_eq n (4 * image.packet) && nat_eq (phase_number phase) 0) ≡ true → (n ≡ 4 * image.packet) × (phase ≡ BeforePacket)
+pub packet_is : (image : ImageValue) (channel n : ℕ) (phase : Phase) →
+    (nat_eq channel link0_input && nat_eq n (4 * image.packet) && nat_eq (phase_number phase) 0) ≡ true →
+    (n ≡ 4 * image.packet) × (phase ≡ BeforePacket)
 packet_is image channel n phase e =
     let h = no_and (nat_eq channel link0_input && nat_eq n (4 * image.packet)) (nat_eq (phase_number phase) 0) e in
     let k = no_and (nat_eq channel link0_input) (nat_eq n (4 * image.packet)) h.0 in
     (grind (arith, nat_tests, k.1), first_phase phase h.1)
 
-pub result_is : (image : ImageValue) (channel n : ℕ) (phase : Phase) → (nat_eq channel link0_output && nat_eq n (4 * image.result) && nat_eq (phase_number phase) 1) ≡ true → (n ≡ 4 * image.result) × (phase ≡ BeforeResult)
+pub result_is : (image : ImageValue) (channel n : ℕ) (phase : Phase) →
+    (nat_eq channel link0_output && nat_eq n (4 * image.result) && nat_eq (phase_number phase) 1) ≡ true →
+    (n ≡ 4 * image.result) × (phase ≡ BeforeResult)
 result_is image channel n phase e =
     let h = no_and (nat_eq channel link0_output && nat_eq n (4 * image.result)) (nat_eq (phase_number phase) 1) e in
     let k = no_and (nat_eq channel link0_output) (nat_eq n (4 * image.result)) h.0 in
     (grind (arith, nat_tests, k.1), second_phase phase h.1)
 
-pub is_packet_at : (image : ImageValue) (m : Machine) (p : Messages) (channel n : ℕ) (phase : Phase) (b : Bool) → p.phase ≡ phase → b ≡ (nat_eq channel link0_input && nat_eq n (4 * image.packet) && nat_eq (phase_number phase) 0) → is_packet image channel n (state_of m p) ≡ b
+pub is_packet_at : (image : ImageValue) (m : Machine) (p : Messages) (channel n : ℕ) (phase : Phase) (b : Bool) →
+    p.phase ≡ phase → b ≡ (nat_eq channel link0_input && nat_eq n (4 * image.packet) && nat_eq (phase_number phase) 0) →
+    is_packet image channel n (state_of m p) ≡ b
 is_packet_at image m p channel n phase b is e = rw is (sym e)
 
-pub is_result_at : (image : ImageValue) (m : Machine) (p : Messages) (channel n : ℕ) (phase : Phase) (b : Bool) → p.phase ≡ phase → b ≡ (nat_eq channel link0_output && nat_eq n (4 * image.result) && nat_eq (phase_number phase) 1) → is_result image channel n (state_of m p) ≡ b
+pub is_result_at : (image : ImageValue) (m : Machine) (p : Messages) (channel n : ℕ) (phase : Phase) (b : Bool) →
+    p.phase ≡ phase → b ≡ (nat_eq channel link0_output && nat_eq n (4 * image.result) && nat_eq (phase_number phase) 1) →
+    is_result image channel n (state_of m p) ≡ b
 is_result_at image m p channel n phase b is e = rw is (sym e)
 
 -- ---- in, on a machine
 
-module _ (image : ImageValue) (m : Machine) (n channel target : ℕ) (a_is : m.areg ≡ Some n) (b_is : m.breg ≡ Some channel) (c_is : m.creg ≡ Some target) (inside : in_workspace image target n ≡ true) (place : in_workspace image (m.wptr - 20) 20 ≡ true) (before now : Devices) (p : Messages) (h : HasExchanged image before BeforePacket p now) (n_is : n ≡ 4 * image.packet) (test : is_packet image channel n (state_of m p) ≡ true) where
+module _ (image : ImageValue) (m : Machine) (n channel target : ℕ) (a_is : m.areg ≡ Some n)
+    (b_is : m.breg ≡ Some channel) (c_is : m.creg ≡ Some target) (inside : in_workspace image target n ≡ true)
+    (place : in_workspace image (m.wptr - 20) 20 ≡ true) (before now : Devices) (p : Messages)
+    (h : HasExchanged image before BeforePacket p now) (n_is : n ≡ 4 * image.packet)
+    (test : is_packet image channel n (state_of m p) ≡ true) where
   after_input : Messages
   after_input = record p { phase = BeforeResult; to_come = drop n p.to_come }
 
-  input_leads : effect image Input (state_of m p) ≡ Some (record (state_of m p) { areg = None; breg = None; creg = None; memory = undefined (with_bytes (memory_of m.defined m.bytes) target (take n p.to_come)) (m.wptr - 20) 20; phase = 1; to_come = drop n p.to_come })
+  input_leads : effect image Input (state_of m p) ≡ Some
+      (record (state_of m p) {
+        areg = None;
+        breg = None;
+        creg = None;
+        memory = undefined (with_bytes (memory_of m.defined m.bytes) target (take n p.to_come)) (m.wptr - 20) 20;
+        phase = 1;
+        to_come = drop n p.to_come;
+      })
   input_leads =
       let long = to_come_length image before now p h in
       input_made image (state_of m p) n channel target a_is b_is c_is test (omega arith) inside place
 
   pub input_refused : (code : DeviceFault) (source : DeviceState) → 0 < n → MayAnswerReceive now.source n (Err code) → source ≡ after_receive now.source n (Err code)
       → (t : State) × (effect image Input (state_of m p) ≡ Some t) × (RefusedReceive p.to_come t.to_come code now.source source × (record now { source = source } ≡ record now { source = source }))
-  input_refused code source some may is =
-      (_, input_leads, (refused_receive image before now p h _ code source (ap (λ k. drop k p.to_come) n_is) (omega arith) (subst (λ k. MayAnswerReceive now.source k (Err code)) n_is may) (subst (λ k. source ≡ after_receive now.source k (Err code)) n_is is), refl))
+  input_refused code source some may is = (
+    _,
+    input_leads,
+    (
+      refused_receive image before now p h _ code source (ap (λ k. drop k p.to_come) n_is)
+          (omega arith) (subst (λ k. MayAnswerReceive now.source k (Err code)) n_is may)
+          (subst (λ k. source ≡ after_receive now.source k (Err code)) n_is is),
+      refl,
+    ),
+  )
 
   pub input_received : (source : DeviceState) (m1 m2 : Machine) → MayAnswerReceive now.source n (Ok tt) → source ≡ after_receive now.source n (Ok tt)
       → m1 ≡ record m { bytes = m1.bytes; defined = m1.defined }
@@ -173,10 +220,24 @@ module _ (image : ImageValue) (m : Machine) (n channel target : ℕ) (a_is : m.a
       let same : m2 ≡ record m { areg = None; breg = None; creg = None; bytes = m1.bytes; defined = m2.defined } =
       let lost : Machine → Machine = λ x. record x { areg = None; breg = None; creg = None; defined = m2.defined } in
       same2 ∙ ap lost same1 in
-      let lands : state_of m2 after_input ≡ record (state_of m p) { areg = None; breg = None; creg = None; memory = undefined (with_bytes (memory_of m.defined m.bytes) target (take n p.to_come)) (m.wptr - 20) 20; phase = 1; to_come = drop n p.to_come } =
+      let lands : state_of m2 after_input ≡ record (state_of m p) {
+        areg = None;
+        breg = None;
+        creg = None;
+        memory = undefined
+            (with_bytes (memory_of m.defined m.bytes) target (take n p.to_come)) (m.wptr - 20) 20;
+        phase = 1;
+        to_come =
+            drop n p.to_come;
+      } =
       let over : Memory → State = λ x. record (state_of m2 after_input) { memory = x } in
-      ap over memory ∙ rw (same, h.phase_is) refl in
-      (after_input, input_leads ∙ ap Some (sym lands), subst (λ k. HasExchanged image before BeforeResult (record p { phase = BeforeResult; to_come = drop k p.to_come }) (record now { source = source })) (sym n_is) (standing_received image before now p h source can' is'))
+      ap over memory ∙ rw (same, h.phase_is) refl in (
+        after_input,
+        input_leads ∙ ap Some (sym lands),
+        subst
+            (λ k. HasExchanged image before BeforeResult (record p { phase = BeforeResult; to_come = drop k p.to_come })
+            (record now { source = source })) (sym n_is) (standing_received image before now p h source can' is'),
+      )
 
 -- ---- out, on a machine
 
@@ -190,7 +251,10 @@ module _ (image : ImageValue) (s t : State) (n channel source : ℕ) (message : 
   pub output_other : is_result image channel n t ≡ false → is_trace channel n ≡ false → effect image Output s ≡ None
   output_other test trace = leads ∙ rw (long, test, trace) refl
 
-module _ (image : ImageValue) (m m1 : Machine) (n channel source : ℕ) (message : List ℕ) (a_is : m.areg ≡ Some n) (b_is : m.breg ≡ Some channel) (c_is : m.creg ≡ Some source) (inside : in_workspace image source n ≡ true) (place : (p : Messages) → descheduled image (state_of m p) ≡ Some (state_of m1 p)) (read : bytes_at (memory_of m1.defined m1.bytes) source n ≡ Some message) (long : length message ≡ n) where
+module _ (image : ImageValue) (m m1 : Machine) (n channel source : ℕ) (message : List ℕ) (a_is : m.areg ≡ Some n)
+    (b_is : m.breg ≡ Some channel) (c_is : m.creg ≡ Some source) (inside : in_workspace image source n ≡ true)
+    (place : (p : Messages) → descheduled image (state_of m p) ≡ Some (state_of m1 p))
+    (read : bytes_at (memory_of m1.defined m1.bytes) source n ≡ Some message) (long : length message ≡ n) where
   output_leads : (p : Messages) → effect image Output (state_of m p) ≡ sent_on image channel message (state_of m1 p)
   output_leads p = output_sends image (state_of m p) (state_of m1 p) n channel source message a_is b_is c_is inside (place p) read
 
@@ -204,24 +268,40 @@ module _ (image : ImageValue) (m m1 : Machine) (n channel source : ℕ) (message
       result_sent sink may is =
           let second = (result_is image channel n phase test).1 in
           let h' = subst (λ phase. HasExchanged image before phase p now) second h in
-          let here : is_result image channel n (state_of m1 p) ≡ true = is_result_at image m1 p channel n phase true h.phase_is (sym test) in
-          (record p { phase = AfterResult; sent = p.sent ++ message }, output_result image (state_of m p) (state_of m1 p) n channel source message (output_leads p) long here ∙ rw h'.phase_is refl, standing_sent image before now p message sink h' (sym (may.plainly refl)) is)
+          let here : is_result image channel n (state_of m1 p) ≡ true = is_result_at image m1 p channel n phase true h.phase_is (sym test) in (
+            record p { phase = AfterResult; sent = p.sent ++ message },
+            output_result image (state_of m p) (state_of m1 p) n channel source message (output_leads p) long here ∙
+                rw h'.phase_is refl,
+            standing_sent image before now p message sink h' (sym (may.plainly refl)) is,
+          )
 
       pub result_refused : (code : DeviceFault) (sink : DeviceState) → MayAnswerSend now.sink message (Err code) → sink ≡ after_send now.sink message (Err code)
           → (t : State) × (effect image Output (state_of m p) ≡ Some t) × (RefusedSend p.sent t.sent code now.sink sink × (record now { sink = sink } ≡ record now { sink = sink }))
       result_refused code sink may is =
-          let here : is_result image channel n (state_of m1 p) ≡ true = is_result_at image m1 p channel n phase true h.phase_is (sym test) in
-          (_, output_result image (state_of m p) (state_of m1 p) n channel source message (output_leads p) long here, (record { bytes = message; some = some_bytes; sends = refl; may = may; becomes = is }, refl))
+          let here : is_result image channel n (state_of m1 p) ≡ true = is_result_at image m1 p channel n phase true h.phase_is (sym test) in (
+            _,
+            output_result image (state_of m p) (state_of m1 p) n channel source message (output_leads p) long here,
+            (record { bytes = message; some = some_bytes; sends = refl; may = may; becomes = is }, refl),
+          )
 
     module _ (test : (nat_eq channel link0_output && nat_eq n (4 * image.result) && nat_eq (phase_number phase) 1) ≡ false) (is_it : is_trace channel n ≡ true) where
       pub trace_sent : (trace : DeviceState) → MayAnswerSend now.trace message (Ok tt) → trace ≡ after_send now.trace message (Ok tt)
           → (q : Messages) × (effect image Output (state_of m p) ≡ Some (state_of m1 q)) × HasExchanged image before phase q (record now { trace = trace })
       trace_sent trace may is =
-          let here : is_result image channel n (state_of m1 p) ≡ false = is_result_at image m1 p channel n phase false h.phase_is (sym test) in
-          (record p { traced = p.traced ++ message }, output_trace image (state_of m p) (state_of m1 p) n channel source message (output_leads p) long here is_it, standing_traced image before now phase p message trace h (sym (may.plainly refl)) is)
+          let here : is_result image channel n (state_of m1 p) ≡ false = is_result_at image m1 p channel n phase false h.phase_is (sym test) in (
+            record p { traced = p.traced ++ message },
+            output_trace image (state_of m p) (state_of m1 p) n channel source
+                message (output_leads p) long here is_it,
+            standing_traced image before now phase p message trace h
+                (sym (may.plainly refl)) is,
+          )
 
       pub trace_refused : (code : DeviceFault) (trace : DeviceState) → MayAnswerSend now.trace message (Err code) → trace ≡ after_send now.trace message (Err code)
           → (t : State) × (effect image Output (state_of m p) ≡ Some t) × (RefusedSend p.traced t.traced code now.trace trace × (record now { trace = trace } ≡ record now { trace = trace }))
       trace_refused code trace may is =
-          let here : is_result image channel n (state_of m1 p) ≡ false = is_result_at image m1 p channel n phase false h.phase_is (sym test) in
-          (_, output_trace image (state_of m p) (state_of m1 p) n channel source message (output_leads p) long here is_it, (record { bytes = message; some = some_bytes; sends = refl; may = may; becomes = is }, refl))
+          let here : is_result image channel n (state_of m1 p) ≡ false = is_result_at image m1 p channel n phase false h.phase_is (sym test) in (
+            _,
+            output_trace image (state_of m p) (state_of m1 p) n channel source message (output_leads p) long here
+                is_it,
+            (record { bytes = message; some = some_bytes; sends = refl; may = may; becomes = is }, refl),
+          )

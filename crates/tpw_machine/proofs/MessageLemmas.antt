@@ -9,12 +9,15 @@ use Rattle.tpw_machine.specs.Meaning.{memory_of}
 use Rattle.tpw_machine.proofs.BytesLemmas.{defined_byte, undefined_byte}
 
 -- bytes whose tags are all set are read
-pub all_defined : (d : List Bool) (m : List ℕ) (n i x : ℕ) → x ≡ mem_start + i → i + n ≤ length m → ((k : ℕ) → k < n → slice_index_or d (i + k) false ≡ true) → bytes_at (memory_of d m) x n ≡ Some (take n (drop i m))
+pub all_defined : (d : List Bool) (m : List ℕ) (n i x : ℕ) → x ≡ mem_start + i → i + n ≤ length m →
+    ((k : ℕ) → k < n → slice_index_or d (i + k) false ≡ true) → bytes_at (memory_of d m) x n ≡ Some (take n (drop i m))
 unfolding bytes_at
 all_defined d m zero i x x_is within tags = refl
 all_defined d m (suc n) i x x_is within tags =
     let here : slice_index_or d i false ≡ true = let same : i + 0 ≡ i = omega arith in subst (λ j. slice_index_or d j false ≡ true) same (tags 0 (omega arith)) in
-    let rest = all_defined d m n (i + 1) (x + 1) (omega arith) (omega arith) (λ k lt. let same : i + suc k ≡ i + 1 + k = omega arith in subst (λ j. slice_index_or d j false ≡ true) same (tags (suc k) (omega arith))) in
+    let rest = all_defined d m n (i + 1) (x + 1) (omega arith) (omega arith)
+    (λ k lt. let same : i + suc k ≡ i + 1 + k = omega arith in
+    subst (λ j. slice_index_or d j false ≡ true) same (tags (suc k) (omega arith))) in
     rw (defined_byte d m x i x_is here, rest, drop_more m i 0 (omega arith))
 
 -- bytes with a tag that is not set are not

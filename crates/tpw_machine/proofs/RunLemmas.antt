@@ -42,7 +42,9 @@ begins image before m phase =
     }
 
 module _ (image : ImageValue) (first : State) (before : Devices) where
-  pub goes_on : (n : ℕ) (m m' : Machine) (phase later : Phase) (now after : Devices) → HasReached image first before n m phase now → Turned image (step image) (state_of m) (state_of m') phase later now after turn.Made → HasReached image first before (n + 1) m' later after
+  pub goes_on : (n : ℕ) (m m' : Machine) (phase later : Phase) (now after : Devices) →
+      HasReached image first before n m phase now → Turned image (step image) (state_of m) (state_of m') phase later now
+      after turn.Made → HasReached image first before (n + 1) m' later after
   unfolding steps
   goes_on n m m' phase later now after h turned =
       let r = turned before h.messages h.standing in
@@ -58,7 +60,9 @@ module _ (image : ImageValue) (first : State) (before : Devices) where
     devices = record { source = h.standing.source; sink = h.standing.sink; trace = h.standing.trace };
   }
 
-  pub has_ended_here : (limit : ℕ) (now : Devices) (n : ℕ) (m : Machine) (phase : Phase) → phase ≡ Stopped → n ≤ limit → HasReached image first before n m phase now → Resumed image first limit before now m phase (Ok (record { error = m.error; steps = n }))
+  pub has_ended_here : (limit : ℕ) (now : Devices) (n : ℕ) (m : Machine) (phase : Phase) → phase ≡ Stopped → n ≤ limit →
+      HasReached image first before n m phase now → Resumed image first limit before now m phase
+      (Ok (record { error = m.error; steps = n }))
   has_ended_here limit now n m phase last within h = (
     record {
       state = state_of m h.messages;
@@ -70,7 +74,10 @@ module _ (image : ImageValue) (first : State) (before : Devices) where
     h,
   )
 
-  pub is_stuck_here : (limit : ℕ) (now after : Devices) (n : ℕ) (m m' : Machine) (phase later : Phase) (address : ℕ) → (phase ≡ Stopped → ⊥) → n < limit → HasReached image first before n m phase now → Turned image (step image) (state_of m) (state_of m') phase later now after turn.Stuck → address ≡ low_word m.iptr → Resumed image first limit before after m' later (Err (fault.Stuck address))
+  pub is_stuck_here : (limit : ℕ) (now after : Devices) (n : ℕ) (m m' : Machine) (phase later : Phase) (address : ℕ) →
+      (phase ≡ Stopped → ⊥) → n < limit → HasReached image first before n m phase now →
+      Turned image (step image) (state_of m) (state_of m') phase later now after turn.Stuck → address ≡ low_word m.iptr →
+      Resumed image first limit before after m' later (Err (fault.Stuck address))
   is_stuck_here limit now after n m m' phase later address going within h turned place = (
     record {
       count = n;
@@ -83,7 +90,10 @@ module _ (image : ImageValue) (first : State) (before : Devices) where
     tt,
   )
 
-  pub is_refused_here : (limit : ℕ) (now after : Devices) (n : ℕ) (m m' : Machine) (phase later : Phase) (f : LinkFault) → n < limit → HasReached image first before n m phase now → Turned image (step image) (state_of m) (state_of m') phase later now after (turn.Refused f) → Resumed image first limit before after m' later (Err (fault.Link f))
+  pub is_refused_here : (limit : ℕ) (now after : Devices) (n : ℕ) (m m' : Machine) (phase later : Phase) (f : LinkFault)
+      → n < limit → HasReached image first before n m phase now →
+      Turned image (step image) (state_of m) (state_of m') phase later now after (turn.Refused f) →
+      Resumed image first limit before after m' later (Err (fault.Link f))
   is_refused_here limit now after n m m' phase later f within h turned =
       let r = turned before h.messages h.standing in (
         record {
@@ -99,7 +109,8 @@ module _ (image : ImageValue) (first : State) (before : Devices) where
         tt,
       )
 
-  is_out_of_steps : (limit : ℕ) (now : Devices) (m : Machine) (phase : Phase) → (phase ≡ Stopped → ⊥) → HasReached image first before limit m phase now → Resumed image first limit before now m phase (Err fault.Limit)
+  is_out_of_steps : (limit : ℕ) (now : Devices) (m : Machine) (phase : Phase) → (phase ≡ Stopped → ⊥) →
+      HasReached image first before limit m phase now → Resumed image first limit before now m phase (Err fault.Limit)
   is_out_of_steps limit now m phase going h = (
     record {
       state = state_of m h.messages;
@@ -110,17 +121,29 @@ module _ (image : ImageValue) (first : State) (before : Devices) where
   )
 
   -- the same, where as many steps as the limit were made
-  pub has_ended_last : (limit : ℕ) (now : Devices) (n : ℕ) (m : Machine) (phase : Phase) → n ≡ limit → phase ≡ Stopped → HasReached image first before n m phase now → Resumed image first limit before now m phase (Ok (record { error = m.error; steps = limit }))
+  pub has_ended_last : (limit : ℕ) (now : Devices) (n : ℕ) (m : Machine) (phase : Phase) → n ≡ limit → phase ≡ Stopped →
+      HasReached image first before n m phase now → Resumed image first limit before now m phase
+      (Ok (record { error = m.error; steps = limit }))
   has_ended_last limit now n m phase all last h = has_ended_here limit now limit m phase last (omega arith) (subst (λ k. HasReached image first before k m phase now) all h)
 
-  pub is_out_last : (limit : ℕ) (now : Devices) (n : ℕ) (m : Machine) (phase : Phase) → n ≡ limit → (phase ≡ Stopped → ⊥) → HasReached image first before n m phase now → Resumed image first limit before now m phase (Err fault.Limit)
+  pub is_out_last : (limit : ℕ) (now : Devices) (n : ℕ) (m : Machine) (phase : Phase) → n ≡ limit →
+      (phase ≡ Stopped → ⊥) → HasReached image first before n m phase now →
+      Resumed image first limit before now m phase (Err fault.Limit)
   is_out_last limit now n m phase all going h = is_out_of_steps limit now m phase going (subst (λ k. HasReached image first before k m phase now) all h)
 
 -- a run that goes on from an image's start is the run of the packet that the source holds
-pub from_the_start : (image : ImageValue) (limit : ℕ) (before after : Devices) (m m' : Machine) (later : Phase) (answer : Result Outcome RunFault) → ((packet : List ℕ) → state_of m (record { phase = BeforePacket; to_come = packet; sent = []; traced = [] }) ≡ start image packet) → Resumed image (state_of m (nothing_sent image BeforePacket before.source)) limit before after m' later answer → Answered image limit before after answer
+pub from_the_start : (image : ImageValue) (limit : ℕ) (before after : Devices) (m m' : Machine) (later : Phase)
+    (answer : Result Outcome RunFault) → ((packet : List ℕ) →
+    state_of m (record { phase = BeforePacket; to_come = packet; sent = []; traced = [] }) ≡ start image packet) →
+    Resumed image (state_of m (nothing_sent image BeforePacket before.source)) limit before after m' later answer →
+    Answered image limit before after answer
 from_the_start image limit before after m m' later answer starts resumed =
     subst (λ first. AnsweredFrom image first limit before after answer) (starts (packet_of image before.source)) resumed.0
 
-pub left_standing : (image : ImageValue) (limit : ℕ) (before after : Devices) (m m' : Machine) (later : Phase) (answer : Result Outcome RunFault) → ((packet : List ℕ) → state_of m (record { phase = BeforePacket; to_come = packet; sent = []; traced = [] }) ≡ start image packet) → Resumed image (state_of m (nothing_sent image BeforePacket before.source)) limit before after m' later answer → LeavesMachine image limit before after m' answer
+pub left_standing : (image : ImageValue) (limit : ℕ) (before after : Devices) (m m' : Machine) (later : Phase)
+    (answer : Result Outcome RunFault) → ((packet : List ℕ) →
+    state_of m (record { phase = BeforePacket; to_come = packet; sent = []; traced = [] }) ≡ start image packet) →
+    Resumed image (state_of m (nothing_sent image BeforePacket before.source)) limit before after m' later answer →
+    LeavesMachine image limit before after m' answer
 left_standing image limit before after m m' later answer starts resumed =
     (later, subst (λ first. HasReachedBy image first limit before after m' later answer) (starts (packet_of image before.source)) resumed.1)

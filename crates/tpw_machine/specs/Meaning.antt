@@ -1,5 +1,6 @@
 -- The state that a machine stands for, and how a method's effect on the machine is one on states.
-use Rattle.std.specs.Prelude.{◌≡◌, ℕ, ◌*◌, ◌-◌, Bool, true, false, nat_le, if◌then◌else◌, List, length, Option, Some, None, slice_index, slice_index_or}
+use Rattle.std.specs.Prelude.{◌≡◌, ℕ, ◌*◌, ◌-◌, Bool, true, false, nat_le, if◌then◌else◌, List, length, Option, Some}
+use Rattle.std.specs.Prelude.{None, slice_index, slice_index_or}
 use Rattle.tp_image.specs.Image.{ImageValue}
 use Rattle.tp_step.specs.Memory.{Memory}
 use Rattle.tp_step.specs.State.{State, mem_start}

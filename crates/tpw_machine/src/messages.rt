@@ -1,7 +1,8 @@
 //! The instructions that move messages, and the end: each effect is that of the instruction table.
 #![tactic(auto, using(tp_outcome::proofs::Casts::casts), unfolding(tp_step::specs::Effects::effect))]
 
-ghost use Rattle.std.specs.Prelude.{◌≡◌, ◌+◌, ◌-◌, ◌*◌, ◌==◌, ◌≤◌, ◌<◌, ◌&&◌, true, if◌then◌else◌, Some, None, Ok, take, drop, MatchResult};
+ghost use Rattle.std.specs.Prelude.{◌≡◌, ◌+◌, ◌-◌, ◌*◌, ◌==◌, ◌≤◌, ◌<◌, ◌&&◌, true, if◌then◌else◌, Some, None, Ok};
+ghost use Rattle.std.specs.Prelude.{take, drop, MatchResult};
 ghost use Rattle.tp_decode.specs.declared.instr.Instr.TheVariants.{Input, Output, MoveBytes};
 ghost use Rattle.tp_link.specs.Device.{after_receive, MayAnswerReceive};
 ghost use Rattle.tp_step.specs.Memory.{bytes_at, with_bytes};

@@ -18,9 +18,9 @@ impl Machine {
 
     /// Runs one packet, from the image's start, whatever ran before, to the worker's end.
     ///
-    /// The packet is received from the source; a message on link 0 is sent to the sink, and one on link 1 to the trace. Where a
-    /// device refuses a call the run ends with that fault, and earlier messages stay sent. No more than `limit` instruction
-    /// bytes are executed. After an outcome, and at the limit, the machine is where the steps have led.
+    /// The packet is received from the source; a message on link 0 is sent to the sink, and one on link 1 to the trace.
+    /// Where a device refuses a call the run ends with that fault, and earlier messages stay sent. No more than `limit`
+    /// instruction bytes are executed. After an outcome, and at the limit, the machine is where the steps have led.
     pub fn run_image<D: LinkDevice>(
         &mut self,
         image: &Image,
@@ -42,9 +42,9 @@ impl Machine {
     /// Goes on from where the machine is, with the worker in this phase. A debugger or a test uses it, which has set
     /// the registers and the workspace; [`Machine::run_image`] is this from an image's start.
     ///
-    /// What [`Machine::run_image`] says of devices, faults and the limit holds here too, counted from here. After an outcome,
-    /// and at the limit, the machine and the phase are where the steps have led. After another fault they are left between
-    /// two states.
+    /// What [`Machine::run_image`] says of devices, faults and the limit holds here too, counted from here. After an
+    /// outcome, and at the limit, the machine and the phase are where the steps have led. After another fault they are
+    /// left between two states.
     pub fn resume<D: LinkDevice>(
         &mut self,
         image: &Image,

@@ -65,7 +65,8 @@ impl Machine {
         }
     }
 
-    /// The start of a packet's run, whatever ran before: with it goes [`Phase::BeforePacket`](crate::Phase::BeforePacket).
+    /// The start of a packet's run, whatever ran before: with it goes
+    /// [`Phase::BeforePacket`](crate::Phase::BeforePacket).
     #[tactic(auto, unfolding(tp_step::specs::Runs::start))]
     pub fn start(&mut self, image: &Image)
         ensures { (packet : List ℕ) → state_of self.new record {

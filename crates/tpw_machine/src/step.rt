@@ -130,8 +130,8 @@ impl Machine {
         self.oreg = 0;
     }
 
-    /// One instruction byte, while the worker has not stopped: a step of the step relation. A prefix is one, and leaves Oreg
-    /// for the byte after it.
+    /// One instruction byte, while the worker has not stopped: a step of the step relation. A prefix is one, and leaves
+    /// Oreg for the byte after it.
     ///
     /// Where it is made, the machine and the phase stand for the state after it, and the devices have the bytes that it
     /// moved. Where none exists, the machine is left between two states, and the devices as they were.

@@ -10,16 +10,16 @@ use tpw_asm::AssemblyFault;
 #[derive(Clone, Copy, Debug, PartialEq, Eq, Error)]
 pub enum CodeFault {
     /// More loops of more than one turn than an image has rows for.
-    #[error("line {line}: more than 16 replicated SEQs of more than one turn")]
+    #[error("more than 16 replicated SEQs of more than one turn")]
     Loops { line: u32 },
     /// A loop that lies within four others.
-    #[error("line {line}: more than four replicated SEQs within one another")]
+    #[error("more than four replicated SEQs within one another")]
     Depth { line: u32 },
     /// More words than a workspace has, from this line on.
-    #[error("line {line}: more than 512 workspace words")]
+    #[error("more than 512 workspace words, from this line on")]
     Workspace { line: u32 },
     /// More code bytes than an image has, from this line on.
-    #[error("line {line}: more than 8,192 code bytes")]
+    #[error("more than 8,192 code bytes, from this line on")]
     Code { line: u32 },
     /// The program that was made has no image: a fault of the compiler.
     #[error("a fault of the compiler: {0}")]

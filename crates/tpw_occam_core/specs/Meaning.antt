@@ -1,5 +1,7 @@
 -- What a worker means: of a packet it makes a result, an error flag and traces, or the packet is lost for its traces.
-use Rattle.std.specs.Prelude.{◌≡◌, ℕ, zero, suc, Bool, true, false, ◌||◌, ◌==◌, nat_lt, if◌then◌else◌, pos, ◌+ℤ◌, List, [], ◌∷◌, ◌++◌, length, map, replicate, slice_index, slice_index_or, slice_set, Option, Some, None}
+use Rattle.std.specs.Prelude.{◌≡◌, ℕ, zero, suc, Bool, true, false, ◌||◌, ◌==◌, nat_lt, if◌then◌else◌, pos, ◌+ℤ◌, List}
+use Rattle.std.specs.Prelude.{[], ◌∷◌, ◌++◌, length, map, replicate, slice_index, slice_index_or, slice_set, Option}
+use Rattle.std.specs.Prelude.{Some, None}
 use Rattle.std.specs.Int.{w32, to_le_bytes}
 use Rattle.tp_decode.specs.Words.{low_word, complement}
 use Rattle.tp_step.specs.Numbers.{truth}
@@ -7,7 +9,9 @@ use Rattle.tpw_occam_core.specs.declared.kind.Kind.{Kind}
 use Rattle.tpw_occam_core.specs.declared.kind.Kind.TheVariants.{Word, Byte}
 use Rattle.tpw_occam_core.specs.declared.arithmetic.Answer.{Answer}
 use Rattle.tpw_occam_core.specs.declared.expression.Expression.{Expression}
-use Rattle.tpw_occam_core.specs.declared.expression.Expression.TheVariants.{Constant, Variable, Element', Checked', Binary', Complement', Not', LowByte', And', Or', Let'}
+use Rattle.tpw_occam_core.specs.declared.expression.Expression.TheVariants.{Constant, Variable, Element', Checked'}
+use Rattle.tpw_occam_core.specs.declared.expression.Expression.TheVariants.{Binary', Complement', Not', LowByte', And'}
+use Rattle.tpw_occam_core.specs.declared.expression.Expression.TheVariants.{Or', Let'}
 use Rattle.tpw_occam_core.specs.declared.process.Target.{Target}
 use Rattle.tpw_occam_core.specs.declared.process.Target.TheVariants as target
 use Rattle.tpw_occam_core.specs.declared.process.Assignment.{Assignment}
@@ -54,7 +58,8 @@ followed a next = answer (next a.word).word (a.flag || (next a.word).flag)
 
 -- the element of an array at a subscript, checked
 abbrev pub element_at : Kind → List ℕ → ℕ → Answer
-element_at kind bytes i = answer (element kind bytes (subscript (size kind bytes) i).word) (subscript (size kind bytes) i).flag
+element_at kind bytes i = answer (element kind bytes (subscript (size kind bytes) i).word)
+    (subscript (size kind bytes) i).flag
 
 -- the right operand counts only where the left is TRUE, or only where it is FALSE
 abbrev pub both : ℕ → Answer → Answer

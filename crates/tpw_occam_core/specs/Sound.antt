@@ -1,12 +1,15 @@
--- What the core of a worker owes to whoever compiles it: each name is declared where it is used, once, and used as what it is; sizes, turns
--- and messages are such as an image can have.
-use Rattle.std.specs.Prelude.{ℕ, ◌+◌, ◌*◌, ◌/◌, ◌%◌, ◌^◌, Bool, true, false, not, ◌&&◌, ◌||◌, ◌==◌, nat_lt, nat_le, pos, ◌+ℤ◌, int_lt, List, [], ◌∷◌, ◌++◌, length, map, slice_index_or, IsTrue}
+-- What the core of a worker owes to whoever compiles it: each name is declared where it is used, once, and used as what
+-- it is; sizes, turns and messages are such as an image can have.
+use Rattle.std.specs.Prelude.{ℕ, ◌+◌, ◌*◌, ◌/◌, ◌%◌, ◌^◌, Bool, true, false, not, ◌&&◌, ◌||◌, ◌==◌, nat_lt, nat_le, pos}
+use Rattle.std.specs.Prelude.{◌+ℤ◌, int_lt, List, [], ◌∷◌, ◌++◌, length, map, slice_index_or, IsTrue}
 use Rattle.std.specs.List.{list_all, list_any}
 use Rattle.tp_decode.specs.Words.{signed}
 use Rattle.tpw_occam_core.specs.declared.kind.Kind.{Kind}
 use Rattle.tpw_occam_core.specs.declared.kind.Kind.TheVariants.{Word, Byte}
 use Rattle.tpw_occam_core.specs.declared.expression.Expression.{Expression}
-use Rattle.tpw_occam_core.specs.declared.expression.Expression.TheVariants.{Constant, Variable, Element', Checked', Binary', Complement', Not', LowByte', And', Or', Let'}
+use Rattle.tpw_occam_core.specs.declared.expression.Expression.TheVariants.{Constant, Variable, Element', Checked'}
+use Rattle.tpw_occam_core.specs.declared.expression.Expression.TheVariants.{Binary', Complement', Not', LowByte', And'}
+use Rattle.tpw_occam_core.specs.declared.expression.Expression.TheVariants.{Or', Let'}
 use Rattle.tpw_occam_core.specs.declared.process.Target.{Target}
 use Rattle.tpw_occam_core.specs.declared.process.Target.TheVariants as target
 use Rattle.tpw_occam_core.specs.declared.process.Assignment.{Assignment}

@@ -2,7 +2,8 @@
 #![tactic(auto, using(tp_outcome::proofs::Casts::casts))]
 
 ghost use Rattle.std.specs.Prelude.{◌≡◌};
-ghost use Rattle.tpw_occam_core.specs.Arithmetic.{answer, plain, subscript, quotient_answer, shifted_left, shifted_right, applied, low_byte};
+ghost use Rattle.tpw_occam_core.specs.Arithmetic.{answer, plain, subscript, quotient_answer, shifted_left};
+ghost use Rattle.tpw_occam_core.specs.Arithmetic.{shifted_right, applied, low_byte};
 
 use crate::expression::Operator;
 use tp_outcome::words::{

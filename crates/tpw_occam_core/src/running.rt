@@ -1,7 +1,8 @@
 //! An evaluator of processes.
 
 ghost use Rattle.std.specs.Prelude.{◌≡◌, ◌<◌, length, replicate, IfOk, OnOk, Err};
-ghost use Rattle.tpw_occam_core.specs.Meaning.{subscript_of, stored, assigned, bytes_of, flag_of, traced, run, most_traced};
+ghost use Rattle.tpw_occam_core.specs.Meaning.{subscript_of, stored, assigned, bytes_of, flag_of, traced, run};
+ghost use Rattle.tpw_occam_core.specs.Meaning.{most_traced};
 
 use crate::arithmetic::{Answer, checked_subscript, plain};
 use crate::arrays::{kept, size};

@@ -2,7 +2,10 @@
 
 ghost use Rattle.std.specs.Prelude.{◌≡◌, ◌++◌, ◌∷◌, [], nat_lt, IfOk, OnOk};
 ghost use Rattle.std.specs.List.{list_all};
-ghost use Rattle.tpw_occam_core.specs.Sound.{storage_of, bytes_of, is_table, is_seen, is_written, is_new_array, is_message, is_sized, are_turns, is_word, is_sound_expression, is_sound_target, is_sound_assignment, is_sound_message, is_sound_process, is_sound_place, globals, are_declared, is_sound};
+ghost use Rattle.tpw_occam_core.specs.Sound.{storage_of, bytes_of, is_table, is_seen, is_written, is_new_array};
+ghost use Rattle.tpw_occam_core.specs.Sound.{is_message, is_sized, are_turns, is_word, is_sound_expression};
+ghost use Rattle.tpw_occam_core.specs.Sound.{is_sound_target, is_sound_assignment, is_sound_message, is_sound_process};
+ghost use Rattle.tpw_occam_core.specs.Sound.{is_sound_place, globals, are_declared, is_sound};
 
 use crate::expression::Expression;
 use crate::kind::Kind;
@@ -171,7 +174,8 @@ fn are_sound_assignments(
     scope: &mut Vec<Entry>,
     list: &[Assignment],
 ) -> Result<bool, AllocError>
-    ensures sound { IfOk result (λ sound. sound ≡ list_all (is_sound_assignment count storages.now scope.old.items) list.now) }
+    ensures sound { IfOk result (λ sound. sound ≡ list_all (is_sound_assignment count storages.now scope.old.items)
+        list.now) }
     ensures same { OnOk result (scope.new.items ≡ scope.old.items) }
 {
     match list {
@@ -207,7 +211,8 @@ fn is_sound_within(
     entry: Entry,
     body: &Process,
 ) -> Result<bool, AllocError>
-    ensures sound { IfOk result (λ sound. sound ≡ is_sound_process count storages.now (scope.old.items ++ entry ∷ []) body.now) }
+    ensures sound { IfOk result (λ sound. sound ≡ is_sound_process count storages.now (scope.old.items ++ entry ∷ [])
+        body.now) }
     ensures same { OnOk result (scope.new.items ≡ scope.old.items) }
 {
     scope.push(entry)?;

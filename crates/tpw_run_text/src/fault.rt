@@ -12,7 +12,7 @@ pub enum PacketKind {
     /// The line is a message in hexadecimal, where words are read.
     #[error("this is hexadecimal as it is sent, and numbers are wanted: --hex-packets and --hex-expect read it")]
     Hexadecimal,
-    /// The line has so many words, and not as many as are wanted.
+    /// The line has another number of words than a message.
     #[error("{found} words, and {wanted} are wanted")]
     Length { found: usize, wanted: usize },
     /// The line is no field of so many hexadecimal digits.

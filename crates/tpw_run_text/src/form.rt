@@ -1,6 +1,6 @@
 //! How results are shown.
 
-use tp_board::Packet;
+use tp_stream::Packet;
 
 /// How the line of a result is written.
 #[derive(Clone, Copy, Debug, PartialEq, Eq)]

@@ -9,6 +9,6 @@ mod tally;
 
 pub use fault::{PacketFault, PacketKind};
 pub use form::{Expected, Form, Style};
-pub use lines::write_entries;
+pub use lines::{write_entries, write_expected, write_message, write_trace};
 pub use packets::{Field, Notation, fields_of, packet_of, packets_of, results_of};
 pub use tally::{StepRange, Tally};

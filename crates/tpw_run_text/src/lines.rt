@@ -3,8 +3,10 @@
 ghost use Rattle.std.specs.Prelude.{◌≡◌, ◌++◌, ◌+◌, ◌^◌, ◌<◌, OnOk, length};
 ghost use Rattle.std.specs.Option.{option_map};
 ghost use Rattle.hex.specs.Hex.{encode_lower};
-ghost use Rattle.tpw_run_text.specs.Lines.{cause_text, words_text, message_text, head_text, trace_text, done_text, line_of, whole_line};
-ghost use Rattle.tpw_run_text.specs.Lines.{is_expected, expected_head, result_text, expected_text, difference_text, raw_text, entry_text, entries_text, is_other};
+ghost use Rattle.tpw_run_text.specs.Lines.{cause_text, words_text, message_text, head_text, trace_text, done_text};
+ghost use Rattle.tpw_run_text.specs.Lines.{line_of, whole_line};
+ghost use Rattle.tpw_run_text.specs.Lines.{is_expected, expected_head, result_text, expected_text, difference_text};
+ghost use Rattle.tpw_run_text.specs.Lines.{raw_text, entry_text, entries_text, is_other};
 
 use crate::form::{Expected, Form, Style};
 use std::alloc::AllocError;
@@ -50,7 +52,7 @@ fn write_words(out: &mut Vec<u8>, bytes: &[u8]) -> Result<(), AllocError>
 }
 
 /// Writes a message.
-fn write_message(out: &mut Vec<u8>, style: Style, bytes: &[u8]) -> Result<(), AllocError>
+pub fn write_message(out: &mut Vec<u8>, style: Style, bytes: &[u8]) -> Result<(), AllocError>
     ensures { OnOk result (out.new.items ≡ out.old.items ++ message_text style bytes.now) }
 {
     if style.hexadecimal {
@@ -76,7 +78,7 @@ fn write_head(
 }
 
 /// Writes a trace, where it is asked for.
-fn write_trace(out: &mut Vec<u8>, style: Style, trace: &[u8]) -> Result<(), AllocError>
+pub fn write_trace(out: &mut Vec<u8>, style: Style, trace: &[u8]) -> Result<(), AllocError>
     ensures { OnOk result (out.new.items ≡ out.old.items ++ trace_text style trace.now) }
 {
     if !style.trace {
@@ -167,7 +169,7 @@ fn write_result(out: &mut Vec<u8>, style: Style, expected: &Expected) -> Result<
 }
 
 /// Writes what was expected, on a line of its own.
-fn write_expected(
+pub fn write_expected(
     out: &mut Vec<u8>,
     style: Style,
     expected: Option<&Expected>,
@@ -181,7 +183,8 @@ fn write_expected(
     }
 }
 
-/// Writes the line of a packet whose result or error flag is not the expected one, and what was expected. Of other packets it writes nothing.
+/// Writes the line of a packet whose result or error flag is not the expected one, and what was expected. Of other
+/// packets it writes nothing.
 fn write_difference(
     out: &mut Vec<u8>,
     style: Style,
@@ -210,8 +213,8 @@ fn write_raw(out: &mut Vec<u8>, entry: &Entry) -> Result<(), AllocError>
     }
 }
 
-/// Writes what became of the packet of a number, in a form, behind what is in `out`. Where a growth is refused, part of it may be
-/// written.
+/// Writes what became of the packet of a number, in a form, behind what is in `out`. Where a growth is refused, part of
+/// it may be written.
 pub fn write_entry(
     out: &mut Vec<u8>,
     form: Form<'_>,

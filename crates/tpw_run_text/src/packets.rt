@@ -3,14 +3,15 @@
 ghost use Rattle.std.specs.Prelude.{◌≡◌, ◌≤◌, ◌*◌, All, IfOk, IfSome, OnOk, length, map};
 ghost use Rattle.std.specs.Option.{option_map};
 ghost use Rattle.std.specs.Result.{result_ok};
-ghost use Rattle.tpw_run_text.specs.Packets.{hexadecimal_said, words_said, packet_said, flag_said, said_of, result_said};
+ghost use Rattle.tpw_run_text.specs.Packets.{hexadecimal_said, words_said, packet_said, flag_said, said_of};
+ghost use Rattle.tpw_run_text.specs.Packets.{result_said};
 
 use crate::fault::{PacketFault, PacketKind};
 use crate::form::Expected;
 use std::alloc::{AllocError, Global};
-use tp_board::Packet;
 use tp_collect::limits::MESSAGE_BYTES;
 use tp_image::layout::WORD_BYTES;
+use tp_stream::Packet;
 use tpw_text::{Position, signed_of};
 
 /// How the messages of a text are written.
@@ -95,7 +96,7 @@ fn fault_of_words(fields: &[Field<'_>], bytes: usize) -> PacketKind
     }
 }
 
-/// The message of so many bytes that fields say, which begin at a place.
+/// The message of `bytes` bytes that fields say, which begin at a place.
 pub fn packet_of(
     fields: &[Field<'_>],
     place: Position,
@@ -130,7 +131,8 @@ fn flag_of(field: &Field<'_>) -> Result<bool, PacketFault>
     }
 }
 
-/// The result of so many bytes that fields say is expected, which begin at a place: `flag 1` and its message, or its message alone.
+/// The result of so many bytes that fields say is expected, which begin at a place: `flag 1` and its message, or its
+/// message alone.
 fn result_of(
     fields: &[Field<'_>],
     place: Position,
@@ -179,7 +181,7 @@ fn push_packet(
     Ok(())
 }
 
-/// The messages of so many bytes that a text says, one a line. A line without fields is passed over.
+/// The messages of `bytes` bytes that a text says, one a line. A line without fields is passed over.
 pub fn packets_of(
     alloc: Global,
     text: &str,
@@ -216,7 +218,7 @@ fn push_result(
     Ok(())
 }
 
-/// The results of so many bytes that a text says are expected, one a line. A line without fields is passed over.
+/// The results of `bytes` bytes that a text says are expected, one a line. A line without fields is passed over.
 pub fn results_of(
     alloc: Global,
     text: &str,

@@ -1,5 +1,7 @@
 -- What is shown of batches, one behind another.
-use Rattle.std.proofs.Common.{◌≡◌, ℕ, zero, suc, ◌+◌, ◌-◌, ◌≤◌, List, map, Result, Ok, Err, false, [], ◌∷◌, ◌++◌, length, take, drop, Option, Some, None, refl, ap, sym, ◌∙◌, arith, append_assoc, subst, length-take, length-drop}
+use Rattle.std.proofs.Common.{◌≡◌, ℕ, zero, suc, ◌+◌, ◌-◌, ◌≤◌, List, map, Result, Ok, Err, false, [], ◌∷◌, ◌++◌}
+use Rattle.std.proofs.Common.{length, take, drop, Option, Some, None, refl, ap, sym, ◌∙◌, arith, append_assoc, subst}
+use Rattle.std.proofs.Common.{length-take, length-drop}
 use Rattle.std.proofs.lemmas.List.{take-map, drop-map}
 use Rattle.std.specs.Result.{is_err, OnOk}
 use Rattle.tp_image.specs.Image.{ImageValue}

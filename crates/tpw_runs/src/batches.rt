@@ -13,10 +13,10 @@ use std::mem;
 use std::sync::Wait;
 use std::thread::Threads;
 use tp_accept::Accepted;
-use tp_board::{MAX_PACKETS, Packet};
 use tp_collect::Collected;
 use tp_farm::{FarmFault, Gate, Job, run_batch};
 use tp_link::{LinkDevice, Links};
+use tp_stream::{MAX_PACKETS, Packet};
 use tpw_run_text::{Form, Tally, write_entries};
 
 /// Why a batch that has begun gives nothing.
@@ -30,7 +30,7 @@ fn fault_of(fault: FarmFault) -> RunFault
     }
 }
 
-/// Runs the packets of one batch. The links come back.
+/// Runs the packets of one batch. The links are returned to `links`.
 fn run_one<R: Threads + Wait + Sync, D: LinkDevice + Send, G: Gate>(
     rt: &R,
     alloc: Global,
@@ -80,8 +80,8 @@ fn write_batch<W: Write>(
     }
 }
 
-/// Runs packets of the image's length on the members that the links make, in batches of at most 1,024, one behind another, and
-/// writes what is shown of each batch once it has ended. Packets are numbered from 0, through all batches.
+/// Runs packets of the image's length on the members that the links make, in batches of at most 1,024, one behind
+/// another, and writes what is shown of each batch once it has ended. Packets are numbered from 0, through all batches.
 pub fn run_packets<R: Threads + Wait + Sync, D: LinkDevice + Send, G: Gate, W: Write>(
     rt: &R,
     alloc: Global,

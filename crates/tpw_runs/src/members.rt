@@ -10,10 +10,10 @@ use std::io::Write;
 use std::sync::Wait;
 use std::thread::Threads;
 use tp_accept::Accepted;
-use tp_board::Packet;
 use tp_collect::limits::MESSAGE_BYTES;
 use tp_farm::Gate;
 use tp_link::{boxed, media_of};
+use tp_stream::Packet;
 use tpw_run_text::{Form, Tally};
 
 /// Runs packets as [`run_packets`] does, on members of its own: 1 to 64.

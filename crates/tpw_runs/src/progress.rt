@@ -8,8 +8,8 @@ use tp_farm::Gate;
 /// How long what is shown stays before it is shown anew.
 const INTERVAL_MILLISECONDS: u64 = 100;
 
-/// A gate that is open for good and counts the packets that members have finished. Where it is given a start, it shows on standard
-/// error how many of how many, how many a second, and how many seconds are left at that rate.
+/// A gate that is open for good and counts the packets that members have finished. Where it is given a start, it shows
+/// on standard error how many of how many, how many a second, and how many seconds are left at that rate.
 #[derive(Drop)]
 pub struct Progress<'r, R> {
     rt: &'r R,

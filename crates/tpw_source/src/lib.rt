@@ -1,4 +1,5 @@
-//! What the tools share that show a code beside its text: what an assembly text says of its code, and why a text could not be written.
+//! What the tools share that show a code beside its text: what an assembly text says of its code, and why a text could
+//! not be written.
 #![tactic(auto)]
 
 mod fault;

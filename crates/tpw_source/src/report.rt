@@ -49,8 +49,8 @@ fn write_quoted<W: Write>(line: &str, spot: Spot, writer: &mut W) -> Result<(), 
     writeln!(writer).map_err(|_| ShowFault::Write)
 }
 
-/// Writes a fault of a text that has a name: `NAME:LINE:COLUMN:`, what is wrong, what is expected, and the name that is near; and below,
-/// the line with carets under the place, if it is no long one.
+/// Writes a fault of a text that has a name: `NAME:LINE:COLUMN:`, what is wrong, what is expected, and the name that is
+/// near; and below, the line with carets under the place, if it is no long one.
 pub fn write_report<W: Write>(
     name: &str,
     text: &str,

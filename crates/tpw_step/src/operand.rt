@@ -4,7 +4,8 @@ use std::fmt;
 use tp_decode::Instr;
 use tpw_source::SourceText;
 
-/// An instruction where Wptr is a workspace word: one with a local word as its operand by the name of that, where it has one.
+/// An instruction where Wptr is a workspace word: one with a local word as its operand by the name of that, where it
+/// has one.
 #[derive(Clone, Copy)]
 pub(crate) struct NamedInstr<'a> {
     pub(crate) instr: Instr,

@@ -194,8 +194,8 @@ fn left(turn: Option<Turn>, snapshot: Snapshot<'_>) -> Option<End> {
     }
 }
 
-/// Makes one instruction, and writes its line where it is to be shown. How the run is left comes back, if it is; else `stands` are the words
-/// where it is now.
+/// Makes one instruction, and writes its line where it is to be shown. How the run is left comes back, if it is; else
+/// `stands` are the words where it is now.
 fn show_one<D: LinkDevice, W: Write>(
     alloc: Global,
     stepper: &mut Stepper,
@@ -308,7 +308,8 @@ fn write_end<W: Write>(
     writeln!(writer, "count {count}").map_err(|_| ShowFault::Write)
 }
 
-/// Runs a packet of an image from its start. Writes a line for each instruction that is to be shown, and then the run's outcome.
+/// Runs a packet of an image from its start. Writes a line for each instruction that is to be shown, and then the run's
+/// outcome.
 pub fn show_run<W: Write>(
     alloc: Global,
     image: Image,

@@ -24,8 +24,8 @@ impl Place {
     }
 }
 
-/// The instructions that are printed: from a place on, or from the start; and as far as a place, where the run is left, or to its
-/// end.
+/// The instructions that are printed: from a place on, or from the start; and as far as a place, where the run is left,
+/// or to its end.
 #[derive(Clone, Copy, Debug, PartialEq, Eq)]
 pub struct Span {
     pub from: Option<Place>,

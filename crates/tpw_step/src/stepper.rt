@@ -59,9 +59,11 @@ impl Stepper {
         self.phase = Phase::BeforePacket;
     }
 
-    /// Goes on by one instruction: its prefixes and the byte behind them, a step each. None where the worker had stopped.
+    /// Goes on by one instruction: its prefixes and the byte behind them, a step each. None where the worker had
+    /// stopped.
     ///
-    /// Where there is no step, or a device refuses its call, the run has ended, and the machine is left between two states.
+    /// Where there is no step, or a device refuses its call, the run has ended, and the machine is left between two
+    /// states.
     pub fn next<D: LinkDevice>(&mut self, links: &mut Links<D>) -> Option<Turn>
         ensures comes { Advances self.old.image (state_of self.old.machine)
             (state_of self.new.machine) self.old.phase self.new.phase

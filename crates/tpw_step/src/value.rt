@@ -12,8 +12,8 @@ pub(crate) struct Style<'a> {
     pub(crate) hexadecimal: bool,
 }
 
-/// A register or a word of the workspace: `&buf[2]` where it is the address of a word that the text names; else a signed number, or `-`
-/// where it is undefined.
+/// A register or a word of the workspace: `&buf[2]` where it is the address of a word that the text names; else a
+/// signed number, or `-` where it is undefined.
 #[derive(Clone, Copy)]
 pub(crate) struct Value<'a> {
     pub(crate) word: Option<u32>,

@@ -1,5 +1,7 @@
 -- What is added to a draft does not depend on where the text lies in memory.
-use Rattle.std.proofs.Common.{◌≡◌, ℕ, ◌+◌, ◌-◌, nat_lt, Bool, true, false, if◌then◌else◌, List, [], ◌∷◌, ◌++◌, length, map, take, Option, Some, None, option_map, Result, Ok, slice_get, is_some, refl, ap, sym, ◌∙◌}
+use Rattle.std.proofs.Common.{◌≡◌, ℕ, ◌+◌, ◌-◌, nat_lt, Bool, true, false, if◌then◌else◌, List, [], ◌∷◌, ◌++◌, length}
+use Rattle.std.proofs.Common.{map, take, Option, Some, None, option_map, Result, Ok, slice_get, is_some, refl, ap, sym}
+use Rattle.std.proofs.Common.{◌∙◌}
 use Rattle.std.specs.List.{find}
 use Rattle.std.specs.Option.{ok_or}
 use Rattle.std.specs.Str.{bytes_eq}
@@ -33,10 +35,18 @@ use Rattle.tpw_text.specs.Drafts.{Said, is_full, place_named, local_named, const
 use Rattle.tpw_text.specs.Fields.{version_set, workspace_set, start_set, packet_set, results_set}
 use Rattle.tpw_text.specs.Words.{position_of}
 use Rattle.tp_image.specs.declared.image.Version.{Version}
-use Rattle.tpw_text.specs.Grammar.{StatementSaid, statement_said, SaysNothing, SetsPacket, SetsResults, SetsStart, SetsWorkspace, SetsVersion, NamesConst, NamesLocals, SetsInitial, SetsLocal, AddsLines, AddsInstruction, AddsMessage, AddsAccess, BeginsLoop, EndsLoop, AddsRow}
-use Rattle.tpw_text.specs.Meaning.{in_turn, initial_added, initials_added, no_value, local_initials_added, lines_pushed, operand_with, local_instr_added, instruction_added, message_lines, message_read, message_added, access_lines, access_added, loop_begins, begun, loop_begun, loop_ends, row_of, with_row, row_added, innermost, inner_ended, loop_named, loop_ended, added, statement_with, unlabelled, labelled, is_colon, line_said}
+use Rattle.tpw_text.specs.Grammar.{StatementSaid, statement_said, SaysNothing, SetsPacket, SetsResults, SetsStart}
+use Rattle.tpw_text.specs.Grammar.{SetsWorkspace, SetsVersion, NamesConst, NamesLocals, SetsInitial, SetsLocal}
+use Rattle.tpw_text.specs.Grammar.{AddsLines, AddsInstruction, AddsMessage, AddsAccess, BeginsLoop, EndsLoop, AddsRow}
+use Rattle.tpw_text.specs.Meaning.{in_turn, initial_added, initials_added, no_value, local_initials_added, lines_pushed}
+use Rattle.tpw_text.specs.Meaning.{operand_with, local_instr_added, instruction_added, message_lines, message_read}
+use Rattle.tpw_text.specs.Meaning.{message_added, access_lines, access_added, loop_begins, begun, loop_begun, loop_ends}
+use Rattle.tpw_text.specs.Meaning.{row_of, with_row, row_added, innermost, inner_ended, loop_named, loop_ended, added}
+use Rattle.tpw_text.specs.Meaning.{statement_with, unlabelled, labelled, is_colon, line_said}
 use Rattle.tpw_text.specs.Apart.{word_apart, line_apart, label_apart, local_apart, const_apart, row_apart, begun_apart, draft_apart}
-use Rattle.tpw_text.proofs.Apart.{kept, then_kept, then_in, if_kept, named, ok_or_kept, numbered, initial_apart, offset_apart, local_instr_apart, instruction_apart, element_apart, new_loop_apart, statement_apart, a_statement}
+use Rattle.tpw_text.proofs.Apart.{kept, then_kept, then_in, if_kept, named, ok_or_kept, numbered, initial_apart}
+use Rattle.tpw_text.proofs.Apart.{offset_apart, local_instr_apart, instruction_apart, element_apart, new_loop_apart}
+use Rattle.tpw_text.proofs.Apart.{statement_apart, a_statement}
 use Rattle.tpw_text.proofs.Constants.{constant, values}
 
 -- what is found by a text
@@ -151,7 +161,9 @@ an_initial : (v : InitialWord) (d : Said) → initial_added (initial_apart v) (d
 unfolding initial_added
 an_initial v d = if_kept _ (is_full d.initial) _ _ refl refl
 
-initials : (at : Word) (first : ℕ) (values : List InitialWord) (d : Said) → initials_added (word_apart at) first (map initial_apart values) (draft_apart d) ≡ kept draft_apart (initials_added at first values d)
+initials : (at : Word) (first : ℕ) (values : List InitialWord) (d : Said) →
+    initials_added (word_apart at) first (map initial_apart values) (draft_apart d) ≡ kept draft_apart
+    (initials_added at first values d)
 unfolding initials_added
 initials at first values d = if_kept _ (nat_lt first (length d.initial)) _ _ refl (turns _ _ an_initial values _)
 
@@ -159,7 +171,9 @@ beyond : (o : Option InitialWord) → no_value (option_map initial_apart o) ≡ 
 beyond (Some v) = refl
 beyond None = refl
 
-local_initials : (name : Word) (values : List InitialWord) (d : Said) → local_initials_added (word_apart name) (map initial_apart values) (draft_apart d) ≡ kept draft_apart (local_initials_added name values d)
+local_initials : (name : Word) (values : List InitialWord) (d : Said) →
+    local_initials_added (word_apart name) (map initial_apart values) (draft_apart d) ≡ kept draft_apart
+    (local_initials_added name values d)
 unfolding local_initials_added
 local_initials name values d =
     then_kept _ _ _ _ (local_is d.locals name) (λ n. then_in _ _ _ _ (ap no_value (slice_get-map initial_apart values n.words) ∙ beyond (slice_get values n.words)) (λ fits.
@@ -182,7 +196,8 @@ a_message : (w : Word) (m : Message) (name : Word) (d : Said) → message_added 
 unfolding message_added
 a_message w m name d = then_kept _ _ _ _ (local_is d.locals name) (λ n. by m n.first)
   where
-    by : (m : Message) (n : ℕ) → lines_pushed (word_apart w) (message_lines m (draft_apart d) n) (message_read m (draft_apart d)) ≡ kept draft_apart (lines_pushed w (message_lines m d n) (message_read m d))
+    by : (m : Message) (n : ℕ) → lines_pushed (word_apart w) (message_lines m (draft_apart d) n)
+        (message_read m (draft_apart d)) ≡ kept draft_apart (lines_pushed w (message_lines m d n) (message_read m d))
     by Receive n = all_pushed w (message_lines Receive d n) (message_read Receive d)
     by Send n = all_pushed w (message_lines Send d n) (message_read Send d)
     by Trace n = all_pushed w (message_lines Trace d n) d

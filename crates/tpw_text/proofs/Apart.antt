@@ -1,5 +1,7 @@
 -- What is read of words does not depend on where they lie in memory.
-use Rattle.std.proofs.Common.{◌≡◌, ℕ, ◌+◌, nat_le, ◌&&◌, not, ℤ, Bool, true, false, if◌then◌else◌, List, [], ◌∷◌, length, map, drop, Option, Some, None, option_map, Result, Ok, Err, slice_get, codes, refl, ap, ◌∙◌}
+use Rattle.std.proofs.Common.{◌≡◌, ℕ, ◌+◌, nat_le, ◌&&◌, not, ℤ, Bool, true, false, if◌then◌else◌, List, [], ◌∷◌}
+use Rattle.std.proofs.Common.{length, map, drop, Option, Some, None, option_map, Result, Ok, Err, slice_get, codes}
+use Rattle.std.proofs.Common.{refl, ap, ◌∙◌}
 use Rattle.std.specs.Option.{ok_or}
 use Rattle.std.proofs.lemmas.Option.{slice_get-map}
 use Rattle.std.proofs.lemmas.List.{length-map, drop-map}
@@ -25,7 +27,15 @@ use Rattle.tpw_text.specs.Faults.{fault_at, then_read, each_read}
 use Rattle.tpw_text.specs.Numbers.{begins_number}
 use Rattle.tpw_text.specs.Statements.{word_said, is_no_name, name_said, number_read, count_read, nothing_at, end_said, one_number_said, expect_said, target_said}
 use Rattle.tpw_text.specs.Lists.{Part, is_comma, onto_part, parts, no_word, no_more_said, one_word_said, initial_word_said, byte_line_said, some_words, size_said, new_local_said, list_said}
-use Rattle.tpw_text.specs.Grammar.{StatementSaid, SaysNothing, SetsPacket, SetsResults, SetsStart, SetsWorkspace, SetsVersion, NamesConst, NamesLocals, SetsInitial, SetsLocal, AddsLines, AddsInstruction, AddsMessage, AddsAccess, BeginsLoop, EndsLoop, AddsRow, is_word, is_word_here, version_said, const_said, values_said, initial_at, initial_of, initial_said, one_name_said, element_said, new_loop_said, row_said, length_at, length_said, plain_line, number_line, offset_at, offset_said, label_line, distance_said, number_said, local_instr_said, operand_said, with_operand_said, operation_said, of_operation, of_function, instruction_said, keyword_said, of_keyword, statement_said}
+use Rattle.tpw_text.specs.Grammar.{StatementSaid, SaysNothing, SetsPacket, SetsResults, SetsStart, SetsWorkspace}
+use Rattle.tpw_text.specs.Grammar.{SetsVersion, NamesConst, NamesLocals, SetsInitial, SetsLocal, AddsLines}
+use Rattle.tpw_text.specs.Grammar.{AddsInstruction, AddsMessage, AddsAccess, BeginsLoop, EndsLoop, AddsRow, is_word}
+use Rattle.tpw_text.specs.Grammar.{is_word_here, version_said, const_said, values_said, initial_at, initial_of}
+use Rattle.tpw_text.specs.Grammar.{initial_said, one_name_said, element_said, new_loop_said, row_said, length_at}
+use Rattle.tpw_text.specs.Grammar.{length_said, plain_line, number_line, offset_at, offset_said, label_line}
+use Rattle.tpw_text.specs.Grammar.{distance_said, number_said, local_instr_said, operand_said, with_operand_said}
+use Rattle.tpw_text.specs.Grammar.{operation_said, of_operation, of_function, instruction_said, keyword_said}
+use Rattle.tpw_text.specs.Grammar.{of_keyword, statement_said}
 use Rattle.tpw_text.specs.Apart.{word_apart, line_apart, target_apart, row_apart}
 
 -- what is read, by another view
@@ -146,7 +156,11 @@ unfolding parts
 parted b [] = refl
 parted b (w ∷ ws) = by (is_comma w) (parted w ws) (parted b ws)
   where
-    by : (t : Bool) → parts (word_apart w) (map word_apart ws) ≡ map part_apart (parts w ws) → parts (word_apart b) (map word_apart ws) ≡ map part_apart (parts b ws) → (if t then record { behind = word_apart b; words = [] } ∷ parts (word_apart w) (map word_apart ws) else onto_part (word_apart w) (parts (word_apart b) (map word_apart ws))) ≡ map part_apart (if t then record { behind = b; words = [] } ∷ parts w ws else onto_part w (parts b ws))
+    by : (t : Bool) → parts (word_apart w) (map word_apart ws) ≡ map part_apart (parts w ws) →
+        parts (word_apart b) (map word_apart ws) ≡ map part_apart (parts b ws) →
+        (if t then record { behind = word_apart b; words = [] } ∷ parts (word_apart w) (map word_apart ws) else onto_part
+        (word_apart w) (parts (word_apart b) (map word_apart ws))) ≡ map part_apart
+        (if t then record { behind = b; words = [] } ∷ parts w ws else onto_part w (parts b ws))
     by true comma other = ap (λ ps. record { behind = word_apart b; words = [] } ∷ ps) comma
     by false comma other = ap (onto_part (word_apart w)) other ∙ in_front w (parts b ws)
 
@@ -182,7 +196,9 @@ unfolding size_said
 size name ws =
     rw (length-map ws word_apart)
     (if_same (nat_le (length ws) 1) refl
-    (then_over _ _ _ (expected ws 1 name _) (λ _. then_over _ _ _ (said ws 2 name) (λ w. then_same _ _ _ (count _ w) (λ n. then_same (some_words w n) _ _ refl (λ m. then_over _ _ _ (expected ws 3 w _) (λ _. then_same _ _ _ (no_more ws 4) (λ _. refl))))))))
+    (then_over _ _ _ (expected ws 1 name _) (λ _. then_over _ _ _ (said ws 2 name)
+    (λ w. then_same _ _ _ (count _ w) (λ n. then_same (some_words w n) _ _ refl
+    (λ m. then_over _ _ _ (expected ws 3 w _) (λ _. then_same _ _ _ (no_more ws 4) (λ _. refl))))))))
 
 abbrev pub new_local_apart : NewLocal → NewLocal
 new_local_apart l = record l { name = word_apart l.name }
@@ -270,7 +286,9 @@ module _ (ws : List Word) (first : Word) where
   new_loop : new_loop_said (map word_apart ws) (word_apart first) ≡ kept new_loop_apart (new_loop_said ws first)
   unfolding new_loop_said
   new_loop =
-      then_kept _ _ _ _ (said ws 1 first) (λ word. then_kept _ _ _ _ (named word) (λ name. then_kept _ _ _ _ (expected ws 2 name _) (λ _. then_kept _ _ _ _ (said ws 3 name) (λ from. then_in _ _ _ _ (number from) (λ start.
+      then_kept _ _ _ _ (said ws 1 first) (λ word. then_kept _ _ _ _ (named word)
+      (λ name. then_kept _ _ _ _ (expected ws 2 name _) (λ _. then_kept _ _ _ _ (said ws 3 name)
+      (λ from. then_in _ _ _ _ (number from) (λ start.
       then_kept _ _ _ _ (expected ws 4 name _) (λ _. then_kept _ _ _ _ (said ws 5 name) (λ turns. then_in _ _ _ _ (count _ turns) (λ n. then_in _ _ _ _ (ended ws 6) (λ _. refl)))))))))
 
   row : row_said (map word_apart ws) (word_apart first) ≡ kept row_apart (row_said ws first)
@@ -293,7 +311,8 @@ module _ (ws : List Word) (first : Word) where
 pub numbered : (w : Word) (bytes : Option ℕ) (function : ℕ) (n : ℤ) → number_line (word_apart w) bytes function n ≡ kept new_line_apart (number_line w bytes function n)
 numbered w bytes function n = by (instruction function n)
   where
-    by : (o : Option Instr) → ok_or (option_map (plain_line (word_apart w) bytes) o) (fault_at w fault.Unknown) ≡ kept new_line_apart (ok_or (option_map (plain_line w bytes) o) (fault_at w fault.Unknown))
+    by : (o : Option Instr) → ok_or (option_map (plain_line (word_apart w) bytes) o) (fault_at w fault.Unknown) ≡ kept
+        new_line_apart (ok_or (option_map (plain_line w bytes) o) (fault_at w fault.Unknown))
     by (Some i) = refl
     by None = refl
 
@@ -310,19 +329,25 @@ unfolding offset_said
 offset ws i = ap (offset_at (map word_apart ws) i) (slice_get-map word_apart ws i) ∙ by (slice_get ws i)
   where
     by : (o : Option Word) → offset_at (map word_apart ws) i (option_map word_apart o) ≡ kept offset_apart (offset_at ws i o)
-    by (Some mark) = then_kept {f = word_apart} _ _ _ _ (if_kept word_apart (is_word mark (codes "+")) _ _ refl refl) (λ _. then_kept _ _ _ _ (said ws (i + 1) mark) (λ w. then_in _ _ _ _ (number w) (λ n. then_in _ _ _ _ (ended ws (i + 2)) (λ _. refl))))
+    by (Some mark) = then_kept {f = word_apart} _ _ _ _ (if_kept word_apart (is_word mark (codes "+")) _ _ refl refl)
+        (λ _. then_kept _ _ _ _ (said ws (i + 1) mark) (λ w. then_in _ _ _ _ (number w)
+        (λ n. then_in _ _ _ _ (ended ws (i + 2)) (λ _. refl))))
     by None = refl
 
 module _ (ws : List Word) (first : Word) (function : ℕ) where
-  with_number : (bytes : Option ℕ) (i : ℕ) (w : Word) → number_said (map word_apart ws) (word_apart first) function bytes i (word_apart w) ≡ kept instruction_apart (number_said ws first function bytes i w)
+  with_number : (bytes : Option ℕ) (i : ℕ) (w : Word) → number_said (map word_apart ws) (word_apart first) function
+      bytes i (word_apart w) ≡ kept instruction_apart (number_said ws first function bytes i w)
   unfolding number_said
   with_number bytes i w = then_in _ _ _ _ (ended ws i) (λ _. then_in _ _ _ _ (number w) (λ n. then_kept _ _ _ _ (numbered first bytes function n) (λ l. refl)))
 
-  with_local : (bytes : Option ℕ) (i : ℕ) (name : Word) → local_instr_said (map word_apart ws) (word_apart first) function bytes i (word_apart name) ≡ kept instruction_apart (local_instr_said ws first function bytes i name)
+  with_local : (bytes : Option ℕ) (i : ℕ) (name : Word) →
+      local_instr_said (map word_apart ws) (word_apart first) function bytes i (word_apart name) ≡ kept instruction_apart
+      (local_instr_said ws first function bytes i name)
   unfolding local_instr_said
   with_local bytes i name = then_kept _ _ _ _ (offset ws i) (λ o. refl)
 
-  operand : (bytes : Option ℕ) (i : ℕ) (w : Word) → operand_said (map word_apart ws) (word_apart first) function bytes i (word_apart w) ≡ kept instruction_apart (operand_said ws first function bytes i w)
+  operand : (bytes : Option ℕ) (i : ℕ) (w : Word) → operand_said (map word_apart ws) (word_apart first) function bytes i
+      (word_apart w) ≡ kept instruction_apart (operand_said ws first function bytes i w)
   unfolding operand_said
   operand bytes i w =
       if_kept _ (not (begins_number w.text.now) && is_word first (codes "j")) _ _ (labelled_line ws first i (Jump w bytes))
@@ -361,9 +386,11 @@ module _ (ws : List Word) (first : Word) where
   a_keyword keyword.Workspace = then_in _ _ _ _ (one_number ws first _) (λ n. refl)
   a_keyword keyword.Version = then_in _ _ _ _ (version ws first) (λ v. refl)
   a_keyword keyword.Const = constant ws first
-  a_keyword keyword.Local = then_kept _ _ _ _ (ap (list_said new_local_said (word_apart first)) (drop-map word_apart 1 ws) ∙ listed new_local_said new_local_apart new_local first (drop 1 ws)) (λ ls. refl)
+  a_keyword keyword.Local = then_kept _ _ _ _ (ap (list_said new_local_said (word_apart first))
+      (drop-map word_apart 1 ws) ∙ listed new_local_said new_local_apart new_local first (drop 1 ws)) (λ ls. refl)
   a_keyword keyword.Init = initial ws first
-  a_keyword keyword.Byte = then_kept _ _ _ _ (ap (list_said byte_line_said (word_apart first)) (drop-map word_apart 1 ws) ∙ listed byte_line_said new_line_apart byte_line first (drop 1 ws)) (λ ls. refl)
+  a_keyword keyword.Byte = then_kept _ _ _ _ (ap (list_said byte_line_said (word_apart first))
+      (drop-map word_apart 1 ws) ∙ listed byte_line_said new_line_apart byte_line first (drop 1 ws)) (λ ls. refl)
   a_keyword keyword.Receive = then_kept _ _ _ _ (one_name ws first) (λ name. refl)
   a_keyword keyword.Send = then_kept _ _ _ _ (one_name ws first) (λ name. refl)
   a_keyword keyword.Trace = then_kept _ _ _ _ (one_name ws first) (λ name. refl)

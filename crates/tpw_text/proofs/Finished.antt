@@ -20,7 +20,9 @@ use Rattle.tpw_text.specs.declared.draft.Row.{Row}
 use Rattle.tpw_text.specs.declared.draft.Begun.{Begun}
 use Rattle.tpw_text.specs.Faults.{fault_at, then_read, each_read}
 use Rattle.tpw_text.specs.Drafts.{Said}
-use Rattle.tpw_text.specs.Programs.{place_of_label, line_placed, spot_placed, loop_placed, no_loop, ended, is_beyond, no_local, locals_fit, program_of, label_listed, labels_listed, local_listed, locals_listed, workspace_said, finished}
+use Rattle.tpw_text.specs.Programs.{place_of_label, line_placed, spot_placed, loop_placed, no_loop, ended, is_beyond}
+use Rattle.tpw_text.specs.Programs.{no_local, locals_fit, program_of, label_listed, labels_listed, local_listed}
+use Rattle.tpw_text.specs.Programs.{locals_listed, workspace_said, finished}
 use Rattle.tpw_text.specs.Apart.{word_apart, line_apart, target_apart, label_apart, local_apart, row_apart, begun_apart, draft_apart}
 use Rattle.tpw_text.specs.Texts.{text_said, source_of}
 use Rattle.tpw_text.proofs.Apart.{then_same}
@@ -91,7 +93,9 @@ program_is : (d : Said) → program_of (draft_apart d) ≡ program_of d
 unfolding program_of workspace_said
 program_is d =
     then_same (each_read (line_placed d.labels) d.lines) _ _ (each_is line_apart (line_placed d.labels) (line_placed (map label_apart d.labels)) (line_is d.labels) d.lines) (λ lines.
-    then_same (each_read (loop_placed d.labels d.start) d.rows) _ _ (each_is row_apart (loop_placed d.labels d.start) (loop_placed (map label_apart d.labels) d.start) (loop_is d.labels d.start) d.rows) (λ loops. refl))
+    then_same (each_read (loop_placed d.labels d.start) d.rows) _ _
+    (each_is row_apart (loop_placed d.labels d.start) (loop_placed (map label_apart d.labels) d.start)
+    (loop_is d.labels d.start) d.rows) (λ loops. refl))
 
 pub finished_apart : (d : Said) → finished (draft_apart d) ≡ finished d
 unfolding finished

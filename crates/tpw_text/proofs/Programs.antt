@@ -1,5 +1,7 @@
 -- What each of a list says, one by one.
-use Rattle.std.proofs.Common.{◌≡◌, ℕ, zero, suc, ◌+◌, Bool, true, false, if◌then◌else◌, List, [], ◌∷◌, ◌++◌, length, map, take, get_or, Some, Result, Ok, Err, IsUtf8, inr, refl, ap, sym, ◌∙◌, ◌<◌, add-one, append_assoc, slice_get, arith}
+use Rattle.std.proofs.Common.{◌≡◌, ℕ, zero, suc, ◌+◌, Bool, true, false, if◌then◌else◌, List, [], ◌∷◌, ◌++◌, length}
+use Rattle.std.proofs.Common.{map, take, get_or, Some, Result, Ok, Err, IsUtf8, inr, refl, ap, sym, ◌∙◌, ◌<◌, add-one}
+use Rattle.std.proofs.Common.{append_assoc, slice_get, arith}
 use Rattle.std.specs.List.{flat_map}
 use Rattle.std.specs.Str.{is_utf8}
 use Rattle.std.proofs.lemmas.Option.{same_Some}
@@ -24,10 +26,14 @@ parts (Ok z) (Err f) ys e = absurd (cc)
 parts (Err f) rest ys e = absurd (cc)
 
 -- one more, that has no fault
-pub each_more : {A B : Type 0} (says : A → Result B SourceFault) (xs : List A) (i : ℕ) (d : A) (y : B) (ys : List B) → i < length xs → Ok y ≡ says (get_or xs i d) → each_read says (take i xs) ≡ Ok ys → each_read says (take (i + 1) xs) ≡ Ok (ys ++ y ∷ [])
+pub each_more : {A B : Type 0} (says : A → Result B SourceFault) (xs : List A) (i : ℕ) (d : A) (y : B) (ys : List B) →
+    i < length xs → Ok y ≡ says (get_or xs i d) → each_read says (take i xs) ≡ Ok ys →
+    each_read says (take (i + 1) xs) ≡ Ok (ys ++ y ∷ [])
 each_more says xs i d y ys within here so_far = ap (λ n. each_read says (take n xs)) (add-one i) ∙ by_recursion says xs i d y ys within here so_far
   where
-    by_recursion : {A B : Type 0} (says : A → Result B SourceFault) (xs : List A) (i : ℕ) (d : A) (y : B) (ys : List B) → i < length xs → Ok y ≡ says (get_or xs i d) → each_read says (take i xs) ≡ Ok ys → each_read says (take (suc i) xs) ≡ Ok (ys ++ y ∷ [])
+    by_recursion : {A B : Type 0} (says : A → Result B SourceFault) (xs : List A) (i : ℕ) (d : A) (y : B) (ys : List B)
+        → i < length xs → Ok y ≡ says (get_or xs i d) → each_read says (take i xs) ≡ Ok ys →
+        each_read says (take (suc i) xs) ≡ Ok (ys ++ y ∷ [])
     by_recursion says [] i d y ys within here so_far = absurd (omega arith)
     by_recursion says (w ∷ xs) zero d y ys within here so_far =
         let none : [] ≡ ys = cc in
@@ -39,10 +45,14 @@ each_more says xs i d y ys within here so_far = ap (λ n. each_read says (take n
         ∙ ap (λ zs. Ok (zs ++ y ∷ [])) (sym p.4)
 
 -- the first that has a fault
-pub each_fault : {A B : Type 0} (says : A → Result B SourceFault) (xs : List A) (i : ℕ) (d : A) (e : SourceFault) (ys : List B) → i < length xs → Err e ≡ says (get_or xs i d) → each_read says (take i xs) ≡ Ok ys → IsRefusal (each_read says xs) e
+pub each_fault : {A B : Type 0} (says : A → Result B SourceFault) (xs : List A) (i : ℕ) (d : A) (e : SourceFault)
+    (ys : List B) → i < length xs → Err e ≡ says (get_or xs i d) → each_read says (take i xs) ≡ Ok ys →
+    IsRefusal (each_read says xs) e
 each_fault says xs i d e ys within here so_far = inr (by_recursion says xs i d e ys within here so_far)
   where
-    by_recursion : {A B : Type 0} (says : A → Result B SourceFault) (xs : List A) (i : ℕ) (d : A) (e : SourceFault) (ys : List B) → i < length xs → Err e ≡ says (get_or xs i d) → each_read says (take i xs) ≡ Ok ys → each_read says xs ≡ Err e
+    by_recursion : {A B : Type 0} (says : A → Result B SourceFault) (xs : List A) (i : ℕ) (d : A) (e : SourceFault)
+        (ys : List B) → i < length xs → Err e ≡ says (get_or xs i d) → each_read says (take i xs) ≡ Ok ys →
+        each_read says xs ≡ Err e
     by_recursion says [] i d e ys within here so_far = absurd (omega arith)
     by_recursion says (w ∷ xs) zero d e ys within here so_far = ap (λ r. front r (each_read says xs)) (sym here)
     by_recursion says (w ∷ xs) (suc i) d e ys within here so_far =
@@ -74,7 +84,9 @@ mapped f [] ys = refl
 mapped f (x ∷ xs) ys = ap (λ zs. f x ∷ zs) (mapped f xs ys)
 
 -- a label that is handed out, and one that is not
-pub label_more : (labels labels' : List Label) (label : Label) (name : LabelName) → labels' ≡ labels ++ label ∷ [] → label.name.now ≡ name.word.text.now → label.place ≡ name.place → IsUtf8 name.word.text.now → map label_of labels' ≡ map label_of labels ++ label_listed name
+pub label_more : (labels labels' : List Label) (label : Label) (name : LabelName) → labels' ≡ labels ++ label ∷ [] →
+    label.name.now ≡ name.word.text.now → label.place ≡ name.place → IsUtf8 name.word.text.now →
+    map label_of labels' ≡ map label_of labels ++ label_listed name
 unfolding label_listed
 label_more labels labels' label name more named placed text =
     let same : label_of label ≡ record { name = name.word.text.now; place = name.place } = cc in
@@ -86,7 +98,9 @@ unfolding label_listed
 label_none labels name other = sym (append-nil (map label_of labels)) ∙ ap (λ ls. map label_of labels ++ ls) (sym (under_other name.word.text.now _ other))
 
 -- a name of local words that is handed out, and one that is not
-pub local_more : (locals locals' : List Local) (local : Local) (name : LocalName) → locals' ≡ locals ++ local ∷ [] → local.name.now ≡ name.word.text.now → local.first ≡ name.first → local.words ≡ name.words → IsUtf8 name.word.text.now → map local_of locals' ≡ map local_of locals ++ local_listed name
+pub local_more : (locals locals' : List Local) (local : Local) (name : LocalName) → locals' ≡ locals ++ local ∷ [] →
+    local.name.now ≡ name.word.text.now → local.first ≡ name.first → local.words ≡ name.words →
+    IsUtf8 name.word.text.now → map local_of locals' ≡ map local_of locals ++ local_listed name
 unfolding local_listed
 local_more locals locals' local name more named first words text =
     let same : local_of local ≡ record { name = name.word.text.now; first = name.first; words = name.words } = cc in

@@ -1,5 +1,8 @@
 -- A program as text: its marks, its lines, and the parts of an instruction.
-use Rattle.std.proofs.Common.{◌≡◌, ℕ, suc, ◌+◌, ◌-◌, ◌<◌, ◌≤◌, ◌==◌, ◌&&◌, ◌||◌, not, cond, eqb, Bool, true, false, if◌then◌else◌, List, [], ◌∷◌, ◌++◌, length, take, drop, get_or, set, replicate, codes, Option, Some, Result, Ok, Err, OnOk, refl, ap, subst, sym, ◌∙◌, add-one, append_assoc, get_or-set_other, get_or-set_same, drop-cons, arith, length-append}
+use Rattle.std.proofs.Common.{◌≡◌, ℕ, suc, ◌+◌, ◌-◌, ◌<◌, ◌≤◌, ◌==◌, ◌&&◌, ◌||◌, not, cond, eqb, Bool, true, false}
+use Rattle.std.proofs.Common.{if◌then◌else◌, List, [], ◌∷◌, ◌++◌, length, take, drop, get_or, set, replicate, codes}
+use Rattle.std.proofs.Common.{Option, Some, Result, Ok, Err, OnOk, refl, ap, subst, sym, ◌∙◌, add-one, append_assoc}
+use Rattle.std.proofs.Common.{get_or-set_other, get_or-set_same, drop-cons, arith, length-append}
 use Rattle.std.specs.Fmt.{AppendsText, ◌++?◌}
 use Rattle.std.specs.Result.{is_ok}
 use Rattle.std.specs.List.{list_all, list_any, position_or_len, before_first, after_first}
@@ -7,7 +10,11 @@ use Rattle.std.proofs.lemmas.List.{append-nil, drop_all, take_all, get_or-replic
 use Rattle.std.proofs.lemmas.List.Folds.{list_any_more}
 use Rattle.std.proofs.lemmas.Bool.Decides.{nat_tests}
 use Rattle.tp_decode.specs.declared.instr.Instr.{Instr}
-use Rattle.tp_decode.specs.declared.instr.Instr.TheVariants.{Jump, Ldlp, Ldnl, Ldc, Ldnlp, Ldl, Adc, Cj, Ajw, Eqc, Stl, Stnl, Rev, Lb, Bsub, Diff, Add, Input, Prod, Gt, Wsub, Output, Sub, Seterr, Csub0, Stopp, Rem, Lend, Div, BitNot, BitXor, Sb, Shr, Shl, Mint, BitAnd, MoveBytes, BitOr, Sum, Mul}
+use Rattle.tp_decode.specs.declared.instr.Instr.TheVariants.{Jump, Ldlp, Ldnl, Ldc, Ldnlp, Ldl, Adc, Cj, Ajw, Eqc, Stl}
+use Rattle.tp_decode.specs.declared.instr.Instr.TheVariants.{Stnl, Rev, Lb, Bsub, Diff, Add, Input, Prod, Gt, Wsub}
+use Rattle.tp_decode.specs.declared.instr.Instr.TheVariants.{Output, Sub, Seterr, Csub0, Stopp, Rem, Lend, Div, BitNot}
+use Rattle.tp_decode.specs.declared.instr.Instr.TheVariants.{BitXor, Sb, Shr, Shl, Mint, BitAnd, MoveBytes, BitOr, Sum}
+use Rattle.tp_decode.specs.declared.instr.Instr.TheVariants.{Mul}
 use Rattle.tp_decode.specs.Table.{entry}
 use Rattle.tp_decode.specs.Lines.{instruction_text}
 use Rattle.tpw_asm.specs.declared.program.Line.{Line}
@@ -65,7 +72,8 @@ pub marked_as : (t u : ℕ → Bool) (a b : List Bool) → ((k : ℕ) → t k �
 marked_as t u a b same marked = λ k within. marked k within ∙ ap (λ x. get_or a k false || x) (same k)
 
 -- the marks of so many places and no more, where nothing is marked before
-pub marks_are : (test : ℕ → Bool) (before after all : List Bool) (lines : ℕ) → before ≡ replicate (lines + 1) false → length after ≡ length before → all ≡ after → IsMarked test before after → AreMarks test all lines
+pub marks_are : (test : ℕ → Bool) (before after all : List Bool) (lines : ℕ) → before ≡ replicate (lines + 1) false →
+    length after ≡ length before → all ≡ after → IsMarked test before after → AreMarks test all lines
 marks_are test before after all lines none same is marked = λ k within.
     let inside : k < length before = omega (arith, ap length none, length-replicate {A = Bool} (lines + 1) false) in
     ap (λ l. get_or l k false) is ∙ marked k inside
@@ -77,24 +85,30 @@ in_place n xs ys same long =
     ap (λ zs. take n (xs ++ zs)) (drop_all (length xs) ys (omega arith)) ∙ ap (take n) (append-nil xs) ∙ take_all n xs (omega arith)
 
 -- all of a list
-pub marked_all : {A : Type 0} (test : ℕ → A → Bool) (xs : List A) (i : ℕ) (a b : List Bool) → length xs ≤ i → IsMarked (λ k. list_any (test k) (take i xs)) a b → IsMarked (λ k. list_any (test k) xs) a b
+pub marked_all : {A : Type 0} (test : ℕ → A → Bool) (xs : List A) (i : ℕ) (a b : List Bool) → length xs ≤ i →
+    IsMarked (λ k. list_any (test k) (take i xs)) a b → IsMarked (λ k. list_any (test k) xs) a b
 marked_all test xs i a b past = marked_as (λ k. list_any (test k) (take i xs)) (λ k. list_any (test k) xs) a b (λ k. ap (list_any (test k)) (take_all i xs past))
 
 -- one more of a list
-pub marked_more : {A : Type 0} (test : ℕ → A → Bool) (xs : List A) (i : ℕ) (d : A) (a b c : List Bool) → i < length xs → length a ≡ length b → IsMarked (λ k. list_any (test k) (take i xs)) a b → IsMarked (λ k. test k (get_or xs i d)) b c → IsMarked (λ k. list_any (test k) (take (i + 1) xs)) a c
+pub marked_more : {A : Type 0} (test : ℕ → A → Bool) (xs : List A) (i : ℕ) (d : A) (a b c : List Bool) → i < length xs →
+    length a ≡ length b → IsMarked (λ k. list_any (test k) (take i xs)) a b → IsMarked (λ k. test k (get_or xs i d)) b c →
+    IsMarked (λ k. list_any (test k) (take (i + 1) xs)) a c
 marked_more test xs i d a b c within same first second =
     λ k inside. marked_both (λ n. list_any (test n) (take i xs)) (λ n. test n (get_or xs i d)) a b c same first second k inside
     ∙ ap (λ x. get_or a k false || x) (sym (list_any_more (test k) xs i d within))
 
 -- lines under tests that agree
-pub lines_same : (t u : ℕ → Bool) (remarks : Option Remarks) (n : ℕ) (lines : List Line) → ((k : ℕ) → n ≤ k → k ≤ n + length lines → t k ≡ u k) → lines_text t remarks n lines ≡ lines_text u remarks n lines
+pub lines_same : (t u : ℕ → Bool) (remarks : Option Remarks) (n : ℕ) (lines : List Line) →
+    ((k : ℕ) → n ≤ k → k ≤ n + length lines → t k ≡ u k) → lines_text t remarks n lines ≡ lines_text u remarks n lines
 lines_same t u remarks n [] same = ap (λ b. label_there b n) (same n (omega arith) (omega arith))
 lines_same t u remarks n (line ∷ lines) same =
     ap (λ b. label_there b n ++ as_line (line_text line ++ behind remarks n) ++ lines_text t remarks (n + 1) lines) (same n (omega arith) (omega arith))
     ∙ ap (λ rest. label_there (u n) n ++ as_line (line_text line ++ behind remarks n) ++ rest) (lines_same t u remarks (n + 1) lines (λ k low high. same k (omega arith) (omega arith)))
 
 -- lines from one on
-pub lines_more : (t : ℕ → Bool) (remarks : Option Remarks) (n : ℕ) (lines : List Line) (i : ℕ) (d : Line) → i < length lines → lines_text t remarks n (drop i lines) ≡ label_there (t n) n ++ as_line (line_text (get_or lines i d) ++ behind remarks n) ++ lines_text t remarks (n + 1) (drop (i + 1) lines)
+pub lines_more : (t : ℕ → Bool) (remarks : Option Remarks) (n : ℕ) (lines : List Line) (i : ℕ) (d : Line) →
+    i < length lines → lines_text t remarks n (drop i lines) ≡ label_there (t n) n ++
+    as_line (line_text (get_or lines i d) ++ behind remarks n) ++ lines_text t remarks (n + 1) (drop (i + 1) lines)
 lines_more t remarks n lines i d within =
     ap (lines_text t remarks n) (drop-cons lines i d within)
     ∙ ap (λ k. label_there (t n) n ++ as_line (line_text (get_or lines i d) ++ behind remarks n) ++ lines_text t remarks (n + 1) (drop k lines)) (sym (add-one i))
@@ -105,7 +119,8 @@ lines_end t remarks n lines end =
     ap (λ k. label_there (t k) k) (sym end) ∙ ap (lines_text t remarks n) (sym (drop_all n lines (omega arith)))
 
 -- a line of a text that goes on
-pub line_more : (old label line note rest all : List ℕ) {a b c : List ℕ} → a ≡ old ++ label → b ≡ a ++ line → c ≡ b ++ as_line note → old ++ (label ++ as_line (line ++ note) ++ rest) ≡ all → c ++ rest ≡ all
+pub line_more : (old label line note rest all : List ℕ) {a b c : List ℕ} → a ≡ old ++ label → b ≡ a ++ line → c ≡ b ++
+    as_line note → old ++ (label ++ as_line (line ++ note) ++ rest) ≡ all → c ++ rest ≡ all
 line_more old label line note rest all at_a at_b at_c whole =
     ap (λ l. l ++ rest) (at_c ∙ ap (λ l. l ++ as_line note) (at_b ∙ ap (λ l. l ++ line) at_a)) ∙ (simp append_assoc) ∙ whole
 
@@ -177,14 +192,19 @@ drop_front [] y ys = refl
 drop_front (x ∷ xs) y ys = drop_front xs y ys
 
 -- a name with an operand or alone, as it is shown and where there is no space in it
-alone : (b : Bool) (name operand shown : List ℕ) → list_all (λ c. not (is_space c)) name ≡ true → shown ≡ (if b then name else name ++ codes " " ++ operand) → position_or_len is_space shown ≡ length shown → (shown ≡ name) × ((if b then [] else codes " " ++ operand) ≡ [])
+alone : (b : Bool) (name operand shown : List ℕ) → list_all (λ c. not (is_space c)) name ≡ true →
+    shown ≡ (if b then name else name ++ codes " " ++ operand) → position_or_len is_space shown ≡ length shown →
+    (shown ≡ name) × ((if b then [] else codes " " ++ operand) ≡ [])
 alone true name operand shown plain is none = (is, refl)
 alone false name operand shown plain is none =
     let whole : shown ≡ name ++ 32 ∷ operand = is ∙ append_assoc name (codes " ") operand in
     let at : position_or_len is_space shown ≡ length name = ap (position_or_len is_space) whole ∙ space_behind name operand plain in
     absurd (omega (arith, ap length whole, length-append name (32 ∷ operand)))
 
-parted : (b : Bool) (name operand shown : List ℕ) → list_all (λ c. not (is_space c)) name ≡ true → shown ≡ (if b then name else name ++ codes " " ++ operand) → position_or_len is_space shown < length shown → (before_first is_space shown ≡ name) × ((if b then [] else codes " " ++ operand) ≡ codes " " ++ after_first is_space shown)
+parted : (b : Bool) (name operand shown : List ℕ) → list_all (λ c. not (is_space c)) name ≡ true →
+    shown ≡ (if b then name else name ++ codes " " ++ operand) → position_or_len is_space shown < length shown →
+    (before_first is_space shown ≡ name) × ((if b then [] else codes " " ++ operand) ≡ codes " " ++
+    after_first is_space shown)
 parted true name operand shown plain is there =
     let at : position_or_len is_space shown ≡ length name = ap (position_or_len is_space) is ∙ space_nowhere name plain in
     absurd (omega (arith, ap length is))
@@ -200,12 +220,16 @@ pub instr_alone : (i : Instr) (shown : List ℕ) → shown ≡ instruction_text 
 unfolding operand_text
 instr_alone i shown is none = alone _ (entry i).name _ shown (name_plain i) is none
 
-pub instr_parted : (i : Instr) (shown : List ℕ) → shown ≡ instruction_text i → position_or_len (λ b. eqb b 32) shown < length shown → (before_first (λ b. eqb b 32) shown ≡ (entry i).name) × (operand_text i ≡ codes " " ++ after_first (λ b. eqb b 32) shown)
+pub instr_parted : (i : Instr) (shown : List ℕ) → shown ≡ instruction_text i →
+    position_or_len (λ b. eqb b 32) shown < length shown → (before_first (λ b. eqb b 32) shown ≡ (entry i).name) ×
+    (operand_text i ≡ codes " " ++ after_first (λ b. eqb b 32) shown)
 unfolding operand_text
 instr_parted i shown is there = parted _ (entry i).name _ shown (name_plain i) is there
 
 -- a name, how many bytes are stated, and an operand or none
-pub parted_written : (old stated name name' operand operand' shown : List ℕ) {a : List ℕ} → a ≡ ((old ++ name') ++ stated) ++ codes " " → name' ≡ name → operand' ≡ operand → shown ≡ codes " " ++ operand → a ++ operand' ≡ old ++ (name ++ stated ++ shown)
+pub parted_written : (old stated name name' operand operand' shown : List ℕ) {a : List ℕ} →
+    a ≡ ((old ++ name') ++ stated) ++ codes " " → name' ≡ name → operand' ≡ operand → shown ≡ codes " " ++ operand → a ++
+    operand' ≡ old ++ (name ++ stated ++ shown)
 parted_written old stated name name' operand operand' shown at same same' is =
     ap (λ t. t ++ operand') at ∙ ap (λ n. (((old ++ n) ++ stated) ++ codes " ") ++ operand') same ∙ ap (λ o. (((old ++ name) ++ stated) ++ codes " ") ++ o) same'
     ∙ (simp append_assoc) ∙ ap (λ o. old ++ (name ++ stated ++ o)) (sym is)
@@ -215,11 +239,16 @@ alone_written old stated name name' shown at same is =
     ap (λ t. t ++ stated) (at ∙ ap (λ n. old ++ n) same) ∙ append_assoc old name stated ∙ ap (λ t. old ++ t) (sym (append-nil (name ++ stated)) ∙ ap (λ o. name ++ stated ++ o) (sym is))
 
 -- a part of a text that is as_line by options
-pub part_written : {S E : Type 0} (r : Result S E) (old new front part : List ℕ) (o : Option (List ℕ)) → o ≡ Some part → OnOk r (AppendsText old new (Some front ++? o)) → OnOk r (new ≡ old ++ (front ++ part))
+pub part_written : {S E : Type 0} (r : Result S E) (old new front part : List ℕ) (o : Option (List ℕ)) → o ≡ Some part →
+    OnOk r (AppendsText old new (Some front ++? o)) → OnOk r (new ≡ old ++ (front ++ part))
 part_written r old new front part o is wrote = subst (λ (x : Option (List ℕ)). OnOk r (AppendsText old new (Some front ++? x))) is wrote
 
 -- a row, part by part
-pub row_written : (old head lend control count start : List ℕ) → ((old ++ codes "loop head " ++ head ++ codes " lend " ++ lend) ++ (codes " control " ++ (control ++ (codes " turns " ++ (count ++ codes " start "))))) ++ start ++ codes "\n" ≡ old ++ as_line (codes "loop head " ++ head ++ codes " lend " ++ lend ++ codes " control " ++ control ++ codes " turns " ++ count ++ codes " start " ++ start)
+pub row_written : (old head lend control count start : List ℕ) →
+    ((old ++ codes "loop head " ++ head ++ codes " lend " ++ lend) ++
+    (codes " control " ++ (control ++ (codes " turns " ++ (count ++ codes " start "))))) ++ start ++ codes "\n" ≡ old ++
+    as_line (codes "loop head " ++ head ++ codes " lend " ++ lend ++ codes " control " ++ control ++ codes " turns " ++
+    count ++ codes " start " ++ start)
 row_written old head lend control count start = simp append_assoc
 
 -- so many marks that are not set

@@ -1,5 +1,6 @@
 -- What is read so far of a text.
-use Rattle.std.specs.Prelude.{ℕ, ◌+◌, nat_le, nat_lt, Bool, false, true, ◌||◌, if◌then◌else◌, List, [], ◌∷◌, ◌++◌, length, Option, None, Result, Ok, Err, is_some}
+use Rattle.std.specs.Prelude.{ℕ, ◌+◌, nat_le, nat_lt, Bool, false, true, ◌||◌, if◌then◌else◌, List, [], ◌∷◌, ◌++◌}
+use Rattle.std.specs.Prelude.{length, Option, None, Result, Ok, Err, is_some}
 use Rattle.std.specs.List.{find}
 use Rattle.std.specs.Str.{bytes_eq}
 use Rattle.std.specs.Option.{option_map, ok_or}
@@ -115,7 +116,10 @@ locals_named word size d =
     if is_taken word d then Err (fault_at word Twice)
     else if nat_lt most_words (d.words + size) then Err (fault_at word TooMany)
     else if is_full d.locals then Err (fault_at word TooMany)
-    else Ok (record d { locals = d.locals ++ (record { word = word; first = d.words; words = size }) ∷ []; words = d.words + size })
+    else Ok (record d {
+      locals = d.locals ++ (record { word = word; first = d.words; words = size }) ∷ [];
+      words = d.words + size;
+    })
 
 -- a label here
 unfoldable pub label_set : Word → Said → Result Said SourceFault

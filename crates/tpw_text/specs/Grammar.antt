@@ -1,5 +1,6 @@
 -- What a statement says, by its words alone.
-use Rattle.std.specs.Prelude.{ℕ, ◌+◌, ℤ, ◌==◌, ◌&&◌, ◌||◌, not, Bool, false, if◌then◌else◌, List, [], ◌∷◌, drop, codes, Option, Some, None, option_map, Result, Ok, Err, slice_get}
+use Rattle.std.specs.Prelude.{ℕ, ◌+◌, ℤ, ◌==◌, ◌&&◌, ◌||◌, not, Bool, false, if◌then◌else◌, List, [], ◌∷◌, drop, codes}
+use Rattle.std.specs.Prelude.{Option, Some, None, option_map, Result, Ok, Err, slice_get}
 use Rattle.std.specs.Str.{str_eq_ignore_ascii_case}
 use Rattle.std.specs.Option.{ok_or}
 use Rattle.tp_image.specs.declared.image.Version.{Version}
@@ -36,7 +37,8 @@ use Rattle.tpw_text.specs.Faults.{fault_at, ◌>>=◌}
 use Rattle.tpw_text.specs.Numbers.{begins_number}
 use Rattle.tpw_text.specs.Names.{function_named, operation_named, is_left_out}
 use Rattle.tpw_text.specs.Keywords.{keyword_named}
-use Rattle.tpw_text.specs.Statements.{word_said, name_said, expect_said, end_said, one_number_said, target_said, number_read, count_read, this_word}
+use Rattle.tpw_text.specs.Statements.{word_said, name_said, expect_said, end_said, one_number_said, target_said}
+use Rattle.tpw_text.specs.Statements.{number_read, count_read, this_word}
 use Rattle.tpw_text.specs.Lists.{list_said, new_local_said, initial_word_said, byte_line_said}
 
 -- what a statement says. A word is kept where the statement may still be refused at it

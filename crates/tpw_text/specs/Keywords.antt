@@ -3,7 +3,9 @@ use Rattle.std.specs.Prelude.{ℕ, List, [], ◌∷◌, codes, Option}
 use Rattle.std.specs.List.{find}
 use Rattle.std.specs.Str.{str_eq_ignore_ascii_case}
 use Rattle.tpw_text.specs.declared.keyword.Keyword.{Keyword}
-use Rattle.tpw_text.specs.declared.keyword.Keyword.TheVariants.{Worker, Packet, Results, Start, Workspace, Version, Const, Local, Init, Byte, Receive, Send, Trace, Load, Store, For, End, Loop}
+use Rattle.tpw_text.specs.declared.keyword.Keyword.TheVariants.{Worker, Packet, Results, Start, Workspace, Version}
+use Rattle.tpw_text.specs.declared.keyword.Keyword.TheVariants.{Const, Local, Init, Byte, Receive, Send, Trace, Load}
+use Rattle.tpw_text.specs.declared.keyword.Keyword.TheVariants.{Store, For, End, Loop}
 
 abbrev pub keyword_name : Keyword → List ℕ
 keyword_name Worker = codes "worker"

@@ -1,5 +1,6 @@
 -- Lists of a statement: what commas separate.
-use Rattle.std.specs.Prelude.{ℕ, nat_le, ◌==◌, Bool, if◌then◌else◌, List, [], ◌∷◌, length, codes, Option, Some, None, Result, Ok, Err, slice_get}
+use Rattle.std.specs.Prelude.{ℕ, nat_le, ◌==◌, Bool, if◌then◌else◌, List, [], ◌∷◌, length, codes, Option, Some, None}
+use Rattle.std.specs.Prelude.{Result, Ok, Err, slice_get}
 use Rattle.std.specs.Int.{w32, cast_unsigned}
 use Rattle.std.specs.Str.{str_eq_ignore_ascii_case}
 use Rattle.tpw_asm.specs.declared.program.Line.TheVariants.{Byte}

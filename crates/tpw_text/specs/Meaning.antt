@@ -1,8 +1,11 @@
 -- What a text says: each line adds to a draft.
-use Rattle.std.specs.Prelude.{ℕ, ◌+◌, ◌-◌, ◌*◌, nat_lt, ℤ, pos, ◌+ℤ◌, int_lt, ◌||◌, not, Bool, if◌then◌else◌, List, [], ◌∷◌, ◌++◌, length, take, replicate, codes, Option, Some, None, Result, Ok, Err, slice_get, true}
+use Rattle.std.specs.Prelude.{ℕ, ◌+◌, ◌-◌, ◌*◌, nat_lt, ℤ, pos, ◌+ℤ◌, int_lt, ◌||◌, not, Bool, if◌then◌else◌, List, []}
+use Rattle.std.specs.Prelude.{◌∷◌, ◌++◌, length, take, replicate, codes, Option, Some, None, Result, Ok, Err, slice_get}
+use Rattle.std.specs.Prelude.{true}
 use Rattle.std.specs.Str.{str_eq_ignore_ascii_case, bytes_eq}
 use Rattle.tp_decode.specs.declared.instr.Instr.{Instr}
-use Rattle.tp_decode.specs.declared.instr.Instr.TheVariants.{Ldlp, Ldnl, Ldc, Ldnlp, Ldl, Stl, Stnl, Mint, Wsub, Input, Output, Lend}
+use Rattle.tp_decode.specs.declared.instr.Instr.TheVariants.{Ldlp, Ldnl, Ldc, Ldnlp, Ldl, Stl, Stnl, Mint, Wsub, Input}
+use Rattle.tp_decode.specs.declared.instr.Instr.TheVariants.{Output, Lend}
 use Rattle.tpw_asm.specs.declared.program.Operation.TheVariants as operation
 use Rattle.tpw_asm.specs.declared.program.Line.TheVariants.{Spelled}
 use Rattle.tpw_text.specs.declared.words.Word.{Word}
@@ -35,7 +38,10 @@ use Rattle.tpw_text.specs.Fields.{version_set, workspace_set, start_set, packet_
 use Rattle.tpw_text.specs.Limits.{most_words}
 use Rattle.tpw_text.specs.Statements.{within, name_said}
 use Rattle.tpw_text.specs.Consts.{with_values}
-use Rattle.tpw_text.specs.Grammar.{StatementSaid, SaysNothing, SetsPacket, SetsResults, SetsStart, SetsWorkspace, SetsVersion, NamesConst, NamesLocals, SetsInitial, SetsLocal, AddsLines, AddsInstruction, AddsMessage, AddsAccess, BeginsLoop, EndsLoop, AddsRow, number_line, statement_said}
+use Rattle.tpw_text.specs.Grammar.{StatementSaid, SaysNothing, SetsPacket, SetsResults, SetsStart, SetsWorkspace}
+use Rattle.tpw_text.specs.Grammar.{SetsVersion, NamesConst, NamesLocals, SetsInitial, SetsLocal, AddsLines}
+use Rattle.tpw_text.specs.Grammar.{AddsInstruction, AddsMessage, AddsAccess, BeginsLoop, EndsLoop, AddsRow, number_line}
+use Rattle.tpw_text.specs.Grammar.{statement_said}
 
 -- one after another, and the first fault ends it
 unfoldable pub in_turn : {A : Type 0} → (A → Said → Result Said SourceFault) → List A → Said → Result Said SourceFault

@@ -1,11 +1,13 @@
 -- What the words of a statement are, and what is read of them.
-use Rattle.std.specs.Prelude.{ℕ, nat_le, ℤ, ◌||◌, Bool, if◌then◌else◌, List, Option, Some, None, Result, Ok, Err, slice_get}
+use Rattle.std.specs.Prelude.{ℕ, nat_le, ℤ, ◌||◌, Bool, if◌then◌else◌, List, Option, Some, None, Result, Ok, Err}
+use Rattle.std.specs.Prelude.{slice_get}
 use Rattle.std.specs.Int.{w32, cast_unsigned}
 use Rattle.std.specs.Option.{ok_or}
 use Rattle.std.specs.Str.{str_eq_ignore_ascii_case}
 use Rattle.tpw_text.specs.declared.words.Word.{Word}
 use Rattle.tpw_text.specs.declared.fault.SourceFault.{SourceFault}
-use Rattle.tpw_text.specs.declared.fault.TextFault.TheVariants.{Missing, Extra, Unexpected, NoName, NoNumber, OutOfRange}
+use Rattle.tpw_text.specs.declared.fault.TextFault.TheVariants.{Missing, Extra, Unexpected, NoName, NoNumber}
+use Rattle.tpw_text.specs.declared.fault.TextFault.TheVariants.{OutOfRange}
 use Rattle.tpw_text.specs.Faults.{fault_at, then_read}
 use Rattle.tpw_text.specs.declared.draft.Target.{Target}
 use Rattle.tpw_text.specs.declared.draft.Target.TheVariants.{Label, Address}

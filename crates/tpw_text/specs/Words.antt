@@ -1,5 +1,6 @@
 -- The words of a line, and their places.
-use Rattle.std.specs.Prelude.{ℕ, ◌+◌, ◌-◌, ◌==◌, ◌&&◌, ◌||◌, not, Bool, false, if◌then◌else◌, List, [], ◌∷◌, ◌++◌, length, take, drop, codes}
+use Rattle.std.specs.Prelude.{ℕ, ◌+◌, ◌-◌, ◌==◌, ◌&&◌, ◌||◌, not, Bool, false, if◌then◌else◌, List, [], ◌∷◌, ◌++◌}
+use Rattle.std.specs.Prelude.{length, take, drop, codes}
 use Rattle.std.specs.Char.{is_ascii_whitespace}
 use Rattle.std.specs.Fmt.{decimal}
 use Rattle.std.specs.List.{prefix_len, suffix_len}

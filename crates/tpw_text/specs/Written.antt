@@ -1,5 +1,6 @@
 -- A program as text.
-use Rattle.std.specs.Prelude.{ℕ, ◌+◌, ◌*◌, ◌-◌, ◌^◌, ◌==◌, ◌≡◌, ◌<◌, ◌≤◌, ◌||◌, min, Bool, false, if◌then◌else◌, List, [], ◌∷◌, ◌++◌, codes, length, slice_get, slice_index_or, Option, Some, None}
+use Rattle.std.specs.Prelude.{ℕ, ◌+◌, ◌*◌, ◌-◌, ◌^◌, ◌==◌, ◌≡◌, ◌<◌, ◌≤◌, ◌||◌, min, Bool, false, if◌then◌else◌, List}
+use Rattle.std.specs.Prelude.{[], ◌∷◌, ◌++◌, codes, length, slice_get, slice_index_or, Option, Some, None}
 use Rattle.std.specs.Fmt.{decimal, signed_decimal, digits, padded_integral, format_spec}
 use Rattle.std.specs.List.{flat_map, list_any}
 use Rattle.tp_image.specs.declared.image.Version.{Version}
@@ -126,7 +127,8 @@ loop_remark r =
 
 abbrev pub legend : List ℕ
 legend =
-    codes "; behind an instruction: its address, and the bytes from it to the end of the loop around it, or of the run\n"
+    codes
+    "; behind an instruction: its address, and the bytes from it to the end of the loop around it, or of the run\n"
 
 unfoldable pub remarks_above : Remarks → List ℕ
 remarks_above r =

@@ -4,7 +4,10 @@ ghost use Rattle.std.specs.Prelude.{◌≡◌, OnOk, OnErr, IfErr, Ok, slice_get
 ghost use Rattle.tpw_text.specs.Faults.{IsRefusal};
 ghost use Rattle.tpw_text.specs.Drafts.{said};
 ghost use Rattle.tpw_text.specs.Grammar.{statement_kept};
-ghost use Rattle.tpw_text.specs.Meaning.{in_turn, local_added, initial_added, initials_added, no_value, local_initials_added, line_added, lines_pushed, plain, operand_with, local_instr_added, instruction_added, message_added, accessing, access_added, loop_begun, loop_named, innermost, loop_ended, row_added, added};
+ghost use Rattle.tpw_text.specs.Meaning.{in_turn, local_added, initial_added, initials_added, no_value};
+ghost use Rattle.tpw_text.specs.Meaning.{local_initials_added, line_added, lines_pushed, plain, operand_with};
+ghost use Rattle.tpw_text.specs.Meaning.{local_instr_added, instruction_added, message_added, accessing, access_added};
+ghost use Rattle.tpw_text.specs.Meaning.{loop_begun, loop_named, innermost, loop_ended, row_added, added};
 
 use crate::draft::{Begun, Control, Draft, DraftLine, LocalName, MOST, MOST_WORDS, Row, Target};
 use crate::fault::{SourceFault, TextFault};

@@ -14,7 +14,8 @@ fn gives_names(first: &Word<'_>) -> bool
     first.is("const") || first.is("local") || first.is("for")
 }
 
-/// A word as it is read: one that stays as it is, and else a constant's name as the text of its value, at its own place.
+/// A word as it is read: one that stays as it is, and else a constant's name as the text of its value, at its own
+/// place.
 #[tactic(auto, unfolding(crate::specs::Consts::word_read))]
 fn word_read<'a>(consts: &[ConstName<'a>], stays: bool, word: &Word<'a>) -> Word<'a>
     ensures { result ≡ word_read consts.now stays word.now }
@@ -32,8 +33,8 @@ fn word_read<'a>(consts: &[ConstName<'a>], stays: bool, word: &Word<'a>) -> Word
     }
 }
 
-/// Appends the words behind the first of a statement as they are read. If it gives names, the word behind the first and the word
-/// behind each comma stay.
+/// Appends the words behind the first of a statement as they are read. If it gives names, the word behind the first and
+/// the word behind each comma stay.
 #[tactic(auto, unfolding(crate::specs::Consts::words_read))]
 fn push_read<'a>(
     read: &mut Vec<Word<'a>>,

@@ -2,7 +2,8 @@
 
 ghost use Rattle.std.specs.Prelude.{◌≡◌, ◌≤◌, OnOk, OnErr, IfOk, IfErr, Ok, true, []};
 ghost use Rattle.tpw_text.specs.Faults.{IsRefusal};
-ghost use Rattle.tpw_text.specs.Drafts.{said, empty, is_full, place_named, local_named, const_named, is_taken, local_said, pushed, locals_named, label_set, const_set, room_for_loop};
+ghost use Rattle.tpw_text.specs.Drafts.{said, empty, is_full, place_named, local_named, const_named, is_taken};
+ghost use Rattle.tpw_text.specs.Drafts.{local_said, pushed, locals_named, label_set, const_set, room_for_loop};
 
 use crate::fault::{SourceFault, TextFault};
 use crate::words::{Position, Word};
@@ -270,7 +271,8 @@ impl<'a> Draft<'a> {
         Ok(())
     }
 
-    /// Refuses a loop that a word begins, where there are as many as a worker has: rows, and loops that have no end yet.
+    /// Refuses a loop that a word begins, where there are as many as a worker has: rows, and loops that have no end
+    /// yet.
     pub fn check_loops(&self, word: &Word<'_>) -> Result<(), SourceFault>
         ensures { result ≡ room_for_loop word.now (said self.now) }
     {

@@ -4,7 +4,10 @@ ghost use Rattle.std.specs.Prelude.{◌≡◌, Ok, IfOk, IfErr, OnOk, map, ◌++
 ghost use Rattle.std.specs.List.{find};
 ghost use Rattle.tpw_text.specs.Faults.{IsRefusal, each_read};
 ghost use Rattle.tpw_text.specs.Drafts.{said};
-ghost use Rattle.tpw_text.specs.Programs.{place_of_label, line_placed, spot_placed, control_said, loop_placed, ended, workspace_said, is_beyond, locals_fit, program_said, program_of, label_of, label_listed, labels_listed, local_of, local_listed, locals_listed, source_said, finished};
+ghost use Rattle.tpw_text.specs.Programs.{place_of_label, line_placed, spot_placed, control_said, loop_placed, ended};
+ghost use Rattle.tpw_text.specs.Programs.{workspace_said, is_beyond, locals_fit, program_said, program_of, label_of};
+ghost use Rattle.tpw_text.specs.Programs.{label_listed, labels_listed, local_of, local_listed, locals_listed};
+ghost use Rattle.tpw_text.specs.Programs.{source_said, finished};
 
 use crate::draft::{
     Begun, Control, Draft, DraftLine, LabelName, LocalName, Row, Target, place_named,

@@ -1,7 +1,9 @@
 //! The grammar of instructions.
 
 ghost use Rattle.std.specs.Prelude.{◌≡◌, ◌≤◌, IfOk, slice_get};
-ghost use Rattle.tpw_text.specs.Grammar.{length_said, plain_line, number_line, is_word_here, offset_said, label_line, distance_said, number_said, local_instr_said, operand_said, with_operand_said, operation_said, instruction_said};
+ghost use Rattle.tpw_text.specs.Grammar.{length_said, plain_line, number_line, is_word_here, offset_said, label_line};
+ghost use Rattle.tpw_text.specs.Grammar.{distance_said, number_said, local_instr_said, operand_said, with_operand_said};
+ghost use Rattle.tpw_text.specs.Grammar.{operation_said, instruction_said};
 
 use crate::draft::DraftLine;
 use crate::fault::{SourceFault, TextFault};

@@ -2,7 +2,8 @@
 
 ghost use Rattle.std.specs.Prelude.{◌≡◌, ◌≤◌, map, IfOk, IfErr};
 ghost use Rattle.tpw_text.specs.Faults.{IsRefusal};
-ghost use Rattle.tpw_text.specs.Lists.{part, parts, list_said, one_word_said, no_more_said, size_said, new_local_said, initial_word_said, byte_line_said};
+ghost use Rattle.tpw_text.specs.Lists.{part, parts, list_said, one_word_said, no_more_said, size_said, new_local_said};
+ghost use Rattle.tpw_text.specs.Lists.{initial_word_said, byte_line_said};
 
 use crate::draft::{DraftLine, MOST_WORDS};
 use crate::fault::{SourceFault, TextFault};

@@ -2,7 +2,9 @@
 
 ghost use Rattle.std.specs.Prelude.{◌≡◌, ◌≤◌, IfOk, IfErr};
 ghost use Rattle.tpw_text.specs.Faults.{IsRefusal};
-ghost use Rattle.tpw_text.specs.Grammar.{statement_kept, field_said, version_said, const_said, values_said, initial_at, initial_of, initial_said, one_name_said, element_said, new_loop_said, row_said, keyword_said, statement_said};
+ghost use Rattle.tpw_text.specs.Grammar.{statement_kept, field_said, version_said, const_said, values_said, initial_at};
+ghost use Rattle.tpw_text.specs.Grammar.{initial_of, initial_said, one_name_said, element_said, new_loop_said};
+ghost use Rattle.tpw_text.specs.Grammar.{row_said, keyword_said, statement_said};
 
 use crate::draft::{Control, MOST_WORDS, Row};
 use crate::fault::{SourceFault, TextFault};

@@ -1,7 +1,8 @@
 //! The words that a statement wants.
 
 ghost use Rattle.std.specs.Prelude.{◌≡◌, ◌≤◌, IfOk};
-ghost use Rattle.tpw_text.specs.Statements.{word_said, is_no_name, name_said, expect_said, end_said, one_number_said, target_said};
+ghost use Rattle.tpw_text.specs.Statements.{word_said, is_no_name, name_said, expect_said, end_said, one_number_said};
+ghost use Rattle.tpw_text.specs.Statements.{target_said};
 
 use crate::draft::Target;
 use crate::fault::{SourceFault, TextFault};

@@ -4,7 +4,8 @@ ghost use Rattle.std.specs.Prelude.{◌≡◌, ◌≤◌, ◌<◌, ◌+◌, leng
 ghost use Rattle.std.specs.List.{slice_range, list_all};
 ghost use Rattle.std.specs.Str.{str_eq_ignore_ascii_case};
 ghost use Rattle.tpw_text.specs.Faults.{fault_at};
-ghost use Rattle.tpw_text.specs.Words.{position_of, token, tokens, is_mark, is_plain, begins_comment, before_comment, words_of_line, word_if_any, behind_label, statement_or_line};
+ghost use Rattle.tpw_text.specs.Words.{position_of, token, tokens, is_mark, is_plain, begins_comment, before_comment};
+ghost use Rattle.tpw_text.specs.Words.{words_of_line, word_if_any, behind_label, statement_or_line};
 
 use crate::fault::{SourceFault, TextFault};
 use std::alloc::{AllocError, Global};

@@ -1,11 +1,15 @@
 //! A program as text.
 
-ghost use Rattle.std.specs.Prelude.{◌≡◌, ◌++◌, ◌||◌, ℕ, ◌<◌, ◌==◌, length, codes, slice_index_or, false, string_bytes, IfOk, OnOk};
+ghost use Rattle.std.specs.Prelude.{◌≡◌, ◌++◌, ◌||◌, ℕ, ◌<◌, ◌==◌, length, codes, slice_index_or, false, string_bytes};
+ghost use Rattle.std.specs.Prelude.{IfOk, OnOk};
 ghost use Rattle.std.specs.Fmt.{signed_decimal};
 ghost use Rattle.std.specs.List.{flat_map, list_any};
 ghost use Rattle.std.specs.Option.{option_copied};
 ghost use Rattle.tpw_text.specs.Programs.{program_said};
-ghost use Rattle.tpw_text.specs.Written.{spot_text, loop_text, stated_text, operation_text, line_text, is_at, names_from_row, names_from_operation, names_from_line, is_named, IsMarked, AreMarks, label_there, version_text, initial_text, fields_text, lines_text, text_of};
+ghost use Rattle.tpw_text.specs.Written.{spot_text, loop_text, stated_text, operation_text, line_text, is_at};
+ghost use Rattle.tpw_text.specs.Written.{names_from_row, names_from_operation, names_from_line, is_named, IsMarked};
+ghost use Rattle.tpw_text.specs.Written.{AreMarks, label_there, version_text, initial_text, fields_text, lines_text};
+ghost use Rattle.tpw_text.specs.Written.{text_of};
 
 use crate::remarks::{Remarks, end_line, put_above};
 use std::alloc::{AllocError, Global};

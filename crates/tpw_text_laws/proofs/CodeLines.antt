@@ -1,5 +1,7 @@
 -- The lines of a program's code are read as they are written.
-use Rattle.std.proofs.Common.{◌≡◌, ◌⊎◌, inl, inr, ℕ, ◌+◌, ◌<◌, ◌≤◌, ◌^◌, ◌==◌, ◌||◌, Bool, true, false, ℤ, List, [], ◌∷◌, ◌++◌, codes, length, map, slice_get, Option, Some, None, Result, Ok, Err, refl, ap, sym, ◌∙◌, arith, append_assoc}
+use Rattle.std.proofs.Common.{◌≡◌, ◌⊎◌, inl, inr, ℕ, ◌+◌, ◌<◌, ◌≤◌, ◌^◌, ◌==◌, ◌||◌, Bool, true, false, ℤ, List, []}
+use Rattle.std.proofs.Common.{◌∷◌, ◌++◌, codes, length, map, slice_get, Option, Some, None, Result, Ok, Err, refl, ap}
+use Rattle.std.proofs.Common.{sym, ◌∙◌, arith, append_assoc}
 use Rattle.std.specs.Int.{w32}
 use Rattle.std.specs.Int.RustNames.{FitsSigned}
 use Rattle.std.specs.Fmt.{decimal, signed_decimal}
@@ -51,7 +53,9 @@ pub record Reads (named : ℕ → Bool) (count : ℕ) (line : Line) : Type 0 whe
   pub pieces : List Piece
   pub is : line_text line ≡ write pieces
   pub apart : AreApart pieces
-  pub says : (n : ℕ) (d : Said) → d.consts ≡ [] → (w : Word) × (l : DraftLine) × (line_said (map word_for (placed n 1 pieces)) d ≡ pushed w l d) × IsDrafted named count l line × (position_of w ≡ record { line = n; column = column_of line })
+  pub says : (n : ℕ) (d : Said) → d.consts ≡ [] → (w : Word) × (l : DraftLine) ×
+      (line_said (map word_for (placed n 1 pieces)) d ≡ pushed w l d) × IsDrafted named count l line ×
+      (position_of w ≡ record { line = n; column = column_of line })
 
 -- how many bytes are stated
 abbrev stated_pieces : Option ℕ → List Piece → List Piece
@@ -70,7 +74,9 @@ abbrev operand_at : Option ℕ → ℕ
 operand_at None = 1
 operand_at (Some bytes) = 3
 
-stated_placed : (n column : ℕ) (bytes : Option ℕ) (ps : List Piece) → map word_for (placed n column (stated_pieces bytes ps)) ≡ stated_words n column bytes (map word_for (placed n (column_behind column bytes) ps))
+stated_placed : (n column : ℕ) (bytes : Option ℕ) (ps : List Piece) →
+    map word_for (placed n column (stated_pieces bytes ps)) ≡ stated_words n column bytes
+    (map word_for (placed n (column_behind column bytes) ps))
 stated_placed n column None ps = refl
 stated_placed n column (Some bytes) ps = refl
 
@@ -94,7 +100,9 @@ spelled_written name bytes ps = ap (λ t. codes "        " ++ t) (append_assoc n
 spelled_apart : (name : List ℕ) (bytes : Option ℕ) (ps : List Piece) → IsWord name → begins is_plain (write ps) ≡ false → AreApart ps → AreApart (spelled name bytes ps)
 spelled_apart name bytes ps word ends apart = (word, stated_apart bytes ps ends apart)
 
-instruction_says : (first : Word) (ws : List Word) (l : NewLine) (d : Said) → d.consts ≡ [] → keyword_named first.text.now ≡ None → instruction_said (first ∷ ws) first ≡ Ok (instruction.Line l) → unlabelled (first ∷ ws) d ≡ pushed l.word l.line d
+instruction_says : (first : Word) (ws : List Word) (l : NewLine) (d : Said) → d.consts ≡ [] →
+    keyword_named first.text.now ≡ None → instruction_said (first ∷ ws) first ≡ Ok (instruction.Line l) →
+    unlabelled (first ∷ ws) d ≡ pushed l.word l.line d
 unfolding statement_said added
 instruction_says first ws l d bare none said =
     let plain : (statement_said (first ∷ ws) >>= λ s. added s d) ≡ pushed l.word l.line d = rw (none, said) refl in
@@ -104,7 +112,8 @@ not_zero : (n : ℕ) → 0 < n → (n == 0) ≡ false
 not_zero n h = grind (arith, nat_tests)
 
 -- the stated length
-length_is : (n column : ℕ) (bytes : Option ℕ) (first w : Word) (ws : List Word) → MayBeStated bytes → IsWord w.text.now → length_said (first ∷ stated_words n column bytes (w ∷ ws)) ≡ Ok (bytes, operand_at bytes)
+length_is : (n column : ℕ) (bytes : Option ℕ) (first w : Word) (ws : List Word) → MayBeStated bytes →
+    IsWord w.text.now → length_said (first ∷ stated_words n column bytes (w ∷ ws)) ≡ Ok (bytes, operand_at bytes)
 unfolding length_said word_said
 length_is n column None first w ws may word = rw (other_word w.text.now 47 word refl) refl
 length_is n column (Some bytes) first w ws may word = rw (count_is (at n (column + 1) (decimal bytes)) most_bytes bytes refl may.1 (omega (arith, may.1)), not_zero bytes may.0) refl
@@ -118,11 +127,15 @@ with_operand : (words : List Word) (first w : Word) (function i : ℕ) (bytes : 
 unfolding with_operand_said word_said
 with_operand words first w function i bytes l long here said = rw (long, here) said
 
-of_a_function : (words : List Word) (first : Word) (function : ℕ) (l : NewLine) → function_named first.text.now ≡ Some function → with_operand_said words first function ≡ Ok (instruction.Line l) → instruction_said words first ≡ Ok (instruction.Line l)
+of_a_function : (words : List Word) (first : Word) (function : ℕ) (l : NewLine) →
+    function_named first.text.now ≡ Some function → with_operand_said words first function ≡ Ok (instruction.Line l) →
+    instruction_said words first ≡ Ok (instruction.Line l)
 unfolding instruction_said
 of_a_function words first function l named said = rw named said
 
-of_an_operation : (words : List Word) (first : Word) (i : Instr) (l : NewLine) → function_named first.text.now ≡ None → operation_named first.text.now ≡ Some i → operation_said words first i ≡ Ok (instruction.Line l) → instruction_said words first ≡ Ok (instruction.Line l)
+of_an_operation : (words : List Word) (first : Word) (i : Instr) (l : NewLine) → function_named first.text.now ≡ None →
+    operation_named first.text.now ≡ Some i → operation_said words first i ≡ Ok (instruction.Line l) →
+    instruction_said words first ≡ Ok (instruction.Line l)
 unfolding instruction_said
 of_an_operation words first i l no_function named said = rw (no_function, named) said
 
@@ -131,11 +144,14 @@ unfolding line_said
 one_word first d = refl
 
 -- a function with its operand
-function_says : (n column : ℕ) (bytes : Option ℕ) (first w : Word) (ws : List Word) (function : ℕ) (l : NewLine) (d : Said) → d.consts ≡ [] → MayBeStated bytes → IsWord w.text.now → keyword_named first.text.now ≡ None
+function_says : (n column : ℕ) (bytes : Option ℕ) (first w : Word) (ws : List Word) (function : ℕ) (l : NewLine)
+    (d : Said) → d.consts ≡ [] → MayBeStated bytes → IsWord w.text.now → keyword_named first.text.now ≡ None
     → function_named first.text.now ≡ Some function → operand_said (first ∷ stated_words n column bytes (w ∷ ws)) first function bytes (operand_at bytes + 1) w ≡ Ok (instruction.Line l)
     → line_said (first ∷ stated_words n column bytes (w ∷ ws)) d ≡ pushed l.word l.line d
 function_says n column bytes first w ws function l d bare may word none named said =
-    is_unlabelled bytes ∙ instruction_says first (stated_words n column bytes (w ∷ ws)) l d bare none (of_a_function _ first function l named (with_operand _ first w function (operand_at bytes) bytes l (length_is n column bytes first w ws may word) (operand_here n column bytes first w ws) said))
+    is_unlabelled bytes ∙ instruction_says first (stated_words n column bytes (w ∷ ws)) l d bare none
+    (of_a_function _ first function l named (with_operand _ first w function (operand_at bytes) bytes l
+    (length_is n column bytes first w ws may word) (operand_here n column bytes first w ws) said))
   where
     is_unlabelled : (b : Option ℕ) → line_said (first ∷ stated_words n column b (w ∷ ws)) d ≡ unlabelled (first ∷ stated_words n column b (w ∷ ws)) d
     is_unlabelled None = not_labelled first w ws d (other_word w.text.now 58 word refl)
@@ -161,7 +177,9 @@ function_read named count i bytes is fits may =
     let ps : List Piece = Gap ∷ Of (signed_decimal (entry i).operand) ∷ [] in
     record {
       pieces = spelled (entry i).name bytes ps;
-      is = ap (λ t. codes "        " ++ ((entry i).name ++ stated_text bytes ++ t)) (is.text ∙ ap (λ t. 32 ∷ t) (sym (append-nil (signed_decimal (entry i).operand)))) ∙ spelled_written (entry i).name bytes ps;
+      is = ap (λ t. codes "        " ++ ((entry i).name ++ stated_text bytes ++ t))
+          (is.text ∙ ap (λ t. 32 ∷ t) (sym (append-nil (signed_decimal (entry i).operand)))) ∙
+          spelled_written (entry i).name bytes ps;
       apart = spelled_apart (entry i).name bytes ps (name_word i) refl (signed_word (entry i).operand, (refl, tt));
       says = λ n d bare.
           let first : Word = at n 9 (entry i).name in
@@ -172,22 +190,29 @@ function_read named count i bytes is fits may =
             l.line,
             ap (λ ws. line_said (first ∷ ws) d) (stated_placed n c bytes ps)
                 ∙ function_says n c bytes first w [] (entry i).function l d bare may (signed_word (entry i).operand) (no_keyword i) is.named
-                (number_operand _ first w (entry i).function (operand_at bytes + 1) bytes (entry i).operand i (nothing_behind n c bytes first w) (begins_signed (entry i).operand fits) (signed_is w (entry i).operand refl fits) is.made),
+                (number_operand _ first w (entry i).function (operand_at bytes + 1) bytes (entry i).operand i
+                (nothing_behind n c bytes first w) (begins_signed (entry i).operand fits)
+                (signed_is w (entry i).operand refl fits) is.made),
             plain_drafted named count (Spelled (Plain i) bytes),
             refl,
           );
     }
 
 -- an operation
-operation_length : (n column : ℕ) (bytes : Option ℕ) (first : Word) (i : Instr) → MayBeStated bytes → operation_said (first ∷ stated_words n column bytes []) first i ≡ Ok (instruction.Line (plain_line first bytes i))
+operation_length : (n column : ℕ) (bytes : Option ℕ) (first : Word) (i : Instr) → MayBeStated bytes →
+    operation_said (first ∷ stated_words n column bytes []) first i ≡ Ok (instruction.Line (plain_line first bytes i))
 unfolding operation_said length_said word_said end_said
 operation_length n column None first i may = refl
 operation_length n column (Some bytes) first i may = rw (count_is (at n (column + 1) (decimal bytes)) most_bytes bytes refl may.1 (omega (arith, may.1)), not_zero bytes may.0) refl
 
-operation_says : (n column : ℕ) (bytes : Option ℕ) (first : Word) (i : Instr) (d : Said) → d.consts ≡ [] → MayBeStated bytes → keyword_named first.text.now ≡ None → function_named first.text.now ≡ None → operation_named first.text.now ≡ Some i
+operation_says : (n column : ℕ) (bytes : Option ℕ) (first : Word) (i : Instr) (d : Said) → d.consts ≡ [] →
+    MayBeStated bytes → keyword_named first.text.now ≡ None → function_named first.text.now ≡ None →
+    operation_named first.text.now ≡ Some i
     → line_said (first ∷ stated_words n column bytes []) d ≡ pushed first (draft.Known (Spelled (Plain i) bytes)) d
 operation_says n column bytes first i d bare may none no_function named =
-    is_unlabelled bytes ∙ instruction_says first (stated_words n column bytes []) (plain_line first bytes i) d bare none (of_an_operation _ first i (plain_line first bytes i) no_function named (operation_length n column bytes first i may))
+    is_unlabelled bytes ∙ instruction_says first (stated_words n column bytes []) (plain_line first bytes i) d bare none
+    (of_an_operation _ first i (plain_line first bytes i) no_function named
+    (operation_length n column bytes first i may))
   where
     is_unlabelled : (b : Option ℕ) → line_said (first ∷ stated_words n column b []) d ≡ unlabelled (first ∷ stated_words n column b []) d
     is_unlabelled None = one_word first d
@@ -212,24 +237,29 @@ operation_read named count i bytes is may = record {
 
 -- jumps to labels
 jump_operand : (words : List Word) (n column i to : ℕ) (bytes : Option ℕ) → slice_get words i ≡ None
-    → operand_said words (at n 9 (codes "j")) 0 bytes i (at n column (label_text to)) ≡ Ok (instruction.Line (record { word = at n 9 (codes "j"); line = draft.Jump (at n column (label_text to)) bytes }))
+    → operand_said words (at n 9 (codes "j")) 0 bytes i (at n column (label_text to)) ≡ Ok
+    (instruction.Line (record { word = at n 9 (codes "j"); line = draft.Jump (at n column (label_text to)) bytes }))
 unfolding operand_said end_said
 jump_operand words n column i to bytes none = rw none refl
 
 cj_operand : (words : List Word) (n column i to : ℕ) (bytes : Option ℕ) → slice_get words i ≡ None
-    → operand_said words (at n 9 (codes "cj")) 10 bytes i (at n column (label_text to)) ≡ Ok (instruction.Line (record { word = at n 9 (codes "cj"); line = draft.Cj (at n column (label_text to)) bytes }))
+    → operand_said words (at n 9 (codes "cj")) 10 bytes i (at n column (label_text to)) ≡ Ok
+    (instruction.Line (record { word = at n 9 (codes "cj"); line = draft.Cj (at n column (label_text to)) bytes }))
 unfolding operand_said end_said
 cj_operand words n column i to bytes none = rw none refl
 
-jump_drafted : (named : ℕ → Bool) (count to : ℕ) (bytes : Option ℕ) (w : Word) → w.text.now ≡ label_text to → to ≤ count → named to ≡ true → IsDrafted named count (draft.Jump w bytes) (Spelled (JumpTo to) bytes)
+jump_drafted : (named : ℕ → Bool) (count to : ℕ) (bytes : Option ℕ) (w : Word) → w.text.now ≡ label_text to →
+    to ≤ count → named to ≡ true → IsDrafted named count (draft.Jump w bytes) (Spelled (JumpTo to) bytes)
 unfolding line_placed
 jump_drafted named count to bytes w is within there = λ labels are. ap (λ r. then_read r (λ place. Ok (Spelled (JumpTo place) bytes))) (label_placed labels w to (are w to is within there))
 
-cj_drafted : (named : ℕ → Bool) (count to : ℕ) (bytes : Option ℕ) (w : Word) → w.text.now ≡ label_text to → to ≤ count → named to ≡ true → IsDrafted named count (draft.Cj w bytes) (Spelled (CjTo to) bytes)
+cj_drafted : (named : ℕ → Bool) (count to : ℕ) (bytes : Option ℕ) (w : Word) → w.text.now ≡ label_text to → to ≤ count →
+    named to ≡ true → IsDrafted named count (draft.Cj w bytes) (Spelled (CjTo to) bytes)
 unfolding line_placed
 cj_drafted named count to bytes w is within there = λ labels are. ap (λ r. then_read r (λ place. Ok (Spelled (CjTo place) bytes))) (label_placed labels w to (are w to is within there))
 
-distance_drafted : (named : ℕ → Bool) (count from to : ℕ) (bytes : Option ℕ) (v w : Word) → w.text.now ≡ label_text to → v.text.now ≡ label_text from → to ≤ count → from ≤ count → named to ≡ true → named from ≡ true
+distance_drafted : (named : ℕ → Bool) (count from to : ℕ) (bytes : Option ℕ) (v w : Word) → w.text.now ≡ label_text to →
+    v.text.now ≡ label_text from → to ≤ count → from ≤ count → named to ≡ true → named from ≡ true
     → IsDrafted named count (draft.Distance w v bytes) (Spelled (Distance from to) bytes)
 unfolding line_placed
 distance_drafted named count from to bytes v w is is' within within' there there' = λ labels are.
@@ -285,8 +315,13 @@ cj_read named count to bytes within there may =
     }
 
 -- the distance between two labels
-distance_operand : (words : List Word) (n column minus i to : ℕ) (v : Word) (bytes : Option ℕ) → slice_get words i ≡ Some (at n minus (codes "-")) → slice_get words (i + 1) ≡ Some v → slice_get words (i + 2) ≡ None
-    → operand_said words (at n 9 (codes "ldc")) 4 bytes i (at n column (label_text to)) ≡ Ok (instruction.Line (record { word = at n 9 (codes "ldc"); line = draft.Distance (at n column (label_text to)) v bytes }))
+distance_operand : (words : List Word) (n column minus i to : ℕ) (v : Word) (bytes : Option ℕ) →
+    slice_get words i ≡ Some (at n minus (codes "-")) → slice_get words (i + 1) ≡ Some v → slice_get words (i + 2) ≡ None
+    → operand_said words (at n 9 (codes "ldc")) 4 bytes i (at n column (label_text to)) ≡ Ok
+    (instruction.Line (record {
+      word = at n 9 (codes "ldc");
+      line = draft.Distance (at n column (label_text to)) v bytes;
+    }))
 unfolding operand_said distance_said word_said end_said
 distance_operand words n column minus i to v bytes here next none = rw (here, next, none) refl
 
@@ -305,7 +340,8 @@ end_here n column (Some bytes) first w m v = refl
 distance_text : (a to from : List ℕ) → (((a ++ codes " ") ++ to) ++ codes " - ") ++ from ≡ a ++ 32 ∷ (to ++ 32 ∷ 45 ∷ 32 ∷ (from ++ []))
 distance_text a to from = simp (append_assoc, append-nil)
 
-distance_read : (named : ℕ → Bool) (count from to : ℕ) (bytes : Option ℕ) → from ≤ count → to ≤ count → named from ≡ true → named to ≡ true → MayBeStated bytes → Reads named count (Spelled (Distance from to) bytes)
+distance_read : (named : ℕ → Bool) (count from to : ℕ) (bytes : Option ℕ) → from ≤ count → to ≤ count →
+    named from ≡ true → named to ≡ true → MayBeStated bytes → Reads named count (Spelled (Distance from to) bytes)
 unfolding line_text operation_text is_plain keyword_named function_named function_by_name
 distance_read named count from to bytes within' within there' there may =
     let ps : List Piece = Gap ∷ Of (label_text to) ∷ Gap ∷ Of (codes "-") ∷ Gap ∷ Of (label_text from) ∷ [] in
@@ -323,7 +359,9 @@ distance_read named count from to bytes within' within there' there may =
             draft.Distance w v bytes,
             ap (λ ws. line_said (first ∷ ws) d) (stated_placed n 12 bytes ps)
                 ∙ function_says n 12 bytes first w (m ∷ v ∷ []) 4 (record { word = first; line = draft.Distance w v bytes }) d bare may (label_word to) refl refl
-                (distance_operand _ n c (c + length (label_text to) + 1) (operand_at bytes + 1) to v bytes (minus_here n 12 bytes first w m v) (from_here n 12 bytes first w m v) (end_here n 12 bytes first w m v)),
+                (distance_operand _ n c (c + length (label_text to) + 1) (operand_at bytes + 1) to v bytes
+                (minus_here n 12 bytes first w m v) (from_here n 12 bytes first w m v)
+                (end_here n 12 bytes first w m v)),
             distance_drafted named count from to bytes v w refl refl within within' there there',
             refl,
           );
@@ -340,7 +378,9 @@ unfolding in_turn
 then_done (Ok d) = refl
 then_done (Err e) = refl
 
-byte_says : (n column : ℕ) (w : Word) (l : NewLine) (d : Said) → d.consts ≡ [] → list_said byte_line_said (at n column (codes "byte")) (w ∷ []) ≡ Ok (l ∷ []) → unlabelled (at n column (codes "byte") ∷ w ∷ []) d ≡ pushed l.word l.line d
+byte_says : (n column : ℕ) (w : Word) (l : NewLine) (d : Said) → d.consts ≡ [] →
+    list_said byte_line_said (at n column (codes "byte")) (w ∷ []) ≡ Ok (l ∷ []) →
+    unlabelled (at n column (codes "byte") ∷ w ∷ []) d ≡ pushed l.word l.line d
 unfolding statement_said keyword_named keyword_said added in_turn
 byte_says n column w l d bare said =
     let first : Word = at n column (codes "byte") in

@@ -55,7 +55,8 @@ last_fits oreg b f e false is spells =
     second None = e
     second (Some p) = p.1
 
-next_fits : (oreg b f : ℕ) (e : ℤ) (t u : Bool) (x y : Option (ℕ × ℤ)) → (x ≡ spelling f e → FitsSigned w32 e) → (y ≡ spelling f e → FitsSigned w32 e) → (if t then x else if u then y else None) ≡ spelling f e → FitsSigned w32 e
+next_fits : (oreg b f : ℕ) (e : ℤ) (t u : Bool) (x y : Option (ℕ × ℤ)) → (x ≡ spelling f e → FitsSigned w32 e) →
+    (y ≡ spelling f e → FitsSigned w32 e) → (if t then x else if u then y else None) ≡ spelling f e → FitsSigned w32 e
 next_fits oreg b f e true u x y one two spells = one spells
 next_fits oreg b f e false true x y one two spells = two spells
 next_fits oreg b f e false false x y one two spells = cc
@@ -93,7 +94,9 @@ code_has : (code : List ℕ) (lines : List Line) → AreLinesOf code lines → A
 code_has code lines is = subst (AllByRecursion HasOperand) (sym is.are) (both_have (flat_map cut_lines is.cuts) (map Byte is.rest) (cuts_have is.cuts is.each) (bytes_have is.rest))
 
 -- with places for distances
-place_has : (jump : ℕ → Operation) (plain : Operation) (bytes : Option ℕ) (o : Option ℕ) → ((p : ℕ) → HasOperand (Spelled (jump p) bytes)) → HasOperand (Spelled plain bytes) → HasOperand (Spelled (to_place jump plain o) bytes)
+place_has : (jump : ℕ → Operation) (plain : Operation) (bytes : Option ℕ) (o : Option ℕ) →
+    ((p : ℕ) → HasOperand (Spelled (jump p) bytes)) → HasOperand (Spelled plain bytes) →
+    HasOperand (Spelled (to_place jump plain o) bytes)
 place_has jump plain bytes None j p = p
 place_has jump plain bytes (Some place) j p = j place
 
@@ -147,7 +150,9 @@ same_assembly a b image same is =
     }
 
 pub disassembled_back : (image : ImageValue) (program : Program) (remarks : Option Remarks) → IsDisassembly image program → IsAssembly program image
-    → (source : SourceSaid) × (source_of (text_of (program_said program) remarks) ≡ Ok source) × IsSource (program_said program) remarks source × ((again : Program) → program_said again ≡ source.program → IsAssembly again image)
+    → (source : SourceSaid) × (source_of (text_of (program_said program) remarks) ≡ Ok source) ×
+    IsSource (program_said program) remarks source × ((again : Program) → program_said again ≡ source.program →
+    IsAssembly again image)
 disassembled_back image program remarks from is =
     let back = read_back (program_said program) remarks (image_may program image is (disassembly_has image program from)) in
     (back.0, back.1, back.2, λ again same. same_assembly program again image (sym (same ∙ back.2.program)) is)

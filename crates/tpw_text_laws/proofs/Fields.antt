@@ -24,7 +24,9 @@ use Rattle.tpw_text.specs.Numbers.{begins_number}
 use Rattle.tpw_text.specs.Keywords.{keyword_named}
 use Rattle.tpw_text.specs.Statements.{word_said, end_said, expect_said, one_number_said, number_read}
 use Rattle.tpw_text.specs.Lists.{parts, list_said, one_word_said, no_more_said, initial_word_said}
-use Rattle.tpw_text.specs.Grammar.{StatementSaid, SetsPacket, SetsResults, SetsStart, SetsWorkspace, SetsVersion, SetsInitial, field_said, version_numbered, version_said, values_said, initial_at, initial_said, keyword_said, statement_said}
+use Rattle.tpw_text.specs.Grammar.{StatementSaid, SetsPacket, SetsResults, SetsStart, SetsWorkspace, SetsVersion}
+use Rattle.tpw_text.specs.Grammar.{SetsInitial, field_said, version_numbered, version_said, values_said, initial_at}
+use Rattle.tpw_text.specs.Grammar.{initial_said, keyword_said, statement_said}
 use Rattle.tpw_text.specs.Meaning.{in_turn, added, initial_added, initials_added, is_colon, unlabelled, line_said}
 use Rattle.tpw_text.specs.Apart.{word_for}
 use Rattle.tpw_text.specs.Programs.{ProgramSaid}
@@ -65,7 +67,8 @@ number_alone : (first w : Word) (limit n : ℕ) → w.text.now ≡ decimal n →
 unfolding one_number_said word_said end_said
 number_alone first w limit n is few small = count_is w limit n is few small
 
-pub keyword_says : (first : Word) (ws : List Word) (k : Keyword) (s : StatementSaid) (d e : Said) → d.consts ≡ [] → keyword_named first.text.now ≡ Some k → keyword_said k (first ∷ ws) first ≡ Ok s → added s d ≡ Ok e
+pub keyword_says : (first : Word) (ws : List Word) (k : Keyword) (s : StatementSaid) (d e : Said) → d.consts ≡ [] →
+    keyword_named first.text.now ≡ Some k → keyword_said k (first ∷ ws) first ≡ Ok s → added s d ≡ Ok e
     → unlabelled (first ∷ ws) d ≡ Ok e
 unfolding statement_said
 keyword_says first ws k s d e none named said adds =
@@ -82,8 +85,14 @@ a_field name k make n s t none literal named is_field few adds =
     let line : ℕ = 1 + length front in
     let first : Word = word_for (record { text = name; line = line; column = 1 }) in
     let second : Word = word_for (record { text = decimal n; line = line; column = 1 + length name + 1 }) in
-    let said : keyword_said k (first ∷ second ∷ []) first ≡ Ok (make first n) = is_field (first ∷ second ∷ []) first ∙ ap (λ r. r >>= λ m. Ok (make first m)) (number_alone first second most_count n refl few (omega arith)) in
-    (t, not_labelled first second [] d (other_word (decimal n) 58 (decimal_word n) refl) ∙ ap (unlabelled (first ∷ second ∷ [])) is ∙ keyword_says first (second ∷ []) k (make first n) s t none named said (adds first), refl))
+    let said : keyword_said k (first ∷ second ∷ []) first ≡ Ok (make first n) = is_field (first ∷ second ∷ []) first ∙
+    ap (λ r. r >>= λ m. Ok (make first m)) (number_alone first second most_count n refl few (omega arith)) in (
+      t,
+      not_labelled first second [] d (other_word (decimal n) 58 (decimal_word n) refl) ∙
+          ap (unlabelled (first ∷ second ∷ [])) is ∙ keyword_says first (second ∷ []) k (make first n) s t none named said
+          (adds first),
+      refl,
+    ))
 
 -- a field that is not settled is said
 workspace_adds : (w : Word) (n : ℕ) (s : Said) → s.settled.workspace ≡ false → workspace_set w n s ≡ Ok (record s { workspace = Some n; settled = record s.settled { workspace = true } })
@@ -128,7 +137,8 @@ unfolding is_plain keyword_named keyword_said added
 sizes_lead p s none open_workspace open_start open_packet open_results workspace start packet result =
     behind (behind (behind
     (a_field (codes "workspace") keyword.Workspace SetsWorkspace p.workspace s (of_workspace p s) none refl refl (λ ws first. refl) workspace (λ w. workspace_adds w p.workspace s open_workspace))
-    (a_field (codes "start") keyword.Start SetsStart p.start (of_workspace p s) (of_start p (of_workspace p s)) none refl refl (λ ws first. refl) start (λ w. start_adds w p.start (of_workspace p s) open_start)))
+    (a_field (codes "start") keyword.Start SetsStart p.start (of_workspace p s) (of_start p (of_workspace p s)) none
+    refl refl (λ ws first. refl) start (λ w. start_adds w p.start (of_workspace p s) open_start)))
     (a_field (codes "packet") keyword.Packet SetsPacket p.packet (of_start p (of_workspace p s)) (of_packet p (of_start p (of_workspace p s))) none refl refl (λ ws first. refl) packet
     (λ w. packet_adds w p.packet (of_start p (of_workspace p s)) open_packet)))
     (a_field (codes "result") keyword.Results SetsResults p.result (of_packet p (of_start p (of_workspace p s))) (of_sizes p s) none refl refl (λ ws first. refl) result
@@ -155,8 +165,13 @@ two_leads s unsettled none =
     let line : ℕ = 1 + length front in
     let first : Word = word_for (record { text = codes "version"; line = line; column = 1 }) in
     let second : Word = word_for (record { text = codes "2"; line = line; column = 9 }) in
-    let said : keyword_said keyword.Version (first ∷ second ∷ []) first ≡ Ok (SetsVersion first Two) = ap (λ r. r >>= λ v. Ok (SetsVersion first v)) (two_said first second refl) in
-    (of_version Two s, not_labelled first second [] d refl ∙ ap (unlabelled (first ∷ second ∷ [])) is ∙ keyword_says first (second ∷ []) keyword.Version (SetsVersion first Two) s _ none refl said (version_adds first Two s unsettled), refl))
+    let said : keyword_said keyword.Version (first ∷ second ∷ []) first ≡ Ok (SetsVersion first Two) = ap (λ r. r >>= λ v. Ok (SetsVersion first v)) (two_said first second refl) in (
+      of_version Two s,
+      not_labelled first second [] d refl ∙ ap (unlabelled (first ∷ second ∷ [])) is ∙
+          keyword_says first (second ∷ []) keyword.Version (SetsVersion first Two) s _ none refl said
+          (version_adds first Two s unsettled),
+      refl,
+    ))
 
 pub version_leads : (v : Version) (s : Said) → s.version ≡ One → s.settled.version ≡ false → s.consts ≡ [] → Leads (version_text v) (Is s) (Is (of_version v s))
 unfolding version_text
@@ -169,7 +184,8 @@ abbrev pub value_of : Word → ℤ → InitialWord
 value_of w z = record { word = w; value = cast_unsigned w32 z }
 
 one_value : (colon : Word) (line column : ℕ) (ds : List ℕ) (z : ℤ) → number_read (word_for (record { text = 35 ∷ ds; line = line; column = column })) ≡ Ok z
-    → list_said initial_word_said colon (word_for (record { text = 35 ∷ ds; line = line; column = column }) ∷ []) ≡ Ok (value_of (word_for (record { text = 35 ∷ ds; line = line; column = column })) z ∷ [])
+    → list_said initial_word_said colon (word_for (record { text = 35 ∷ ds; line = line; column = column }) ∷ []) ≡ Ok
+    (value_of (word_for (record { text = 35 ∷ ds; line = line; column = column })) z ∷ [])
 unfolding parts initial_word_said one_word_said word_said no_more_said
 one_value colon line column ds z is = rw is refl
 
@@ -180,7 +196,9 @@ init_said first at colon value i vs is few colon_is values =
     let begins : begins_number at.text.now ≡ true = ap begins_number is ∙ begins_decimal i (omega arith) in
     rw (begins, count_is at most_words i is few (omega arith), colon_is, values) refl
 
-colon_said : (first at value : Word) (line column : ℕ) → expect_said (first ∷ at ∷ word_for (record { text = 58 ∷ []; line = line; column = column }) ∷ value ∷ []) 2 at (codes ":") ≡ Ok (word_for (record { text = 58 ∷ []; line = line; column = column }))
+colon_said : (first at value : Word) (line column : ℕ) →
+    expect_said (first ∷ at ∷ word_for (record { text = 58 ∷ []; line = line; column = column }) ∷ value ∷ []) 2 at
+    (codes ":") ≡ Ok (word_for (record { text = 58 ∷ []; line = line; column = column }))
 unfolding expect_said word_said
 colon_said first at value line column = refl
 
@@ -196,7 +214,9 @@ initial_leads : (s : Said) (i word : ℕ) → s.consts ≡ [] → length s.initi
     → Leads (as_line (codes "init " ++ decimal i ++ codes ": #" ++ digits 16 false word)) (Is s) (Is (record s { initial = s.initial ++ word ∷ [] }))
 unfolding is_plain keyword_named keyword_said added
 initial_leads s i word none long few small =
-    alone (codes "init " ++ decimal i ++ codes ": #" ++ digits 16 false word) (Of (codes "init") ∷ Gap ∷ Of (decimal i) ∷ Mark 58 ∷ Gap ∷ Of (35 ∷ digits 16 false word) ∷ []) (simp (append_assoc, append-nil))
+    alone (codes "init " ++ decimal i ++ codes ": #" ++ digits 16 false word)
+    (Of (codes "init") ∷ Gap ∷ Of (decimal i) ∷ Mark 58 ∷ Gap ∷ Of (35 ∷ digits 16 false word) ∷ [])
+    (simp (append_assoc, append-nil))
     (literal_word _ refl, (refl, (decimal_word i, (refl, (refl, (hexadecimal_word (digits 16 false word) (digits_inner 16 word (omega arith) (omega arith)), (refl, tt))))))) (λ front d is.
     let line : ℕ = 1 + length front in
     let first : Word = word_for (record { text = codes "init"; line = line; column = 1 }) in
@@ -205,8 +225,11 @@ initial_leads s i word none long few small =
     let value : Word = word_for (record { text = 35 ∷ digits 16 false word; line = line; column = 6 + length (decimal i) + 1 + 1 }) in
     let v : InitialWord = value_of value (cast_signed w32 word) in
     let values : list_said initial_word_said colon (value ∷ []) ≡ Ok (v ∷ []) = one_value colon line _ (digits 16 false word) _ (hexadecimal_is value word refl small) in
-    let said : initial_said (first ∷ at ∷ colon ∷ value ∷ []) first ≡ Ok (SetsInitial at i (v ∷ [])) = init_said first at colon value i _ refl (omega arith) (colon_said first at value line _) values in
-    let adds : initials_added at i (v ∷ []) s ≡ Ok (record s { initial = s.initial ++ word ∷ [] }) = an_initial at v s i long (omega arith) ∙ ap (λ w. Ok (record s { initial = s.initial ++ w ∷ [] })) (of_z-to_z w32 word small) in (
+    let said : initial_said (first ∷ at ∷ colon ∷ value ∷ []) first ≡ Ok (SetsInitial at i (v ∷ [])) =
+    init_said first at colon value i _ refl (omega arith) (colon_said first at value line _) values in
+    let adds : initials_added at i (v ∷ []) s ≡ Ok (record s { initial = s.initial ++ word ∷ [] }) =
+    an_initial at v s i long (omega arith) ∙ ap (λ w. Ok (record s { initial = s.initial ++ w ∷ [] }))
+    (of_z-to_z w32 word small) in (
       record s { initial = s.initial ++ word ∷ [] },
       not_labelled first at (colon ∷ value ∷ []) d (other_word (decimal i) 58 (decimal_word i) refl) ∙ ap (unlabelled (first ∷ at ∷ colon ∷ value ∷ [])) is
           ∙ keyword_says first (at ∷ colon ∷ value ∷ []) keyword.Init (SetsInitial at i (v ∷ [])) s _ none refl said adds,

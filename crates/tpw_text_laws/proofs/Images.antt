@@ -1,5 +1,7 @@
 -- A program that has an image may be written.
-use Rattle.std.proofs.Common.{zero, suc, length-append, if◌then◌else◌, ◌≡◌, ℕ, ◌+◌, ◌<◌, ◌≤◌, ◌^◌, Bool, true, false, List, [], ◌∷◌, ◌++◌, length, map, Option, Some, None, unwrap_or, refl, ap, ◌∙◌, subst, arith}
+use Rattle.std.proofs.Common.{zero, suc, length-append, if◌then◌else◌, ◌≡◌, ℕ, ◌+◌, ◌<◌, ◌≤◌, ◌^◌, Bool, true, false}
+use Rattle.std.proofs.Common.{List, [], ◌∷◌, ◌++◌, length, map, Option, Some, None, unwrap_or, refl, ap, ◌∙◌, subst}
+use Rattle.std.proofs.Common.{arith}
 use Rattle.std.specs.List.{concat, AllByRecursion}
 use Rattle.std.proofs.lemmas.List.{length-map}
 use Rattle.std.proofs.lemmas.List.Elements.{recursion_from_All}
@@ -46,7 +48,8 @@ row_may addresses count row within is =
 first_row_is : (count number : ℕ) (row : Loop) (rows : List Loop) → first_row count number (row ∷ rows) ≡ None → (is_row_behind count row ≡ false) × (first_row count (number + 1) rows ≡ None)
 first_row_is count number row rows none = by (is_row_behind count row) refl none
   where
-    by : (t : Bool) → is_row_behind count row ≡ t → (if t then Some (Row number) else first_row count (number + 1) rows) ≡ None → (is_row_behind count row ≡ false) × (first_row count (number + 1) rows ≡ None)
+    by : (t : Bool) → is_row_behind count row ≡ t → (if t then Some (Row number) else first_row count (number + 1) rows)
+        ≡ None → (is_row_behind count row ≡ false) × (first_row count (number + 1) rows ≡ None)
     by true e none = cc
     by false e none = (e, none)
 
@@ -73,13 +76,19 @@ line_may : (addresses : List ℕ) (count number : ℕ) (line : Line) → line_fa
     → AllByRecursion (λ byte. byte < 256) (spelled_at addresses number line) → HasOperand line → MayBeLine count line
 line_may addresses count number (Byte byte) sound is small has = omega (arith, small.0)
 line_may addresses count number (Spelled operation bytes) sound is small has =
-    let parts = operation_sound count number operation bytes sound in
-    (operation_may count number operation bytes parts.0 has, stated_may operation bytes (length (spelled_at addresses number (Spelled operation bytes))) parts.1 is (omega (arith, line_some addresses number (Spelled operation bytes))))
+    let parts = operation_sound count number operation bytes sound in (
+      operation_may count number operation bytes parts.0 has,
+      stated_may operation bytes (length (spelled_at addresses number (Spelled operation bytes))) parts.1 is
+          (omega (arith, line_some addresses number (Spelled operation bytes))),
+    )
 
-narrow_is : (number bytes : ℕ) (line : Line) (lines : List Line) (lengths : List ℕ) → first_narrow number (line ∷ lines) (bytes ∷ lengths) ≡ None → (is_stated line bytes ≡ true) × (first_narrow (number + 1) lines lengths ≡ None)
+narrow_is : (number bytes : ℕ) (line : Line) (lines : List Line) (lengths : List ℕ) →
+    first_narrow number (line ∷ lines) (bytes ∷ lengths) ≡ None → (is_stated line bytes ≡ true) ×
+    (first_narrow (number + 1) lines lengths ≡ None)
 narrow_is number bytes line lines lengths none = by (is_stated line bytes) refl none
   where
-    by : (t : Bool) → is_stated line bytes ≡ t → (if t then first_narrow (number + 1) lines lengths else Some (Narrow number)) ≡ None → (is_stated line bytes ≡ true) × (first_narrow (number + 1) lines lengths ≡ None)
+    by : (t : Bool) → is_stated line bytes ≡ t → (if t then first_narrow (number + 1) lines lengths else Some
+        (Narrow number)) ≡ None → (is_stated line bytes ≡ true) × (first_narrow (number + 1) lines lengths ≡ None)
     by true e none = (e, none)
     by false e none = cc
 
@@ -138,7 +147,8 @@ image_may program image is has =
       packet = omega (arith, range.packet.1);
       result = omega (arith, range.result.1);
       rows = omega (arith, range.loops, ap length loops, length-map program.loops.items (row_of (addresses_from 0 lengths)));
-      loops = rows_may (addresses_from 0 lengths) (length lines) 0 program.loops.items is.laid_out.layout.places.rows (subst (AllByRecursion IsRow) loops (recursion_from_All IsRow image.loops range.rows));
+      loops = rows_may (addresses_from 0 lengths) (length lines) 0 program.loops.items is.laid_out.layout.places.rows
+          (subst (AllByRecursion IsRow) loops (recursion_from_All IsRow image.loops range.rows));
       words = omega (arith, range.initial, initial_most image.version image.workspace, ap length initial);
       initial = subst (AllByRecursion (λ word. word < 2 ^ 32)) initial (recursion_from_All (λ word. word < 2 ^ 32) image.initial range.words);
       count = omega (arith, few_lines);

@@ -87,7 +87,8 @@ space : (line column : ℕ) (bytes : List ℕ) → tokens line column (32 ∷ by
 unfolding tokens
 space line column bytes = refl
 
-cut : (line column : ℕ) (ps : List Piece) (tail : List ℕ) → AreApart ps → begins is_plain tail ≡ false → ((n c : ℕ) → tokens n c tail ≡ []) → tokens line column (write ps ++ tail) ≡ placed line column ps
+cut : (line column : ℕ) (ps : List Piece) (tail : List ℕ) → AreApart ps → begins is_plain tail ≡ false →
+    ((n c : ℕ) → tokens n c tail ≡ []) → tokens line column (write ps ++ tail) ≡ placed line column ps
 cut line column [] tail apart plain none = none line column
 cut line column (Gap ∷ ps) tail apart plain none = space line column (write ps ++ tail) ∙ cut line (column + 1) ps tail apart plain none
 cut line column (Of w ∷ ps) tail apart plain none =

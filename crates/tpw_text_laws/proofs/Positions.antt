@@ -22,8 +22,14 @@ use Rattle.tpw_text.specs.Words.{position_of}
 use Rattle.tpw_text.specs.Drafts.{Said, empty, is_full, is_taken, pushed, locals_named, label_set, const_set, room_for_loop, local_said}
 use Rattle.tpw_text.specs.Fields.{version_set, workspace_set, start_set, packet_set, results_set}
 use Rattle.tpw_text.specs.Statements.{within, name_said}
-use Rattle.tpw_text.specs.Grammar.{StatementSaid, SaysNothing, SetsPacket, SetsResults, SetsStart, SetsWorkspace, SetsVersion, NamesConst, NamesLocals, SetsInitial, SetsLocal, AddsLines, AddsInstruction, AddsMessage, AddsAccess, BeginsLoop, EndsLoop, AddsRow, number_line}
-use Rattle.tpw_text.specs.Meaning.{in_turn, local_added, initial_added, initials_added, no_value, local_initials_added, line_added, lines_pushed, operand_with, local_instr_added, instruction_added, message_lines, message_read, message_added, access_lines, access_added, loop_begins, loop_begun, loop_ends, row_of, with_row, row_added, innermost, inner_ended, loop_named, loop_ended, added, statement_with, unlabelled, is_colon, line_said}
+use Rattle.tpw_text.specs.Grammar.{StatementSaid, SaysNothing, SetsPacket, SetsResults, SetsStart, SetsWorkspace}
+use Rattle.tpw_text.specs.Grammar.{SetsVersion, NamesConst, NamesLocals, SetsInitial, SetsLocal, AddsLines}
+use Rattle.tpw_text.specs.Grammar.{AddsInstruction, AddsMessage, AddsAccess, BeginsLoop, EndsLoop, AddsRow, number_line}
+use Rattle.tpw_text.specs.Meaning.{in_turn, local_added, initial_added, initials_added, no_value, local_initials_added}
+use Rattle.tpw_text.specs.Meaning.{line_added, lines_pushed, operand_with, local_instr_added, instruction_added}
+use Rattle.tpw_text.specs.Meaning.{message_lines, message_read, message_added, access_lines, access_added, loop_begins}
+use Rattle.tpw_text.specs.Meaning.{loop_begun, loop_ends, row_of, with_row, row_added, innermost, inner_ended}
+use Rattle.tpw_text.specs.Meaning.{loop_named, loop_ended, added, statement_with, unlabelled, is_colon, line_said}
 use Rattle.tpw_text.specs.Programs.{ProgramSaid, SourceSaid, line_placed, loop_placed, ended, locals_fit, program_of, finished}
 use Rattle.tpw_text.specs.Apart.{word_for}
 use Rattle.tpw_text.specs.Texts.{words_of_lines, text_said, source_of}
@@ -37,7 +43,9 @@ abbrev pub WhereRead : {A : Type 0} → (A → Type 0) → Result A SourceFault 
 WhereRead P (Ok a) = P a
 WhereRead P (Err e) = Unit {0}
 
-then_paired : {A B : Type 0} (P : A → Type 0) (Q : B → Type 0) (r : Result A SourceFault) (next : A → Result B SourceFault) → WhereRead P r → ((a : A) → P a → WhereRead Q (next a)) → WhereRead Q (then_read r next)
+then_paired : {A B : Type 0} (P : A → Type 0) (Q : B → Type 0) (r : Result A SourceFault)
+    (next : A → Result B SourceFault) → WhereRead P r → ((a : A) → P a → WhereRead Q (next a)) →
+    WhereRead Q (then_read r next)
 then_paired P Q (Ok a) next p go = go a p
 then_paired P Q (Err e) next p go = tt
 
@@ -106,7 +114,9 @@ local_initials : (name : Word) (values : List InitialWord) (d : Said) → ArePai
 unfolding local_initials_added
 local_initials name values d p =
     then_any ArePaired (local_said d.locals name) _ (λ local. then_any ArePaired (no_value (slice_get values local.words)) _ (λ fits.
-    then_any ArePaired (within name most_words (d.start + local.first)) _ (λ first. initials name first values (record d { settled = record d.settled { start = true } }) (record { pairs = p.pairs }))))
+    then_any ArePaired (within name most_words (d.start + local.first)) _
+    (λ first. initials name first values (record d { settled = record d.settled { start = true } })
+    (record { pairs = p.pairs }))))
 
 all_pushed : (w : Word) (ls : List DraftLine) (d : Said) → ArePaired d → Pairs (lines_pushed w ls d)
 all_pushed w ls d p = turns (pushed w) (line_pushed w) ls d p
@@ -114,7 +124,8 @@ all_pushed w ls d p = turns (pushed w) (line_pushed w) ls d p
 a_local_instr : (i : LocalInstr) (d : Said) → ArePaired d → Pairs (local_instr_added i d)
 unfolding local_instr_added
 a_local_instr i d p =
-    then_any ArePaired (local_said d.locals i.name) _ (λ local. then_any ArePaired (operand_with i.offset local) _ (λ n. then_any ArePaired (number_line i.word i.bytes i.function n) _ (λ l. line_pushed l.word l.line d p)))
+    then_any ArePaired (local_said d.locals i.name) _ (λ local. then_any ArePaired (operand_with i.offset local) _
+    (λ n. then_any ArePaired (number_line i.word i.bytes i.function n) _ (λ l. line_pushed l.word l.line d p)))
 
 an_instruction : (i : Instruction) (d : Said) → ArePaired d → Pairs (instruction_added i d)
 an_instruction (Line l) d p = line_pushed l.word l.line d p
@@ -143,7 +154,9 @@ a_loop_begun l d p =
 a_loop_ended : (w name : Word) (d : Said) → ArePaired d → Pairs (loop_ended w name d)
 unfolding loop_ended
 a_loop_ended w name d p =
-    then_any ArePaired (loop_named name (innermost d.begun)) _ (λ b. all_pushed w (loop_ends b (length d.lines + 2)) (with_row (row_of b (length d.lines + 2)) (inner_ended d)) (record { pairs = p.pairs }))
+    then_any ArePaired (loop_named name (innermost d.begun)) _
+    (λ b. all_pushed w (loop_ends b (length d.lines + 2)) (with_row (row_of b (length d.lines + 2)) (inner_ended d))
+    (record { pairs = p.pairs }))
 
 a_row : (w : Word) (row : Row) (d : Said) → ArePaired d → Pairs (row_added w row d)
 a_row w row d p = then_any ArePaired (room_for_loop w d) _ (λ room. record { pairs = p.pairs })
@@ -189,12 +202,16 @@ a_text text = turns line_said a_line (map (map word_for) (words_of_lines 1 (line
 each_counted : {A B : Type 0} (read : A → Result B SourceFault) (xs : List A) → WhereRead (λ (ys : List B). length ys ≡ length xs) (each_read read xs)
 each_counted read [] = refl
 each_counted {A} {B} read (x ∷ xs) =
-    then_any (λ (ys : List B). length ys ≡ length (x ∷ xs)) (read x) _ (λ y. then_paired (λ (ys : List B). length ys ≡ length xs) (λ (ys : List B). length ys ≡ length (x ∷ xs)) (each_read read xs) _ (each_counted read xs) (λ ys same. omega (arith, same)))
+    then_any (λ (ys : List B). length ys ≡ length (x ∷ xs)) (read x) _
+    (λ y. then_paired (λ (ys : List B). length ys ≡ length xs) (λ (ys : List B). length ys ≡ length (x ∷ xs))
+    (each_read read xs) _ (each_counted read xs) (λ ys same. omega (arith, same)))
 
 a_program : (d : Said) → WhereRead (λ (p : ProgramSaid). length p.lines ≡ length d.lines) (program_of d)
 unfolding program_of
 a_program d =
-    then_paired (λ (ls : List ProgramLine). length ls ≡ length d.lines) (λ (p : ProgramSaid). length p.lines ≡ length d.lines) (each_read (line_placed d.labels) d.lines) _ (each_counted (line_placed d.labels) d.lines) (λ ls same.
+    then_paired (λ (ls : List ProgramLine). length ls ≡ length d.lines)
+    (λ (p : ProgramSaid). length p.lines ≡ length d.lines) (each_read (line_placed d.labels) d.lines) _
+    (each_counted (line_placed d.labels) d.lines) (λ ls same.
     then_any (λ (p : ProgramSaid). length p.lines ≡ length d.lines) (each_read (loop_placed d.labels d.start) d.rows) _ (λ rows. same))
 
 abbrev HasPositions : SourceSaid → Type 0

@@ -1,5 +1,7 @@
 -- A program's text is read back as that program.
-use Rattle.std.proofs.Common.{inl, inr, Err, add-one, ◌≡◌, ℕ, ◌+◌, ◌-◌, ◌*◌, ◌^◌, min, max, ◌&&◌, nat_lt, Bool, true, false, if◌then◌else◌, List, [], ◌∷◌, ◌++◌, codes, length, take, Option, Some, None, Result, Ok, refl, ap, sym, ◌∙◌, subst, arith}
+use Rattle.std.proofs.Common.{inl, inr, Err, add-one, ◌≡◌, ℕ, ◌+◌, ◌-◌, ◌*◌, ◌^◌, min, max, ◌&&◌, nat_lt, Bool, true}
+use Rattle.std.proofs.Common.{false, if◌then◌else◌, List, [], ◌∷◌, ◌++◌, codes, length, take, Option, Some, None}
+use Rattle.std.proofs.Common.{Result, Ok, refl, ap, sym, ◌∙◌, subst, arith}
 use Rattle.std.specs.List.{list_any, flat_map, find}
 use Rattle.std.specs.Str.Lines.{lines}
 use Rattle.std.specs.Option.{unwrap_or}
@@ -47,7 +49,9 @@ comment {s} text rest is shown =
 loop_leads : {s : Said} (r : LoopRemark) → Leads (loop_remark r) (Is s) (Is s)
 unfolding loop_remark
 loop_leads {s} r =
-    comment (codes "; loop " ++ decimal r.head ++ codes " to " ++ decimal r.lend ++ codes ": " ++ decimal r.turns ++ codes " turns of " ++ decimal r.turn ++ codes ", " ++ decimal (min (r.turns * r.turn) (2 ^ 64 - 1)) ++ codes " in all")
+    comment (codes "; loop " ++ decimal r.head ++ codes " to " ++ decimal r.lend ++ codes ": " ++ decimal r.turns ++
+    codes " turns of " ++ decimal r.turn ++ codes ", " ++ decimal (min (r.turns * r.turn) (2 ^ 64 - 1)) ++
+    codes " in all")
     _ refl (simp (list_all-append {X = ℕ}, decimal_line))
 
 loops_lead : {s : Said} (rs : List LoopRemark) → Leads (flat_map loop_remark rs) (Is s) (Is s)
@@ -81,7 +85,9 @@ none_below named count labels none = λ w k is low.
     let below : nat_lt k 0 ≡ false = grind (arith, nat_tests) in
     ap (λ ls. place_named ls w) none ∙ sym (ap (λ t. if named k && t then Some k else None) below ∙ ap (λ t. if t then Some k else None) (and_false (named k)))
 
-no_code : (s d : Said) (named : ℕ → Bool) (count : ℕ) (loops : List Loop) (remarks : Option Remarks) (front : List (List ℕ)) → s.lines ≡ [] → s.positions ≡ [] → s.labels ≡ [] → Rowed s named count loops d → Coded s named count loops remarks [] 0 front d
+no_code : (s d : Said) (named : ℕ → Bool) (count : ℕ) (loops : List Loop) (remarks : Option Remarks)
+    (front : List (List ℕ)) → s.lines ≡ [] → s.positions ≡ [] → s.labels ≡ [] → Rowed s named count loops d →
+    Coded s named count loops remarks [] 0 front d
 no_code s d named count loops remarks front no_lines no_positions no_labels rowed =
     let lines : d.lines ≡ [] = ap (λ (e : Said). e.lines) rowed.is ∙ no_lines in
     let positions : d.positions ≡ [] = ap (λ (e : Said). e.positions) rowed.is ∙ no_positions in
@@ -116,7 +122,9 @@ text_leads p remarks may =
     (behind (behind (version_leads p.version empty refl refl refl) (sizes_lead p _ refl refl refl refl refl may.workspace may.start may.packet may.result))
     (initials_lead _ 0 p.initial refl refl (omega (arith, may.words)) may.initial)))
     (rows_lead (fields_of p) (is_named p) (length p.lines) [] p.loops refl refl (omega (arith, may.rows)) may.loops (row_named p)))))
-    (code_leads (fields_of p) (is_named p) (length p.lines) p.loops remarks [] p.lines 0 (record { locals = refl; consts = refl }) refl (omega arith) (record { lines = may.count; labels = may.labels }) may.lines (line_named p))
+    (code_leads (fields_of p) (is_named p) (length p.lines) p.loops remarks [] p.lines 0
+    (record { locals = refl; consts = refl }) refl (omega arith) (record { lines = may.count; labels = may.labels })
+    may.lines (line_named p))
 
 said_of : (text : List ℕ) (Q : List (List ℕ) → Said → Type 0) → Leads text (Is empty) Q → (d : Said) × (text_said text ≡ Ok d) × Q (lines text) d
 unfolding text_said
@@ -174,7 +182,13 @@ program_is p remarks d has =
 source_is : (p : ProgramSaid) (remarks : Option Remarks) (d : Said) → HasProgram p remarks d → (source : SourceSaid) × (finished d ≡ Ok source) × IsSource p remarks source
 unfolding finished ended locals_fit
 source_is p remarks d has =
-    let make : ProgramSaid → Result SourceSaid SourceFault = λ program. Ok (record { program = program; positions = d.positions; labels = labels_listed d.labels; locals = locals_listed d.locals }) in (
+    let make : ProgramSaid → Result SourceSaid SourceFault =
+    λ program. Ok (record {
+      program = program;
+      positions = d.positions;
+      labels = labels_listed d.labels;
+      locals = locals_listed d.locals;
+    }) in (
       record { program = p; positions = d.positions; labels = labels_listed d.labels; locals = locals_listed d.locals },
       ap (λ b. then_read (ended b) (λ _. then_read (locals_fit d) (λ _. then_read (program_of d) make))) has.begun
           ∙ ap (λ ls. then_read (no_local (find (is_beyond (workspace_said d) d.start) ls)) (λ _. then_read (program_of d) make)) has.locals
@@ -187,7 +201,9 @@ are_labels named count labels are = λ w k is low there.
     let within : nat_lt k (count + 1) ≡ true = grind (arith, nat_tests) in
     are w k is low ∙ rw (there, within) refl
 
-has_program : (p : ProgramSaid) (remarks : Option Remarks) (d : Said) → Coded (fields_of p) (is_named p) (length p.lines) p.loops remarks p.lines (length p.lines + 1) (lines (text_of p remarks)) d → HasProgram p remarks d
+has_program : (p : ProgramSaid) (remarks : Option Remarks) (d : Said) →
+    Coded (fields_of p) (is_named p) (length p.lines) p.loops remarks p.lines (length p.lines + 1)
+    (lines (text_of p remarks)) d → HasProgram p remarks d
 has_program p remarks d coded =
     let is : d ≡ record (fields_of p) { rows = coded.fields.rows; lines = d.lines; positions = d.positions; labels = d.labels } =
     coded.is ∙ ap (λ (f : Said). record f { lines = d.lines; positions = d.positions; labels = d.labels }) coded.rowed.is in

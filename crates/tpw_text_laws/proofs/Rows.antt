@@ -56,12 +56,14 @@ one_step (Ok y) (Err e) rzs all is = ap (λ r. then_read r (λ t. Ok (y ∷ t)))
 one_step (Ok y) (Ok ys) (Err e) all is = ap (λ r. then_read r (λ t. Ok (y ∷ t))) is
 one_step (Ok y) (Ok ys) (Ok ws) all is = ap (λ r. then_read r (λ t. Ok (y ∷ t))) is
 
-each_read-append : {A B : Type 0} (read : A → Result B SourceFault) (xs zs : List A) → each_read read (xs ++ zs) ≡ then_read (each_read read xs) (λ ys. then_read (each_read read zs) (λ ws. Ok (ys ++ ws)))
+each_read-append : {A B : Type 0} (read : A → Result B SourceFault) (xs zs : List A) →
+    each_read read (xs ++ zs) ≡ then_read (each_read read xs) (λ ys. then_read (each_read read zs) (λ ws. Ok (ys ++ ws)))
 each_read-append read [] zs = then_all (each_read read zs)
 each_read-append read (x ∷ xs) zs = one_step (read x) (each_read read xs) (each_read read zs) (each_read read (xs ++ zs)) (each_read-append read xs zs)
 
 -- one more is read
-pub one_more_read : {A B : Type 0} (read : A → Result B SourceFault) (xs : List A) (x : A) (ys : List B) (y : B) → each_read read xs ≡ Ok ys → read x ≡ Ok y → each_read read (xs ++ x ∷ []) ≡ Ok (ys ++ y ∷ [])
+pub one_more_read : {A B : Type 0} (read : A → Result B SourceFault) (xs : List A) (x : A) (ys : List B) (y : B) →
+    each_read read xs ≡ Ok ys → read x ≡ Ok y → each_read read (xs ++ x ∷ []) ≡ Ok (ys ++ y ∷ [])
 one_more_read read xs x ys y all one =
     each_read-append read xs (x ∷ []) ∙ ap (λ r. then_read r (λ zs. then_read (each_read read (x ∷ [])) (λ ws. Ok (zs ++ ws)))) all
     ∙ ap (λ r. then_read (then_read r (λ z. Ok (z ∷ []))) (λ ws. Ok (ys ++ ws))) one
@@ -87,7 +89,9 @@ target_is w (spot.Address address) count is may =
     let begins : begins_number w.text.now ≡ true = ap begins_number is ∙ begins_decimal address (omega arith) in
     rw begins (ap (λ r. r >>= λ n. Ok (target.Address n)) (count_is w most_count address is may (omega arith)))
 
-spot_back : (named : ℕ → Bool) (count : ℕ) (labels : List LabelName) (w : Word) (sp : Spot) → AreLabels named count labels → w.text.now ≡ spot_text sp → MayBeSpot count sp → ((p : ℕ) → is_at p sp ≡ true → named p ≡ true)
+spot_back : (named : ℕ → Bool) (count : ℕ) (labels : List LabelName) (w : Word) (sp : Spot) →
+    AreLabels named count labels → w.text.now ≡ spot_text sp → MayBeSpot count sp →
+    ((p : ℕ) → is_at p sp ≡ true → named p ≡ true)
     → spot_placed labels (target_of w sp) ≡ Ok sp
 unfolding spot_placed spot_text
 spot_back named count labels w (spot.Place place) are is may all =
@@ -125,13 +129,71 @@ row_line l =
     ∷ Gap ∷ Of (codes "control") ∷ Gap ∷ Of (decimal l.control) ∷ Gap ∷ Of (codes "turns") ∷ Gap ∷ Of (decimal l.count)
     ∷ Gap ∷ Of (codes "start") ∷ Gap ∷ Of (signed_decimal l.start) ∷ []
 
-row_leads : (s : Said) (named : ℕ → Bool) (count : ℕ) (done : List Loop) (l : Loop) → s.consts ≡ [] → s.begun ≡ [] → length done < most_loops → MayBeRow count l → ((p : ℕ) → names_from_row p l ≡ true → named p ≡ true)
+row_leads : (s : Said) (named : ℕ → Bool) (count : ℕ) (done : List Loop) (l : Loop) → s.consts ≡ [] → s.begun ≡ [] →
+    length done < most_loops → MayBeRow count l → ((p : ℕ) → names_from_row p l ≡ true → named p ≡ true)
     → Leads (loop_text l) (Any (Rowed s named count done)) (Any (Rowed s named count (done ++ l ∷ [])))
 unfolding is_plain keyword_named keyword_said added loop_text row_line line_said loop_placed control_said
 row_leads s named count done l no_consts none few may all =
-    alone (codes "loop head " ++ spot_text l.head ++ codes " lend " ++ spot_text l.lend ++ codes " control " ++ decimal l.control ++ codes " turns " ++ decimal l.count ++ codes " start " ++ signed_decimal l.start)
-    (row_line l) (simp (append_assoc, append-nil))
-    (literal_word _ refl, (refl, (literal_word _ refl, (refl, (spot_word l.head, (refl, (literal_word _ refl, (refl, (spot_word l.lend, (refl, (literal_word _ refl, (refl, (decimal_word l.control, (refl, (literal_word _ refl, (refl, (decimal_word l.count, (refl, (literal_word _ refl, (refl, (signed_word l.start, (refl, tt)))))))))))))))))))))) (λ front d p.
+    alone (codes "loop head " ++ spot_text l.head ++ codes " lend " ++ spot_text l.lend ++ codes " control " ++
+    decimal l.control ++ codes " turns " ++ decimal l.count ++ codes " start " ++ signed_decimal l.start)
+    (row_line l) (simp (append_assoc, append-nil)) (
+      literal_word _ refl,
+      (
+        refl,
+        (
+          literal_word _ refl,
+          (
+            refl,
+            (
+              spot_word l.head,
+              (
+                refl,
+                (
+                  literal_word _ refl,
+                  (
+                    refl,
+                    (
+                      spot_word l.lend,
+                      (
+                        refl,
+                        (
+                          literal_word _ refl,
+                          (
+                            refl,
+                            (
+                              decimal_word l.control,
+                              (
+                                refl,
+                                (
+                                  literal_word _ refl,
+                                  (
+                                    refl,
+                                    (
+                                      decimal_word l.count,
+                                      (
+                                        refl,
+                                        (
+                                          literal_word _ refl,
+                                          (refl, (signed_word l.start, (refl, tt))),
+                                        ),
+                                      ),
+                                    ),
+                                  ),
+                                ),
+                              ),
+                            ),
+                          ),
+                        ),
+                      ),
+                    ),
+                  ),
+                ),
+              ),
+            ),
+          ),
+        ),
+      ),
+    ) (λ front d p.
     let n : ℕ = 1 + length front in
     let c2 : ℕ = 11 in
     let c4 : ℕ = c2 + length (spot_text l.head) + 1 + 4 + 1 in
@@ -147,25 +209,36 @@ row_leads s named count done l no_consts none few may all =
     let row : Row = record { head = target_of w2 l.head; lend = target_of w4 l.lend; control = control.Word l.control; count = l.count; start = l.start } in
     let said = row_is n 6 (c2 + length (spot_text l.head) + 1) (c4 + length (spot_text l.lend) + 1) (c6 + length (decimal l.control) + 1) (c8 + length (decimal l.count) + 1) first w2 w4 w6 w8 w10
     (target_of w2 l.head) (target_of w4 l.lend) l.control l.count l.start (target_is w2 l.head count refl may.head) (target_is w4 l.lend count refl may.lend)
-    (count_is w6 most_count l.control refl may.control (omega (arith, may.control))) (count_is w8 most_count l.count refl may.turns (omega (arith, may.turns))) (signed_is w10 l.start refl may.start) in (
+    (count_is w6 most_count l.control refl may.control (omega (arith, may.control)))
+    (count_is w8 most_count l.count refl may.turns (omega (arith, may.turns))) (signed_is w10 l.start refl may.start)
+    in (
       record s { rows = d.rows ++ row ∷ [] },
-      keyword_says first _ keyword.Loop (AddsRow first row) d _ (ap (λ (e : Said). e.consts) p.is ∙ no_consts) refl (ap (λ r. r >>= λ row. Ok (AddsRow first row)) said) (a_row first row s d done none p.is p.long few),
+      keyword_says first _ keyword.Loop (AddsRow first row) d _ (ap (λ (e : Said). e.consts) p.is ∙ no_consts) refl
+          (ap (λ r. r >>= λ row. Ok (AddsRow first row)) said) (a_row first row s d done none p.is p.long few),
       record {
         is = refl;
         long = omega (arith, length-append d.rows (row ∷ []), length-append done (l ∷ []), p.long);
         placed = λ labels are. one_more_read (loop_placed labels s.start) d.rows row done l (p.placed labels are)
-            (rw (spot_back named count labels w2 l.head are refl may.head (λ k e. all k (or_left (is_at k l.head) (is_at k l.lend) e)), spot_back named count labels w4 l.lend are refl may.lend (λ k e. all k (or_right (is_at k l.head) (is_at k l.lend) e))) refl);
+            (rw (
+              spot_back named count labels w2 l.head are refl may.head
+                  (λ k e. all k (or_left (is_at k l.head) (is_at k l.lend) e)),
+              spot_back named count labels w4 l.lend are refl may.lend
+                  (λ k e. all k (or_right (is_at k l.head) (is_at k l.lend) e)),
+            ) refl);
       },
     ))
 
-pub rows_lead : (s : Said) (named : ℕ → Bool) (count : ℕ) (done loops : List Loop) → s.consts ≡ [] → s.begun ≡ [] → length done + length loops ≤ most_loops → AllByRecursion (MayBeRow count) loops → ((p : ℕ) → list_any (names_from_row p) loops ≡ true → named p ≡ true)
+pub rows_lead : (s : Said) (named : ℕ → Bool) (count : ℕ) (done loops : List Loop) → s.consts ≡ [] → s.begun ≡ [] →
+    length done + length loops ≤ most_loops → AllByRecursion (MayBeRow count) loops →
+    ((p : ℕ) → list_any (names_from_row p) loops ≡ true → named p ≡ true)
     → Leads (flat_map loop_text loops) (Any (Rowed s named count done)) (Any (Rowed s named count (done ++ loops)))
 rows_lead s named count done [] no_consts none few may all =
     leads_to (λ front d r. subst (λ (ls : List Loop). Rowed s named count ls d) (sym (append-nil done)) r) (nothing {P = Any (Rowed s named count done)})
 rows_lead s named count done (l ∷ loops) no_consts none few may all =
     leads_to (λ front d r. subst (λ (ls : List Loop). Rowed s named count ls d) (append_assoc done (l ∷ []) loops) r)
     (behind (row_leads s named count done l no_consts none (omega arith) may.0 (λ p e. all p (or_left (names_from_row p l) (list_any (names_from_row p) loops) e)))
-    (rows_lead s named count (done ++ l ∷ []) loops no_consts none (omega (arith, length-append done (l ∷ []))) may.1 (λ p e. all p (or_right (names_from_row p l) (list_any (names_from_row p) loops) e))))
+    (rows_lead s named count (done ++ l ∷ []) loops no_consts none (omega (arith, length-append done (l ∷ []))) may.1
+    (λ p e. all p (or_right (names_from_row p l) (list_any (names_from_row p) loops) e))))
 
 -- no rows yet
 pub no_rows : (s d : Said) (named : ℕ → Bool) (count : ℕ) → s.rows ≡ [] → d ≡ s → Rowed s named count [] d

@@ -1,5 +1,7 @@
 -- The code of a program is read as it is written: its lines, with their labels and remarks.
-use Rattle.std.proofs.Common.{◌≡◌, ℕ, ◌+◌, ◌<◌, ◌≤◌, ◌^◌, ◌==◌, ◌&&◌, nat_lt, Bool, true, false, if◌then◌else◌, List, [], ◌∷◌, ◌++◌, codes, length, slice_get, Option, Some, None, Ok, refl, ap, sym, ◌∙◌, subst, arith, append_assoc, zero, suc, add-one, ◌-◌}
+use Rattle.std.proofs.Common.{◌≡◌, ℕ, ◌+◌, ◌<◌, ◌≤◌, ◌^◌, ◌==◌, ◌&&◌, nat_lt, Bool, true, false, if◌then◌else◌, List}
+use Rattle.std.proofs.Common.{[], ◌∷◌, ◌++◌, codes, length, slice_get, Option, Some, None, Ok, refl, ap, sym, ◌∙◌}
+use Rattle.std.proofs.Common.{subst, arith, append_assoc, zero, suc, add-one, ◌-◌}
 use Rattle.std.specs.List.{list_all, list_any, find, AllByRecursion}
 use Rattle.std.specs.Str.{bytes_eq, is_utf8, IsAscii}
 use Rattle.std.proofs.lemmas.Str.{is_utf8-from_IsUtf8, IsUtf8-from_ascii}
@@ -54,12 +56,16 @@ other_label k p few few' other = by (bytes_eq (label_text k) (label_text p)) ref
         let digits : decimal k ≡ decimal p = cc in
         absurd (other (decimal_injective k p few few' digits))
 
-found_last : (xs : Option LabelName) (l : LabelName) (t : Bool) → option_map (λ n. n.place) (option_or xs (if t then Some l else None)) ≡ option_or (option_map (λ n. n.place) xs) (if t then Some l.place else None)
+found_last : (xs : Option LabelName) (l : LabelName) (t : Bool) →
+    option_map (λ n. n.place) (option_or xs (if t then Some l else None)) ≡ option_or (option_map (λ n. n.place) xs)
+    (if t then Some l.place else None)
 found_last (Some n) l t = refl
 found_last None l true = refl
 found_last None l false = refl
 
-one_label_more : (labels : List LabelName) (l : LabelName) (w : Word) → place_named (labels ++ l ∷ []) w ≡ option_or (place_named labels w) (if bytes_eq l.word.text.now w.text.now then Some l.place else None)
+one_label_more : (labels : List LabelName) (l : LabelName) (w : Word) →
+    place_named (labels ++ l ∷ []) w ≡ option_or (place_named labels w)
+    (if bytes_eq l.word.text.now w.text.now then Some l.place else None)
 unfolding place_named
 one_label_more labels l w =
     ap (option_map (λ n. n.place)) (find-append (λ n. bytes_eq n.word.text.now w.text.now) labels (l ∷ []))
@@ -168,7 +174,9 @@ one_listed w k place few is same =
     ap (λ t. under t (record { name = t; place = place })) is ∙ ap (λ n. under (label_text k) (record { name = label_text k; place = n })) same
     ∙ ap (λ b. if b then label_at k ∷ [] else []) (label_is_text k few)
 
-listed_more : (named : ℕ → Bool) (k : ℕ) (labels : List LabelName) (new : List LabelName) → labels_listed labels ≡ labels_below named k → labels_listed new ≡ labels_listed labels ++ (if named k then label_at k ∷ [] else [])
+listed_more : (named : ℕ → Bool) (k : ℕ) (labels : List LabelName) (new : List LabelName) →
+    labels_listed labels ≡ labels_below named k → labels_listed new ≡ labels_listed labels ++
+    (if named k then label_at k ∷ [] else [])
     → labels_listed new ≡ labels_below named (k + 1)
 listed_more named k labels new listed more = more ∙ ap (λ ls. ls ++ (if named k then label_at k ∷ [] else [])) listed ∙ ap (labels_below named) (sym (add-one k))
 
@@ -207,7 +215,8 @@ positions_behind front more above [] (t ∷ ts) are = absurd are
 positions_behind front more above (p ∷ ps) [] are = absurd are
 positions_behind front more above (p ∷ ps) (t ∷ ts) are = (are.0, got_before front more (p.line - 1) t.text are.1, are.2, positions_behind front more p.line ps ts are.3)
 
-one_position_more : (front : List (List ℕ)) (t : WrittenLine) (above : ℕ) (ps : List Position) (ts : List WrittenLine) (p : Position) → p.line ≡ 1 + length front → p.column ≡ t.column → above ≤ length front
+one_position_more : (front : List (List ℕ)) (t : WrittenLine) (above : ℕ) (ps : List Position) (ts : List WrittenLine)
+    (p : Position) → p.line ≡ 1 + length front → p.column ≡ t.column → above ≤ length front
     → ArePositions front above ps ts → ArePositions (front ++ t.text ∷ []) above (ps ++ p ∷ []) (ts ++ t ∷ [])
 one_position_more front t above [] [] p is there low are =
     let at_last : p.line - 1 ≡ length front = omega arith in
@@ -218,7 +227,9 @@ one_position_more front t above (q ∷ ps) (u ∷ ts) p is there low are =
     let within : q.line - 1 < length front = slice_get_within front (q.line - 1) u.text are.1 in
     (are.0, got_before front (t.text ∷ []) (q.line - 1) u.text are.1, are.2, one_position_more front t q.line ps ts p is there (omega arith) are.3)
 
-written-append : (remarks : Option Remarks) (k : ℕ) (done : List Line) (line : Line) → written_lines remarks k (done ++ line ∷ []) ≡ written_lines remarks k done ++ written_line remarks (k + length done) line ∷ []
+written-append : (remarks : Option Remarks) (k : ℕ) (done : List Line) (line : Line) →
+    written_lines remarks k (done ++ line ∷ []) ≡ written_lines remarks k done ++
+    written_line remarks (k + length done) line ∷ []
 written-append remarks k [] line = ap (λ n. written_line remarks n line ∷ []) (omega arith)
 written-append remarks k (l ∷ done) line =
     let far : k + 1 + length done ≡ k + length (l ∷ done) = omega arith in
@@ -235,7 +246,8 @@ position_more front remarks done line k p ps long is are =
     subst (ArePositions (front ++ (line_text line ++ remark_behind remarks k) ∷ []) 0 (ps ++ p ∷ [])) (sym same)
     (one_position_more front (written_line remarks k line) 0 ps (written_lines remarks 0 done) p (ap (λ (q : Position). q.line) is) (ap (λ (q : Position). q.column) is) (omega arith) are)
 
-named_leads : (s : Said) (named : ℕ → Bool) (count : ℕ) (loops : List Loop) (remarks : Option Remarks) (done : List Line) (k : ℕ) → HasLabelsAlone s → length done ≡ k → HasRoom named count → k ≤ count → named k ≡ true
+named_leads : (s : Said) (named : ℕ → Bool) (count : ℕ) (loops : List Loop) (remarks : Option Remarks)
+    (done : List Line) (k : ℕ) → HasLabelsAlone s → length done ≡ k → HasRoom named count → k ≤ count → named k ≡ true
     → Leads (as_line (label_text k ++ codes ":")) (Coded s named count loops remarks done k) (Coded s named count loops remarks done (k + 1))
 unfolding is_plain
 named_leads s named count loops remarks done k only long small within there =
@@ -246,7 +258,8 @@ named_leads s named count loops remarks done k only long small within there =
     let l : LabelName = record { word = w; place = length d.lines } in
     let e : Said = record d { labels = d.labels ++ l ∷ [] } in (
       e,
-      label_line n k d e (a_label named count k w d (labels_alone s named count loops remarks done k front d only p) refl within p.labels (omega (arith, p.few, small.labels, more, fewer named (suc k) (suc count) (omega arith)))),
+      label_line n k d e (a_label named count k w d (labels_alone s named count loops remarks done k front d only p)
+          refl within p.labels (omega (arith, p.few, small.labels, more, fewer named (suc k) (suc count) (omega arith)))),
       record {
         fields = p.fields;
         rowed = p.rowed;
@@ -256,7 +269,9 @@ named_leads s named count loops remarks done k only long small within there =
         labels = label_more named count k d.labels l small.lines refl (p.long ∙ long) within there p.labels;
         few = omega (arith, length-append d.labels (l ∷ []), p.few, more, ap (λ n. length (labels_below named n)) (add-one k));
         listed = listed_more named k d.labels (d.labels ++ l ∷ []) p.listed
-            (listed-append d.labels l ∙ ap (λ ls. labels_listed d.labels ++ ls) (one_listed w k (length d.lines) (omega arith) refl (p.long ∙ long) ∙ ap (λ t. if t then label_at k ∷ [] else []) (sym there)));
+            (listed-append d.labels l ∙ ap (λ ls. labels_listed d.labels ++ ls)
+            (one_listed w k (length d.lines) (omega arith) refl (p.long ∙ long) ∙
+            ap (λ t. if t then label_at k ∷ [] else []) (sym there)));
         positions = positions_behind front ((label_text k ++ codes ":") ∷ []) 0 d.positions (written_lines remarks 0 done) p.positions;
       },
     ))
@@ -275,7 +290,9 @@ label_leads s named count loops remarks done k only long small within = by (name
       long = p.long;
       placed = p.placed;
       labels = no_label_more named count k d.labels none p.labels;
-      few = p.few ∙ sym (ap (λ n. length (labels_below named n)) (add-one k) ∙ ap (λ t. length (labels_below named k ++ (if t then label_at k ∷ [] else []))) none ∙ ap length (append-nil (labels_below named k)));
+      few = p.few ∙ sym (ap (λ n. length (labels_below named n)) (add-one k) ∙
+          ap (λ t. length (labels_below named k ++ (if t then label_at k ∷ [] else []))) none ∙
+          ap length (append-nil (labels_below named k)));
       listed = listed_more named k d.labels d.labels p.listed (sym (append-nil (labels_listed d.labels)) ∙ ap (λ t. labels_listed d.labels ++ (if t then label_at k ∷ [] else [])) (sym none));
       positions = p.positions;
     }) (nothing {P = Coded s named count loops remarks done k})
@@ -301,7 +318,8 @@ a_push w l d few =
     let space : is_full d.lines ≡ false = grind (arith, nat_tests) in
     rw space refl
 
-line_leads : (s : Said) (named : ℕ → Bool) (count : ℕ) (loops : List Loop) (done : List Line) (line : Line) (below : ℕ) (remarks : Option Remarks) (k : ℕ) → HasLabelsAlone s → length done ≡ k → k < most → Reads named count line
+line_leads : (s : Said) (named : ℕ → Bool) (count : ℕ) (loops : List Loop) (done : List Line) (line : Line) (below : ℕ)
+    (remarks : Option Remarks) (k : ℕ) → HasLabelsAlone s → length done ≡ k → k < most → Reads named count line
     → Leads (as_line (line_text line ++ remark_behind remarks k)) (Coded s named count loops remarks done below) (Coded s named count loops remarks (done ++ line ∷ []) below)
 line_leads s named count loops done line below remarks k only here few reads =
     a_line reads.pieces (remark_behind remarks k) (ap (λ t. t ++ remark_behind remarks k) reads.is) reads.apart (tail_behind remarks k) (λ front d p.
@@ -323,15 +341,21 @@ line_leads s named count loops done line below remarks k only here few reads =
       },
     ))
 
-pub code_leads : (s : Said) (named : ℕ → Bool) (count : ℕ) (loops : List Loop) (remarks : Option Remarks) (done lines : List Line) (k : ℕ) → HasLabelsAlone s → length done ≡ k → k + length lines ≡ count → HasRoom named count
+pub code_leads : (s : Said) (named : ℕ → Bool) (count : ℕ) (loops : List Loop) (remarks : Option Remarks)
+    (done lines : List Line) (k : ℕ) → HasLabelsAlone s → length done ≡ k → k + length lines ≡ count → HasRoom named count
     → AllByRecursion (MayBeLine count) lines → ((p : ℕ) → list_any (names_from_line p) lines ≡ true → named p ≡ true)
     → Leads (lines_text named remarks k lines) (Coded s named count loops remarks done k) (Coded s named count loops remarks (done ++ lines) (count + 1))
 code_leads s named count loops remarks done [] k only long all small may from =
     let end : k + 1 ≡ count + 1 = omega (arith, all) in
-    leads_to (λ front d p. subst (λ (ls : List Line). Coded s named count loops remarks ls (count + 1) front d) (sym (append-nil done)) (subst (λ (n : ℕ). Coded s named count loops remarks done n front d) end p))
+    leads_to (λ front d p. subst (λ (ls : List Line). Coded s named count loops remarks ls (count + 1) front d)
+    (sym (append-nil done)) (subst (λ (n : ℕ). Coded s named count loops remarks done n front d) end p))
     (label_leads s named count loops remarks done k only long small (omega (arith, all)))
 code_leads s named count loops remarks done (line ∷ lines) k only long all small may from =
     leads_to (λ front d p. subst (λ (ls : List Line). Coded s named count loops remarks ls (count + 1) front d) (append_assoc done (line ∷ []) lines) p)
     (behind (behind (label_leads s named count loops remarks done k only long small (omega (arith, all)))
-    (line_leads s named count loops done line (k + 1) remarks k only long (omega (arith, all, small.lines)) (line_read named count line may.0 (λ p e. from p (or_left (names_from_line p line) (list_any (names_from_line p) lines) e)))))
-    (code_leads s named count loops remarks (done ++ line ∷ []) lines (k + 1) only (omega (arith, length-append done (line ∷ []), long)) (omega (arith, all)) small may.1 (λ p e. from p (or_right (names_from_line p line) (list_any (names_from_line p) lines) e))))
+    (line_leads s named count loops done line (k + 1) remarks k only long (omega (arith, all, small.lines))
+    (line_read named count line may.0 (λ p e. from p (or_left (names_from_line p line)
+    (list_any (names_from_line p) lines) e)))))
+    (code_leads s named count loops remarks (done ++ line ∷ []) lines (k + 1) only
+    (omega (arith, length-append done (line ∷ []), long)) (omega (arith, all)) small may.1
+    (λ p e. from p (or_right (names_from_line p line) (list_any (names_from_line p) lines) e))))

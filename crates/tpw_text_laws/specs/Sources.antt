@@ -1,5 +1,6 @@
 -- What a program's text is read as.
-use Rattle.std.specs.Prelude.{◌≡◌, ℕ, zero, suc, ◌+◌, ◌-◌, ◌<◌, Bool, if◌then◌else◌, List, [], ◌∷◌, ◌++◌, length, slice_get, Option, Some}
+use Rattle.std.specs.Prelude.{◌≡◌, ℕ, zero, suc, ◌+◌, ◌-◌, ◌<◌, Bool, if◌then◌else◌, List, [], ◌∷◌, ◌++◌, length}
+use Rattle.std.specs.Prelude.{slice_get, Option, Some}
 use Rattle.std.specs.Str.Lines.{lines}
 use Rattle.tpw_asm.specs.declared.program.Line.{Line}
 use Rattle.tpw_asm.specs.declared.program.Line.TheVariants.{Byte, Spelled}

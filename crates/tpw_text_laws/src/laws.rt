@@ -42,8 +42,8 @@ pub fn function_is_read_by_its_name()
     ensures { (n : ℤ) → AllByRecursion (λ i. function_named (entry i).name ≡ Some (entry i).function) (functions n) }
 {}
 
-/// The text of a program that may be written, with any remarks or none, is read back as that program, with the labels of the
-/// places that it names and no names of local words. So reading it is refused for want of memory alone.
+/// The text of a program that may be written, with any remarks or none, is read back as that program, with the labels
+/// of the places that it names and no names of local words. So reading it is refused for want of memory alone.
 pub fn written_program_is_read_back()
     ensures read { (p : ProgramSaid) (remarks : Option Remarks) → MayBeWritten p →
         (source : SourceSaid) × (source_of (text_of p remarks) ≡ Ok source) × IsSource p remarks source }

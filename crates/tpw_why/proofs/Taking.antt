@@ -79,7 +79,9 @@ put_placed image table to u all arrives at s = by_test (at == to)
     by_test true is = subst (IsPlaced image) (same_Some _ _ is) arrives
     by_test false is = all at s is
 
-pub entered_placed : (image : ImageValue) (table new : Table) (to : ℕ) (u : State) (r : Result Bool StateFault) → HasPlacedStates image table → IsPlaced image u → Gives r new (enter (Some to) u table) → OnErr r (new ≡ table) → HasPlacedStates image new
+pub entered_placed : (image : ImageValue) (table new : Table) (to : ℕ) (u : State) (r : Result Bool StateFault) →
+    HasPlacedStates image table → IsPlaced image u → Gives r new (enter (Some to) u table) → OnErr r (new ≡ table) →
+    HasPlacedStates image new
 unfolding enter
 entered_placed image table new to u (Err e) all arrives gives kept = subst (HasPlacedStates image) (sym kept) all
 entered_placed image table new to u (Ok x) all arrives gives kept = by_met (with_place to (meeting_if_any (table to) u)) refl gives
@@ -92,10 +94,13 @@ entered_placed image table new to u (Ok x) all arrives gives kept = by_met (with
 
 -- ---- fewer changes are left
 
-pub entered_moves : (image : ImageValue) (r : Result Bool StateFault) (old new : List (Option State)) (to : ℕ) (s : State) → to < length old → length new ≡ length old → Gives r (table_of new) (enter (Some to) s (table_of old)) → IfOk r (λ moved. ReportsChange moved old new) → HasWords s → IsPlaced image s
+pub entered_moves : (image : ImageValue) (r : Result Bool StateFault) (old new : List (Option State)) (to : ℕ)
+    (s : State) → to < length old → length new ≡ length old → Gives r (table_of new) (enter (Some to) s (table_of old)) →
+    IfOk r (λ moved. ReportsChange moved old new) → HasWords s → IsPlaced image s
     → HasPlacedStates image (table_of old) → IfOk r (λ moved. Moves image moved old new)
 entered_moves image (Err e) old new to s inside sized gives reports words fits placed = tt
-entered_moves image (Ok moved) old new to s inside sized gives reports words fits placed = enter_moves image moved old new to s inside sized gives reports words fits.sized (alike (table_of old to) refl)
+entered_moves image (Ok moved) old new to s inside sized gives reports words fits placed =
+    enter_moves image moved old new to s inside sized gives reports words fits.sized (alike (table_of old to) refl)
   where
     alike : (o : Option State) → table_of old to ≡ o → IfSome o (λ u. length s.cells ≡ length u.cells)
     alike None is = tt

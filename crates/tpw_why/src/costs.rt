@@ -3,7 +3,8 @@
 ghost use Rattle.std.specs.Prelude.{◌≡◌, length, map, None, IfOk, IfSome};
 ghost use Rattle.tp_decode.specs.Cutting.{IsCutting};
 ghost use Rattle.tp_accept.specs.Capped.{counted_at, AreCounted};
-ghost use Rattle.tpw_why.specs.ByAddress.{loop_cost, AreByAddress, AreCostsOf, AreCostsOfText, MayNotBeRun, BeginsWithBudget};
+ghost use Rattle.tpw_why.specs.ByAddress.{loop_cost, AreByAddress, AreCostsOf, AreCostsOfText, MayNotBeRun};
+ghost use Rattle.tpw_why.specs.ByAddress.{BeginsWithBudget};
 
 use std::alloc::{AllocError, Global};
 use tp_accept::{Accepted, Counted, Refusal, accept, costs};
@@ -134,8 +135,8 @@ fn costs_of_accepted(alloc: Global, accepted: &Accepted) -> Result<Costs, AllocE
     })
 }
 
-/// Judges the bytes of an image: where its bytes go, if it is accepted. Each cost is the most instruction bytes that can be
-/// executed, or the greatest number of 64 bits where that is less.
+/// Judges the bytes of an image: where its bytes go, if it is accepted. Each cost is the most instruction bytes that
+/// can be executed, or the greatest number of 64 bits where that is less.
 pub fn costs_of(alloc: Global, text: &[u8]) -> Result<Option<Costs>, AllocError>
     ensures costs { IfOk result (λ found. IfSome found (AreCostsOfText text.now)) }
     ensures starts { IfOk result (λ found. IfSome found BeginsWithBudget) }

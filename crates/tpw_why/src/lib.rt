@@ -1,6 +1,7 @@
 //! Why the verifier refuses an image: the refusal's meaning, what is known where it comes, and what helps.
 //!
-//! [`first_refusal`] makes the passes over whole tables up to their first refusal. [`explain`] judges an image and explains the verdict.
+//! [`first_refusal`] makes the passes over whole tables up to their first refusal. [`explain`] judges an image and
+//! explains the verdict.
 #![tactic(auto)]
 
 mod asked;

@@ -86,7 +86,8 @@ fn write_line<W: Write>(
     writeln!(writer).map_err(|_| ShowFault::Write)
 }
 
-/// Writes the listing around an address, whose line is marked. Of what a text says, each line has its labels and its statement.
+/// Writes the listing around an address, whose line is marked. Of what a text says, each line has its labels and its
+/// statement.
 pub(crate) fn write_around<W: Write>(
     alloc: Global,
     image: &Image,

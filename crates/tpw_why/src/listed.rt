@@ -162,9 +162,9 @@ fn list_refused<W: Write>(
     }
 }
 
-/// Judges the bytes of an image, and writes the verdict and the code: of each instruction its address, its bytes, the most bytes that
-/// are executed from there to the end of the loop around it or of the run, its text, and the line of the text that says it. It
-/// answers whether the image is accepted.
+/// Judges the bytes of an image, and writes the verdict and the code: of each instruction its address, its bytes, the
+/// most bytes that are executed from there to the end of the loop around it or of the run, its text, and the line of
+/// the text that says it. It answers whether the image is accepted.
 pub fn list<W: Write>(
     alloc: Global,
     text: &[u8],

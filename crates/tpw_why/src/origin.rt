@@ -111,8 +111,8 @@ pub(crate) fn wrong_register(instr: Instr, state: &State) -> Option<Register> {
     }
 }
 
-/// How many registers an instruction takes from the stack on an edge, and how many it then puts there; none where it leaves no
-/// registers.
+/// How many registers an instruction takes from the stack on an edge, and how many it then puts there; none where it
+/// leaves no registers.
 fn taken_and_put(instr: Instr, edge: Edge) -> Option<(usize, usize)> {
     match instr {
         Instr::Ldlp(_) | Instr::Ldc(_) | Instr::Ldl(_) | Instr::Mint => Some((0, 1)),
@@ -163,7 +163,8 @@ pub(crate) enum Lost {
     Never,
 }
 
-/// How a register was lost that is read at an address, where one way alone leads there from the instruction that lost it.
+/// How a register was lost that is read at an address, where one way alone leads there from the instruction that lost
+/// it.
 pub(crate) fn loss_of(ways: &[Way], at: usize, register: Register) -> Option<Lost> {
     let mut place = at;
     let mut above = register.above();

@@ -23,9 +23,9 @@ use tp_state::{State, StateFault, after};
 /// An instruction, and an edge that its rule is asked on.
 type Asked = (Placed, Edge);
 
-/// The first refusal of the passes over a code whose flow has passed, with what is known then; none where a pass changes nothing, and
-/// the table is the verdict. The passes are the definition's, over a state for each address. They take longer than
-/// `tp_check::check_states`: some tenths of a second for a code whose author wants to be refused late.
+/// The first refusal of the passes over a code whose flow has passed, with what is known then; none where a pass
+/// changes nothing, and the table is the verdict. The passes are the definition's, over a state for each address. They
+/// take longer than `tp_check::check_states`: some tenths of a second for a code whose author wants to be refused late.
 pub fn first_refusal(
     alloc: Global,
     image: &Image,
@@ -41,8 +41,8 @@ pub fn first_refusal(
     ensures none { IfOk result
         (λ found. found ≡ None → (table : Table) × IsVerdict image.now listing.now (Ok table)) }
 {
-    // Naming a field of the image gives that it is in range: its passes are fewer than 2^128.
-    let _ = &image.code;
+    // So its passes are fewer than 2^128.
+    image.law_is_in_range();
     let asked = edges_of_code(alloc, listing)?;
     let mut table = first_states(alloc, image, places_of(listing))?;
     let mut passes = 0u128;
@@ -86,7 +86,8 @@ fn add_edges(all: &mut Vec<Asked>, place: Placed) -> Result<(), AllocError>
     Ok(())
 }
 
-/// One pass: each edge in turn, up to the first that is refused. It answers whether a state has changed, or with that refusal.
+/// One pass: each edge in turn, up to the first that is refused. It answers whether a state has changed, or with that
+/// refusal.
 fn pass(
     alloc: Global,
     image: &Image,
@@ -121,8 +122,8 @@ fn pass(
     Ok(Ok(is_changed))
 }
 
-/// An edge is taken: where there is a state before its instruction, what is known after it is joined at its target. It answers whether
-/// a state has changed.
+/// An edge is taken: where there is a state before its instruction, what is known after it is joined at its target. It
+/// answers whether a state has changed.
 fn take(
     alloc: Global,
     image: &Image,
@@ -147,7 +148,7 @@ fn take(
         return Ok(false);
     };
     let outcome = after(alloc, before, at, next, instr, edge, image, nest)?;
-    outcome.has_word_ends();
+    outcome.law_has_word_ends();
     match nest.target(at, next, instr, edge) {
         Some(to) => enter(alloc, table, to, &outcome, false),
         None => Ok(false),

@@ -13,7 +13,8 @@ pub struct EdgeRefusal {
     pub edge: Edge,
     /// What is refused.
     pub code: StateCode,
-    /// Where: the instruction's address in the code, in bytes; or where two edges may not meet, the address of their target.
+    /// Where: the instruction's address in the code, in bytes; or where two edges may not meet, the address of their
+    /// target.
     pub place: usize,
 }
 

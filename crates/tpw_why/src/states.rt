@@ -75,8 +75,8 @@ fn last_alike(state: &State, words: usize, first: usize) -> usize {
     words.saturating_sub(1)
 }
 
-/// The last word of the table that begins at a word: words of one name, each a number that is known, and another than the one
-/// before. None where they are few.
+/// The last word of the table that begins at a word: words of one name, each a number that is known, and another than
+/// the one before. None where they are few.
 fn last_of_table(
     source: SourceText<'_>,
     state: &State,
@@ -334,8 +334,8 @@ fn has_address(state: &State) -> bool {
     is_address(state.a) || is_address(state.b)
 }
 
-/// Writes where the passes refuse a code, and what is known there. What helps against this one comes back, where it is another thing
-/// than against others of its code.
+/// Writes where the passes refuse a code, and what is known there. What helps against this one comes back, where it is
+/// another thing than against others of its code.
 pub(crate) fn write_state<W: Write>(
     alloc: Global,
     image: &Image,

@@ -19,8 +19,8 @@ use tp_flow::{FlowCode, check_flow};
 use tp_image::{Image, ImageFault, read_image};
 use tpw_source::{ShowFault, SourceText, Statement};
 
-/// Judges the bytes of an image, and writes the verdict: as farmd answers it, and of a refusal what it means, where it comes, and
-/// what helps; the listing has what a text says of its lines. It answers whether the image is accepted.
+/// Judges the bytes of an image, and writes the verdict: as farmd answers it, and of a refusal what it means, where it
+/// comes, and what helps; the listing has what a text says of its lines. It answers whether the image is accepted.
 pub fn explain<W: Write>(
     alloc: Global,
     text: &[u8],
@@ -63,7 +63,8 @@ fn line_of(
     }
 }
 
-/// Writes the place of a refusal in a text, before what is refused: its name, and the line and the column, where one is refused.
+/// Writes the place of a refusal in a text, before what is refused: its name, and the line and the column, where one is
+/// refused.
 fn write_text_place<W: Write>(
     source: SourceText<'_>,
     line: Option<usize>,
@@ -140,7 +141,8 @@ pub(crate) fn write_refusal<W: Write>(
     write_instead(code, remedy, writer)
 }
 
-/// Writes where a refusal of an image comes. What helps against this one comes back, where it is another thing than against others of its code.
+/// Writes where a refusal of an image comes. What helps against this one comes back, where it is another thing than
+/// against others of its code.
 fn write_place<W: Write>(
     alloc: Global,
     image: &Image,
@@ -209,7 +211,8 @@ fn write_above<W: Write>(
     write_bound(source, image, "bound   ", bytes, &costs.loops, writer)
 }
 
-/// Writes where the passes over a code refuse it, and what is known there: they are made once more. What helps comes back, as above.
+/// Writes where the passes over a code refuse it, and what is known there: they are made once more. What helps comes
+/// back, as above.
 fn write_passes<W: Write>(
     alloc: Global,
     image: &Image,

@@ -15,8 +15,8 @@ pub(crate) struct Way {
     pub(crate) to: usize,
 }
 
-/// The edges that the passes have taken up to their first refusal: there is a state before the instruction. The first pass has taken
-/// none from the refused edge on.
+/// The edges that the passes have taken up to their first refusal: there is a state before the instruction. The first
+/// pass has taken none from the refused edge on.
 pub(crate) fn ways_of(
     alloc: Global,
     listing: &Listing,

@@ -187,7 +187,8 @@ pub(crate) fn passages_of(
     Ok(passages)
 }
 
-/// Marks each address from which an edge that leaves the word as it is leads to a marked one. Whether there is one more.
+/// Marks each address from which an edge that leaves the word as it is leads to a marked one. Whether there is one
+/// more.
 fn mark_before(passages: &[Passage], marks: &mut [bool]) -> bool {
     let mut has_more = false;
     for passage in passages.iter().rev() {

@@ -78,8 +78,8 @@ fn write_writers<W: Write>(
     Ok(())
 }
 
-/// Writes where a register of the wrong kind comes from: the instruction that left it, and of a word that was read, which
-/// instructions wrote that last.
+/// Writes where a register of the wrong kind comes from: the instruction that left it, and of a word that was read,
+/// which instructions wrote that last.
 fn write_register<W: Write>(
     alloc: Global,
     finding: Finding<'_>,
@@ -258,8 +258,8 @@ fn known_after(finding: Finding<'_>, state: &State, word: usize) -> Cell {
     }
 }
 
-/// Writes where what is refused was written, as far as the states show it: a register that is lost or of the wrong kind, a local word that may be
-/// undefined, and the block of a loop that is entered.
+/// Writes where what is refused was written, as far as the states show it: a register that is lost or of the wrong
+/// kind, a local word that may be undefined, and the block of a loop that is entered.
 pub(crate) fn write_written<W: Write>(
     alloc: Global,
     finding: Finding<'_>,

@@ -12,9 +12,12 @@ ghost use Rattle.tp_step.specs.Runs.{start};
 ghost use Rattle.tp_state.specs.After.{after};
 ghost use Rattle.tp_state.specs.Entry.{entry};
 ghost use Rattle.tp_state.specs.Fits.{word_address};
-ghost use Rattle.worked_rules.specs.Samples.{minus, ints, one, any, image, image_of, regs, regs_words, words_with, next_of, worker, packet_channel, result_channel, trace_channel, descheduled};
+ghost use Rattle.worked_rules.specs.Samples.{minus, ints, one, any, image, image_of, regs, regs_words, words_with};
+ghost use Rattle.worked_rules.specs.Samples.{next_of, worker, packet_channel, result_channel, trace_channel};
+ghost use Rattle.worked_rules.specs.Samples.{descheduled};
 
-/// Nothing refuses this in, and where its packet is not there the machine is stuck: so a state that fits has its packet.
+/// Nothing refuses this in, and where its packet is not there the machine is stuck: so a state that fits has its
+/// packet.
 #[tactic(auto, unfolding(crate::proofs::Computing::by_computing))]
 pub fn packet_must_be_there()
     ensures accepted { is_ok (after (worker One 12) 5 6 Input Next

@@ -1,14 +1,17 @@
 //! Cases that a narrower rule would answer otherwise, though it were sound too: computed examples.
 
 ghost use Rattle.std.specs.Prelude.{◌≡◌, pos, [], ◌∷◌, ◌++◌, replicate, Ok, Err, is_ok, true};
-ghost use Rattle.tp_decode.specs.declared.instr.Instr.TheVariants.{Jump, Cj, Ldnl, Stl, Stnl, Lb, Prod, Mul, Csub0, Rem, BitNot, BitAnd, BitOr, BitXor, Seterr, MoveBytes};
+ghost use Rattle.tp_decode.specs.declared.instr.Instr.TheVariants.{Jump, Cj, Ldnl, Stl, Stnl, Lb, Prod, Mul, Csub0};
+ghost use Rattle.tp_decode.specs.declared.instr.Instr.TheVariants.{Rem, BitNot, BitAnd, BitOr, BitXor, Seterr};
+ghost use Rattle.tp_decode.specs.declared.instr.Instr.TheVariants.{MoveBytes};
 ghost use Rattle.tp_image.specs.declared.image.Version.TheVariants.{Two};
 ghost use Rattle.tp_flow.specs.declared.edge.Edge.TheVariants.{Next, Taken};
 ghost use Rattle.tp_state.specs.declared.kind.Kind.TheVariants.{Undef, Int, Ptr, BytePtr};
 ghost use Rattle.tp_state.specs.declared.cell.Cell.TheVariants as cell;
 ghost use Rattle.tp_state.specs.declared.fault.StateCode.TheVariants.{S3};
 ghost use Rattle.tp_state.specs.After.{after};
-ghost use Rattle.worked_rules.specs.Samples.{minus, ints, one, any, image, image_of, regs, regs_words, words_with, next_of};
+ghost use Rattle.worked_rules.specs.Samples.{minus, ints, one, any, image, image_of, regs, regs_words, words_with};
+ghost use Rattle.worked_rules.specs.Samples.{next_of};
 
 /// j with just five words below Wptr; and the jump of cj, where Areg may not be 0 by what is known.
 #[tactic(auto, unfolding(crate::proofs::Computing::by_computing))]
@@ -41,7 +44,8 @@ pub fn known_operands_computed()
         Ok (record (regs (one 1) (one 2) (one 3)) { phase = 2 }) }
 {}
 
-/// A byte pointer may be stored, as any word; and a move whose ranges overlap is refused for that, whatever its source holds.
+/// A byte pointer may be stored, as any word; and a move whose ranges overlap is refused for that, whatever its source
+/// holds.
 #[tactic(auto, unfolding(crate::proofs::Computing::by_computing))]
 pub fn stored_pointers_and_overlaps_computed()
     ensures stl { next_of (Stl (pos 3)) (regs (BytePtr 1 1) Undef Undef) ≡ Ok (regs_words Undef Undef Undef
@@ -51,8 +55,8 @@ pub fn stored_pointers_and_overlaps_computed()
     ensures overlap { after (image_of Two 1 1) 12 14 MoveBytes Next (regs (one 8) (Ptr 10 10) (Ptr 10 10)) ≡ Err S3 }
 {}
 
-/// A remainder lies between the divisor's ends whatever the dividend: where it is never above 0, where both are known, and where it is
-/// below the divisor. and of two known numbers goes from 0 to the lesser.
+/// A remainder lies between the divisor's ends whatever the dividend: where it is never above 0, where both are known,
+/// and where it is below the divisor. and of two known numbers goes from 0 to the lesser.
 #[tactic(auto, unfolding(crate::proofs::Computing::by_computing))]
 pub fn remainders_and_masks_computed()
     ensures never_above_0 { next_of Rem (regs (one 10) (Int (minus 9) (minus 3)) (one 9)) ≡
@@ -62,8 +66,8 @@ pub fn remainders_and_masks_computed()
     ensures bit_and { next_of BitAnd (regs (one 12) (one 10) (one 9)) ≡ Ok (regs (ints 0 10) (one 9) Undef) }
 {}
 
-/// A byte of a known word is any byte; of several words that are known alike any word is read; and a store to several words leaves
-/// them any, also where each holds the value already.
+/// A byte of a known word is any byte; of several words that are known alike any word is read; and a store to several
+/// words leaves them any, also where each holds the value already.
 #[tactic(auto, unfolding(crate::proofs::Computing::by_computing))]
 pub fn known_words_computed()
     ensures lb { next_of Lb (regs (BytePtr 1 1) (one 2) (one 3)) ≡ Ok (regs (ints 0 255) (one 2) (one 3)) }

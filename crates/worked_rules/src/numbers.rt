@@ -1,7 +1,9 @@
 //! What is known after operations on numbers: computed examples.
 
 ghost use Rattle.std.specs.Prelude.{◌≡◌, pos, Ok, Err};
-ghost use Rattle.tp_decode.specs.declared.instr.Instr.TheVariants.{Adc, Eqc, Diff, Add, Prod, Gt, Sub, Csub0, Rem, Div, BitNot, BitXor, Shr, Shl, Mint, BitAnd, BitOr, Sum, Mul};
+ghost use Rattle.tp_decode.specs.declared.instr.Instr.TheVariants.{Adc, Eqc, Diff, Add, Prod, Gt, Sub, Csub0, Rem, Div};
+ghost use Rattle.tp_decode.specs.declared.instr.Instr.TheVariants.{BitNot, BitXor, Shr, Shl, Mint, BitAnd, BitOr, Sum};
+ghost use Rattle.tp_decode.specs.declared.instr.Instr.TheVariants.{Mul};
 ghost use Rattle.tp_state.specs.declared.kind.Kind.TheVariants.{Undef, Int, Ptr, BytePtr};
 ghost use Rattle.tp_state.specs.declared.fault.StateCode.TheVariants.{S1, S2, S10};
 ghost use Rattle.worked_rules.specs.Samples.{minus, ints, one, any, regs, next_of};

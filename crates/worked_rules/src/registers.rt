@@ -1,7 +1,8 @@
 //! What is known after instructions that read no word: computed examples.
 
 ghost use Rattle.std.specs.Prelude.{◌≡◌, pos, Ok, Err};
-ghost use Rattle.tp_decode.specs.declared.instr.Instr.TheVariants.{Ldlp, Ldc, Ldnlp, Cj, Ajw, Rev, Bsub, Wsub, Seterr, Stopp};
+ghost use Rattle.tp_decode.specs.declared.instr.Instr.TheVariants.{Ldlp, Ldc, Ldnlp, Cj, Ajw, Rev, Bsub, Wsub, Seterr};
+ghost use Rattle.tp_decode.specs.declared.instr.Instr.TheVariants.{Stopp};
 ghost use Rattle.tp_flow.specs.declared.edge.Edge.TheVariants.{Next, Taken};
 ghost use Rattle.tp_state.specs.declared.kind.Kind.TheVariants.{Undef, Int, Ptr, BytePtr};
 ghost use Rattle.tp_state.specs.declared.fault.StateCode.TheVariants.{S1, S2, S3, S6, S9};

@@ -1,5 +1,5 @@
-//! Why the order is kept of sound states alone: for each of the four things that a sound state is, one that is not it, and
-//! all of the others, below a state after which more is known.
+//! Why the order is kept of sound states alone: for each of the four things that a sound state is, one that is not it,
+//! and all of the others, below a state after which more is known.
 
 ghost use Rattle.std.specs.Prelude.{◌^◌, pos, [], ◌∷◌, ◌++◌, replicate};
 ghost use Rattle.tp_decode.specs.declared.instr.Instr.TheVariants.{Ldl, Ldnl, Stl, BitAnd};

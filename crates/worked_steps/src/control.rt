@@ -44,8 +44,8 @@ pub fn cj() -> &'static [Row]
 }
 
 /// lend (`22 F1`), behind ldlp 2 and ldc 4 (`12 44`): the block is words 10 and 11, and the loop's head is byte 0. The
-/// block is written before the five words become undefined, so a block among these is lost. The distance is signed: from
-/// byte 2, -4 leads to byte 6.
+/// block is written before the five words become undefined, so a block among these is lost. The distance is signed:
+/// from byte 2, -4 leads to byte 6.
 pub fn lend() -> &'static [Row]
     ensures { AreSo result.now }
 {

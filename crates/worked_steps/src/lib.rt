@@ -6,8 +6,8 @@
 //! (`docs/INSTRUCTIONS.md`), never by a program. All of them are in [`table`]: the contracts say that the definitions
 //! give the same, and the tests compare with it a machine's answers, and every part of its state.
 //!
-//! Each row of the instruction table has a function named after it, whose runs would come out otherwise if its clause were
-//! another:
+//! Each row of the instruction table has a function named after it, whose runs would come out otherwise if its clause
+//! were another:
 //!
 //! | rows | runs |
 //! |---|---|

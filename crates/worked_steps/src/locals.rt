@@ -49,8 +49,8 @@ pub fn ldlp() -> &'static [Row]
     ROWS
 }
 
-/// ldl (`7n`): the local's word is pushed; there is none at local 8 nor -9, nor where a byte is undefined. Local 2^30 + 1
-/// is local 1.
+/// ldl (`7n`): the local's word is pushed; there is none at local 8 nor -9, nor where a byte is undefined. Local 2^30 +
+/// 1 is local 1.
 pub fn ldl() -> &'static [Row]
     ensures { AreSo result.now }
 {

@@ -1,4 +1,5 @@
-//! Runs of the message instructions. The worker's packet and its result have four bytes each, where nothing else is said.
+//! Runs of the message instructions. The worker's packet and its result have four bytes each, where nothing else is
+//! said.
 #![tactic(auto, unfolding(crate::proofs::Computing::by_steps))]
 
 ghost use Rattle.worked_steps.specs.Rows.{AreSo};

@@ -10,7 +10,8 @@ use crate::rows::Expected::{Leads, Sticks};
 use crate::rows::Setting::{Filled, Holding, Lacking, Three, Two};
 use crate::rows::{Row, Worker, rows, worker};
 
-/// Areg bytes go to address Breg from address Creg, and the registers are lost. One range may end where the other begins.
+/// Areg bytes go to address Breg from address Creg, and the registers are lost. One range may end where the other
+/// begins.
 pub fn move_bytes() -> &'static [Row]
     ensures { AreSo result.now }
 {

@@ -41,8 +41,8 @@ pub enum Setting {
     Traced(&'static [u8]),
 }
 
-/// Whose code runs: a worker of version 1 with 16 words, with Wptr at word 8, whose packet and result have one word each;
-/// or one that differs from it in one thing.
+/// Whose code runs: a worker of version 1 with 16 words, with Wptr at word 8, whose packet and result have one word
+/// each; or one that differs from it in one thing.
 #[derive(Clone, Copy)]
 pub enum Worker {
     Plain,
@@ -57,8 +57,8 @@ pub enum Worker {
 /// The outcome of a run.
 #[derive(Clone, Copy)]
 pub enum Expected {
-    /// Its code is executed byte by byte, from its first byte on, and leaves the bare state with these settings. Iptr is
-    /// behind the code, where they do not say otherwise.
+    /// Its code is executed byte by byte, from its first byte on, and leaves the bare state with these settings. Iptr
+    /// is behind the code, where they do not say otherwise.
     Leads(&'static [Setting]),
     /// All bytes of the code but the last are executed, and it is stuck at the last.
     Sticks,

@@ -1,11 +1,13 @@
-//! The table of all runs: short ones, and small workers as image bytes with what their runs give. All of it was worked out
-//! by hand from the instruction table.
+//! The table of all runs: short ones, and small workers as image bytes with what their runs give. All of it was worked
+//! out by hand from the instruction table.
 //!
-//! The contracts say that it is so by the definitions. The tests of `test_tested` make all of these runs on the tested machine.
+//! The contracts say that it is so by the definitions. The tests of `test_tested` make all of these runs on the tested
+//! machine.
 #![tactic(auto, unfolding(crate::proofs::Computing::by_steps))]
 
 ghost use Rattle.worked_steps.specs.Rows.{AllAreSo};
-ghost use Rattle.worked_steps.specs.Samples.{increment, sum_to_ten, loop_once, early_exit, jumps_into_spelling, two_ways, picks_a_word, traces, moves_a_word};
+ghost use Rattle.worked_steps.specs.Samples.{increment, sum_to_ten, loop_once, early_exit, jumps_into_spelling};
+ghost use Rattle.worked_steps.specs.Samples.{two_ways, picks_a_word, traces, moves_a_word};
 ghost use Rattle.worked_steps.specs.Table.{Says};
 
 use crate::rows::Group;

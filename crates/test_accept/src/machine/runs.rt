@@ -78,8 +78,8 @@ fn runs_whatever_the_machine_held(rt: HostRuntime) {
     }
 }
 
-/// The state in which the increment stops is left in the machine: Iptr behind stopp, Oreg 0, Wptr as it began (word 8 of the
-/// workspace at 80000048), and the flag of an addition that overflows.
+/// The state in which the increment stops is left in the machine: Iptr behind stopp, Oreg 0, Wptr as it began (word 8
+/// of the workspace at 80000048), and the flag of an addition that overflows.
 #[test]
 fn leaves_the_state_in_which_the_worker_stopped(rt: HostRuntime) {
     let accepted = accepted(&rt, rt.alloc(), INCREMENT);

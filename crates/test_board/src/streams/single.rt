@@ -1,13 +1,13 @@
 //! Streams that one thread feeds and takes from.
 ghost use Rattle.std.specs.Prelude.{◌≡◌, All, IfSome};
-ghost use Rattle.tp_board.specs.Streams.{IsHandOf, IsFeederOf};
+ghost use Rattle.tp_stream.specs.Streams.{IsHandOf, IsFeederOf};
 
 use crate::asserts::{assert_same, unwrap};
 use arrayvec::ArrayVec;
 use std::alloc::Global;
 use std::process::Abort;
 use std::sync::Wait;
-use tp_board::{
+use tp_stream::{
     BoardFault, Fed, Feeder, Ledger, Packet, StreamCloseFault, StreamHand, StreamLedger,
     StreamQueue, Work, WorkSource,
 };

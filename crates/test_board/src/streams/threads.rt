@@ -1,6 +1,6 @@
 //! Streams that two threads take from while a third one feeds them.
 ghost use Rattle.std.specs.Prelude.{◌≡◌, None, All, IfSome};
-ghost use Rattle.tp_board.specs.Streams.{IsHandOf, IsFeederOf};
+ghost use Rattle.tp_stream.specs.Streams.{IsHandOf, IsFeederOf};
 
 use super::single::packets_of;
 use crate::asserts::{assert_same, unwrap};
@@ -9,7 +9,7 @@ use std::process::Abort;
 use std::sync::Wait;
 use std::thread;
 use std::thread::{Promise, PromisedHandle, Scope, Threads};
-use tp_board::{
+use tp_stream::{
     BoardFault, Fed, Feeder, Ledger, Packet, StreamHand, StreamLedger, StreamQueue, Work,
     WorkSource,
 };

@@ -14,8 +14,8 @@ fn code_is(rt: &impl Abort, alloc: Global, lines: &[Line], code: &[u8]) {
     assert!(rt; image.code.as_slice() == code, "{lines:?}");
 }
 
-/// A jump over 15 bytes has one byte, and one over 16 has two. What a jump passes over may grow: here the first jump passes over
-/// the second, which passes over 16 bytes.
+/// A jump over 15 bytes has one byte, and one over 16 has two. What a jump passes over may grow: here the first jump
+/// passes over the second, which passes over 16 bytes.
 #[test]
 fn jumps(rt: HostRuntime) {
     let mut lines = [Line::Byte(0x40); 18];

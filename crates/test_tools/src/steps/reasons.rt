@@ -1,5 +1,5 @@
-//! A worker for each reason to be stuck. Each has 12 words of workspace, begins at word 8, and has a packet and a result of one
-//! word.
+//! A worker for each reason to be stuck. Each has 12 words of workspace, begins at word 8, and has a packet and a
+//! result of one word.
 
 use crate::asserts::unwrap;
 use crate::steps::printed::{WHOLE, printed};

@@ -13,7 +13,8 @@ end i
  Store n[m]
 ";
 
-/// Each line has the place of the word that asks for it: the lines of a `for`, an `end` and a `store` at that word, a byte at its number.
+/// Each line has the place of the word that asks for it: the lines of a `for`, an `end` and a `store` at that word, a
+/// byte at its number.
 #[test]
 fn positions(rt: HostRuntime) {
     let wanted = [

@@ -17,7 +17,7 @@ pub struct Seat {
     pub(crate) token: atomic_table::Seat<(), View>,
     pub(crate) packets: u32,
     pub(crate) hand: Option<u32>,
-    // A claim was answered NoMore.
+    // A claim has returned NoMore.
     pub(crate) ended: bool,
     // A load has found the stop mark set.
     pub(crate) stop_seen: bool,

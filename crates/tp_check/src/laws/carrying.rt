@@ -11,9 +11,9 @@ ghost use Rattle.tp_check.specs.Passes.{IsVerdict, passes};
 ghost use Rattle.tp_check.specs.Carried.{carried, carried_pass, only_joins, AreWide};
 
 /// Passes may carry one state from instruction to instruction, and keep states only at the first address, at loops'
-/// heads and where two edges lead, and at any more addresses. Each pass gives the same as with states at every
-/// address, refusal or whole table; once a pass leaves the states kept as they were, its whole table is the verdict; and
-/// a pass that refuses is the verdict's refusal.
+/// heads and where two edges lead, and at any more addresses. Each pass gives the same as with states at every address,
+/// refusal or whole table; once a pass leaves the states kept as they were, its whole table is the verdict; and a pass
+/// that refuses is the verdict's refusal.
 pub fn passes_may_carry()
     ensures same { (image : ImageValue) (cuts : List Cut) (is_join : ℕ → Bool) → InRange image →
         AllByRecursion IsSpelled cuts → KeepsNest image.loops image.workspace cuts → AreWide image cuts is_join →

@@ -12,14 +12,15 @@ ghost use Rattle.tp_check.specs.Passes.{IsVerdict, passes};
 ghost use Rattle.tp_check.specs.StatesThere.{IsStateAt};
 ghost use Rattle.tp_check.specs.EdgesRespect.{HasAbove, EveryEdgeRespects, HasNoTable};
 
-/// The passes refuse only where no table exists that every edge respects. Nothing is asked of the states of that table.
+/// The fixpoint iteration refuses only where no table exists that every edge respects. Nothing is asked of the states
+/// of that table.
 pub fn a_refusal_means_no_table()
     ensures { (image : ImageValue) (cuts : List Cut) (fault : StateFault) → InRange image →
         AllByRecursion IsSpelled cuts →
         KeepsNest image.loops image.workspace cuts → IsVerdict image cuts (Err fault) → HasNoTable image cuts }
 {}
 
-/// The table of the passes is below every table that each edge respects.
+/// The table of the passes is the least: below every table that each edge respects.
 pub fn the_verdict_is_the_least_table()
     ensures { (image : ImageValue) (cuts : List Cut) (table other : Table) → InRange image →
         AllByRecursion IsSpelled cuts → KeepsNest image.loops image.workspace cuts →
@@ -34,8 +35,8 @@ pub fn every_edge_respects_the_verdict()
         EveryEdgeRespects image cuts table }
 {}
 
-/// What the passes find is sound, and the same words are live in all states of one address: so it is with the states of
-/// their tables, after any number of passes.
+/// What the passes find is sound, and the same words are live in all states of one address: this holds of the states of
+/// their tables after any number of passes.
 pub fn states_of_the_passes_are_sound()
     ensures { (image : ImageValue) (cuts : List Cut) (n : ℕ) (table : Table) → InRange image →
         AllByRecursion IsSpelled cuts → KeepsNest image.loops image.workspace cuts → passes image cuts n ≡ Ok table →

@@ -16,8 +16,8 @@ pub fn the_first_state_is_sound()
     ensures { (image : ImageValue) → InRange image → IsSound image (entry image) }
 {}
 
-/// What is known after an instruction is sound, on each edge on which nothing is refused, where what was known before it
-/// is, and a number that it loads is a word.
+/// What is known after an instruction is sound, on each edge on which nothing is refused, where what was known before
+/// it is, and a number that it loads is a word.
 pub fn what_follows_is_sound()
     ensures { (image : ImageValue) → InRange image → HasGoodLoops image →
         (at next : ℕ) (instr : Instr) (edge : Edge) (s : State) → LoadsWord instr → IsSound image s →

@@ -13,8 +13,8 @@ ghost use Rattle.tp_state.specs.GoesOn.{IsAccepted, GoesOn};
 /// Let the code of an image have a cutting and a nest without a fault of flow, and let an instruction be at an address.
 /// Let the machine's state fit what is known there, and let nothing be refused on any edge of the instruction. Then the
 /// machine runs through the instruction's bytes, one step a byte, and either it has stopped after its result, by stopp,
-/// or it is at the target of an edge of the instruction, and its state fits what is known after that edge. A lend
-/// goes back exactly where its loop has more than one turn to make; the turns of the loops around the target follow from
+/// or it is at the target of an edge of the instruction, and its state fits what is known after that edge. A lend goes
+/// back exactly where its loop has more than one turn to make; the turns of the loops around the target follow from
 /// those before.
 pub fn accepted_code_goes_on()
     ensures { (image : ImageValue) (cuts : List Cut) → InRange image → IsCutting image.code cuts →

@@ -25,7 +25,8 @@ pub fn nothing_is_above_both()
     ensures { (s t u : State) → IsBelow s u → IsBelow t u → (s.wptr ≡ t.wptr) × (s.phase ≡ t.phase) }
 {}
 
-/// A join with a state that is below changes nothing, and a join that changes nothing is one with a state that is below.
+/// A join with a state that is below changes nothing, and a join that changes nothing is one with a state that is
+/// below.
 pub fn join_with_what_is_below()
     ensures kept { (t s : State) → IsBelow s t → join t s ≡ t }
     ensures only { (t s : State) → MayMeet t s → join t s ≡ t → IsBelow s t }

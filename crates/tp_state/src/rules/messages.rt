@@ -6,7 +6,8 @@ ghost use Rattle.tp_step.specs.Effects.{has_move};
 ghost use Rattle.tp_state.specs.Answer.{answered};
 ghost use Rattle.tp_state.specs.Conditions.{KeepsPlace, IsPlaced};
 ghost use Rattle.tp_state.specs.Kinds.{is_exactly};
-ghost use Rattle.tp_state.specs.Rules.{rule, channel as channel_of, count_of, is_one_length, is_trace_length, words_to_send, phase_after, is_move_length, are_apart, moved, FollowsRule};
+ghost use Rattle.tp_state.specs.Rules.{rule, channel as channel_of, count_of, is_one_length, is_trace_length};
+ghost use Rattle.tp_state.specs.Rules.{words_to_send, phase_after, is_move_length, are_apart, moved, FollowsRule};
 
 use crate::cell::Cell;
 use crate::fault::StateCode;

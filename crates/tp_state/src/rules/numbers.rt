@@ -1,6 +1,7 @@
 //! Numbers.
 
-ghost use Rattle.tp_decode.specs.declared.instr.Instr.TheVariants.{Adc, Eqc, Diff, Add, Prod, Gt, Sub, Csub0, Rem, Div, BitNot, BitXor, Shr, Shl, BitAnd, BitOr, Sum, Mul};
+ghost use Rattle.tp_decode.specs.declared.instr.Instr.TheVariants.{Adc, Eqc, Diff, Add, Prod, Gt, Sub, Csub0, Rem, Div};
+ghost use Rattle.tp_decode.specs.declared.instr.Instr.TheVariants.{BitNot, BitXor, Shr, Shl, BitAnd, BitOr, Sum, Mul};
 ghost use Rattle.tp_state.specs.Conditions.{KeepsPlace};
 ghost use Rattle.tp_state.specs.Rules.{rule, FollowsEachRule};
 

@@ -1,7 +1,8 @@
 //! Registers and places: what reads no word.
 
 ghost use Rattle.std.specs.Prelude.{◌≡◌, ℕ, ◌<◌};
-ghost use Rattle.tp_decode.specs.declared.instr.Instr.TheVariants.{Ldlp, Ldc, Ldnlp, Cj, Ajw, Rev, Wsub, Bsub, Stopp, Mint};
+ghost use Rattle.tp_decode.specs.declared.instr.Instr.TheVariants.{Ldlp, Ldc, Ldnlp, Cj, Ajw, Rev, Wsub, Bsub, Stopp};
+ghost use Rattle.tp_decode.specs.declared.instr.Instr.TheVariants.{Mint};
 ghost use Rattle.tp_image.specs.Image.{ImageValue};
 ghost use Rattle.tp_flow.specs.declared.edge.Edge.{Edge};
 ghost use Rattle.tp_state.specs.Answer.{answered};

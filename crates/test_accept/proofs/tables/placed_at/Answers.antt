@@ -11,4 +11,5 @@ placed_in image states sound i d a lt is = (sound i a (slice_get-get_or states i
 
 pub returns-then-index-at : goal.returns-then-index-at
 returns-then-index-at c =
-    placed_in c.args.image.now c.args.table.now.states.items c.requires c.loop-i.i _ c.index-then-index-at.result.now (let e = c.len-i-end.ensures in let f = c.loop-i-test.true in omega (arith, e, f)) c.index-then-index-at.ensures
+    placed_in c.args.image.now c.args.table.now.states.items c.requires c.loop-i.i _ c.index-then-index-at.result.now
+    (let e = c.len-i-end.ensures in let f = c.loop-i-test.true in omega (arith, e, f)) c.index-then-index-at.ensures

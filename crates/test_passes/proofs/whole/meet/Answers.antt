@@ -24,4 +24,5 @@ stays_placed image t s u there comes is =
 
 pub returns-in-Ok : goal.returns-in-Ok
 returns-in-Ok c =
-    stays_placed c.args.image.now c.in-Some.met c.args.state c.join.new.self (rw c.in-Some.is at c.requires.there) c.requires.state (sym (ap (λ r. answered r c.join.new.self) c.in-Ok.is) ∙ c.join.ensures.value)
+    stays_placed c.args.image.now c.in-Some.met c.args.state c.join.new.self (rw c.in-Some.is at c.requires.there)
+    c.requires.state (sym (ap (λ r. answered r c.join.new.self) c.in-Ok.is) ∙ c.join.ensures.value)

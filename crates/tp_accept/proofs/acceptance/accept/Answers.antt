@@ -42,7 +42,8 @@ returns-clause-allowed c =
 pub returns-clause-acceptable : goal.returns-clause-acceptable
 returns-clause-acceptable c =
     let found = c.in_ok-check_states.ensures.table in
-    acceptable_of c.in_ok-image.image c.in_ok-listing.listing c.in_ok-budget.budget (search rules) (search rules) (search rules) (found.whole, found.verdict) c.in_ok-budget.ensures.value c.in_ok-budget.ensures.within
+    acceptable_of c.in_ok-image.image c.in_ok-listing.listing c.in_ok-budget.budget (search rules) (search rules)
+    (search rules) (found.whole, found.verdict) c.in_ok-budget.ensures.value c.in_ok-budget.ensures.within
 
 pub returns-clause-ends : goal.returns-clause-ends
 returns-clause-ends c = never_goes_wrong_of c.in_ok-image.image c.in_ok-budget.budget ∣ returns-clause-acceptable c ∣₁
@@ -51,5 +52,7 @@ pub invariant_of-result : goal.invariant_of-result
 invariant_of-result c =
     let found = c.in_ok-check_states.ensures.table in
     record {
-      acceptable = ∣ acceptable_of c.in_ok-image.image c.in_ok-listing.listing c.in_ok-budget.budget (search rules) (search rules) (search rules) (found.whole, found.verdict) c.in_ok-budget.ensures.value c.in_ok-budget.ensures.within ∣₁;
+      acceptable = ∣ acceptable_of c.in_ok-image.image c.in_ok-listing.listing c.in_ok-budget.budget (search rules)
+          (search rules) (search rules) (found.whole, found.verdict) c.in_ok-budget.ensures.value
+          c.in_ok-budget.ensures.within ∣₁;
     }

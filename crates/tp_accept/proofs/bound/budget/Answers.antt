@@ -8,15 +8,18 @@ whole_at-bytes-requires c = subst AreCapped (sym c.deref.ensures.value) (counted
 
 pub returns-then-from-bytes-clause-refused : goal.returns-then-from-bytes-clause-refused
 returns-then-from-bytes-clause-refused c =
-    let counted = counted_bound c.args.image.now.loops c.args.listing.now c.deref.result.now c.in_ok-costs.costs.items c.whole_at-bytes.result c.whole_at-bytes.ensures.value c.deref.ensures.value c.in_ok-costs.ensures in
+    let counted = counted_bound c.args.image.now.loops c.args.listing.now c.deref.result.now c.in_ok-costs.costs.items
+    c.whole_at-bytes.result c.whole_at-bytes.ensures.value c.deref.ensures.value c.in_ok-costs.ensures in
     λ _. (refl, omega (arith, counted))
 
 pub returns-clause-value : goal.returns-clause-value
 returns-clause-value c =
-    let counted = counted_bound c.args.image.now.loops c.args.listing.now c.deref.result.now c.in_ok-costs.costs.items c.whole_at-bytes.result c.whole_at-bytes.ensures.value c.deref.ensures.value c.in_ok-costs.ensures in
+    let counted = counted_bound c.args.image.now.loops c.args.listing.now c.deref.result.now c.in_ok-costs.costs.items
+    c.whole_at-bytes.result c.whole_at-bytes.ensures.value c.deref.ensures.value c.in_ok-costs.ensures in
     omega (arith, counted)
 
 pub returns-clause-within : goal.returns-clause-within
 returns-clause-within c =
-    let counted = counted_bound c.args.image.now.loops c.args.listing.now c.deref.result.now c.in_ok-costs.costs.items c.whole_at-bytes.result c.whole_at-bytes.ensures.value c.deref.ensures.value c.in_ok-costs.ensures in
+    let counted = counted_bound c.args.image.now.loops c.args.listing.now c.deref.result.now c.in_ok-costs.costs.items
+    c.whole_at-bytes.result c.whole_at-bytes.ensures.value c.deref.ensures.value c.in_ok-costs.ensures in
     omega (arith, counted)

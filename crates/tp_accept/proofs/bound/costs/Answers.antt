@@ -22,7 +22,8 @@ pub cost_of-requires-clause-capped : goal.cost_of-requires-clause-capped
 cost_of-requires-clause-capped c = subst AreCapped (sym c.deref.ensures.value) (all_capped c.args.image.now.loops c.args.listing.now c.loop-i.costs.items c.loop-i.i c.loop-i.invariant.found)
 
 pub cost_of-requires-clause-order : goal.cost_of-requires-clause-order
-cost_of-requires-clause-order c = (placed_within 0 c.args.listing.now (c.loop-i.i - 1) c.unwrap-placed.result (each_some c.args.listing.now c.requires.each) (sym c.get.ensures ∙ c.unwrap-placed.ensures)).order
+cost_of-requires-clause-order c = (placed_within 0 c.args.listing.now (c.loop-i.i - 1) c.unwrap-placed.result
+    (each_some c.args.listing.now c.requires.each) (sym c.get.ensures ∙ c.unwrap-placed.ensures)).order
 
 pub index_mut-requires : goal.index_mut-requires
 index_mut-requires c =
@@ -38,7 +39,9 @@ loop-i-preserved c =
     in
     record {
       below = omega arith;
-      found = one_more c.args.image.now.loops c.args.listing.now c.loop-i.costs.items (c.loop-i.i - 1) c.unwrap-placed.result c.cost_of.result (each_some c.args.listing.now c.requires.each) (sym c.get.ensures ∙ c.unwrap-placed.ensures) (rw costs at c.cost_of.ensures) found;
+      found = one_more c.args.image.now.loops c.args.listing.now c.loop-i.costs.items (c.loop-i.i - 1)
+          c.unwrap-placed.result c.cost_of.result (each_some c.args.listing.now c.requires.each)
+          (sym c.get.ensures ∙ c.unwrap-placed.ensures) (rw costs at c.cost_of.ensures) found;
     }
 
 pub returns : goal.returns

@@ -15,7 +15,9 @@ returns-in-Some-clause-gives c =
 
 pub returns-in-Some-clause-reports : goal.returns-in-Some-clause-reports
 returns-in-Some-clause-reports c =
-    changes c.args.states.now c.args.to c.requires.inside c.index-states-to.result (Some c.in-Some.there) c.in-Some.is c.args.state.now c.join_compatible.new.self c.join_compatible.result (some_tells c.join_compatible.result c.in-Some.there c.join_compatible.new.self c.join_compatible.ensures.changed)
+    changes c.args.states.now c.args.to c.requires.inside c.index-states-to.result (Some c.in-Some.there) c.in-Some.is
+    c.args.state.now c.join_compatible.new.self c.join_compatible.result
+    (some_tells c.join_compatible.result c.in-Some.there c.join_compatible.new.self c.join_compatible.ensures.changed)
 
 pub returns-in-Ok-clause-gives : goal.returns-in-Ok-clause-gives
 returns-in-Ok-clause-gives c =
@@ -24,7 +26,9 @@ returns-in-Ok-clause-gives c =
 
 pub returns-in-Ok-clause-reports : goal.returns-in-Ok-clause-reports
 returns-in-Ok-clause-reports c =
-    changes c.args.states.now c.args.to c.requires.inside c.index-states-to.result (Some c.in-Some.there) c.in-Some.is c.args.state.now c.join.new.self c.in-Ok.moved (some_tells c.in-Ok.moved c.in-Some.there c.join.new.self c.in-Ok.ensures.changed)
+    changes c.args.states.now c.args.to c.requires.inside c.index-states-to.result (Some c.in-Some.there) c.in-Some.is
+    c.args.state.now c.join.new.self c.in-Ok.moved (some_tells c.in-Ok.moved c.in-Some.there c.join.new.self
+    c.in-Ok.ensures.changed)
 
 pub returns-in-Err-clause-gives : goal.returns-in-Err-clause-gives
 returns-in-Err-clause-gives c =

@@ -20,7 +20,9 @@ returns c =
           let hex : string_bytes w.in_ok-encode.field-0 ≡ encode_lower (shortest cut.instr) = w.in_ok-encode.ensures ∙ ap encode_lower (w.as_slice-then-ne.ensures.value ∙ least) in
           let front : string_bytes w.push_str.new.self ≡ plain_line c.args.at cut ++ codes " least " = w.in_ok-push_str.ensures.bytes ∙ ap (λ bytes. bytes ++ codes " least ") plain in
           let text : w.as_str.result.now ≡ encode_lower (shortest cut.instr) = w.as_str.ensures.value ∙ hex in
-          ap string_bytes w.text-is ∙ w.in_ok-push_str-2.ensures.bytes ∙ ap (λ bytes. bytes ++ w.as_str.result.now) front ∙ append_assoc (plain_line c.args.at cut) (codes " least ") w.as_str.result.now
+          ap string_bytes w.text-is ∙ w.in_ok-push_str-2.ensures.bytes ∙
+          ap (λ bytes. bytes ++ w.as_str.result.now) front ∙
+          append_assoc (plain_line c.args.at cut) (codes " least ") w.as_str.result.now
           ∙ ap (λ bytes. plain_line c.args.at cut ++ (codes " least " ++ bytes)) text ∙ sym (line_noted c.args.at cut other)
       | else-ne w ↦ ap string_bytes w.text-is ∙ plain ∙ sym (line_alone c.args.at cut (sym test ∙ not_false c.ne.result _ c.ne.ensures w.if-ne.false))
     ]

@@ -11,4 +11,5 @@ returns c =
     let text = instruction_text c.args.piece.now.instr in
     let spelling : string_bytes c.in_ok-spelling.spelling ≡ encode_lower c.args.piece.now.spelling.items = c.in_ok-spelling.ensures ∙ ap encode_lower c.as_slice.ensures.value in
     let h : IfOk c.format.result (λ s. string_bytes s ≡ address ++ (codes " " ++ (string_bytes c.in_ok-spelling.spelling ++ (codes " " ++ text)))) = c.format.ensures.ok in
-    told string_bytes c.format.result _ _ h (ap (λ bytes. address ++ (codes " " ++ (bytes ++ (codes " " ++ text)))) spelling ∙ regrouped address (codes " ") (encode_lower c.args.piece.now.spelling.items) (codes " ") text)
+    told string_bytes c.format.result _ _ h (ap (λ bytes. address ++ (codes " " ++ (bytes ++ (codes " " ++ text))))
+    spelling ∙ regrouped address (codes " ") (encode_lower c.args.piece.now.spelling.items) (codes " ") text)

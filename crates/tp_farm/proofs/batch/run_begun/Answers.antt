@@ -1,7 +1,7 @@
 use Rattle.std.proofs.Common.{length, ap, subst, arith}
 use Rattle.std.proofs.lemmas.Slice.Zip.{AllZip-long}
 use Rattle.tp_farm.specs.Reserved.{HasRoom}
-use Rattle.tp_board.specs.Streams.{IsHandOf, hand_progress}
+use Rattle.tp_stream.specs.Streams.{IsHandOf, hand_progress}
 use Rattle.tp_farm.specs.Works.{work_on}
 use Rattle.tp_farm.proofs.Feeding.{fresh_hands, fresh_feeder}
 use Rattle.tp_farm.proofs.Settled.{to_settle}

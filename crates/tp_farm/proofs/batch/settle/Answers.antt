@@ -1,5 +1,5 @@
 use Rattle.std.proofs.Common.{length, arith}
-use Rattle.tp_board.specs.Streams.{IsHandOf, hand_progress}
+use Rattle.tp_stream.specs.Streams.{IsHandOf, hand_progress}
 use Rattle.tp_farm.proofs.Views.{hands_add_up}
 use Rattle.tp_farm.proofs.Settled.{own_hands, kept_of_batch, vacant_at_first, is_batch}
 use Rattle.tp_farm.proofs.batch.settle.Goals as goal

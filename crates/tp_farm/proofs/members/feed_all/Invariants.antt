@@ -1,4 +1,4 @@
-use Rattle.tp_board.specs.Streams.{IsFeederOf}
+use Rattle.tp_stream.specs.Streams.{IsFeederOf}
 use Rattle.tp_farm.specs.Feeding.{HasOnlyFed}
 use Rattle.tp_farm.proofs.members.feed_all.Given as goal
 

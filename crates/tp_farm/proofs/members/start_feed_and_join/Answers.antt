@@ -1,6 +1,6 @@
 use Rattle.std.proofs.Common.{◌≡◌, subst}
 use Rattle.std.specs.List.{AllZip}
-use Rattle.tp_board.specs.Streams.{IsHandOf, hand_progress}
+use Rattle.tp_stream.specs.Streams.{IsHandOf, hand_progress}
 use Rattle.tp_farm.specs.Working.{HasWorkedOn}
 use Rattle.tp_farm.proofs.Joining.{joined_zip}
 use Rattle.tp_farm.proofs.members.start_feed_and_join.Goals as goal

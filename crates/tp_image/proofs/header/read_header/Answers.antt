@@ -9,4 +9,5 @@ pub returns-in_err-check : goal.returns-in_err-check
 returns-in_err-check c =
     let p = err_from_is_err_and c.from_residual.result c.from_residual.ensures.1 in
     let bytes = c.args.bytes.now in
-    rw (p.1, p.2) (first_fault-whole bytes c.in-Some.version (sym c.in-Some.ensures) (omega arith) ∙ ap (λ (h : Header). header_fault h (length bytes)) (sym c.at-header.ensures) ∙ c.in_err-check.ensures)
+    rw (p.1, p.2) (first_fault-whole bytes c.in-Some.version (sym c.in-Some.ensures) (omega arith) ∙
+    ap (λ (h : Header). header_fault h (length bytes)) (sym c.at-header.ensures) ∙ c.in_err-check.ensures)

@@ -16,7 +16,8 @@ is_canonical c =
     let n = c.cast_unsigned-complement.result in
     let is : c.args.operand ≡ negsuc n = below_zero c.args.operand n c.ranges.operand c.if-operand-lt0.true c.cast_unsigned-complement.ensures in
     let half : n < 2 ^ 31 = omega (arith, ints, c.ranges.operand, is) in
-    c.push.ensures.items ∙ ap (λ bytes. bytes ++ (16 * c.args.function + (15 - n % 16)) ∷ []) c.natural-bytes.ensures ∙ sym (ap (canonical c.args.function) is ∙ canonical_negsuc c.args.function n half)
+    c.push.ensures.items ∙ ap (λ bytes. bytes ++ (16 * c.args.function + (15 - n % 16)) ∷ []) c.natural-bytes.ensures ∙
+    sym (ap (canonical c.args.function) is ∙ canonical_negsuc c.args.function n half)
 
 pub returns-then-operand-lt0-clause-canonical : goal.returns-then-operand-lt0-clause-canonical
 returns-then-operand-lt0-clause-canonical c = is_canonical c

@@ -36,7 +36,8 @@ unwrap-requires g c =
     rw n refl
 
 pub returns-clause-fails : goal.returns-clause-fails
-returns-clause-fails g c = ap (λ (a : App). fault_of a (map g.S.AsStr.text c.args.words.now)) (sym c.in_ok-command.ensures.app) ∙ c.in_ok-matches.ensures.kinds (ap is_simple_and_free c.in_ok-command.ensures.app)
+returns-clause-fails g c = ap (λ (a : App). fault_of a (map g.S.AsStr.text c.args.words.now))
+    (sym c.in_ok-command.ensures.app) ∙ c.in_ok-matches.ensures.kinds (ap is_simple_and_free c.in_ok-command.ensures.app)
 
 pub returns-clause-asked : goal.returns-clause-asked
 returns-clause-asked g c =

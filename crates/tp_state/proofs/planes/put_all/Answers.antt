@@ -5,7 +5,8 @@ use Rattle.tp_state.proofs.planes.put_all.Goals as goal
 pub loop-w-preserved : goal.loop-w-preserved
 loop-w-preserved c values =
     let room : c.loop-w.w < length c.loop-w.planes = omega arith in
-    put_more values _ _ c.args.kept.first c.args.kept.second c.args.x c.args.end c.loop-w.w c.within.result c.put.result (c.loop-w.invariant values) room c.within.ensures c.put.ensures.first c.put.ensures.second
+    put_more values _ _ c.args.kept.first c.args.kept.second c.args.x c.args.end c.loop-w.w c.within.result c.put.result
+    (c.loop-w.invariant values) room c.within.ensures c.put.ensures.first c.put.ensures.second
 
 pub returns : goal.returns
 returns c values =

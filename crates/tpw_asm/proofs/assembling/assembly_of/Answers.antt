@@ -34,8 +34,11 @@ returns-in-Err-Refused-clause-refused c =
     let program = c.args.program.now in
     let lengths = c.in_ok-layout.layout.lengths.items in
     let rows : c.in_ok-loops.loops.items ≡ map (row_of (addresses_from 0 lengths)) program.loops.items =
-    c.in_ok-loops.ensures.rows ∙ ap (λ at. map (row_of at) c.deref-4.result.now) (c.deref-3.ensures.value ∙ c.in_ok-layout.ensures.addresses) ∙ ap (map (row_of (addresses_from 0 lengths))) c.deref-4.ensures.value in
-    let made : c.in_ok-code.code.items ≡ concat (spelled_from c.deref.result.now 0 program.lines.items) = c.in_ok-code.ensures ∙ ap (λ xs. concat (spelled_from c.deref.result.now 0 xs)) c.deref-2.ensures.value in
+    c.in_ok-loops.ensures.rows ∙ ap (λ at. map (row_of at) c.deref-4.result.now)
+    (c.deref-3.ensures.value ∙ c.in_ok-layout.ensures.addresses) ∙
+    ap (map (row_of (addresses_from 0 lengths))) c.deref-4.ensures.value in
+    let made : c.in_ok-code.code.items ≡ concat (spelled_from c.deref.result.now 0 program.lines.items) =
+    c.in_ok-code.ensures ∙ ap (λ xs. concat (spelled_from c.deref.result.now 0 xs)) c.deref-2.ensures.value in
     let code = code_is program c.deref.result.now lengths c.in_ok-code.code.items (c.deref.ensures.value ∙ c.in_ok-layout.ensures.addresses) made in
     let initial : c.in_ok-from_slice.field-0.items ≡ program.initial.items = c.in_ok-from_slice.ensures.items ∙ c.deref-5.ensures.value in
     let image : ImageValue = record {

@@ -13,7 +13,9 @@ use Rattle.tpw_asm.proofs.disassembling.disassemble.Goals as goal
 
 pub least_layout-requires-clause-sound : goal.least_layout-requires-clause-sound
 least_layout-requires-clause-sound c =
-    rw c.deref-2.ensures.value (own_sound (length c.in_ok-unlabelled.unlabelled.items) 0 c.in_ok-unlabelled.unlabelled.items (spells_code c.deref.result.now c.in_ok-unlabelled.unlabelled.items c.in_ok-unlabelled.ensures).own)
+    rw c.deref-2.ensures.value (own_sound (length c.in_ok-unlabelled.unlabelled.items) 0
+    c.in_ok-unlabelled.unlabelled.items (spells_code c.deref.result.now c.in_ok-unlabelled.unlabelled.items
+    c.in_ok-unlabelled.ensures).own)
 
 pub labelled_lines-requires-clause-addresses : goal.labelled_lines-requires-clause-addresses
 labelled_lines-requires-clause-addresses c =
@@ -23,7 +25,15 @@ labelled_lines-requires-clause-addresses c =
 pub labelled_lines-requires-clause-count : goal.labelled_lines-requires-clause-count
 labelled_lines-requires-clause-count c =
     let laid_out = c.in-Ok.ensures.laid_out in
-    omega (arith, ap length (c.deref-3.ensures.value ∙ laid_out.addresses), length-addresses 0 c.in-Ok.layout.lengths.items, layout_count c.deref-2.result.now c.in-Ok.layout.lengths.items laid_out.least.layout, ap length c.deref-2.ensures.value, ap length c.deref-4.ensures.value)
+    omega (
+      arith,
+      ap length (c.deref-3.ensures.value ∙ laid_out.addresses),
+      length-addresses 0 c.in-Ok.layout.lengths.items,
+      layout_count c.deref-2.result.now c.in-Ok.layout.lengths.items
+          laid_out.least.layout,
+      ap length c.deref-2.ensures.value,
+      ap length c.deref-4.ensures.value,
+    )
 
 pub returns-clause-assembled : goal.returns-clause-assembled
 returns-clause-assembled c =

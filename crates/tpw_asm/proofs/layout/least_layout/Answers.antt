@@ -4,7 +4,9 @@ use Rattle.std.proofs.lemmas.Slice.Eq.{slice_eq-Decides}
 use Rattle.std.proofs.lemmas.Bool.{false≢true}
 use Rattle.std.proofs.lemmas.Bool.Decides.{Decides-eqb}
 use Rattle.tpw_asm.specs.Layout.{addresses_from}
-use Rattle.tpw_asm.proofs.LayoutLemmas.{needed, needed_at, length-addresses, length-needed, needed_grows, sum_grows, ones_at_most, ones_least, ones_sum, last_read, are_addresses, step_least, step_grows}
+use Rattle.tpw_asm.proofs.LayoutLemmas.{needed, needed_at, length-addresses, length-needed, needed_grows, sum_grows}
+use Rattle.tpw_asm.proofs.LayoutLemmas.{ones_at_most, ones_least, ones_sum, last_read, are_addresses, step_least}
+use Rattle.tpw_asm.proofs.LayoutLemmas.{step_grows}
 use Rattle.tpw_asm.proofs.layout.least_layout.Goals as goal
 
 pub returns-then-lines-most-clause-fault : goal.returns-then-lines-most-clause-fault
@@ -27,13 +29,17 @@ index-requires c =
 pub returns-then-index-most-clause-fault : goal.returns-then-index-most-clause-fault
 returns-then-index-most-clause-fault c others is =
     let are : c.in_ok-addresses.addresses.items ≡ addresses_from 0 c.loop-lengths.lengths.items = c.in_ok-addresses.ensures ∙ ap (addresses_from 0) c.deref.ensures.value in
-    let size : c.index.result.now ≡ sum c.loop-lengths.lengths.items = last_read c.in_ok-addresses.addresses.items c.loop-lengths.lengths.items (length c.args.lines.now) c.index.result.now are (sym c.loop-lengths.invariant.count) c.index.ensures in
+    let size : c.index.result.now ≡ sum c.loop-lengths.lengths.items =
+    last_read c.in_ok-addresses.addresses.items c.loop-lengths.lengths.items (length c.args.lines.now)
+    c.index.result.now are (sym c.loop-lengths.invariant.count) c.index.ensures in
     omega (arith, size, sum_grows c.loop-lengths.lengths.items others (c.loop-lengths.invariant.least others is))
 
 pub lengths_of-requires-clause-addresses : goal.lengths_of-requires-clause-addresses
 lengths_of-requires-clause-addresses c =
     let are : c.in_ok-addresses.addresses.items ≡ addresses_from 0 c.loop-lengths.lengths.items = c.in_ok-addresses.ensures ∙ ap (addresses_from 0) c.deref.ensures.value in
-    let size : c.index.result.now ≡ sum c.loop-lengths.lengths.items = last_read c.in_ok-addresses.addresses.items c.loop-lengths.lengths.items (length c.args.lines.now) c.index.result.now are (sym c.loop-lengths.invariant.count) c.index.ensures in
+    let size : c.index.result.now ≡ sum c.loop-lengths.lengths.items =
+    last_read c.in_ok-addresses.addresses.items c.loop-lengths.lengths.items (length c.args.lines.now)
+    c.index.result.now are (sym c.loop-lengths.invariant.count) c.index.ensures in
     are_addresses _ c.loop-lengths.lengths.items (c.deref-in-loop-lengths.ensures.value ∙ are) (omega (arith, size))
 
 pub lengths_of-requires-clause-count : goal.lengths_of-requires-clause-count
@@ -44,7 +50,9 @@ lengths_of-requires-clause-count c =
 pub returns-then-eq-clause-laid_out : goal.returns-then-eq-clause-laid_out
 returns-then-eq-clause-laid_out c =
     let are : c.in_ok-addresses.addresses.items ≡ addresses_from 0 c.loop-lengths.lengths.items = c.in_ok-addresses.ensures ∙ ap (addresses_from 0) c.deref.ensures.value in
-    let size : c.index.result.now ≡ sum c.loop-lengths.lengths.items = last_read c.in_ok-addresses.addresses.items c.loop-lengths.lengths.items (length c.args.lines.now) c.index.result.now are (sym c.loop-lengths.invariant.count) c.index.ensures in
+    let size : c.index.result.now ≡ sum c.loop-lengths.lengths.items =
+    last_read c.in_ok-addresses.addresses.items c.loop-lengths.lengths.items (length c.args.lines.now)
+    c.index.result.now are (sym c.loop-lengths.invariant.count) c.index.ensures in
     let need : c.in_ok-needed.needed.items ≡ needed c.args.lines.now c.loop-lengths.lengths.items =
     c.in_ok-needed.ensures ∙ ap (λ xs. needed_at xs c.args.lines.now) (c.deref-in-loop-lengths.ensures.value ∙ are) in
     let same : c.as_slice.result.now ≡ c.as_slice-in-loop-lengths.result.now = (slice_eq-Decides Decides-eqb _ _ _ c.eq.ensures).0 c.if-eq.true in
@@ -60,7 +68,9 @@ returns-then-eq-clause-laid_out c =
 pub loop-lengths-smaller : goal.loop-lengths-smaller
 loop-lengths-smaller c =
     let are : c.in_ok-addresses.addresses.items ≡ addresses_from 0 c.loop-lengths.lengths.items = c.in_ok-addresses.ensures ∙ ap (addresses_from 0) c.deref.ensures.value in
-    let size : c.index.result.now ≡ sum c.loop-lengths.lengths.items = last_read c.in_ok-addresses.addresses.items c.loop-lengths.lengths.items (length c.args.lines.now) c.index.result.now are (sym c.loop-lengths.invariant.count) c.index.ensures in
+    let size : c.index.result.now ≡ sum c.loop-lengths.lengths.items =
+    last_read c.in_ok-addresses.addresses.items c.loop-lengths.lengths.items (length c.args.lines.now)
+    c.index.result.now are (sym c.loop-lengths.invariant.count) c.index.ensures in
     let need : c.in_ok-needed.needed.items ≡ needed c.args.lines.now c.loop-lengths.lengths.items =
     c.in_ok-needed.ensures ∙ ap (λ xs. needed_at xs c.args.lines.now) (c.deref-in-loop-lengths.ensures.value ∙ are) in
     let other : c.loop-lengths.lengths.items ≢ needed c.args.lines.now c.loop-lengths.lengths.items = λ e.

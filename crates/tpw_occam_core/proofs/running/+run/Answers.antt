@@ -18,7 +18,9 @@ pub returns-in_err-run-in-Repeat-clause-lost : goal.returns-in_err-run-in-Repeat
 returns-in_err-run-in-Repeat-clause-lost t c h =
     let kinds = c.args.kinds.now in
     let r = c.in-Repeat in
-    let lost : most_traced < length (run kinds r.body.value (with_value r.index (low_word (pos r.start +ℤ pos c.loop-turn.turn)) (turns (run kinds r.body.value) r.index r.start c.loop-turn.turn c.args.state.now))).traced = search rules in
+    let lost : most_traced < length (run kinds r.body.value
+    (with_value r.index (low_word (pos r.start +ℤ pos c.loop-turn.turn))
+    (turns (run kinds r.body.value) r.index r.start c.loop-turn.turn c.args.state.now))).traced = search rules in
     let below : c.loop-turn.turn < r.count = omega arith in
     rw r.is
     (lost_turn most_traced kinds r.body.value r.index r.start c.loop-turn.turn r.count c.args.state.now below lost)

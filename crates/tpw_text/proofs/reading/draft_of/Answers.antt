@@ -19,22 +19,27 @@ returns-in_err-read_line-clause-refused c =
     let text : List (List ℕ) = lines c.args.text.now in
     let k : ℕ = length c.loop-i.yielded in
     let t = at_turn text k c.in-Some.i c.in-Some.line.now
-    (YieldsList-turn (YieldsList-from_enumerate (YieldsList-from_lines c.args.text.now (cc)) (cc)) c.loop-i.yielded _ c.loop-i.yielded_by _ _ (c.in-Some.i, c.in-Some.line) c.in-Some.is c.next.ensures.steps) in
+    (YieldsList-turn (YieldsList-from_enumerate (YieldsList-from_lines c.args.text.now (cc)) (cc)) c.loop-i.yielded _
+    c.loop-i.yielded_by _ _ (c.in-Some.i, c.in-Some.line) c.in-Some.is c.next.ensures.steps) in
     let this : map token c.deref.result.now ≡ words_of_line (k + 1) c.in-Some.line.now =
     ap (map token) c.deref.ensures.value ∙ c.in_ok-words.ensures ∙ ap (words_of_line (c.in-Some.i + 1)) c.as_bytes.ensures.value ∙ ap (λ n. words_of_line (n + 1) c.in-Some.line.now) t.1 in
     passed_on c.from_residual-in_err-read_line.result c.in_err-read_line.field-0.0 c.from_residual-in_err-read_line.ensures.1
-    (refused_at c.args.text.now k c.in-Some.line.now (said c.loop-i.draft) c.in_err-read_line.field-0.0 c.deref.result.now t.0 c.loop-i.invariant (this ∙ ap (words_of_line (k + 1)) t.2) c.in_err-read_line.ensures.refused)
+    (refused_at c.args.text.now k c.in-Some.line.now (said c.loop-i.draft) c.in_err-read_line.field-0.0
+    c.deref.result.now t.0 c.loop-i.invariant (this ∙ ap (words_of_line (k + 1)) t.2)
+    c.in_err-read_line.ensures.refused)
 
 pub loop-i-preserved : goal.loop-i-preserved
 loop-i-preserved c =
     let text : List (List ℕ) = lines c.args.text.now in
     let k : ℕ = length c.loop-i.yielded in
     let t = at_turn text k c.in-Some.i c.in-Some.line.now
-    (YieldsList-turn (YieldsList-from_enumerate (YieldsList-from_lines c.args.text.now (cc)) (cc)) c.loop-i.yielded _ c.loop-i.yielded_by _ _ (c.in-Some.i, c.in-Some.line) c.in-Some.is c.next.ensures.steps) in
+    (YieldsList-turn (YieldsList-from_enumerate (YieldsList-from_lines c.args.text.now (cc)) (cc)) c.loop-i.yielded _
+    c.loop-i.yielded_by _ _ (c.in-Some.i, c.in-Some.line) c.in-Some.is c.next.ensures.steps) in
     let this : map token c.deref.result.now ≡ words_of_line (k + 1) c.in-Some.line.now =
     ap (map token) c.deref.ensures.value ∙ c.in_ok-words.ensures ∙ ap (words_of_line (c.in-Some.i + 1)) c.as_bytes.ensures.value ∙ ap (λ n. words_of_line (n + 1) c.in-Some.line.now) t.1 in
     subst (λ n. words_say (words_of_lines 1 (take n text)) ≡ Ok (draft_apart (said c.read_line.new.draft))) (sym (length_push c.loop-i.yielded (c.in-Some.i, c.in-Some.line)))
-    (one_more text k c.in-Some.line.now (said c.loop-i.draft) (said c.read_line.new.draft) c.deref.result.now t.0 c.loop-i.invariant (this ∙ ap (words_of_line (k + 1)) t.2) c.in_ok-read_line.ensures.said)
+    (one_more text k c.in-Some.line.now (said c.loop-i.draft) (said c.read_line.new.draft) c.deref.result.now t.0
+    c.loop-i.invariant (this ∙ ap (words_of_line (k + 1)) t.2) c.in_ok-read_line.ensures.said)
 
 pub returns-clause-said : goal.returns-clause-said
 returns-clause-said c =

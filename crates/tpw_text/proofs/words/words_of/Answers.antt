@@ -25,7 +25,8 @@ pub returns : goal.returns
 returns c =
     let said : List ℕ = c.before_comment-said.result.now in
     let end : c.loop-i.i ≡ length said = omega arith in
-    let plain : list_all is_plain (slice_range said c.loop-i.start (length said)) ≡ true = subst (λ (i : ℕ). list_all is_plain (slice_range said c.loop-i.start i) ≡ true) end c.loop-i.invariant.plain in
+    let plain : list_all is_plain (slice_range said c.loop-i.start (length said)) ≡ true =
+    subst (λ (i : ℕ). list_all is_plain (slice_range said c.loop-i.start i) ≡ true) end c.loop-i.invariant.plain in
     c.in_ok-push_word.ensures
     ∙ ap (λ ws. map token c.loop-i.words.items ++ ws) (sym (at_end c.args.line c.loop-i.start said (omega (arith, c.loop-i.invariant.order)) plain))
     ∙ c.loop-i.invariant.words_are

@@ -11,4 +11,6 @@ returns-in-Plain c =
 pub returns-in-Distance : goal.returns-in-Distance
 returns-in-Distance c =
     subst (λ (o : Operation). IsMarked (λ k. names_from_operation k o) c.args.marks.now c.mark-in-Distance-2.new.marks) (sym c.in-Distance.is)
-    (marked_both (λ k. c.in-Distance.from == k) (λ k. c.in-Distance.to == k) c.args.marks.now c.mark-in-Distance.new.marks c.mark-in-Distance-2.new.marks (omega arith) c.mark-in-Distance.ensures c.mark-in-Distance-2.ensures)
+    (marked_both (λ k. c.in-Distance.from == k) (λ k. c.in-Distance.to == k) c.args.marks.now
+    c.mark-in-Distance.new.marks c.mark-in-Distance-2.new.marks (omega arith) c.mark-in-Distance.ensures
+    c.mark-in-Distance-2.ensures)

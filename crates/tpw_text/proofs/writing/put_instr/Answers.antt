@@ -24,4 +24,6 @@ returns c =
     let is : c.as_str.result.now ≡ instruction_text c.args.instr = c.as_str.ensures.value ∙ c.in_ok-shown.ensures.ok in
     let parts = instr_alone c.args.instr c.as_str.result.now is (c.in-None.ensures.byte (omega arith) (λ w o h. h)) in
     written_on c.put_stated-in-None.result _ _ _ c.put_stated-in-None.ensures
-    (alone_written (string_bytes c.args.text.now) (stated_text c.args.bytes) (entry c.args.instr).name c.as_str-in-None.result.now (operand_text c.args.instr) c.in_ok-push_str-in-None.ensures.bytes (c.as_str-in-None.ensures.value ∙ sym c.as_str.ensures.value ∙ parts.0) parts.1)
+    (alone_written (string_bytes c.args.text.now) (stated_text c.args.bytes) (entry c.args.instr).name
+    c.as_str-in-None.result.now (operand_text c.args.instr) c.in_ok-push_str-in-None.ensures.bytes
+    (c.as_str-in-None.ensures.value ∙ sym c.as_str.ensures.value ∙ parts.0) parts.1)

@@ -20,4 +20,6 @@ loop-i-preserved c =
 pub returns : goal.returns
 returns c =
     c.loop-i.invariant
-    ∙ ap (flat_map edges_of) (take_all c.loop-i.i (placed_from 0 c.args.listing.now) (let e = c.len-i-end.ensures in let f = c.loop-i-test.false in let n = count_placed c.args.listing.now in omega (arith, e, f, n)))
+    ∙ ap (flat_map edges_of) (take_all c.loop-i.i (placed_from 0 c.args.listing.now)
+    (let e = c.len-i-end.ensures in let f = c.loop-i-test.false in let n = count_placed c.args.listing.now in
+    omega (arith, e, f, n)))

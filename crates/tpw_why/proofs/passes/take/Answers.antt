@@ -15,18 +15,24 @@ after-requires-clause-placed c = c.requires.placed c.args.instruction.at c.in-So
 
 pub returns-in_err-outcome-clause-gives : goal.returns-in_err-outcome-clause-gives
 returns-in_err-outcome-clause-gives c =
-    refused_goes c.args.image.now c.args.instruction c.args.edge (table_of c.args.table.now) _ c.in-Some.before.now c.in_err-outcome.field-0.0 c.from_residual.result (table_of c.args.table.now) (search rules) c.from_residual.ensures.1 c.in_err-outcome.ensures.refused
+    refused_goes c.args.image.now c.args.instruction c.args.edge (table_of c.args.table.now) _ c.in-Some.before.now
+    c.in_err-outcome.field-0.0 c.from_residual.result (table_of c.args.table.now) (search rules)
+    c.from_residual.ensures.1 c.in_err-outcome.ensures.refused
 
 pub returns-in-Some-target-clause-placed : goal.returns-in-Some-target-clause-placed
 returns-in-Some-target-clause-placed c =
-    entered_placed c.args.image.now (table_of c.args.table.now) (table_of c.enter.new.states) c.in-Some-target.to c.in_ok-outcome.outcome c.enter.result c.requires.placed c.in_ok-outcome.ensures.placed c.enter.ensures.gives (search rules)
+    entered_placed c.args.image.now (table_of c.args.table.now) (table_of c.enter.new.states) c.in-Some-target.to
+    c.in_ok-outcome.outcome c.enter.result c.requires.placed c.in_ok-outcome.ensures.placed c.enter.ensures.gives
+    (search rules)
 
 pub returns-in-Some-target-clause-gives : goal.returns-in-Some-target-clause-gives
 returns-in-Some-target-clause-gives c =
     let leads : target (ranges c.args.image.now.loops) c.args.instruction.at c.args.instruction.next c.args.instruction.instr c.args.edge ≡ Some c.in-Some-target.to =
     sym (c.target.ensures ∙ ap (λ nest. target nest c.args.instruction.at c.args.instruction.next c.args.instruction.instr c.args.edge) c.requires.nest) ∙ c.in-Some-target.is in
     subst (Gives c.enter.result (table_of c.enter.new.states))
-    (sym (outcome_goes c.args.image.now c.args.instruction c.args.edge (table_of c.args.table.now) _ c.in-Some.before.now c.in_ok-outcome.outcome (search rules) c.in_ok-outcome.ensures.ok ∙ ap (λ to. enter to c.in_ok-outcome.outcome (table_of c.args.table.now)) leads))
+    (sym (outcome_goes c.args.image.now c.args.instruction c.args.edge (table_of c.args.table.now) _
+    c.in-Some.before.now c.in_ok-outcome.outcome (search rules) c.in_ok-outcome.ensures.ok ∙
+    ap (λ to. enter to c.in_ok-outcome.outcome (table_of c.args.table.now)) leads))
     c.enter.ensures.gives
 
 pub returns-clause-gives : goal.returns-clause-gives
@@ -38,8 +44,10 @@ returns-clause-gives c =
 
 pub returns-in-Some-target-clause-moves : goal.returns-in-Some-target-clause-moves
 returns-in-Some-target-clause-moves c =
-    entered_moves c.args.image.now c.enter.result c.args.table.now c.enter.new.states c.in-Some-target.to c.in_ok-outcome.outcome (c.requires.places.targets c.args.edge c.in-Some-target.to leads) c.enter.ensures.sized c.enter.ensures.gives c.enter.ensures.reports
-    (record { a = c.has_word_ends.ensures.a; b = c.has_word_ends.ensures.b; c = c.has_word_ends.ensures.c }) c.in_ok-outcome.ensures.placed c.requires.placed
+    entered_moves c.args.image.now c.enter.result c.args.table.now c.enter.new.states c.in-Some-target.to
+    c.in_ok-outcome.outcome (c.requires.places.targets c.args.edge c.in-Some-target.to leads) c.enter.ensures.sized
+    c.enter.ensures.gives c.enter.ensures.reports
+    (record { a = c.law_has_word_ends.ensures.a; b = c.law_has_word_ends.ensures.b; c = c.law_has_word_ends.ensures.c }) c.in_ok-outcome.ensures.placed c.requires.placed
   where
     leads : target (ranges c.args.image.now.loops) c.args.instruction.at c.args.instruction.next c.args.instruction.instr c.args.edge ≡ Some c.in-Some-target.to
     leads = sym (c.target.ensures ∙ ap (λ nest. target nest c.args.instruction.at c.args.instruction.next c.args.instruction.instr c.args.edge) c.requires.nest) ∙ c.in-Some-target.is

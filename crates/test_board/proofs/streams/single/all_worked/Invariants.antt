@@ -1,5 +1,5 @@
 use Rattle.std.proofs.Common.{All}
-use Rattle.tp_board.specs.Streams.{IsFeederOf, IsHandOf}
+use Rattle.tp_stream.specs.Streams.{IsFeederOf, IsHandOf}
 use Rattle.test_board.proofs.streams.single.all_worked.Given as goal
 
 abbrev pub invariant-loop : goal.invariant-loop

@@ -1,4 +1,4 @@
-use Rattle.tp_board.specs.Streams.{IsFeederOf, IsHandOf}
+use Rattle.tp_stream.specs.Streams.{IsFeederOf, IsHandOf}
 use Rattle.test_board.proofs.streams.single.assert_steps.Given as goal
 
 abbrev pub invariant-loop-place : goal.invariant-loop-place

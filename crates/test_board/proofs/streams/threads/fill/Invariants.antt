@@ -1,4 +1,4 @@
-use Rattle.tp_board.specs.Streams.{IsFeederOf}
+use Rattle.tp_stream.specs.Streams.{IsFeederOf}
 use Rattle.test_board.proofs.streams.threads.fill.Given as goal
 
 abbrev pub invariant-loop : goal.invariant-loop

@@ -36,7 +36,7 @@ pub returns-in_err-answer-clause-each_once : goal.returns-in_err-answer-clause-e
 returns-in_err-answer-clause-each_once c =
     subst Accounts (sym c.in_err-answer.ensures.err)
     (ran_accounts c.args.self.now c.loop-entry.self c.args.events.now c.loop-entry.entry-index c.loop-entry.invariant.farm
-    c.requires (subst Accounts c.self.view_is c.self.invariant))
+    c.requires c.law_accounts.ensures)
 
 pub returns-in_err-answer-clause-kept : goal.returns-in_err-answer-clause-kept
 returns-in_err-answer-clause-kept c =

@@ -23,7 +23,11 @@ take-requires-clause-place c =
 
 pub take-requires-clause-sound : goal.take-requires-clause-sound
 take-requires-clause-sound c =
-    record { range = c.requires.range; loads = loads_word c.args.listing.now c.requires.spelled c.in-Some.place (stands_at c.args.listing.now c.loop-i.i c.in-Some.place c.requires.kept.spelled (sym c.in-Some.ensures)) }
+    record {
+      range = c.requires.range;
+      loads = loads_word c.args.listing.now c.requires.spelled c.in-Some.place
+          (stands_at c.args.listing.now c.loop-i.i c.in-Some.place c.requires.kept.spelled (sym c.in-Some.ensures));
+    }
 
 pub take-requires-clause-way : goal.take-requires-clause-way
 take-requires-clause-way c =
@@ -31,14 +35,19 @@ take-requires-clause-way c =
       c.args.listing.now,
       stands_in c.args.listing.now c.loop-i.i c.in-Some.place c.requires.kept.spelled (sym c.in-Some.ensures),
       c.requires.join,
-      (on.whole, here_before c.args.image.now c.args.listing.now (is_join_at c.args.predecessors.now) c.loop-i.i c.in-Some.place (sym c.in-Some.ensures) c.args.self.now c.loop-i.self c.requires.way.0 on),
+      (
+        on.whole,
+        here_before c.args.image.now c.args.listing.now (is_join_at c.args.predecessors.now) c.loop-i.i
+            c.in-Some.place (sym c.in-Some.ensures) c.args.self.now c.loop-i.self c.requires.way.0 on,
+      ),
     )
 
 pub returns-in_err-take-clause-gives : goal.returns-in_err-take-clause-gives
 returns-in_err-take-clause-gives c begun before =
     let on = c.loop-i.invariant.gives begun before in
     carried_on c.from_residual.result c.in_err-take.field-0.0 _ (λ _. Unit {0}) _ c.from_residual.ensures.1
-    (stop_there c.args.image.now c.args.listing.now (is_join_at c.args.predecessors.now) c.loop-i.i c.in-Some.place (sym c.in-Some.ensures) c.args.self.now c.loop-i.self begun on c.in_err-take.field-0.0 _ (λ _. Unit {0})
+    (stop_there c.args.image.now c.args.listing.now (is_join_at c.args.predecessors.now) c.loop-i.i c.in-Some.place
+    (sym c.in-Some.ensures) c.args.self.now c.loop-i.self begun on c.in_err-take.field-0.0 _ (λ _. Unit {0})
     (c.in_err-take.ensures.gives c.args.listing.now (stands_in c.args.listing.now c.loop-i.i c.in-Some.place c.requires.kept.spelled (sym c.in-Some.ensures)) c.requires.join on.whole
     (here_before c.args.image.now c.args.listing.now (is_join_at c.args.predecessors.now) c.loop-i.i c.in-Some.place (sym c.in-Some.ensures) c.args.self.now c.loop-i.self begun on)))
 
@@ -48,22 +57,34 @@ loop-i-preserved c =
       | in-Some+in_ok-take+then-branch w ↦ (rw (w.self-is, w.moved-is) (record {
         gives = λ begun before. (
             let on = c.loop-i.invariant.gives begun before in
-            come_on c.args.image.now c.args.listing.now (is_join_at c.args.predecessors.now) c.loop-i.i w.in-Some.place (sym w.in-Some.ensures) c.args.self.now c.loop-i.self begun on c.requires.kept.spelled w.take.new.self w.in_ok-take.field-0
+            come_on c.args.image.now c.args.listing.now (is_join_at c.args.predecessors.now) c.loop-i.i w.in-Some.place
+            (sym w.in-Some.ensures) c.args.self.now c.loop-i.self begun on c.requires.kept.spelled w.take.new.self
+            w.in_ok-take.field-0
             (w.in_ok-take.ensures.gives c.args.listing.now (stands_in c.args.listing.now c.loop-i.i w.in-Some.place c.requires.kept.spelled (sym w.in-Some.ensures)) c.requires.join on.whole
             (here_before c.args.image.now c.args.listing.now (is_join_at c.args.predecessors.now) c.loop-i.i w.in-Some.place (sym w.in-Some.ensures) c.args.self.now c.loop-i.self begun on)));
-        moves = moves_more c.args.image.now c.args.self.now.states.items c.loop-i.self.states.items w.take.new.self.states.items c.loop-i.moved c.loop-i.invariant.moves (subst (λ b. Moves c.args.image.now b c.loop-i.self.states.items w.take.new.self.states.items) w.if-branch.true w.in_ok-take.ensures.moves);
+        moves = moves_more c.args.image.now c.args.self.now.states.items c.loop-i.self.states.items
+            w.take.new.self.states.items c.loop-i.moved c.loop-i.invariant.moves
+            (subst (λ b. Moves c.args.image.now b c.loop-i.self.states.items w.take.new.self.states.items)
+            w.if-branch.true w.in_ok-take.ensures.moves);
       }))
       | in-Some+in_ok-take+else-branch w ↦ (rw (w.self-is, w.moved-is) (record {
         gives = λ begun before. (
             let on = c.loop-i.invariant.gives begun before in
-            come_on c.args.image.now c.args.listing.now (is_join_at c.args.predecessors.now) c.loop-i.i w.in-Some.place (sym w.in-Some.ensures) c.args.self.now c.loop-i.self begun on c.requires.kept.spelled w.take.new.self w.in_ok-take.field-0
+            come_on c.args.image.now c.args.listing.now (is_join_at c.args.predecessors.now) c.loop-i.i w.in-Some.place
+            (sym w.in-Some.ensures) c.args.self.now c.loop-i.self begun on c.requires.kept.spelled w.take.new.self
+            w.in_ok-take.field-0
             (w.in_ok-take.ensures.gives c.args.listing.now (stands_in c.args.listing.now c.loop-i.i w.in-Some.place c.requires.kept.spelled (sym w.in-Some.ensures)) c.requires.join on.whole
             (here_before c.args.image.now c.args.listing.now (is_join_at c.args.predecessors.now) c.loop-i.i w.in-Some.place (sym w.in-Some.ensures) c.args.self.now c.loop-i.self begun on)));
-        moves = moves_no_more c.args.image.now c.args.self.now.states.items c.loop-i.self.states.items w.take.new.self.states.items c.loop-i.moved c.loop-i.invariant.moves (subst (λ b. Moves c.args.image.now b c.loop-i.self.states.items w.take.new.self.states.items) w.if-branch.false w.in_ok-take.ensures.moves);
+        moves = moves_no_more c.args.image.now c.args.self.now.states.items c.loop-i.self.states.items
+            w.take.new.self.states.items c.loop-i.moved c.loop-i.invariant.moves
+            (subst (λ b. Moves c.args.image.now b c.loop-i.self.states.items w.take.new.self.states.items)
+            w.if-branch.false w.in_ok-take.ensures.moves);
       }))
       | in_default w ↦ absurd (no_instruction c.args.listing.now c.loop-i.i (let e = c.len-i-end.ensures in let f = c.loop-i-test.true in omega (arith, e, f)) (sym w.in_default.ensures))
     ]
 
 pub returns-clause-gives : goal.returns-clause-gives
 returns-clause-gives c begun before =
-    come_all c.args.image.now c.args.listing.now (is_join_at c.args.predecessors.now) c.args.self.now c.loop-i.self _ c.loop-i.i begun (let e = c.len-i-end.ensures in let f = c.loop-i-test.false in omega (arith, e, f)) (c.loop-i.invariant.gives begun before) refl refl refl refl refl c.loop-i.moved
+    come_all c.args.image.now c.args.listing.now (is_join_at c.args.predecessors.now) c.args.self.now c.loop-i.self _
+    c.loop-i.i begun (let e = c.len-i-end.ensures in let f = c.loop-i-test.false in omega (arith, e, f))
+    (c.loop-i.invariant.gives begun before) refl refl refl refl refl c.loop-i.moved

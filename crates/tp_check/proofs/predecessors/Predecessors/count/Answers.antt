@@ -15,16 +15,23 @@ loop-edge-preserved c =
       | in-Some w ↦ (rw w.self-inside-is (record {
         edges = c.asked-edges.ensures;
         sized = length-set c.loop-edge.self-inside.predecessors.items _ _ ∙ c.loop-edge.invariant.sized;
-        reports = λ cuts rest among before. next_there c.args.image.now cuts c.args.place c.asked-edges.result.now (asked c.args.place.instr) c.asked-edges.ensures c.loop-edge.edge-index Next c.loop-edge-test.true rest c.loop-edge.self-inside.predecessors.items among (c.loop-edge.invariant.reports cuts rest among before)
-            w.in-Some.to (sym (w.in-Some.ensures ∙ ap (λ nest. target nest c.args.place.at c.args.place.next c.args.place.instr (slice_index_or c.asked-edges.result.now c.loop-edge.edge-index Next)) c.requires.nest))
+        reports = λ cuts rest among before. next_there c.args.image.now cuts c.args.place c.asked-edges.result.now
+            (asked c.args.place.instr) c.asked-edges.ensures c.loop-edge.edge-index Next c.loop-edge-test.true rest
+            c.loop-edge.self-inside.predecessors.items among (c.loop-edge.invariant.reports cuts rest among before)
+            w.in-Some.to (sym (w.in-Some.ensures ∙ ap (λ nest. target nest c.args.place.at c.args.place.next
+            c.args.place.instr (slice_index_or c.asked-edges.result.now c.loop-edge.edge-index Next))
+            c.requires.nest))
             (λ edge to leads. let lt = c.requires.place.targets edge to leads in let sized = c.loop-edge.invariant.sized in let view = ap length c.self.view_is in omega (arith, lt, sized, view))
             w.index.result.now w.with_edge.result _ w.index.ensures w.with_edge.ensures;
       }))
       | in_default w ↦ (rw w.self-inside-is (record {
         edges = c.asked-edges.ensures;
         sized = c.loop-edge.invariant.sized;
-        reports = λ cuts rest among before. next_nowhere c.args.image.now cuts c.args.place c.asked-edges.result.now (asked c.args.place.instr) c.asked-edges.ensures c.loop-edge.edge-index Next c.loop-edge-test.true rest c.loop-edge.self-inside.predecessors.items among (c.loop-edge.invariant.reports cuts rest among before)
-            (sym (w.in_default.ensures ∙ ap (λ nest. target nest c.args.place.at c.args.place.next c.args.place.instr (slice_index_or c.asked-edges.result.now c.loop-edge.edge-index Next)) c.requires.nest));
+        reports = λ cuts rest among before. next_nowhere c.args.image.now cuts c.args.place c.asked-edges.result.now
+            (asked c.args.place.instr) c.asked-edges.ensures c.loop-edge.edge-index Next c.loop-edge-test.true rest
+            c.loop-edge.self-inside.predecessors.items among (c.loop-edge.invariant.reports cuts rest among before)
+            (sym (w.in_default.ensures ∙ ap (λ nest. target nest c.args.place.at c.args.place.next c.args.place.instr
+            (slice_index_or c.asked-edges.result.now c.loop-edge.edge-index Next)) c.requires.nest));
       }))
     ]
 

@@ -13,5 +13,7 @@ invariant-loop-edge l = record {
   edges : l.edges ≡ asked l.place.instr;
   sized : length l.self-inside.predecessors.items ≡ length l.initial.self-inside.predecessors.items;
   reports : (cuts : List Cut) (rest : List (Placed × Edge)) → ((e : Placed × Edge) → IsAmong (edges_of l.place) e → IsAmong (edges_in cuts) e)
-      → ArePredecessors l.image cuts (edges_of l.place ++ rest) l.initial.self-inside.predecessors.items → ArePredecessors l.image cuts (edges_from l.place (drop l.edge-index (asked l.place.instr)) ++ rest) l.self-inside.predecessors.items;
+      → ArePredecessors l.image cuts (edges_of l.place ++ rest) l.initial.self-inside.predecessors.items →
+      ArePredecessors l.image cuts (edges_from l.place (drop l.edge-index (asked l.place.instr)) ++ rest)
+      l.self-inside.predecessors.items;
 }

@@ -18,15 +18,23 @@ loop-i-preserved c =
       | in-Some w ↦ (rw w.predecessors-is (record {
         sized = w.count.ensures.sized ∙ c.loop-i.invariant.sized;
         reports = w.count.ensures.reports c.args.listing.now _ (among_of (placed_from 0 c.args.listing.now) c.loop-i.i w.in-Some.place (sym w.in-Some.ensures))
-            (subst (λ es. ArePredecessors c.args.image.now c.args.listing.now es c.loop-i.predecessors) (next_instruction c.args.listing.now c.loop-i.i w.in-Some.place (sym w.in-Some.ensures)) c.loop-i.invariant.reports);
+            (subst (λ es. ArePredecessors c.args.image.now c.args.listing.now es c.loop-i.predecessors)
+            (next_instruction c.args.listing.now c.loop-i.i w.in-Some.place (sym w.in-Some.ensures))
+            c.loop-i.invariant.reports);
       }))
       | in_default w ↦ absurd (no_instruction c.args.listing.now c.loop-i.i (let e = c.len-i-end.ensures in let f = c.loop-i-test.true in omega (arith, e, f)) (sym w.in_default.ensures))
     ]
 
 pub returns-clause-is_join : goal.returns-clause-is_join
 returns-clause-is_join c =
-    are_joins c.args.image.now c.args.listing.now c.loop-i.predecessors (subst (λ es. ArePredecessors c.args.image.now c.args.listing.now es c.loop-i.predecessors) (no_instructions c.args.listing.now c.loop-i.i (let e = c.len-i-end.ensures in let f = c.loop-i-test.false in omega (arith, e, f))) c.loop-i.invariant.reports) c.requires.kept
+    are_joins c.args.image.now c.args.listing.now c.loop-i.predecessors
+    (subst (λ es. ArePredecessors c.args.image.now c.args.listing.now es c.loop-i.predecessors)
+    (no_instructions c.args.listing.now c.loop-i.i (let e = c.len-i-end.ensures in let f = c.loop-i-test.false in
+    omega (arith, e, f))) c.loop-i.invariant.reports) c.requires.kept
 
 pub returns-clause-is_kept : goal.returns-clause-is_kept
 returns-clause-is_kept c =
-    are_kept c.args.image.now c.args.listing.now c.loop-i.predecessors (subst (λ es. ArePredecessors c.args.image.now c.args.listing.now es c.loop-i.predecessors) (no_instructions c.args.listing.now c.loop-i.i (let e = c.len-i-end.ensures in let f = c.loop-i-test.false in omega (arith, e, f))) c.loop-i.invariant.reports)
+    are_kept c.args.image.now c.args.listing.now c.loop-i.predecessors
+    (subst (λ es. ArePredecessors c.args.image.now c.args.listing.now es c.loop-i.predecessors)
+    (no_instructions c.args.listing.now c.loop-i.i (let e = c.len-i-end.ensures in let f = c.loop-i-test.false in
+    omega (arith, e, f))) c.loop-i.invariant.reports)

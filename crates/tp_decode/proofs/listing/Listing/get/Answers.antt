@@ -12,7 +12,15 @@ returns-in_err-piece c =
     let items = ap length c.deref.ensures.value in
     let view = ap length c.self.view_is in
     c.from_residual.ensures
-    ∙ sym (slice_get_past (placed_from 0 c.args.self.now) c.args.i (omega (arith, c.in_err-piece.ensures.lookup.3, length-placed 0 c.args.self.now, items, view, length-map c.self.inside.pieces.items cut_of)))
+    ∙ sym (slice_get_past (placed_from 0 c.args.self.now) c.args.i
+    (omega (
+      arith,
+      c.in_err-piece.ensures.lookup.3,
+      length-placed 0 c.args.self.now,
+      items,
+      view,
+      length-map c.self.inside.pieces.items cut_of,
+    )))
 
 pub index-requires : goal.index-requires
 index-requires c =

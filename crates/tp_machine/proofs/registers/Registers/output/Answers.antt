@@ -13,13 +13,19 @@ returns-in-Ok g c = λ image before s t usual h d awaits e.
     result_made c.args.self c.args.workspace.now image before _ s t usual h d e _ c.message-message.ensures c.if-self-eq-LINK0_OUTPUT.true _ c.in-Ok.ensures.answer c.in-Ok.ensures.state
 
 pub returns-in-Err : goal.returns-in-Err
-returns-in-Err g c = λ image before s t usual h d awaits e.
-    (result_refused c.args.self c.args.workspace.now image before _ s t usual h d e _ c.message-message.ensures c.if-self-eq-LINK0_OUTPUT.true c.in-Err.code _ c.in-Err.ensures.answer c.in-Err.ensures.state, refl)
+returns-in-Err g c = λ image before s t usual h d awaits e. (
+  result_refused c.args.self c.args.workspace.now image before _ s t usual h d e _ c.message-message.ensures
+      c.if-self-eq-LINK0_OUTPUT.true c.in-Err.code _ c.in-Err.ensures.answer c.in-Err.ensures.state,
+  refl,
+)
 
 pub returns-in-Ok-send : goal.returns-in-Ok-send
 returns-in-Ok-send g c = λ image before s t usual h d awaits e.
     trace_made c.args.self c.args.workspace.now image before _ s t usual h d e _ c.message-message.ensures c.if-self-eq-LINK0_OUTPUT.false _ c.in-Ok-send.ensures.answer c.in-Ok-send.ensures.state
 
 pub returns-in-Err-send : goal.returns-in-Err-send
-returns-in-Err-send g c = λ image before s t usual h d awaits e.
-    (trace_refused c.args.self c.args.workspace.now image before _ s t usual h d e _ c.message-message.ensures c.if-self-eq-LINK0_OUTPUT.false c.in-Err-send.code _ c.in-Err-send.ensures.answer c.in-Err-send.ensures.state, refl)
+returns-in-Err-send g c = λ image before s t usual h d awaits e. (
+  trace_refused c.args.self c.args.workspace.now image before _ s t usual h d e _ c.message-message.ensures
+      c.if-self-eq-LINK0_OUTPUT.false c.in-Err-send.code _ c.in-Err-send.ensures.answer c.in-Err-send.ensures.state,
+  refl,
+)

@@ -2,7 +2,9 @@ use Rattle.std.proofs.Common.{sym}
 use Rattle.tp_requests.specs.Fields.{hex_bytes}
 use Rattle.tp_requests.proofs.SpellingLemmas.{none_of_empty, none_of_odd, none_of_other, some_of_digits, some_value}
 use Rattle.tp_requests.proofs.spelled.Spelled.of.Goals as goal
-use Rattle.tp_requests.proofs.spelled.Spelled.of.Goals.{then-is_empty-via-then-is_empty, then-is_empty-via-else-is_empty+then-field-eq1, then-is_empty-via-else-is_empty+else-field-eq1+then-not-are_digits}
+use Rattle.tp_requests.proofs.spelled.Spelled.of.Goals.{then-is_empty-via-then-is_empty}
+use Rattle.tp_requests.proofs.spelled.Spelled.of.Goals.{then-is_empty-via-else-is_empty+then-field-eq1}
+use Rattle.tp_requests.proofs.spelled.Spelled.of.Goals.{then-is_empty-via-else-is_empty+else-field-eq1+then-not-are_digits}
 
 pub returns-then-is_empty : goal.returns-then-is_empty
 returns-then-is_empty c =

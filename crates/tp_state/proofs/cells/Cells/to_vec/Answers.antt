@@ -9,7 +9,9 @@ pub loop-x-preserved : goal.loop-x-preserved
 loop-x-preserved c =
     let long = sym (ap length c.self.view_is) ∙ length_seen c.self.inside.values.items c.self.inside.planes.items in
     let inside : c.loop-x.x < length c.args.self.now = (let test = c.loop-x-test.true in let words = c.len-words.ensures in omega (arith, long, test, words)) in
-    c.in_ok-push.ensures.items ∙ ap (λ xs. xs ++ (c.get.result ∷ [])) c.loop-x.invariant ∙ ap (λ x. take c.loop-x.x c.args.self.now ++ (x ∷ [])) c.get.ensures ∙ sym (rw add-one (take-suc c.args.self.now c.loop-x.x Undef inside))
+    c.in_ok-push.ensures.items ∙ ap (λ xs. xs ++ (c.get.result ∷ [])) c.loop-x.invariant ∙
+    ap (λ x. take c.loop-x.x c.args.self.now ++ (x ∷ [])) c.get.ensures ∙
+    sym (rw add-one (take-suc c.args.self.now c.loop-x.x Undef inside))
 
 pub returns : goal.returns
 returns c =

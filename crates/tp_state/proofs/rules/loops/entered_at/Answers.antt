@@ -6,4 +6,5 @@ use Rattle.tp_state.proofs.rules.loops.entered_at.Goals as goal
 
 pub returns-in-None : goal.returns-in-None
 returns-in-None c image is =
-    sym (none_entered (ranges image.loops) c.args.at (target (ranges image.loops) c.args.at c.args.next c.args.instr c.args.edge) (subst (λ nest. slice_get nest 0 ≡ None) is (sym c.range.ensures ∙ c.in-None.is)))
+    sym (none_entered (ranges image.loops) c.args.at (target (ranges image.loops) c.args.at c.args.next c.args.instr
+    c.args.edge) (subst (λ nest. slice_get nest 0 ≡ None) is (sym c.range.ensures ∙ c.in-None.is)))

@@ -15,4 +15,12 @@ returns-clause-memory c =
     let count : c.args.source - 2147483720 + c.args.n - (c.args.source - 2147483720) ≡ k = omega arith in
     let n_is : k ≡ c.args.n = omega arith in
     let after = c.copy_within.ensures.after in
-    rw (all_true, after, count, paste_put c.args.self.now.bytes from (c.args.target - 2147483720) k, memory_put c.args.self.now.defined c.args.self.now.bytes c.args.target (c.args.target - 2147483720) k (take k from) (omega arith) long (omega arith) (omega arith), n_is)
+    rw (
+      all_true,
+      after,
+      count,
+      paste_put c.args.self.now.bytes from (c.args.target - 2147483720) k,
+      memory_put c.args.self.now.defined c.args.self.now.bytes c.args.target (c.args.target - 2147483720) k
+          (take k from) (omega arith) long (omega arith) (omega arith),
+      n_is,
+    )

@@ -11,7 +11,9 @@ use Rattle.tpw_machine.proofs.machine.Machine.fill_workspace.Goals as goal
 
 pub loop-i-init : goal.loop-i-init
 loop-i-init c = record {
-  rest = let over : List ℕ → Machine = λ bytes. record c.args.self.now { bytes = bytes; defined = c.clear.new.self.defined } in c.clear.ensures.rest ∙ ap over (sym (ap (λ m. m.bytes) c.clear.ensures.rest));
+  rest = let over : List ℕ → Machine = λ bytes. record c.args.self.now
+      { bytes = bytes; defined = c.clear.new.self.defined } in c.clear.ensures.rest ∙
+      ap over (sym (ap (λ m. m.bytes) c.clear.ensures.rest));
   memory = c.clear.ensures.memory ∙ sym (with_none nothing_defined mem_start);
 }
 

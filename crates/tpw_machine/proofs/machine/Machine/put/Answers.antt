@@ -10,4 +10,9 @@ returns-clause-memory c =
     let all_true : c.fill.new.self ≡ replicate k true =
     c.fill.ensures.after (λ y e. e)
     ∙ ap (λ n. replicate n true) (simp (length-take, length-drop) (omega arith)) in
-    rw (all_true, c.copy_from_slice.ensures.after, memory_put c.args.self.now.defined c.args.self.now.bytes c.args.a (c.args.a - 2147483720) k c.args.bytes.now (omega arith) (omega arith) (omega arith) (omega arith))
+    rw (
+      all_true,
+      c.copy_from_slice.ensures.after,
+      memory_put c.args.self.now.defined c.args.self.now.bytes c.args.a
+          (c.args.a - 2147483720) k c.args.bytes.now (omega arith) (omega arith) (omega arith) (omega arith),
+    )

@@ -23,7 +23,9 @@ returns-in-Some-of g c =
     let operand : c.cast_signed.result ≡ signed (c.args.self.now.oreg + c.in-Some.byte % 16) = simp (c.from.ensures, c.advance.ensures) at c.cast_signed.ensures in
     let found = simp to_z-of_z at c.in-Some-of.ensures in
     let instr_is : instruction f (signed (c.args.self.now.oreg + c.in-Some.byte % 16)) ≡ Some c.in-Some-of.instr = sym (found ∙ ap (instruction f) operand) in
-    turned_alike image (step image) (effect image c.in-Some-of.instr) (state_of c.args.self.now) (state_of c.clear_operand.new.self) (state_of c.execute.new.self) c.args.phase.now c.execute.new.phase _ _ c.execute.result
+    turned_alike image (step image) (effect image c.in-Some-of.instr) (state_of c.args.self.now)
+    (state_of c.clear_operand.new.self) (state_of c.execute.new.self) c.args.phase.now c.execute.new.phase _ _
+    c.execute.result
     (λ p is. rw (c.clear_operand.ensures.rest p, c.advance.ensures, is, going, byte_is, not_pfix, not_nfix, instr_is) refl)
     (λ p. (refl, refl, refl))
     c.execute.ensures

@@ -13,5 +13,10 @@ returns-then-a-len c =
     let found = get_or-map (λ v. v.items) inside.arrays.items c.args.a c.index_mut.result.now [] within in
     let bytes = same ∙ c.put_element.ensures ∙ ap (λ b. with_element c.args.kind b c.args.i c.args.word) (c.deref_mut.ensures.value ∙ ap (λ v. v.items) c.index_mut.ensures.value ∙ sym found) in
     let put = map-set (λ v. v.items) inside.arrays.items c.args.a (with_items c.index_mut.result.now c.put_element.new.bytes) in
-    ap (λ arrays. record c.args.self.now { values = inside.values.items; arrays = arrays; flag = inside.flag; traced = inside.traced.items }) (put ∙ ap (λ b. set (map (λ v. v.items) inside.arrays.items) c.args.a b) bytes)
+    ap (λ arrays. record c.args.self.now {
+      values = inside.values.items;
+      arrays = arrays;
+      flag = inside.flag;
+      traced = inside.traced.items;
+    }) (put ∙ ap (λ b. set (map (λ v. v.items) inside.arrays.items) c.args.a b) bytes)
     ∙ ap (λ s. with_array c.args.a (with_element c.args.kind (array_of s c.args.a) c.args.i c.args.word) s) c.self.view_is

@@ -1,5 +1,0 @@
-use Rattle.tp_board.proofs.StreamSteps.{pop_law}
-use Rattle.tp_board.proofs.laws.pop_is_one_event.Goals as goal
-
-pub returns : goal.returns
-returns c = pop_law

@@ -1,5 +1,0 @@
-use Rattle.tp_board.proofs.StreamSteps.{push_law}
-use Rattle.tp_board.proofs.laws.push_is_no_event.Goals as goal
-
-pub returns : goal.returns
-returns c = push_law

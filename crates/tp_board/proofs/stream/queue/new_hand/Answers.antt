@@ -1,5 +1,0 @@
-use Rattle.tp_board.proofs.PassViews.{forks}
-use Rattle.tp_board.proofs.stream.queue.new_hand.Goals as goal
-
-pub another-requires-clause-rule : goal.another-requires-clause-rule
-another-requires-clause-rule c = forks _ _ c.requires.parts.0 c.requires.parts.1

@@ -1,7 +1,0 @@
-use Rattle.std.proofs.Common.{arith}
-use Rattle.tp_board.proofs.Tallies.{finishes}
-use Rattle.tp_board.proofs.stream.tally.add_done.Goals as goal
-
-pub fetch_add-requires : goal.fetch_add-requires
-fetch_add-requires g c =
-    let three = c.requires.tally.1 in (c.requires.tally.0, omega arith, finishes _ _ _ _ _ c.requires.room.0 c.requires.room.1)

@@ -1,0 +1,9 @@
+mod Reports
+mod PassViews
+mod Tallies
+mod Handing
+mod Gathering
+mod Stages
+mod StreamSteps
+mod StreamWords
+mod StreamRuns

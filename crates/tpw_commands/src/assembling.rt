@@ -1,0 +1,58 @@
+//! The command `asm`: text to an image.
+
+ghost use Rattle.std.specs.Prelude.{◌≡◌, ◌⊎◌, ℕ, List, IfOk, IfErr, OnOk, string_bytes};
+ghost use Rattle.std.specs.Io.KnownBytes.{Appends};
+ghost use Rattle.std.specs.Option.{option_map};
+ghost use Rattle.tpw_inputs.specs.declared.failure.Failure.TheVariants as failure;
+ghost use Rattle.tpw_inputs.specs.Programs.{IsUnassembled};
+ghost use Rattle.tpw_commands.specs.declared.ending.Outcome.TheVariants.{Good};
+ghost use Rattle.tpw_commands.specs.Programs.{IsImageLine, image_line};
+
+use crate::ending::Outcome;
+use std::alloc::{AllocError, Global};
+use std::io::Write;
+use tpw_inputs::{Failure, assembled_from};
+
+/// Writes a text, and flushes it.
+pub fn write_line<W: Write>(writer: &mut W, text: &str) -> Result<Outcome, Failure>
+    ensures text { OnOk result (Appends (W.contents writer.old) (W.contents writer.new) text.now) }
+    ensures good { IfOk result (λ outcome. outcome ≡ Good) }
+    ensures fault { IfErr result (λ e. e ≡ failure.Write) }
+{
+    if writer.write_all(text.as_bytes()).is_err() {
+        return Err(Failure::Write);
+    }
+    match writer.flush() {
+        Ok(()) => Ok(Outcome::Good),
+        Err(_) => Err(Failure::Write),
+    }
+}
+
+/// An image in hexadecimal on one line: behind `NAME IMAGE`, where a name is given.
+fn image_line(alloc: Global, image: &[u8], name: Option<&str>) -> Result<String, AllocError>
+    ensures { IfOk result (λ line. string_bytes line ≡ image_line (option_map (λ n. n.now) name.entry) image.now) }
+{
+    let digits = hex::encode(alloc, image)?;
+    match name {
+        Some(name) => format!(in alloc; "{name} IMAGE {digits}\n"),
+        None => format!(in alloc; "{digits}\n"),
+    }
+}
+
+/// Writes the image that a text says in hexadecimal on one line: behind `NAME IMAGE`, where a name is given.
+pub fn assemble_text<W: Write>(
+    alloc: Global,
+    text: &[u8],
+    writer: &mut W,
+    name: Option<&str>,
+) -> Result<Outcome, Failure>
+    ensures line { OnOk result ((line : List ℕ) × IsImageLine text.now (option_map (λ n. n.now) name.entry) line
+        × Appends (W.contents writer.old) (W.contents writer.new) line) }
+    ensures good { IfOk result (λ outcome. outcome ≡ Good) }
+    ensures refused { IfErr result (λ e. (e ≡ failure.Write)
+        ⊎ ((W.contents writer.new ≡ W.contents writer.old) × IsUnassembled text.now e)) }
+{
+    let image = assembled_from(alloc, text)?;
+    let line = image_line(alloc, image.as_slice(), name)?;
+    write_line(writer, line.as_str())
+}

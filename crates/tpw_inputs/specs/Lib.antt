@@ -1,0 +1,5 @@
+-- What a reader must believe: clauses of public calls cite it.
+pub mod Positions
+pub mod Texts
+pub mod Failures
+pub mod Programs

@@ -1,0 +1,75 @@
+//! Workers: images, and what texts say of their code.
+
+ghost use Rattle.std.specs.Prelude.{◌≤◌, IfOk};
+
+use crate::failure::Failure;
+use crate::fault::InputFault;
+use crate::fields::assembled_text;
+use crate::input::{Input, TextFault, bytes_of, utf8};
+use crate::notes::Notes;
+use crate::traps::note_source;
+use std::alloc::Global;
+use std::io::Write;
+use tp_image::{Image, read_image};
+use tpw_source::SourceText;
+use tpw_text::read_source;
+
+/// A worker: the bytes of its image, accepted or not, and what its text says of its code.
+#[derive(Drop)]
+pub struct Worker<'a> {
+    pub bytes: Vec<u8>,
+    notes: Option<Notes<'a>>,
+}
+
+impl Worker<'_> {
+    /// What its text says of its code: nothing, of an image in hexadecimal.
+    pub fn source_text(&self) -> SourceText<'_> {
+        match &self.notes {
+            Some(notes) => notes.source_text(),
+            None => SourceText::NONE,
+        }
+    }
+
+    /// The image that its bytes say.
+    pub fn image(&self, alloc: Global) -> Result<Image, Failure>
+        ensures { IfOk result (λ image. image.packet ≤ 64) }
+    {
+        Ok(read_image(alloc, &self.bytes)?)
+    }
+}
+
+/// The worker that an assembly text says.
+fn read_assembly<'a, E: Write>(
+    alloc: Global,
+    errors: &mut E,
+    input: &Input,
+    text: &'a str,
+) -> Result<Worker<'a>, Failure> {
+    let source = read_source(alloc, text)?;
+    note_source(alloc, errors, input, text, &source)?;
+    let bytes = assembled_text(alloc, text, &source)?;
+    let notes = Notes::new(alloc, input, text, &source)?;
+    Ok(Worker {
+        bytes,
+        notes: Some(notes),
+    })
+}
+
+/// Reads a worker: an image in hexadecimal, or else assembly text, whose notes go to `errors`.
+pub fn read_worker<'a, E: Write>(
+    alloc: Global,
+    errors: &mut E,
+    input: &Input,
+    text: &'a [u8],
+) -> Result<Worker<'a>, Failure> {
+    if text.trim_ascii().is_empty() {
+        return Err(Failure::Input(InputFault::Empty));
+    }
+    match bytes_of(alloc, text) {
+        Ok(bytes) => Ok(Worker { bytes, notes: None }),
+        Err(TextFault::Memory) => Err(Failure::Memory),
+        Err(TextFault::NotADigit(_) | TextFault::HalfAByte(_)) => {
+            read_assembly(alloc, errors, input, utf8(text)?)
+        }
+    }
+}
