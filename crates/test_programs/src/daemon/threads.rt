@@ -37,6 +37,15 @@ fn most_threads<R: Files + AllocGlobal>(rt: &R, done: &AtomicBool) -> usize {
     most
 }
 
+/// Waits until this process has no more threads than these: a joined thread is counted until the system has ended it.
+fn settle<R: Files + AllocGlobal>(rt: &R, threads: usize) {
+    for _ in 0..MOST_LOOKS {
+        if threads_now(rt).unwrap_or(0) <= threads {
+            return;
+        }
+    }
+}
+
 /// A worker of 400,130 steps, twelve packets for it, and their run: some milliseconds for each of three members.
 fn long_batch(rt: &impl Abort, alloc: Global) -> Vec<u8> {
     let mut input = image_line(rt, alloc, TEN_TIMES_TEN_THOUSAND);
@@ -78,10 +87,12 @@ fn most_threads_of<R: Threads + Wait + Files + AllocGlobal + Sync>(
     rt: &R,
     members: &str,
     input: &[u8],
+    before: usize,
     wanted: usize,
 ) -> usize {
     let mut seen = 0;
     for _ in 0..MOST_BATCHES {
+        settle(rt, before);
         let (status, most) = most_threads_for(rt, members, input);
         if status != ExitCode::SUCCESS {
             return 0;
@@ -98,11 +109,11 @@ fn most_threads_of<R: Threads + Wait + Files + AllocGlobal + Sync>(
 #[test]
 fn members_are_threads(rt: HostRuntime) {
     let input = long_batch(&rt, rt.alloc());
-    let serving = unwrap(&rt, threads_now(&rt)).saturating_add(1);
+    let before = unwrap(&rt, threads_now(&rt));
     for (members, count) in [("1", 1), ("3", 3)] {
-        let wanted = serving.saturating_add(count);
+        let wanted = before.saturating_add(1).saturating_add(count);
         assert_eq!(rt;
-            most_threads_of(&rt, members, &input, wanted),
+            most_threads_of(&rt, members, &input, before, wanted),
             wanted,
             "{members}"
         );
