@@ -1,0 +1,123 @@
+#!/usr/bin/env python3
+"""Workers in occam for what random ones seldom reach: each operator and conversion at the ends of its operands, as variables and as
+constants; subscripts, shifts, orders of assignments, and flags that only one thing sets.
+
+    directed_texts.py       writes them with their packets
+"""
+
+ENDS = [0, 1, 2, 3, 7, 31, 32, 256, 0x7FFFFFFF, 0x80000000, 0xFFFFFFF9, 0xFFFFFFFF]
+INTS = ['+', '-', '*', 'PLUS', 'MINUS', 'TIMES', '/', '\\', 'REM', '/\\', '\\/', '><', 'BITAND', 'BITOR', '<<', '>>']
+BOOLS = ['=', '<>', '<', '>', '<=', '>=', 'AFTER']
+MONADIC = ['-', 'MINUS ', '~', 'BITNOT ']
+
+
+def packet(*words):
+    return '@packet ' + b''.join(word.to_bytes(4, 'little') for word in words).hex()
+
+
+def worker(name, body, packets, words=2, declared=()):
+    """A worker whose packet is p, and whose result is r."""
+    lines = [f'@worker {name}', f'PROC worker (CHAN OF [{words}]INT packet, CHAN OF INT result)', f'  [{words}]INT p:', '  INT r:']
+    lines += [f'  {line}' for line in declared]
+    lines += ['  SEQ', '    packet ? p'] + [f'    {line}' for line in body] + ['    result ! r', ':'] + packets
+    print('\n'.join(lines))
+
+
+def pairs():
+    return [packet(a, b) for a in ENDS for b in ENDS]
+
+
+def value(expression, is_bool):
+    return f'INT ({expression})' if is_bool else expression
+
+
+def operators():
+    for operator in INTS + BOOLS:
+        is_bool = operator in BOOLS
+        worker(f'variables {operator}', ['r := ' + value(f'p[0] {operator} p[1]', is_bool)], pairs())
+        for word in ENDS:
+            worker(f'right {operator} {word}', ['r := ' + value(f'p[0] {operator} #{word:X}', is_bool)], [packet(a, 0) for a in ENDS])
+            worker(f'left {operator} {word}', ['r := ' + value(f'#{word:X} {operator} p[0]', is_bool)], [packet(a, 0) for a in ENDS])
+    for operator in MONADIC:
+        worker(f'monadic {operator}', [f'r := {operator}p[0]'], [packet(a, 0) for a in ENDS])
+
+
+def conversions():
+    worker('BYTE of an INT', ['c := BYTE p[0]', 'r := INT c'], [packet(a, 0) for a in ENDS], declared=['BYTE c:'])
+    worker('BYTE of an INT in an expression', ['r := (INT (BYTE p[0])) + 1'], [packet(a, 0) for a in ENDS])
+    worker('BYTE of a BOOL', ['r := INT (BYTE (p[0] = p[1]))'], pairs()[:40])
+    worker('a BOOL', ['b := p[0] < p[1]', 'r := INT (NOT b)'], pairs(), declared=['BOOL b:'])
+    for operator in ('=', '<>', '<', '>', '<=', '>='):
+        worker(f'BYTEs {operator}', [f'r := INT ((BYTE (p[0] /\\ 255)) {operator} (BYTE (p[1] /\\ 255)))'], pairs())
+
+
+def truth():
+    """What AND and OR do not evaluate sets no flag."""
+    for operator in ('AND', 'OR'):
+        worker(f'{operator} leaves out', [f'r := INT ((p[0] = 0) {operator} ((p[1] + p[1]) = 0))'], pairs())
+        worker(f'{operator} in a guard', ['IF', f'  (p[0] > 3) {operator} ((1 / p[1]) = 1)', '    r := 1', '  TRUE', '    r := 2'], pairs())
+        worker(f'{operator} of three', [f'r := INT ((p[0] = 1) {operator} (p[1] = 1) {operator} ((p[0] * p[1]) = 7))'], pairs())
+
+
+def subscripts():
+    for size in (1, 2, 3, 4, 5, 7, 8, 16, 20):
+        fill = [f'SEQ i = 0 FOR {size}', '  a[i] := 10 + i']
+        worker(f'reads {size} words', fill + ['r := a[p[0]]'], [packet(a, 0) for a in ENDS + [size - 1, size]], declared=[f'[{size}]INT a:'])
+        fill = [f'SEQ i = 0 FOR {size}', '  a[i] := BYTE (10 + i)']
+        worker(f'reads {size} bytes', fill + ['r := INT a[p[0]]'], [packet(a, 0) for a in ENDS + [size - 1, size]], declared=[f'[{size}]BYTE a:'])
+        worker(f'writes {size} words', ['a[p[0]] := p[1]', 'SEQ i = 0 FOR ' + str(size), '  r := (r TIMES 3) PLUS a[i]'],
+               [packet(a, 5) for a in ENDS + [size - 1, size]], declared=[f'[{size}]INT a:'])
+    for mask in (3, 7, 15):
+        worker(f'masked by {mask}', ['SEQ i = 0 FOR 8', '  a[i] := i TIMES 11', f'r := a[p[0] /\\ {mask}]'],
+               [packet(a, 0) for a in ENDS], declared=['[8]INT a:'])
+    worker('a remainder as a subscript', ['SEQ i = 0 FOR 7', '  a[i] := i', 'r := a[p[0] \\ 7]'], [packet(a, 0) for a in ENDS], declared=['[7]INT a:'])
+    worker('words of bytes', ['SEQ i = 0 FOR 8', '  m[i] := BYTE i', 'w[p[0] /\\ 1] := p[1]', 'r := (w[0] >< w[1]) PLUS (INT m[3])'],
+           pairs(), declared=['[8]BYTE m:', '[2]INT w RETYPES m:'])
+
+
+def assignments():
+    worker('exchanges', ['p[0], p[1] := p[1], p[0]', 'r := p[0] MINUS p[1]'], pairs())
+    worker('the first target of two', ['p[0], p[0] := 5, 6', 'r := p[0]'], pairs()[:3])
+    worker('elements of one array', ['i := p[0] /\\ 1', 'p[i], p[1 - i], i := p[1], p[i], 7', 'r := (p[0] TIMES 5) PLUS (p[1] PLUS i)'],
+           pairs(), declared=['INT i:'])
+    worker('values before targets', ['x, y, z := 1, 2, 3', 'x, y, z := y, z, x', 'r := (x TIMES 100) PLUS ((y TIMES 10) PLUS z)'],
+           pairs()[:2], declared=['INT x, y, z:'])
+    worker('a subscript that changes', ['i := p[0] /\\ 1', 'i, p[i] := 1 - i, 9', 'r := (p[0] TIMES 10) PLUS i'], pairs(), declared=['INT i:'])
+    worker('zero in each turn', ['SEQ i = 0 FOR 5', '  INT x:', '  [2]INT a:', '  SEQ', '    a[i /\\ 1] := a[1] + 1', '    x := x + a[0]', '    r := r + x'],
+           pairs()[:2])
+    worker('zero at each call', ['SEQ i = 0 FOR 3', '  once (r)'], pairs()[:2],
+           declared=['PROC once (INT total)', '  INT x:', '  SEQ', '    x := x + 1', '    total := total + x', ':'])
+
+
+def parameters():
+    worker('an element is worked out once', ['i := 0', 'change (p[i], i)', 'r := p[0] PLUS (p[1] TIMES 3)'], pairs(),
+           declared=['INT i:', 'PROC change (INT x, INT i)', '  SEQ', '    i := 1', '    x := 7', ':'])
+    worker('a value is one', ['x := p[0]', 'change (x, x)', 'r := x'], pairs()[:30],
+           declared=['INT x:', 'PROC change (VAL INT v, INT x)', '  SEQ', '    x := x PLUS 1', '    x := v PLUS x', ':'])
+    worker('two names of a variable', ['x := p[0]', 'change (x, x)', 'r := x'], pairs()[:30],
+           declared=['INT x:', 'PROC change (INT a, INT b)', '  SEQ', '    a := 3', '    b := a PLUS b', ':'])
+    worker('an argument that is not used', ['r := first (1, p[0] + p[1])'], pairs(),
+           declared=['INT FUNCTION first (VAL INT a, VAL INT b) IS a:'])
+    worker('sizes of open arrays', ['r := (count (p) TIMES 100) PLUS count ([1, 2, 3, 4, 5])'], pairs()[:2],
+           declared=['INT FUNCTION count (VAL []INT a) IS SIZE a:'])
+    worker('names of where it is declared', ['p[0] := f (p[1])', 'r := p[0]'], pairs(),
+           declared=['VAL INT n IS 3:', 'INT FUNCTION f (VAL INT x) IS x PLUS n:', 'VAL INT n IS 4:'])
+
+
+def choices():
+    worker('no guard is true', ['IF', '  p[0] = 1', '    r := 1', '  p[1] = 1', '    r := 2'], pairs())
+    worker('the first guard that is true', ['IF', '  p[0] > 1', '    r := 1', '  p[0] > 0', '    r := 2', '  TRUE', '    r := 3'], pairs()[::14])
+    worker('a case', ['CASE p[0]', '  0, 7', '    r := 1', '  #FF', '    r := 2', '  -1', '    r := 3', '  MOSTNEG INT', '    r := 4'], pairs()[::14])
+    worker('a case with ELSE', ['CASE BYTE (p[0] /\\ 255)', '  0, 7', '    r := 1', '  ELSE', '    r := 9', "  'a', 255", '    r := 2'], pairs()[::14])
+    worker('STOP goes on', ['IF', '  p[0] = 0', '    STOP', '  TRUE', '    SKIP', 'r := 4'], pairs()[::14])
+    for start, count in ((0, 0), (0, 1), (5, 1), (-3, 7), (2147483640, 8), (-2147483648, 3), (0, 40)):
+        worker(f'{count} turns from {start}', [f'SEQ i = {start if start >= -2147483647 else "MOSTNEG INT"} FOR {count}', '  r := (r TIMES 7) PLUS i'], pairs()[:1])
+
+
+def main():
+    for part in (operators, conversions, truth, subscripts, assignments, parameters, choices):
+        part()
+
+
+if __name__ == '__main__':
+    main()

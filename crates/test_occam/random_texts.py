@@ -1,0 +1,555 @@
+#!/usr/bin/env python3
+"""Random workers in occam: texts of every construct, which keep the rules of types and scopes.
+
+    random_texts.py FIRST COUNT     writes the workers of so many seeds, with four packets each
+"""
+
+import random
+import sys
+
+from model import BOOL, BYTE, INT
+
+NAMES = ['a', 'b', 'c', 'd', 'e', 'f', 'g', 'h', 'k', 'n', 'p', 'q', 's', 't', 'x', 'y', 'z', 'Value', 'up.to', 'last2', 'in.it', 'X']
+ENDS = [0, 1, 2, 3, 4, 5, 7, 8, 15, 16, 17, 31, 32, 33, 63, 64, 127, 128, 255, 256, 257, 32767, 32768, 65535, 65536, 0x7FFFFFFF]
+HIGH = [0xFFFFFFFF, 0xFFFFFFFE, 0xFFFFFF00, 0x80000000, 0x80000001, 0xEDB88320]
+SPELLED = [("'a'", 97), ("'*n'", 10), ("'*c'", 13), ("'*t'", 9), ("'*s'", 32), ("'**'", 42), ("'*''", 39), ("'*\"'", 34), ("'*#FF'", 255)]
+CHECKED = ['+', '-', '*', '/', '\\', 'REM', '<<', '>>']
+FREE = ['PLUS', 'MINUS', 'TIMES', '/\\', '\\/', '><', 'BITAND', 'BITOR', '>>', '<<', '/', '\\']
+CHAINED = ['+', '*', 'PLUS', 'TIMES', '/\\', '\\/', '><']
+
+
+class Entry:
+    """What a name means: a value, a variable, an array, a table, a procedure or a function."""
+
+    def __init__(self, kind, of=None, size=None, parameters=()):
+        self.kind = kind
+        self.of = of
+        self.size = size
+        self.parameters = parameters
+
+
+class Maker:
+    def __init__(self, seed):
+        self.random = random.Random(seed)
+        self.scope = {}
+        self.out = []
+        self.indent = 0
+        self.turns = 1
+        self.calls = 0
+        self.is_traced = self.random.random() < 0.7
+        # Within a PROC's or FUNCTION's body.
+        self.levels = 0
+
+    def chance(self, share):
+        return self.random.random() < share
+
+    def of(self, *choices):
+        return self.random.choice(choices)
+
+    # Lines
+
+    def line(self, text):
+        if self.chance(0.04):
+            text += '  -- ' + self.of('a comment', 'PAR', '"', "x := 'y'", ':')
+        self.out.append('  ' * self.indent + text)
+        if self.chance(0.02):
+            self.out.append(self.of('', '-- between', '    -- indented'))
+
+    def broken(self, left, operator, right):
+        """An operator between its operands, where a line may be broken."""
+        if self.chance(0.01):
+            return f'{left} {operator}\n{"  " * (self.indent + self.random.randint(0, 4))}{right}'
+        return f'{left} {operator} {right}'
+
+    # Names
+
+    def names(self, wanted):
+        return [name for name, entry in self.scope.items() if wanted(entry)]
+
+    def pick(self, wanted):
+        names = self.names(wanted)
+        return self.random.choice(names) if names else None
+
+    def new(self):
+        return self.random.choice(NAMES) if self.chance(0.7) else self.random.choice(NAMES) + str(self.random.randint(0, 9))
+
+    # Expressions
+
+    def number(self):
+        pick = self.random.random()
+        if pick < 0.5:
+            return str(self.random.choice(ENDS))
+        if pick < 0.7:
+            return str(self.random.randint(0, 300))
+        if pick < 0.8:
+            return f'#{self.random.choice(HIGH + ENDS):X}'
+        if pick < 0.9:
+            return f'#{self.random.getrandbits(32):X}'
+        return self.of('MOSTPOS INT', 'MOSTNEG INT')
+
+    def closed(self, of, depth):
+        """An operand: in brackets where it wants them."""
+        text, is_operand = self.made(of, depth)
+        return text if is_operand and not self.chance(0.03) else f'({text})'
+
+    def whole(self, of, depth):
+        """An expression that nothing stands beside."""
+        text, _ = self.made(of, depth)
+        return f'({text})' if self.chance(0.03) else text
+
+    def leaf(self, of):
+        name = self.pick(lambda entry: entry.kind in ('value', 'variable') and entry.of == of)
+        if name and self.chance(0.75):
+            return name, True
+        if of == BOOL:
+            return self.of('TRUE', 'FALSE'), True
+        if of == BYTE:
+            return self.random.choice(SPELLED)[0], True
+        text = self.number()
+        return text, True
+
+    def element(self, of, depth):
+        name = self.pick(lambda entry: entry.kind in ('array', 'table') and entry.of == of)
+        if not name:
+            return None
+        return f'{name}[{self.subscript(self.scope[name].size, depth)}]'
+
+    def subscript(self, size, depth):
+        """Mostly below the size."""
+        pick = self.random.random()
+        if pick < 0.3:
+            return str(self.random.randrange(size))
+        if pick < 0.7:
+            return self.broken(self.closed(INT, depth - 1), '/\\', str((1 << (size.bit_length() - 1)) - 1))
+        if pick < 0.96:
+            return f'({self.closed(INT, depth - 1)} /\\ MOSTPOS INT) \\ {size}'
+        byte = self.element(BYTE, depth - 1) if depth > 0 and self.chance(0.3) else None
+        return f'INT {byte}' if byte else self.whole(INT, depth - 1)
+
+    def call(self, of, depth):
+        name = self.pick(lambda entry: entry.kind == 'function' and entry.of == of)
+        if not name or self.calls > 40:
+            return None
+        self.calls += 1
+        return f'{name} ({self.arguments(self.scope[name].parameters, depth - 1)})'
+
+    def arguments(self, parameters, depth):
+        return ', '.join(self.argument(parameter, depth) for parameter in parameters)
+
+    def argument(self, parameter, depth):
+        passing, of, size = parameter
+        if passing == 'CHAN':
+            return self.pick(lambda entry: entry.kind == 'channel')
+        if size is not None:
+            kinds = ('array', 'table') if passing == 'VAL' else ('array',)
+            name = self.pick(lambda e: e.kind in kinds and e.of == of and (size == () or e.size == size))
+            return name or self.table(of, 4 if size == () else size)
+        if passing == 'VAL':
+            return self.whole(of, depth)
+        return self.target(of)
+
+    def can_call(self, parameters):
+        """Whether there is something for each parameter that is written to."""
+        for passing, of, size in parameters:
+            if passing == 'VAR' and size is None and not self.names(lambda e: e.kind == 'variable' and e.of == of):
+                return False
+            if passing == 'VAR' and size is not None and not self.names(
+                    lambda e: e.kind == 'array' and e.of == of and (size == () or e.size == size)):
+                return False
+            if passing == 'CHAN' and not self.names(lambda e: e.kind == 'channel'):
+                return False
+        return True
+
+    def made(self, of, depth):
+        """An expression, and whether it may stand beside an operator as it is."""
+        if depth <= 0:
+            return self.leaf(of)
+        found = None
+        pick = self.random.random()
+        if pick < 0.15:
+            found = self.element(of, depth)
+        elif pick < 0.22:
+            found = self.call(of, depth)
+        if found:
+            return found, True
+        return {INT: self.integer, BOOL: self.truth, BYTE: self.byte}[of](depth)
+
+    def chain(self, operator, of, depth):
+        parts = [self.closed(of, depth - 1) for _ in range(self.of(2, 2, 2, 3, 4))]
+        text = parts[0]
+        for part in parts[1:]:
+            text = self.broken(text, operator, part)
+        return text, False
+
+    def integer(self, depth):
+        pick = self.random.random()
+        if pick < 0.12:
+            return self.leaf(INT)
+        if pick < 0.2:
+            return f'INT {self.closed(self.of(BYTE, BYTE, BOOL), depth - 1)}', False
+        if pick < 0.27:
+            return f'{self.of("-", "MINUS ", "MINUS ", "~", "BITNOT ")}{self.closed(INT, depth - 1)}', False
+        if pick < 0.3:
+            name = self.pick(lambda entry: entry.kind in ('array', 'table'))
+            if name:
+                return f'SIZE {name}', False
+        if pick < 0.42:
+            return self.chain(self.random.choice(CHAINED if self.chance(0.1) else CHAINED[2:]), INT, depth)
+        operator = self.random.choice(CHECKED if self.chance(0.1) else FREE)
+        left = self.closed(INT, depth - 1)
+        if operator in ('<<', '>>') and self.chance(0.9):
+            right = self.of(str(self.random.randint(0, 31)), f'({self.closed(INT, depth - 2)} /\\ 31)')
+        elif operator in ('/', '\\', 'REM') and self.chance(0.9):
+            right = self.of('3', '7', '256', '(-5)', '1')
+        else:
+            right = self.closed(INT, depth - 1)
+        return self.broken(left, operator, right), False
+
+    def truth(self, depth):
+        pick = self.random.random()
+        if pick < 0.1:
+            return self.leaf(BOOL)
+        if pick < 0.2:
+            return f'NOT {self.closed(BOOL, depth - 1)}', False
+        if pick < 0.4:
+            return self.chain(self.of('AND', 'OR'), BOOL, depth)
+        of = self.of(INT, INT, INT, BYTE, BOOL)
+        operators = ['=', '<>'] if of == BOOL else ['=', '<>', '<', '>', '<=', '>='] + ['AFTER'] * (of == INT)
+        return self.broken(self.closed(of, depth - 1), self.random.choice(operators), self.closed(of, depth - 1)), False
+
+    def byte(self, depth):
+        pick = self.random.random()
+        if pick < 0.3:
+            return self.leaf(BYTE)
+        if pick < 0.9:
+            return f'BYTE ({self.closed(INT, depth - 1)} /\\ {self.of("255", "127", "15")})', False
+        return f'BYTE {self.closed(self.of(INT, BOOL, BOOL), depth - 1)}', False
+
+    def table(self, of, size):
+        if of == BYTE and self.chance(0.4):
+            return '"' + ''.join(self.random.choice(['a', 'Z', ' ', '*n', '**', '*#00', "'", '--']) for _ in range(size)).replace('--', '-') + '"'
+        items = [self.random.choice(SPELLED)[0] if of == BYTE and self.chance(0.5) else self.constant(of) for _ in range(size)]
+        return '[' + ', '.join(items) + ']'
+
+    def constant(self, of):
+        if of == BOOL:
+            return self.of('TRUE', 'FALSE')
+        if of == BYTE:
+            return str(self.random.randint(0, 255)) if self.chance(0.7) else self.random.choice(SPELLED)[0]
+        return self.number() if self.chance(0.8) else f'-{self.random.randint(0, 99)}'
+
+    # Declarations
+
+    def declared(self, depth):
+        """Some declarations in front of a process."""
+        for _ in range(self.random.choice([0, 0, 0, 1, 1, 2])):
+            self.declaration(depth)
+
+    def declaration(self, depth):
+        pick = self.random.random()
+        name = self.new()
+        if pick < 0.25:
+            of = self.of(INT, INT, BOOL, BYTE)
+            type_ = f'{of} ' if self.chance(0.7) else ''
+            text = self.whole(of, self.random.randint(0, 3)) if self.levels or depth else self.constant(of)
+            if not type_ and of == BYTE and text.isdigit():
+                type_ = 'BYTE '
+            self.line(f'VAL {type_}{name} IS {text}:')
+            self.scope[name] = Entry('value', of)
+        elif pick < 0.35:
+            of = self.of(INT, BYTE)
+            size = self.of(1, 2, 4, 5, 8, 16, 20)
+            self.line(f'VAL [{self.of("", str(size))}]{of} {name} IS {self.table(of, size)}:')
+            self.scope[name] = Entry('table', of, size)
+        elif pick < 0.55 and self.indent:
+            of = self.of(INT, INT, BOOL, BYTE)
+            others = [name] + [self.new() for _ in range(self.random.choice([0, 0, 1, 2]))]
+            others = list(dict.fromkeys(others))
+            self.line(f'{of} {", ".join(others)}:')
+            for one in others:
+                self.scope[one] = Entry('variable', of)
+        elif pick < 0.7 and self.indent:
+            of = self.of(INT, BYTE)
+            size = self.of(1, 2, 3, 4, 5, 7, 8, 12, 16)
+            self.line(f'[{size}]{of} {name}:')
+            self.scope[name] = Entry('array', of, size)
+        elif pick < 0.78 and self.indent:
+            self.retypes(name)
+        elif pick < 0.9 and self.levels < 2:
+            self.procedure(name)
+        elif self.levels < 2:
+            self.function(name)
+
+    def retypes(self, name):
+        array = self.pick(lambda e: e.kind == 'array' and (e.of == INT or e.size % 4 == 0))
+        if array:
+            entry = self.scope[array]
+            of, size = (BYTE, entry.size * 4) if entry.of == INT else (INT, entry.size // 4)
+            self.line(f'[{size}]{of} {name} RETYPES {array}:')
+            self.scope[name] = Entry('array', of, size)
+
+    def parameters(self, passings):
+        found = []
+        for name in dict.fromkeys(self.new() for _ in range(self.random.randint(0 if 'VAR' in passings else 1, 3))):
+            passing = self.random.choice(passings)
+            if passing == 'CHAN':
+                found.append((passing, None, None, name))
+            elif self.chance(0.35):
+                found.append((passing, self.of(INT, BYTE), self.of((), (), 4, 8), name))
+            else:
+                found.append((passing, self.of(INT, INT, BOOL, BYTE), None, name))
+        return found
+
+    def spelled(self, parameters):
+        spelled = []
+        for place, (passing, of, size, name) in enumerate(parameters):
+            if passing == 'CHAN':
+                spelled.append(f'CHAN OF {self.trace_type} {name}')
+                continue
+            bounds = '' if size is None else '[]' if size == () else f'[{size}]'
+            before = parameters[place - 1][:3] if place else None
+            if before == (passing, of, size) and self.chance(0.7):
+                spelled.append(name)
+            else:
+                spelled.append(f'{"VAL " if passing == "VAL" else ""}{bounds}{of} {name}')
+        return ', '.join(spelled)
+
+    def with_parameters(self, parameters):
+        for passing, of, size, name in parameters:
+            if passing == 'CHAN':
+                self.scope[name] = Entry('channel')
+            elif size is not None:
+                # How many an open array has is not known here: one is always there.
+                self.scope[name] = Entry('table' if passing == 'VAL' else 'array', of, 1 if size == () else size)
+            else:
+                self.scope[name] = Entry('value' if passing == 'VAL' else 'variable', of)
+
+    def procedure(self, name):
+        passings = ['VAL', 'VAL', 'VAR', 'VAR'] + ['CHAN'] * self.is_traced
+        parameters = self.parameters(passings)
+        self.line(f'PROC {name} ({self.spelled(parameters)})')
+        outer, turns = dict(self.scope), self.turns
+        self.with_parameters(parameters)
+        self.levels += 1
+        self.indent += 1
+        self.turns *= 8
+        self.block(2)
+        self.indent -= 1
+        self.levels -= 1
+        self.turns = turns
+        self.scope = outer
+        self.line(':')
+        self.scope[name] = Entry('procedure', None, None, [one[:3] for one in parameters])
+
+    def function(self, name):
+        of = self.of(INT, INT, BOOL, BYTE)
+        parameters = self.parameters(['VAL'])
+        outer = dict(self.scope)
+        self.with_parameters(parameters)
+        self.levels += 1
+        value = self.whole(of, 2)
+        self.levels -= 1
+        self.scope = outer
+        if of == BYTE and value.isdigit():
+            value = f'BYTE {value}'
+        self.line(f'{of} FUNCTION {name} ({self.spelled(parameters)}) IS {value}:')
+        self.scope[name] = Entry('function', of, None, [one[:3] for one in parameters])
+
+    # Processes
+
+    def block(self, depth):
+        outer = dict(self.scope)
+        self.declared(depth)
+        self.process(depth)
+        self.scope = outer
+
+    def steps(self, depth, most):
+        self.indent += 1
+        for _ in range(self.random.randint(1, most)):
+            self.block(depth)
+        self.indent -= 1
+
+    def process(self, depth):
+        pick = self.random.random()
+        if depth <= 0 or pick < 0.35:
+            self.simple()
+        elif pick < 0.5:
+            self.line('SEQ')
+            self.steps(depth - 1, 4)
+        elif pick < 0.65:
+            self.replicated(depth)
+        elif pick < 0.82:
+            self.choice(depth)
+        elif pick < 0.92:
+            self.case(depth)
+        else:
+            self.call_procedure()
+
+    def simple(self):
+        pick = self.random.random()
+        if pick < 0.04:
+            self.line('SKIP')
+        elif pick < 0.042:
+            self.line('STOP')
+        elif pick < 0.15:
+            self.trace()
+        elif pick < 0.22:
+            self.copy()
+        else:
+            self.assign()
+
+    def target(self, of):
+        array = self.pick(lambda e: e.kind == 'array' and e.of == of)
+        if array and self.chance(0.4):
+            return f'{array}[{self.subscript(self.scope[array].size, 2)}]'
+        return self.pick(lambda e: e.kind == 'variable' and e.of == of)
+
+    def assign(self):
+        targets, values = [], []
+        for _ in range(self.random.choice([1, 1, 1, 1, 2, 2, 3, 4])):
+            of = self.of(INT, INT, BOOL, BYTE)
+            target = self.target(of)
+            if target:
+                targets.append(target)
+                values.append(self.whole(of, self.random.randint(0, 4)))
+        if targets:
+            self.line(f'{", ".join(targets)} := {", ".join(values)}')
+        else:
+            self.line('SKIP')
+
+    def copy(self):
+        to = self.pick(lambda e: e.kind == 'array' and e.size > 1)
+        if not to:
+            self.line('SKIP')
+            return
+        entry = self.scope[to]
+        source = self.pick(lambda e: e.kind in ('array', 'table') and e.of == entry.of and e.size == entry.size)
+        self.line(f'{to} := {source if self.chance(0.8) else self.table(entry.of, entry.size)}')
+
+    def trace(self):
+        channel = self.pick(lambda e: e.kind == 'channel')
+        if not channel or self.turns > 16:
+            self.line('SKIP')
+        elif self.trace_size is None:
+            self.line(f'{channel} ! {self.whole(INT, 2)}')
+        else:
+            array = self.pick(lambda e: e.kind in ('array', 'table') and e.of == self.trace_of and e.size == self.trace_size)
+            self.line(f'{channel} ! {array}' if array else 'SKIP')
+
+    def replicated(self, depth):
+        count = self.random.choice([0, 1, 1, 2, 3, 4, 7])
+        if self.turns * max(count, 1) > 60:
+            count = self.of(0, 1)
+        start = self.of('0', '0', '1', '-1', '250', 'MOSTNEG INT', '2147483600')
+        index = self.new()
+        self.line(f'SEQ {index} = {start} FOR {count}')
+        outer, turns = dict(self.scope), self.turns
+        self.scope[index] = Entry('value', INT)
+        self.turns *= max(count, 1)
+        self.indent += 1
+        self.block(depth - 1)
+        self.indent -= 1
+        self.scope, self.turns = outer, turns
+
+    def choice(self, depth):
+        self.line('IF')
+        self.indent += 1
+        for _ in range(self.random.randint(1, 3)):
+            self.guarded(self.whole(BOOL, self.random.randint(0, 3)), depth)
+        if self.chance(0.97):
+            self.guarded('TRUE', depth)
+        self.indent -= 1
+
+    def guarded(self, text, depth):
+        self.line(text)
+        self.indent += 1
+        self.block(depth - 1)
+        self.indent -= 1
+
+    def case(self, depth):
+        of = self.of(INT, INT, BYTE)
+        self.line(f'CASE {self.whole(of, 2)}')
+        self.indent += 1
+        values = self.random.sample([0, 1, 2, 3, 10, 32, 97, 255] + [4096, -1, 0x7FFFFFFF] * (of == INT), self.random.randint(1, 5))
+        while values:
+            share = self.random.randint(1, len(values))
+            self.guarded(', '.join(map(str, values[:share])), depth)
+            values = values[share:]
+        if self.chance(0.97):
+            self.guarded('ELSE', depth)
+        self.indent -= 1
+
+    def call_procedure(self):
+        name = self.pick(lambda e: e.kind == 'procedure' and self.can_call(e.parameters))
+        if not name or self.calls > 20:
+            self.simple()
+            return
+        self.calls += 1
+        self.line(f'{name} ({self.arguments(self.scope[name].parameters, 2)})')
+
+    # The worker
+
+    def protocol(self):
+        """INT, or an array of words or of bytes: its spelling, element and size."""
+        pick = self.random.random()
+        if pick < 0.3:
+            return INT, INT, None
+        of = self.of(INT, BYTE)
+        size = self.of(1, 2, 4, 8, 16) * (1 if of == INT else 4)
+        return f'[{size}]{of}', of, size
+
+    def worker(self):
+        packet, packet_of, packet_size = self.protocol()
+        result, result_of, result_size = self.protocol()
+        self.trace_type, self.trace_of, self.trace_size = self.of((INT, INT, None), ('[2]INT', INT, 2), ('[8]BYTE', BYTE, 8))
+        for _ in range(self.random.randint(0, 3)):
+            self.declaration(0)
+        channels = f'CHAN OF {packet} packet, CHAN OF {result} result'
+        if self.is_traced:
+            channels += f', CHAN OF {self.trace_type} trace'
+        self.line(f'PROC worker ({channels})')
+        self.indent += 1
+        if self.is_traced:
+            self.scope['trace'] = Entry('channel')
+        self.receives(packet_of, packet_size, result_of, result_size)
+        for _ in range(self.random.randint(0, 4)):
+            self.declaration(1)
+        # The names of messages are declared again where one of these hides them.
+        self.receives(packet_of, packet_size, result_of, result_size)
+        self.line('SEQ')
+        self.indent += 1
+        self.line('packet ? m.in')
+        for _ in range(self.random.randint(1, 6)):
+            self.block(3)
+        self.line(f'result ! {"m.out" if result_size is not None or self.chance(0.5) else self.whole(INT, 2)}')
+        self.indent -= 2
+        self.line(':')
+        return '\n'.join(self.out) + '\n'
+
+    def receives(self, packet_of, packet_size, result_of, result_size):
+        if 'm.in' in self.scope:
+            return
+        for name, of, size in (('m.in', packet_of, packet_size), ('m.out', result_of, result_size)):
+            self.line(f'{of} {name}:' if size is None else f'[{size}]{of} {name}:')
+            self.scope[name] = Entry('variable', of) if size is None else Entry('array', of, size)
+        self.packet_bytes = 4 if packet_size is None else packet_size * (4 if packet_of == INT else 1)
+
+    def packets(self):
+        """Small words, bytes of 0 and 255, and any."""
+        size = self.packet_bytes
+        small = b''.join(self.random.randint(0, 20).to_bytes(4, 'little') for _ in range(size // 4))
+        ends = bytes(self.random.choice([0, 255]) for _ in range(size))
+        return [small, ends, self.random.randbytes(size), self.random.randbytes(size)]
+
+
+def main():
+    first, count = int(sys.argv[1]), int(sys.argv[2])
+    for seed in range(first, first + count):
+        maker = Maker(seed)
+        sys.stdout.write(f'@worker {seed}\n{maker.worker()}')
+        for packet in maker.packets():
+            print(f'@packet {packet.hex()}')
+
+
+if __name__ == '__main__':
+    main()

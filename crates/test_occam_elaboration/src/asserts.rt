@@ -1,0 +1,17 @@
+//! What each test asks of values: where it is not so, the test ends there and then, and says what it found.
+ghost use Rattle.std.specs.Prelude.{◌≡◌, Ok};
+
+use std::fmt::Debug;
+use std::process::Abort;
+
+/// That two values are the same; where they differ, both are printed.
+pub fn assert_same<T: Debug + PartialEq>(rt: &impl Abort, left: &T, right: &T) {
+    assert_eq!(rt; left, right);
+}
+
+/// The value; where there is none, the error is printed.
+pub fn unwrap<T: Drop, E: Debug + Drop>(rt: &impl Abort, value: Result<T, E>) -> T
+    ensures { value ≡ Ok result }
+{
+    value.expect(rt, "a value is wanted")
+}

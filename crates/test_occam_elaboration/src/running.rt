@@ -1,0 +1,50 @@
+//! Texts that are elaborated and run.
+
+use crate::asserts::unwrap;
+use std::alloc::{AllocError, Global};
+use std::process::Abort;
+use tpw_occam_core::{Given, Worker, evaluate};
+use tpw_occam_elaboration::{ElaborationError, elaborate};
+use tpw_occam_syntax::parse;
+
+/// The worker of a text that is right.
+pub(crate) fn worker(rt: &impl Abort, alloc: Global, text: &str) -> Worker {
+    let source = unwrap(rt, parse(alloc, text));
+    let made = unwrap(rt, elaborate(alloc, text, &source));
+    made.worker
+}
+
+/// What a worker gives of a packet that is not lost.
+pub(crate) fn given(rt: &impl Abort, alloc: Global, worker: &Worker, packet: &[u8]) -> Given {
+    let given = unwrap(rt, evaluate(alloc, worker, packet));
+    given.expect(rt, "the packet is lost")
+}
+
+/// What is wrong with a text, a line for each fault: its line, column and text.
+pub(crate) fn faults(rt: &impl Abort, alloc: Global, text: &str) -> Result<String, AllocError> {
+    let mut all = String::new(alloc);
+    let source = unwrap(rt, parse(alloc, text));
+    match elaborate(alloc, text, &source) {
+        Ok(_) => all.push_str("nothing is wrong\n")?,
+        Err(ElaborationError::Memory) => return Err(AllocError),
+        Err(ElaborationError::Faults(faults)) => {
+            for fault in &faults {
+                let (line, column, kind) = (fault.span.line, fault.span.column, fault.kind);
+                writeln!(all, "{line}:{column}: {kind}")?;
+            }
+        }
+    }
+    Ok(all)
+}
+
+/// What a text may not mean, a line for each note.
+pub(crate) fn notes(rt: &impl Abort, alloc: Global, text: &str) -> Result<String, AllocError> {
+    let mut all = String::new(alloc);
+    let source = unwrap(rt, parse(alloc, text));
+    let made = unwrap(rt, elaborate(alloc, text, &source));
+    for note in &made.notes {
+        let (line, column, kind) = (note.span.line, note.span.column, note.kind);
+        writeln!(all, "{line}:{column}: {kind}")?;
+    }
+    Ok(all)
+}

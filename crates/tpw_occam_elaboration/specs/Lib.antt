@@ -1,0 +1,2 @@
+-- What a reader must believe: what is promised of a worker that was made, and of faults and notes.
+pub mod Elaboration

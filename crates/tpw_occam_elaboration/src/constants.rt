@@ -1,0 +1,30 @@
+//! Constants of the text: sizes, starts, counts, the elements of tables.
+
+use crate::elaborator::{Elaborator, Frame};
+use crate::fault::{FaultKind, Stop};
+use crate::limits::MOST_DEPTH;
+use crate::syntax::span_of;
+use crate::typed::{Typed, Worth};
+use tpw_occam_syntax::{Expression, Primitive, Span};
+
+impl<'a> Elaborator<'a> {
+    /// The constant that an expression at a place is.
+    pub(crate) fn constant_of(&mut self, e: &Typed, span: Span) -> Result<u32, Stop> {
+        match e.worth {
+            Worth::Constant(word) => Ok(word),
+            Worth::Flagged(at) => self.fault(at, FaultKind::SetsFlag),
+            Worth::Computed => self.fault(span, FaultKind::NotConstant),
+        }
+    }
+
+    /// The constant of a type that is wanted.
+    pub(crate) fn constant(
+        &mut self,
+        frame: Frame,
+        e: &'a Expression<'a>,
+        of: Primitive,
+    ) -> Result<u32, Stop> {
+        let typed = self.expression(frame, e, Some(of), MOST_DEPTH)?;
+        self.constant_of(&typed, span_of(e))
+    }
+}

@@ -1,0 +1,296 @@
+//! Expressions.
+//!
+//! `depth` counts down with each expression that lies within another, calls in line among them.
+
+use crate::bindings::bound_value;
+use crate::elaborator::{Elaborator, Frame};
+use crate::environment::{Meaning, View};
+use crate::fault::{FaultKind, Limit, Stop};
+use crate::operators::{
+    arithmetic, combined, complement, inverted, is_order, low_byte, operand_of, operands_of,
+};
+use crate::sort::Role;
+use crate::syntax::{element_type, is_number, name, name_of, span_of};
+use crate::typed::{Typed, Worth, constant};
+use crate::words::{MOST_NEGATIVE, MOST_POSITIVE};
+use std::alloc::AllocError;
+use tpw_occam_core::{Expression, Kind, Operator, Storage};
+use tpw_occam_syntax::{Dyadic, Expression as Tree, Monadic, Name, Primitive, Span};
+
+/// The byte of a table, or 0 behind its last.
+fn byte(table: &[u8], at: usize) -> u8 {
+    table.get(at).copied().unwrap_or(0)
+}
+
+/// An element of a table.
+fn table_element(table: &[u8], kind: Kind, at: u32) -> u32 {
+    let at = at as usize;
+    match kind {
+        Kind::Word => u32::from_le_bytes([
+            byte(table, 4 * at),
+            byte(table, 4 * at + 1),
+            byte(table, 4 * at + 2),
+            byte(table, 4 * at + 3),
+        ]),
+        Kind::Byte => u32::from(byte(table, at)),
+    }
+}
+
+/// The type of an expression that was made.
+fn type_of(made: &Result<Typed, Stop>) -> Option<Primitive> {
+    match made {
+        Ok(typed) => Some(typed.of),
+        Err(_) => None,
+    }
+}
+
+impl<'a> Elaborator<'a> {
+    /// A number, which is a BYTE where one is wanted.
+    fn number(&mut self, value: u32, wanted: Option<Primitive>, span: Span) -> Result<Typed, Stop> {
+        match wanted {
+            Some(Primitive::Byte) if value < 256 => Ok(constant(Primitive::Byte, value)),
+            Some(Primitive::Byte) => self.fault(span, FaultKind::NoByte { value }),
+            _ => Ok(constant(Primitive::Int, value)),
+        }
+    }
+
+    /// A value, where it is of the type that is wanted.
+    fn of_type(
+        &mut self,
+        typed: Typed,
+        e: &'a Tree<'a>,
+        wanted: Option<Primitive>,
+    ) -> Result<Typed, Stop> {
+        match wanted {
+            Some(wanted) if wanted != typed.of => {
+                let kind = FaultKind::Type {
+                    name: name_of(e),
+                    wanted,
+                    found: typed.of,
+                };
+                self.fault(span_of(e), kind)
+            }
+            _ => Ok(typed),
+        }
+    }
+
+    /// An expression within which no other lies.
+    fn leaf(
+        &mut self,
+        frame: Frame,
+        e: &'a Tree<'a>,
+        wanted: Option<Primitive>,
+    ) -> Result<Typed, Stop> {
+        match e {
+            Tree::Number { value, span } => self.number(*value, wanted, *span),
+            Tree::Character { value, .. } => Ok(constant(Primitive::Byte, u32::from(*value))),
+            Tree::Truth { value, .. } => Ok(constant(Primitive::Bool, u32::from(*value))),
+            Tree::Most {
+                is_negative: true,
+                ..
+            } => Ok(constant(Primitive::Int, MOST_NEGATIVE)),
+            Tree::Most { .. } => Ok(constant(Primitive::Int, MOST_POSITIVE)),
+            Tree::Text { span, .. } => self.fault(*span, FaultKind::TableHere),
+            Tree::List { span, .. } => self.fault(*span, FaultKind::TableHere),
+            Tree::Name { name: text, span } => self.value_of(frame.scope, name(text, *span)),
+            _ => Err(Stop::Reported),
+        }
+    }
+
+    /// An expression, of the type that is wanted where one is.
+    #[cycle(expressions)]
+    pub(crate) fn expression(
+        &mut self,
+        frame: Frame,
+        e: &'a Tree<'a>,
+        wanted: Option<Primitive>,
+        depth: u32,
+    ) -> Result<Typed, Stop> {
+        self.count(span_of(e))?;
+        if depth == 0 {
+            return self.fault(span_of(e), FaultKind::Limit(Limit::Depth));
+        }
+        let typed = match e {
+            Tree::Element {
+                name: text,
+                span,
+                subscript,
+            } => self.element(frame, name(text, *span), subscript, depth - 1)?,
+            Tree::Call {
+                name: text,
+                span,
+                arguments,
+            } => self.call(frame, name(text, *span), arguments, depth - 1)?,
+            Tree::Monadic {
+                operator,
+                span,
+                operand,
+            } => self.monadic(frame, *operator, operand, *span, depth - 1)?,
+            Tree::Dyadic {
+                operator,
+                span,
+                left,
+                right,
+            } => self.dyadic(frame, *operator, (left, right), *span, depth - 1)?,
+            other => self.leaf(frame, other, wanted)?,
+        };
+        self.of_type(typed, e, wanted)
+    }
+
+    /// An operator with its one operand.
+    #[cycle(expressions)]
+    fn monadic(
+        &mut self,
+        frame: Frame,
+        operator: Monadic,
+        operand: &'a Tree<'a>,
+        span: Span,
+        depth: u32,
+    ) -> Result<Typed, Stop> {
+        if operator == Monadic::Size {
+            return self.size_of(frame.scope, operand);
+        }
+        let e = self.expression(frame, operand, operand_of(operator), depth)?;
+        self.applied(operator, e, span)
+    }
+
+    /// What an operator makes of its one operand.
+    fn applied(&mut self, operator: Monadic, e: Typed, span: Span) -> Result<Typed, Stop> {
+        let alloc = self.alloc;
+        let zero = constant(Primitive::Int, 0);
+        match operator {
+            Monadic::Negate => Ok(arithmetic(alloc, Operator::Subtract, zero, e, span)?),
+            Monadic::Minus => Ok(arithmetic(alloc, Operator::Minus, zero, e, span)?),
+            Monadic::BitNot => Ok(complement(alloc, e)?),
+            Monadic::Not => Ok(inverted(alloc, e)?),
+            Monadic::Size => Ok(e),
+            Monadic::Convert(to) => self.converted(to, e, span),
+        }
+    }
+
+    /// A value of one type made of one of another.
+    fn converted(&mut self, to: Primitive, e: Typed, span: Span) -> Result<Typed, Stop> {
+        match (e.of, to) {
+            (Primitive::Bool, Primitive::Int | Primitive::Byte) => Ok(Typed { of: to, ..e }),
+            (Primitive::Byte, Primitive::Int) => Ok(Typed { of: to, ..e }),
+            (Primitive::Int, Primitive::Byte) => Ok(low_byte(self.alloc, e, span)?),
+            (from, to) => self.fault(span, FaultKind::Conversion { from, to }),
+        }
+    }
+
+    /// An operator with its two operands. A number takes the type of the other operand.
+    #[cycle(expressions)]
+    fn dyadic(
+        &mut self,
+        frame: Frame,
+        operator: Dyadic,
+        operands: (&'a Tree<'a>, &'a Tree<'a>),
+        span: Span,
+        depth: u32,
+    ) -> Result<Typed, Stop> {
+        let (left, right) = operands;
+        let is_turned = is_number(left);
+        let (one, other) = if is_turned {
+            (right, left)
+        } else {
+            (left, right)
+        };
+        let wanted = operands_of(operator);
+        let one = self.expression(frame, one, wanted, depth);
+        let wanted = wanted.or(type_of(&one));
+        let other = self.expression(frame, other, wanted, depth);
+        let (one, other) = (one?, other?);
+        if is_order(operator) && one.of == Primitive::Bool {
+            return self.fault(span, FaultKind::NoOrder);
+        }
+        let (left, right) = if is_turned {
+            (other, one)
+        } else {
+            (one, other)
+        };
+        Ok(combined(self.alloc, operator, left, right, span)?)
+    }
+
+    /// What is known of an element: of a table, with a constant subscript, it is a constant.
+    fn element_worth(&self, view: View, subscript: Worth, span: Span) -> Worth {
+        match (self.storages.get(view.array), subscript) {
+            (Some(Storage::Table(table)), Worth::Constant(at)) => {
+                if at < view.elements {
+                    Worth::Constant(table_element(table, view.kind, at))
+                } else {
+                    Worth::Flagged(span)
+                }
+            }
+            (Some(Storage::Table(_)), worth) => worth,
+            _ => Worth::Computed,
+        }
+    }
+
+    /// An element of an array, read.
+    fn element_of(
+        &mut self,
+        view: View,
+        subscript: Typed,
+        span: Span,
+    ) -> Result<Typed, AllocError> {
+        self.arrays.read(view.array);
+        let worth = self.element_worth(view, subscript.worth, span);
+        let subscript = Box::new(self.alloc, subscript.value)?;
+        Ok(Typed {
+            of: element_type(view.kind),
+            value: Expression::Element {
+                array: view.array,
+                kind: view.kind,
+                subscript,
+            },
+            worth,
+        })
+    }
+
+    /// `a[e]`.
+    #[cycle(expressions)]
+    fn element(
+        &mut self,
+        frame: Frame,
+        name: Name<'a>,
+        subscript: &'a Tree<'a>,
+        depth: u32,
+    ) -> Result<Typed, Stop> {
+        let view = self.view_of(frame.scope, name);
+        let subscript = self.expression(frame, subscript, Some(Primitive::Int), depth);
+        let (view, subscript) = (view?, subscript?);
+        Ok(self.element_of(view, subscript, name.span)?)
+    }
+
+    /// `f (e, ..)`: the FUNCTION's expression, with its parameters bound.
+    #[cycle(expressions)]
+    fn call(
+        &mut self,
+        frame: Frame,
+        name: Name<'a>,
+        arguments: &'a [Tree<'a>],
+        depth: u32,
+    ) -> Result<Typed, Stop> {
+        let entry = self.find(frame.scope, name)?;
+        let Meaning::Function {
+            of,
+            signature,
+            value,
+            scope,
+        } = entry.meaning
+        else {
+            return self.not_a(name, entry, Role::Function);
+        };
+        if frame.calls == 0 {
+            return self.fault(name.span, FaultKind::Limit(Limit::Calls));
+        }
+        self.check_count(name, entry, signature, arguments.len())?;
+        let bound = self.bound(frame, signature, arguments, scope, depth)?;
+        let within = Frame {
+            scope: bound.scope,
+            calls: frame.calls - 1,
+        };
+        let value = self.expression(within, value, Some(of), depth)?;
+        Ok(bound_value(self.alloc, value, bound.bindings)?)
+    }
+}

@@ -1,0 +1,36 @@
+//! Elaboration of workers in occam: from the syntax tree of a text to the core of its worker.
+//!
+//! Names are resolved where they stand, types are checked, constants are worked out, and PROCs and FUNCTIONs are put in
+//! line. [`elaborate`] returns the worker, or all that is wrong with the text.
+#![tactic(auto)]
+
+mod arguments;
+mod arrays;
+mod assignments;
+mod bindings;
+mod choices;
+mod constants;
+mod declarations;
+mod elaborator;
+mod environment;
+mod expressions;
+mod fault;
+mod limits;
+mod lookup;
+mod messages;
+mod note;
+mod operators;
+mod processes;
+mod sequences;
+mod signatures;
+mod sort;
+mod syntax;
+mod typed;
+mod whole;
+mod words;
+
+pub use elaborator::Named;
+pub use fault::{Fault, FaultKind, Limit};
+pub use note::{Note, NoteKind};
+pub use sort::{Role, Sort};
+pub use whole::{Elaborated, ElaborationError, elaborate};

@@ -1,0 +1,10 @@
+use Rattle.std.proofs.Common.{ℕ, ◌+◌, ◌≤◌}
+use Rattle.tpw_occam_syntax.proofs.places.reach.Given as goal
+use Rattle.tpw_occam_syntax.specs.Places.{IsReached}
+
+abbrev pub invariant-loop-at : goal.invariant-loop-at
+invariant-loop-at l = record {
+  reached : IsReached l.text l.at l.line l.column;
+  small_line : l.line ≤ l.at + 1;
+  small_column : l.column ≤ l.at + 1;
+}

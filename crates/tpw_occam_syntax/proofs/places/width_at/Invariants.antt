@@ -1,0 +1,6 @@
+use Rattle.std.proofs.Common.{ℕ, ◌+◌, ◌-◌}
+use Rattle.tpw_occam_syntax.proofs.places.width_at.Given as goal
+use Rattle.tpw_occam_syntax.specs.Places.{IsReached}
+
+abbrev pub invariant-loop-at : goal.invariant-loop-at
+invariant-loop-at l = IsReached l.text l.at l.from.line (l.from.column + (l.at - l.from.bytes))

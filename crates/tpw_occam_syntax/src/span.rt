@@ -1,0 +1,25 @@
+//! Places in a text.
+
+/// A stretch of a line: its line and its first column, counted from 1, and how many bytes it has.
+#[derive(Clone, Copy, Debug, PartialEq, Eq)]
+pub struct Span {
+    pub line: usize,
+    pub column: usize,
+    pub width: usize,
+}
+
+impl Span {
+    /// The place behind it, which has no width.
+    pub(crate) fn end(self) -> Span {
+        Span {
+            line: self.line,
+            column: self.column.saturating_add(self.width),
+            width: 0,
+        }
+    }
+
+    /// Whether it begins in front of another.
+    pub(crate) fn is_before(self, other: Span) -> bool {
+        self.line < other.line || (self.line == other.line && self.column < other.column)
+    }
+}
