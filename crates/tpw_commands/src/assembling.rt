@@ -56,3 +56,14 @@ pub fn assemble_text<W: Write>(
     let line = image_line(alloc, image.as_slice(), name)?;
     write_line(writer, line.as_str())
 }
+
+/// Writes the image of a worker in hexadecimal on one line: behind `NAME IMAGE`, where a name is given.
+pub fn write_image<W: Write>(
+    alloc: Global,
+    image: &[u8],
+    writer: &mut W,
+    name: Option<&str>,
+) -> Result<Outcome, Failure> {
+    let line = image_line(alloc, image, name)?;
+    write_line(writer, line.as_str())
+}

@@ -4,11 +4,12 @@ use crate::asking::{Asking, Expecting, PacketFile};
 use crate::ending::{Ending, Refusal};
 use crate::refusing::Report;
 use crate::running::Running;
+use crate::showing::Showing;
 use crate::stepping::{FROM, Picked, Stepping, UNTIL, WATCH};
 use clap::{Arg, ArgAction, ArgMatches, Command, Error, value_parser};
 use std::alloc::Global;
 use std::convert::AsStr;
-use tpw_inputs::{Input, is_standard};
+use tpw_inputs::{Input, Language, is_standard};
 use tpw_run_text::{Notation, Style};
 
 /// What `--version` says behind the name: the version, the commit where a package is built, and the kit that the proofs
@@ -27,6 +28,17 @@ const PROFILE: &str = "profile";
 /// The name of the command that lists a code with its costs.
 const LIST: &str = "list";
 
+/// The names of those that make an assembly text of one in occam, and that say what that means by packets.
+const OCCAM: &str = "occam";
+
+const EVAL: &str = "eval";
+
+/// The name of the option that says that a worker is in occam, which is a command's name too.
+const IN_OCCAM: &str = OCCAM;
+
+/// The name of the option that compares runs with what a text means.
+const CHECK: &str = "check";
+
 /// The names of those that make an image of a text, and a text of an image.
 const ASM: &str = "asm";
 
@@ -37,9 +49,23 @@ const LINE: &str = "line";
 
 /// What `tpw asm --help` says below the options.
 const ASM_LINES: &str = "\
-Reads a text, and writes its image as hexadecimal on one line.
+Reads a text, in assembly or in occam, and writes its image as hexadecimal on one line.
 Status 1: the text says no worker; standard error names the place, FILE:LINE:COLUMN, and the fault.
 docs/WORKERS.md shows a text.";
+
+/// What `tpw occam --help` says below the options.
+const OCCAM_LINES: &str = "\
+Reads a text in occam, and writes the assembly text that it becomes, each statement behind its line of occam. asm makes the
+same image of both.
+Status 1: the text says no worker; standard error names each place, FILE:LINE:COLUMN, and the fault.
+docs/OCCAM.md has the language.";
+
+/// What `tpw eval --help` says below the options.
+const EVAL_LINES: &str = "\
+Reads a text in occam, and works out what it means by each packet, without an image or members. Packets, expected results and
+what is written are as those of `run`, without steps. A FILE of - is standard input.
+Status 0: each packet has a result, the one expected. Status 1: not so, or the text says no worker.
+docs/OCCAM.md has the language.";
 
 /// What `tpw dis --help` says below the options.
 const DIS_LINES: &str = "\
@@ -73,11 +99,12 @@ const DEFAULT_MEMBERS: usize = 4;
 
 /// What `tpw run --help` says below the options.
 const RUN_LINES: &str = "\
-Reads a worker as assembly text, or an image as hexadecimal. Packets and expected results are a line each, their words as
-numbers, or with --hex-packets and --hex-expect two digits for each byte, as they are sent; `flag 1` before an expected
-result says that the error flag is set. For each packet it writes its number, the error flag, the steps of the budget, and
-its words; or that it was lost, and why. The last line counts them. A FILE of - is standard input.
-Status 0: each packet has a result, the one expected. Status 1: not so, or the worker is refused, as `why` explains it.";
+Reads a worker in occam or as assembly text, or an image as hexadecimal. Packets and expected results are a line each, their
+words as numbers, or with --hex-packets and --hex-expect two digits for each byte, as they are sent; `flag 1` before an
+expected result says that the error flag is set. For each packet it writes its number, the error flag, the steps of the
+budget, and its words; or that it was lost, and why. The last line counts them. A FILE of - is standard input.
+Status 0: each packet has a result, the one expected; with --check, each is what the text means, lost ones too. Status 1: not
+so, or the worker is refused, as `why` explains it.";
 
 /// The name of the argument of each command that is read in place of standard input.
 const FILE: &str = "file";
@@ -87,7 +114,7 @@ const NUMBER: &str = "number";
 
 /// What `tpw step --help` says below the options.
 const STEP_LINES: &str = "\
-Reads an image as hexadecimal, one line, or a worker as assembly text. Packets are as those of `run`.
+Reads an image as hexadecimal, one line, or a worker in occam or as assembly text. Packets are as those of `run`.
 A PLACE is an address, as 36 or 0x24, or a count of steps, as +100; in a text also a label, or a line, as line:37.
 WORDS are names of local words, buf[2] for one word of a name, or w5 for a word by its number, with commas between.
 Status 0: the worker stopped, or was left at --until. Status 1: it is stuck, or does not end, or what is read is no image.
@@ -95,42 +122,53 @@ docs/WORKERS.md reads a run.";
 
 /// What `tpw why --help` says below the options.
 const WHY_LINES: &str = "\
-Reads an image as hexadecimal, one line, or a worker as assembly text.
+Reads an image as hexadecimal, one line, or a worker in occam or as assembly text.
 Status 0: the image is accepted. Status 1: it is refused, or what is read says none.
 docs/VERIFIER.md lists every refusal.";
 
 /// What `tpw list --help` says below the options.
 const LIST_LINES: &str = "\
-Reads an image as hexadecimal, one line, or a worker as assembly text. It writes the verdict; the bound on the instruction
-bytes of a run, and the bytes of a turn of each loop; and each instruction: its address, its bytes, the most bytes that are
-executed from there to the end of the loop around it, or of the run, and the line of the text that says it.
+Reads an image as hexadecimal, one line, or a worker in occam or as assembly text. It writes the verdict; the bound on the
+instruction bytes of a run, and the bytes of a turn of each loop; and each instruction: its address, its bytes, the most bytes
+that are executed from there to the end of the loop around it, or of the run, and the line of the text that says it.
 Status 0: the image is accepted. Status 1: it is refused, or what is read says none.";
 
 /// What `tpw profile --help` says below the options.
 const PROFILE_LINES: &str = "\
-Reads a worker as assembly text, or an image as hexadecimal, accepted by the verifier or not, and runs packets on it. It
-writes how many steps they made, each an instruction byte; the share of each line of the text, or of each instruction of an
-image, the most first; and the share of each loop.
+Reads a worker in occam or as assembly text, or an image as hexadecimal, accepted by the verifier or not, and runs packets on
+it. It writes how many steps they made, each an instruction byte; the share of each line of the text, or of each instruction
+of an image, the most first; and the share of each loop.
 Status 0: each worker stopped. Status 1: not so, or what is read says no worker.";
 
-/// What a command line asks for: a task, and where its text is read.
+/// What a command line asks for: a task, where its text is read, and what that is written in.
 #[derive(Drop)]
 pub struct Asked {
     pub task: Task,
     pub input: Input,
+    pub language: Language,
 }
 
 /// What is to be done with a text.
 #[derive(Drop)]
 pub enum Task {
+    Work(Work),
+    /// An image of a text, behind a name where one is given.
+    Assemble(Option<String>),
+    /// An assembly text of one in occam.
+    Translate,
+    /// What a text in occam means by packets.
+    Evaluate(Showing),
+    Disassemble,
+}
+
+/// What is to be done with a worker.
+#[derive(Drop)]
+pub enum Work {
     Run(Running),
     Profile(Asking),
     Step(Stepping),
     /// The verdict on an image.
     Judge(Report),
-    /// An image of a text, behind a name where one is given.
-    Assemble(Option<String>),
-    Disassemble,
 }
 
 /// What a command reads in place of standard input.
@@ -168,6 +206,7 @@ fn step_command<'a>(alloc: Global) -> Result<Command<'a>, Error> {
         .about("Runs an image an instruction at a time, accepted by the verifier or not")
         .after_help(STEP_LINES)
         .arg(file_argument(alloc))?
+        .arg(occam_argument(alloc))?
         .arg(words_argument(alloc))?
         .arg(packets_argument(alloc))?
         .arg(hex_packets_argument(alloc))?
@@ -200,6 +239,15 @@ fn flag_argument<'a>(alloc: Global, name: &'static str, help: &'static str) -> A
         .action(ArgAction::SetTrue)
         .value_parser(value_parser!(bool))
         .help(help)
+}
+
+/// The option that says that a worker is in occam.
+fn occam_argument<'a>(alloc: Global) -> Arg<'a> {
+    flag_argument(
+        alloc,
+        IN_OCCAM,
+        "The worker is in occam, as that of a FILE named .occ is",
+    )
 }
 
 /// The option that says a packet.
@@ -269,6 +317,7 @@ fn profile_command<'a>(alloc: Global) -> Result<Command<'a>, Error> {
         .about("Runs packets on a worker, and writes where their steps go")
         .after_help(PROFILE_LINES)
         .arg(file_argument(alloc))?
+        .arg(occam_argument(alloc))?
         .arg(words_argument(alloc))?
         .arg(packets_argument(alloc))?
         .arg(hex_packets_argument(alloc))?;
@@ -283,15 +332,44 @@ fn run_command<'a>(alloc: Global) -> Result<Command<'a>, Error> {
         .action(ArgAction::Set)
         .value_parser(value_parser!(usize).range(1..=64))
         .help("How many members run packets, 1 to 64; 4 where nothing is said");
+    let check = flag_argument(
+        alloc,
+        CHECK,
+        "Compare results, flags and traces with what the text in occam means: what differs alone is written",
+    );
+    let check = check.conflicts_with(EXPECT)?.conflicts_with(RAW)?;
     let command = Command::new(alloc, RUN)
         .about("Runs packets on a worker, and writes each result")
         .after_help(RUN_LINES)
         .arg(file_argument(alloc))?
+        .arg(occam_argument(alloc))?
         .arg(words_argument(alloc))?
         .arg(packets_argument(alloc))?
         .arg(hex_packets_argument(alloc))?;
-    let command = with_expect(alloc, command)?.arg(members)?;
+    let command = with_expect(alloc, command)?.arg(members)?.arg(check)?;
     with_style(alloc, command)
+}
+
+/// `eval`, as the command line has it.
+fn eval_command<'a>(alloc: Global) -> Result<Command<'a>, Error> {
+    let command = Command::new(alloc, EVAL)
+        .about("Works out what a text in occam means by packets")
+        .after_help(EVAL_LINES)
+        .arg(file_argument(alloc))?
+        .arg(words_argument(alloc))?
+        .arg(packets_argument(alloc))?
+        .arg(hex_packets_argument(alloc))?;
+    let command = with_expect(alloc, command)?;
+    with_style(alloc, command)
+}
+
+/// `occam`, as the command line has it.
+fn occam_command<'a>(alloc: Global) -> Result<Command<'a>, Error> {
+    let command = Command::new(alloc, OCCAM)
+        .about("Makes an assembly text of one in occam")
+        .after_help(OCCAM_LINES)
+        .arg(file_argument(alloc))?;
+    Ok(command)
 }
 
 /// `list`, as the command line has it.
@@ -299,7 +377,8 @@ fn list_command<'a>(alloc: Global) -> Result<Command<'a>, Error> {
     let command = Command::new(alloc, LIST)
         .about("Lists a worker's instructions with what each costs")
         .after_help(LIST_LINES)
-        .arg(file_argument(alloc))?;
+        .arg(file_argument(alloc))?
+        .arg(occam_argument(alloc))?;
     Ok(command)
 }
 
@@ -308,7 +387,8 @@ fn why_command<'a>(alloc: Global) -> Result<Command<'a>, Error> {
     let command = Command::new(alloc, WHY)
         .about("Judges an image as the verifier does, and explains why it is refused")
         .after_help(WHY_LINES)
-        .arg(file_argument(alloc))?;
+        .arg(file_argument(alloc))?
+        .arg(occam_argument(alloc))?;
     Ok(command)
 }
 
@@ -323,6 +403,7 @@ fn asm_command<'a>(alloc: Global) -> Result<Command<'a>, Error> {
         .about("Makes an image of a text")
         .after_help(ASM_LINES)
         .arg(file_argument(alloc))?
+        .arg(occam_argument(alloc))?
         .arg(line)?;
     Ok(command)
 }
@@ -345,7 +426,9 @@ fn command<'a>(alloc: Global) -> Result<Command<'a>, Error> {
         .subcommand_required(true)
         .subcommand(asm_command(alloc)?)?
         .subcommand(dis_command(alloc)?)?
+        .subcommand(eval_command(alloc)?)?
         .subcommand(list_command(alloc)?)?
+        .subcommand(occam_command(alloc)?)?
         .subcommand(profile_command(alloc)?)?
         .subcommand(run_command(alloc)?)?
         .subcommand(step_command(alloc)?)?
@@ -452,17 +535,25 @@ fn expecting(alloc: Global, matches: &ArgMatches<'_>) -> Result<Option<Expecting
     }
 }
 
-/// What `run` is asked for.
-fn running(alloc: Global, matches: &ArgMatches<'_>) -> Result<Running, Ending> {
-    Ok(Running {
+/// The packets that are asked for, and how what is made of them is shown.
+fn showing(alloc: Global, matches: &ArgMatches<'_>) -> Result<Showing, Ending> {
+    Ok(Showing {
         asking: asking(alloc, matches)?,
         expect: expecting(alloc, matches)?,
-        members: matches.get_one::<usize>(MEMBERS).unwrap_or(DEFAULT_MEMBERS),
         style: Style {
             hexadecimal: matches.get_flag(HEX),
             trace: matches.get_flag(TRACE),
         },
         raw: matches.get_flag(RAW),
+    })
+}
+
+/// What `run` is asked for.
+fn running(alloc: Global, matches: &ArgMatches<'_>) -> Result<Running, Ending> {
+    Ok(Running {
+        showing: showing(alloc, matches)?,
+        members: matches.get_one::<usize>(MEMBERS).unwrap_or(DEFAULT_MEMBERS),
+        check: matches.get_flag(CHECK),
     })
 }
 
@@ -495,19 +586,43 @@ fn input_of(alloc: Global, matches: &ArgMatches<'_>) -> Result<Input, Ending> {
     }
 }
 
+/// What the worker of a command is written in, where it reads one.
+fn language_of(matches: &ArgMatches<'_>, task: &Task, input: &Input) -> Language {
+    match task {
+        Task::Translate | Task::Evaluate(_) => Language::Occam,
+        Task::Disassemble => Language::Assembly,
+        Task::Work(_) | Task::Assemble(_) if matches.get_flag(IN_OCCAM) => Language::Occam,
+        Task::Work(_) | Task::Assemble(_) => Language::of(input),
+    }
+}
+
 /// Refuses a task with an input where standard input is named for more than one of them.
 fn check_standard(task: &Task, input: &Input) -> Result<(), Refusal> {
     let (packets, expected) = match task {
-        Task::Run(running) => (running.asking.is_standard(), running.is_standard()),
-        Task::Profile(asking) => (asking.is_standard(), false),
-        Task::Step(stepping) => (stepping.is_standard(), false),
-        Task::Judge(_) | Task::Assemble(_) | Task::Disassemble => (false, false),
+        Task::Work(Work::Run(Running { showing, .. })) | Task::Evaluate(showing) => {
+            (showing.asking.is_standard(), showing.is_standard())
+        }
+        Task::Work(Work::Profile(asking)) => (asking.is_standard(), false),
+        Task::Work(Work::Step(stepping)) => (stepping.is_standard(), false),
+        Task::Work(Work::Judge(_)) | Task::Assemble(_) | Task::Translate | Task::Disassemble => {
+            (false, false)
+        }
     };
     let worker = matches!(input, Input::Standard);
     if (worker && (packets || expected)) || (packets && expected) {
         return Err(Refusal::StandardTwice);
     }
     Ok(())
+}
+
+/// Refuses a check of a worker that is not in occam.
+fn check_language(task: &Task, language: Language) -> Result<(), Refusal> {
+    match task {
+        Task::Work(Work::Run(running)) if running.check && language != Language::Occam => {
+            Err(Refusal::NoCheck)
+        }
+        _ => Ok(()),
+    }
 }
 
 /// What words ask for, the first of which names the program.
@@ -517,16 +632,24 @@ pub fn asked_by<S: AsStr>(alloc: Global, words: &[S]) -> Result<Asked, Ending> {
         return Err(Ending::Refused(Refusal::NoCommand));
     };
     let task = match name {
-        PROFILE => Task::Profile(asking(alloc, found)?),
-        RUN => Task::Run(running(alloc, found)?),
-        STEP => Task::Step(stepping(alloc, found)?),
+        PROFILE => Task::Work(Work::Profile(asking(alloc, found)?)),
+        RUN => Task::Work(Work::Run(running(alloc, found)?)),
+        STEP => Task::Work(Work::Step(stepping(alloc, found)?)),
+        LIST => Task::Work(Work::Judge(Report::List)),
+        WHY => Task::Work(Work::Judge(Report::Why)),
         ASM => assembling(alloc, found)?,
+        OCCAM => Task::Translate,
+        EVAL => Task::Evaluate(showing(alloc, found)?),
         DIS => Task::Disassemble,
-        LIST => Task::Judge(Report::List),
-        WHY => Task::Judge(Report::Why),
         _ => return Err(Ending::Refused(Refusal::NoCommand)),
     };
     let input = input_of(alloc, found)?;
+    let language = language_of(found, &task, &input);
     check_standard(&task, &input)?;
-    Ok(Asked { task, input })
+    check_language(&task, language)?;
+    Ok(Asked {
+        task,
+        input,
+        language,
+    })
 }

@@ -85,6 +85,9 @@ pub enum Refusal {
     /// It says no packets.
     #[error("error: no packets are given, by --words or --packets\n")]
     NoPackets,
+    /// It asks for a check of a worker that is not in occam.
+    #[error("error: --check is for workers in occam: files named .occ, or those given with --occam\n")]
+    NoCheck,
     /// It names standard input twice.
     #[error("error: standard input is read once: name a file for all but one of FILE, --packets and --expect\n")]
     StandardTwice,

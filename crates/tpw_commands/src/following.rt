@@ -2,7 +2,7 @@
 
 use crate::asking::{Asking, Origin};
 use std::fmt;
-use tpw_inputs::Input;
+use tpw_inputs::{Input, Language};
 use tpw_run_text::Notation;
 
 /// A word of a shell's command line, quoted where it has to be.
@@ -35,6 +35,7 @@ impl fmt::Display for Quoted<'_> {
 pub struct Following<'a> {
     pub asking: &'a Asking,
     pub input: &'a Input,
+    pub language: Language,
     pub number: usize,
     pub packets: usize,
 }
@@ -55,6 +56,9 @@ impl fmt::Display for Following<'_> {
                 write!(f, " --packets {name} --number {number}")?;
             }
             None => {}
+        }
+        if self.language != Language::of(self.input) {
+            f.write_str(" --occam")?;
         }
         match self.input {
             Input::File(name) => {

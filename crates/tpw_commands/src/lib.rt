@@ -4,10 +4,13 @@
 
 mod asking;
 mod assembling;
+mod checking;
 mod command_line;
 mod disassembly;
 mod ending;
+mod evaluating;
 mod following;
+mod meaning;
 mod output;
 mod place;
 mod profiling;
@@ -15,10 +18,14 @@ mod program;
 mod refusing;
 mod running;
 mod shares;
+mod showing;
 mod stepping;
+mod summary;
 mod terminal;
+mod translating;
 mod words;
 
+pub use checking::Checked;
 pub use ending::{Ending, Outcome, Refusal};
 pub use output::Output;
 pub use place::place_of;

@@ -4,16 +4,18 @@ ghost use Rattle.std.specs.Prelude.{◌≡◌, ◌≤◌, IfErr};
 ghost use Rattle.std.specs.Process.{exit_status};
 ghost use Rattle.tpw_commands.specs.Endings.{EndsEarly, status_by, status_of};
 
-use crate::assembling::assemble_text;
-use crate::command_line::{Asked, Task, asked_by};
+use crate::assembling::{assemble_text, write_image};
+use crate::command_line::{Asked, Task, Work, asked_by};
 use crate::disassembly::disassemble_image;
 use crate::ending::{Ending, Outcome};
+use crate::evaluating::evaluate_packets;
 use crate::output::{Output, settle};
 use crate::profiling::profile_worker;
 use crate::refusing::judge;
 use crate::running::run_worker;
 use crate::stepping::step;
 use crate::terminal::Terminal;
+use crate::translating::translate;
 use crate::words::words_of;
 use std::alloc::Global;
 use std::env::Env;
@@ -23,7 +25,61 @@ use std::rt::Files;
 use std::sync::Wait;
 use std::thread::Threads;
 use std::time::Clock;
-use tpw_inputs::{Failure, Input, Inputs, note_traps, read_worker, report_fault};
+use tpw_inputs::{
+    Failure, Input, Inputs, Language, Worker, note_traps, read_occam, read_worker, report_fault,
+};
+
+/// Does what is asked with a worker.
+fn perform_on<T, R: Read, W: Write, E: Write>(
+    rt: &T,
+    inputs: &mut Inputs<'_, T, R>,
+    alloc: Global,
+    worker: &Worker<'_>,
+    writer: &mut W,
+    terminal: &mut Terminal<'_, E>,
+    asked: &Asked,
+    work: &Work,
+) -> Result<Outcome, Ending>
+where
+    T: Files + Threads + Wait + Clock + Eprint + Sync,
+    ensures { IfErr result (λ e. status_of e ≡ 2 → W.contents writer.new ≡ W.contents writer.old) }
+{
+    let Asked {
+        input,
+        language,
+        ..
+    } = asked;
+    match work {
+        Work::Profile(asking) => profile_worker(alloc, inputs, worker, writer, terminal, asking),
+        Work::Run(running) => run_worker(
+            rt, alloc, inputs, input, *language, worker, writer, terminal, running,
+        ),
+        Work::Step(stepping) => step(alloc, inputs, worker, writer, stepping),
+        Work::Judge(report) => Ok(judge(alloc, worker, *report, writer)?),
+    }
+}
+
+/// Writes the image that a text says, behind a name where one is given.
+fn assemble<W: Write, E: Write>(
+    alloc: Global,
+    text: &[u8],
+    writer: &mut W,
+    terminal: &mut Terminal<'_, E>,
+    asked: &Asked,
+    name: Option<&str>,
+) -> Result<Outcome, Failure> {
+    let input = &asked.input;
+    match asked.language {
+        Language::Assembly => {
+            note_traps(alloc, terminal.errors, input, text)?;
+            assemble_text(alloc, text, writer, name)
+        }
+        Language::Occam => {
+            let occam = read_occam(alloc, terminal.errors, input, text)?;
+            write_image(alloc, &occam.bytes, writer, name)
+        }
+    }
+}
 
 /// Does what is asked with the text of the input.
 fn perform<T, R: Read, W: Write, E: Write>(
@@ -41,26 +97,26 @@ where
 {
     let input = &asked.input;
     match &asked.task {
-        Task::Profile(asking) => {
-            let worker = read_worker(alloc, terminal.errors, input, text)?;
-            profile_worker(alloc, inputs, &worker, writer, terminal, asking)
+        Task::Work(work) => {
+            let worker = read_worker(alloc, terminal.errors, input, asked.language, text)?;
+            perform_on(rt, inputs, alloc, &worker, writer, terminal, asked, work)
         }
-        Task::Run(running) => {
-            let worker = read_worker(alloc, terminal.errors, input, text)?;
-            run_worker(rt, alloc, inputs, input, &worker, writer, terminal, running)
+        Task::Evaluate(showing) => {
+            let occam = read_occam(alloc, terminal.errors, input, text)?;
+            evaluate_packets(alloc, inputs, &occam, writer, terminal, showing)
         }
-        Task::Step(stepping) => {
-            let worker = read_worker(alloc, terminal.errors, input, text)?;
-            step(alloc, inputs, &worker, writer, stepping)
+        Task::Translate => {
+            let occam = read_occam(alloc, terminal.errors, input, text)?;
+            Ok(translate(alloc, &occam, writer)?)
         }
-        Task::Judge(report) => {
-            let worker = read_worker(alloc, terminal.errors, input, text)?;
-            Ok(judge(alloc, &worker, *report, writer)?)
-        }
-        Task::Assemble(name) => {
-            note_traps(alloc, terminal.errors, input, text)?;
-            Ok(assemble_text(alloc, text, writer, name.as_deref())?)
-        }
+        Task::Assemble(name) => Ok(assemble(
+            alloc,
+            text,
+            writer,
+            terminal,
+            asked,
+            name.as_deref(),
+        )?),
         Task::Disassemble => Ok(disassemble_image(alloc, text, writer)?),
     }
 }

@@ -3,54 +3,36 @@
 ghost use Rattle.std.specs.Prelude.{◌≡◌, ◌≤◌, ◌*◌, All, IfOk, IfErr, IfSome, length};
 ghost use Rattle.tpw_commands.specs.Endings.{status_of};
 
-use crate::asking::{Asking, Expecting};
+use crate::checking::{Checked, write_checked};
 use crate::ending::{Ending, Outcome, failure_of_run};
 use crate::following::Following;
 use crate::refusing::accepted_of;
+use crate::showing::Showing;
+use crate::summary::{is_as_expected, write_summary};
 use crate::terminal::Terminal;
 use std::alloc::Global;
-use std::io::{self, Eprint, Read, Write};
+use std::io::{Eprint, Read, Write};
 use std::rt::Files;
 use std::sync::Wait;
 use std::thread::Threads;
 use std::time::Clock;
 use tp_accept::Accepted;
 use tp_stream::Packet;
-use tpw_inputs::{Failure, Input, Inputs, Worker, is_standard};
-use tpw_run_text::{Expected, Form, StepRange, Style, Tally};
+use tpw_inputs::{Failure, Input, Inputs, Language, Worker};
+use tpw_occam_core::Worker as Meaning;
+use tpw_run_text::{Expected, Form, Style, Tally};
 use tpw_runs::{Progress, run_on_members};
 
 /// The most members.
 const MAX_MEMBERS: usize = 64;
 
-/// What `run` is to run, and how it is shown.
+/// What `run` is to run, and how.
 #[derive(Drop)]
 pub struct Running {
-    pub asking: Asking,
-    /// The results that are expected, where they are.
-    pub expect: Option<Expecting>,
+    pub showing: Showing,
     pub members: usize,
-    pub style: Style,
-    pub raw: bool,
-}
-
-impl Running {
-    /// Whether the results that are expected are standard input.
-    pub fn is_standard(&self) -> bool {
-        match &self.expect {
-            Some(expecting) => is_standard(expecting.name.as_str()),
-            None => false,
-        }
-    }
-
-    /// How results are shown where none are expected.
-    fn form(&self) -> Form<'static> {
-        if self.raw {
-            Form::Raw
-        } else {
-            Form::Lines(self.style)
-        }
-    }
+    /// Whether what is made of packets is compared with what the text means by them.
+    pub check: bool,
 }
 
 /// What is run: packets on an accepted worker, and the results that are expected, where they are asked for.
@@ -61,97 +43,21 @@ struct Prepared {
     expected: Option<Vec<Expected>>,
 }
 
-/// The results that are expected, where they are asked for.
-fn results_expected<T: Files, R: Read>(
-    alloc: Global,
-    inputs: &mut Inputs<'_, T, R>,
-    asked: &Running,
-    bytes: usize,
-) -> Result<Option<Vec<Expected>>, Failure>
-    requires { bytes ≤ 256 }
-{
-    match &asked.expect {
-        Some(expecting) => Ok(Some(expecting.results(alloc, inputs, bytes)?)),
-        None => Ok(None),
-    }
-}
-
-/// How many of the results that are expected are of no packet, and how many packets have no result that is expected.
-#[derive(Clone, Copy)]
-struct Unmatched {
-    results: usize,
-    packets: usize,
-}
-
-impl Unmatched {
-    /// That of packets shown in a form. Where no results are expected, none are missing.
-    fn of(form: Form<'_>, packets: usize) -> Unmatched {
-        match form {
-            Form::Differences(_, expected) => Unmatched {
-                results: expected.len().saturating_sub(packets),
-                packets: packets.saturating_sub(expected.len()),
-            },
-            Form::Lines(_) | Form::Raw => Unmatched {
-                results: 0,
-                packets: 0,
-            },
-        }
-    }
-}
-
-/// Writes how many packets have another result than the one that is expected, and which side is short.
-fn write_differing<W: Write>(
-    writer: &mut W,
-    tally: &Tally,
-    unmatched: Unmatched,
-) -> Result<(), io::Error> {
-    let Unmatched { results, packets } = unmatched;
-    let differing = tally.differing.saturating_add(results);
-    write!(writer, ", differing {differing}")?;
-    if results > 0 {
-        write!(writer, ", expected results without a packet {results}")?;
-    }
-    if packets > 0 {
-        write!(writer, ", packets without an expected result {packets}")?;
-    }
-    Ok(())
-}
-
-/// Writes how many packets were run, how many of them were lost, their steps, and what differs where results are
-/// expected.
-fn write_counts<W: Write>(
-    writer: &mut W,
-    budget: u32,
-    tally: &Tally,
-    form: Form<'_>,
-) -> Result<(), io::Error> {
-    let lost = tally.lost;
-    let packets = tally.done.saturating_add(lost);
-    write!(writer, "packets {packets}, lost {lost}, steps ")?;
-    match tally.steps {
-        Some(StepRange { least, most }) => write!(writer, "{least} to {most} of {budget}")?,
-        None => write!(writer, "at most {budget}")?,
-    }
-    if let Form::Differences(_, _) = form {
-        write_differing(writer, tally, Unmatched::of(form, packets))?;
-    }
-    writer.write_all(b"\n")?;
-    writer.flush()
-}
-
 /// Writes how to follow the first packet that has another result than the one that is expected, if there is one.
 fn write_following<W: Write>(
     writer: &mut W,
     asked: &Running,
     input: &Input,
+    language: Language,
     tally: &Tally,
 ) -> Result<(), Failure> {
     let Some(number) = tally.first else {
         return Ok(());
     };
     let following = Following {
-        asking: &asked.asking,
+        asking: &asked.showing.asking,
         input,
+        language,
         number,
         packets: tally.done.saturating_add(tally.lost),
     };
@@ -161,58 +67,94 @@ fn write_following<W: Write>(
     }
 }
 
-/// Writes the last line of a run.
-fn write_summary<W: Write>(
-    writer: &mut W,
-    budget: u32,
-    tally: &Tally,
-    form: Form<'_>,
-) -> Result<(), Failure> {
-    match write_counts(writer, budget, tally, form) {
-        Ok(()) => Ok(()),
-        Err(_) => Err(Failure::Write),
-    }
-}
-
-/// Whether each packet has a result, the one that is expected, and each result that is expected a packet.
-fn is_as_expected(tally: &Tally, form: Form<'_>) -> bool {
-    let packets = tally.done.saturating_add(tally.lost);
-    let unmatched = Unmatched::of(form, packets);
-    tally.lost == 0 && tally.differing == 0 && unmatched.results == 0
-}
-
-/// Runs packets on an accepted image, shows their results in a form, and progress where somebody waits for it.
-fn run_shown<T, W: Write, E: Write>(
+/// Runs packets on an accepted image, and shows their results in a form, and progress where somebody waits for it.
+fn run_tallied<T, W: Write>(
     rt: &T,
     alloc: Global,
-    image: &Accepted,
-    packets: &[Packet],
+    prepared: &Prepared,
+    members: usize,
+    form: Form<'_>,
+    writer: &mut W,
+    is_terminal: bool,
+) -> Result<Tally, Failure>
+where
+    T: Threads + Wait + Clock + Eprint + Sync,
+    requires { All (λ p. length p.items ≡ 4 * prepared.now.image.image.packet) prepared.now.packets.items }
+{
+    let image = &prepared.image;
+    let packets = &prepared.packets;
+    let progress = Progress::new(rt, packets.len(), is_terminal);
+    let members = packets.len().min(members).min(MAX_MEMBERS).max(1);
+    let ran = run_on_members(rt, alloc, image, packets, members, &progress, form, writer);
+    progress.clear();
+    ran.map_err(|fault| failure_of_run(fault))
+}
+
+/// Runs what is prepared, and writes what becomes of each packet.
+fn write_run<T, W: Write, E: Write>(
+    rt: &T,
+    alloc: Global,
+    prepared: &Prepared,
     asked: &Running,
     input: &Input,
-    form: Form<'_>,
+    language: Language,
     writer: &mut W,
     terminal: &mut Terminal<'_, E>,
 ) -> Result<Outcome, Failure>
 where
     T: Threads + Wait + Clock + Eprint + Sync,
-    requires { All (λ p. length p.items ≡ 4 * image.now.image.packet) packets.now }
+    requires { All (λ p. length p.items ≡ 4 * prepared.now.image.image.packet) prepared.now.packets.items }
 {
-    let members = asked.members;
-    let progress = Progress::new(rt, packets.len(), terminal.is_terminal);
-    let members = packets.len().min(members).min(MAX_MEMBERS).max(1);
-    let ran = run_on_members(rt, alloc, image, packets, members, &progress, form, writer);
-    progress.clear();
-    let tally = ran.map_err(|fault| failure_of_run(fault))?;
+    let form = asked.showing.form(&prepared.expected);
+    let budget = Some(prepared.image.budget());
+    let is_terminal = terminal.is_terminal;
+    let tally = run_tallied(rt, alloc, prepared, asked.members, form, writer, is_terminal)?;
     match form {
         // A picture or a pipe has the results alone.
         Form::Raw if tally.lost == 0 => {}
-        Form::Raw => write_summary(terminal.errors, image.budget(), &tally, form)?,
+        Form::Raw => write_summary(terminal.errors, budget, &tally, form)?,
         Form::Lines(_) | Form::Differences(_, _) => {
-            write_following(writer, asked, input, &tally)?;
-            write_summary(writer, image.budget(), &tally, form)?
+            write_following(writer, asked, input, language, &tally)?;
+            write_summary(writer, budget, &tally, form)?
         }
     }
     Ok(Outcome::of(is_as_expected(&tally, form)))
+}
+
+/// Runs what is prepared, and writes each packet of which something else is made than the worker means.
+fn write_check<T, W: Write, E: Write>(
+    rt: &T,
+    alloc: Global,
+    prepared: &Prepared,
+    asked: &Running,
+    meaning: &Meaning,
+    writer: &mut W,
+    terminal: &mut Terminal<'_, E>,
+) -> Result<Outcome, Failure>
+where
+    T: Threads + Wait + Clock + Eprint + Sync,
+    requires { All (λ p. length p.items ≡ 4 * prepared.now.image.image.packet) prepared.now.packets.items }
+{
+    let style = asked.showing.style;
+    let form = Form::Lines(Style {
+        trace: true,
+        ..style
+    });
+    let budget = prepared.image.budget();
+    let is_terminal = terminal.is_terminal;
+    let mut ran = Vec::new(alloc);
+    let tally = run_tallied(rt, alloc, prepared, asked.members, form, &mut ran, is_terminal)?;
+    let checked = Checked {
+        worker: meaning,
+        packets: &prepared.packets,
+        style,
+        budget,
+    };
+    let ran = str::from_utf8(&ran).unwrap_or("");
+    let others = checked.write_others(alloc, ran, writer)?;
+    write_summary(writer, Some(budget), &tally, form)?;
+    write_checked(writer, prepared.packets.len(), others)?;
+    Ok(Outcome::of(others == 0))
 }
 
 /// What is to be run: on a worker, where it is accepted, the packets that are asked for, each as long as its own.
@@ -229,45 +171,14 @@ fn prepare_run<T: Files, R: Read, E: Write>(
     let Some(image) = accepted_of(alloc, worker, errors)? else {
         return Ok(None);
     };
-    let packets = asked.asking.packets(alloc, inputs, image.packet_bytes())?;
-    let expected = results_expected(alloc, inputs, asked, image.result_bytes())?;
+    let showing = &asked.showing;
+    let packets = showing.asking.packets(alloc, inputs, image.packet_bytes())?;
+    let expected = showing.expected(alloc, inputs, image.result_bytes())?;
     Ok(Some(Prepared {
         image,
         packets,
         expected,
     }))
-}
-
-/// Runs what is prepared, and writes what becomes of each packet.
-fn write_run<T, W: Write, E: Write>(
-    rt: &T,
-    alloc: Global,
-    prepared: &Prepared,
-    asked: &Running,
-    input: &Input,
-    writer: &mut W,
-    terminal: &mut Terminal<'_, E>,
-) -> Result<Outcome, Failure>
-where
-    T: Threads + Wait + Clock + Eprint + Sync,
-    requires { All (λ p. length p.items ≡ 4 * prepared.now.image.image.packet) prepared.now.packets.items }
-{
-    let image = &prepared.image;
-    let packets = &prepared.packets;
-    match &prepared.expected {
-        Some(expected) => {
-            let form = Form::Differences(asked.style, expected);
-            run_shown(
-                rt, alloc, image, packets, asked, input, form, writer, terminal,
-            )
-        }
-        None => {
-            let form = asked.form();
-            run_shown(
-                rt, alloc, image, packets, asked, input, form, writer, terminal,
-            )
-        }
-    }
 }
 
 /// Runs the packets on the worker of an input, and writes what becomes of each.
@@ -276,6 +187,7 @@ pub fn run_worker<T, R: Read, W: Write, E: Write>(
     alloc: Global,
     inputs: &mut Inputs<'_, T, R>,
     input: &Input,
+    language: Language,
     worker: &Worker<'_>,
     writer: &mut W,
     terminal: &mut Terminal<'_, E>,
@@ -285,8 +197,15 @@ where
     T: Files + Threads + Wait + Clock + Eprint + Sync,
     ensures { IfErr result (λ e. status_of e ≡ 2 → W.contents writer.new ≡ W.contents writer.old) }
 {
-    match prepare_run(alloc, inputs, worker, terminal.errors, asked)? {
-        Some(prepared) => Ok(write_run(rt, alloc, &prepared, asked, input, writer, terminal)?),
-        None => Ok(Outcome::Bad),
+    let Some(prepared) = prepare_run(alloc, inputs, worker, terminal.errors, asked)? else {
+        return Ok(Outcome::Bad);
+    };
+    match &worker.meaning {
+        Some(meaning) if asked.check => Ok(write_check(
+            rt, alloc, &prepared, asked, meaning, writer, terminal,
+        )?),
+        _ => Ok(write_run(
+            rt, alloc, &prepared, asked, input, language, writer, terminal,
+        )?),
     }
 }

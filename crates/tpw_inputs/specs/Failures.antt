@@ -9,9 +9,12 @@ use Rattle.tp_image.specs.declared.fault.ImageFault.TheVariants as image
 use Rattle.tpw_text.specs.declared.fault.SourceFault.{SourceFault}
 use Rattle.tpw_text.specs.declared.fault.TextFault.TheVariants as source
 use Rattle.tpw_text.specs.declared.fault.TextFault.{TextFault as SourceKind}
+use Rattle.tpw_occam.specs.declared.fault.OccamFault.{OccamFault}
+use Rattle.tpw_occam.specs.declared.fault.OccamFault.TheVariants as occam
 use Rattle.tpw_inputs.specs.declared.failure.Failure.{Failure}
 use Rattle.tpw_inputs.specs.declared.failure.Failure.TheVariants as failure
 use Rattle.tpw_inputs.specs.declared.fault.InputFault.TheVariants as input
+use Rattle.tpw_inputs.specs.declared.fault.CompilerFault.TheVariants as compiler
 use Rattle.tpw_inputs.specs.declared.input.TextFault.{TextFault}
 use Rattle.tpw_inputs.specs.declared.input.TextFault.TheVariants as text
 use Rattle.tpw_inputs.specs.Positions.{position_behind}
@@ -32,6 +35,12 @@ of_kind kind fault = failure.Input (input.Source fault)
 
 abbrev pub of_source : SourceFault → Failure
 of_source fault = of_kind fault.fault fault
+
+-- by why a text in occam has no program
+abbrev pub of_occam : OccamFault → Failure
+of_occam occam.Memory = failure.Memory
+of_occam (occam.Refused messages) = failure.Input (input.Occam messages)
+of_occam (occam.Compiler defect) = failure.Input (input.Compiler (compiler.Made defect))
 
 -- by why a program has no image: a line's fault comes with the place of the word that asks for the line
 abbrev pub of_line : ℕ → LineFault → Option Position → Failure

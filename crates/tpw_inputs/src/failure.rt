@@ -2,14 +2,15 @@
 
 ghost use Rattle.std.specs.Prelude.{◌≡◌};
 ghost use Rattle.tpw_inputs.specs.declared.failure.Failure.TheVariants as failure;
-ghost use Rattle.tpw_inputs.specs.Failures.{of_image, of_source};
+ghost use Rattle.tpw_inputs.specs.Failures.{of_image, of_occam, of_source};
 
-use crate::fault::InputFault;
+use crate::fault::{CompilerFault, InputFault};
 use crate::input::is_standard;
 use std::alloc::{AllocError, AllocFailed, Global};
 use std::io;
 use thiserror::Error;
 use tp_image::ImageFault;
+use tpw_occam::OccamFault;
 use tpw_source::ShowFault;
 use tpw_text::{SourceFault, TextFault as SourceKind};
 
@@ -71,6 +72,20 @@ impl From<SourceFault> for Failure {
         match fault.fault {
             SourceKind::Memory => Failure::Memory,
             _ => Failure::Input(InputFault::Source(fault)),
+        }
+    }
+}
+
+impl From<OccamFault> for Failure {
+    ghost from_gives = { λ fault e. e ≡ of_occam fault };
+
+    fn from(fault: OccamFault) -> Self {
+        match fault {
+            OccamFault::Memory => Failure::Memory,
+            OccamFault::Refused(messages) => Failure::Input(InputFault::Occam(messages)),
+            OccamFault::Compiler(defect) => Failure::Input(InputFault::Compiler(
+                CompilerFault::Made(defect),
+            )),
         }
     }
 }

@@ -5,10 +5,23 @@ ghost use Rattle.tpw_inputs.specs.Positions.{behind, position_behind};
 
 use std::io;
 use thiserror::Error;
+use tp_accept::RefusalCode;
 use tp_image::ImageFault;
 use tpw_asm::{AssemblyFault, LineFault};
+use tpw_occam::{Defect, Message};
 use tpw_run_text::PacketFault;
 use tpw_text::{Position, SourceFault};
+
+/// What the compiler of occam does wrong with a text. None is known.
+#[derive(Clone, Copy, Debug, PartialEq, Eq, Error)]
+pub enum CompilerFault {
+    /// It gives no program that has an image.
+    #[error("{0}")]
+    Made(Defect),
+    /// The verifier refuses its image.
+    #[error("the verifier refuses its image by {code} at {place}")]
+    Refused { code: RefusalCode, place: usize },
+}
 
 /// Why an input is none that a command takes. The text goes behind the input's name: where a place is known it begins
 /// with `:LINE:COLUMN`.
@@ -53,6 +66,12 @@ pub enum InputFault {
     /// It says a program that has no image.
     #[error(": {0}")]
     Assembly(AssemblyFault),
+    /// It says no worker in occam: one message to twenty. Each is reported at its place.
+    #[error(": no worker in occam")]
+    Occam(Vec<Message>),
+    /// It is a text in occam that the compiler does wrong with.
+    #[error(": a fault of the compiler: {0}; please report it, with the text")]
+    Compiler(CompilerFault),
     /// It says no packets, or no results that may be expected.
     #[error(":{0}")]
     Packets(PacketFault),

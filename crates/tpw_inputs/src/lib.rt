@@ -2,21 +2,26 @@
 #![tactic(auto)]
 
 mod assembly;
+mod budget;
 mod failure;
 mod fault;
 mod fields;
 mod hints;
 mod input;
+mod language;
 mod notes;
+mod occam;
 mod reports;
 mod traps;
 mod worker;
 
 pub use assembly::assembled_from;
 pub use failure::Failure;
-pub use fault::InputFault;
+pub use fault::{CompilerFault, InputFault};
 pub use input::{Input, Inputs, TextFault, bytes_of, hex_bytes, is_standard, utf8};
+pub use language::Language;
 pub use notes::places_of;
+pub use occam::{Occam, read_occam};
 pub use reports::report_fault;
 pub use traps::note_traps;
 pub use worker::{Worker, read_worker};

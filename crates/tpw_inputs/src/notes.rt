@@ -1,10 +1,11 @@
-//! What an assembly text says of its code, by address and by word.
+//! What a text says of its code, by address and by word.
 
 use crate::failure::Failure;
 use crate::fault::InputFault;
 use crate::input::Input;
 use std::alloc::Global;
 use tpw_asm::{AssemblyFault, Program, addresses};
+use tpw_occam::{CompiledText, Located};
 use tpw_source::{Label, Named, SourceText, Statement};
 use tpw_text::{Local, Position, Source, statement_of};
 
@@ -50,6 +51,53 @@ fn statements_of<'a>(
         }
     }
     Ok(statements)
+}
+
+/// The lines of a text in occam, each at the addresses of the instructions that come from it.
+fn lines_compiled<'a>(
+    alloc: Global,
+    text: &'a str,
+    sources: &[u32],
+    places: &[u32],
+) -> Result<Vec<Statement<'a>>, Failure> {
+    let lines: Vec<&'a str> = text.lines().collect(alloc)?;
+    let mut statements = Vec::new(alloc);
+    for (source, place) in sources.iter().zip(places) {
+        let line = *source as usize;
+        if let Some(said) = lines.get(line.saturating_sub(1)) {
+            let statement = said.trim_ascii_start();
+            statements.push(Statement {
+                at: *place as usize,
+                line,
+                column: said
+                    .len()
+                    .saturating_sub(statement.len())
+                    .saturating_add(1),
+                text: statement.trim_ascii_end(),
+            })?;
+        }
+    }
+    Ok(statements)
+}
+
+/// The names of a text in occam, as names of workspace words.
+fn names_compiled<'a>(
+    alloc: Global,
+    located: &[Located<'a>],
+) -> Result<Vec<Named<'a>>, Failure> {
+    let mut words = Vec::new(alloc);
+    for Located {
+        name,
+        first,
+        words: size,
+    } in located {
+        words.push(Named {
+            first: *first as usize,
+            words: *size as usize,
+            name: *name,
+        })?;
+    }
+    Ok(words)
 }
 
 /// The labels of a text, each at its address.
@@ -102,6 +150,22 @@ impl<'a> Notes<'a> {
             statements: statements_of(alloc, text, &source.positions, &places)?,
             labels: labels_of(alloc, source, &places)?,
             words: words_of(alloc, source)?,
+        })
+    }
+
+    /// What the text of an input, in occam, says of its code.
+    pub fn of_occam(
+        alloc: Global,
+        input: &Input,
+        text: &'a str,
+        compiled: &CompiledText<'a>,
+    ) -> Result<Notes<'a>, Failure> {
+        let places = places_of(alloc, &compiled.program)?;
+        Ok(Notes {
+            name: format!(in alloc; "{input}")?,
+            statements: lines_compiled(alloc, text, &compiled.sources, &places)?,
+            labels: Vec::new(alloc),
+            words: names_compiled(alloc, &compiled.located)?,
         })
     }
 

@@ -6,6 +6,7 @@ use crate::hints::{Hint, hint_of};
 use crate::input::Input;
 use std::alloc::{AllocError, Global};
 use std::io::Write;
+use tpw_occam::Message;
 use tpw_source::{Reported, Spot, write_report};
 use tpw_text::{Position, SourceFault, TextFault, read_source};
 
@@ -212,6 +213,24 @@ fn write_faults<E: Write>(
     Ok(())
 }
 
+/// Writes messages at their places of a text.
+fn write_messages<E: Write>(errors: &mut E, name: &str, text: &str, messages: &[Message]) {
+    for Message { span, text: message } in messages {
+        let fault = Reported {
+            spot: Spot {
+                line: span.line,
+                column: span.column,
+                width: span.width,
+            },
+            message: message.as_str(),
+            expected: None,
+            help: None,
+            nearest: None,
+        };
+        let _ = write_report(name, text, &fault, errors);
+    }
+}
+
 /// Reports what is wrong with a text of a name, if it is at a place of it. Returns whether it is.
 fn write_placed<E: Write>(
     alloc: Global,
@@ -233,6 +252,7 @@ fn write_placed<E: Write>(
         InputFault::Field(position, range) => {
             write_at(errors, name, text, *position, range, Hint::NONE);
         }
+        InputFault::Occam(messages) => write_messages(errors, name, text, messages),
         InputFault::Unread(_)
         | InputFault::Empty
         | InputFault::ByteOrderMark
@@ -242,6 +262,7 @@ fn write_placed<E: Write>(
         | InputFault::Image(_)
         | InputFault::NotUtf8(_)
         | InputFault::Assembly(_)
+        | InputFault::Compiler(_)
         | InputFault::Packets(_) => return Ok(false),
     }
     Ok(true)

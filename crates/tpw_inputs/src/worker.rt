@@ -1,4 +1,4 @@
-//! Workers: images, and what texts say of their code.
+//! Workers: images, and what texts say of their code and mean.
 
 ghost use Rattle.std.specs.Prelude.{◌≤◌, IfOk};
 
@@ -6,18 +6,22 @@ use crate::failure::Failure;
 use crate::fault::InputFault;
 use crate::fields::assembled_text;
 use crate::input::{Input, TextFault, bytes_of, utf8};
+use crate::language::Language;
 use crate::notes::Notes;
+use crate::occam::{Occam, read_occam};
 use crate::traps::note_source;
 use std::alloc::Global;
 use std::io::Write;
 use tp_image::{Image, read_image};
+use tpw_occam_core::Worker as Meaning;
 use tpw_source::SourceText;
 use tpw_text::read_source;
 
-/// A worker: the bytes of its image, accepted or not, and what its text says of its code.
+/// A worker: the bytes of its image, accepted or not, what its text says of its code, and in occam what it means.
 #[derive(Drop)]
 pub struct Worker<'a> {
     pub bytes: Vec<u8>,
+    pub meaning: Option<Meaning>,
     notes: Option<Notes<'a>>,
 }
 
@@ -51,12 +55,33 @@ fn read_assembly<'a, E: Write>(
     let notes = Notes::new(alloc, input, text, &source)?;
     Ok(Worker {
         bytes,
+        meaning: None,
         notes: Some(notes),
     })
 }
 
-/// Reads a worker: an image in hexadecimal, or else assembly text, whose notes go to `errors`.
-pub fn read_worker<'a, E: Write>(
+/// The worker that a text in occam says.
+fn read_compiled<'a, E: Write>(
+    alloc: Global,
+    errors: &mut E,
+    input: &Input,
+    text: &'a [u8],
+) -> Result<Worker<'a>, Failure> {
+    let Occam {
+        text,
+        compiled,
+        bytes,
+    } = read_occam(alloc, errors, input, text)?;
+    let notes = Notes::of_occam(alloc, input, text, &compiled)?;
+    Ok(Worker {
+        bytes,
+        meaning: Some(compiled.worker),
+        notes: Some(notes),
+    })
+}
+
+/// The worker of an image in hexadecimal, or else of assembly text.
+fn read_assembled<'a, E: Write>(
     alloc: Global,
     errors: &mut E,
     input: &Input,
@@ -66,10 +91,28 @@ pub fn read_worker<'a, E: Write>(
         return Err(Failure::Input(InputFault::Empty));
     }
     match bytes_of(alloc, text) {
-        Ok(bytes) => Ok(Worker { bytes, notes: None }),
+        Ok(bytes) => Ok(Worker {
+            bytes,
+            meaning: None,
+            notes: None,
+        }),
         Err(TextFault::Memory) => Err(Failure::Memory),
         Err(TextFault::NotADigit(_) | TextFault::HalfAByte(_)) => {
             read_assembly(alloc, errors, input, utf8(text)?)
         }
+    }
+}
+
+/// Reads a worker: a text in occam, or an image in hexadecimal or else assembly text. Its notes go to `errors`.
+pub fn read_worker<'a, E: Write>(
+    alloc: Global,
+    errors: &mut E,
+    input: &Input,
+    language: Language,
+    text: &'a [u8],
+) -> Result<Worker<'a>, Failure> {
+    match language {
+        Language::Assembly => read_assembled(alloc, errors, input, text),
+        Language::Occam => read_compiled(alloc, errors, input, text),
     }
 }

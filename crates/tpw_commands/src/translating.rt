@@ -1,0 +1,80 @@
+//! The command `occam`: the assembly text that a text in occam becomes.
+
+use crate::assembling::write_line;
+use crate::ending::Outcome;
+use std::alloc::{AllocError, Global};
+use std::io::Write;
+use tpw_inputs::{Failure, Occam};
+use tpw_occam::Located;
+use tpw_text::{Position, read_source, source_text};
+
+/// The workspace word that is the local word 0.
+const START: u32 = 5;
+
+/// Appends the names of local words, each a comment.
+fn put_names(text: &mut String, located: &[Located<'_>]) -> Result<(), AllocError> {
+    for Located { name, first, words } in located {
+        let local = first.saturating_sub(START);
+        if *words == 1 {
+            write!(text, "-- local {local}: {name}\n")?;
+        } else {
+            let last = local.saturating_add(words.saturating_sub(1));
+            write!(text, "-- locals {local} to {last}: {name}\n")?;
+        }
+    }
+    Ok(())
+}
+
+/// Appends a line of a text in occam, as a comment.
+fn put_source(text: &mut String, lines: &[&str], number: u32) -> Result<(), AllocError> {
+    let line = lines
+        .get((number as usize).saturating_sub(1))
+        .unwrap_or(&"");
+    let said = line.trim_ascii();
+    write!(text, "-- line {number}: {said}\n")
+}
+
+/// Appends an assembly text, and before its statements, which have positions, the lines of a text that they come from.
+fn put_statements(
+    text: &mut String,
+    assembly: &str,
+    positions: &[Position],
+    lines: &[&str],
+    sources: &[u32],
+) -> Result<(), AllocError> {
+    let mut statements = positions.iter().zip(sources).peekable();
+    let mut source = 0u32;
+    for (i, line) in assembly.lines().enumerate() {
+        if let Some((_, from)) = statements.next_if(|(place, _)| place.line == i.saturating_add(1)) {
+            if *from != source {
+                put_source(text, lines, *from)?;
+                source = *from;
+            }
+        }
+        text.push_str(line)?;
+        text.push_str("\n")?;
+    }
+    Ok(())
+}
+
+/// Writes the assembly text that a text in occam becomes, each statement behind the line that it comes from.
+pub fn translate<W: Write>(
+    alloc: Global,
+    occam: &Occam<'_>,
+    writer: &mut W,
+) -> Result<Outcome, Failure> {
+    let compiled = &occam.compiled;
+    let assembly = source_text(alloc, &compiled.program, None)?;
+    let source = read_source(alloc, assembly.as_str())?;
+    let lines: Vec<&str> = occam.text.lines().collect(alloc)?;
+    let mut text = String::new(alloc);
+    put_names(&mut text, &compiled.located)?;
+    put_statements(
+        &mut text,
+        assembly.as_str(),
+        &source.positions,
+        &lines,
+        &compiled.sources,
+    )?;
+    write_line(writer, text.as_str())
+}

@@ -1,0 +1,68 @@
+//! Texts in occam whose workers would have too large a budget.
+
+use crate::failure::Failure;
+use std::alloc::Global;
+use tp_accept::{Counted, costs};
+use tp_decode::{DecodeFault, decode};
+use tp_image::{Image, read_image};
+use tpw_occam::{CompiledText, Message, message_at};
+
+/// A replicated SEQ: the line that it begins in, its turns, and the bytes of a turn.
+#[derive(Clone, Copy)]
+struct Share {
+    line: u32,
+    turns: u32,
+    turn: u64,
+}
+
+impl Share {
+    /// The bytes of all its turns.
+    fn bytes(self) -> u64 {
+        self.turn.saturating_mul(u64::from(self.turns))
+    }
+}
+
+/// The replicated SEQ that has the largest share of the costs of an image. Its loops have these lines.
+fn largest_share(image: &Image, lines: &[u32], costs: &[Counted]) -> Option<Share> {
+    let mut largest: Option<Share> = None;
+    for (row, line) in image.loops.iter().zip(lines) {
+        let share = Share {
+            line: *line,
+            turns: row.count,
+            turn: costs.get(row.head as usize).map_or(0, |cost| cost.left),
+        };
+        let is_larger = match largest {
+            Some(other) => share.bytes() > other.bytes(),
+            None => true,
+        };
+        if is_larger {
+            largest = Some(share);
+        }
+    }
+    largest
+}
+
+/// What is said of a text whose image has these bytes and too large a budget: at the replicated SEQ with the largest
+/// share. Nothing is, where there is none.
+pub fn over_budget(
+    alloc: Global,
+    text: &str,
+    compiled: &CompiledText<'_>,
+    bytes: &[u8],
+) -> Result<Option<Message>, Failure> {
+    let image = read_image(alloc, bytes)?;
+    let costs = match decode(alloc, &image.code) {
+        Ok(listing) => costs(alloc, &image, &listing)?,
+        Err(DecodeFault::Memory) => return Err(Failure::Memory),
+        Err(DecodeFault::Refused { .. }) => return Ok(None),
+    };
+    let Some(share) = largest_share(&image, &compiled.loop_lines, &costs) else {
+        return Ok(None);
+    };
+    let Share { line, turns, turn } = share;
+    let all = costs.first().map_or(0, |first| first.whole);
+    let said = format!(in alloc;
+        "a budget of {all} instruction bytes, and 16,777,216 are the most: this SEQ has the largest share, {turns} turns of {turn}"
+    )?;
+    Ok(Some(message_at(text, line as usize, said)))
+}

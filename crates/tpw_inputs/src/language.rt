@@ -1,0 +1,24 @@
+//! What a worker is written in.
+
+use crate::input::Input;
+
+/// What a worker is written in.
+#[derive(Clone, Copy, Debug, PartialEq, Eq)]
+pub enum Language {
+    /// Assembly text, or an image in hexadecimal.
+    Assembly,
+    Occam,
+}
+
+/// What the names of files end with whose texts are in occam.
+const OCCAM: &str = ".occ";
+
+impl Language {
+    /// That of an input, by its name.
+    pub fn of(input: &Input) -> Language {
+        match input {
+            Input::File(name) if name.as_str().ends_with(OCCAM) => Language::Occam,
+            Input::File(_) | Input::Standard => Language::Assembly,
+        }
+    }
+}

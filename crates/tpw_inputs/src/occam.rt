@@ -1,0 +1,101 @@
+//! Workers in occam: their texts compiled to images, which the verifier judges.
+
+ghost use Rattle.std.specs.Prelude.{◌≡◌, ◌≤◌, IfOk, true};
+ghost use Rattle.tpw_occam_core.specs.Sound.{is_sound};
+
+use crate::budget::over_budget;
+use crate::failure::Failure;
+use crate::fault::{CompilerFault, InputFault};
+use crate::input::{Input, utf8};
+use std::alloc::Global;
+use std::io::Write;
+use tp_accept::{Refusal, RefusalCode, accept};
+use tp_image::{Image, read_image, write_image};
+use tpw_asm::{AssemblyFault, Program, assemble};
+use tpw_occam::{CompiledText, Defect, Message, OccamFault, compile_text};
+
+/// A text in occam, what it is compiled to, and the bytes of its image, which is accepted.
+#[derive(Drop)]
+pub struct Occam<'a> {
+    pub text: &'a str,
+    pub compiled: CompiledText<'a>,
+    pub bytes: Vec<u8>,
+}
+
+impl Occam<'_> {
+    /// The image that its bytes say.
+    pub fn image(&self, alloc: Global) -> Result<Image, Failure>
+        ensures packet { IfOk result (λ image. image.packet ≤ 64) }
+        ensures output { IfOk result (λ image. image.result ≤ 64) }
+    {
+        Ok(read_image(alloc, &self.bytes)?)
+    }
+}
+
+/// Writes what may not be meant in the text of an input.
+fn write_notes<E: Write>(errors: &mut E, input: &Input, notes: &[Message]) {
+    for note in notes {
+        let line = note.span.line;
+        let column = note.span.column;
+        let text = note.text.as_str();
+        let _ = write!(errors, "{input}:{line}:{column}: note: {text}\n");
+    }
+}
+
+/// The bytes of the image of a program that was compiled.
+fn image_of(alloc: Global, program: &Program) -> Result<Vec<u8>, Failure> {
+    match assemble(alloc, program) {
+        Ok(image) => Ok(write_image(alloc, &image)?),
+        Err(AssemblyFault::Memory) => Err(Failure::Memory),
+        Err(fault) => Err(Failure::from(OccamFault::Compiler(Defect::Program(fault)))),
+    }
+}
+
+/// Refuses a text whose image the verifier refuses: of one whose budget is too large that is the text's fault, else the
+/// compiler's.
+fn check_accepted(
+    alloc: Global,
+    text: &str,
+    compiled: &CompiledText<'_>,
+    bytes: &[u8],
+) -> Result<(), Failure> {
+    let copy = Vec::from_slice(alloc, bytes)?;
+    let (code, place) = match accept(alloc, copy) {
+        Ok(_) => return Ok(()),
+        Err(Refusal::Memory) => return Err(Failure::Memory),
+        Err(Refusal::Refused { code, place }) => (code, place),
+    };
+    if code == RefusalCode::B1 {
+        if let Some(message) = over_budget(alloc, text, compiled, bytes)? {
+            let mut messages = Vec::new(alloc);
+            messages.push(message)?;
+            return Err(Failure::Input(InputFault::Occam(messages)));
+        }
+    }
+    let fault = CompilerFault::Refused { code, place };
+    Err(Failure::Input(InputFault::Compiler(fault)))
+}
+
+/// Reads a worker in occam. What may not be meant in it goes to `errors`.
+pub fn read_occam<'a, E: Write>(
+    alloc: Global,
+    errors: &mut E,
+    input: &Input,
+    text: &'a [u8],
+) -> Result<Occam<'a>, Failure>
+    ensures { IfOk result (λ occam. is_sound occam.compiled.worker ≡ true) }
+{
+    if text.trim_ascii().is_empty() {
+        return Err(Failure::Input(InputFault::Empty));
+    }
+    let text = utf8(text)?;
+    let compiled = compile_text(alloc, text)?;
+    write_notes(errors, input, &compiled.notes);
+    let bytes = image_of(alloc, &compiled.program)?;
+    check_accepted(alloc, text, &compiled, &bytes)?;
+    Ok(Occam {
+        text,
+        compiled,
+        bytes,
+    })
+}

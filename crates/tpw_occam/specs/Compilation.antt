@@ -1,0 +1,30 @@
+-- What compiling a text gives: a worker that is sound with its program, or messages whose places lie in the text.
+use Rattle.std.specs.Prelude.{◌≡◌, ◌≤◌, ℕ, true, List, Result, Ok, Err, All, Unit, length}
+use Rattle.tpw_occam_core.specs.Sound.{is_sound}
+use Rattle.tpw_occam_code.specs.Program.{HasLayout}
+use Rattle.tpw_occam_syntax.specs.Places.{LiesIn}
+use Rattle.tpw_occam.specs.declared.message.Message.{Message}
+use Rattle.tpw_occam.specs.declared.compiling.CompiledText.{CompiledText}
+use Rattle.tpw_occam.specs.declared.fault.OccamFault.{OccamFault}
+use Rattle.tpw_occam.specs.declared.fault.OccamFault.TheVariants.{Refused, Compiler, Memory}
+
+-- messages lie in a text
+abbrev pub ArePlaced : List ℕ → List Message → Type 0
+ArePlaced text messages = All (λ m. LiesIn text m.span) messages
+
+-- a worker that is sound, a program that has a layout, and notes whose places lie in the text
+pub record IsCompiled (text : List ℕ) (made : CompiledText) : Type 0 where
+  pub sound : is_sound made.worker ≡ true
+  pub layout : HasLayout made.program
+  pub placed : ArePlaced text made.notes.items
+
+-- one message to twenty, whose places lie in the text; or a fault of the compiler, or no memory
+abbrev pub IsRefusal : List ℕ → OccamFault → Type 0
+IsRefusal text (Refused messages) =
+    (1 ≤ length messages.items) × (length messages.items ≤ 20) × ArePlaced text messages.items
+IsRefusal text (Compiler defect) = Unit {0}
+IsRefusal text Memory = Unit {0}
+
+abbrev pub IsCompilation : List ℕ → Result CompiledText OccamFault → Type 0
+IsCompilation text (Ok made) = IsCompiled text made
+IsCompilation text (Err fault) = IsRefusal text fault

@@ -1,0 +1,123 @@
+//! From a text to its program.
+
+ghost use Rattle.std.specs.Prelude.{◌≡◌, ◌≤◌, All, IfErr, IfOk, length, true};
+ghost use Rattle.tpw_occam.specs.Compilation.{IsCompilation, IsRefusal};
+ghost use Rattle.tpw_occam_core.specs.Sound.{is_sound};
+ghost use Rattle.tpw_occam_syntax.specs.Places.{LiesIn};
+
+use crate::fault::{Defect, OccamFault};
+use crate::located::{Located, located_in};
+use crate::message::{Message, message_at, messages_of, notes_of};
+use std::alloc::Global;
+use tpw_asm::Program;
+use tpw_occam_code::{CodeFault, Compiled, compile};
+use tpw_occam_core::Worker;
+use tpw_occam_elaboration::{Elaborated, ElaborationError, Fault, FaultKind, elaborate};
+use tpw_occam_syntax::parse;
+
+/// A text, compiled.
+#[derive(Debug, Drop)]
+pub struct CompiledText<'t> {
+    /// What the text means.
+    pub worker: Worker,
+    pub program: Program,
+    /// The line of the text that each line of the program comes from.
+    pub sources: Vec<u32>,
+    /// The line of the text that each loop of the program comes from.
+    pub loop_lines: Vec<u32>,
+    /// The names of variables and arrays, with their words of the workspace.
+    pub located: Vec<Located<'t>>,
+    /// What may not be meant.
+    pub notes: Vec<Message>,
+}
+
+/// Why a text is refused whose faults are these.
+fn refused(alloc: Global, text: &str, faults: &[Fault<'_>]) -> OccamFault
+    ensures { IsRefusal text.now result }
+{
+    if faults.iter().any(|fault| fault.kind == FaultKind::Compiler) {
+        return OccamFault::Compiler(Defect::Unsound);
+    }
+    match messages_of(alloc, text, faults) {
+        Ok(messages) if messages.is_empty() => OccamFault::Compiler(Defect::Unsound),
+        Ok(messages) => OccamFault::Refused(messages),
+        Err(_) => OccamFault::Memory,
+    }
+}
+
+/// Why a text is refused whose code goes beyond a limit at a line.
+fn beyond(alloc: Global, text: &str, line: u32, fault: CodeFault) -> OccamFault
+    ensures { IsRefusal text.now result }
+{
+    let Ok(said) = format!(in alloc; "{fault}") else {
+        return OccamFault::Memory;
+    };
+    let mut messages = Vec::new(alloc);
+    match messages.push(message_at(text, line as usize, said)) {
+        Ok(()) => OccamFault::Refused(messages),
+        Err(_) => OccamFault::Memory,
+    }
+}
+
+/// Why a text has no program that has a worker.
+fn without_code(alloc: Global, text: &str, fault: CodeFault) -> OccamFault
+    ensures { IsRefusal text.now result }
+{
+    match fault {
+        CodeFault::Loops { line }
+        | CodeFault::Depth { line }
+        | CodeFault::Workspace { line }
+        | CodeFault::Code { line } => beyond(alloc, text, line, fault),
+        CodeFault::Assembly(fault) => OccamFault::Compiler(Defect::Program(fault)),
+        CodeFault::Memory => OccamFault::Memory,
+    }
+}
+
+/// The program of a worker that a text says.
+fn compiled<'t>(
+    alloc: Global,
+    text: &'t str,
+    elaborated: Elaborated<'_>,
+) -> Result<CompiledText<'t>, OccamFault>
+    requires { is_sound elaborated.worker ≡ true }
+    ensures { IsCompilation text.now result }
+{
+    let Elaborated {
+        worker,
+        variables,
+        arrays,
+        notes,
+    } = elaborated;
+    match compile(alloc, &worker) {
+        Ok(Compiled {
+            program,
+            sources,
+            loop_lines,
+            placed,
+        }) => {
+            let located = located_in(alloc, text, &placed, &variables, &arrays)?;
+            let notes = notes_of(alloc, text, &notes)?;
+            Ok(CompiledText {
+                worker,
+                program,
+                sources,
+                loop_lines,
+                located,
+                notes,
+            })
+        }
+        Err(fault) => Err(without_code(alloc, text, fault)),
+    }
+}
+
+/// The program of a text with what it means and what may not be meant, or why it has none.
+pub fn compile_text<'t>(alloc: Global, text: &'t str) -> Result<CompiledText<'t>, OccamFault>
+    ensures { IsCompilation text.now result }
+{
+    let source = parse(alloc, text)?;
+    match elaborate(alloc, text, &source) {
+        Ok(elaborated) => compiled(alloc, text, elaborated),
+        Err(ElaborationError::Faults(faults)) => Err(refused(alloc, text, &faults)),
+        Err(ElaborationError::Memory) => Err(OccamFault::Memory),
+    }
+}

@@ -1,0 +1,40 @@
+//! Why a text has no program.
+
+ghost use Rattle.std.specs.Prelude.{◌≡◌};
+
+use crate::message::Message;
+use std::alloc::AllocError;
+use thiserror::Error;
+use tpw_asm::AssemblyFault;
+
+/// What the compiler does wrong with a text. None is known.
+#[derive(Clone, Copy, Debug, PartialEq, Eq, Error)]
+pub enum Defect {
+    /// What the text says breaks a rule of the language's core.
+    #[error("what it makes of the text is no sound worker")]
+    Unsound,
+    /// The program that is made has no image.
+    #[error("the program that it makes has no image: {0}")]
+    Program(AssemblyFault),
+}
+
+/// Why a text has no program.
+#[derive(Debug, Drop)]
+pub enum OccamFault {
+    /// What is wrong with the text, by places: one message to twenty.
+    Refused(Vec<Message>),
+    /// A fault of the compiler.
+    Compiler(Defect),
+    /// A growth was refused.
+    Memory,
+}
+
+impl From<AllocError> for OccamFault {
+    ghost use Rattle.tpw_occam.specs.declared.fault.OccamFault.TheVariants.{Memory};
+
+    ghost from_gives = { λ _ e. e ≡ Memory };
+
+    fn from(_: AllocError) -> Self {
+        OccamFault::Memory
+    }
+}
