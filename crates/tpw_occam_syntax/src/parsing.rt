@@ -1,7 +1,7 @@
 //! Declarations and processes, read from nested lines.
 
 ghost use Rattle.std.specs.Prelude.{◌≤◌, All, IfOk, vec_len};
-ghost use Rattle.tpw_occam_syntax.specs.Places.{LiesIn};
+ghost use Rattle.tpw_occam_syntax.specs.Places.{LiesIn, AreInOrder};
 
 use crate::expression::Expression;
 use crate::fault::{Fault, FaultKind, Faults, Wanted};
@@ -463,6 +463,7 @@ pub struct Source<'a> {
 pub fn parse<'a>(alloc: Global, text: &'a str) -> Result<Source<'a>, AllocError>
     ensures few { IfOk result (λ s. vec_len s.faults ≤ 20) }
     ensures placed { IfOk result (λ s. All (λ f. LiesIn text.now f.span) s.faults.items) }
+    ensures ordered { IfOk result (λ s. AreInOrder s.faults.items) }
 {
     let Lines {
         blocks,
