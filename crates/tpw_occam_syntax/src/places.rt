@@ -53,7 +53,8 @@ fn first() -> Reached
     }
 }
 
-/// The first place of a text, from one on, that is not in front of a span's; in the span's line, at most that line's end.
+/// The first place of a text, from one on, that is not in front of a span's; in the span's line, at most that line's
+/// end.
 fn reach(text: &[u8], from: Reached, span: Span) -> Reached
     requires { IsReached text.now from.bytes from.line from.column }
     ensures reached { IsReached text.now result.bytes result.line result.column }
@@ -113,7 +114,8 @@ fn stretch(text: &[u8], from: Reached, most: usize) -> Span
     }
 }
 
-/// A place in a text: the one given, or else the nearest that is in the text.
+/// A stretch of a text: the one given. Where it goes beyond its line's end it is cut off there; where it begins beyond
+/// that, or beyond the text, it is the end itself, with no width. Takes time as long as the text in front of it.
 pub fn placed(text: &str, span: Span) -> Span
     ensures placed { LiesIn text.now result }
     ensures kept { LiesIn text.now span → result ≡ span }
