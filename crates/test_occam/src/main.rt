@@ -1,7 +1,8 @@
 //! Workers in occam as texts, and packets with the answers that an interpreter of the language gives.
 //!
-//! Reads them from standard input, as README.md describes. Each text is compiled, the verifier accepts its image, and each packet is
-//! evaluated by what the text means and run on the machine. Prints what does not agree, up to twenty lines, and how many agree.
+//! Reads them from standard input, as README.md describes. Each text is compiled, the verifier accepts its image, and
+//! each packet is evaluated by what the text means and run on the machine. Prints what does not agree, up to twenty
+//! lines, and how many agree.
 #![tactic(auto)]
 
 mod answers;
@@ -67,7 +68,10 @@ impl Current {
 
 fn main(rt: HostRuntime) -> Result<()> {
     let alloc = rt.alloc();
-    let mut counts = Counts { agree: 0, differ: 0 };
+    let mut counts = Counts {
+        agree: 0,
+        differ: 0,
+    };
     let mut current = Current::new(alloc, "")?;
     for line in BufReader::new(alloc, rt.reader())?.lines(alloc) {
         let line = line?;

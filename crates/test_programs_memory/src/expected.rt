@@ -39,7 +39,7 @@ pub struct Case<'a> {
 }
 
 /// The words of a command line are these at most.
-pub const CASES: [Case<'_>; 7] = [
+pub const CASES: [Case<'_>; 10] = [
     Case {
         words: &["tpw", "asm", "--line", "fib"],
         input: Text::Lines(FIBONACCI_TEXT),
@@ -84,7 +84,97 @@ pub const CASES: [Case<'_>; 7] = [
         expected: Text::Lines(KEPT_ADDRESS_EXPLAINED),
         status: 1,
     },
+    Case {
+        words: &["tpw", "occam"],
+        input: Text::Lines(RISE),
+        expected: Text::Lines(RISE_IN_ASSEMBLY),
+        status: 0,
+    },
+    Case {
+        words: &["tpw", "eval", "--words", "41"],
+        input: Text::Lines(RISE),
+        expected: Text::Lines("0  flag 0  42\npackets 1, lost 0\n"),
+        status: 0,
+    },
+    Case {
+        words: &[
+            "tpw",
+            "run",
+            "--occam",
+            "--check",
+            "--words",
+            "41",
+            "--members",
+            "1",
+        ],
+        input: Text::Lines(RISE),
+        expected: Text::Lines(
+            "packets 1, lost 0, steps 30 to 30 of 30\nchecked 1, each is what the text means\n",
+        ),
+        status: 0,
+    },
 ];
+
+/// A worker in occam.
+const RISE: &str = "\
+PROC rise (CHAN OF INT packet, CHAN OF INT result)
+  INT x:
+  SEQ
+    packet ? x
+    SEQ i = 0 FOR 2
+      x := x + i
+    result ! x
+:
+";
+
+const RISE_IN_ASSEMBLY: &str = "\
+-- local 0: x
+-- local 1: i
+version 2
+workspace 10
+start 5
+packet 1
+result 1
+init 0: #0
+init 1: #0
+init 2: #0
+init 3: #0
+init 4: #0
+init 5: #0
+init 6: #0
+init 7: #0
+init 8: #80000010
+init 9: #80000000
+loop head L8 lend L14 control 6 turns 2 start 0
+-- line 1: PROC rise (CHAN OF INT packet, CHAN OF INT result)
+        ldlp 0
+        ldl 3
+        ldc 4
+        in
+-- line 5: SEQ i = 0 FOR 2
+        ldc 0
+        stl 1
+        ldc 2
+        stl 2
+L8:
+-- line 6: x := x + i
+        ldl 0
+        ldl 1
+        add
+        stl 0
+-- line 5: SEQ i = 0 FOR 2
+        ldlp 1
+        ldc L15 - L8
+L14:
+        lend
+L15:
+-- line 1: PROC rise (CHAN OF INT packet, CHAN OF INT result)
+        ldlp 0
+        ldl 4
+        ldc 4
+        out
+        stopp
+";
 
 /// The worker of docs/WORKERS.md, whose image that page works out.
 const FIBONACCI_TEXT: &str =

@@ -14,6 +14,8 @@ mod list;
 #[cfg(test)]
 mod notes;
 #[cfg(test)]
+mod occam;
+#[cfg(test)]
 mod packets;
 #[cfg(test)]
 mod profile;

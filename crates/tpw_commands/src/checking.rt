@@ -17,7 +17,9 @@ fn split_packet(ran: &str) -> (&str, &str, &str) {
     if !rest.starts_with(TRACE) {
         return (line, "", rest);
     }
-    let end = rest.find('\n').map_or(rest.len(), |at| at.saturating_add(1));
+    let end = rest
+        .find('\n')
+        .map_or(rest.len(), |at| at.saturating_add(1));
     match rest.split_at_checked(end) {
         Some((trace, rest)) => (line, trace, rest),
         None => (line, rest, ""),
@@ -27,9 +29,9 @@ fn split_packet(ran: &str) -> (&str, &str, &str) {
 /// The line of a packet without its steps, of so large a budget. That of a packet that is lost has none.
 fn without_steps(alloc: Global, line: &str, budget: u32) -> Result<String, AllocError> {
     let between = format!(in alloc; " of {budget} ")?;
-    let parts = line
-        .split_once(between.as_str())
-        .and_then(|(head, words)| head.rsplit_once("  ").map(|(flag, _)| (flag, words)));
+    let parts = line.split_once(between.as_str()).and_then(|(head, words)| head
+        .rsplit_once("  ")
+        .map(|(flag, _)| (flag, words)));
     match parts {
         Some((flag, words)) => format!(in alloc; "{flag} {words}"),
         None => String::from_str(alloc, line),
@@ -69,8 +71,9 @@ impl Checked<'_> {
         if came.as_bytes() == meant.as_slice() {
             return Ok((false, rest));
         }
-        let written = write!(writer, "{line}\n{trace}  the text means\n")
-            .and_then(|()| writer.write_all(&meant));
+        let written = write!(writer, "{line}\n{trace}  the text means\n").and_then(
+            |()| writer.write_all(&meant),
+        );
         match written {
             Ok(()) => Ok((true, rest)),
             Err(_) => Err(Failure::Write),
@@ -107,7 +110,7 @@ pub fn write_checked<W: Write>(
     } else {
         write!(
             writer,
-            "checked {packets}, {others} other than the text means: a fault of the compiler; please report it, with the text\n"
+            "checked {packets}, {others} differ: a fault of the compiler; please report it, with the text\n"
         )
     };
     match written.and_then(|()| writer.flush()) {

@@ -116,7 +116,7 @@ const NUMBER: &str = "number";
 const STEP_LINES: &str = "\
 Reads an image as hexadecimal, one line, or a worker in occam or as assembly text. Packets are as those of `run`.
 A PLACE is an address, as 36 or 0x24, or a count of steps, as +100; in a text also a label, or a line, as line:37.
-WORDS are names of local words, buf[2] for one word of a name, or w5 for a word by its number, with commas between.
+WORDS are names of words or variables, buf[2] for one word of a name, or w5 for a word by its number, with commas between.
 Status 0: the worker stopped, or was left at --until. Status 1: it is stuck, or does not end, or what is read is no image.
 docs/WORKERS.md reads a run.";
 

@@ -19,7 +19,7 @@ use tpw_run_text::{Expected, Form, Tally, write_expected};
 
 /// Whether what is meant by a packet is the result that is expected.
 fn is_expected(meant: &Meant, expected: Option<&Expected>) -> bool {
-    match (&meant.0, expected) {
+    match (&meant.given, expected) {
         (Some(given), Some(wanted)) => {
             given.result.as_slice() == wanted.message.as_slice() && given.flag == wanted.error
         }
@@ -29,7 +29,7 @@ fn is_expected(meant: &Meant, expected: Option<&Expected>) -> bool {
 
 /// Counts what is meant by the packet of a number, and whether that is another result than the one that is expected.
 fn count(tally: &mut Tally, meant: &Meant, number: usize, is_other: bool) {
-    match &meant.0 {
+    match &meant.given {
         Some(_) => tally.done = tally.done.saturating_add(1),
         None => tally.lost = tally.lost.saturating_add(1),
     }
@@ -51,7 +51,7 @@ fn write_meant(
     match form {
         Form::Lines(style) => meant.write_lines(out, style, number)?,
         Form::Raw => {
-            if let Some(given) = &meant.0 {
+            if let Some(given) = &meant.given {
                 out.extend_from_slice(&given.result)?;
             }
         }

@@ -108,7 +108,15 @@ where
     let form = asked.showing.form(&prepared.expected);
     let budget = Some(prepared.image.budget());
     let is_terminal = terminal.is_terminal;
-    let tally = run_tallied(rt, alloc, prepared, asked.members, form, writer, is_terminal)?;
+    let tally = run_tallied(
+        rt,
+        alloc,
+        prepared,
+        asked.members,
+        form,
+        writer,
+        is_terminal,
+    )?;
     match form {
         // A picture or a pipe has the results alone.
         Form::Raw if tally.lost == 0 => {}
@@ -143,7 +151,15 @@ where
     let budget = prepared.image.budget();
     let is_terminal = terminal.is_terminal;
     let mut ran = Vec::new(alloc);
-    let tally = run_tallied(rt, alloc, prepared, asked.members, form, &mut ran, is_terminal)?;
+    let tally = run_tallied(
+        rt,
+        alloc,
+        prepared,
+        asked.members,
+        form,
+        &mut ran,
+        is_terminal,
+    )?;
     let checked = Checked {
         worker: meaning,
         packets: &prepared.packets,

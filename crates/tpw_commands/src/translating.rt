@@ -8,13 +8,10 @@ use tpw_inputs::{Failure, Occam};
 use tpw_occam::Located;
 use tpw_text::{Position, read_source, source_text};
 
-/// The workspace word that is the local word 0.
-const START: u32 = 5;
-
-/// Appends the names of local words, each a comment.
-fn put_names(text: &mut String, located: &[Located<'_>]) -> Result<(), AllocError> {
+/// Appends the names of local words, each a comment. The local word 0 is this word of the workspace.
+fn put_names(text: &mut String, located: &[Located<'_>], start: u32) -> Result<(), AllocError> {
     for Located { name, first, words } in located {
-        let local = first.saturating_sub(START);
+        let local = first.saturating_sub(start);
         if *words == 1 {
             write!(text, "-- local {local}: {name}\n")?;
         } else {
@@ -45,7 +42,9 @@ fn put_statements(
     let mut statements = positions.iter().zip(sources).peekable();
     let mut source = 0u32;
     for (i, line) in assembly.lines().enumerate() {
-        if let Some((_, from)) = statements.next_if(|(place, _)| place.line == i.saturating_add(1)) {
+        if let Some((_, from)) = statements.next_if(|(place, _)| place.line
+            == i.saturating_add(1))
+        {
             if *from != source {
                 put_source(text, lines, *from)?;
                 source = *from;
@@ -68,7 +67,7 @@ pub fn translate<W: Write>(
     let source = read_source(alloc, assembly.as_str())?;
     let lines: Vec<&str> = occam.text.lines().collect(alloc)?;
     let mut text = String::new(alloc);
-    put_names(&mut text, &compiled.located)?;
+    put_names(&mut text, &compiled.located, compiled.program.start)?;
     put_statements(
         &mut text,
         assembly.as_str(),

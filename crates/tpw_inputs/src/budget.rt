@@ -2,6 +2,7 @@
 
 use crate::failure::Failure;
 use std::alloc::Global;
+use std::fmt;
 use tp_accept::{Counted, costs};
 use tp_decode::{DecodeFault, decode};
 use tp_image::{Image, read_image};
@@ -19,6 +20,14 @@ impl Share {
     /// The bytes of all its turns.
     fn bytes(self) -> u64 {
         self.turn.saturating_mul(u64::from(self.turns))
+    }
+}
+
+impl fmt::Display for Share {
+    fn fmt<W: fmt::Write>(&self, f: &mut fmt::Formatter<W>) -> fmt::Result {
+        let turns = self.turns;
+        let turn = self.turn;
+        write!(f, "{turns} turns of {turn} bytes")
     }
 }
 
@@ -59,10 +68,9 @@ pub fn over_budget(
     let Some(share) = largest_share(&image, &compiled.loop_lines, &costs) else {
         return Ok(None);
     };
-    let Share { line, turns, turn } = share;
     let all = costs.first().map_or(0, |first| first.whole);
     let said = format!(in alloc;
-        "a budget of {all} instruction bytes, and 16,777,216 are the most: this SEQ has the largest share, {turns} turns of {turn}"
+        "a budget of {all} instruction bytes, of at most 16,777,216: this SEQ has the largest share, {share}"
     )?;
-    Ok(Some(message_at(text, line as usize, said)))
+    Ok(Some(message_at(text, share.line as usize, said)))
 }

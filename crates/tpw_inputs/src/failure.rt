@@ -83,9 +83,9 @@ impl From<OccamFault> for Failure {
         match fault {
             OccamFault::Memory => Failure::Memory,
             OccamFault::Refused(messages) => Failure::Input(InputFault::Occam(messages)),
-            OccamFault::Compiler(defect) => Failure::Input(InputFault::Compiler(
-                CompilerFault::Made(defect),
-            )),
+            OccamFault::Compiler(defect) => Failure::Input(InputFault::Compiler(CompilerFault::Made(
+                defect,
+            ))),
         }
     }
 }

@@ -69,10 +69,7 @@ fn lines_compiled<'a>(
             statements.push(Statement {
                 at: *place as usize,
                 line,
-                column: said
-                    .len()
-                    .saturating_sub(statement.len())
-                    .saturating_add(1),
+                column: said.len().saturating_sub(statement.len()).saturating_add(1),
                 text: statement.trim_ascii_end(),
             })?;
         }
@@ -81,10 +78,7 @@ fn lines_compiled<'a>(
 }
 
 /// The names of a text in occam, as names of workspace words.
-fn names_compiled<'a>(
-    alloc: Global,
-    located: &[Located<'a>],
-) -> Result<Vec<Named<'a>>, Failure> {
+fn names_compiled<'a>(alloc: Global, located: &[Located<'a>]) -> Result<Vec<Named<'a>>, Failure> {
     let mut words = Vec::new(alloc);
     for Located {
         name,

@@ -215,7 +215,10 @@ fn write_faults<E: Write>(
 
 /// Writes messages at their places of a text.
 fn write_messages<E: Write>(errors: &mut E, name: &str, text: &str, messages: &[Message]) {
-    for Message { span, text: message } in messages {
+    for Message {
+        span,
+        text: message,
+    } in messages {
         let fault = Reported {
             spot: Spot {
                 line: span.line,

@@ -6,7 +6,7 @@ ghost use Rattle.tpw_occam_core.specs.Sound.{is_sound};
 ghost use Rattle.tpw_occam_syntax.specs.Places.{LiesIn};
 
 use crate::fault::{Defect, OccamFault};
-use crate::located::{Located, located_in};
+use crate::names::{Located, located_in};
 use crate::message::{Message, message_at, messages_of, notes_of};
 use std::alloc::Global;
 use tpw_asm::Program;

@@ -3,10 +3,10 @@
 
 mod compiling;
 mod fault;
-mod located;
+mod names;
 mod message;
 
 pub use compiling::{CompiledText, compile_text};
 pub use fault::{Defect, OccamFault};
-pub use located::Located;
+pub use names::Located;
 pub use message::{Message, message_at};

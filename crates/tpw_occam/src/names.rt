@@ -22,7 +22,7 @@ fn said_at<'t>(lines: &[&'t str], span: Span) -> Option<&'t str> {
 }
 
 /// An item under its name, where it has one in the text. The word behind a loop's index has none.
-fn located<'t>(
+fn named_item<'t>(
     lines: &[&'t str],
     placed: Placed,
     variables: &[Named<'_>],
@@ -55,7 +55,7 @@ pub(crate) fn located_in<'t>(
     let lines: Vec<&'t str> = text.lines().collect(alloc)?;
     let mut names = Vec::new(alloc);
     for placed in all {
-        if let Some(name) = located(&lines, *placed, variables, arrays) {
+        if let Some(name) = named_item(&lines, *placed, variables, arrays) {
             names.push(name)?;
         }
     }
