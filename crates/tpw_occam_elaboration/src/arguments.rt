@@ -4,6 +4,7 @@ use crate::bindings::{Binding, Bound};
 use crate::elaborator::{Elaborator, Frame, or_else};
 use crate::environment::{Access, Atom, Channel, Entry, Meaning, Protocol, Scope, View};
 use crate::fault::{FaultKind, Stop};
+use crate::limits::levels_within;
 use crate::operators::checked;
 use crate::signatures::{Callee, Form, Parameter, Signature};
 use crate::sort::Role;
@@ -287,6 +288,7 @@ impl<'a> Elaborator<'a> {
             let Some(parameter) = self.parameters.get(at).copied() else {
                 break;
             };
+            let depth = levels_within(depth, bindings.len());
             let passed = self.passed(frame, parameter, argument, signature.callee, depth);
             let passed = or_else(passed, alias(Meaning::Wrong))?;
             scope = self

@@ -1,8 +1,24 @@
 //! Limits, each said once.
 
+ghost use Rattle.std.specs.Prelude.{◌≤◌};
+
 /// How deep expressions and processes lie within one another at the most, those put in line among them: so deep do the
 /// calls go that make a worker, run it and compile it.
 pub(crate) const MOST_DEPTH: u32 = 500;
+
+/// Behind so many guards of an IF, or choices of a CASE, a process lies one level deeper: each is tried within the one
+/// before it.
+pub(crate) const GUARDS_OF_LEVEL: usize = 5;
+
+/// The levels that are left within so many others.
+pub(crate) fn levels_within(levels: u32, others: usize) -> u32
+    ensures { result ≤ levels }
+{
+    match u32::try_from(others) {
+        Ok(others) if others <= levels => levels - others,
+        _ => 0,
+    }
+}
 
 /// The most calls within one another.
 pub(crate) const MOST_CALLS: u32 = 40;

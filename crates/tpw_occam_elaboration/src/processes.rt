@@ -8,12 +8,13 @@ use crate::declarations::Level;
 use crate::elaborator::{Elaborator, Frame, or_else, recovered};
 use crate::environment::{Atom, Meaning};
 use crate::fault::{FaultKind, Limit, Stop};
-use crate::limits::{MOST_GUARDS, MOST_TURNS};
+use crate::limits::{GUARDS_OF_LEVEL, MOST_GUARDS, MOST_TURNS, levels_within};
 use crate::note::NoteKind;
 use crate::sequences::{at, sequence};
 use crate::sort::Role;
 use crate::syntax::{place_of, span_of};
 use crate::typed::Worth;
+use crate::words::MOST_POSITIVE;
 use tpw_occam_core::{Expression, Process};
 use tpw_occam_syntax::{
     Declaration, Expression as Tree, Name, Primitive, Process as Written, Span,
@@ -24,6 +25,11 @@ use tpw_occam_syntax::{
 struct Turns {
     start: u32,
     count: u32,
+}
+
+/// Whether the last of so many indices from one on is no INT.
+fn is_beyond(first: u32, turns: u32) -> bool {
+    turns > 0 && turns - 1 > MOST_POSITIVE.wrapping_sub(first)
 }
 
 impl<'a> Elaborator<'a> {
@@ -43,7 +49,7 @@ impl<'a> Elaborator<'a> {
             };
             return self.fault(span_of(count), kind);
         }
-        if i64::from(first.cast_signed()) + i64::from(turns) > 0x8000_0000 {
+        if is_beyond(first, turns) {
             return self.fault(span_of(count), FaultKind::LastIndex);
         }
         Ok(Turns {
@@ -141,7 +147,8 @@ impl<'a> Elaborator<'a> {
         let mut list = Vec::new(self.alloc);
         let mut has_true = false;
         let mut is_whole = true;
-        for (guard, process) in choices {
+        for (index, (guard, process)) in choices.iter().enumerate() {
+            let depth = levels_within(depth, index / GUARDS_OF_LEVEL);
             let made = self.guard(frame, guard, depth);
             let process = self.process(frame, process, depth);
             match (recovered(made)?, recovered(process)?) {
@@ -209,7 +216,8 @@ impl<'a> Elaborator<'a> {
         let mut seen = Vec::new(alloc);
         let mut otherwise: Option<Process> = None;
         let mut is_whole = true;
-        for (constants, process) in choices {
+        for (index, (constants, process)) in choices.iter().enumerate() {
+            let depth = levels_within(depth, index / GUARDS_OF_LEVEL);
             let process = self.process(frame, process, depth);
             let process = recovered(process)?;
             is_whole = is_whole && process.is_some();
@@ -250,6 +258,7 @@ impl<'a> Elaborator<'a> {
             Some((selector, binding)) => (Some(selector), binding),
             None => (None, None),
         };
+        let depth = levels_within(depth, usize::from(binding.is_some()));
         let process = self.cases(frame, selector, choices, span, depth)?;
         let mut bindings = Vec::new(self.alloc);
         if let Some(binding) = binding {
@@ -285,6 +294,7 @@ impl<'a> Elaborator<'a> {
             scope: bound.scope,
             calls: frame.calls - 1,
         };
+        let depth = levels_within(depth, bound.bindings.len());
         let process = self.process(within, body, depth)?;
         Ok(bound_process(self.alloc, process, bound.bindings)?)
     }
@@ -299,6 +309,7 @@ impl<'a> Elaborator<'a> {
         depth: u32,
     ) -> Result<Process, Stop> {
         let declared = self.declared(frame, declarations, Level::Process, depth)?;
+        let depth = levels_within(depth, declared.bindings.len());
         let process = self.process(declared.frame, process, depth)?;
         Ok(bound_process(self.alloc, process, declared.bindings)?)
     }
