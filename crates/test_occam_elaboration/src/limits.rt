@@ -133,15 +133,44 @@ fn guards(alloc: Global, count: u32) -> Result<String, AllocError> {
 }
 
 #[test]
-fn two_thousand_guards(rt: HostRuntime) -> Result<(), AllocError> {
+fn levels_of_guards(rt: HostRuntime) -> Result<(), AllocError> {
     let alloc = rt.alloc();
-    let made = worker(&rt, alloc, &guards(alloc, 2_000)?);
+    let made = worker(&rt, alloc, &guards(alloc, 499)?);
     assert_same(
         &rt,
         &given(&rt, alloc, &made, &[3, 0, 0, 0]).result.as_slice(),
         &[7, 0, 0, 0].as_slice(),
     );
+    let found = faults(&rt, alloc, &guards(alloc, 500)?)?;
+    assert!(rt; found.as_str().contains("more than 500 levels"));
     let found = faults(&rt, alloc, &guards(alloc, 2_001)?)?;
     assert!(rt; found.as_str().contains("more than 2,000 guards"));
+    Ok(())
+}
+
+/// A worker with a CASE of one choice with so many constants.
+fn constants(alloc: Global, count: u32) -> Result<String, AllocError> {
+    let mut text = String::from_str(
+        alloc,
+        "PROC main (CHAN OF INT packet, CHAN OF INT result)\n  INT x:\n  SEQ\n    packet ? x\n    CASE x\n      0",
+    )?;
+    for constant in 1..count {
+        write!(text, ", {constant}")?;
+    }
+    text.push_str("\n        x := 7\n      ELSE\n        SKIP\n    result ! x\n:\n")?;
+    Ok(text)
+}
+
+#[test]
+fn levels_of_constants(rt: HostRuntime) -> Result<(), AllocError> {
+    let alloc = rt.alloc();
+    let made = worker(&rt, alloc, &constants(alloc, 498)?);
+    assert_same(
+        &rt,
+        &given(&rt, alloc, &made, &[0xF1, 1, 0, 0]).result.as_slice(),
+        &[7, 0, 0, 0].as_slice(),
+    );
+    let found = faults(&rt, alloc, &constants(alloc, 499)?)?;
+    assert!(rt; found.as_str().contains("more than 500 levels"));
     Ok(())
 }

@@ -12,7 +12,7 @@ pub enum Limit {
     Calls,
     /// Expressions and processes, with calls in line.
     InLine,
-    /// Levels of expressions and processes, with calls in line.
+    /// Levels of expressions, processes, guards and names, with calls in line.
     Depth,
     /// Guards of an IF, or constants of a CASE.
     Guards,
@@ -185,7 +185,7 @@ impl fmt::Display for Limit {
                 "more than 300,000 expressions and processes, with each call in line: call less"
             }
             Limit::Depth => {
-                "more than 500 levels of expressions and processes, with each call in line"
+                "more than 500 levels, with each call in line, of expressions, processes, guards and names"
             }
             Limit::Guards => "more than 2,000 guards of an IF, or constants of a CASE",
         })
