@@ -207,6 +207,19 @@ fn write_not_a<W: fmt::Write>(
     )
 }
 
+/// That a name is declared, and not seen here.
+fn write_out_of_scope<W: fmt::Write>(
+    f: &mut fmt::Formatter<W>,
+    name: &str,
+    declared: Span,
+) -> fmt::Result {
+    let line = declared.line;
+    write!(f, "`{name}`, of line {line}, is not in scope here; ")?;
+    f.write_str(
+        "a PROC or a FUNCTION has the names of where it is declared, and may not call itself",
+    )
+}
+
 /// That a value has another type.
 fn write_type<W: fmt::Write>(
     f: &mut fmt::Formatter<W>,
@@ -342,13 +355,7 @@ impl fmt::Display for FaultKind<'_> {
                 near: Some(near),
             } => write!(f, "no `{name}` is declared here: is `{near}` meant?"),
             FaultKind::Unknown { name, near: None } => write!(f, "no `{name}` is declared here"),
-            FaultKind::OutOfScope { name, declared } => {
-                let line = declared.line;
-                write!(
-                    f,
-                    "`{name}`, of line {line}, is not in scope here; a PROC or a FUNCTION has the names of where it is declared, and may not call itself",
-                )
-            }
+            FaultKind::OutOfScope { name, declared } => write_out_of_scope(f, name, declared),
             FaultKind::NotA {
                 name,
                 declared,
