@@ -49,8 +49,8 @@ impl<'a> Elaborator<'a> {
         self.fault(name.span, kind)
     }
 
-    /// Whether an argument is a name whose value stays the same while the body is evaluated: one that is given its value
-    /// once, or a variable where the body is an expression.
+    /// Whether an argument is a name whose value stays the same while the body is evaluated: one that is given its
+    /// value once, or a variable where the body is an expression.
     fn is_fixed(&self, scope: Scope, e: &Tree<'a>, callee: Callee) -> bool {
         let Tree::Name { name, .. } = e else {
             return false;

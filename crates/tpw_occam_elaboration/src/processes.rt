@@ -3,12 +3,12 @@
 //! `depth` counts down with each process that lies within another, calls in line among them.
 
 use crate::bindings::{Binding, bound_process};
-use crate::choices::{Guarded, Selector, chain, is_one_of};
+use crate::choices::{Guarded, Selector, chain};
 use crate::declarations::Level;
 use crate::elaborator::{Elaborator, Frame, or_else, recovered};
 use crate::environment::{Atom, Meaning};
 use crate::fault::{FaultKind, Limit, Stop};
-use crate::limits::{GUARDS_OF_LEVEL, MOST_GUARDS, MOST_TURNS, levels_within};
+use crate::limits::{MOST_GUARDS, MOST_TURNS, halves, levels_within};
 use crate::note::NoteKind;
 use crate::sequences::{at, sequence};
 use crate::sort::Role;
@@ -82,6 +82,7 @@ impl<'a> Elaborator<'a> {
         steps: &'a [Written<'a>],
         depth: u32,
     ) -> Result<Process, Stop> {
+        let depth = levels_within(depth, halves(steps.len()));
         let mut list = Vec::new(self.alloc);
         let mut is_whole = true;
         for step in steps {
@@ -148,7 +149,7 @@ impl<'a> Elaborator<'a> {
         let mut has_true = false;
         let mut is_whole = true;
         for (index, (guard, process)) in choices.iter().enumerate() {
-            let depth = levels_within(depth, index / GUARDS_OF_LEVEL);
+            let depth = levels_within(depth, index);
             let made = self.guard(frame, guard, depth);
             let process = self.process(frame, process, depth);
             match (recovered(made)?, recovered(process)?) {
@@ -201,14 +202,13 @@ impl<'a> Elaborator<'a> {
         Ok((Selector { of, value }, Some(Binding::Value(x, typed.value))))
     }
 
-    /// The choices of a CASE.
+    /// The choices of a CASE, each tried within those before it. ELSE, wherever it stands, is within all of them.
     #[cycle(processes)]
     fn cases(
         &mut self,
         frame: Frame,
         selector: Option<Selector>,
         choices: &'a [(Vec<Tree<'a>>, Written<'a>)],
-        span: Span,
         depth: u32,
     ) -> Result<Process, Stop> {
         let alloc = self.alloc;
@@ -217,9 +217,9 @@ impl<'a> Elaborator<'a> {
         let mut otherwise: Option<Process> = None;
         let mut is_whole = true;
         for (index, (constants, process)) in choices.iter().enumerate() {
-            let depth = levels_within(depth, index / GUARDS_OF_LEVEL);
-            let process = self.process(frame, process, depth);
-            let process = recovered(process)?;
+            let is_last = constants.is_empty();
+            let depth = levels_within(depth, if is_last { choices.len() } else { index });
+            let process = recovered(self.process(frame, process, depth))?;
             is_whole = is_whole && process.is_some();
             let process = process.unwrap_or(Process::Skip);
             let Some(selector) = selector else {
@@ -229,13 +229,16 @@ impl<'a> Elaborator<'a> {
                 otherwise = Some(process);
                 continue;
             };
-            let words = self.case_constants(frame, constants, selector.of, &mut seen)?;
             let span = span_of(first);
-            list.push(Guarded {
-                span,
-                guard: is_one_of(alloc, selector, &words, span)?,
-                process,
-            })?;
+            let guard = self.case_guard(frame, constants, selector, &mut seen, depth);
+            match recovered(guard)? {
+                Some(guard) => list.push(Guarded {
+                    span,
+                    guard,
+                    process,
+                })?,
+                None => is_whole = false,
+            }
         }
         if !is_whole || selector.is_none() {
             return Err(Stop::Reported);
@@ -250,7 +253,6 @@ impl<'a> Elaborator<'a> {
         frame: Frame,
         e: &'a Tree<'a>,
         choices: &'a [(Vec<Tree<'a>>, Written<'a>)],
-        span: Span,
         depth: u32,
     ) -> Result<Process, Stop> {
         let selected = self.selector(frame, e, depth);
@@ -259,7 +261,7 @@ impl<'a> Elaborator<'a> {
             None => (None, None),
         };
         let depth = levels_within(depth, usize::from(binding.is_some()));
-        let process = self.cases(frame, selector, choices, span, depth)?;
+        let process = self.cases(frame, selector, choices, depth)?;
         let mut bindings = Vec::new(self.alloc);
         if let Some(binding) = binding {
             bindings.push(binding)?;
@@ -345,8 +347,8 @@ impl<'a> Elaborator<'a> {
             Written::Case {
                 selector,
                 choices,
-                span,
-            } => self.case(frame, selector, choices, *span, depth - 1)?,
+                ..
+            } => self.case(frame, selector, choices, depth - 1)?,
             Written::Call {
                 name,
                 arguments,
