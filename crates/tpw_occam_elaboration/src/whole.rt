@@ -445,7 +445,8 @@ impl<'a> Elaborator<'a> {
             return Err(Stop::Ended);
         }
         let Some((last, others)) = source.declarations.split_last() else {
-            return self.fault(FIRST, FaultKind::NoWorker);
+            self.report(FIRST, FaultKind::NoWorker)?;
+            return Err(Stop::Reported);
         };
         let declared = self.declared(Frame::OUTERMOST, others, Level::Text, MOST_DEPTH)?;
         match last {
@@ -454,7 +455,10 @@ impl<'a> Elaborator<'a> {
                 parameters,
                 body,
             } => self.worker(declared.frame, *name, parameters, body),
-            other => self.fault(declared_place(other).unwrap_or(FIRST), FaultKind::NoWorker),
+            other => {
+                self.report(declared_place(other).unwrap_or(FIRST), FaultKind::NoWorker)?;
+                Err(Stop::Reported)
+            }
         }
     }
 
