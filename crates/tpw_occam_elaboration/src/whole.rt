@@ -399,6 +399,17 @@ impl<'a> Elaborator<'a> {
         })
     }
 
+    /// The worker that was made, where it is sound; else the fault is the compiler's own.
+    fn judged(&mut self, worker: Name<'a>, made: Worker) -> Result<Worker, Stop>
+        ensures { IfOk result (λ w. is_sound w ≡ true) }
+    {
+        if !is_sound(self.alloc, &made)? {
+            self.report(worker.span, FaultKind::Compiler)?;
+            return Err(Stop::Reported);
+        }
+        Ok(made)
+    }
+
     /// The worker of a PROC.
     fn worker(
         &mut self,
@@ -414,16 +425,13 @@ impl<'a> Elaborator<'a> {
             return Err(Stop::Reported);
         }
         let Some(parts) = parts_of(body) else {
-            return self.fault(worker.span, FaultKind::WorkerBody);
+            self.report(worker.span, FaultKind::WorkerBody)?;
+            return Err(Stop::Reported);
         };
         let frame = frame.with_scope(channels.scope);
         let declared = self.declared(frame, parts.declarations, Level::Worker, MOST_DEPTH)?;
         let made = self.with_steps(declared, parts, channels, line_of(worker.span))?;
-        if is_sound(self.alloc, &made)? {
-            Ok(made)
-        } else {
-            self.fault(worker.span, FaultKind::Compiler)
-        }
+        self.judged(worker, made)
     }
 
     /// The worker of a text: its last declaration. Where the indentation is wrong, no more is looked for.
@@ -437,7 +445,8 @@ impl<'a> Elaborator<'a> {
             return Err(Stop::Ended);
         }
         let Some((last, others)) = source.declarations.split_last() else {
-            return self.fault(FIRST, FaultKind::NoWorker);
+            self.report(FIRST, FaultKind::NoWorker)?;
+            return Err(Stop::Reported);
         };
         let declared = self.declared(Frame::OUTERMOST, others, Level::Text, MOST_DEPTH)?;
         match last {
@@ -446,7 +455,10 @@ impl<'a> Elaborator<'a> {
                 parameters,
                 body,
             } => self.worker(declared.frame, *name, parameters, body),
-            other => self.fault(declared_place(other).unwrap_or(FIRST), FaultKind::NoWorker),
+            other => {
+                self.report(declared_place(other).unwrap_or(FIRST), FaultKind::NoWorker)?;
+                Err(Stop::Reported)
+            }
         }
     }
 
