@@ -740,7 +740,23 @@ fn phrases(rt: HostRuntime) {
 
 /// A text with many faults.
 const SEVERAL: [Case; 1] = [(
-    "VAL n IS 99999999999:\nPROC p (CHAN OF INT a, INT16 b)\n  SEQ\n    x := 1 + 2 * 3\n    WHILE x < 3\n      y = 1\n    IF\n      a &&& b\n        SKIP\n      c d\n        z := (1\n    CASE e f\n      1, 2 +\n        : \n:\nSKIP\n",
+    "VAL n IS 99999999999:
+PROC p (CHAN OF INT a, INT16 b)
+  SEQ
+    x := 1 + 2 * 3
+    WHILE x < 3
+      y = 1
+    IF
+      a &&& b
+        SKIP
+      c d
+        z := (1
+    CASE e f
+      1, 2 +
+        :
+:
+SKIP
+",
     &[
         (1, 10, FaultKind::BigNumber),
         (2, 24, FaultKind::Unsupported(Unsupported::Width)),

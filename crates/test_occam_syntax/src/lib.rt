@@ -1,4 +1,5 @@
-//! The text of workers in occam: what each construct is read as, and each fault by its text and its place. There is no code here but tests.
+//! The text of workers in occam: what each construct is read as, and each fault by its text and its place. There is no
+//! code here but tests.
 #![tactic(auto)]
 
 #[cfg(test)]

@@ -1,6 +1,7 @@
 -- where a stretch of a line lies in a text
 use Rattle.std.specs.Prelude.{◌≡◌, ℕ, ◌+◌, ◌≤◌, ◌==◌, List, length, take, if◌then◌else◌}
-use Rattle.std.specs.List.{fold}
+use Rattle.std.specs.List.{fold, AllPairs}
+use Rattle.tpw_occam_syntax.specs.declared.fault.Fault.{Fault}
 use Rattle.tpw_occam_syntax.specs.declared.span.Span.{Span}
 
 -- the line and the column behind a byte: a line feed ends a line
@@ -28,3 +29,12 @@ pub record LiesIn (text : List ℕ) (span : Span) : Type 0 where
   pub offset : ℕ
   pub begins : IsReached text offset span.line span.column
   pub ends : IsReached text (offset + span.width) span.line (span.column + span.width)
+
+-- a place, by its line and column, and one that is not in front of it
+pub record IsInOrder (line column next_line next_column : ℕ) : Type 0 where
+  pub lines : line ≤ next_line
+  pub columns : line ≡ next_line → column ≤ next_column
+
+-- no fault begins in front of one before it
+abbrev pub AreInOrder : List Fault → Type 0
+AreInOrder faults = AllPairs (λ a b. IsInOrder a.span.line a.span.column b.span.line b.span.column) faults

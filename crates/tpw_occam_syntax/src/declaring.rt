@@ -118,7 +118,8 @@ fn function<'a>(
     })
 }
 
-/// A declaration that begins with a type: variables, another name of an array, or a function. `start` is the type's place.
+/// A declaration that begins with a type: variables, another name of an array, or a function. `start` is the type's
+/// place.
 fn typed<'a>(
     alloc: Global,
     of: Type<'a>,

@@ -84,7 +84,8 @@ impl fmt::Display for Wanted {
             Wanted::Operator => "an operator is wanted between two operands",
             Wanted::Int => "INT is wanted behind MOSTPOS and MOSTNEG",
             Wanted::BracketsBetween => {
-                "no operator binds closer than another: put the operands of this one, or of that before it, into brackets"
+                "no operator binds closer than another: put the operands of this one, \
+                 or of that before it, into brackets"
             }
             Wanted::BracketsAroundMonadic => {
                 "an operator of one operand stands in brackets with it, where more belongs to the expression"
@@ -177,7 +178,8 @@ impl fmt::Display for FaultKind {
                 "this line goes on with the one above, and is indented less",
             ),
             FaultKind::EarlyBreak => f.write_str(
-                "a line goes on behind an operator, a comma, IS, :=, ( or [ alone: put this at the end of the line above",
+                "a line goes on behind an operator, a comma, IS, :=, ( or [ alone: \
+                 put this at the end of the line above",
             ),
             FaultKind::TooDeep => f.write_str(
                 "at most 60 levels of brackets or of processes lie within one another",

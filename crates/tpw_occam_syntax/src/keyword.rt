@@ -39,7 +39,8 @@ impl fmt::Display for Unsupported {
     fn fmt<W: fmt::Write>(&self, f: &mut fmt::Formatter<W>) -> fmt::Result {
         f.write_str(match self {
             Unsupported::While => {
-                "a worker has no WHILE, since each must end: use SEQ i = 0 FOR n with the most turns, and an IF within it"
+                "a worker has no WHILE, since each must end: use SEQ i = 0 FOR n with the most turns, \
+                 and an IF within it"
             }
             Unsupported::Par =>
                 "a worker is one process: write SEQ, and let the farm run packets beside each other",

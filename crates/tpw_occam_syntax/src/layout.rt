@@ -277,7 +277,8 @@ fn without_return(line: &str) -> &str {
     line.strip_suffix('\r').unwrap_or(line)
 }
 
-/// The lines of a text, nested by their indentation: two spaces a level. What stands below a line with a fault is read all the same.
+/// The lines of a text, nested by their indentation: two spaces a level. What stands below a line with a fault is read
+/// all the same.
 pub(crate) fn lines_of<'a>(alloc: Global, text: &'a str) -> Result<Lines<'a>, AllocError> {
     let mut layout = Layout {
         nest: Nest {

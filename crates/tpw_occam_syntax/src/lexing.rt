@@ -289,7 +289,8 @@ pub(crate) fn token(rest: &str, first: u8) -> Read<'_> {
     }
 }
 
-/// Whether a text begins with what no line begins with: an operator between two operands, a comma, `IS`, `:=` or a closing bracket.
+/// Whether a text begins with what no line begins with: an operator between two operands, a comma, `IS`, `:=` or a
+/// closing bracket.
 pub(crate) fn is_rest(rest: &str) -> bool {
     let Some(first) = rest.as_bytes().first() else {
         return false;
@@ -302,7 +303,13 @@ pub(crate) fn is_rest(rest: &str) -> bool {
     }
 }
 
-/// The bytes of a text, as it is spelled between its quotes.
+/// The bytes that a text means, as it is spelled between its quotes: of each character its byte, and of `*n`, `*#41`
+/// and their like the one that they stand for. Of a text that is no [`Expression::Text`](crate::Expression::Text), those
+/// in front of what spells nothing.
+///
+/// ```
+/// assert_eq!(text_bytes(alloc, "a*n")?.as_slice(), b"a\n");
+/// ```
 pub fn text_bytes(alloc: Global, spelled: &str) -> Result<Vec<u8>, AllocError> {
     let mut bytes = Vec::new(alloc);
     let mut at = 0usize;

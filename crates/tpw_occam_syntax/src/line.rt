@@ -97,7 +97,7 @@ impl<'a> Line<'a> {
         Ok(())
     }
 
-    /// Reads what stands at a place of one of its text's lines: a token, or what is none. How many bytes it has is returned.
+    /// Reads what stands at a place of one of its text's lines: a token, or what is none. Returns how many bytes it has.
     fn step(&mut self, rest: &'a str, first: u8, place: Span) -> Result<usize, AllocError> {
         match token(rest, first) {
             Ok((token, width)) => {

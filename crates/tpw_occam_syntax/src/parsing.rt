@@ -1,7 +1,7 @@
 //! Declarations and processes, read from nested lines.
 
 ghost use Rattle.std.specs.Prelude.{◌≤◌, All, IfOk, vec_len};
-ghost use Rattle.tpw_occam_syntax.specs.Places.{LiesIn};
+ghost use Rattle.tpw_occam_syntax.specs.Places.{LiesIn, AreInOrder};
 
 use crate::expression::Expression;
 use crate::fault::{Fault, FaultKind, Faults, Wanted};
@@ -449,7 +449,8 @@ fn procedure<'a>(
     }))
 }
 
-/// What a text declares, its worker last, and what is wrong with it.
+/// What a text declares, its worker last, and what is wrong with it. Only where there are no faults is it all that the
+/// text says, and nothing in it `Wrong`.
 #[derive(Debug, Drop)]
 pub struct Source<'a> {
     pub declarations: Vec<Declaration<'a>>,
@@ -459,10 +460,21 @@ pub struct Source<'a> {
     pub is_laid_out: bool,
 }
 
-/// Reads a text. What has a fault is left out or [`Wrong`](Process::Wrong), and all else is read.
+/// Reads a text. What has a fault is left out or [`Wrong`](Process::Wrong), and all else is read; a fault that another
+/// one explains is not told. What the names mean, and whether the last declaration is a worker, is not judged here.
+///
+/// ```
+/// let source = parse(alloc, "VAL INT n IS 47:\nVAL m IS n +:\n")?;
+/// // The first is read, and the second has a fault at its colon, behind `+`.
+/// assert!(matches!(source.declarations[0], Declaration::Value { .. }));
+/// assert!(matches!(source.declarations[1], Declaration::Wrong { .. }));
+/// assert_eq!(source.faults[0].kind, FaultKind::Wanted(Wanted::Operand));
+/// assert_eq!((source.faults[0].span.line, source.faults[0].span.column), (2, 13));
+/// ```
 pub fn parse<'a>(alloc: Global, text: &'a str) -> Result<Source<'a>, AllocError>
     ensures few { IfOk result (λ s. vec_len s.faults ≤ 20) }
     ensures placed { IfOk result (λ s. All (λ f. LiesIn text.now f.span) s.faults.items) }
+    ensures ordered { IfOk result (λ s. AreInOrder s.faults.items) }
 {
     let Lines {
         blocks,

@@ -1,4 +1,4 @@
-use Rattle.std.proofs.Common.{ℕ, ◌+◌, ◌*◌}
+use Rattle.std.proofs.Common.{◌+◌, ◌*◌}
 use Rattle.tpw_occam_syntax.proofs.reading.+expressions.Given as goal
 
 abbrev pub decreases-named : goal.decreases-named
