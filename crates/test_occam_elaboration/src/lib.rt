@@ -1,5 +1,5 @@
-//! Workers in occam, from their texts to what they give of packets: each row of the language's tables, sample workers, and what is wrong
-//! with texts. There is no code here but tests.
+//! Workers in occam, from their texts to what they give of packets: each row of the language's tables, sample workers,
+//! and what is wrong with texts. There is no code here but tests.
 #![tactic(auto)]
 
 #[cfg(test)]

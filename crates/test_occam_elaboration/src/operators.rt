@@ -1,4 +1,5 @@
-//! The rows of the language's tables of expressions, each at eight numbers, with what a model of the tables in Python makes of them.
+//! The rows of the language's tables of expressions, each at eight numbers, with what a model of the tables in Python
+//! makes of them.
 
 use crate::asserts::assert_same;
 use crate::running::{given, worker};

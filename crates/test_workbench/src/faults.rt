@@ -3,7 +3,7 @@
 use crate::program::{check, write_file};
 
 /// Texts, and what is said of them.
-const FAULTS: [(&str, &str); 17] = [
+const FAULTS: [(&str, &str); 18] = [
     (
         "local n\n lld n\n",
         "tpw: standard input:2:2: unknown instruction: lld; ldl is near\n    2 |  lld n\n      |  ^^^\n",
@@ -80,6 +80,10 @@ tpw: standard input:6:3: no label has this name: far
         "tpw: standard input:2:15: a number is wanted: decimal, #2A or 0x2A, of 32 bits: n\n    2 | for i = 0 for n\n      |               ^\n",
     ),
     (
+        "local n\nfor n = 0 for 2\nend n\nstopp\n",
+        "tpw: standard input:2:5: a label, a local or a constant of this name stands above, in line 1: n\n    2 | for n = 0 for 2\n      |     ^\n",
+    ),
+    (
         "ldc 'a'\n",
         "tpw: standard input:1:5: no local has this name: 'a'; there are no characters: write the number, as 97 for an a\n    1 | ldc 'a'\n      |     ^^^\n",
     ),
@@ -97,7 +101,7 @@ fn faults(rt: HostRuntime) {
     }
 }
 
-/// An input that is empty, and packets behind a byte order mark.
+/// An input that is empty, packets behind a byte order mark, and lines that end with carriage returns alone.
 #[test]
 fn inputs(rt: HostRuntime) {
     write_file(&rt, "marked", "\u{FEFF}1\n");
@@ -106,6 +110,11 @@ fn inputs(rt: HostRuntime) {
             " \n",
             ["tpw", "why"].as_slice(),
             "tpw: standard input: it is empty: a worker is wanted\n",
+        ),
+        (
+            "local n\rstopp\r",
+            ["tpw", "why"].as_slice(),
+            "tpw: standard input: its lines end with carriage returns alone: a line feed ends a line\n",
         ),
         (
             "packet 1\nresult 1\nlocal n\nreceive n\nsend n\nstopp\n",

@@ -7,7 +7,7 @@ use std::alloc::Global;
 use std::io::Read;
 use std::rt::Files;
 use tp_stream::Packet;
-use tpw_inputs::{Failure, InputFault, Inputs, is_standard, utf8};
+use tpw_inputs::{Failure, InputFault, Inputs, is_standard, text_of};
 use tpw_run_text::{Expected, Notation, PacketFault, fields_of, packet_of, packets_of, results_of};
 use tpw_text::Position;
 
@@ -94,7 +94,7 @@ fn no_messages(fault: PacketFault) -> Failure {
 
 /// The text of a file of messages.
 fn messages_in(text: &[u8]) -> Result<&str, Failure> {
-    let text = utf8(text)?;
+    let text = text_of(text)?;
     if text.starts_with('\u{FEFF}') {
         return Err(Failure::Input(InputFault::ByteOrderMark));
     }

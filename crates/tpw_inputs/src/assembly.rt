@@ -7,7 +7,7 @@ ghost use Rattle.tpw_inputs.specs.Programs.{AreImageOf, IsRefusalOf, IsAssembled
 use crate::failure::Failure;
 use crate::fault::InputFault;
 use crate::fields::assembled_text;
-use crate::input::utf8;
+use crate::input::text_of;
 use std::alloc::Global;
 use tp_image::write_image;
 use tpw_asm::{AssemblyFault, assemble};
@@ -49,7 +49,7 @@ pub fn assembled_from(alloc: Global, text: &[u8]) -> Result<Vec<u8>, Failure>
     ensures image { IfOk result (λ bytes. IsAssembledTo text.now bytes.items) }
     ensures refused { IfErr result (IsUnassembled text.now) }
 {
-    let text = utf8(text)?;
+    let text = text_of(text)?;
     let source = read_source(alloc, text)?;
     assembled_text(alloc, text, &source)
 }

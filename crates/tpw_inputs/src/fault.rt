@@ -36,6 +36,9 @@ pub enum InputFault {
     /// It begins with a byte order mark, where messages are wanted.
     #[error(":1:1: it begins with a byte order mark, U+FEFF: save it without one")]
     ByteOrderMark,
+    /// Its lines end with carriage returns alone.
+    #[error(": its lines end with carriage returns alone: a line feed ends a line")]
+    CarriageReturns,
     /// It is too long, and is not read any further.
     #[error(": it is longer than 16 MB")]
     TooLong,

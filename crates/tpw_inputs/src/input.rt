@@ -113,7 +113,7 @@ pub fn hex_bytes(alloc: Global, text: &[u8]) -> Result<Vec<u8>, Failure>
 }
 
 /// The text that bytes are.
-pub fn utf8(bytes: &[u8]) -> Result<&str, Failure>
+fn utf8(bytes: &[u8]) -> Result<&str, Failure>
     ensures text { IfOk result (λ text. text.now ≡ bytes.now) }
     ensures fault { IfErr result (IsNotUtf8 bytes.now) }
 {
@@ -124,6 +124,16 @@ pub fn utf8(bytes: &[u8]) -> Result<&str, Failure>
             error.valid_up_to(),
         )))),
     }
+}
+
+/// The text that bytes are, whose lines do not end with carriage returns alone.
+pub fn text_of(bytes: &[u8]) -> Result<&str, Failure>
+    ensures { IfOk result (λ text. text.now ≡ bytes.now) }
+{
+    if bytes.trim_ascii_end().contains(&b'\r') && !bytes.contains(&b'\n') {
+        return Err(Failure::Input(InputFault::CarriageReturns));
+    }
+    utf8(bytes)
 }
 
 /// Where a command reads.

@@ -18,7 +18,7 @@ mod worker;
 pub use assembly::assembled_from;
 pub use failure::Failure;
 pub use fault::{CompilerFault, InputFault};
-pub use input::{Input, Inputs, TextFault, bytes_of, hex_bytes, is_standard, utf8};
+pub use input::{Input, Inputs, TextFault, bytes_of, hex_bytes, is_standard, text_of};
 pub use language::Language;
 pub use notes::places_of;
 pub use occam::{Occam, read_occam};

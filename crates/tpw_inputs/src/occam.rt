@@ -6,7 +6,7 @@ ghost use Rattle.tpw_occam_core.specs.Sound.{is_sound};
 use crate::budget::over_budget;
 use crate::failure::Failure;
 use crate::fault::{CompilerFault, InputFault};
-use crate::input::{Input, utf8};
+use crate::input::{Input, text_of};
 use std::alloc::Global;
 use std::io::Write;
 use tp_accept::{Refusal, RefusalCode, accept};
@@ -88,7 +88,7 @@ pub fn read_occam<'a, E: Write>(
     if text.trim_ascii().is_empty() {
         return Err(Failure::Input(InputFault::Empty));
     }
-    let text = utf8(text)?;
+    let text = text_of(text)?;
     let compiled = compile_text(alloc, text)?;
     write_notes(errors, input, &compiled.notes);
     let bytes = image_of(alloc, &compiled.program)?;

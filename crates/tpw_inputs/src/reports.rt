@@ -98,6 +98,20 @@ fn write_at<E: Write>(
     let _ = write_report(name, text, &fault, errors);
 }
 
+/// What is said of a fault of a text: the word at its place, and where a name that is given twice was given before.
+fn message_of(alloc: Global, text: &str, fault: SourceFault) -> Result<String, AllocError> {
+    let kind = fault.fault;
+    let word = word_at(line_of(text, fault.line), fault.column);
+    let above = match kind {
+        TextFault::Twice => line_giving(alloc, text, word)?,
+        _ => None,
+    };
+    match above {
+        Some(line) => format!(in alloc; "{kind}, in line {line}: {word}"),
+        None => format!(in alloc; "{kind}: {word}"),
+    }
+}
+
 /// Writes a fault of a text.
 fn write_fault<E: Write>(
     alloc: Global,
@@ -106,13 +120,8 @@ fn write_fault<E: Write>(
     text: &str,
     fault: SourceFault,
 ) -> Result<(), AllocError> {
-    let SourceFault {
-        line,
-        column,
-        fault: kind,
-    } = fault;
-    let word = word_at(line_of(text, line), column);
-    let message = format!(in alloc; "{kind}: {word}")?;
+    let SourceFault { line, column, .. } = fault;
+    let message = message_of(alloc, text, fault)?;
     let names = names_of(alloc, text)?;
     let hint = hint_of(text, fault, &names);
     let position = Position { line, column };
@@ -153,6 +162,18 @@ fn push_listed<'a>(names: &mut Vec<&'a str>, list: &'a str) -> Result<(), AllocE
         names.push(name)?;
     }
     Ok(())
+}
+
+/// The number of the first line that gives a name.
+fn line_giving(alloc: Global, text: &str, name: &str) -> Result<Option<usize>, AllocError> {
+    for (i, line) in text.lines().enumerate() {
+        let mut names = Vec::new(alloc);
+        push_names(&mut names, line)?;
+        if names.contains(&name) {
+            return Ok(Some(i.saturating_add(1)));
+        }
+    }
+    Ok(None)
 }
 
 /// The names that a text gives.
@@ -259,6 +280,7 @@ fn write_placed<E: Write>(
         InputFault::Unread(_)
         | InputFault::Empty
         | InputFault::ByteOrderMark
+        | InputFault::CarriageReturns
         | InputFault::TooLong
         | InputFault::NotADigit(_)
         | InputFault::HalfAByte(_)

@@ -1,7 +1,7 @@
 //! Notes on what is written otherwise than it may be meant. They go to standard error, and change no status.
 
 use crate::failure::Failure;
-use crate::input::{Input, utf8};
+use crate::input::{Input, text_of};
 use std::alloc::Global;
 use std::fmt;
 use std::io::Write;
@@ -197,7 +197,7 @@ pub fn note_traps<E: Write>(
     input: &Input,
     text: &[u8],
 ) -> Result<(), Failure> {
-    let Ok(text) = utf8(text) else {
+    let Ok(text) = text_of(text) else {
         return Ok(());
     };
     match read_source(alloc, text) {

@@ -5,7 +5,7 @@ ghost use Rattle.std.specs.Prelude.{◌≤◌, IfOk};
 use crate::failure::Failure;
 use crate::fault::InputFault;
 use crate::fields::assembled_text;
-use crate::input::{Input, TextFault, bytes_of, utf8};
+use crate::input::{Input, TextFault, bytes_of, text_of};
 use crate::language::Language;
 use crate::notes::Notes;
 use crate::occam::{Occam, read_occam};
@@ -98,7 +98,7 @@ fn read_assembled<'a, E: Write>(
         }),
         Err(TextFault::Memory) => Err(Failure::Memory),
         Err(TextFault::NotADigit(_) | TextFault::HalfAByte(_)) => {
-            read_assembly(alloc, errors, input, utf8(text)?)
+            read_assembly(alloc, errors, input, text_of(text)?)
         }
     }
 }

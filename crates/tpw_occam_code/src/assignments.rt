@@ -6,7 +6,7 @@ use crate::fault::CodeFault;
 use crate::items::Item;
 use crate::order::{Move, is_kept, keep_any, moves};
 use crate::range::FULL;
-use crate::subscripts::{checked, indexed, kept_byte, reduce, settled};
+use crate::subscripts::{base, checked, indexed, kept_byte, reduce, settled};
 use tp_decode::Instr;
 use tpw_occam_core::{Assignment, Expression, Kind, Target};
 
@@ -127,26 +127,41 @@ impl Emitter<'_> {
                 array,
                 kind,
                 subscript,
-            } => match self.fixed_word(*array, *kind, subscript) {
-                Some(word) => {
+            } => {
+                if let Some(word) = self.fixed_word(*array, *kind, subscript) {
                     self.value_or_word(code, assignment, number, is_kept, room)?;
-                    store_word(code, line, *array, word)
+                    return store_word(code, line, *array, word);
                 }
-                None => {
-                    let size = self.elements(*array, *kind);
-                    if self.need(subscript) <= 2 {
-                        self.value_or_word(code, assignment, number, is_kept, room)?;
-                        self.subscript(code, subscript, size, room.above())?;
-                    } else {
-                        self.value_or_word(code, assignment, number, is_kept, room)?;
-                        code.emit(line, Step::Store(room.word(), 0))?;
-                        self.subscript_above(code, subscript, size, room)?;
-                    }
-                    indexed(code, line, *array, *kind)?;
-                    store_at(code, line, *kind)
+                if let Some(offset) = self.offset_subscript(*array, *kind, subscript) {
+                    self.value_or_word(code, assignment, number, is_kept, room)?;
+                    base(code, line, *array, offset)?;
+                    return code.instr(line, Instr::Stnl(offset.constant.cast_signed()));
                 }
-            },
+                self.value_or_word(code, assignment, number, is_kept, room)?;
+                self.store_element(code, *array, *kind, subscript, room)
+            }
         }
+    }
+
+    /// Stores Areg in an element.
+    fn store_element(
+        &mut self,
+        code: &mut Code,
+        array: usize,
+        kind: Kind,
+        subscript: &Expression,
+        room: Room,
+    ) -> Result<(), CodeFault> {
+        let line = room.line;
+        let size = self.elements(array, kind);
+        if self.need(subscript) <= 2 {
+            self.subscript(code, subscript, size, room.above())?;
+        } else {
+            code.emit(line, Step::Store(room.word(), 0))?;
+            self.subscript_above(code, subscript, size, room)?;
+        }
+        indexed(code, line, array, kind)?;
+        store_at(code, line, kind)
     }
 
     /// Pushes what was kept last, and above it a subscript that needs all registers.

@@ -9,7 +9,7 @@ use crate::fault::CodeFault;
 use crate::items::Item;
 use crate::operators::{number, truth};
 use crate::range::Range;
-use crate::subscripts::{checked, fixed_element, indexed_element};
+use crate::subscripts::{checked, fixed_element, indexed_element, offset_element};
 use tp_decode::Instr;
 use tpw_occam_core::{Expression, Operator};
 
@@ -58,6 +58,9 @@ impl Emitter<'_> {
             } => {
                 if let Some(c) = self.fixed_subscript(*array, *kind, subscript) {
                     return fixed_element(code, line, *array, *kind, c);
+                }
+                if let Some(offset) = self.offset_subscript(*array, *kind, subscript) {
+                    return offset_element(code, line, *array, offset);
                 }
                 self.subscript(code, subscript, self.elements(*array, *kind), room)?;
                 indexed_element(code, line, *array, *kind)

@@ -10,7 +10,7 @@ use crate::fault::CodeFault;
 use crate::items::Item;
 use crate::range::{BYTE, FULL, Range};
 use tp_decode::Instr;
-use tpw_occam_core::{Expression, Kind};
+use tpw_occam_core::{Expression, Kind, Operator};
 
 /// The greatest number, whose bits are all but the sign.
 const MOST_POSITIVE: u32 = 0x7FFF_FFFF;
@@ -116,6 +116,36 @@ pub(crate) fn settled(
     })
 }
 
+/// A subscript that is a variable and a constant, which goes into the instruction that reads or writes the word.
+#[derive(Clone, Copy)]
+pub(crate) struct Offset {
+    pub(crate) variable: usize,
+    pub(crate) constant: u32,
+}
+
+/// Pushes the address of the word of an array that an offset is counted from.
+pub(crate) fn base(
+    code: &mut Code,
+    line: u32,
+    array: usize,
+    offset: Offset,
+) -> Result<(), CodeFault> {
+    code.emit(line, Step::Load(Item::Variable(offset.variable), 0))?;
+    indexed(code, line, array, Kind::Word)
+}
+
+/// Pushes the word of an array at an offset.
+pub(crate) fn offset_element(
+    code: &mut Code,
+    line: u32,
+    array: usize,
+    offset: Offset,
+) -> Result<Value, CodeFault> {
+    base(code, line, array, offset)?;
+    code.instr(line, Instr::Ldnl(offset.constant.cast_signed()))?;
+    Ok(element_value(Kind::Word))
+}
+
 /// What is known of an element.
 fn element_value(kind: Kind) -> Value {
     let range = match kind {
@@ -192,5 +222,36 @@ impl Emitter<'_> {
             return None;
         }
         Some(c)
+    }
+
+    /// A word's subscript as a variable and a constant, where the verifier knows that the variable and the constant
+    /// together are below the array's size.
+    pub(crate) fn offset_subscript(
+        &self,
+        array: usize,
+        kind: Kind,
+        e: &Expression,
+    ) -> Option<Offset> {
+        let Expression::Binary {
+            operator: Operator::Add | Operator::Plus,
+            left,
+            right,
+        } = e
+        else {
+            return None;
+        };
+        let Expression::Variable(x) = &**left else {
+            return None;
+        };
+        let constant = self.constant_of(right)?;
+        let below = Range::below(self.elements(array, kind).checked_sub(constant)?);
+        let fact = self.fact(*x);
+        if kind != Kind::Word || fact.constant.is_some() || !fact.known.is_within(below) {
+            return None;
+        }
+        Some(Offset {
+            variable: *x,
+            constant,
+        })
     }
 }

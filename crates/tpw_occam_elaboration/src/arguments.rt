@@ -4,6 +4,7 @@ use crate::bindings::{Binding, Bound};
 use crate::elaborator::{Elaborator, Frame, or_else};
 use crate::environment::{Access, Atom, Channel, Entry, Meaning, Protocol, Scope, View};
 use crate::fault::{FaultKind, Stop};
+use crate::limits::levels_within;
 use crate::operators::checked;
 use crate::signatures::{Callee, Form, Parameter, Signature};
 use crate::sort::Role;
@@ -48,8 +49,8 @@ impl<'a> Elaborator<'a> {
         self.fault(name.span, kind)
     }
 
-    /// Whether an argument is a name whose value stays the same while the body is evaluated: one that is given its value
-    /// once, or a variable where the body is an expression.
+    /// Whether an argument is a name whose value stays the same while the body is evaluated: one that is given its
+    /// value once, or a variable where the body is an expression.
     fn is_fixed(&self, scope: Scope, e: &Tree<'a>, callee: Callee) -> bool {
         let Tree::Name { name, .. } = e else {
             return false;
@@ -287,6 +288,7 @@ impl<'a> Elaborator<'a> {
             let Some(parameter) = self.parameters.get(at).copied() else {
                 break;
             };
+            let depth = levels_within(depth, bindings.len());
             let passed = self.passed(frame, parameter, argument, signature.callee, depth);
             let passed = or_else(passed, alias(Meaning::Wrong))?;
             scope = self

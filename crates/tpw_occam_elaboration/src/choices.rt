@@ -3,7 +3,7 @@
 use crate::elaborator::{Elaborator, Frame};
 use crate::environment::Atom;
 use crate::fault::{FaultKind, Limit, Stop};
-use crate::limits::MOST_GUARDS;
+use crate::limits::{MOST_GUARDS, levels_within};
 use crate::operators::combined;
 use crate::sequences::at;
 use crate::syntax::span_of;
@@ -60,7 +60,7 @@ impl Selector {
 }
 
 /// Whether a selector is one of several constants.
-pub(crate) fn is_one_of(
+fn is_one_of(
     alloc: Global,
     selector: Selector,
     words: &[u32],
@@ -124,7 +124,7 @@ impl<'a> Elaborator<'a> {
     }
 
     /// The constants of a choice of a CASE.
-    pub(crate) fn case_constants(
+    fn case_constants(
         &mut self,
         frame: Frame,
         list: &'a [Tree<'a>],
@@ -140,5 +140,26 @@ impl<'a> Elaborator<'a> {
             }
         }
         Ok(words)
+    }
+
+    /// The guard of a choice of a CASE: whether the selector is one of its constants, of which each is compared within
+    /// the comparison of those behind it.
+    pub(crate) fn case_guard(
+        &mut self,
+        frame: Frame,
+        constants: &'a [Tree<'a>],
+        selector: Selector,
+        seen: &mut Vec<Seen>,
+        depth: u32,
+    ) -> Result<Expression, Stop> {
+        let words = self.case_constants(frame, constants, selector.of, seen)?;
+        let Some(first) = constants.first() else {
+            return Err(Stop::Reported);
+        };
+        let span = span_of(first);
+        if levels_within(depth, words.len()) == 0 {
+            return self.fault(span, FaultKind::Limit(Limit::Depth));
+        }
+        Ok(is_one_of(self.alloc, selector, &words, span)?)
     }
 }

@@ -5,7 +5,7 @@ use crate::bindings::Binding;
 use crate::elaborator::{Elaborator, Frame, or_else};
 use crate::environment::{Access, Atom, Meaning, View};
 use crate::fault::{FaultKind, Stop};
-use crate::limits::MOST_DEPTH;
+use crate::limits::{MOST_DEPTH, levels_within};
 use crate::signatures::Callee;
 use crate::syntax::{bytes_of, element_type, span_of};
 use crate::typed::{Typed, Worth};
@@ -25,7 +25,7 @@ pub(crate) enum Level {
     Process,
 }
 
-/// What is in scope behind declarations, how deep expressions in them may be, and what they bind around the process.
+/// What is in scope behind declarations, how deep these may be, and what they bind around the process.
 #[derive(Drop)]
 pub(crate) struct Declared {
     pub(crate) frame: Frame,
@@ -33,6 +33,17 @@ pub(crate) struct Declared {
     pub(crate) bindings: Vec<Binding>,
     /// Whether the error flag is set in front of the worker's SEQ.
     pub(crate) is_flagged: bool,
+}
+
+impl Declared {
+    /// How deep a value behind these declarations may be: in front of a process each that is bound lies within those
+    /// before it.
+    fn levels(&self, level: Level) -> u32 {
+        match level {
+            Level::Process => levels_within(self.depth, self.bindings.len()),
+            _ => self.depth,
+        }
+    }
 }
 
 impl<'a> Elaborator<'a> {
@@ -134,11 +145,12 @@ impl<'a> Elaborator<'a> {
                 self.named_table(frame, name, e, shape)
             }
             None => {
-                let typed = self.expression(frame, e, None, declared.depth)?;
+                let typed = self.expression(frame, e, None, declared.levels(level))?;
                 self.named_value(name, e, typed, level, declared)
             }
             Some(of) if matches!(of.size, Size::One) => {
-                let typed = self.expression(frame, e, Some(of.of), declared.depth)?;
+                let levels = declared.levels(level);
+                let typed = self.expression(frame, e, Some(of.of), levels)?;
                 self.named_value(name, e, typed, level, declared)
             }
             Some(of) => {

@@ -6,6 +6,7 @@ use crate::bindings::bound_value;
 use crate::elaborator::{Elaborator, Frame};
 use crate::environment::{Meaning, View};
 use crate::fault::{FaultKind, Limit, Stop};
+use crate::limits::levels_within;
 use crate::operators::{
     arithmetic, combined, complement, inverted, is_order, low_byte, operand_of, operands_of,
 };
@@ -290,6 +291,7 @@ impl<'a> Elaborator<'a> {
             scope: bound.scope,
             calls: frame.calls - 1,
         };
+        let depth = levels_within(depth, bound.bindings.len());
         let value = self.expression(within, value, Some(of), depth)?;
         Ok(bound_value(self.alloc, value, bound.bindings)?)
     }

@@ -12,7 +12,7 @@ pub enum Limit {
     Calls,
     /// Expressions and processes, with calls in line.
     InLine,
-    /// Levels of expressions and processes, with calls in line.
+    /// Levels of expressions, processes, guards and names, with calls in line.
     Depth,
     /// Guards of an IF, or constants of a CASE.
     Guards,
@@ -185,7 +185,7 @@ impl fmt::Display for Limit {
                 "more than 300,000 expressions and processes, with each call in line: call less"
             }
             Limit::Depth => {
-                "more than 500 levels of expressions and processes, with each call in line"
+                "more than 500 levels, with each call in line, of expressions, processes, guards and names"
             }
             Limit::Guards => "more than 2,000 guards of an IF, or constants of a CASE",
         })
@@ -204,6 +204,19 @@ fn write_not_a<W: fmt::Write>(
     write!(
         f,
         "`{name}`, of line {line}, is {found}; {wanted} is wanted here"
+    )
+}
+
+/// That a name is declared, and not seen here.
+fn write_out_of_scope<W: fmt::Write>(
+    f: &mut fmt::Formatter<W>,
+    name: &str,
+    declared: Span,
+) -> fmt::Result {
+    let line = declared.line;
+    write!(f, "`{name}`, of line {line}, is not in scope here; ")?;
+    f.write_str(
+        "a PROC or a FUNCTION has the names of where it is declared, and may not call itself",
     )
 }
 
@@ -342,13 +355,7 @@ impl fmt::Display for FaultKind<'_> {
                 near: Some(near),
             } => write!(f, "no `{name}` is declared here: is `{near}` meant?"),
             FaultKind::Unknown { name, near: None } => write!(f, "no `{name}` is declared here"),
-            FaultKind::OutOfScope { name, declared } => {
-                let line = declared.line;
-                write!(
-                    f,
-                    "`{name}`, of line {line}, is not in scope here; a PROC or a FUNCTION has the names of where it is declared, and may not call itself",
-                )
-            }
+            FaultKind::OutOfScope { name, declared } => write_out_of_scope(f, name, declared),
             FaultKind::NotA {
                 name,
                 declared,

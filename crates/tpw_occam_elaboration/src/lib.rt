@@ -21,6 +21,7 @@ mod messages;
 mod note;
 mod operators;
 mod processes;
+mod reports;
 mod sequences;
 mod signatures;
 mod sort;

@@ -1,8 +1,35 @@
 //! Limits, each said once.
 
+ghost use Rattle.std.specs.Prelude.{◌≤◌};
+
 /// How deep expressions and processes lie within one another at the most, those put in line among them: so deep do the
-/// calls go that make a worker, run it and compile it.
+/// calls go that make a worker, run it and compile it. A guard lies within those before it, a process within the names
+/// that are declared in front of it, and a step within the halves of its SEQ.
 pub(crate) const MOST_DEPTH: u32 = 500;
+
+/// The levels that are left within so many others.
+pub(crate) fn levels_within(levels: u32, others: usize) -> u32
+    ensures { result ≤ levels }
+{
+    match u32::try_from(others) {
+        Ok(others) if others <= levels => levels - others,
+        _ => 0,
+    }
+}
+
+/// How deep a step lies within a SEQ of so many, which is halved again and again.
+pub(crate) fn halves(steps: usize) -> usize {
+    match steps {
+        0..=1 => 0,
+        2 => 1,
+        3..=4 => 2,
+        5..=8 => 3,
+        9..=16 => 4,
+        17..=64 => 6,
+        65..=1_024 => 10,
+        _ => 20,
+    }
+}
 
 /// The most calls within one another.
 pub(crate) const MOST_CALLS: u32 = 40;

@@ -166,22 +166,34 @@ pub(crate) fn checked(
     })
 }
 
+/// The constant below the one that a value is, if both are words.
+fn word_below(worth: Worth) -> Option<u32> {
+    match worth {
+        Worth::Constant(word) if word != MOST_NEGATIVE => Some(word.wrapping_sub(1)),
+        _ => None,
+    }
+}
+
+/// The constant above the one that a value is, if both are words.
+fn word_above(worth: Worth) -> Option<u32> {
+    match worth {
+        Worth::Constant(word) if word != MOST_POSITIVE => Some(word.wrapping_add(1)),
+        _ => None,
+    }
+}
+
 /// Whether the first is at least the second: more than the constant below it, or less than the constant above it.
 fn at_least(alloc: Global, left: Typed, right: Typed, span: Span) -> Result<Typed, AllocError> {
-    match (left.worth, right.worth) {
-        (_, Worth::Constant(word)) if word != MOST_NEGATIVE => {
-            let below = constant(right.of, word.wrapping_sub(1));
-            greater(alloc, left, below, span)
-        }
-        (Worth::Constant(word), _) if word != MOST_POSITIVE => {
-            let above = constant(left.of, word.wrapping_add(1));
-            greater(alloc, above, right, span)
-        }
-        _ => {
-            let less = greater(alloc, right, left, span)?;
-            inverted(alloc, less)
-        }
+    if let Some(word) = word_below(right.worth) {
+        let below = constant(right.of, word);
+        return greater(alloc, left, below, span);
     }
+    if let Some(word) = word_above(left.worth) {
+        let above = constant(left.of, word);
+        return greater(alloc, above, right, span);
+    }
+    let less = greater(alloc, right, left, span)?;
+    inverted(alloc, less)
 }
 
 /// Whether the first is later on a clock that wraps: their difference is above 0.

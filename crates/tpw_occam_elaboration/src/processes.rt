@@ -3,17 +3,18 @@
 //! `depth` counts down with each process that lies within another, calls in line among them.
 
 use crate::bindings::{Binding, bound_process};
-use crate::choices::{Guarded, Selector, chain, is_one_of};
+use crate::choices::{Guarded, Selector, chain};
 use crate::declarations::Level;
 use crate::elaborator::{Elaborator, Frame, or_else, recovered};
 use crate::environment::{Atom, Meaning};
 use crate::fault::{FaultKind, Limit, Stop};
-use crate::limits::{MOST_GUARDS, MOST_TURNS};
+use crate::limits::{MOST_GUARDS, MOST_TURNS, halves, levels_within};
 use crate::note::NoteKind;
 use crate::sequences::{at, sequence};
 use crate::sort::Role;
 use crate::syntax::{place_of, span_of};
 use crate::typed::Worth;
+use crate::words::MOST_POSITIVE;
 use tpw_occam_core::{Expression, Process};
 use tpw_occam_syntax::{
     Declaration, Expression as Tree, Name, Primitive, Process as Written, Span,
@@ -24,6 +25,11 @@ use tpw_occam_syntax::{
 struct Turns {
     start: u32,
     count: u32,
+}
+
+/// Whether the last of so many indices from one on is no INT.
+fn is_beyond(first: u32, turns: u32) -> bool {
+    turns > 0 && turns - 1 > MOST_POSITIVE.wrapping_sub(first)
 }
 
 impl<'a> Elaborator<'a> {
@@ -43,7 +49,7 @@ impl<'a> Elaborator<'a> {
             };
             return self.fault(span_of(count), kind);
         }
-        if i64::from(first.cast_signed()) + i64::from(turns) > 0x8000_0000 {
+        if is_beyond(first, turns) {
             return self.fault(span_of(count), FaultKind::LastIndex);
         }
         Ok(Turns {
@@ -76,6 +82,7 @@ impl<'a> Elaborator<'a> {
         steps: &'a [Written<'a>],
         depth: u32,
     ) -> Result<Process, Stop> {
+        let depth = levels_within(depth, halves(steps.len()));
         let mut list = Vec::new(self.alloc);
         let mut is_whole = true;
         for step in steps {
@@ -141,7 +148,8 @@ impl<'a> Elaborator<'a> {
         let mut list = Vec::new(self.alloc);
         let mut has_true = false;
         let mut is_whole = true;
-        for (guard, process) in choices {
+        for (index, (guard, process)) in choices.iter().enumerate() {
+            let depth = levels_within(depth, index);
             let made = self.guard(frame, guard, depth);
             let process = self.process(frame, process, depth);
             match (recovered(made)?, recovered(process)?) {
@@ -194,14 +202,13 @@ impl<'a> Elaborator<'a> {
         Ok((Selector { of, value }, Some(Binding::Value(x, typed.value))))
     }
 
-    /// The choices of a CASE.
+    /// The choices of a CASE, each tried within those before it. ELSE, wherever it stands, is within all of them.
     #[cycle(processes)]
     fn cases(
         &mut self,
         frame: Frame,
         selector: Option<Selector>,
         choices: &'a [(Vec<Tree<'a>>, Written<'a>)],
-        span: Span,
         depth: u32,
     ) -> Result<Process, Stop> {
         let alloc = self.alloc;
@@ -209,9 +216,10 @@ impl<'a> Elaborator<'a> {
         let mut seen = Vec::new(alloc);
         let mut otherwise: Option<Process> = None;
         let mut is_whole = true;
-        for (constants, process) in choices {
-            let process = self.process(frame, process, depth);
-            let process = recovered(process)?;
+        for (index, (constants, process)) in choices.iter().enumerate() {
+            let is_last = constants.is_empty();
+            let depth = levels_within(depth, if is_last { choices.len() } else { index });
+            let process = recovered(self.process(frame, process, depth))?;
             is_whole = is_whole && process.is_some();
             let process = process.unwrap_or(Process::Skip);
             let Some(selector) = selector else {
@@ -221,13 +229,16 @@ impl<'a> Elaborator<'a> {
                 otherwise = Some(process);
                 continue;
             };
-            let words = self.case_constants(frame, constants, selector.of, &mut seen)?;
             let span = span_of(first);
-            list.push(Guarded {
-                span,
-                guard: is_one_of(alloc, selector, &words, span)?,
-                process,
-            })?;
+            let guard = self.case_guard(frame, constants, selector, &mut seen, depth);
+            match recovered(guard)? {
+                Some(guard) => list.push(Guarded {
+                    span,
+                    guard,
+                    process,
+                })?,
+                None => is_whole = false,
+            }
         }
         if !is_whole || selector.is_none() {
             return Err(Stop::Reported);
@@ -242,7 +253,6 @@ impl<'a> Elaborator<'a> {
         frame: Frame,
         e: &'a Tree<'a>,
         choices: &'a [(Vec<Tree<'a>>, Written<'a>)],
-        span: Span,
         depth: u32,
     ) -> Result<Process, Stop> {
         let selected = self.selector(frame, e, depth);
@@ -250,7 +260,8 @@ impl<'a> Elaborator<'a> {
             Some((selector, binding)) => (Some(selector), binding),
             None => (None, None),
         };
-        let process = self.cases(frame, selector, choices, span, depth)?;
+        let depth = levels_within(depth, usize::from(binding.is_some()));
+        let process = self.cases(frame, selector, choices, depth)?;
         let mut bindings = Vec::new(self.alloc);
         if let Some(binding) = binding {
             bindings.push(binding)?;
@@ -285,6 +296,7 @@ impl<'a> Elaborator<'a> {
             scope: bound.scope,
             calls: frame.calls - 1,
         };
+        let depth = levels_within(depth, bound.bindings.len());
         let process = self.process(within, body, depth)?;
         Ok(bound_process(self.alloc, process, bound.bindings)?)
     }
@@ -299,6 +311,7 @@ impl<'a> Elaborator<'a> {
         depth: u32,
     ) -> Result<Process, Stop> {
         let declared = self.declared(frame, declarations, Level::Process, depth)?;
+        let depth = levels_within(depth, declared.bindings.len());
         let process = self.process(declared.frame, process, depth)?;
         Ok(bound_process(self.alloc, process, declared.bindings)?)
     }
@@ -334,8 +347,8 @@ impl<'a> Elaborator<'a> {
             Written::Case {
                 selector,
                 choices,
-                span,
-            } => self.case(frame, selector, choices, *span, depth - 1)?,
+                ..
+            } => self.case(frame, selector, choices, depth - 1)?,
             Written::Call {
                 name,
                 arguments,

@@ -1,8 +1,7 @@
 //! The worker of a text.
 
-ghost use Rattle.std.specs.Prelude.{◌≡◌, true, IfOk, All};
+ghost use Rattle.std.specs.Prelude.{◌≡◌, true, IfOk};
 ghost use Rattle.tpw_occam_core.specs.Sound.{is_sound};
-ghost use Rattle.tpw_occam_syntax.specs.Places.{LiesIn};
 ghost use Rattle.tpw_occam_elaboration.specs.Elaboration.{IsElaboration};
 
 use crate::arrays::Shape;
@@ -13,6 +12,7 @@ use crate::environment::{Channel, Meaning, Protocol, Scope};
 use crate::fault::{Fault, FaultKind, Stop};
 use crate::limits::MOST_DEPTH;
 use crate::note::{Note, NoteKind};
+use crate::reports::{FIRST, reported_faults, reported_notes};
 use crate::sequences::{at, sequence};
 use crate::signatures::{Callee, Form, Parameter};
 use crate::syntax::{declared_place, line_of, name, name_of, span_of};
@@ -23,7 +23,6 @@ use tpw_occam_core::{
 };
 use tpw_occam_syntax::{
     Declaration, Expression as Tree, Name, Parameters, Primitive, Process as Written, Source, Span,
-    placed,
 };
 
 /// A worker, the names that its variables and arrays have in the text, by their numbers, and what may not be meant.
@@ -53,13 +52,6 @@ impl From<AllocError> for ElaborationError<'_> {
         ElaborationError::Memory
     }
 }
-
-/// The beginning of a text.
-const FIRST: Span = Span {
-    line: 1,
-    column: 1,
-    width: 1,
-};
 
 /// The channels of the worker, in scope, and what the packet's and the result's carry.
 #[derive(Clone, Copy)]
@@ -458,54 +450,33 @@ impl<'a> Elaborator<'a> {
         }
     }
 
-    /// All that was found wrong, by places.
-    fn all_faults(self) -> Result<Vec<Fault<'a>>, AllocError> {
-        let mut faults = self.faults;
-        if faults.is_empty() {
-            faults.push(Fault {
-                span: FIRST,
-                kind: FaultKind::Compiler,
-            })?;
+    /// The worker with its names and notes. It has one name for each variable and array, else the fault is the
+    /// compiler's own.
+    fn finished(self, text: &str, worker: Worker) -> Result<Elaborated<'a>, ElaborationError<'a>>
+        requires { is_sound worker ≡ true }
+        ensures { IsElaboration text.now result }
+    {
+        let mut elaborator = self;
+        elaborator.note_unread()?;
+        let Elaborator {
+            alloc,
+            variables,
+            arrays,
+            notes,
+            ..
+        } = elaborator;
+        let (variables, arrays) = (variables.named, arrays.named);
+        if variables.len() != worker.variables.len() || arrays.len() != worker.arrays.len() {
+            return Err(ElaborationError::Faults(reported_faults(alloc, text, &[])?));
         }
-        faults.sort_by_key(|fault| (fault.span.line, fault.span.column))?;
-        Ok(faults)
+        let notes = reported_notes(alloc, text, &notes)?;
+        Ok(Elaborated {
+            worker,
+            variables,
+            arrays,
+            notes,
+        })
     }
-}
-
-/// Faults at their places in a text.
-fn placed_faults<'a>(
-    alloc: Global,
-    text: &str,
-    faults: &[Fault<'a>],
-) -> Result<Vec<Fault<'a>>, AllocError>
-    ensures { IfOk result (λ v. All (λ f. LiesIn text.now f.span) v.items) }
-{
-    let mut all = Vec::new(alloc);
-    for fault in faults {
-        all.push(Fault {
-            span: placed(text, fault.span),
-            kind: fault.kind,
-        })?;
-    }
-    Ok(all)
-}
-
-/// Notes at their places in a text.
-fn placed_notes<'a>(
-    alloc: Global,
-    text: &str,
-    notes: &[Note<'a>],
-) -> Result<Vec<Note<'a>>, AllocError>
-    ensures { IfOk result (λ v. All (λ n. LiesIn text.now n.span) v.items) }
-{
-    let mut all = Vec::new(alloc);
-    for note in notes {
-        all.push(Note {
-            span: placed(text, note.span),
-            kind: note.kind,
-        })?;
-    }
-    Ok(all)
 }
 
 /// The worker of a text that was read as `source`, or all that is wrong with it: with the text, or with what it says.
@@ -519,22 +490,10 @@ pub fn elaborate<'a>(
     let mut elaborator = Elaborator::new(alloc);
     match elaborator.text(source) {
         Err(Stop::Memory) => Err(ElaborationError::Memory),
-        Ok(worker) if elaborator.faults.is_empty() => {
-            elaborator.note_unread()?;
-            elaborator
-                .notes
-                .sort_by_key(|note| (note.span.line, note.span.column))?;
-            let notes = placed_notes(alloc, text, &elaborator.notes)?;
-            Ok(Elaborated {
-                worker,
-                variables: elaborator.variables.named,
-                arrays: elaborator.arrays.named,
-                notes,
-            })
-        }
+        Ok(worker) if elaborator.faults.is_empty() => elaborator.finished(text, worker),
         _ => {
-            let faults = elaborator.all_faults()?;
-            Err(ElaborationError::Faults(placed_faults(alloc, text, &faults)?))
+            let faults = reported_faults(alloc, text, &elaborator.faults)?;
+            Err(ElaborationError::Faults(faults))
         }
     }
 }

@@ -1,4 +1,4 @@
-" :make assembles the text, and :copen lists its fault. The parentheses give tpw's messages to the pipe that vim adds,
+" :make compiles or assembles the text, and :copen lists its faults. The parentheses give tpw's messages to the pipe that vim adds,
 " and not the image; :p:S is the file's path in quotes, so that no name is a command or an option.
 if exists('current_compiler')
   finish
