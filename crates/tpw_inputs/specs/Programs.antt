@@ -1,5 +1,6 @@
 -- The images of programs that texts say, and how a text that says none is reported.
-use Rattle.std.specs.Prelude.{◌≡◌, ◌⊎◌, ℕ, List, Ok, ⊤}
+use Rattle.std.specs.Prelude.{◌≡◌, ◌⊎◌, ◌==◌, ℕ, List, Ok, ⊤, false}
+use Rattle.std.specs.List.{list_any}
 use Rattle.std.specs.Str.{IsValidUpTo}
 use Rattle.tp_image.specs.Image.{ImageValue}
 use Rattle.tp_image.specs.Text.{text as image_text}
@@ -53,6 +54,15 @@ pub record IsNotUtf8 (text : List ℕ) (e : Failure) : Type 0 where
   pub valid : IsValidUpTo text bytes
   pub reported : e ≡ failure.Input (input.NotUtf8 (position_behind text bytes))
 
+-- a text has no line feed, and is said to have carriage returns alone
+pub record HasReturnsAlone (text : List ℕ) (e : Failure) : Type 0 where
+  pub feeds : list_any (λ b. b == 10) text ≡ false
+  pub reported : e ≡ failure.Input input.CarriageReturns
+
+-- bytes are no text whose lines are read
+abbrev pub IsNoText : List ℕ → Failure → Type 0
+IsNoText text e = HasReturnsAlone text e ⊎ IsNotUtf8 text e
+
 -- a text says no program, or a growth was refused
 pub record IsNoProgram (text : List ℕ) (e : Failure) : Type 0 where
   pub fault : SourceFault
@@ -67,4 +77,4 @@ pub record HasNoImage (text : List ℕ) (e : Failure) : Type 0 where
 
 -- why an assembly text is assembled to nothing: want of memory, or what is wrong with the text
 abbrev pub IsUnassembled : List ℕ → Failure → Type 0
-IsUnassembled text e = (e ≡ failure.Memory) ⊎ (IsNotUtf8 text e ⊎ (IsNoProgram text e ⊎ HasNoImage text e))
+IsUnassembled text e = (e ≡ failure.Memory) ⊎ (IsNoText text e ⊎ (IsNoProgram text e ⊎ HasNoImage text e))

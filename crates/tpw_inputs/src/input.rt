@@ -6,7 +6,7 @@ ghost use Rattle.std.specs.Char.{is_ascii_hexdigit};
 ghost use Rattle.tpw_inputs.specs.Failures.{of_text};
 ghost use Rattle.tpw_inputs.specs.declared.input.TextFault.{TextFault};
 ghost use Rattle.tpw_inputs.specs.declared.input.TextFault.TheVariants.{Memory, NotADigit};
-ghost use Rattle.tpw_inputs.specs.Programs.{IsNotUtf8};
+ghost use Rattle.tpw_inputs.specs.Programs.{IsNoText, IsNotUtf8};
 ghost use Rattle.tpw_inputs.specs.Texts.{IsFault, Says, is_line_end, is_digit_or_line_end};
 
 use crate::failure::Failure;
@@ -128,7 +128,8 @@ fn utf8(bytes: &[u8]) -> Result<&str, Failure>
 
 /// The text that bytes are, whose lines do not end with carriage returns alone.
 pub fn text_of(bytes: &[u8]) -> Result<&str, Failure>
-    ensures { IfOk result (λ text. text.now ≡ bytes.now) }
+    ensures text { IfOk result (λ text. text.now ≡ bytes.now) }
+    ensures fault { IfErr result (IsNoText bytes.now) }
 {
     if bytes.trim_ascii_end().contains(&b'\r') && !bytes.contains(&b'\n') {
         return Err(Failure::Input(InputFault::CarriageReturns));

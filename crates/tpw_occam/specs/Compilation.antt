@@ -1,5 +1,5 @@
 -- What compiling a text gives: a worker that is sound with its program, or messages whose places lie in the text.
-use Rattle.std.specs.Prelude.{◌≡◌, ◌≤◌, ℕ, true, List, Result, Ok, Err, All, Unit, length}
+use Rattle.std.specs.Prelude.{◌≡◌, ◌≤◌, ℕ, true, List, Result, Ok, Err, All, length, ⊤}
 use Rattle.tpw_occam_core.specs.Sound.{is_sound}
 use Rattle.tpw_occam_code.specs.Program.{HasLayout}
 use Rattle.tpw_occam_syntax.specs.Places.{LiesIn}
@@ -22,8 +22,8 @@ pub record IsCompiled (text : List ℕ) (made : CompiledText) : Type 0 where
 abbrev pub IsRefusal : List ℕ → OccamFault → Type 0
 IsRefusal text (Refused messages) =
     (1 ≤ length messages.items) × (length messages.items ≤ 20) × ArePlaced text messages.items
-IsRefusal text (Compiler defect) = Unit {0}
-IsRefusal text Memory = Unit {0}
+IsRefusal text (Compiler defect) = ⊤
+IsRefusal text Memory = ⊤
 
 abbrev pub IsCompilation : List ℕ → Result CompiledText OccamFault → Type 0
 IsCompilation text (Ok made) = IsCompiled text made

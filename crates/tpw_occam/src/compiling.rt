@@ -6,14 +6,14 @@ ghost use Rattle.tpw_occam_core.specs.Sound.{is_sound};
 ghost use Rattle.tpw_occam_syntax.specs.Places.{LiesIn};
 
 use crate::fault::{Defect, OccamFault};
-use crate::names::{Located, located_in};
 use crate::message::{Message, message_at, messages_of, notes_of};
+use crate::names::{Located, located_in};
 use std::alloc::Global;
 use tpw_asm::Program;
 use tpw_occam_code::{CodeFault, Compiled, compile};
 use tpw_occam_core::Worker;
 use tpw_occam_elaboration::{Elaborated, ElaborationError, Fault, FaultKind, elaborate};
-use tpw_occam_syntax::parse;
+use tpw_occam_syntax::{Source, parse};
 
 /// A text, compiled.
 #[derive(Debug, Drop)]
@@ -89,12 +89,14 @@ fn compiled<'t>(
         notes,
     } = elaborated;
     match compile(alloc, &worker) {
-        Ok(Compiled {
-            program,
-            sources,
-            loop_lines,
-            placed,
-        }) => {
+        Ok(
+            Compiled {
+                program,
+                sources,
+                loop_lines,
+                placed,
+            },
+        ) => {
             let located = located_in(alloc, text, &placed, &variables, &arrays)?;
             let notes = notes_of(alloc, text, &notes)?;
             Ok(CompiledText {
@@ -110,14 +112,25 @@ fn compiled<'t>(
     }
 }
 
+/// The program of a text that was read as `source`, or why it has none.
+fn compiled_source<'t>(
+    alloc: Global,
+    text: &'t str,
+    source: &Source<'_>,
+) -> Result<CompiledText<'t>, OccamFault>
+    ensures { IsCompilation text.now result }
+{
+    match elaborate(alloc, text, source) {
+        Ok(elaborated) => compiled(alloc, text, elaborated),
+        Err(ElaborationError::Faults(faults)) => Err(refused(alloc, text, &faults)),
+        Err(ElaborationError::Memory) => Err(OccamFault::Memory),
+    }
+}
+
 /// The program of a text with what it means and what may not be meant, or why it has none.
 pub fn compile_text<'t>(alloc: Global, text: &'t str) -> Result<CompiledText<'t>, OccamFault>
     ensures { IsCompilation text.now result }
 {
     let source = parse(alloc, text)?;
-    match elaborate(alloc, text, &source) {
-        Ok(elaborated) => compiled(alloc, text, elaborated),
-        Err(ElaborationError::Faults(faults)) => Err(refused(alloc, text, &faults)),
-        Err(ElaborationError::Memory) => Err(OccamFault::Memory),
-    }
+    compiled_source(alloc, text, &source)
 }

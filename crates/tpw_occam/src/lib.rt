@@ -3,10 +3,10 @@
 
 mod compiling;
 mod fault;
-mod names;
 mod message;
+mod names;
 
 pub use compiling::{CompiledText, compile_text};
 pub use fault::{Defect, OccamFault};
-pub use names::Located;
 pub use message::{Message, message_at};
+pub use names::Located;

@@ -65,10 +65,7 @@ fn statement_at(text: &str, line: usize) -> Span {
     let statement = said.trim_ascii_start();
     Span {
         line,
-        column: said
-            .len()
-            .saturating_sub(statement.len())
-            .saturating_add(1),
+        column: said.len().saturating_sub(statement.len()).saturating_add(1),
         width: statement.trim_ascii_end().len(),
     }
 }
