@@ -38,11 +38,13 @@ fn refused(alloc: Global, text: &str, faults: &[Fault<'_>]) -> OccamFault
     if faults.iter().any(|fault| fault.kind == FaultKind::Compiler) {
         return OccamFault::Compiler(Defect::Unsound);
     }
-    match messages_of(alloc, text, faults) {
-        Ok(messages) if messages.is_empty() => OccamFault::Compiler(Defect::Unsound),
-        Ok(messages) => OccamFault::Refused(messages),
-        Err(_) => OccamFault::Memory,
+    let Ok(messages) = messages_of(alloc, text, faults) else {
+        return OccamFault::Memory;
+    };
+    if messages.is_empty() {
+        return OccamFault::Compiler(Defect::Unsound);
     }
+    OccamFault::Refused(messages)
 }
 
 /// Why a text is refused whose code goes beyond a limit at a line.
@@ -113,10 +115,10 @@ fn compiled<'t>(
 }
 
 /// The program of a text that was read as `source`, or why it has none.
-fn compiled_source<'t>(
+fn compiled_source<'t, 's>(
     alloc: Global,
     text: &'t str,
-    source: &Source<'_>,
+    source: &'s Source<'s>,
 ) -> Result<CompiledText<'t>, OccamFault>
     ensures { IsCompilation text.now result }
 {
