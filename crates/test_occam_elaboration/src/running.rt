@@ -5,12 +5,16 @@ use std::alloc::{AllocError, Global};
 use std::process::Abort;
 use tpw_occam_core::{Given, Worker, evaluate};
 use tpw_occam_elaboration::{ElaborationError, elaborate};
-use tpw_occam_syntax::parse;
+use tpw_occam_syntax::{Source, parse};
+
+/// The tree of a text, which stays allocated: the kit's borrow checker shortens no lifetime within a tree.
+fn tree<'t>(rt: &impl Abort, alloc: Global, text: &'t str) -> &'t Source<'t> {
+    Box::leak(unwrap(rt, Box::new(alloc, unwrap(rt, parse(alloc, text)))))
+}
 
 /// The worker of a text that is right.
 pub(crate) fn worker(rt: &impl Abort, alloc: Global, text: &str) -> Worker {
-    let source = unwrap(rt, parse(alloc, text));
-    let made = unwrap(rt, elaborate(alloc, text, &source));
+    let made = unwrap(rt, elaborate(alloc, text, tree(rt, alloc, text)));
     made.worker
 }
 
@@ -23,8 +27,7 @@ pub(crate) fn given(rt: &impl Abort, alloc: Global, worker: &Worker, packet: &[u
 /// What is wrong with a text, a line for each fault: its line, column and text.
 pub(crate) fn faults(rt: &impl Abort, alloc: Global, text: &str) -> Result<String, AllocError> {
     let mut all = String::new(alloc);
-    let source = unwrap(rt, parse(alloc, text));
-    match elaborate(alloc, text, &source) {
+    match elaborate(alloc, text, tree(rt, alloc, text)) {
         Ok(_) => all.push_str("nothing is wrong\n")?,
         Err(ElaborationError::Memory) => return Err(AllocError),
         Err(ElaborationError::Faults(faults)) => {
@@ -40,8 +43,7 @@ pub(crate) fn faults(rt: &impl Abort, alloc: Global, text: &str) -> Result<Strin
 /// What a text may not mean, a line for each note.
 pub(crate) fn notes(rt: &impl Abort, alloc: Global, text: &str) -> Result<String, AllocError> {
     let mut all = String::new(alloc);
-    let source = unwrap(rt, parse(alloc, text));
-    let made = unwrap(rt, elaborate(alloc, text, &source));
+    let made = unwrap(rt, elaborate(alloc, text, tree(rt, alloc, text)));
     for note in &made.notes {
         let (line, column, kind) = (note.span.line, note.span.column, note.kind);
         writeln!(all, "{line}:{column}: {kind}")?;

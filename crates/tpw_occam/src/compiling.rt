@@ -8,7 +8,7 @@ ghost use Rattle.tpw_occam_syntax.specs.Places.{LiesIn};
 use crate::fault::{Defect, OccamFault};
 use crate::message::{Message, message_at, messages_of, notes_of};
 use crate::names::{Located, located_in};
-use std::alloc::Global;
+use std::alloc::{AllocError, Global};
 use tpw_asm::Program;
 use tpw_occam_code::{CodeFault, Compiled, compile};
 use tpw_occam_core::Worker;
@@ -114,25 +114,20 @@ fn compiled<'t>(
     }
 }
 
-/// The program of a text that was read as `source`, or why it has none.
-fn compiled_source<'t, 's>(
-    alloc: Global,
-    text: &'t str,
-    source: &'s Source<'s>,
-) -> Result<CompiledText<'t>, OccamFault>
-    ensures { IsCompilation text.now result }
-{
-    match elaborate(alloc, text, source) {
-        Ok(elaborated) => compiled(alloc, text, elaborated),
-        Err(ElaborationError::Faults(faults)) => Err(refused(alloc, text, &faults)),
-        Err(ElaborationError::Memory) => Err(OccamFault::Memory),
-    }
+/// The tree of a text. It stays allocated until the program ends: the kit's borrow checker shortens no lifetime within
+/// a tree, so one that is dropped earlier could not be borrowed.
+fn tree_of<'t>(alloc: Global, text: &'t str) -> Result<&'t Source<'t>, AllocError> {
+    let tree = Box::new(alloc, parse(alloc, text)?)?;
+    Ok(Box::leak(tree))
 }
 
 /// The program of a text with what it means and what may not be meant, or why it has none.
 pub fn compile_text<'t>(alloc: Global, text: &'t str) -> Result<CompiledText<'t>, OccamFault>
     ensures { IsCompilation text.now result }
 {
-    let source = parse(alloc, text)?;
-    compiled_source(alloc, text, &source)
+    match elaborate(alloc, text, tree_of(alloc, text)?) {
+        Ok(elaborated) => compiled(alloc, text, elaborated),
+        Err(ElaborationError::Faults(faults)) => Err(refused(alloc, text, &faults)),
+        Err(ElaborationError::Memory) => Err(OccamFault::Memory),
+    }
 }
