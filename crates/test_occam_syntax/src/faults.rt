@@ -359,8 +359,8 @@ fn nesting(rt: HostRuntime) {
     assert_faults(&rt, rt.alloc(), &NESTING);
 }
 
-/// What is wanted in a line.
-const PHRASES: [Case; 103] = [
+/// What is wanted in a line: the first of these.
+const FIRST_PHRASES: [Case; 35] = [
     ("VAL x IS 1", &[(1, 11, FaultKind::Wanted(Wanted::Colon))]),
     ("VAL x 1:", &[(1, 7, FaultKind::Wanted(Wanted::Is))]),
     ("VAL x:", &[(1, 6, FaultKind::Wanted(Wanted::Is))]),
@@ -459,6 +459,15 @@ const PHRASES: [Case; 103] = [
         "PROC p () x\n  SKIP\n:",
         &[(1, 11, FaultKind::Wanted(Wanted::Nothing))],
     ),
+];
+
+#[test]
+fn first_phrases(rt: HostRuntime) {
+    assert_faults(&rt, rt.alloc(), &FIRST_PHRASES);
+}
+
+/// More of what is wanted in a line.
+const MORE_PHRASES: [Case; 35] = [
     (
         "PROC p (INT x?)\n  SKIP\n:",
         &[(1, 14, FaultKind::Wanted(Wanted::Nothing))],
@@ -599,6 +608,15 @@ const PHRASES: [Case; 103] = [
         "PROC p ()\n  CASE\n:\n",
         &[(2, 7, FaultKind::Wanted(Wanted::Expression))],
     ),
+];
+
+#[test]
+fn more_phrases(rt: HostRuntime) {
+    assert_faults(&rt, rt.alloc(), &MORE_PHRASES);
+}
+
+/// The last of what is wanted in a line.
+const LAST_PHRASES: [Case; 33] = [
     (
         "PROC p ()\n  SKIP SKIP\n:\n",
         &[(2, 8, FaultKind::Wanted(Wanted::Nothing))],
@@ -734,8 +752,8 @@ const PHRASES: [Case; 103] = [
 ];
 
 #[test]
-fn phrases(rt: HostRuntime) {
-    assert_faults(&rt, rt.alloc(), &PHRASES);
+fn last_phrases(rt: HostRuntime) {
+    assert_faults(&rt, rt.alloc(), &LAST_PHRASES);
 }
 
 /// A text with many faults.

@@ -182,12 +182,19 @@ fn put_value(
     put_expression(out, value)
 }
 
-/// A declaration, in brackets.
+/// The most levels of processes that are shown.
+pub(crate) const MOST_LEVELS: u32 = 100;
+
+/// A declaration, in brackets, of so many levels at most.
 #[cycle(processes)]
 pub(crate) fn put_declaration(
     out: &mut String,
     declaration: &Declaration<'_>,
+    levels: u32,
 ) -> Result<(), AllocError> {
+    let Some(levels) = levels.checked_sub(1) else {
+        return out.push_str("too deep");
+    };
     out.push_str("(")?;
     match declaration {
         Declaration::Value { of, name, value } => put_value(out, of.as_ref(), name, value)?,
@@ -207,7 +214,7 @@ pub(crate) fn put_declaration(
             write!(out, "PROC {}", name.text)?;
             put_parameters(out, parameters)?;
             out.push_str(" ")?;
-            put_process(out, body)?;
+            put_process(out, body, levels)?;
         }
         Declaration::Function {
             of,
@@ -230,10 +237,10 @@ pub(crate) fn put_declaration(
 
 /// Processes, each behind a space.
 #[cycle(processes)]
-fn put_steps(out: &mut String, steps: &[Process<'_>]) -> Result<(), AllocError> {
+fn put_steps(out: &mut String, steps: &[Process<'_>], levels: u32) -> Result<(), AllocError> {
     for step in steps {
         out.push_str(" ")?;
-        put_process(out, step)?;
+        put_process(out, step, levels)?;
     }
     Ok(())
 }
@@ -243,12 +250,13 @@ fn put_steps(out: &mut String, steps: &[Process<'_>]) -> Result<(), AllocError> 
 fn put_choices(
     out: &mut String,
     choices: &[(Expression<'_>, Process<'_>)],
+    levels: u32,
 ) -> Result<(), AllocError> {
     for (guard, process) in choices {
         out.push_str(" ")?;
         put_expression(out, guard)?;
         out.push_str(": ")?;
-        put_process(out, process)?;
+        put_process(out, process, levels)?;
     }
     Ok(())
 }
@@ -258,12 +266,13 @@ fn put_choices(
 fn put_cases(
     out: &mut String,
     choices: &[(Vec<Expression<'_>>, Process<'_>)],
+    levels: u32,
 ) -> Result<(), AllocError> {
     for (constants, process) in choices {
         out.push_str(" ")?;
         put_list(out, constants)?;
         out.push_str(": ")?;
-        put_process(out, process)?;
+        put_process(out, process, levels)?;
     }
     Ok(())
 }
@@ -274,19 +283,27 @@ fn put_declared(
     out: &mut String,
     declarations: &[Declaration<'_>],
     process: &Process<'_>,
+    levels: u32,
 ) -> Result<(), AllocError> {
     out.push_str("(")?;
     for declaration in declarations {
-        put_declaration(out, declaration)?;
+        put_declaration(out, declaration, levels)?;
         out.push_str(" ")?;
     }
-    put_process(out, process)?;
+    put_process(out, process, levels)?;
     out.push_str(")")
 }
 
 /// A process, in brackets.
 #[cycle(processes)]
-pub(crate) fn put_process(out: &mut String, process: &Process<'_>) -> Result<(), AllocError> {
+pub(crate) fn put_process(
+    out: &mut String,
+    process: &Process<'_>,
+    levels: u32,
+) -> Result<(), AllocError> {
+    let Some(levels) = levels.checked_sub(1) else {
+        return out.push_str("too deep");
+    };
     match process {
         Process::Skip { .. } => out.push_str("SKIP"),
         Process::Stop { .. } => out.push_str("STOP"),
@@ -301,7 +318,7 @@ pub(crate) fn put_process(out: &mut String, process: &Process<'_>) -> Result<(),
         }
         Process::Sequence { steps, .. } => {
             out.push_str("(SEQ")?;
-            put_steps(out, steps)?;
+            put_steps(out, steps, levels)?;
             out.push_str(")")
         }
         Process::Replicated {
@@ -315,12 +332,12 @@ pub(crate) fn put_process(out: &mut String, process: &Process<'_>) -> Result<(),
             put_expression(out, start)?;
             out.push_str(" ")?;
             put_expression(out, count)?;
-            put_steps(out, steps)?;
+            put_steps(out, steps, levels)?;
             out.push_str(")")
         }
         Process::If { choices, .. } => {
             out.push_str("(IF")?;
-            put_choices(out, choices)?;
+            put_choices(out, choices, levels)?;
             out.push_str(")")
         }
         Process::Case {
@@ -330,7 +347,7 @@ pub(crate) fn put_process(out: &mut String, process: &Process<'_>) -> Result<(),
         } => {
             out.push_str("(CASE ")?;
             put_expression(out, selector)?;
-            put_cases(out, choices)?;
+            put_cases(out, choices, levels)?;
             out.push_str(")")
         }
         Process::Call {
@@ -356,7 +373,7 @@ pub(crate) fn put_process(out: &mut String, process: &Process<'_>) -> Result<(),
         Process::Declared {
             declarations,
             process,
-        } => put_declared(out, declarations, process),
+        } => put_declared(out, declarations, process, levels),
         Process::Wrong => out.push_str("wrong"),
     }
 }
