@@ -3,7 +3,9 @@
 
 use crate::asserts::assert_same;
 use crate::running::{given, worker};
-use std::alloc::AllocError;
+use std::alloc::{AllocError, Global};
+use std::process::Abort;
+use tpw_occam_core::Given;
 
 /// What `x` is, in each row.
 const NUMBERS: [u32; 8] = [
@@ -24,1064 +26,202 @@ const HEAD: &str =
 /// What stands behind it.
 const TAIL: &str = "\n    result ! y\n:\n";
 
-/// Expressions, each with its values and whether they set the flag.
-const ROWS: [(&str, [(u32, bool); 8]); 80] = [
-    (
-        "x + 1",
-        [
-            (1, false),
-            (2, false),
-            (4, false),
-            (6, false),
-            (0x80000000, true),
-            (0x80000001, false),
-            (0, false),
-            (0x12345679, false),
-        ],
-    ),
+/// Expressions, each with its values as numbers without a sign, a `!` behind those that set the flag.
+const FIRST_ROWS: [(&str, &str); 27] = [
+    ("x + 1", "1 2 4 6 2147483648! 2147483649 0 305419897"),
     (
         "x - 1",
-        [
-            (0xFFFFFFFF, false),
-            (0, false),
-            (2, false),
-            (4, false),
-            (0x7FFFFFFE, false),
-            (0x7FFFFFFF, true),
-            (0xFFFFFFFE, false),
-            (0x12345677, false),
-        ],
+        "4294967295 0 2 4 2147483646 2147483647! 4294967294 305419895",
     ),
     (
         "1 - x",
-        [
-            (1, false),
-            (0, false),
-            (0xFFFFFFFE, false),
-            (0xFFFFFFFC, false),
-            (0x80000002, false),
-            (0x80000001, true),
-            (2, false),
-            (0xEDCBA989, false),
-        ],
+        "1 0 4294967294 4294967292 2147483650 2147483649! 2 3989547401",
     ),
     (
         "x * 3",
-        [
-            (0, false),
-            (3, false),
-            (9, false),
-            (0xF, false),
-            (0x7FFFFFFD, true),
-            (0x80000000, true),
-            (0xFFFFFFFD, false),
-            (0x369D0368, false),
-        ],
+        "0 3 9 15 2147483645! 2147483648! 4294967293 916259688",
     ),
     (
         "-x",
-        [
-            (0, false),
-            (0xFFFFFFFF, false),
-            (0xFFFFFFFD, false),
-            (0xFFFFFFFB, false),
-            (0x80000001, false),
-            (0x80000000, true),
-            (1, false),
-            (0xEDCBA988, false),
-        ],
+        "0 4294967295 4294967293 4294967291 2147483649 2147483648! 1 3989547400",
     ),
-    (
-        "x PLUS 1",
-        [
-            (1, false),
-            (2, false),
-            (4, false),
-            (6, false),
-            (0x80000000, false),
-            (0x80000001, false),
-            (0, false),
-            (0x12345679, false),
-        ],
-    ),
+    ("x PLUS 1", "1 2 4 6 2147483648 2147483649 0 305419897"),
     (
         "x MINUS 1",
-        [
-            (0xFFFFFFFF, false),
-            (0, false),
-            (2, false),
-            (4, false),
-            (0x7FFFFFFE, false),
-            (0x7FFFFFFF, false),
-            (0xFFFFFFFE, false),
-            (0x12345677, false),
-        ],
+        "4294967295 0 2 4 2147483646 2147483647 4294967294 305419895",
     ),
     (
         "1 MINUS x",
-        [
-            (1, false),
-            (0, false),
-            (0xFFFFFFFE, false),
-            (0xFFFFFFFC, false),
-            (0x80000002, false),
-            (0x80000001, false),
-            (2, false),
-            (0xEDCBA989, false),
-        ],
+        "1 0 4294967294 4294967292 2147483650 2147483649 2 3989547401",
     ),
     (
         "x TIMES 3",
-        [
-            (0, false),
-            (3, false),
-            (9, false),
-            (0xF, false),
-            (0x7FFFFFFD, false),
-            (0x80000000, false),
-            (0xFFFFFFFD, false),
-            (0x369D0368, false),
-        ],
+        "0 3 9 15 2147483645 2147483648 4294967293 916259688",
     ),
     (
         "MINUS x",
-        [
-            (0, false),
-            (0xFFFFFFFF, false),
-            (0xFFFFFFFD, false),
-            (0xFFFFFFFB, false),
-            (0x80000001, false),
-            (0x80000000, false),
-            (1, false),
-            (0xEDCBA988, false),
-        ],
+        "0 4294967295 4294967293 4294967291 2147483649 2147483648 1 3989547400",
     ),
-    (
-        "x / 3",
-        [
-            (0, false),
-            (0, false),
-            (1, false),
-            (1, false),
-            (0x2AAAAAAA, false),
-            (0xD5555556, false),
-            (0, false),
-            (0x6117228, false),
-        ],
-    ),
+    ("x / 3", "0 0 1 1 715827882 3579139414 0 101806632"),
     (
         "x / (-1)",
-        [
-            (0, false),
-            (0xFFFFFFFF, false),
-            (0xFFFFFFFD, false),
-            (0xFFFFFFFB, false),
-            (0x80000001, false),
-            (0, true),
-            (1, false),
-            (0xEDCBA988, false),
-        ],
+        "0 4294967295 4294967293 4294967291 2147483649 0! 1 3989547400",
     ),
-    (
-        "x / 0",
-        [
-            (0, true),
-            (0, true),
-            (0, true),
-            (0, true),
-            (0, true),
-            (0, true),
-            (0, true),
-            (0, true),
-        ],
-    ),
-    (
-        "7 / x",
-        [
-            (0, true),
-            (7, false),
-            (2, false),
-            (1, false),
-            (0, false),
-            (0, false),
-            (0xFFFFFFF9, false),
-            (0, false),
-        ],
-    ),
-    (
-        "x \\ 3",
-        [
-            (0, false),
-            (1, false),
-            (0, false),
-            (2, false),
-            (1, false),
-            (0xFFFFFFFE, false),
-            (0xFFFFFFFF, false),
-            (0, false),
-        ],
-    ),
-    (
-        "x REM (-3)",
-        [
-            (0, false),
-            (1, false),
-            (0, false),
-            (2, false),
-            (1, false),
-            (0xFFFFFFFE, false),
-            (0xFFFFFFFF, false),
-            (0, false),
-        ],
-    ),
-    (
-        "x \\ (-1)",
-        [
-            (0, false),
-            (0, false),
-            (0, false),
-            (0, false),
-            (0, false),
-            (0, true),
-            (0, false),
-            (0, false),
-        ],
-    ),
-    (
-        "7 \\ x",
-        [
-            (0, true),
-            (0, false),
-            (1, false),
-            (2, false),
-            (7, false),
-            (7, false),
-            (0, false),
-            (7, false),
-        ],
-    ),
-    (
-        "x \\ 0",
-        [
-            (0, true),
-            (0, true),
-            (0, true),
-            (0, true),
-            (0, true),
-            (0, true),
-            (0, true),
-            (0, true),
-        ],
-    ),
-    (
-        "x /\\ 6",
-        [
-            (0, false),
-            (0, false),
-            (2, false),
-            (4, false),
-            (6, false),
-            (0, false),
-            (6, false),
-            (0, false),
-        ],
-    ),
-    (
-        "x BITAND 6",
-        [
-            (0, false),
-            (0, false),
-            (2, false),
-            (4, false),
-            (6, false),
-            (0, false),
-            (6, false),
-            (0, false),
-        ],
-    ),
+    ("x / 0", "0! 0! 0! 0! 0! 0! 0! 0!"),
+    ("7 / x", "0! 7 2 1 0 0 4294967289 0"),
+    ("x \\ 3", "0 1 0 2 1 4294967294 4294967295 0"),
+    ("x REM (-3)", "0 1 0 2 1 4294967294 4294967295 0"),
+    ("x \\ (-1)", "0 0 0 0 0 0! 0 0"),
+    ("7 \\ x", "0! 0 1 2 7 7 0 7"),
+    ("x \\ 0", "0! 0! 0! 0! 0! 0! 0! 0!"),
+    ("x /\\ 6", "0 0 2 4 6 0 6 0"),
+    ("x BITAND 6", "0 0 2 4 6 0 6 0"),
     (
         "x \\/ 6",
-        [
-            (6, false),
-            (7, false),
-            (7, false),
-            (7, false),
-            (0x7FFFFFFF, false),
-            (0x80000006, false),
-            (0xFFFFFFFF, false),
-            (0x1234567E, false),
-        ],
+        "6 7 7 7 2147483647 2147483654 4294967295 305419902",
     ),
     (
         "x BITOR 6",
-        [
-            (6, false),
-            (7, false),
-            (7, false),
-            (7, false),
-            (0x7FFFFFFF, false),
-            (0x80000006, false),
-            (0xFFFFFFFF, false),
-            (0x1234567E, false),
-        ],
+        "6 7 7 7 2147483647 2147483654 4294967295 305419902",
     ),
     (
         "x >< 6",
-        [
-            (6, false),
-            (7, false),
-            (5, false),
-            (3, false),
-            (0x7FFFFFF9, false),
-            (0x80000006, false),
-            (0xFFFFFFF9, false),
-            (0x1234567E, false),
-        ],
+        "6 7 5 3 2147483641 2147483654 4294967289 305419902",
     ),
     (
         "~x",
-        [
-            (0xFFFFFFFF, false),
-            (0xFFFFFFFE, false),
-            (0xFFFFFFFC, false),
-            (0xFFFFFFFA, false),
-            (0x80000000, false),
-            (0x7FFFFFFF, false),
-            (0, false),
-            (0xEDCBA987, false),
-        ],
+        "4294967295 4294967294 4294967292 4294967290 2147483648 2147483647 0 3989547399",
     ),
     (
         "BITNOT x",
-        [
-            (0xFFFFFFFF, false),
-            (0xFFFFFFFE, false),
-            (0xFFFFFFFC, false),
-            (0xFFFFFFFA, false),
-            (0x80000000, false),
-            (0x7FFFFFFF, false),
-            (0, false),
-            (0xEDCBA987, false),
-        ],
+        "4294967295 4294967294 4294967292 4294967290 2147483648 2147483647 0 3989547399",
     ),
-    (
-        "x << 3",
-        [
-            (0, false),
-            (8, false),
-            (0x18, false),
-            (0x28, false),
-            (0xFFFFFFF8, false),
-            (0, false),
-            (0xFFFFFFF8, false),
-            (0x91A2B3C0, false),
-        ],
-    ),
-    (
-        "x >> 3",
-        [
-            (0, false),
-            (0, false),
-            (0, false),
-            (0, false),
-            (0xFFFFFFF, false),
-            (0x10000000, false),
-            (0x1FFFFFFF, false),
-            (0x2468ACF, false),
-        ],
-    ),
+    ("x << 3", "0 8 24 40 4294967288 0 4294967288 2443359168"),
+];
+
+/// More expressions.
+const MORE_ROWS: [(&str, &str); 27] = [
+    ("x >> 3", "0 0 0 0 268435455 268435456 536870911 38177487"),
     (
         "x << 31",
-        [
-            (0, false),
-            (0x80000000, false),
-            (0x80000000, false),
-            (0x80000000, false),
-            (0x80000000, false),
-            (0, false),
-            (0x80000000, false),
-            (0, false),
-        ],
+        "0 2147483648 2147483648 2147483648 2147483648 0 2147483648 0",
     ),
     (
         "x << 32",
-        [
-            (0, true),
-            (1, true),
-            (3, true),
-            (5, true),
-            (0x7FFFFFFF, true),
-            (0x80000000, true),
-            (0xFFFFFFFF, true),
-            (0x12345678, true),
-        ],
+        "0! 1! 3! 5! 2147483647! 2147483648! 4294967295! 305419896!",
     ),
     (
         "x >> 33",
-        [
-            (0, true),
-            (0, true),
-            (1, true),
-            (2, true),
-            (0x3FFFFFFF, true),
-            (0x40000000, true),
-            (0x7FFFFFFF, true),
-            (0x91A2B3C, true),
-        ],
+        "0! 0! 1! 2! 1073741823! 1073741824! 2147483647! 152709948!",
     ),
-    (
-        "x >> (-1)",
-        [
-            (0, true),
-            (0, true),
-            (0, true),
-            (0, true),
-            (0, true),
-            (1, true),
-            (1, true),
-            (0, true),
-        ],
-    ),
-    (
-        "3 << x",
-        [
-            (3, false),
-            (6, false),
-            (0x18, false),
-            (0x60, false),
-            (0x80000000, true),
-            (3, true),
-            (0x80000000, true),
-            (0x3000000, true),
-        ],
-    ),
+    ("x >> (-1)", "0! 0! 0! 0! 0! 1! 1! 0!"),
+    ("3 << x", "3 6 24 96 2147483648! 3! 2147483648! 50331648!"),
     (
         "(MOSTNEG INT) >> x",
-        [
-            (0x80000000, false),
-            (0x40000000, false),
-            (0x10000000, false),
-            (0x4000000, false),
-            (1, true),
-            (0x80000000, true),
-            (1, true),
-            (0x80, true),
-        ],
+        "2147483648 1073741824 268435456 67108864 1! 2147483648! 1! 128!",
     ),
-    (
-        "INT (x = 3)",
-        [
-            (0, false),
-            (0, false),
-            (1, false),
-            (0, false),
-            (0, false),
-            (0, false),
-            (0, false),
-            (0, false),
-        ],
-    ),
-    (
-        "INT (3 = x)",
-        [
-            (0, false),
-            (0, false),
-            (1, false),
-            (0, false),
-            (0, false),
-            (0, false),
-            (0, false),
-            (0, false),
-        ],
-    ),
-    (
-        "INT (x <> 3)",
-        [
-            (1, false),
-            (1, false),
-            (0, false),
-            (1, false),
-            (1, false),
-            (1, false),
-            (1, false),
-            (1, false),
-        ],
-    ),
-    (
-        "INT (x < 3)",
-        [
-            (1, false),
-            (1, false),
-            (0, false),
-            (0, false),
-            (0, false),
-            (1, false),
-            (1, false),
-            (0, false),
-        ],
-    ),
-    (
-        "INT (x > 3)",
-        [
-            (0, false),
-            (0, false),
-            (0, false),
-            (1, false),
-            (1, false),
-            (0, false),
-            (0, false),
-            (1, false),
-        ],
-    ),
-    (
-        "INT (x <= 3)",
-        [
-            (1, false),
-            (1, false),
-            (1, false),
-            (0, false),
-            (0, false),
-            (1, false),
-            (1, false),
-            (0, false),
-        ],
-    ),
-    (
-        "INT (x >= 3)",
-        [
-            (0, false),
-            (0, false),
-            (1, false),
-            (1, false),
-            (1, false),
-            (0, false),
-            (0, false),
-            (1, false),
-        ],
-    ),
-    (
-        "INT (3 < x)",
-        [
-            (0, false),
-            (0, false),
-            (0, false),
-            (1, false),
-            (1, false),
-            (0, false),
-            (0, false),
-            (1, false),
-        ],
-    ),
-    (
-        "INT (3 > x)",
-        [
-            (1, false),
-            (1, false),
-            (0, false),
-            (0, false),
-            (0, false),
-            (1, false),
-            (1, false),
-            (0, false),
-        ],
-    ),
-    (
-        "INT (3 <= x)",
-        [
-            (0, false),
-            (0, false),
-            (1, false),
-            (1, false),
-            (1, false),
-            (0, false),
-            (0, false),
-            (1, false),
-        ],
-    ),
-    (
-        "INT (3 >= x)",
-        [
-            (1, false),
-            (1, false),
-            (1, false),
-            (0, false),
-            (0, false),
-            (1, false),
-            (1, false),
-            (0, false),
-        ],
-    ),
-    (
-        "INT (x >= (MOSTNEG INT))",
-        [
-            (1, false),
-            (1, false),
-            (1, false),
-            (1, false),
-            (1, false),
-            (1, false),
-            (1, false),
-            (1, false),
-        ],
-    ),
-    (
-        "INT (x <= (MOSTNEG INT))",
-        [
-            (0, false),
-            (0, false),
-            (0, false),
-            (0, false),
-            (0, false),
-            (1, false),
-            (0, false),
-            (0, false),
-        ],
-    ),
-    (
-        "INT (x < (MOSTNEG INT))",
-        [
-            (0, false),
-            (0, false),
-            (0, false),
-            (0, false),
-            (0, false),
-            (0, false),
-            (0, false),
-            (0, false),
-        ],
-    ),
-    (
-        "INT (x > (MOSTNEG INT))",
-        [
-            (1, false),
-            (1, false),
-            (1, false),
-            (1, false),
-            (1, false),
-            (0, false),
-            (1, false),
-            (1, false),
-        ],
-    ),
-    (
-        "INT (x >= (MOSTPOS INT))",
-        [
-            (0, false),
-            (0, false),
-            (0, false),
-            (0, false),
-            (1, false),
-            (0, false),
-            (0, false),
-            (0, false),
-        ],
-    ),
-    (
-        "INT (x <= (MOSTPOS INT))",
-        [
-            (1, false),
-            (1, false),
-            (1, false),
-            (1, false),
-            (1, false),
-            (1, false),
-            (1, false),
-            (1, false),
-        ],
-    ),
-    (
-        "INT (x < (MOSTPOS INT))",
-        [
-            (1, false),
-            (1, false),
-            (1, false),
-            (1, false),
-            (0, false),
-            (1, false),
-            (1, false),
-            (1, false),
-        ],
-    ),
-    (
-        "INT (x > (MOSTPOS INT))",
-        [
-            (0, false),
-            (0, false),
-            (0, false),
-            (0, false),
-            (0, false),
-            (0, false),
-            (0, false),
-            (0, false),
-        ],
-    ),
-    (
-        "INT ((MOSTPOS INT) <= x)",
-        [
-            (0, false),
-            (0, false),
-            (0, false),
-            (0, false),
-            (1, false),
-            (0, false),
-            (0, false),
-            (0, false),
-        ],
-    ),
-    (
-        "INT ((MOSTNEG INT) >= x)",
-        [
-            (0, false),
-            (0, false),
-            (0, false),
-            (0, false),
-            (0, false),
-            (1, false),
-            (0, false),
-            (0, false),
-        ],
-    ),
-    (
-        "INT (x <= x)",
-        [
-            (1, false),
-            (1, false),
-            (1, false),
-            (1, false),
-            (1, false),
-            (1, false),
-            (1, false),
-            (1, false),
-        ],
-    ),
-    (
-        "INT (x >= (x / 2))",
-        [
-            (1, false),
-            (1, false),
-            (1, false),
-            (1, false),
-            (1, false),
-            (0, false),
-            (0, false),
-            (1, false),
-        ],
-    ),
-    (
-        "INT (x AFTER 3)",
-        [
-            (0, false),
-            (0, false),
-            (0, false),
-            (1, false),
-            (1, false),
-            (1, false),
-            (0, false),
-            (1, false),
-        ],
-    ),
-    (
-        "INT (3 AFTER x)",
-        [
-            (1, false),
-            (1, false),
-            (0, false),
-            (0, false),
-            (0, false),
-            (0, false),
-            (1, false),
-            (0, false),
-        ],
-    ),
-    (
-        "INT (NOT (x = 3))",
-        [
-            (1, false),
-            (1, false),
-            (0, false),
-            (1, false),
-            (1, false),
-            (1, false),
-            (1, false),
-            (1, false),
-        ],
-    ),
-    (
-        "INT ((x > 0) AND (x < 5))",
-        [
-            (0, false),
-            (1, false),
-            (1, false),
-            (0, false),
-            (0, false),
-            (0, false),
-            (0, false),
-            (0, false),
-        ],
-    ),
-    (
-        "INT ((x < 0) OR (x > 4))",
-        [
-            (0, false),
-            (0, false),
-            (0, false),
-            (1, false),
-            (1, false),
-            (1, false),
-            (1, false),
-            (1, false),
-        ],
-    ),
-    (
-        "INT ((x = 0) OR ((10 / x) > 2))",
-        [
-            (1, false),
-            (1, false),
-            (1, false),
-            (0, false),
-            (0, false),
-            (0, false),
-            (0, false),
-            (0, false),
-        ],
-    ),
-    (
-        "INT ((x <> 0) AND ((10 / x) > 2))",
-        [
-            (0, false),
-            (1, false),
-            (1, false),
-            (0, false),
-            (0, false),
-            (0, false),
-            (0, false),
-            (0, false),
-        ],
-    ),
-    (
-        "INT TRUE",
-        [
-            (1, false),
-            (1, false),
-            (1, false),
-            (1, false),
-            (1, false),
-            (1, false),
-            (1, false),
-            (1, false),
-        ],
-    ),
-    (
-        "INT ((x = 1) = TRUE)",
-        [
-            (0, false),
-            (1, false),
-            (0, false),
-            (0, false),
-            (0, false),
-            (0, false),
-            (0, false),
-            (0, false),
-        ],
-    ),
-    (
-        "INT ((x = 1) <> (x = 2))",
-        [
-            (0, false),
-            (1, false),
-            (0, false),
-            (0, false),
-            (0, false),
-            (0, false),
-            (0, false),
-            (0, false),
-        ],
-    ),
-    (
-        "INT ((BYTE (x /\\ 255)) > 127)",
-        [
-            (0, false),
-            (0, false),
-            (0, false),
-            (0, false),
-            (1, false),
-            (0, false),
-            (1, false),
-            (0, false),
-        ],
-    ),
-    (
-        "INT ((BYTE (x /\\ 255)) <= 'a')",
-        [
-            (1, false),
-            (1, false),
-            (1, false),
-            (1, false),
-            (0, false),
-            (1, false),
-            (0, false),
-            (0, false),
-        ],
-    ),
-    (
-        "INT (200 < (BYTE (x /\\ 255)))",
-        [
-            (0, false),
-            (0, false),
-            (0, false),
-            (0, false),
-            (1, false),
-            (0, false),
-            (1, false),
-            (0, false),
-        ],
-    ),
-    (
-        "INT ((BYTE (x /\\ 255)) >= 0)",
-        [
-            (1, false),
-            (1, false),
-            (1, false),
-            (1, false),
-            (1, false),
-            (1, false),
-            (1, false),
-            (1, false),
-        ],
-    ),
-    (
-        "INT (BYTE x)",
-        [
-            (0, false),
-            (1, false),
-            (3, false),
-            (5, false),
-            (0xFF, true),
-            (0, true),
-            (0xFF, true),
-            (0x78, true),
-        ],
-    ),
-    (
-        "INT (BYTE (x = 3))",
-        [
-            (0, false),
-            (0, false),
-            (1, false),
-            (0, false),
-            (0, false),
-            (0, false),
-            (0, false),
-            (0, false),
-        ],
-    ),
-    (
-        "t[x]",
-        [
-            (7, false),
-            (0xFFFFFFFE, false),
-            (0xB, false),
-            (0xFFFFFFFE, true),
-            (0xB, true),
-            (7, true),
-            (0xB, true),
-            (7, true),
-        ],
-    ),
-    (
-        "INT u[x]",
-        [
-            (0x61, false),
-            (0x62, false),
-            (0x61, true),
-            (0x22, true),
-            (0x62, true),
-            (0x61, true),
-            (0x62, true),
-            (0x61, true),
-        ],
-    ),
-    (
-        "(SIZE t) + (SIZE u)",
-        [
-            (7, false),
-            (7, false),
-            (7, false),
-            (7, false),
-            (7, false),
-            (7, false),
-            (7, false),
-            (7, false),
-        ],
-    ),
-    (
-        "f (x, x + 1)",
-        [
-            (0, false),
-            (1, false),
-            (3, false),
-            (5, false),
-            (0x7FFFFFFF, true),
-            (0x80000000, false),
-            (0xFFFFFFFF, false),
-            (0x12345678, false),
-        ],
-    ),
-    (
-        "g (x)",
-        [
-            (0, false),
-            (1, false),
-            (9, false),
-            (0x19, false),
-            (1, true),
-            (0, true),
-            (1, false),
-            (0x1DF4D840, true),
-        ],
-    ),
-    (
-        "f (3, t[2])",
-        [
-            (3, false),
-            (3, false),
-            (3, false),
-            (3, false),
-            (3, false),
-            (3, false),
-            (3, false),
-            (3, false),
-        ],
-    ),
-    (
-        "h (t, x)",
-        [
-            (7, false),
-            (0xFFFFFFFE, false),
-            (0xB, false),
-            (0xFFFFFFFE, true),
-            (0xB, true),
-            (7, true),
-            (0xB, true),
-            (7, true),
-        ],
-    ),
+    ("INT (x = 3)", "0 0 1 0 0 0 0 0"),
+    ("INT (3 = x)", "0 0 1 0 0 0 0 0"),
+    ("INT (x <> 3)", "1 1 0 1 1 1 1 1"),
+    ("INT (x < 3)", "1 1 0 0 0 1 1 0"),
+    ("INT (x > 3)", "0 0 0 1 1 0 0 1"),
+    ("INT (x <= 3)", "1 1 1 0 0 1 1 0"),
+    ("INT (x >= 3)", "0 0 1 1 1 0 0 1"),
+    ("INT (3 < x)", "0 0 0 1 1 0 0 1"),
+    ("INT (3 > x)", "1 1 0 0 0 1 1 0"),
+    ("INT (3 <= x)", "0 0 1 1 1 0 0 1"),
+    ("INT (3 >= x)", "1 1 1 0 0 1 1 0"),
+    ("INT (x >= (MOSTNEG INT))", "1 1 1 1 1 1 1 1"),
+    ("INT (x <= (MOSTNEG INT))", "0 0 0 0 0 1 0 0"),
+    ("INT (x < (MOSTNEG INT))", "0 0 0 0 0 0 0 0"),
+    ("INT (x > (MOSTNEG INT))", "1 1 1 1 1 0 1 1"),
+    ("INT (x >= (MOSTPOS INT))", "0 0 0 0 1 0 0 0"),
+    ("INT (x <= (MOSTPOS INT))", "1 1 1 1 1 1 1 1"),
+    ("INT (x < (MOSTPOS INT))", "1 1 1 1 0 1 1 1"),
+    ("INT (x > (MOSTPOS INT))", "0 0 0 0 0 0 0 0"),
+    ("INT ((MOSTPOS INT) <= x)", "0 0 0 0 1 0 0 0"),
 ];
 
-#[test]
-fn rows_of_expressions(rt: HostRuntime) -> Result<(), AllocError> {
-    let alloc = rt.alloc();
-    for (expression, wanted) in ROWS {
-        let text = format!(in alloc; "{HEAD}{expression}{TAIL}")?;
-        let made = worker(&rt, alloc, &text);
-        for (x, (word, flag)) in NUMBERS.iter().zip(wanted) {
-            let found = given(&rt, alloc, &made, &x.to_le_bytes());
-            assert_same(
-                &rt,
-                &(expression, *x, found.result.as_slice(), found.flag),
-                &(expression, *x, word.to_le_bytes().as_slice(), flag),
-            );
-        }
+/// The last expressions.
+const LAST_ROWS: [(&str, &str); 26] = [
+    ("INT ((MOSTNEG INT) >= x)", "0 0 0 0 0 1 0 0"),
+    ("INT (x <= x)", "1 1 1 1 1 1 1 1"),
+    ("INT (x >= (x / 2))", "1 1 1 1 1 0 0 1"),
+    ("INT (x AFTER 3)", "0 0 0 1 1 1 0 1"),
+    ("INT (3 AFTER x)", "1 1 0 0 0 0 1 0"),
+    ("INT (NOT (x = 3))", "1 1 0 1 1 1 1 1"),
+    ("INT ((x > 0) AND (x < 5))", "0 1 1 0 0 0 0 0"),
+    ("INT ((x < 0) OR (x > 4))", "0 0 0 1 1 1 1 1"),
+    ("INT ((x = 0) OR ((10 / x) > 2))", "1 1 1 0 0 0 0 0"),
+    ("INT ((x <> 0) AND ((10 / x) > 2))", "0 1 1 0 0 0 0 0"),
+    ("INT TRUE", "1 1 1 1 1 1 1 1"),
+    ("INT ((x = 1) = TRUE)", "0 1 0 0 0 0 0 0"),
+    ("INT ((x = 1) <> (x = 2))", "0 1 0 0 0 0 0 0"),
+    ("INT ((BYTE (x /\\ 255)) > 127)", "0 0 0 0 1 0 1 0"),
+    ("INT ((BYTE (x /\\ 255)) <= 'a')", "1 1 1 1 0 1 0 0"),
+    ("INT (200 < (BYTE (x /\\ 255)))", "0 0 0 0 1 0 1 0"),
+    ("INT ((BYTE (x /\\ 255)) >= 0)", "1 1 1 1 1 1 1 1"),
+    ("INT (BYTE x)", "0 1 3 5 255! 0! 255! 120!"),
+    ("INT (BYTE (x = 3))", "0 0 1 0 0 0 0 0"),
+    ("t[x]", "7 4294967294 11 4294967294! 11! 7! 11! 7!"),
+    ("INT u[x]", "97 98 97! 34! 98! 97! 98! 97!"),
+    ("(SIZE t) + (SIZE u)", "7 7 7 7 7 7 7 7"),
+    (
+        "f (x, x + 1)",
+        "0 1 3 5 2147483647! 2147483648 4294967295 305419896",
+    ),
+    ("g (x)", "0 1 9 25 1! 0! 1 502585408!"),
+    ("f (3, t[2])", "3 3 3 3 3 3 3 3"),
+    ("h (t, x)", "7 4294967294 11 4294967294! 11! 7! 11! 7!"),
+];
+
+/// What an expression gives at each of the numbers.
+fn answers(rt: &impl Abort, alloc: Global, expression: &str) -> Result<String, AllocError> {
+    let text = format!(in alloc; "{HEAD}{expression}{TAIL}")?;
+    let made = worker(rt, alloc, &text);
+    let mut found = String::new(alloc);
+    for x in &NUMBERS {
+        let given = given(rt, alloc, &made, &x.to_le_bytes());
+        put_answer(&mut found, &given)?;
+    }
+    Ok(found)
+}
+
+/// Appends a word that was given, behind a space but for the first, and a `!` where the flag is set.
+fn put_answer(found: &mut String, given: &Given) -> Result<(), AllocError> {
+    if !found.is_empty() {
+        found.push_str(" ")?;
+    }
+    match given.result.as_slice() {
+        [a, b, c, d] => write!(found, "{}", u32::from_le_bytes([*a, *b, *c, *d]))?,
+        _ => found.push_str("no word")?,
+    }
+    if given.flag {
+        found.push_str("!")?;
     }
     Ok(())
+}
+
+/// Each expression gives what is wanted.
+fn assert_rows(rt: &impl Abort, alloc: Global, rows: &[(&str, &str)]) -> Result<(), AllocError> {
+    for (expression, wanted) in rows {
+        let found = answers(rt, alloc, expression)?;
+        assert_same(rt, &(*expression, found.as_str()), &(*expression, *wanted));
+    }
+    Ok(())
+}
+
+#[test]
+fn first_rows(rt: HostRuntime) -> Result<(), AllocError> {
+    assert_rows(&rt, rt.alloc(), &FIRST_ROWS)
+}
+
+#[test]
+fn more_rows(rt: HostRuntime) -> Result<(), AllocError> {
+    assert_rows(&rt, rt.alloc(), &MORE_ROWS)
+}
+
+#[test]
+fn last_rows(rt: HostRuntime) -> Result<(), AllocError> {
+    assert_rows(&rt, rt.alloc(), &LAST_ROWS)
 }

@@ -4,7 +4,7 @@ use crate::asserts::unwrap;
 use std::alloc::{AllocError, Global};
 use std::process::Abort;
 use tpw_occam_core::{Given, Worker, evaluate};
-use tpw_occam_elaboration::{ElaborationError, elaborate};
+use tpw_occam_elaboration::{Elaborated, ElaborationError, Fault, elaborate};
 use tpw_occam_syntax::{Source, parse};
 
 /// The tree of a text, which stays allocated: the kit's borrow checker shortens no lifetime within a tree.
@@ -24,20 +24,29 @@ pub(crate) fn given(rt: &impl Abort, alloc: Global, worker: &Worker, packet: &[u
     given.expect(rt, "the packet is lost")
 }
 
-/// What is wrong with a text, a line for each fault: its line, column and text.
-pub(crate) fn faults(rt: &impl Abort, alloc: Global, text: &str) -> Result<String, AllocError> {
+/// What is said of a text that is right.
+fn nothing(alloc: Global, made: Elaborated<'_>) -> Result<String, AllocError> {
+    drop(made);
+    String::from_str(alloc, "nothing is wrong\n")
+}
+
+/// Faults, a line for each: its line, column and text.
+fn lines_of(alloc: Global, faults: &[Fault<'_>]) -> Result<String, AllocError> {
     let mut all = String::new(alloc);
-    match elaborate(alloc, text, tree(rt, alloc, text)) {
-        Ok(_) => all.push_str("nothing is wrong\n")?,
-        Err(ElaborationError::Memory) => return Err(AllocError),
-        Err(ElaborationError::Faults(faults)) => {
-            for fault in &faults {
-                let (line, column, kind) = (fault.span.line, fault.span.column, fault.kind);
-                writeln!(all, "{line}:{column}: {kind}")?;
-            }
-        }
+    for fault in faults {
+        let (line, column, kind) = (fault.span.line, fault.span.column, fault.kind);
+        writeln!(all, "{line}:{column}: {kind}")?;
     }
     Ok(all)
+}
+
+/// What is wrong with a text, a line for each fault: its line, column and text.
+pub(crate) fn faults(rt: &impl Abort, alloc: Global, text: &str) -> Result<String, AllocError> {
+    match elaborate(alloc, text, tree(rt, alloc, text)) {
+        Ok(made) => nothing(alloc, made),
+        Err(ElaborationError::Faults(faults)) => lines_of(alloc, &faults),
+        Err(ElaborationError::Memory) => Err(AllocError),
+    }
 }
 
 /// What a text may not mean, a line for each note.
