@@ -7,7 +7,7 @@ use Rattle.std.specs.Option.{option_map, option_and_then}
 use Rattle.std.specs.Result.{result_ok}
 use Rattle.hex.specs.Hex.{decode_of}
 use Rattle.tpw_text.specs.Numbers.{signed_said}
-use Rattle.tpw_run_text.specs.declared.form.Expected.{Expected}
+use Rattle.tpw_run_text.specs.declared.packets.Said.{Said}
 use Rattle.tpw_run_text.specs.declared.packets.Notation.{Notation}
 use Rattle.tpw_run_text.specs.declared.packets.Notation.TheVariants.{Words, Hexadecimal}
 
@@ -37,8 +37,8 @@ pub record ResultSaid : Type 0 where
   pub error : Bool
   pub message : List ℕ
 
-abbrev pub said_of : Expected → ResultSaid
-said_of expected = record { error = expected.error; message = expected.message.items }
+abbrev pub said_of : Said → ResultSaid
+said_of said = record { error = said.error; message = said.message.items }
 
 abbrev pub flag_said : List ℕ → Option Bool
 flag_said field =

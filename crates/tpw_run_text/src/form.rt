@@ -1,7 +1,5 @@
 //! How results are shown.
 
-use tp_stream::Packet;
-
 /// How the line of a result is written.
 #[derive(Clone, Copy, Debug, PartialEq, Eq)]
 pub struct Style {
@@ -16,7 +14,7 @@ pub struct Style {
 pub struct Expected {
     /// The error flag that the worker leaves.
     pub error: bool,
-    pub message: Packet,
+    pub message: Vec<u8>,
 }
 
 /// What is shown of each packet.

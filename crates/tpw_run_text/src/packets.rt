@@ -47,6 +47,13 @@ pub fn fields_of(alloc: Global, line: &[u8], number: usize) -> Result<Vec<Field<
     Ok(fields)
 }
 
+/// A result that a line says is expected: the error flag and the message.
+#[derive(Drop)]
+struct Said {
+    error: bool,
+    message: Packet,
+}
+
 /// The bytes that fields say as one number of two hexadecimal digits a byte, in the order in which they are sent.
 fn hexadecimal_of(fields: &[Field<'_>], bytes: usize) -> Option<Packet>
     requires { bytes ≤ 256 }
@@ -131,14 +138,14 @@ fn flag_of(field: &Field<'_>) -> Result<bool, PacketFault>
     }
 }
 
-/// The result of so many bytes that fields say is expected, which begin at a place: `flag 1` and its message, or its
-/// message alone.
+/// The error flag and the result of so many bytes that fields say are expected, which begin at a place: `flag 1` and the
+/// result's message, or its message alone.
 fn result_of(
     fields: &[Field<'_>],
     place: Position,
     bytes: usize,
     notation: Notation,
-) -> Result<Expected, PacketFault>
+) -> Result<Said, PacketFault>
     requires { bytes ≤ 256 }
     ensures { option_map said_of (result_ok result)
         ≡ result_said notation bytes (map (λ f. f.text.now) fields.now) }
@@ -147,11 +154,11 @@ fn result_of(
         [word, flag, rest @ ..] if word.text == b"flag".as_slice() => {
             let error = flag_of(flag)?;
             let message = packet_of(rest, place, bytes, notation)?;
-            Ok(Expected { error, message })
+            Ok(Said { error, message })
         }
         _ => {
             let message = packet_of(fields, place, bytes, notation)?;
-            Ok(Expected {
+            Ok(Said {
                 error: false,
                 message,
             })
@@ -162,7 +169,7 @@ fn result_of(
 /// Appends the message of so many bytes that a line says. A line without fields says none.
 fn push_packet(
     alloc: Global,
-    packets: &mut Vec<Packet>,
+    packets: &mut Vec<Vec<u8>>,
     line: &str,
     number: usize,
     bytes: usize,
@@ -177,7 +184,7 @@ fn push_packet(
         return Ok(());
     };
     let packet = packet_of(&fields, first.position, bytes, notation)?;
-    packets.push(packet)?;
+    packets.push(Vec::from_slice(alloc, packet.as_slice())?)?;
     Ok(())
 }
 
@@ -187,7 +194,7 @@ pub fn packets_of(
     text: &str,
     bytes: usize,
     notation: Notation,
-) -> Result<Vec<Packet>, PacketFault>
+) -> Result<Vec<Vec<u8>>, PacketFault>
     requires { bytes ≤ 256 }
     ensures { IfOk result (λ packets. All (λ p. length p.items ≡ bytes) packets.items) }
 {
@@ -213,8 +220,9 @@ fn push_result(
     let Some(first) = fields.first() else {
         return Ok(());
     };
-    let result = result_of(&fields, first.position, bytes, notation)?;
-    results.push(result)?;
+    let Said { error, message } = result_of(&fields, first.position, bytes, notation)?;
+    let message = Vec::from_slice(alloc, message.as_slice())?;
+    results.push(Expected { error, message })?;
     Ok(())
 }
 

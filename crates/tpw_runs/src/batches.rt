@@ -7,7 +7,7 @@ ghost use Rattle.tpw_run_text.specs.Lines.{entries_text};
 ghost use Rattle.tpw_runs.specs.Results.{AreResults, AreReady, HasRun};
 
 use crate::fault::RunFault;
-use std::alloc::Global;
+use std::alloc::{AllocError, Global};
 use std::io::Write;
 use std::mem;
 use std::sync::Wait;
@@ -80,13 +80,27 @@ fn write_batch<W: Write>(
     }
 }
 
+/// Packets, for a batch.
+fn batch_of(alloc: Global, messages: &[Vec<u8>]) -> Result<Vec<Packet>, AllocError>
+    requires { All (λ m. length m.items ≤ 256) messages.now }
+    ensures { IfOk result (λ packets. map (λ p. p.items) packets.items ≡ map (λ m. m.items) messages.now) }
+{
+    let mut packets = Vec::with_capacity(alloc, messages.len())?;
+    for message in messages {
+        let mut packet = Packet::new();
+        let _ = packet.try_extend_from_slice(message);
+        packets.push(packet)?;
+    }
+    Ok(packets)
+}
+
 /// Runs packets of the image's length on the members that the links make, in batches of at most 1,024, one behind
 /// another, and writes what is shown of each batch once it has ended. Packets are numbered from 0, through all batches.
 pub fn run_packets<R: Threads + Wait + Sync, D: LinkDevice + Send, G: Gate, W: Write>(
     rt: &R,
     alloc: Global,
     image: &Accepted,
-    packets: &[Packet],
+    packets: &[Vec<u8>],
     mut links: Vec<Links<D>>,
     gate: &G,
     form: Form<'_>,
@@ -103,10 +117,11 @@ pub fn run_packets<R: Threads + Wait + Sync, D: LinkDevice + Send, G: Gate, W: W
     let mut number = 0usize;
     while number < packets.len() {
         let count = (packets.len() - number).min(MAX_PACKETS as usize);
+        let batch = batch_of(alloc, &packets[number..number + count])?;
         let job = Job {
             batch: number as u64,
             image,
-            packets: &packets[number..number + count],
+            packets: &batch,
         };
         let collected = run_one(rt, alloc, &job, &mut links, gate)?;
         write_batch(writer, &mut room, form, image.budget(), number, &collected)?;

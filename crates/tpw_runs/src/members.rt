@@ -13,7 +13,6 @@ use tp_accept::Accepted;
 use tp_collect::limits::MESSAGE_BYTES;
 use tp_farm::Gate;
 use tp_link::{boxed, media_of};
-use tp_stream::Packet;
 use tpw_run_text::{Form, Tally};
 
 /// Runs packets as [`run_packets`] does, on members of its own: 1 to 64.
@@ -21,7 +20,7 @@ pub fn run_on_members<R: Threads + Wait + Sync, G: Gate, W: Write>(
     rt: &R,
     alloc: Global,
     image: &Accepted,
-    packets: &[Packet],
+    packets: &[Vec<u8>],
     members: usize,
     gate: &G,
     form: Form<'_>,
