@@ -1,6 +1,6 @@
 use Rattle.std.proofs.Common.{◌≡◌, ◌+◌, ◌++◌, ℕ, List, length}
 use Rattle.crossbeam_queue.specs.Passes.{view, IsPassOf}
-use Rattle.tp_stream.proofs.queue.drained.Given as goal
+use Rattle.tp_stream.proofs.queue.drain_rest.Given as goal
 
 abbrev pub invariant-loop : goal.invariant-loop
 invariant-loop g l = record {

@@ -2,7 +2,7 @@ ghost use Rattle.std.specs.Prelude.{◌≤◌, vec_len};
 
 /// How far the reading of lines has come.
 #[derive(Drop)]
-pub(crate) struct Progress {
+pub(crate) struct PartialLine {
     /// The number of the line that is being read, from 1.
     pub(crate) number: u64,
     /// What has come of it, at most [`MAX_LINE`](crate::MAX_LINE) bytes.

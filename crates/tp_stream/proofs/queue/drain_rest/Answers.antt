@@ -2,7 +2,7 @@ use Rattle.std.proofs.Common.{◌-◌, ◌++◌, length, ap, ◌∙◌, arith}
 use Rattle.crossbeam_queue.specs.Passes.{view}
 use Rattle.tp_stream.specs.declared.queue.PassView.{PassView}
 use Rattle.tp_stream.proofs.PassViews.{left, left_at, all_popped, took_rest}
-use Rattle.tp_stream.proofs.queue.drained.Goals as goal
+use Rattle.tp_stream.proofs.queue.drain_rest.Goals as goal
 
 pub learn_as-requires-clause-rule : goal.learn_as-requires-clause-rule
 learn_as-requires-clause-rule g c = left _ _ c.requires.parts
