@@ -8,7 +8,7 @@ TOP = pathlib.Path(__file__).resolve().parent.parent
 ROOTS = {
     "a run": ["tp_accept.specs.Ending"],
     "a run over devices": ["tp_outcome.specs.Answers", "tp_machine.specs.Promise"],
-    "a batch": ["tp_farm.specs.Batches", "tp_farm.specs.Promised", "tp_farm.specs.Refused", "tp_farm.specs.Works"],
+    "a batch": ["tp_farm.specs.Batches", "tp_farm.specs.Promised", "tp_farm.specs.Refused", "tp_farm.specs.BatchWork"],
     "the protocol": ["tp_session.specs.Protocol"],
     "the service": ["tp_session.specs.Served", "tp_session.specs.Fitness"],
     "the program": ["tp_program.specs.Program"],

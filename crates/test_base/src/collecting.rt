@@ -7,12 +7,12 @@ use crate::asserts::assert_same;
 use arrayvec::ArrayVec;
 use std::process::Abort;
 use test_samples::INCREMENT;
-use tp_collect::limits::MESSAGE_BYTES;
+use tp_collect::limits::MAX_MESSAGE;
 use tp_collect::{Collector, Done, Entry, LostCause, PutFault};
 use tp_image::{Image, read_image};
 use tp_link::{DeviceFault, Link, LinkFault};
 
-type Message = ArrayVec<u8, MESSAGE_BYTES>;
+type Message = ArrayVec<u8, MAX_MESSAGE>;
 
 const REFUSED: LinkFault = LinkFault {
     link: Link::Sink,

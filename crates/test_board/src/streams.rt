@@ -1,4 +1,5 @@
 //! Streams of packets.
 
+mod examples;
 mod single;
 mod threads;

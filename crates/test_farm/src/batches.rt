@@ -19,7 +19,7 @@ pub(crate) const BATCH: u64 = 7;
 
 /// What became of a packet.
 #[derive(Clone, Copy, PartialEq, Eq)]
-pub(crate) enum Outcome {
+pub(crate) enum PacketEnd {
     /// Its result as one word, its error flag, and how many instruction bytes were run.
     Done {
         result: u32,
@@ -37,22 +37,22 @@ fn word(bytes: &[u8]) -> u32 {
     }
 }
 
-pub(crate) fn of_entry(entry: &Entry) -> Outcome {
+pub(crate) fn of_entry(entry: &Entry) -> PacketEnd {
     match entry {
-        Entry::Done(done) => Outcome::Done {
+        Entry::Done(done) => PacketEnd::Done {
             result: word(done.result.as_slice()),
             error: done.error,
             steps: done.steps,
         },
-        Entry::Lost(LostCause::Link(LinkFault { link, code })) => Outcome::Lost(*link, *code),
-        Entry::Lost(LostCause::Stopped) => Outcome::Stopped,
+        Entry::Lost(LostCause::Link(LinkFault { link, code })) => PacketEnd::Lost(*link, *code),
+        Entry::Lost(LostCause::Stopped) => PacketEnd::Stopped,
     }
 }
 
 /// What `INCREMENT` makes of a packet of this word: one more, in 16 instruction bytes, of which the sum of the greatest
 /// number and one sets the error flag.
-pub(crate) fn one_more(word: u32) -> Outcome {
-    Outcome::Done {
+pub(crate) fn one_more(word: u32) -> PacketEnd {
+    PacketEnd::Done {
         result: word.wrapping_add(1),
         error: word == 0x7FFF_FFFF,
         steps: 16,
@@ -60,15 +60,15 @@ pub(crate) fn one_more(word: u32) -> Outcome {
 }
 
 /// What `TRACES_ITS_PACKET` makes of a packet of this word: the same, in 19 instruction bytes.
-pub(crate) fn the_same(word: u32) -> Outcome {
-    Outcome::Done {
+pub(crate) fn the_same(word: u32) -> PacketEnd {
+    PacketEnd::Done {
         result: word,
         error: false,
         steps: 19,
     }
 }
 
-pub(crate) fn outcomes(rt: &impl Abort, alloc: Global, collected: &Collected) -> Vec<Outcome> {
+pub(crate) fn outcomes(rt: &impl Abort, alloc: Global, collected: &Collected) -> Vec<PacketEnd> {
     let mut all = Vec::new(alloc);
     for entry in collected.entries.iter() {
         unwrap(rt, all.push(of_entry(entry)));
@@ -148,7 +148,7 @@ pub(crate) fn run_by_one<R: Abort + Threads + Wait + Sync, D: LinkDevice + Send,
     words: &[u32],
     links: Links<D>,
     gate: &G,
-) -> Vec<Outcome> {
+) -> Vec<PacketEnd> {
     let links = alone(rt, alloc, links);
     let collected = run_on(rt, alloc, image, words, links, gate);
     outcomes(rt, alloc, &collected)

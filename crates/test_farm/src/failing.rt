@@ -1,7 +1,7 @@
 //! Devices that fail in one call, are closed, or lack room.
 
 use crate::asserts::unwrap;
-use crate::batches::{Outcome, ROOM, failing, have_ended, run_by_one, the_same};
+use crate::batches::{PacketEnd, ROOM, failing, have_ended, run_by_one, the_same};
 use std::alloc::Global;
 use std::process::Abort;
 use std::sync::Wait;
@@ -11,7 +11,7 @@ use tp_farm::OpenGate;
 use tp_link::{DeviceFault, Link, LinkDevice, Links, Media};
 
 /// A packet of 1 is done.
-const DONE: Outcome = Outcome::Done {
+const DONE: PacketEnd = PacketEnd::Done {
     result: 2,
     error: false,
     steps: 16,
@@ -23,7 +23,7 @@ fn fails_as<R: Abort + Threads + Wait + Sync>(
     rt: &R,
     alloc: Global,
     calls: [u64; 3],
-    wanted: [Outcome; 2],
+    wanted: [PacketEnd; 2],
 ) -> bool {
     let mut media = unwrap(rt, Media::new(alloc, ROOM));
     let links = failing(&mut media, calls);
@@ -33,9 +33,9 @@ fn fails_as<R: Abort + Threads + Wait + Sync>(
 
 #[test]
 fn each_call_of_a_device_fails_in_turn(rt: HostRuntime) {
-    let source = Outcome::Lost(Link::Source, DeviceFault::Failed);
-    let sink = Outcome::Lost(Link::Sink, DeviceFault::Failed);
-    let rows: [([u64; 3], [Outcome; 2]); 11] = [
+    let source = PacketEnd::Lost(Link::Source, DeviceFault::Failed);
+    let sink = PacketEnd::Lost(Link::Sink, DeviceFault::Failed);
+    let rows: [([u64; 3], [PacketEnd; 2]); 11] = [
         ([1, 0, 0], [source, DONE]),
         ([2, 0, 0], [source, DONE]),
         ([3, 0, 0], [DONE, source]),
@@ -58,7 +58,7 @@ fn traced<R: Abort + Threads + Wait + Sync>(
     rt: &R,
     alloc: Global,
     calls: [u64; 3],
-) -> Vec<Outcome> {
+) -> Vec<PacketEnd> {
     let mut media = unwrap(rt, Media::new(alloc, ROOM));
     let links = failing(&mut media, calls);
     run_by_one(rt, alloc, TRACES_ITS_PACKET, &[10], links, &OpenGate)
@@ -68,8 +68,8 @@ fn traced<R: Abort + Threads + Wait + Sync>(
 /// call of the sink receives the result, and then the second of the trace the message.
 #[test]
 fn a_trace_fails(rt: HostRuntime) {
-    let sink = Outcome::Lost(Link::Sink, DeviceFault::Failed);
-    let trace = Outcome::Lost(Link::Trace, DeviceFault::Failed);
+    let sink = PacketEnd::Lost(Link::Sink, DeviceFault::Failed);
+    let trace = PacketEnd::Lost(Link::Trace, DeviceFault::Failed);
     for (calls, wanted) in [
         ([0, 0, 1], trace),
         ([0, 0, 2], trace),
@@ -114,7 +114,7 @@ fn empties_as<R: Abort + Threads + Wait + Sync>(
     alloc: Global,
     link: Link,
     call: u64,
-    wanted: [Outcome; 2],
+    wanted: [PacketEnd; 2],
 ) -> bool {
     let mut media = with_600_bytes(rt, alloc, link);
     let links = failing(&mut media, call_of(link, call));
@@ -128,9 +128,9 @@ fn empties_as<R: Abort + Threads + Wait + Sync>(
 /// A device that holds 600 bytes is emptied by three calls, before the packet is sent.
 #[test]
 fn a_device_fails_while_it_is_emptied(rt: HostRuntime) {
-    let source = Outcome::Lost(Link::Source, DeviceFault::Failed);
-    let sink = Outcome::Lost(Link::Sink, DeviceFault::Failed);
-    let trace = Outcome::Lost(Link::Trace, DeviceFault::Failed);
+    let source = PacketEnd::Lost(Link::Source, DeviceFault::Failed);
+    let sink = PacketEnd::Lost(Link::Sink, DeviceFault::Failed);
+    let trace = PacketEnd::Lost(Link::Trace, DeviceFault::Failed);
     for (link, call, wanted) in [
         (Link::Source, 0, [DONE, DONE]),
         (Link::Source, 1, [source, DONE]),
@@ -177,7 +177,7 @@ fn run_from<R: Abort + Threads + Wait + Sync>(
     rt: &R,
     alloc: Global,
     starts: [Start; 3],
-) -> Vec<Outcome> {
+) -> Vec<PacketEnd> {
     let mut media = unwrap(rt, Media::new(alloc, ROOM));
     let mut links = media.wires();
     bring(rt, &mut links.source, starts[0]);
@@ -212,7 +212,7 @@ fn the_first_refusal_is_reported(rt: HostRuntime) {
     .enumerate()
     {
         let all = run_from(&rt, rt.alloc(), starts);
-        let wanted = Outcome::Lost(link, DeviceFault::Closed);
+        let wanted = PacketEnd::Lost(link, DeviceFault::Closed);
         assert!(rt; all.as_slice() == [wanted].as_slice(), "{row}");
     }
 }
@@ -232,7 +232,7 @@ fn run_where_closed<R: Abort + Threads + Wait + Sync>(
     media: &mut Media,
     link: Link,
     words: &[u32],
-) -> Vec<Outcome> {
+) -> Vec<PacketEnd> {
     let mut links = media.wires();
     close(&mut links, link);
     run_by_one(rt, alloc, INCREMENT, words, links, &OpenGate)
@@ -242,7 +242,7 @@ fn run_where_closed<R: Abort + Threads + Wait + Sync>(
 fn a_closed_source_loses_all(rt: HostRuntime) {
     let mut media = unwrap(&rt, Media::new(rt.alloc(), ROOM));
     let all = run_where_closed(&rt, rt.alloc(), &mut media, Link::Source, &[1, 1]);
-    let lost = Outcome::Lost(Link::Source, DeviceFault::Closed);
+    let lost = PacketEnd::Lost(Link::Source, DeviceFault::Closed);
     assert!(rt; all.as_slice() == [lost, lost].as_slice());
 }
 
@@ -250,7 +250,7 @@ fn a_closed_source_loses_all(rt: HostRuntime) {
 #[test]
 fn a_closed_trace_is_not_called(rt: HostRuntime) {
     let mut media = unwrap(&rt, Media::new(rt.alloc(), ROOM));
-    let lost = Outcome::Lost(Link::Sink, DeviceFault::Closed);
+    let lost = PacketEnd::Lost(Link::Sink, DeviceFault::Closed);
     for (link, wanted) in [(Link::Trace, DONE), (Link::Sink, lost)] {
         let all = run_where_closed(&rt, rt.alloc(), &mut media, link, &[1]);
         assert!(rt; all.as_slice() == [wanted].as_slice());
@@ -262,15 +262,15 @@ fn run_in_rooms<R: Abort + Threads + Wait + Sync>(
     rt: &R,
     alloc: Global,
     rooms: [usize; 3],
-) -> Vec<Outcome> {
+) -> Vec<PacketEnd> {
     let mut media = unwrap(rt, Media::with_rooms(alloc, rooms[0], rooms[1], rooms[2]));
     run_by_one(rt, alloc, INCREMENT, &[1], media.wires(), &OpenGate)
 }
 
 #[test]
 fn room_is_lacking(rt: HostRuntime) {
-    let source = Outcome::Lost(Link::Source, DeviceFault::Full);
-    let sink = Outcome::Lost(Link::Sink, DeviceFault::Full);
+    let source = PacketEnd::Lost(Link::Source, DeviceFault::Full);
+    let sink = PacketEnd::Lost(Link::Sink, DeviceFault::Full);
     for (rooms, wanted) in [
         ([256, 3, 256], sink),
         ([3, 256, 256], source),

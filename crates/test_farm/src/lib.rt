@@ -7,6 +7,8 @@ mod asserts;
 #[cfg(test)]
 mod batches;
 #[cfg(test)]
+mod examples;
+#[cfg(test)]
 mod failing;
 #[cfg(test)]
 mod members;

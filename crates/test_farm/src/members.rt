@@ -67,7 +67,7 @@ fn any_count_of_packets_is_run(rt: HostRuntime) {
 }
 
 /// How many turns a thread is held for, at most.
-const MOST_TURNS: u64 = 1_000_000;
+const MAX_TURNS: u64 = 1_000_000;
 
 /// Holds the first numbers until each of them is claimed, and number 0 until all others are finished.
 #[derive(Drop)]
@@ -83,7 +83,7 @@ struct Holding {
 
 impl Holding {
     fn hold_until(&self, count: &AtomicU64, wanted: u64) {
-        for _ in 0..MOST_TURNS {
+        for _ in 0..MAX_TURNS {
             if count.load(Ordering::SeqCst) >= wanted {
                 return;
             }

@@ -2,7 +2,7 @@
 
 use crate::asserts::{assert_same, unwrap};
 use crate::batches::{
-    Outcome, ROOM, batch_on, have_ended, increments_by, one_more, outcomes, run_by_one,
+    PacketEnd, ROOM, batch_on, have_ended, increments_by, one_more, outcomes, run_by_one,
 };
 use std::alloc::Global;
 use std::process::Abort;
@@ -51,7 +51,7 @@ fn run_three<R: Abort + Threads + Wait + Sync>(
     rt: &R,
     alloc: Global,
     gate: &Closing,
-) -> Vec<Outcome> {
+) -> Vec<PacketEnd> {
     let mut media = unwrap(rt, Media::new(alloc, ROOM));
     run_by_one(rt, alloc, INCREMENT, &[1; 3], media.wires(), gate)
 }
@@ -61,7 +61,7 @@ fn a_gate_stops_one_member(rt: HostRuntime) {
     let gate = Closing::at(3);
     let all = run_three(&rt, rt.alloc(), &gate);
     let done = one_more(1);
-    assert!(rt; all.as_slice() == [done, done, Outcome::Stopped].as_slice());
+    assert!(rt; all.as_slice() == [done, done, PacketEnd::Stopped].as_slice());
     assert_same(&rt, &gate.asks.load(Ordering::SeqCst), &3);
 }
 
@@ -93,7 +93,7 @@ fn stops_all<R: Abort + Threads + Wait + Sync>(rt: &R, alloc: Global, media: &mu
     fill_traces(rt, &mut links);
     let batch = batch_on(rt, alloc, INCREMENT, &[1; 100], links, &Closing::at(1));
     let all = outcomes(rt, alloc, &batch.collected);
-    let stopped = all.len() == 100 && count_of(&all, Outcome::Stopped) == 100;
+    let stopped = all.len() == 100 && count_of(&all, PacketEnd::Stopped) == 100;
     stopped && batch.links.len() == 2 && are_kept(&batch.links)
 }
 
@@ -115,7 +115,7 @@ fn done_before<R: Abort + Threads + Wait + Sync>(
     let collected = increments_by(rt, alloc, &[1; 1024], members, &Closing::at(at));
     let all = outcomes(rt, alloc, &collected);
     let done = count_of(&all, one_more(1));
-    let stopped = count_of(&all, Outcome::Stopped);
+    let stopped = count_of(&all, PacketEnd::Stopped);
     (done.saturating_add(stopped) == 1024).then_some(done)
 }
 
@@ -135,7 +135,7 @@ fn a_full_queue_ends_with_its_members(rt: HostRuntime) {
 }
 
 /// How many packets have this entry.
-fn count_of(all: &[Outcome], wanted: Outcome) -> usize {
+fn count_of(all: &[PacketEnd], wanted: PacketEnd) -> usize {
     let mut count = 0usize;
     for one in all {
         if *one == wanted {
@@ -151,7 +151,7 @@ fn done_and_stopped<R: Abort + Threads + Wait + Sync>(rt: &R, alloc: Global) -> 
     let all = outcomes(rt, alloc, &collected);
     (
         count_of(&all, one_more(1)),
-        count_of(&all, Outcome::Stopped),
+        count_of(&all, PacketEnd::Stopped),
     )
 }
 
@@ -236,7 +236,7 @@ fn done_and_stopped_by_one_no<R: Abort + Threads + Wait + Sync>(
     let all = outcomes(rt, alloc, &collected);
     (
         count_of(&all, one_more(1)),
-        count_of(&all, Outcome::Stopped),
+        count_of(&all, PacketEnd::Stopped),
     )
 }
 

@@ -2,7 +2,7 @@
 //! out: each batch ends, with an entry for each packet.
 
 use crate::asserts::unwrap;
-use crate::batches::{Outcome, ROOM, count_up, increments_by, one_more, outcomes, run_on};
+use crate::batches::{PacketEnd, ROOM, count_up, increments_by, one_more, outcomes, run_on};
 use crate::stopping::Closing;
 use std::alloc::Global;
 use std::process::Abort;
@@ -18,7 +18,7 @@ const COUNTS: [u32; 5] = [1, 31, 32, 33, 1024];
 
 /// How many packets are done with their word plus one: 1, or 0 where the packet has that other entry; none where it has
 /// neither.
-fn done_or(one: Outcome, word: u32, other: Outcome) -> Option<usize> {
+fn done_or(one: PacketEnd, word: u32, other: PacketEnd) -> Option<usize> {
     if one == one_more(word) {
         Some(1)
     } else if one == other {
@@ -30,7 +30,7 @@ fn done_or(one: Outcome, word: u32, other: Outcome) -> Option<usize> {
 
 /// How many packets are done, each with its word plus one, where all others have that other entry; none where they have
 /// not.
-fn done_beside(all: &[Outcome], words: &[u32], other: Outcome) -> Option<usize> {
+fn done_beside(all: &[PacketEnd], words: &[u32], other: PacketEnd) -> Option<usize> {
     if all.len() != words.len() {
         return None;
     }
@@ -50,7 +50,7 @@ fn done_before<R: Abort + Threads + Wait + Sync>(
     at: u64,
 ) -> Option<usize> {
     let collected = increments_by(rt, alloc, words, members, &Closing::at(at));
-    done_beside(&outcomes(rt, alloc, &collected), words, Outcome::Stopped)
+    done_beside(&outcomes(rt, alloc, &collected), words, PacketEnd::Stopped)
 }
 
 /// Where the twentieth ask is the first that is answered no, at most 19 packets were taken; one member takes so many.
@@ -80,7 +80,7 @@ fn done_beside_closed<R: Abort + Threads + Wait + Sync>(
         first.source.close();
     }
     let collected = run_on(rt, alloc, INCREMENT, words, links, &OpenGate);
-    let lost = Outcome::Lost(Link::Source, DeviceFault::Closed);
+    let lost = PacketEnd::Lost(Link::Source, DeviceFault::Closed);
     done_beside(&outcomes(rt, alloc, &collected), words, lost)
 }
 

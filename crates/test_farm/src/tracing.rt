@@ -1,7 +1,7 @@
 //! Traces.
 
 use crate::asserts::{assert_same, unwrap};
-use crate::batches::{BATCH, Outcome, ROOM, alone, run_by_one, run_on};
+use crate::batches::{BATCH, PacketEnd, ROOM, alone, run_by_one, run_on};
 use std::alloc::Global;
 use std::process::Abort;
 use std::sync::Wait;
@@ -50,7 +50,7 @@ fn run_long_traces<R: Abort + Threads + Wait + Sync>(
     rt: &R,
     alloc: Global,
     room: usize,
-) -> Vec<Outcome> {
+) -> Vec<PacketEnd> {
     let mut media = unwrap(rt, Media::with_rooms(alloc, ROOM, ROOM, room));
     run_by_one(
         rt,
@@ -65,7 +65,7 @@ fn run_long_traces<R: Abort + Threads + Wait + Sync>(
 /// With room for 256 bytes the 65th message is refused. With room for it, the trace is too long in the end.
 #[test]
 fn a_long_trace_is_lost(rt: HostRuntime) {
-    let lost = Outcome::Lost(Link::Trace, DeviceFault::Full);
+    let lost = PacketEnd::Lost(Link::Trace, DeviceFault::Full);
     for room in [0, 256, 259, 260, 1000] {
         let all = run_long_traces(&rt, rt.alloc(), room);
         assert!(rt; all.as_slice() == [lost, lost].as_slice(), "{room}");

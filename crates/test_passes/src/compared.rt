@@ -20,10 +20,10 @@ const CODES: u32 = 20_000;
 const MANY: u32 = CODES / 20;
 
 /// More seeds than it takes to find these.
-const MOST_SEEDS: u64 = 60_000;
+const MAX_SEEDS: u64 = 60_000;
 
 /// More passes than any of these codes takes.
-const MOST_PASSES: u32 = 1_000;
+const MAX_PASSES: u32 = 1_000;
 
 /// How many codes of each kind were compared.
 #[derive(Clone, Copy, Debug, Default, PartialEq, Eq)]
@@ -95,7 +95,7 @@ fn make_found(
     requires nest { nest.now ≡ ranges image.now.loops }
 {
     let mut table = Whole::first(rt.alloc(), image).expect(rt, "memory");
-    for passes in 1..MOST_PASSES {
+    for passes in 1..MAX_PASSES {
         match table.pass(rt.alloc(), image, listing, nest) {
             Ok(true) => {}
             Ok(false) => {
@@ -194,7 +194,7 @@ fn compare(rt: &(impl Abort + AllocGlobal), seed: u64, counts: &mut Counts) {
 #[test]
 fn agrees_with_the_passes_over_whole_tables(rt: HostRuntime) {
     let mut counts = Counts::default();
-    for seed in 0..MOST_SEEDS {
+    for seed in 0..MAX_SEEDS {
         if counts.all() < CODES {
             compare(&rt, seed, &mut counts);
         }

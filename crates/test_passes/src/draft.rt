@@ -26,7 +26,7 @@ pub(crate) const STNL: u8 = 14;
 const OPR: u8 = 15;
 
 /// The most loops of a code.
-const MOST_LOOPS: usize = 3;
+const MAX_LOOPS: usize = 3;
 
 /// The first local word of the loops' blocks.
 const BLOCKS: u8 = 6;
@@ -106,7 +106,7 @@ impl Draft {
         stored: i32,
     ) -> Result<(), AllocError> {
         let number = self.rows.len();
-        if number >= MOST_LOOPS {
+        if number >= MAX_LOOPS {
             return Ok(());
         }
         let block = BLOCKS.wrapping_add(low_byte(number).wrapping_mul(2));

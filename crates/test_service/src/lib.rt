@@ -7,6 +7,8 @@ mod asserts;
 #[cfg(test)]
 mod cases;
 #[cfg(test)]
+mod examples;
+#[cfg(test)]
 mod farms;
 #[cfg(test)]
 mod full_size;

@@ -12,7 +12,7 @@ use tp_link::{DeviceFault, LinkDevice, Links, Medium, OwnedWire};
 use tp_session::{Farm, serve};
 
 /// How many turns a member is held for, at most.
-const MOST_TURNS: u64 = 1_000_000;
+const MAX_TURNS: u64 = 1_000_000;
 
 /// Where members wait for one another, once for each packet that they take.
 #[derive(Drop)]
@@ -36,7 +36,7 @@ impl Meeting {
     fn wait(&self, time: u64) {
         self.come.fetch_add(1, Ordering::SeqCst);
         let wanted = self.members.saturating_mul(time);
-        for _ in 0..MOST_TURNS {
+        for _ in 0..MAX_TURNS {
             if self.come.load(Ordering::SeqCst) >= wanted {
                 return;
             }

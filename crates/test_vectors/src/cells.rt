@@ -9,7 +9,7 @@ use std::alloc::Global;
 use tp_state::Cell;
 
 /// The most words of a workspace.
-pub(crate) const MOST_WORDS: u32 = 512;
+pub(crate) const MAX_WORDS: u32 = 512;
 
 /// The first and the last word of `word` or `first-last`.
 fn ends_of(text: &str) -> Result<(usize, usize)> {
@@ -40,7 +40,7 @@ pub(crate) fn cells(alloc: Global, words: u32, fill: &str, named: &str) -> Resul
     ensures count { IfOk result (λ cells. length cells.items ≡ words) }
     ensures few { OnOk result (words ≤ 512) }
 {
-    ensure!(words <= MOST_WORDS, "more words than a workspace has");
+    ensure!(words <= MAX_WORDS, "more words than a workspace has");
     let mut cells = Vec::from_elem(alloc, cell(fill)?, words as usize)?;
     if named != NOTHING {
         for it in named.split(',') {

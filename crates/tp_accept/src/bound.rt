@@ -9,7 +9,7 @@ ghost use Rattle.tp_accept.specs.declared.refusal.Refusal.TheVariants as refusal
 ghost use Rattle.tp_accept.specs.Refusals.{too_long};
 
 use crate::counting::{Counted, cost_of, whole_at};
-use crate::limits::MOST_BUDGET;
+use crate::limits::MAX_BUDGET;
 use crate::refusal::{Refusal, RefusalCode};
 use std::alloc::{AllocError, Global};
 use tp_decode::Listing;
@@ -39,7 +39,7 @@ pub(crate) fn budget(alloc: Global, image: &Image, listing: &Listing) -> Result<
 {
     let costs = costs(alloc, image, listing)?;
     let bytes = whole_at(&costs, Some(0));
-    if u64::from(MOST_BUDGET) < bytes {
+    if u64::from(MAX_BUDGET) < bytes {
         return Err(Refusal::Refused {
             code: RefusalCode::B1,
             place: 0,

@@ -1,4 +1,4 @@
 //! What a code may cost.
 
 /// The greatest budget, in instruction bytes.
-pub const MOST_BUDGET: u32 = 16_777_216;
+pub const MAX_BUDGET: u32 = 16_777_216;

@@ -23,7 +23,7 @@ pub enum RefusalCode {
     Flow(FlowCode),
     /// An instruction is refused by what is known of the states before it: S1 to S11.
     State(StateCode),
-    /// The bound is above [`MOST_BUDGET`](crate::limits::MOST_BUDGET).
+    /// The bound is above [`MAX_BUDGET`](crate::limits::MAX_BUDGET).
     B1,
 }
 

@@ -8,7 +8,7 @@ use Rattle.tp_answers.specs.declared.session.OpenSession.{OpenSession}
 use Rattle.tp_answers.specs.declared.answer.LineFault.TheVariants.{E2, P1, P2, P3}
 use Rattle.tp_answers.specs.declared.answer.Answer.{Answer}
 use Rattle.tp_answers.specs.declared.answer.Answer.TheVariants.{Kept, Refused}
-use Rattle.tp_answers.specs.Sessions.{Session, named, with_changed, with_packet}
+use Rattle.tp_answers.specs.Sessions.{Session, session_named, with_changed, with_packet}
 use Rattle.tp_answers.specs.OpenSessions.{session_of, with_kept}
 use Rattle.tp_answers.specs.Answers.{Verdict, answer_by, after_verdict, answer_to_packet, unless_refused, after_packet, IsAnswerToImage, IsAfterImage}
 use Rattle.tp_answers.specs.Rules.{IsVerdict}
@@ -18,9 +18,9 @@ use Rattle.tp_answers.proofs.SessionLemmas.{IsPlaced, IsAbsent, packets_kept, sa
 
 abbrev pub IsAnswered : (name packet : List ℕ) → (before now : List Session) → Answer → Type 0
 IsAnswered name packet before now answer =
-    (answer ≡ answer_to_packet (named name before) packet) × (now ≡ after_packet name packet before)
+    (answer ≡ answer_to_packet (session_named name before) packet) × (now ≡ after_packet name packet before)
 
-by_answer : (name packet : List ℕ) (before now : List Session) (answer : Answer) → answer ≡ answer_to_packet (named name before) packet
+by_answer : (name packet : List ℕ) (before now : List Session) (answer : Answer) → answer ≡ answer_to_packet (session_named name before) packet
     → now ≡ unless_refused answer before (with_changed (with_packet packet) name before) → IsAnswered name packet before now answer
 by_answer name packet before now answer is becomes =
     (is, becomes ∙ ap (λ a. unless_refused a before (with_changed (with_packet packet) name before)) is)

@@ -6,7 +6,7 @@ use Rattle.std.proofs.lemmas.List.{append-nil}
 use Rattle.std.proofs.lemmas.Option.{same_Some}
 use Rattle.arrayvec.specs.declared.array_vec.ArrayVec.{ArrayVec}
 use Rattle.tp_answers.specs.Results.{RunResult}
-use Rattle.tp_answers.specs.Texts.{written, outcome_lines, outcomes_lines, session_lines}
+use Rattle.tp_answers.specs.Texts.{text_line, outcome_lines, outcomes_lines, session_lines}
 
 -- one packet more
 pub lines_more : (trace : Bool) (runs : List (Option RunResult)) (i : ℕ) (o : Option RunResult) → slice_get runs i ≡ Some o
@@ -57,6 +57,6 @@ runs_more trace sessions i s is = ap (λ n. runs_of trace (take n sessions)) (ad
 
 -- a session's lines are its name's line and those of its packets, one behind another
 pub session_told : (before name run : List ℕ) {a b c d : List ℕ} → a ≡ before ++ codes "OF " → b ≡ a ++ name → c ≡ b ++ codes "\n"
-    → d ≡ c ++ run → d ≡ before ++ (written (codes "OF " ++ name) ++ run)
+    → d ≡ c ++ run → d ≡ before ++ (text_line (codes "OF " ++ name) ++ run)
 session_told before name run at_a at_b at_c at_d =
     at_d ∙ ap (λ l. l ++ run) (at_c ∙ ap (λ l. l ++ codes "\n") (at_b ∙ ap (λ l. l ++ name) at_a)) ∙ simp append_assoc

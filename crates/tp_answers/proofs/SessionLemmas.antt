@@ -15,7 +15,7 @@ use Rattle.arrayvec.specs.declared.array_vec.ArrayVec.{ArrayVec}
 use Rattle.tp_image.specs.Image.{ImageValue}
 use Rattle.tp_accept.specs.declared.accepted.Accepted.{Accepted}
 use Rattle.tp_answers.specs.declared.session.OpenSession.{OpenSession}
-use Rattle.tp_answers.specs.Sessions.{most_sessions, Session, is_of, named, is_full, with_session, with_changed, without_session}
+use Rattle.tp_answers.specs.Sessions.{most_sessions, Session, is_of, session_named, is_full, with_session, with_changed, without_session}
 use Rattle.tp_answers.specs.Sessions.{with_packet, without_packets}
 use Rattle.tp_answers.specs.OpenSessions.{session_of, with_kept}
 
@@ -25,7 +25,7 @@ use Rattle.tp_answers.specs.OpenSessions.{session_of, with_kept}
 pub record IsPlaced (name : List ℕ) (sessions : List Session) (i : ℕ) : Type 0 where
   pub session : Session
   pub there : slice_get sessions i ≡ Some session
-  pub is_named : named name sessions ≡ Some session
+  pub is_named : session_named name sessions ≡ Some session
   pub replaced : (kept : OpenSession) → with_kept sessions i kept ≡ with_session (session_of name kept) sessions
   pub changed : (change : Session → Session) → slice_set sessions i (change session) ≡ with_changed change name sessions
   pub removed : remove sessions i ≡ without_session name sessions
@@ -74,7 +74,7 @@ placed name sessions i found =
 
 -- no session has the name
 pub record IsAbsent (name : List ℕ) (sessions : List Session) : Type 0 where
-  pub is_named : named name sessions ≡ None
+  pub is_named : session_named name sessions ≡ None
   pub changed : (change : Session → Session) → sessions ≡ with_changed change name sessions
   pub removed : sessions ≡ without_session name sessions
 

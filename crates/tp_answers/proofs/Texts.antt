@@ -10,7 +10,7 @@ use Rattle.tp_decode.specs.Cutting.{Cut}
 use Rattle.tp_decode.specs.Lines.{lines_from}
 use Rattle.hex.specs.Hex.{encode_lower}
 use Rattle.std.specs.Int.{from_bool, w8}
-use Rattle.tp_answers.specs.Texts.{written, flag, trace_text}
+use Rattle.tp_answers.specs.Texts.{text_line, flag, trace_text}
 
 pub regrouped : (a b c d e : List ℕ) → a ++ (b ++ (c ++ (d ++ e))) ≡ (((a ++ b) ++ c) ++ d) ++ e
 regrouped a b c d e = simp append_assoc
@@ -21,15 +21,15 @@ as_many_lines at (cut ∷ cuts) = ap suc (as_many_lines (at + length cut.bytes) 
 
 -- one line more
 pub line_more : (lines : List (List ℕ)) (i : ℕ) (line : List ℕ) → slice_get lines i ≡ Some line
-    → flat_map written (take (i + 1) lines) ≡ flat_map written (take i lines) ++ line ++ codes "\n"
-line_more lines i line e = ap (λ n. flat_map written (take n lines)) (add-one i) ∙ by_recursion lines i line e
+    → flat_map text_line (take (i + 1) lines) ≡ flat_map text_line (take i lines) ++ line ++ codes "\n"
+line_more lines i line e = ap (λ n. flat_map text_line (take n lines)) (add-one i) ∙ by_recursion lines i line e
   where
     by_recursion : (lines : List (List ℕ)) (i : ℕ) (line : List ℕ) → slice_get lines i ≡ Some line
-        → flat_map written (take (suc i) lines) ≡ flat_map written (take i lines) ++ line ++ codes "\n"
+        → flat_map text_line (take (suc i) lines) ≡ flat_map text_line (take i lines) ++ line ++ codes "\n"
     by_recursion [] i line e = cc
-    by_recursion (l ∷ lines) zero line e = append-nil (written l) ∙ ap written (same_Some l line e)
+    by_recursion (l ∷ lines) zero line e = append-nil (text_line l) ∙ ap text_line (same_Some l line e)
     by_recursion (l ∷ lines) (suc i) line e =
-        ap (λ xs. written l ++ xs) (by_recursion lines i line e) ∙ simp append_assoc
+        ap (λ xs. text_line l ++ xs) (by_recursion lines i line e) ∙ simp append_assoc
 
 pub flag_is : (b : Bool) → from_bool b ≡ flag b
 flag_is true = refl
@@ -60,7 +60,7 @@ all_bytes (x ∷ xs) fit =
 pub result_told : (before number error steps result : List ℕ) {a b c d e f : List ℕ} → a ≡ before ++ codes "R "
     → b ≡ a ++ number ++ codes " " → c ≡ b ++ error ++ codes " " → d ≡ c ++ steps ++ codes " " → e ≡ d ++ result
     → f ≡ e ++ codes "\n"
-    → f ≡ before ++ written (codes "R " ++ number ++ codes " " ++ error ++ codes " " ++ steps ++ codes " " ++ result)
+    → f ≡ before ++ text_line (codes "R " ++ number ++ codes " " ++ error ++ codes " " ++ steps ++ codes " " ++ result)
 result_told before number error steps result at_a at_b at_c at_d at_e at_f =
     let field : List ℕ → List ℕ → List ℕ = λ n l. l ++ n ++ codes " " in
     at_f ∙ ap (λ l. l ++ codes "\n") (at_e ∙ ap (λ l. l ++ result)

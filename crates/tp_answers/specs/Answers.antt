@@ -17,7 +17,8 @@ use Rattle.tp_requests.specs.Requests.{Asked, ToList, ToOpen, ToKeep, ToRun, ToR
 use Rattle.tp_answers.specs.declared.answer.LineFault.TheVariants.{E1, E2, P1, P2, P3, Code, Image}
 use Rattle.tp_answers.specs.declared.answer.Answer.{Answer}
 use Rattle.tp_answers.specs.declared.answer.Answer.TheVariants.{Listed, Yes, Kept, Ran, RanAll, Gone, Refused}
-use Rattle.tp_answers.specs.Sessions.{Session, named, is_full, with_session, with_changed, without_session, with_packet}
+use Rattle.tp_answers.specs.Sessions.{Session, session_named, is_full, with_session, with_changed, without_session}
+use Rattle.tp_answers.specs.Sessions.{with_packet}
 use Rattle.tp_answers.specs.Sessions.{without_packets}
 
 -- the verdict on the text of an image: the image that it spells and its budget, or why it is refused
@@ -49,7 +50,8 @@ unless_refused answer before after = after
 
 abbrev pub after_packet : (name packet : List ℕ) → List Session → List Session
 after_packet name packet before =
-    unless_refused (answer_to_packet (named name before) packet) before (with_changed (with_packet packet) name before)
+    unless_refused (answer_to_packet (session_named name before) packet) before
+    (with_changed (with_packet packet) name before)
 
 -- ---- <name> DROP
 
@@ -108,10 +110,10 @@ module _ (Judges : List ℕ → Verdict → Type 0) (HasOutcome : ImageValue →
   IsAnswer None sessions answer = answer ≡ Refused E1
   IsAnswer (Some (ToList code)) sessions answer = IsAnswerToList (cutting code) answer
   IsAnswer (Some (ToOpen name text)) sessions answer = IsAnswerToImage Judges (is_full name sessions) text answer
-  IsAnswer (Some (ToKeep name packet)) sessions answer = answer ≡ answer_to_packet (named name sessions) packet
-  IsAnswer (Some (ToRun name)) sessions answer = IsAnswerToRun HasOutcome (named name sessions) answer
+  IsAnswer (Some (ToKeep name packet)) sessions answer = answer ≡ answer_to_packet (session_named name sessions) packet
+  IsAnswer (Some (ToRun name)) sessions answer = IsAnswerToRun HasOutcome (session_named name sessions) answer
   IsAnswer (Some ToRunAll) sessions answer = IsAnswerToRunAll HasOutcome sessions answer
-  IsAnswer (Some (ToDrop name)) sessions answer = answer ≡ answer_to_drop (named name sessions)
+  IsAnswer (Some (ToDrop name)) sessions answer = answer ≡ answer_to_drop (session_named name sessions)
 
 -- the sessions after it
 module _ (Judges : List ℕ → Verdict → Type 0) where

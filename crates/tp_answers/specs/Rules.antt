@@ -5,7 +5,7 @@ use Rattle.tp_image.specs.Text.{IsTextOf}
 use Rattle.tp_step.specs.Runs.{RunsAlone, TracesMoreThan}
 use Rattle.tp_accept.specs.declared.refusal.Refusal.TheVariants.{Refused}
 use Rattle.tp_accept.specs.Verdict.{IsAnswer, allowed}
-use Rattle.tp_collect.specs.DoneValue.{run_giving, most_trace}
+use Rattle.tp_collect.specs.DoneValue.{run_of_parts, most_trace}
 use Rattle.tp_answers.specs.Results.{RunResult}
 use Rattle.tp_answers.specs.Answers.{Verdict, Accepts, Refuses}
 
@@ -17,5 +17,5 @@ IsVerdict text (Refuses code place) = IsAnswer text (Err (Refused code place))
 -- the outcome of a packet: its run alone, or a loss where that traces too much
 abbrev pub IsOutcome : ImageValue → List ℕ → Option RunResult → Type 0
 IsOutcome image packet (Some run) =
-    RunsAlone image packet (run_giving run.result run.error run.steps run.trace) × (length run.trace ≤ most_trace)
+    RunsAlone image packet (run_of_parts run.result run.error run.steps run.trace) × (length run.trace ≤ most_trace)
 IsOutcome image packet None = TracesMoreThan most_trace image packet

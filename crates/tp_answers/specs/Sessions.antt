@@ -18,13 +18,13 @@ abbrev pub is_of : List ℕ → Session → Bool
 is_of name s = is_text name s.name
 
 -- the session of a name
-abbrev pub named : List ℕ → List Session → Option Session
-named name [] = None
-named name (s ∷ sessions) = if is_of name s then Some s else named name sessions
+abbrev pub session_named : List ℕ → List Session → Option Session
+session_named name [] = None
+session_named name (s ∷ sessions) = if is_of name s then Some s else session_named name sessions
 
 -- the name is new, while as many sessions are open as may be
 abbrev pub is_full : List ℕ → List Session → Bool
-is_full name sessions = not (is_some (named name sessions)) && nat_le most_sessions (length sessions)
+is_full name sessions = not (is_some (session_named name sessions)) && nat_le most_sessions (length sessions)
 
 -- a session in the place of the one of its name, or else behind all others
 abbrev pub with_session : Session → List Session → List Session

@@ -15,12 +15,12 @@ use Rattle.tp_answers.specs.declared.answer.Answer.{Answer}
 use Rattle.tp_answers.specs.declared.answer.Answer.TheVariants.{Listed, Yes, Kept, Ran, RanAll, Gone, Refused}
 
 -- a text as a line
-abbrev pub written : List ℕ → List ℕ
-written text = text ++ line_feed ∷ []
+abbrev pub text_line : List ℕ → List ℕ
+text_line text = text ++ line_feed ∷ []
 
 -- so many instructions were listed, or so many packets run
 abbrev pub done_line : ℕ → List ℕ
-done_line count = written (codes "DONE " ++ decimal count)
+done_line count = text_line (codes "DONE " ++ decimal count)
 
 -- ---- what packets come to
 
@@ -32,7 +32,7 @@ flag true = 1
 -- a packet's result: its number, the error flag, the steps, the bytes sent on link 0
 abbrev pub result_line : ℕ → RunResult → List ℕ
 result_line n run =
-    written (
+    text_line (
     codes "R " ++ decimal n ++ codes " " ++ decimal (flag run.error) ++ codes " " ++ decimal run.steps ++ codes " "
     ++ encode_lower run.result
     )
@@ -43,12 +43,12 @@ trace_text [] = codes "-"
 trace_text (b ∷ bytes) = encode_lower (b ∷ bytes)
 
 abbrev pub trace_line : ℕ → RunResult → List ℕ
-trace_line n run = written (codes "T " ++ decimal n ++ codes " " ++ trace_text run.trace)
+trace_line n run = text_line (codes "T " ++ decimal n ++ codes " " ++ trace_text run.trace)
 
 -- the result, and the trace where it is asked for; or that the packet is lost
 abbrev pub outcome_lines : (trace : Bool) → ℕ → Option RunResult → List ℕ
 outcome_lines trace n (Some run) = result_line n run ++ (if trace then trace_line n run else [])
-outcome_lines trace n None = written (codes "LOST " ++ decimal n)
+outcome_lines trace n None = text_line (codes "LOST " ++ decimal n)
 
 -- of packets, the first of which has number n
 abbrev pub outcomes_lines : (trace : Bool) → ℕ → List (Option RunResult) → List ℕ
@@ -61,7 +61,7 @@ run_lines trace outcomes = outcomes_lines trace 0 outcomes ++ done_line (length 
 
 -- of one session of several: behind its name
 abbrev pub session_lines : (trace : Bool) → List ℕ × List (Option RunResult) → List ℕ
-session_lines trace run = written (codes "OF " ++ run.0) ++ run_lines trace run.1
+session_lines trace run = text_line (codes "OF " ++ run.0) ++ run_lines trace run.1
 
 -- ---- refusals
 
@@ -83,13 +83,13 @@ fault_place number fault = number
 -- ---- the answer to a line of a number, with traces or without
 
 unfoldable pub answer_text : (trace : Bool) → (number : ℕ) → Answer → List ℕ
-answer_text trace number (Listed cuts) = flat_map written (lines_from 0 cuts) ++ done_line (length cuts)
+answer_text trace number (Listed cuts) = flat_map text_line (lines_from 0 cuts) ++ done_line (length cuts)
 answer_text trace number (Yes code_bytes budget) =
-    written (codes "YES " ++ decimal code_bytes ++ codes " " ++ decimal budget)
-answer_text trace number (Kept n) = written (codes "KEPT " ++ decimal n)
+    text_line (codes "YES " ++ decimal code_bytes ++ codes " " ++ decimal budget)
+answer_text trace number (Kept n) = text_line (codes "KEPT " ++ decimal n)
 answer_text trace number (Ran outcomes) = run_lines trace outcomes
 answer_text trace number (RanAll runs) =
-    flat_map (session_lines trace) runs ++ written (codes "ALL " ++ decimal (length runs))
-answer_text trace number Gone = written (codes "GONE")
+    flat_map (session_lines trace) runs ++ text_line (codes "ALL " ++ decimal (length runs))
+answer_text trace number Gone = text_line (codes "GONE")
 answer_text trace number (Refused fault) =
-    written (codes "NO " ++ fault_code fault ++ codes " " ++ decimal (fault_place number fault))
+    text_line (codes "NO " ++ fault_code fault ++ codes " " ++ decimal (fault_place number fault))

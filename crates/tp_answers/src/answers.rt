@@ -5,7 +5,7 @@ ghost use Rattle.std.specs.List.{list_all};
 ghost use Rattle.tp_requests.specs.Spelling.{bytes_spelled};
 ghost use Rattle.tp_decode.specs.Cutting.{cutting};
 ghost use Rattle.tp_collect.specs.DoneValue.{most_message};
-ghost use Rattle.tp_answers.specs.Sessions.{named, is_full, without_session};
+ghost use Rattle.tp_answers.specs.Sessions.{session_named, is_full, without_session};
 ghost use Rattle.tp_answers.specs.Rules.{IsVerdict};
 ghost use Rattle.tp_answers.specs.Answers.{IsAnswerToList, IsAnswerToImage, IsAfterImage, answer_to_packet};
 ghost use Rattle.tp_answers.specs.Answers.{answer_to_drop, after_packet};
@@ -15,16 +15,16 @@ use crate::session::OpenSession;
 use crate::sessions::Sessions;
 use std::alloc::{AllocError, Global};
 use tp_accept::{Accepted, Refusal, accept};
-use tp_collect::limits::MESSAGE_BYTES;
+use tp_collect::limits::MAX_MESSAGE;
 use tp_decode::{DecodeFault, decode};
 use tp_requests::{Name, Spelled};
 use tp_stream::{MAX_PACKETS, Packet};
 
 /// The most sessions that are open at a time.
-const MOST_SESSIONS: usize = 64;
+const MAX_SESSIONS: usize = 64;
 
 /// The most packets that a session keeps: those of a batch.
-const MOST_PACKETS: usize = MAX_PACKETS as usize;
+const MAX_KEPT: usize = MAX_PACKETS as usize;
 
 /// The listing of a code.
 pub fn list(alloc: Global, code: &[u8]) -> Result<Answer, AllocError>
@@ -62,7 +62,7 @@ pub fn open(
         sessions.old sessions.new) }
 {
     let place = sessions.find(&name);
-    if place.is_none() && sessions.len() >= MOST_SESSIONS {
+    if place.is_none() && sessions.len() >= MAX_SESSIONS {
         return Ok(Answer::Refused(LineFault::E2));
     }
     match accept(alloc, text) {
@@ -84,7 +84,7 @@ fn packet_of(bytes: &Spelled<'_>) -> Packet
     ensures items { result.items ≡ bytes_spelled bytes.now }
     ensures bytes { IsTrue (list_all (λ b. nat_lt b 256) result.items) }
 {
-    let mut packet = Packet::from_array_in((), [0; MESSAGE_BYTES]);
+    let mut packet = Packet::from_array_in((), [0; MAX_MESSAGE]);
     packet.truncate(bytes.count());
     bytes.decode_into(packet.as_mut_slice());
     packet
@@ -97,7 +97,7 @@ pub fn keep(
     packet: &Spelled<'_>,
 ) -> Result<Answer, AllocError>
     ensures answer { IfOk result (λ answer.
-        answer ≡ answer_to_packet (named name.now.items sessions.old) (bytes_spelled packet.now)) }
+        answer ≡ answer_to_packet (session_named name.now.items sessions.old) (bytes_spelled packet.now)) }
     ensures sessions { OnOk result (sessions.new ≡ after_packet name.now.items (bytes_spelled packet.now)
         sessions.old) }
 {
@@ -109,7 +109,7 @@ pub fn keep(
         return Ok(Answer::Refused(LineFault::P1));
     }
     let number = session.packets.len();
-    if number >= MOST_PACKETS {
+    if number >= MAX_KEPT {
         return Ok(Answer::Refused(LineFault::P3));
     }
     session.keep(packet_of(packet))?;
@@ -118,7 +118,7 @@ pub fn keep(
 
 /// A session ends. This takes no memory.
 pub fn drop_session(sessions: &mut Sessions, name: &Name) -> Answer
-    ensures answer { result ≡ answer_to_drop (named name.now.items sessions.old) }
+    ensures answer { result ≡ answer_to_drop (session_named name.now.items sessions.old) }
     ensures sessions { sessions.new ≡ without_session name.now.items sessions.old }
 {
     let Some(index) = sessions.find(name) else {

@@ -10,14 +10,14 @@ use tp_requests::Name;
 
 /// What the run of a packet gave, in no more room than that takes.
 #[derive(Drop)]
-pub(crate) struct Outcome {
+pub(crate) struct PacketRun {
     pub(crate) result: Vec<u8>,
     pub(crate) error: bool,
     pub(crate) steps: u32,
     pub(crate) trace: Vec<u8>,
 }
 
-impl Model for Outcome {
+impl Model for PacketRun {
     ghost use Rattle.std.specs.Prelude.{◌≤◌, length};
     ghost use Rattle.tp_collect.specs.DoneValue.{most_message, most_trace};
     ghost use Rattle.tp_answers.specs.Results.{RunResult, run_result};
@@ -29,12 +29,12 @@ impl Model for Outcome {
     ghost invariant = { λ run. (length run.result.items ≤ most_message) × (length run.trace.items ≤ most_trace) };
 }
 
-impl Outcome {
+impl PacketRun {
     /// That of a result.
-    fn of(alloc: Global, done: &Done) -> Result<Outcome, AllocError>
+    fn of(alloc: Global, done: &Done) -> Result<PacketRun, AllocError>
         ensures { IfOk result (λ run. run ≡ result_of done.now) }
     {
-        Ok(Outcome {
+        Ok(PacketRun {
             result: Vec::from_slice(alloc, done.result.as_slice())?,
             error: done.error,
             steps: done.steps,
@@ -43,11 +43,11 @@ impl Outcome {
     }
 
     /// That of an entry; none where the packet was lost.
-    fn of_entry(alloc: Global, entry: &Entry) -> Result<Option<Outcome>, AllocError>
+    fn of_entry(alloc: Global, entry: &Entry) -> Result<Option<PacketRun>, AllocError>
         ensures { IfOk result (λ outcome. outcome ≡ outcome_of entry.now) }
     {
         match entry {
-            Entry::Done(done) => Ok(Some(Outcome::of(alloc, done)?)),
+            Entry::Done(done) => Ok(Some(PacketRun::of(alloc, done)?)),
             Entry::Lost(_) => Ok(None),
         }
     }
@@ -57,7 +57,7 @@ impl Outcome {
 /// lost.
 #[derive(Drop)]
 pub struct Outcomes {
-    runs: Vec<Option<Outcome>>,
+    runs: Vec<Option<PacketRun>>,
 }
 
 impl Model for Outcomes {
@@ -76,13 +76,13 @@ impl Outcomes {
     {
         let mut runs = Vec::with_capacity(alloc, collected.entries.len())?;
         for entry in &collected.entries {
-            runs.push(Outcome::of_entry(alloc, entry)?)?;
+            runs.push(PacketRun::of_entry(alloc, entry)?)?;
         }
         Ok(Outcomes { runs })
     }
 
     /// Each packet's run, or none where it was lost.
-    pub(crate) fn runs(&self) -> &[Option<Outcome>]
+    pub(crate) fn runs(&self) -> &[Option<PacketRun>]
         ensures { result.now ≡ self.now }
     {
         &self.runs

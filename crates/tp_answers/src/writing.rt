@@ -5,11 +5,11 @@ ghost use Rattle.std.specs.List.{flat_map};
 ghost use Rattle.hex.specs.Hex.{encode_lower};
 ghost use Rattle.tp_decode.specs.Lines.{lines_from};
 ghost use Rattle.tp_collect.specs.DoneValue.{most_message, most_trace};
-ghost use Rattle.tp_answers.specs.Texts.{written, done_line, result_line, trace_text, trace_line, outcome_lines};
+ghost use Rattle.tp_answers.specs.Texts.{text_line, done_line, result_line, trace_text, trace_line, outcome_lines};
 ghost use Rattle.tp_answers.specs.Texts.{outcomes_lines, run_lines, session_lines, answer_text};
 
 use crate::answer::Answer;
-use crate::outcomes::{AllOutcomes, Outcome, Outcomes};
+use crate::outcomes::{AllOutcomes, Outcomes, PacketRun};
 use itoa::Buffer;
 use std::alloc::{AllocError, Global};
 use std::io::Write;
@@ -46,7 +46,7 @@ fn write_field(out: &mut Vec<u8>, number: u64) -> Result<(), AllocError>
 }
 
 /// Writes the line of a result.
-fn write_result(out: &mut Vec<u8>, number: usize, run: &Outcome) -> Result<(), AllocError>
+fn write_result(out: &mut Vec<u8>, number: usize, run: &PacketRun) -> Result<(), AllocError>
     ensures { OnOk result (out.new.items ≡ out.old.items ++ result_line number run.now) }
 {
     out.extend_from_slice(b"R ")?;
@@ -72,7 +72,7 @@ fn write_trace_bytes(out: &mut Vec<u8>, trace: &[u8]) -> Result<(), AllocError>
 }
 
 /// Writes the line of a result's trace.
-fn write_trace(out: &mut Vec<u8>, number: usize, run: &Outcome) -> Result<(), AllocError>
+fn write_trace(out: &mut Vec<u8>, number: usize, run: &PacketRun) -> Result<(), AllocError>
     ensures { OnOk result (out.new.items ≡ out.old.items ++ trace_line number run.now) }
 {
     write!(out, "T {number} ").or(Err(AllocError))?;
@@ -86,7 +86,7 @@ fn write_outcome(
     out: &mut Vec<u8>,
     trace: bool,
     number: usize,
-    outcome: &Option<Outcome>,
+    outcome: &Option<PacketRun>,
 ) -> Result<(), AllocError>
     ensures { OnOk result (out.new.items ≡ out.old.items ++ outcome_lines trace number outcome.now) }
 {
@@ -106,7 +106,7 @@ fn write_outcome(
 fn write_outcomes(
     out: &mut Vec<u8>,
     trace: bool,
-    runs: &[Option<Outcome>],
+    runs: &[Option<PacketRun>],
 ) -> Result<(), AllocError>
     ensures { OnOk result (out.new.items ≡ out.old.items ++ outcomes_lines trace 0 runs.now) }
 {
@@ -147,7 +147,7 @@ fn write_runs(out: &mut Vec<u8>, trace: bool, all: &AllOutcomes) -> Result<(), A
 
 /// Writes the lines of a listing.
 fn write_lines(out: &mut Vec<u8>, alloc: Global, listing: &Listing) -> Result<(), AllocError>
-    ensures { OnOk result (out.new.items ≡ out.old.items ++ flat_map written (lines_from 0 listing.now)) }
+    ensures { OnOk result (out.new.items ≡ out.old.items ++ flat_map text_line (lines_from 0 listing.now)) }
 {
     for i in 0..listing.len() {
         out.extend_from_slice(listing.text(alloc, i)?.as_bytes())?;

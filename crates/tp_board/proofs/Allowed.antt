@@ -11,7 +11,7 @@ use Rattle.tp_board.specs.Counting.{once_below}
 use Rattle.tp_board.specs.Words.{place_of, size, words_of}
 use Rattle.tp_board.specs.Views.{newcomer, nothing_seen, join_of}
 use Rattle.tp_board.specs.Rule.{Fits}
-use Rattle.tp_board.specs.Steps.{row_of, MayStep, found_by}
+use Rattle.tp_board.specs.Steps.{row_of, MayStep, word_found}
 use Rattle.tp_board.specs.Plays.{Holds, HasStepped}
 use Rattle.tp_board.proofs.Counting.{none_below}
 use Rattle.tp_board.proofs.Moves.{moves, word_fresh}
@@ -23,7 +23,7 @@ module _ {S : Type 0} (k : Size) (slots id : ℕ) (me : Me S View) where
   pub allowed : (event : Event) → MayStep event me.0 → me.0.parts ≡ 1
       → Allows (Holds k) slots id me (place_of (row_of event).word) (row_of event).change (HasStepped event (step 0 0 0 0 none) me)
   allowed event may one s h _ at _ = (
-    (row_of event).view me.0 (found_by event s.words),
+    (row_of event).view me.0 (word_found event s.words),
     keeps,
     tt,
     moves k s.words s.views id me.0 h at event may one,

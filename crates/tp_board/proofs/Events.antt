@@ -7,14 +7,14 @@ use Rattle.std.proofs.lemmas.List.Elements.{All-head, All-tail}
 use mathlib.Core.Option.{some, some-ne-none, some-injective}
 use lib.ListN.{get_elem?}
 use Rattle.tp_board.specs.Counting.{times, times_in_hands, hand_list}
-use Rattle.tp_board.specs.Farm.{Farm, Step, farm, step, claim_step, finish_step, abandon_step, hand_of, hands_with}
+use Rattle.tp_board.specs.CoreState.{CoreState, Step, core_state, step, claim_step, finish_step, abandon_step, hand_of, hands_with}
 use Rattle.tp_board.specs.Runs.{Accounts}
 use Rattle.tp_board.specs.Words.{word_of, place_of, words_of}
 use Rattle.tp_board.specs.Views.{first_of, all_finished, all_abandoned}
 use Rattle.tp_board.specs.Rule.{total, Rule}
 use Rattle.tp_board.specs.Steps.{answer_for, claim_reply, hand_reply, with_number, with_end, after_draw, after_finish}
-use Rattle.tp_board.specs.Steps.{after_abandon, after_stop, after_look, row_of, MayStep, found_by, words_after}
-use Rattle.tp_board.specs.FarmOf.{farm_of, IsSame}
+use Rattle.tp_board.specs.Steps.{after_abandon, after_stop, after_look, row_of, MayStep, word_found, words_after}
+use Rattle.tp_board.specs.CoreOf.{core_of, IsSame}
 use Rattle.tp_board.specs.Freshness.{IsFresh}
 use Rattle.tp_board.specs.Laws.{AccountsLaw, StepLaw, IsEvent, IsSeatAt}
 use Rattle.tp_board.proofs.Counting.{times-append}
@@ -53,7 +53,7 @@ module _ where
 -- the farm after these words and views is what the event makes of the farm before, with this reply
 abbrev Told : Size → List ℕ → List ℕ → List View → List View → ℕ → Event → Reply → Type 0
 Told k words words' views views' id event r =
-    IsSame (farm_of k words' views') (step (farm_of k words views) id event).1 × ((step (farm_of k words views) id event).0 ≡ r)
+    IsSame (core_of k words' views') (step (core_of k words views) id event).1 × ((step (core_of k words views) id event).0 ≡ r)
 
 -- where the words are known by their names
 by_name : (k : Size) (words : List ℕ) (w w' : Counters) (views views' : List View) (id : ℕ) (event : Event) (r : Reply)
@@ -66,20 +66,20 @@ by_name k words w w' views views' id event r is next told =
 -- an event's law holds, since each step keeps the rule and finds its word fresh
 event_law : (event : Event) (k : Size) (words : List ℕ) (views : List View) (id : ℕ) (v : View) → IsSeatAt k words views id v
     → MayStep event v
-    → let n = found_by event words in
+    → let n = word_found event words in
     let row = row_of event in
     Told k words (words_after event words) views (set views id (row.view v n)) id event (row.reply v n)
     → IsFresh v row.word n
     × IsEvent k words views (words_after event words) (set views id (row.view v n)) id event (row.reply v n)
 event_law event k words views id v (h, at, one) may told = (
   word_fresh k words views id v h at (row_of event).word one,
-  record { rule = moves k words views id v h at event may one; farm = told.0; answered = told.1 },
+  record { rule = moves k words views id v h at event may one; core_state = told.0; answered = told.1 },
 )
 
 -- a seat whose hand and reports stay leaves the farm's
 unmoved : (k : Size) (w w' : Counters) (views : List View) (id : ℕ) (v u : View) → get_elem? views id ≡ some v → u.hand ≡ v.hand
     → u.finished ≡ v.finished → u.abandoned ≡ v.abandoned → min w'.claimed k.packets ≡ min w.claimed k.packets
-    → IsSame (farm_of k (words_of w') (set views id u)) (farm_of k (words_of (record w { stop = w'.stop })) views)
+    → IsSame (core_of k (words_of w') (set views id u)) (core_of k (words_of (record w { stop = w'.stop })) views)
 unmoved k w w' views id v u at hand finished abandoned drawn = record {
   packets = refl;
   drawn = drawn;
@@ -92,15 +92,15 @@ unmoved k w w' views id v u at hand finished abandoned drawn = record {
 }
 
 -- a claim by one with nothing in hand, where a number is left and where none is
-drawn_by : (s t : Farm) (id : ℕ) (r : Reply) (b : Bool) → hand_of s id ≡ None → ltb s.drawn s.packets ≡ b
+drawn_by : (s t : CoreState) (id : ℕ) (r : Reply) (b : Bool) → hand_of s id ≡ None → ltb s.drawn s.packets ≡ b
     → (let given : Step =
-    if b then (Number s.drawn, farm s.packets (s.drawn + 1) (hands_with s id (Some s.drawn)) s.done s.lost s.stop)
+    if b then (Number s.drawn, core_state s.packets (s.drawn + 1) (hands_with s id (Some s.drawn)) s.done s.lost s.stop)
     else (NoMore, s) in IsSame t given.1 × (given.0 ≡ r))
     → IsSame t (step s id Claim).1 × ((step s id Claim).0 ≡ r)
 drawn_by s t id r b none test h =
     subst (λ o. IsSame t (claim_step s id o).1 × ((claim_step s id o).0 ≡ r)) (sym none)
     (subst (λ b. let given : Step =
-    if b then (Number s.drawn, farm s.packets (s.drawn + 1) (hands_with s id (Some s.drawn)) s.done s.lost s.stop)
+    if b then (Number s.drawn, core_state s.packets (s.drawn + 1) (hands_with s id (Some s.drawn)) s.done s.lost s.stop)
     else (NoMore, s) in IsSame t given.1 × (given.0 ≡ r)) (sym test) h)
 
 module _ (k : Size) (w : Counters) (views : List View) (id : ℕ) (v : View) (at : get_elem? views id ≡ some v)
@@ -112,7 +112,7 @@ module _ (k : Size) (w : Counters) (views : List View) (id : ℕ) (v : View) (at
       let u = with_number v w.claimed in
       let was : min w.claimed k.packets ≡ w.claimed = omega arith in
       let now : min (w.claimed + 1) k.packets ≡ w.claimed + 1 = omega arith in
-      drawn_by (farm_of k (words_of w) views) (farm_of k (words_of (record w { claimed = w.claimed + 1 })) (set views id u)) id
+      drawn_by (core_of k (words_of w) views) (core_of k (words_of (record w { claimed = w.claimed + 1 })) (set views id u)) id
       (Number w.claimed) true (hand_at views id v at ∙ ap first_of none)
       (lt-ltb (min w.claimed k.packets) k.packets (omega arith)) (
         record {
@@ -132,8 +132,8 @@ module _ (k : Size) (w : Counters) (views : List View) (id : ℕ) (v : View) (at
   draw_above : k.packets ≤ w.claimed
       → Told k (words_of w) (words_of (record w { claimed = w.claimed + 1 })) views (set views id (with_end v)) id Claim NoMore
   draw_above above =
-      drawn_by (farm_of k (words_of w) views)
-      (farm_of k (words_of (record w { claimed = w.claimed + 1 })) (set views id (with_end v))) id NoMore false
+      drawn_by (core_of k (words_of w) views)
+      (core_of k (words_of (record w { claimed = w.claimed + 1 })) (set views id (with_end v))) id NoMore false
       (hand_at views id v at ∙ ap first_of none) (le-ltb (min w.claimed k.packets) k.packets (omega arith))
       (unmoved k w (record w { claimed = w.claimed + 1 }) views id v (with_end v) at refl refl refl (omega arith), refl)
 
@@ -168,8 +168,8 @@ finish_law k words views id v (h, at, one) (n, full) =
     let next : words_after Finish (words_of w) ≡ words_of w' =
     ap (λ n. w.claimed ∷ n ∷ w.lost ∷ w.stop ∷ []) (added w.done (omega arith)) in
     let told = by_name k words w w' views (set views id u) id Finish (Number n) h.1 next
-    (subst (λ o. let given = finish_step (farm_of k (words_of w) views) id o in
-    IsSame (farm_of k (words_of w') (set views id u)) given.1 × (given.0 ≡ Number n))
+    (subst (λ o. let given = finish_step (core_of k (words_of w) views) id o in
+    IsSame (core_of k (words_of w') (set views id u)) given.1 × (given.0 ≡ Number n))
     (sym (hand_at views id v at ∙ ap first_of full)) (
       record {
         packets = refl;
@@ -194,8 +194,8 @@ abandon_law k words views id v (h, at, one) (n, full) =
     let next : words_after Abandon (words_of w) ≡ words_of w' =
     ap (λ n. w.claimed ∷ w.done ∷ n ∷ w.stop ∷ []) (added w.lost (omega arith)) in
     let told = by_name k words w w' views (set views id u) id Abandon (Number n) h.1 next
-    (subst (λ o. let given = abandon_step (farm_of k (words_of w) views) id o in
-    IsSame (farm_of k (words_of w') (set views id u)) given.1 × (given.0 ≡ Number n))
+    (subst (λ o. let given = abandon_step (core_of k (words_of w) views) id o in
+    IsSame (core_of k (words_of w') (set views id u)) given.1 × (given.0 ≡ Number n))
     (sym (hand_at views id v at ∙ ap first_of full)) (
       record {
         packets = refl;
@@ -253,8 +253,8 @@ look_law what k words views id v (h, at, one) may =
     Told k ws ws views (slice_set views id (after_look v what n)) id (Look what) (Value (answer_for what k.packets n))) (sym h.1)
     (look_at k h.0 views id v what h.2 at) in
     event_law (Look what) k words views id v (h, at, one) may (
-      subst (λ ws. IsSame (farm_of k ws (set views id (after_look v what (word_of what words))))
-          (step (farm_of k words views) id (Look what)).1) (sym (set_same (place_of what) words)) told.0,
+      subst (λ ws. IsSame (core_of k ws (set views id (after_look v what (word_of what words))))
+          (step (core_of k words views) id (Look what)).1) (sym (set_same (place_of what) words)) told.0,
       told.1 ∙ ap (λ p. Value (answer_for what p (word_of what words))) (sym packets),
     )
 
@@ -276,7 +276,7 @@ pub accounts_law : AccountsLaw
 accounts_law k words views h one =
     let w = h.0 in
     let r = h.2 in
-    subst (λ ws. Accounts (farm_of k ws views)) (sym h.1) (record {
+    subst (λ ws. Accounts (core_of k ws views)) (sym h.1) (record {
       within = omega arith;
       each_once = (λ x.
           let a = hands_total x views one in

@@ -15,7 +15,7 @@ use Rattle.tp_board.specs.declared.rule.Size.{Size}
 use Rattle.tp_board.specs.Words.{word_of, place_of, one_more, words_of, counters}
 use Rattle.tp_board.specs.Rule.{total, Rule, KeepsRule}
 use Rattle.tp_board.specs.Freshness.{IsFresh}
-use Rattle.tp_board.specs.Steps.{after_draw, after_finish, after_abandon, after_stop, after_look, row_of, MayStep, found_by}
+use Rattle.tp_board.specs.Steps.{after_draw, after_finish, after_abandon, after_stop, after_look, row_of, MayStep, word_found}
 use Rattle.tp_board.specs.Steps.{words_after}
 use Rattle.tp_board.proofs.Steps.{drew_rule, finish_rule, abandon_rule, stop_rule, saw_rule}
 use Rattle.tp_board.proofs.Totals.{le_total, total_le}
@@ -122,7 +122,7 @@ module _ (k : Size) (words : List ℕ) (views : List View) (id : ℕ) (v : View)
 
   -- the step of a seat that may make it keeps the rule
   pub moves : (event : Event) → MayStep event v → v.parts ≡ 1
-      → KeepsRule k (words_after event words) (set views id ((row_of event).view v (found_by event words)))
+      → KeepsRule k (words_after event words) (set views id ((row_of event).view v (word_found event words)))
   moves Claim may one = claim_moves may.0 may.1 one
   moves Finish may one = finish_moves (ap length may.1)
   moves Abandon may one = abandon_moves (ap length may.1)

@@ -4,8 +4,8 @@ use Rattle.std.proofs.Common.{subst, arith}
 use Rattle.tp_board.specs.declared.view.Counters.{Counters}
 use Rattle.tp_board.specs.declared.view.View.{View}
 use Rattle.tp_board.specs.Counting.{times, once_below}
-use Rattle.tp_board.specs.Farm.{farm, opening_farm}
-use Rattle.tp_board.specs.FarmOf.{farm_of}
+use Rattle.tp_board.specs.CoreState.{core_state, opening_core}
+use Rattle.tp_board.specs.CoreOf.{core_of}
 use Rattle.tp_board.specs.Words.{size, words_of}
 use Rattle.tp_board.specs.Views.{newcomer, nothing_seen, first_of, all_finished, all_abandoned}
 use Rattle.tp_board.specs.Rule.{Fits, Rule}
@@ -53,21 +53,21 @@ no_hands v zero e = refl
 no_hands v (suc n) e = ap (λ h. h ∷ map (λ u. first_of u.hand) (replicate n v)) e ∙ ap (λ l. None ∷ l) (no_hands v n e)
 
 -- the farm that any number of seats stand for
-pub opening_stands_for : (p m : ℕ) → farm_of (size p m) opening_words (opening_views p m) ≡ opening_farm p m
+pub opening_stands_for : (p m : ℕ) → core_of (size p m) opening_words (opening_views p m) ≡ opening_core p m
 opening_stands_for p m =
     let v = newcomer p 1 in
     let views = opening_views p m in
     let none : min 0 p ≡ 0 = omega arith in
-    ap (λ n. farm p n (map (λ u. first_of u.hand) views) (all_finished views) (all_abandoned views) (nat_eq 0 1)) none
-    ∙ ap (λ hs. farm p 0 hs (all_finished views) (all_abandoned views) (nat_eq 0 1)) (no_hands v m refl)
-    ∙ ap (λ l. farm p 0 (replicate m None) l (all_abandoned views) (nat_eq 0 1)) (none_gathered (λ u. u.finished) v m refl)
-    ∙ ap (λ l. farm p 0 (replicate m None) [] l (nat_eq 0 1)) (none_gathered (λ u. u.abandoned) v m refl)
+    ap (λ n. core_state p n (map (λ u. first_of u.hand) views) (all_finished views) (all_abandoned views) (nat_eq 0 1)) none
+    ∙ ap (λ hs. core_state p 0 hs (all_finished views) (all_abandoned views) (nat_eq 0 1)) (no_hands v m refl)
+    ∙ ap (λ l. core_state p 0 (replicate m None) l (all_abandoned views) (nat_eq 0 1)) (none_gathered (λ u. u.finished) v m refl)
+    ∙ ap (λ l. core_state p 0 (replicate m None) [] l (nat_eq 0 1)) (none_gathered (λ u. u.abandoned) v m refl)
 
 pub opening_law : OpeningLaw
 opening_law p m (some_member, few_members, few_packets) = record {
   rule = (nothing_seen, refl, opening_rule p m few_packets (omega arith));
   only = (λ words h. h.1 ∙ opening_only p m h.0 h.2);
-  farm = opening_stands_for p m;
+  core_state = opening_stands_for p m;
 }
 
 -- the views of the seats that a board gives

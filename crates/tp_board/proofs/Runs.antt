@@ -9,8 +9,8 @@ use Rattle.tp_board.specs.declared.event.Event.TheVariants.{Claim, Finish, Aband
 use Rattle.tp_board.specs.declared.event.Reply.{Reply}
 use Rattle.tp_board.specs.declared.event.Reply.TheVariants.{Number, NoMore}
 use Rattle.tp_board.specs.Counting.{times, once_below, hand_list, times_in_hands}
-use Rattle.tp_board.specs.Farm.{Farm, Step, farm, opening_farm, hand_of, hands_with, claim_step, finish_step, abandon_step, step}
-use Rattle.tp_board.specs.Runs.{RunLaw, farm_after, replies, Accounts, number_drawn, numbers_drawn, numbers_from, AllMembers}
+use Rattle.tp_board.specs.CoreState.{CoreState, Step, core_state, opening_core, hand_of, hands_with, claim_step, finish_step, abandon_step, step}
+use Rattle.tp_board.specs.Runs.{RunLaw, core_after, replies, Accounts, number_drawn, numbers_drawn, numbers_from, AllMembers}
 use Rattle.tp_board.specs.Runs.{IsKept}
 use Rattle.tp_board.proofs.Counting.{times-append, once_more}
 
@@ -24,7 +24,7 @@ no_hands : (x n : ℕ) → times_in_hands x (replicate n None) ≡ 0
 no_hands x zero = refl
 no_hands x (suc n) = let ih = no_hands x n in omega arith
 
-pub accounts_opening : (p m : ℕ) → Accounts (opening_farm p m)
+pub accounts_opening : (p m : ℕ) → Accounts (opening_core p m)
 accounts_opening p m =
     record {
       within = omega arith;
@@ -33,8 +33,8 @@ accounts_opening p m =
     }
 
 pub accounts_claim : (p d : ℕ) (hs : List (Option ℕ)) (done lost : List ℕ) (stop : Bool) (m : ℕ) → m < length hs
-    → get_or hs m None ≡ None → d < p → Accounts (farm p d hs done lost stop)
-    → Accounts (farm p (d + 1) (set hs m (Some d)) done lost stop)
+    → get_or hs m None ≡ None → d < p → Accounts (core_state p d hs done lost stop)
+    → Accounts (core_state p (d + 1) (set hs m (Some d)) done lost stop)
 accounts_claim p d hs done lost stop m l none below h = record {
   within = omega arith;
   each_once =
@@ -43,8 +43,8 @@ accounts_claim p d hs done lost stop m l none below h = record {
 }
 
 pub accounts_finish : (p d : ℕ) (hs : List (Option ℕ)) (done lost : List ℕ) (stop : Bool) (m n : ℕ) → m < length hs
-    → get_or hs m None ≡ Some n → Accounts (farm p d hs done lost stop)
-    → Accounts (farm p d (set hs m None) (done ++ n ∷ []) lost stop)
+    → get_or hs m None ≡ Some n → Accounts (core_state p d hs done lost stop)
+    → Accounts (core_state p d (set hs m None) (done ++ n ∷ []) lost stop)
 accounts_finish p d hs done lost stop m n l some_hand h = record {
   within = h.within;
   each_once =
@@ -53,8 +53,8 @@ accounts_finish p d hs done lost stop m n l some_hand h = record {
 }
 
 pub accounts_abandon : (p d : ℕ) (hs : List (Option ℕ)) (done lost : List ℕ) (stop : Bool) (m n : ℕ) → m < length hs
-    → get_or hs m None ≡ Some n → Accounts (farm p d hs done lost stop)
-    → Accounts (farm p d (set hs m None) done (lost ++ n ∷ []) stop)
+    → get_or hs m None ≡ Some n → Accounts (core_state p d hs done lost stop)
+    → Accounts (core_state p d (set hs m None) done (lost ++ n ∷ []) stop)
 accounts_abandon p d hs done lost stop m n l some_hand h = record {
   within = h.within;
   each_once =
@@ -63,18 +63,18 @@ accounts_abandon p d hs done lost stop m n l some_hand h = record {
 }
 
 -- ---- runs, one event more
-pub after_snoc : (s : Farm) (es : List (ℕ × Event)) (e : ℕ × Event)
-    → farm_after s (es ++ e ∷ []) ≡ (step (farm_after s es) e.0 e.1).1
+pub after_snoc : (s : CoreState) (es : List (ℕ × Event)) (e : ℕ × Event)
+    → core_after s (es ++ e ∷ []) ≡ (step (core_after s es) e.0 e.1).1
 after_snoc s [] e = refl
 after_snoc s (x ∷ es) e = after_snoc (step s x.0 x.1).1 es e
 
-pub replies_snoc : (s : Farm) (es : List (ℕ × Event)) (e : ℕ × Event)
-    → replies s (es ++ e ∷ []) ≡ replies s es ++ (step (farm_after s es) e.0 e.1).0 ∷ []
+pub replies_snoc : (s : CoreState) (es : List (ℕ × Event)) (e : ℕ × Event)
+    → replies s (es ++ e ∷ []) ≡ replies s es ++ (step (core_after s es) e.0 e.1).0 ∷ []
 replies_snoc s [] e = refl
 replies_snoc s (x ∷ es) e = ap (λ rs. (step s x.0 x.1).0 ∷ rs) (replies_snoc (step s x.0 x.1).1 es e)
 
 -- ---- what a run keeps
-kept_same : (s : Farm) → IsKept s s
+kept_same : (s : CoreState) → IsKept s s
 kept_same s =
     record {
       packets = refl;
@@ -85,7 +85,7 @@ kept_same s =
       stop = (λ t. t);
     }
 
-kept_then : (s t u : Farm) → IsKept s t → IsKept t u → IsKept s u
+kept_then : (s t u : CoreState) → IsKept s t → IsKept t u → IsKept s u
 kept_then s t u a b = record {
   packets = b.packets ∙ a.packets;
   members = b.members ∙ a.members;
@@ -96,19 +96,19 @@ kept_then s t u a b = record {
 }
 
 -- what a claim does, by whether a number is left
-claims_none : (P : Step → Type 0) (s : Farm) (m : ℕ)
+claims_none : (P : Step → Type 0) (s : CoreState) (m : ℕ)
     → (s.drawn < s.packets → P (
       Number s.drawn,
-      farm s.packets (s.drawn + 1)
+      core_state s.packets (s.drawn + 1)
           (hands_with s m (Some s.drawn)) s.done s.lost s.stop,
     )) → (s.packets ≤ s.drawn → P (NoMore, s)) → P (claim_step s m None)
 claims_none P s m below above =
-    let yes : Step = (Number s.drawn, farm s.packets (s.drawn + 1) (hands_with s m (Some s.drawn)) s.done s.lost s.stop) in
+    let yes : Step = (Number s.drawn, core_state s.packets (s.drawn + 1) (hands_with s m (Some s.drawn)) s.done s.lost s.stop) in
     let no : Step = (NoMore, s) in
     Rattle.std.proofs.lemmas.Bool.cond_both (ltb s.drawn s.packets) yes no P (λ t. below (ltb-true s.drawn s.packets t))
     (λ t. above (ltb-false s.drawn s.packets t))
 
-kept_claims : (s : Farm) (m : ℕ) (h : Option ℕ) → IsKept s (claim_step s m h).1
+kept_claims : (s : CoreState) (m : ℕ) (h : Option ℕ) → IsKept s (claim_step s m h).1
 kept_claims s m (Some n) = kept_same s
 kept_claims s m None = claims_none (λ r. IsKept s r.1) s m
     (λ _. record {
@@ -121,7 +121,7 @@ kept_claims s m None = claims_none (λ r. IsKept s r.1) s m
     })
     (λ _. kept_same s)
 
-kept_finishes : (s : Farm) (m : ℕ) (h : Option ℕ) → IsKept s (finish_step s m h).1
+kept_finishes : (s : CoreState) (m : ℕ) (h : Option ℕ) → IsKept s (finish_step s m h).1
 kept_finishes s m None = kept_same s
 kept_finishes s m (Some n) =
     record {
@@ -133,7 +133,7 @@ kept_finishes s m (Some n) =
       stop = (λ t. t);
     }
 
-kept_abandons : (s : Farm) (m : ℕ) (h : Option ℕ) → IsKept s (abandon_step s m h).1
+kept_abandons : (s : CoreState) (m : ℕ) (h : Option ℕ) → IsKept s (abandon_step s m h).1
 kept_abandons s m None = kept_same s
 kept_abandons s m (Some n) =
     record {
@@ -145,7 +145,7 @@ kept_abandons s m (Some n) =
       stop = (λ t. t);
     }
 
-pub kept_step : (s : Farm) (m : ℕ) (e : Event) → IsKept s (step s m e).1
+pub kept_step : (s : CoreState) (m : ℕ) (e : Event) → IsKept s (step s m e).1
 kept_step s m Claim = kept_claims s m (hand_of s m)
 kept_step s m Finish = kept_finishes s m (hand_of s m)
 kept_step s m Abandon = kept_abandons s m (hand_of s m)
@@ -160,37 +160,37 @@ kept_step s m Stop =
     }
 kept_step s m (Look what) = kept_same s
 
-pub kept_after : (s : Farm) (es : List (ℕ × Event)) → IsKept s (farm_after s es)
+pub kept_after : (s : CoreState) (es : List (ℕ × Event)) → IsKept s (core_after s es)
 kept_after s [] = kept_same s
 kept_after s (e ∷ es) =
-    kept_then s (step s e.0 e.1).1 (farm_after (step s e.0 e.1).1 es) (kept_step s e.0 e.1) (kept_after (step s e.0 e.1).1 es)
+    kept_then s (step s e.0 e.1).1 (core_after (step s e.0 e.1).1 es) (kept_step s e.0 e.1) (kept_after (step s e.0 e.1).1 es)
 
 -- ---- the numbers that a run draws
 -- one event drew no number, or the next
-abbrev Drew : Farm → Event → Step → Type 0
+abbrev Drew : CoreState → Event → Step → Type 0
 Drew s e r =
     ((r.1.drawn ≡ s.drawn) × (number_drawn e r.0 ≡ [])) ⊎ ((r.1.drawn ≡ s.drawn + 1) × (number_drawn e r.0 ≡ s.drawn ∷ []))
 
-drew_claims : (s : Farm) (m : ℕ) (h : Option ℕ) → Drew s Claim (claim_step s m h)
+drew_claims : (s : CoreState) (m : ℕ) (h : Option ℕ) → Drew s Claim (claim_step s m h)
 drew_claims s m (Some n) = inl (refl, refl)
 drew_claims s m None = claims_none (Drew s Claim) s m (λ _. inr (refl, refl)) (λ _. inl (refl, refl))
 
-drew_finishes : (s : Farm) (m : ℕ) (h : Option ℕ) → Drew s Finish (finish_step s m h)
+drew_finishes : (s : CoreState) (m : ℕ) (h : Option ℕ) → Drew s Finish (finish_step s m h)
 drew_finishes s m None = inl (refl, refl)
 drew_finishes s m (Some n) = inl (refl, refl)
 
-drew_abandons : (s : Farm) (m : ℕ) (h : Option ℕ) → Drew s Abandon (abandon_step s m h)
+drew_abandons : (s : CoreState) (m : ℕ) (h : Option ℕ) → Drew s Abandon (abandon_step s m h)
 drew_abandons s m None = inl (refl, refl)
 drew_abandons s m (Some n) = inl (refl, refl)
 
-drew_step : (s : Farm) (m : ℕ) (e : Event) → Drew s e (step s m e)
+drew_step : (s : CoreState) (m : ℕ) (e : Event) → Drew s e (step s m e)
 drew_step s m Claim = drew_claims s m (hand_of s m)
 drew_step s m Finish = drew_finishes s m (hand_of s m)
 drew_step s m Abandon = drew_abandons s m (hand_of s m)
 drew_step s m Stop = inl (refl, refl)
 drew_step s m (Look what) = inl (refl, refl)
 
-drew_run : (s : Farm) (es : List (ℕ × Event)) → (k : ℕ) × ((farm_after s es).drawn ≡ s.drawn + k)
+drew_run : (s : CoreState) (es : List (ℕ × Event)) → (k : ℕ) × ((core_after s es).drawn ≡ s.drawn + k)
     × (numbers_drawn es (replies s es) ≡ numbers_from s.drawn k)
 drew_run s [] = (0, omega arith, refl)
 drew_run s (e ∷ es) =
@@ -210,11 +210,11 @@ drew_run s (e ∷ es) =
     (drew_step s e.0 e.1)
 
 -- the numbers that a run draws are those from the count at its start on
-pub drawn_run : (s t : Farm) (es : List (ℕ × Event)) (rs : List Reply) → rs ≡ replies s es → t ≡ farm_after s es
+pub drawn_run : (s t : CoreState) (es : List (ℕ × Event)) (rs : List Reply) → rs ≡ replies s es → t ≡ core_after s es
     → numbers_drawn es rs ≡ numbers_from s.drawn (t.drawn - s.drawn)
 drawn_run s t es rs said is =
     let h = drew_run s es in
-    let k : h.0 ≡ t.drawn - s.drawn = (let a = ap (λ (u : Farm). u.drawn) is in let b = h.1 in omega arith) in
+    let k : h.0 ≡ t.drawn - s.drawn = (let a = ap (λ (u : CoreState). u.drawn) is in let b = h.1 in omega arith) in
     ap (numbers_drawn es) said ∙ h.2 ∙ ap (numbers_from s.drawn) k
 
 -- ---- for the loop of `play`
@@ -224,48 +224,48 @@ member_at members [] i d h l = absurd (omega arith)
 member_at members (x ∷ xs) zero d h l = h.0
 member_at members (x ∷ xs) (suc i) d h l = member_at members xs i d h.1 (omega arith)
 
-pub after_more : (s t u : Farm) (es : List (ℕ × Event)) (i : ℕ) (d : ℕ × Event) (r : Reply) → i < length es
-    → t ≡ farm_after s (take i es) → (r, u) ≡ step t (get_or es i d).0 (get_or es i d).1 → u ≡ farm_after s (take (i + 1) es)
+pub after_more : (s t u : CoreState) (es : List (ℕ × Event)) (i : ℕ) (d : ℕ × Event) (r : Reply) → i < length es
+    → t ≡ core_after s (take i es) → (r, u) ≡ step t (get_or es i d).0 (get_or es i d).1 → u ≡ core_after s (take (i + 1) es)
 after_more s t u es i d r l was made =
     let e = get_or es i d in
-    ap (λ (x : Reply × Farm). x.1) made ∙ ap (λ (y : Farm). (step y e.0 e.1).1) was ∙ sym (after_snoc s (take i es) e)
-    ∙ ap (farm_after s) (sym (take_more es i d l))
+    ap (λ (x : Reply × CoreState). x.1) made ∙ ap (λ (y : CoreState). (step y e.0 e.1).1) was ∙ sym (after_snoc s (take i es) e)
+    ∙ ap (core_after s) (sym (take_more es i d l))
 
-pub replies_more : (s t u : Farm) (es : List (ℕ × Event)) (i : ℕ) (d : ℕ × Event) (r : Reply) (rs : List Reply) → i < length es
-    → t ≡ farm_after s (take i es) → (r, u) ≡ step t (get_or es i d).0 (get_or es i d).1 → rs ≡ replies s (take i es)
+pub replies_more : (s t u : CoreState) (es : List (ℕ × Event)) (i : ℕ) (d : ℕ × Event) (r : Reply) (rs : List Reply) → i < length es
+    → t ≡ core_after s (take i es) → (r, u) ≡ step t (get_or es i d).0 (get_or es i d).1 → rs ≡ replies s (take i es)
     → rs ++ r ∷ [] ≡ replies s (take (i + 1) es)
 replies_more s t u es i d r rs l was made said =
     let e = get_or es i d in
-    ap (λ (x : Reply × Farm). rs ++ x.0 ∷ []) made ∙ ap (λ (y : Farm). rs ++ (step y e.0 e.1).0 ∷ []) was
-    ∙ ap (λ l. l ++ (step (farm_after s (take i es)) e.0 e.1).0 ∷ []) said
+    ap (λ (x : Reply × CoreState). rs ++ x.0 ∷ []) made ∙ ap (λ (y : CoreState). rs ++ (step y e.0 e.1).0 ∷ []) was
+    ∙ ap (λ l. l ++ (step (core_after s (take i es)) e.0 e.1).0 ∷ []) said
     ∙ sym (replies_snoc s (take i es) e) ∙ ap (replies s) (sym (take_more es i d l))
 
 -- ---- the accounts, over runs
-accounts_claims : (s : Farm) (m : ℕ) (h : Option ℕ) → m < length s.hands → hand_of s m ≡ h → Accounts s
+accounts_claims : (s : CoreState) (m : ℕ) (h : Option ℕ) → m < length s.hands → hand_of s m ≡ h → Accounts s
     → Accounts (claim_step s m h).1
 accounts_claims s m (Some n) l is a = a
 accounts_claims s m None l is a =
     claims_none (λ r. Accounts r.1) s m (λ below. accounts_claim s.packets s.drawn s.hands s.done s.lost s.stop m l is below a)
     (λ _. a)
 
-accounts_finishes : (s : Farm) (m : ℕ) (h : Option ℕ) → m < length s.hands → hand_of s m ≡ h → Accounts s
+accounts_finishes : (s : CoreState) (m : ℕ) (h : Option ℕ) → m < length s.hands → hand_of s m ≡ h → Accounts s
     → Accounts (finish_step s m h).1
 accounts_finishes s m None l is a = a
 accounts_finishes s m (Some n) l is a = accounts_finish s.packets s.drawn s.hands s.done s.lost s.stop m n l is a
 
-accounts_abandons : (s : Farm) (m : ℕ) (h : Option ℕ) → m < length s.hands → hand_of s m ≡ h → Accounts s
+accounts_abandons : (s : CoreState) (m : ℕ) (h : Option ℕ) → m < length s.hands → hand_of s m ≡ h → Accounts s
     → Accounts (abandon_step s m h).1
 accounts_abandons s m None l is a = a
 accounts_abandons s m (Some n) l is a = accounts_abandon s.packets s.drawn s.hands s.done s.lost s.stop m n l is a
 
-pub accounts_step : (s : Farm) (m : ℕ) (e : Event) → m < length s.hands → Accounts s → Accounts (step s m e).1
+pub accounts_step : (s : CoreState) (m : ℕ) (e : Event) → m < length s.hands → Accounts s → Accounts (step s m e).1
 accounts_step s m Claim l a = accounts_claims s m (hand_of s m) l refl a
 accounts_step s m Finish l a = accounts_finishes s m (hand_of s m) l refl a
 accounts_step s m Abandon l a = accounts_abandons s m (hand_of s m) l refl a
 accounts_step s m Stop l a = record { within = a.within; each_once = a.each_once }
 accounts_step s m (Look what) l a = a
 
-pub accounts_after : (s : Farm) (es : List (ℕ × Event)) → AllMembers (length s.hands) es → Accounts s → Accounts (farm_after s es)
+pub accounts_after : (s : CoreState) (es : List (ℕ × Event)) → AllMembers (length s.hands) es → Accounts s → Accounts (core_after s es)
 accounts_after s [] h a = a
 accounts_after s (e ∷ es) h a =
     accounts_after (step s e.0 e.1).1 es (subst (λ n. AllMembers n es) (sym (kept_step s e.0 e.1).members) h.1)
@@ -277,11 +277,11 @@ members_take m (suc n) [] h = tt
 members_take m (suc n) (e ∷ es) h = (h.0, members_take m n es h.1)
 
 -- what holds after the first n events
-pub ran_accounts : (s t : Farm) (es : List (ℕ × Event)) (n : ℕ) → t ≡ farm_after s (take n es) → AllMembers (length s.hands) es
+pub ran_accounts : (s t : CoreState) (es : List (ℕ × Event)) (n : ℕ) → t ≡ core_after s (take n es) → AllMembers (length s.hands) es
     → Accounts s → Accounts t
 ran_accounts s t es n is h a = subst Accounts (sym is) (accounts_after s (take n es) (members_take (length s.hands) n es h) a)
 
-pub ran_kept : (s t : Farm) (es : List (ℕ × Event)) → t ≡ farm_after s es → IsKept s t
+pub ran_kept : (s t : CoreState) (es : List (ℕ × Event)) → t ≡ core_after s es → IsKept s t
 ran_kept s t es is = subst (IsKept s) (sym is) (kept_after s es)
 
 pub take_all : (es : List (ℕ × Event)) (n : ℕ) → length es ≤ n → take n es ≡ es
@@ -292,4 +292,4 @@ take_all (e ∷ es) (suc n) l = ap (λ xs. e ∷ xs) (take_all es n (omega arith
 
 pub run_law : RunLaw
 run_law s es a members =
-    (accounts_after s es members a, kept_after s es, drawn_run s (farm_after s es) es (replies s es) refl refl)
+    (accounts_after s es members a, kept_after s es, drawn_run s (core_after s es) es (replies s es) refl refl)

@@ -8,8 +8,8 @@ use Rattle.tp_board.specs.declared.event.Event.TheVariants.{Claim, Finish, Aband
 use Rattle.tp_board.specs.declared.event.Shown.TheVariants as shown
 use Rattle.tp_board.specs.declared.event.Reply.TheVariants.{Number, NoMore, Value}
 use Rattle.tp_board.specs.Counting.{times}
-use Rattle.tp_board.specs.Farm.{Farm, Step, farm, step, claim_step, finish_step, abandon_step, hand_of, hands_with}
-use Rattle.tp_board.specs.FarmOf.{IsSame}
+use Rattle.tp_board.specs.CoreState.{CoreState, Step, core_state, step, claim_step, finish_step, abandon_step, hand_of, hands_with}
+use Rattle.tp_board.specs.CoreOf.{IsSame}
 use Rattle.tp_board.proofs.Counting.{times-append}
 
 -- ---- lists with the same elements have one length
@@ -62,26 +62,26 @@ Agree a b = IsSame a.1 b.1 × (a.0 ≡ b.0)
 
 module _ (p d : ℕ) (hs : List (Option ℕ)) (stop : Bool) (done lost done' lost' : List ℕ)
     (e : (x : ℕ) → times x done ≡ times x done') (l : (x : ℕ) → times x lost ≡ times x lost') where
-  same_farm : (q : ℕ) (gs : List (Option ℕ)) (b : Bool) → IsSame (farm p q gs done lost b) (farm p q gs done' lost' b)
+  same_farm : (q : ℕ) (gs : List (Option ℕ)) (b : Bool) → IsSame (core_state p q gs done lost b) (core_state p q gs done' lost' b)
   same_farm q gs b = record { packets = refl; drawn = refl; hands = refl; done = e; lost = l; stop = refl }
 
-  claims : (m : ℕ) (h : Option ℕ) → Agree (claim_step (farm p d hs done lost stop) m h)
-      (claim_step (farm p d hs done' lost' stop) m h)
+  claims : (m : ℕ) (h : Option ℕ) → Agree (claim_step (core_state p d hs done lost stop) m h)
+      (claim_step (core_state p d hs done' lost' stop) m h)
   claims m (Some n) = (same_farm d hs stop, refl)
   claims m None = draws (ltb d p)
     where
       draws : (b : Bool) → Agree (if b then (
         Number d,
-        farm p (d + 1) (hands_with (farm p d hs done lost stop) m (Some d)) done
+        core_state p (d + 1) (hands_with (core_state p d hs done lost stop) m (Some d)) done
             lost stop,
-      ) else (NoMore, farm p d hs done lost stop))
-          (if b then (Number d, farm p (d + 1) (hands_with (farm p d hs done' lost' stop) m (Some d)) done' lost' stop) else
-          (NoMore, farm p d hs done' lost' stop))
-      draws true = (same_farm (d + 1) (hands_with (farm p d hs done lost stop) m (Some d)) stop, refl)
+      ) else (NoMore, core_state p d hs done lost stop))
+          (if b then (Number d, core_state p (d + 1) (hands_with (core_state p d hs done' lost' stop) m (Some d)) done' lost' stop) else
+          (NoMore, core_state p d hs done' lost' stop))
+      draws true = (same_farm (d + 1) (hands_with (core_state p d hs done lost stop) m (Some d)) stop, refl)
       draws false = (same_farm d hs stop, refl)
 
-  finishes : (m : ℕ) (h : Option ℕ) → Agree (finish_step (farm p d hs done lost stop) m h)
-      (finish_step (farm p d hs done' lost' stop) m h)
+  finishes : (m : ℕ) (h : Option ℕ) → Agree (finish_step (core_state p d hs done lost stop) m h)
+      (finish_step (core_state p d hs done' lost' stop) m h)
   finishes m None = (same_farm d hs stop, refl)
   finishes m (Some n) = (
     record {
@@ -95,8 +95,8 @@ module _ (p d : ℕ) (hs : List (Option ℕ)) (stop : Bool) (done lost done' los
     refl,
   )
 
-  abandons : (m : ℕ) (h : Option ℕ) → Agree (abandon_step (farm p d hs done lost stop) m h)
-      (abandon_step (farm p d hs done' lost' stop) m h)
+  abandons : (m : ℕ) (h : Option ℕ) → Agree (abandon_step (core_state p d hs done lost stop) m h)
+      (abandon_step (core_state p d hs done' lost' stop) m h)
   abandons m None = (same_farm d hs stop, refl)
   abandons m (Some n) = (
     record {
@@ -110,26 +110,26 @@ module _ (p d : ℕ) (hs : List (Option ℕ)) (stop : Bool) (done lost done' los
     refl,
   )
 
-  steps : (m : ℕ) (event : Event) → Agree (step (farm p d hs done lost stop) m event)
-      (step (farm p d hs done' lost' stop) m event)
-  steps m Claim = claims m (hand_of (farm p d hs done lost stop) m)
-  steps m Finish = finishes m (hand_of (farm p d hs done lost stop) m)
-  steps m Abandon = abandons m (hand_of (farm p d hs done lost stop) m)
+  steps : (m : ℕ) (event : Event) → Agree (step (core_state p d hs done lost stop) m event)
+      (step (core_state p d hs done' lost' stop) m event)
+  steps m Claim = claims m (hand_of (core_state p d hs done lost stop) m)
+  steps m Finish = finishes m (hand_of (core_state p d hs done lost stop) m)
+  steps m Abandon = abandons m (hand_of (core_state p d hs done lost stop) m)
   steps m Stop = (same_farm d hs true, refl)
   steps m (Look shown.Claimed) = (same_farm d hs stop, refl)
   steps m (Look shown.Done) = (same_farm d hs stop, ap (λ n. Value n) (same_length done done' e))
   steps m (Look shown.Lost) = (same_farm d hs stop, ap (λ n. Value n) (same_length lost lost' l))
   steps m (Look shown.Stop) = (same_farm d hs stop, refl)
 
-pub same_step : (s t : Farm) (m : ℕ) (event : Event) → IsSame s t → Agree (step s m event) (step t m event)
+pub same_step : (s t : CoreState) (m : ℕ) (event : Event) → IsSame s t → Agree (step s m event) (step t m event)
 same_step s t m event h =
-    subst (λ p. Agree (step s m event) (step (farm p t.drawn t.hands t.done t.lost t.stop) m event)) h.packets
-    (subst (λ d. Agree (step s m event) (step (farm s.packets d t.hands t.done t.lost t.stop) m event)) h.drawn
-    (subst (λ hs. Agree (step s m event) (step (farm s.packets s.drawn hs t.done t.lost t.stop) m event)) h.hands
-    (subst (λ b. Agree (step s m event) (step (farm s.packets s.drawn s.hands t.done t.lost b) m event)) h.stop
+    subst (λ p. Agree (step s m event) (step (core_state p t.drawn t.hands t.done t.lost t.stop) m event)) h.packets
+    (subst (λ d. Agree (step s m event) (step (core_state s.packets d t.hands t.done t.lost t.stop) m event)) h.drawn
+    (subst (λ hs. Agree (step s m event) (step (core_state s.packets s.drawn hs t.done t.lost t.stop) m event)) h.hands
+    (subst (λ b. Agree (step s m event) (step (core_state s.packets s.drawn s.hands t.done t.lost b) m event)) h.stop
     (steps s.packets s.drawn s.hands s.stop s.done s.lost t.done t.lost h.done h.lost m event))))
 
-pub same_then : (s t u : Farm) → IsSame s t → IsSame t u → IsSame s u
+pub same_then : (s t u : CoreState) → IsSame s t → IsSame t u → IsSame s u
 same_then s t u a b = record {
   packets = a.packets ∙ b.packets;
   drawn = a.drawn ∙ b.drawn;
@@ -139,5 +139,5 @@ same_then s t u a b = record {
   stop = a.stop ∙ b.stop;
 }
 
-pub same_self : (s : Farm) → IsSame s s
+pub same_self : (s : CoreState) → IsSame s s
 same_self s = record { packets = refl; drawn = refl; hands = refl; done = (λ x. refl); lost = (λ x. refl); stop = refl }

@@ -6,7 +6,7 @@ use mathlib.Core.Option.{some}
 use lib.ListN.{get_elem?}
 use Rattle.tp_board.specs.Counting.{times, once_below}
 use Rattle.tp_board.specs.Words.{counters}
-use Rattle.tp_board.specs.Views.{newcomer, both_seen, join_of}
+use Rattle.tp_board.specs.Views.{newcomer, greater_counters, join_of}
 use Rattle.tp_board.specs.Rule.{total, AtMost, Fits, Rule}
 use Rattle.tp_board.specs.Steps.{with_number, with_end, after_draw, after_finish, after_abandon, after_stop, with_seen}
 use Rattle.tp_board.proofs.Counting.{times-append, once_more}
@@ -34,7 +34,7 @@ wider s w u a b =
     b.claimed in let a1 = a.done in let b1 = b.done in let a2 = a.lost in let b2 = b.lost in let a3 = a.stop in let b3 = b.stop in
     record { claimed = omega arith; done = omega arith; lost = omega arith; stop = omega arith }
 
-pub both_at_most : (s t w : Counters) → AtMost s w → AtMost t w → AtMost (both_seen s t) w
+pub both_at_most : (s t w : Counters) → AtMost s w → AtMost t w → AtMost (greater_counters s t) w
 both_at_most s t w a b =
     let a0 =
     a.claimed in let b0 =

@@ -5,7 +5,7 @@ use mathlib.Core.Option.{some, some-ne-none, some-injective}
 use lib.ListN.{get_elem?}
 use Rattle.atomic_table.proofs.Lists.{at_set, at_snoc}
 use Rattle.tp_board.specs.Counting.{times}
-use Rattle.tp_board.specs.Views.{gathered}
+use Rattle.tp_board.specs.Views.{concat_of}
 use Rattle.tp_board.specs.Rule.{total}
 use Rattle.tp_board.proofs.Counting.{times-append}
 use Rattle.tp_board.specs.declared.view.View.{View}
@@ -124,21 +124,21 @@ at_replicate v u (suc n) (suc id) at = at_replicate v u n id at
 
 -- ---- what all views have, one after another
 pub times_gathered : (f : View → List ℕ) (x : ℕ) (views : List View)
-    → times x (gathered f views) ≡ total (λ v. times x (f v)) views
+    → times x (concat_of f views) ≡ total (λ v. times x (f v)) views
 times_gathered f x [] = refl
-times_gathered f x (v ∷ vs) = let a = times-append x (f v) (gathered f vs) in let b = times_gathered f x vs in omega arith
+times_gathered f x (v ∷ vs) = let a = times-append x (f v) (concat_of f vs) in let b = times_gathered f x vs in omega arith
 
-pub length_gathered : (f : View → List ℕ) (views : List View) → length (gathered f views) ≡ total (λ v. length (f v)) views
+pub length_gathered : (f : View → List ℕ) (views : List View) → length (concat_of f views) ≡ total (λ v. length (f v)) views
 length_gathered f [] = refl
-length_gathered f (v ∷ vs) = let a = length-append (f v) (gathered f vs) in let b = length_gathered f vs in omega arith
+length_gathered f (v ∷ vs) = let a = length-append (f v) (concat_of f vs) in let b = length_gathered f vs in omega arith
 
 pub gathered_set : (f : View → List ℕ) (x : ℕ) (views : List View) (id : ℕ) (v u : View) → get_elem? views id ≡ some v
-    → times x (gathered f (set views id u)) + times x (f v) ≡ times x (gathered f views) + times x (f u)
+    → times x (concat_of f (set views id u)) + times x (f v) ≡ times x (concat_of f views) + times x (f u)
 gathered_set f x views id v u at =
     let a =
     times_gathered f x views in let b =
     times_gathered f x (set views id u) in let c = total_set (λ v. times x (f v)) views id v u at in omega arith
 
-pub none_gathered : (f : View → List ℕ) (v : View) (n : ℕ) → f v ≡ [] → gathered f (replicate n v) ≡ []
+pub none_gathered : (f : View → List ℕ) (v : View) (n : ℕ) → f v ≡ [] → concat_of f (replicate n v) ≡ []
 none_gathered f v zero e = refl
-none_gathered f v (suc n) e = ap (λ l. l ++ gathered f (replicate n v)) e ∙ none_gathered f v n e
+none_gathered f v (suc n) e = ap (λ l. l ++ concat_of f (replicate n v)) e ∙ none_gathered f v n e

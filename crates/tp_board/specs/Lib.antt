@@ -1,14 +1,14 @@
 -- What a reader must believe: clauses of public calls cite it.
 pub mod Limits
 pub mod Counting
-pub mod Farm
+pub mod CoreState
 pub mod Runs
 pub mod Words
 pub mod Views
 pub mod Rule
 pub mod Freshness
 pub mod Steps
-pub mod FarmOf
+pub mod CoreOf
 pub mod Openings
 pub mod Laws
 pub mod Schedules

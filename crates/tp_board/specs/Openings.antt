@@ -1,8 +1,8 @@
 -- A board on which no step was made.
 use Rattle.std.specs.Prelude.{◌≡◌, ℕ, ◌<◌, ◌≤◌, List, replicate}
 use Rattle.tp_board.specs.declared.view.View.{View}
-use Rattle.tp_board.specs.Farm.{opening_farm}
-use Rattle.tp_board.specs.FarmOf.{farm_of}
+use Rattle.tp_board.specs.CoreState.{opening_core}
+use Rattle.tp_board.specs.CoreOf.{core_of}
 use Rattle.tp_board.specs.Limits.{most_packets, most_members}
 use Rattle.tp_board.specs.Rule.{KeepsRule}
 use Rattle.tp_board.specs.Views.{newcomer, nothing_seen}
@@ -25,7 +25,7 @@ opening_views packets members = replicate members (newcomer packets 1)
 pub record Opens (packets members : ℕ) (views : List View) : Type 0 where
   pub rule : KeepsRule (size packets members) opening_words views
   pub only : (words : List ℕ) → KeepsRule (size packets members) words views → words ≡ opening_words
-  pub farm : farm_of (size packets members) opening_words views ≡ opening_farm packets members
+  pub core_state : core_of (size packets members) opening_words views ≡ opening_core packets members
 
 -- a board of any sizes in range opens so
 abbrev pub OpeningLaw : Type 0

@@ -5,15 +5,15 @@ use Rattle.tp_board.specs.declared.event.Event.TheVariants.{Claim}
 use Rattle.tp_board.specs.declared.event.Reply.{Reply}
 use Rattle.tp_board.specs.declared.event.Reply.TheVariants.{Number}
 use Rattle.tp_board.specs.Counting.{times, once_below, times_in_hands}
-use Rattle.tp_board.specs.Farm.{Farm, step}
+use Rattle.tp_board.specs.CoreState.{CoreState, step}
 
--- the farm after the events, each with its member
-abbrev pub farm_after : Farm → List (ℕ × Event) → Farm
-farm_after s [] = s
-farm_after s (e ∷ es) = farm_after (step s e.0 e.1).1 es
+-- the core after the events, each with its member
+abbrev pub core_after : CoreState → List (ℕ × Event) → CoreState
+core_after s [] = s
+core_after s (e ∷ es) = core_after (step s e.0 e.1).1 es
 
 -- the replies to the events, in order
-abbrev pub replies : Farm → List (ℕ × Event) → List Reply
+abbrev pub replies : CoreState → List (ℕ × Event) → List Reply
 replies s [] = []
 replies s (e ∷ es) = (step s e.0 e.1).0 ∷ replies (step s e.0 e.1).1 es
 
@@ -24,7 +24,7 @@ AllMembers members (e ∷ es) = (e.0 < members) × AllMembers members es
 
 -- no more numbers are drawn than there are, and each number drawn so far is once in a hand, in
 -- done or in lost
-pub record Accounts (s : Farm) : Type 0 where
+pub record Accounts (s : CoreState) : Type 0 where
   pub within : s.drawn ≤ s.packets
   pub each_once : (x : ℕ) → times_in_hands x s.hands + times x s.done + times x s.lost ≡ once_below x s.drawn
 
@@ -45,11 +45,11 @@ numbers_from first zero = []
 numbers_from first (suc n) = first ∷ numbers_from (first + 1) n
 
 -- the numbers that a run from s to t draws are those from the count drawn at its entry on, in order
-abbrev pub DrawsInOrder : Farm → List (ℕ × Event) → List Reply → Farm → Type 0
+abbrev pub DrawsInOrder : CoreState → List (ℕ × Event) → List Reply → CoreState → Type 0
 DrawsInOrder s events rs t = numbers_drawn events rs ≡ numbers_from s.drawn (t.drawn - s.drawn)
 
 -- what is drawn, done, lost and stopped stays so; the numbers of packets and of members stay
-pub record IsKept (s t : Farm) : Type 0 where
+pub record IsKept (s t : CoreState) : Type 0 where
   pub packets : t.packets ≡ s.packets
   pub members : length t.hands ≡ length s.hands
   pub drawn : s.drawn ≤ t.drawn
@@ -57,8 +57,8 @@ pub record IsKept (s t : Farm) : Type 0 where
   pub lost : (more : List ℕ) × (t.lost ≡ s.lost ++ more)
   pub stop : s.stop ≡ true → t.stop ≡ true
 
--- from any farm whose accounts are in order, every list of events keeps them so, takes nothing
+-- from any core whose accounts are in order, every list of events keeps them so, takes nothing
 -- back, and draws the numbers from the count drawn at its entry on, in order
 abbrev pub RunLaw : Type 0
-RunLaw = (s : Farm) (events : List (ℕ × Event)) → Accounts s → AllMembers (length s.hands) events
-    → let t = farm_after s events in Accounts t × IsKept s t × DrawsInOrder s events (replies s events) t
+RunLaw = (s : CoreState) (events : List (ℕ × Event)) → Accounts s → AllMembers (length s.hands) events
+    → let t = core_after s events in Accounts t × IsKept s t × DrawsInOrder s events (replies s events) t

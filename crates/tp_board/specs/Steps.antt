@@ -93,9 +93,10 @@ MayStep (Look what) v = Unit {0}
 
 -- ---- a step among the words
 -- what its word is
-abbrev pub found_by : Event → List ℕ → ℕ
-found_by event words = word_of (row_of event).word words
+abbrev pub word_found : Event → List ℕ → ℕ
+word_found event words = word_of (row_of event).word words
 
 -- all words after it
 abbrev pub words_after : Event → List ℕ → List ℕ
-words_after event words = slice_set words (place_of (row_of event).word) ((row_of event).change (found_by event words))
+words_after event words =
+    slice_set words (place_of (row_of event).word) ((row_of event).change (word_found event words))

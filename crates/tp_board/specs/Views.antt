@@ -29,25 +29,25 @@ first_of (n ∷ ns) = Some n
 
 -- ---- of all seats together
 -- what each view has of a kind, one after another
-abbrev pub gathered : (View → List ℕ) → List View → List ℕ
-gathered f [] = []
-gathered f (v ∷ vs) = f v ++ gathered f vs
+abbrev pub concat_of : (View → List ℕ) → List View → List ℕ
+concat_of f [] = []
+concat_of f (v ∷ vs) = f v ++ concat_of f vs
 
 abbrev pub all_drawn : List View → List ℕ
-all_drawn = gathered (λ v. v.drawn)
+all_drawn = concat_of (λ v. v.drawn)
 
 abbrev pub all_finished : List View → List ℕ
-all_finished = gathered (λ v. v.finished)
+all_finished = concat_of (λ v. v.finished)
 
 abbrev pub all_abandoned : List View → List ℕ
-all_abandoned = gathered (λ v. v.abandoned)
+all_abandoned = concat_of (λ v. v.abandoned)
 
 abbrev pub all_in_hand : List View → List ℕ
-all_in_hand = gathered (λ v. v.hand)
+all_in_hand = concat_of (λ v. v.hand)
 
 -- ---- several seats in one, for the close
-abbrev pub both_seen : Counters → Counters → Counters
-both_seen s t = counters (max s.claimed t.claimed) (max s.done t.done) (max s.lost t.lost) (max s.stop t.stop)
+abbrev pub greater_counters : Counters → Counters → Counters
+greater_counters s t = counters (max s.claimed t.claimed) (max s.done t.done) (max s.lost t.lost) (max s.stop t.stop)
 
 abbrev pub join_of : View → View → View
 join_of v w = record {
@@ -60,7 +60,7 @@ join_of v w = record {
   hand = v.hand ++ w.hand;
   ended = v.ended + w.ended;
   stop_callers = v.stop_callers + w.stop_callers;
-  seen = both_seen v.seen w.seen;
+  seen = greater_counters v.seen w.seen;
 }
 
 -- what a joining leaves of the seat that was taken in

@@ -1,6 +1,6 @@
-//! What a member may do to the farm, and the replies.
+//! What a member may do to the core, and the replies.
 
-/// One of the four counts of the farm, each a word of a board.
+/// One of the four counts of the core, each a word of a board.
 #[derive(Clone, Copy, Debug, PartialEq, Eq)]
 pub enum Shown {
     /// How many numbers are drawn.

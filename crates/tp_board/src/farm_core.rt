@@ -1,14 +1,14 @@
 //! The farm core as plain code, for one thread.
 ghost use Rattle.std.specs.Prelude.{◌≡◌, ◌<◌, ℕ, length, take, IfOk, OnOk, OnErr};
 ghost use Rattle.tp_board.specs.declared.event.Event.TheVariants.{Claim, Finish, Abandon};
-ghost use Rattle.tp_board.specs.Farm.{Farm, farm, opening_farm, step, value_shown, TakesMemory};
-ghost use Rattle.tp_board.specs.Runs.{farm_after, replies, AllMembers, Accounts, IsKept, DrawsInOrder};
+ghost use Rattle.tp_board.specs.CoreState.{CoreState, core_state, opening_core, step, value_shown, TakesMemory};
+ghost use Rattle.tp_board.specs.Runs.{core_after, replies, AllMembers, Accounts, IsKept, DrawsInOrder};
 
 use crate::event::{Event, Reply, Shown};
 use std::alloc::{AllocError, Global};
 use std::marker::Model;
 
-/// The farm of one thread: which numbers are drawn, and where each of them is.
+/// The core of one thread: which numbers are drawn, and where each of them is.
 ///
 /// To a contract it is a state of the farm core, in which each number drawn so far is once, in
 /// a hand, among those done or among those lost.
@@ -23,17 +23,17 @@ pub struct Core {
 }
 
 impl Model for Core {
-    ghost Value = { Farm };
+    ghost Value = { CoreState };
 
-    ghost view = { λ s. farm s.packets s.drawn s.hands.items s.done.items s.lost.items s.stop };
+    ghost view = { λ s. core_state s.packets s.drawn s.hands.items s.done.items s.lost.items s.stop };
 
-    ghost invariant = { λ s. Accounts (farm s.packets s.drawn s.hands.items s.done.items s.lost.items s.stop) };
+    ghost invariant = { λ s. Accounts (core_state s.packets s.drawn s.hands.items s.done.items s.lost.items s.stop) };
 }
 
 impl Core {
-    /// The opening farm of `packets` packets and `members` members, both numbered from 0.
+    /// The opening core of `packets` packets and `members` members, both numbered from 0.
     pub fn new(alloc: Global, packets: u32, members: u32) -> Result<Core, AllocError>
-        ensures { IfOk result (λ s. s ≡ opening_farm packets members) }
+        ensures { IfOk result (λ s. s ≡ opening_core packets members) }
     {
         let hands = Vec::from_elem(alloc, None, members as usize)?;
         Ok(Core {
@@ -71,8 +71,8 @@ impl Core {
     pub fn play(&mut self, alloc: Global, events: &[(u32, Event)]) -> Result<Vec<Reply>, AllocError>
         requires { AllMembers (length self.old.hands) events.now }
         ensures replies { IfOk result (λ r. r.items ≡ replies self.old events.now) }
-        ensures after { OnOk result (self.new ≡ farm_after self.old events.now) }
-        ensures err { OnErr result ((n : ℕ) × (self.new ≡ farm_after self.old (take n events.now))) }
+        ensures after { OnOk result (self.new ≡ core_after self.old events.now) }
+        ensures err { OnErr result ((n : ℕ) × (self.new ≡ core_after self.old (take n events.now))) }
 
         // What every list of events keeps to.
         ensures drawn { IfOk result (λ r. DrawsInOrder self.old events.now r.items self.new) }

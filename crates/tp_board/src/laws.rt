@@ -42,7 +42,7 @@ pub fn every_schedule_is_a_run()
     ensures { ScheduleLaw }
 {}
 
-/// A board whose seats have made no step keeps the rule, and represents the opening farm.
+/// A board whose seats have made no step keeps the rule, and represents the opening core.
 pub fn board_opens_as_core()
     ensures { OpeningLaw }
 {}

@@ -1,6 +1,6 @@
 //! The farm core, and the board of packet numbers that the members' threads draw from.
 //!
-//! [`Core`] is the farm for one thread. [`Board`] is the same farm in four shared words, on which
+//! [`Core`] is the core for one thread. [`Board`] is the same core in four shared words, on which
 //! each member's thread makes atomic steps through a [`Seat`] of its own; [`laws`] ties the two.
 //! A [`WorkSource`] hands out the packets' bytes with their numbers.
 #![tactic(auto)]

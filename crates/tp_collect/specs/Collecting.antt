@@ -32,8 +32,8 @@ is_vacant (entry.Lost (cause.Link fault)) = false
 is_vacant (entry.Lost cause.Stopped) = true
 
 -- what a device's refusal leaves
-abbrev pub lost_by : LinkFault → Entry
-lost_by fault = entry.Lost (cause.Link fault)
+abbrev pub loss_by : LinkFault → Entry
+loss_by fault = entry.Lost (cause.Link fault)
 
 -- why nothing may be filed over this entry
 abbrev pub place_fault : Option Entry → Option PutFault
@@ -49,9 +49,9 @@ abbrev pub put_fault : Collection → DoneValue → Option PutFault
 put_fault c done = if done.batch == c.batch.number then number_fault c.entries done.packet else Some OtherBatch
 
 -- an entry is filed under a number, where no fault forbids it
-abbrev pub filed : ℕ → Entry → Option PutFault → Collection → Collection
-filed number e None c = record c { entries = slice_set c.entries number e }
-filed number e (Some fault) c = c
+abbrev pub collection_with : ℕ → Entry → Option PutFault → Collection → Collection
+collection_with number e None c = record c { entries = slice_set c.entries number e }
+collection_with number e (Some fault) c = c
 
 -- a refused result is handed back
 abbrev pub put_answer : DoneValue → Option PutFault → Result (Unit {0}) (PutFault × DoneValue)

@@ -15,15 +15,15 @@ pub record DoneValue : Type 0 where
   pub bytes : List ℕ
 
 -- a run, by what it gives
-abbrev pub run_giving : (result : List ℕ) → (error : Bool) → (steps : ℕ) → (trace : List ℕ) → Run
-run_giving result error steps trace = record { result = result; error = error; steps = steps; trace = trace }
+abbrev pub run_of_parts : (result : List ℕ) → (error : Bool) → (steps : ℕ) → (trace : List ℕ) → Run
+run_of_parts result error steps trace = record { result = result; error = error; steps = steps; trace = trace }
 
 abbrev pub run_of_done : DoneValue → Run
-run_of_done done = run_giving done.result done.error done.steps done.trace
+run_of_done done = run_of_parts done.result done.error done.steps done.trace
 
 -- the result that a run is, of the packet of a number of a batch
-abbrev pub done_by : Run → (batch packet : ℕ) → ImageValue → (bytes : List ℕ) → DoneValue
-done_by run batch packet image bytes = record {
+abbrev pub done_of_run : Run → (batch packet : ℕ) → ImageValue → (bytes : List ℕ) → DoneValue
+done_of_run run batch packet image bytes = record {
   batch = batch;
   packet = packet;
   result = run.result;

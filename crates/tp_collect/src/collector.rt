@@ -3,13 +3,13 @@
 ghost use Rattle.std.specs.Prelude.{◌≡◌, ◌<◌, ◌≤◌, length, map, replicate, IfOk, slice_set, vec_len};
 ghost use Rattle.tp_collect.specs.declared.collected.Entry.TheVariants as entry;
 ghost use Rattle.tp_collect.specs.Collected.{IsCollected, Names, job_of_parts};
-ghost use Rattle.tp_collect.specs.Collecting.{most_packets, collection, vacant, is_vacant, lost_by};
-ghost use Rattle.tp_collect.specs.Collecting.{number_fault, put_fault, filed, put_answer, lose_answer};
+ghost use Rattle.tp_collect.specs.Collecting.{most_packets, collection, vacant, is_vacant, loss_by};
+ghost use Rattle.tp_collect.specs.Collecting.{number_fault, put_fault, collection_with, put_answer, lose_answer};
 
 use crate::collected::{Collected, Entry, LostCause};
 use crate::done::Done;
 use crate::fault::PutFault;
-use crate::limits::MESSAGE_BYTES;
+use crate::limits::MAX_MESSAGE;
 use arrayvec::ArrayVec;
 use std::alloc::{AllocError, Global};
 use std::marker::Model;
@@ -22,7 +22,7 @@ use tp_link::LinkFault;
 pub struct Collector<'j> {
     batch: u64,
     image: &'j Image,
-    packets: &'j [ArrayVec<u8, MESSAGE_BYTES>],
+    packets: &'j [ArrayVec<u8, MAX_MESSAGE>],
     entries: Vec<Entry>,
 }
 
@@ -48,7 +48,7 @@ impl<'j> Collector<'j> {
         alloc: Global,
         batch: u64,
         image: &'j Image,
-        packets: &'j [ArrayVec<u8, MESSAGE_BYTES>],
+        packets: &'j [ArrayVec<u8, MAX_MESSAGE>],
     ) -> Result<Collector<'j>, AllocError>
         requires { length packets.now ≤ most_packets }
         ensures { IfOk result (λ c. c ≡ collection (job_of_parts batch image.now (map (λ p. p.items) packets.now))
@@ -68,7 +68,7 @@ impl<'j> Collector<'j> {
         requires { done.batch ≡ self.old.batch.number → done.packet < length self.old.batch.packets →
             Names self.old.batch done }
         ensures answer { result ≡ put_answer done (put_fault self.old done) }
-        ensures entry { self.new ≡ filed done.packet (entry.Done done) (put_fault self.old done) self.old }
+        ensures entry { self.new ≡ collection_with done.packet (entry.Done done) (put_fault self.old done) self.old }
     {
         if done.batch != self.batch {
             return Err((PutFault::OtherBatch, done));
@@ -85,7 +85,8 @@ impl<'j> Collector<'j> {
     /// no memory.
     pub fn lose(&mut self, number: u32, fault: LinkFault) -> Result<(), PutFault>
         ensures answer { result ≡ lose_answer (number_fault self.old.entries number) }
-        ensures entry { self.new ≡ filed number (lost_by fault) (number_fault self.old.entries number) self.old }
+        ensures entry { self.new ≡
+            collection_with number (loss_by fault) (number_fault self.old.entries number) self.old }
     {
         if let Some(fault) = refusal(&self.entries, number) {
             return Err(fault);

@@ -2,9 +2,9 @@
 
 ghost use Rattle.std.specs.Prelude.{◌≡◌, ◌≤◌, length};
 ghost use Rattle.tp_step.specs.Runs.{RunsAlone};
-ghost use Rattle.tp_collect.specs.DoneValue.{run_giving, done_by, most_message, most_trace};
+ghost use Rattle.tp_collect.specs.DoneValue.{run_of_parts, done_of_run, most_message, most_trace};
 
-use crate::limits::MESSAGE_BYTES;
+use crate::limits::MAX_MESSAGE;
 use arrayvec::ArrayVec;
 use std::marker::Model;
 use std::snapshot::Snapshot;
@@ -19,15 +19,15 @@ pub struct Done {
     /// The packet's number in the batch, from 0.
     pub packet: u32,
     /// The result, in bytes.
-    pub result: ArrayVec<u8, MESSAGE_BYTES>,
+    pub result: ArrayVec<u8, MAX_MESSAGE>,
     /// The error flag at the end.
     pub error: bool,
     /// How many instruction bytes were executed.
     pub steps: u32,
     /// The bytes of all trace messages, in the order in which they were sent.
-    pub trace: ArrayVec<u8, MESSAGE_BYTES>,
+    pub trace: ArrayVec<u8, MAX_MESSAGE>,
     image: Snapshot<Image>,
-    bytes: Snapshot<ArrayVec<u8, MESSAGE_BYTES>>,
+    bytes: Snapshot<ArrayVec<u8, MAX_MESSAGE>>,
 }
 
 impl Model for Done {
@@ -46,7 +46,7 @@ impl Model for Done {
 /// These bytes. The room behind them is cleared.
 // Inlined, as what makes a `Done` is: else each packet's result is copied twice more on its way to where it is filed.
 #[inline(always)]
-fn message(bytes: &[u8]) -> ArrayVec<u8, MESSAGE_BYTES>
+fn message(bytes: &[u8]) -> ArrayVec<u8, MAX_MESSAGE>
     requires { length bytes.now ≤ most_message }
     ensures { result.items ≡ bytes.now }
 {
@@ -63,14 +63,14 @@ impl Done {
         batch: u64,
         image: &Image,
         packet: u32,
-        bytes: &ArrayVec<u8, MESSAGE_BYTES>,
-        result_bytes: ArrayVec<u8, MESSAGE_BYTES>,
+        bytes: &ArrayVec<u8, MAX_MESSAGE>,
+        result_bytes: ArrayVec<u8, MAX_MESSAGE>,
         error: bool,
         steps: u32,
-        trace: ArrayVec<u8, MESSAGE_BYTES>,
+        trace: ArrayVec<u8, MAX_MESSAGE>,
     ) -> Done
-        requires { RunsAlone image.now bytes.now.items (run_giving result_bytes.items error steps trace.items) }
-        ensures { result ≡ done_by (run_giving result_bytes.items error steps trace.items)
+        requires { RunsAlone image.now bytes.now.items (run_of_parts result_bytes.items error steps trace.items) }
+        ensures { result ≡ done_of_run (run_of_parts result_bytes.items error steps trace.items)
             batch packet image.now bytes.now.items }
     {
         Done {
@@ -87,11 +87,11 @@ impl Done {
 
     /// As `new`, but the result and the trace are copied from where they lie.
     #[inline(always)]
-    pub fn copied(
+    pub fn from_slices(
         batch: u64,
         image: &Image,
         packet: u32,
-        bytes: &ArrayVec<u8, MESSAGE_BYTES>,
+        bytes: &ArrayVec<u8, MAX_MESSAGE>,
         result_bytes: &[u8],
         error: bool,
         steps: u32,
@@ -99,9 +99,9 @@ impl Done {
     ) -> Done
         requires result { length result_bytes.now ≤ most_message }
         requires trace { length trace.now ≤ most_trace }
-        requires alone { RunsAlone image.now bytes.now.items (run_giving result_bytes.now error steps trace.now) }
+        requires alone { RunsAlone image.now bytes.now.items (run_of_parts result_bytes.now error steps trace.now) }
         ensures { result ≡
-            done_by (run_giving result_bytes.now error steps trace.now) batch packet image.now bytes.now.items }
+            done_of_run (run_of_parts result_bytes.now error steps trace.now) batch packet image.now bytes.now.items }
     {
         Done::new(
             batch,

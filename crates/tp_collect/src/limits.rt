@@ -1,4 +1,4 @@
 //! Sizes of messages.
 
 /// The most bytes of a packet, of a result, and of a packet's trace.
-pub const MESSAGE_BYTES: usize = 256;
+pub const MAX_MESSAGE: usize = 256;

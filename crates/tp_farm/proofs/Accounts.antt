@@ -12,8 +12,8 @@ use Rattle.tp_collect.specs.DoneValue.{DoneValue}
 use Rattle.tp_collect.specs.Collected.{JobValue, IsResult}
 use Rattle.tp_farm.specs.declared.member.Filed.{Filed}
 use Rattle.tp_farm.specs.declared.member.Filed.TheVariants as filed
-use Rattle.tp_farm.specs.Settings.{SameDevice, SameSettings, Rises, failed_by}
-use Rattle.tp_farm.specs.Members.{IsFiled, filed_failed, done_numbers, lost_numbers, KeepsAccounts}
+use Rattle.tp_farm.specs.Settings.{SameDevice, SameSettings, Rises, failures_by}
+use Rattle.tp_farm.specs.Members.{IsFiled, failures_filed, done_numbers, lost_numbers, KeepsAccounts}
 use Rattle.tp_farm.specs.Losses.{MayLose}
 use Rattle.tp_farm.proofs.Refusals.{lose_before}
 
@@ -85,7 +85,7 @@ module _ (batch : JobValue) (before now after : Devices) (p q : Progress) (these
       record {
         settings = settings_twice before now after h.settings same;
         rises =
-            rises_twice before now after _ _ _ h.rises rises (λ which. sum_by_push (filed_failed which) these (filed.Done done));
+            rises_twice before now after _ _ _ h.rises rises (λ which. sum_by_push (failures_filed which) these (filed.Done done));
         filed =
             All-push (IsFiled batch before) these (filed.Done done) h.filed
             (record { of = result.of; number = refl; names = result.names; alone = result.alone });
@@ -95,7 +95,7 @@ module _ (batch : JobValue) (before now after : Devices) (p q : Progress) (these
         abandoned = ap (λ r. r.abandoned) moved.1 ∙ h.abandoned ∙ sym (lost_done these done);
       }
 
-  pub accounts_lost : (number n : ℕ) (packet : List ℕ) (fault : LinkFault) → Rises now after (λ which. failed_by which fault)
+  pub accounts_lost : (number n : ℕ) (packet : List ℕ) (fault : LinkFault) → Rises now after (λ which. failures_by which fault)
       → slice_get batch.packets number ≡ Some packet → MayLose batch.image packet now fault.link fault.code
       → p.in_hand ≡ Some number → HandAbandoned p n q → KeepsAccounts batch before after q (these ++ filed.Lost number fault ∷ [])
   accounts_lost number n packet fault rises is_packet cause has moved =
@@ -104,7 +104,7 @@ module _ (batch : JobValue) (before now after : Devices) (p q : Progress) (these
         settings = settings_twice before now after h.settings same;
         rises =
             rises_twice before now after _ _ _ h.rises rises
-            (λ which. sum_by_push (filed_failed which) these (filed.Lost number fault));
+            (λ which. sum_by_push (failures_filed which) these (filed.Lost number fault));
         filed =
             All-push (IsFiled batch before) these (filed.Lost number fault) h.filed
             (record {

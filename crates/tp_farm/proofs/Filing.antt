@@ -5,13 +5,13 @@ use Rattle.tp_collect.specs.declared.collected.Entry.{Entry}
 use Rattle.tp_collect.specs.Collected.{JobValue}
 use Rattle.tp_collect.specs.Collecting.{Collection, vacant}
 use Rattle.tp_farm.specs.declared.member.Filed.{Filed}
-use Rattle.tp_farm.specs.Gathering.{number_of, entry_of, filed_in, FindVacant, all_filed}
+use Rattle.tp_farm.specs.Gathering.{number_of, entry_of, entries_with, FindVacant, all_filed}
 
 -- the rest may be filed, and then the entries are these
 pub record MayFile (batch : JobValue) (result : List Entry) (c : Collection) (rest : List Filed) : Type 0 where
   pub batch_is : c.batch ≡ batch
   pub vacant : FindVacant c.entries rest
-  pub leads : filed_in c.entries rest ≡ result
+  pub leads : entries_with c.entries rest ≡ result
 
 pub files_one : (batch : JobValue) (result : List Entry) (c c' : Collection) (f : Filed) (rest rest' : List Filed)
     → MayFile batch result c rest → rest ≡ f ∷ rest' → c' ≡ record c { entries = slice_set c.entries (number_of f) (entry_of f) }
@@ -21,7 +21,7 @@ files_one batch result c c' f rest rest' h step is =
     record {
       batch_is = ap (λ x. x.batch) is ∙ h.batch_is;
       vacant = subst (λ x. FindVacant x.entries rest') (sym is) v.1;
-      leads = ap (λ x. filed_in x.entries rest') is ∙ sym (ap (filed_in c.entries) step) ∙ h.leads;
+      leads = ap (λ x. entries_with x.entries rest') is ∙ sym (ap (entries_with c.entries) step) ∙ h.leads;
     }
 
 pub next_vacant : (batch : JobValue) (result : List Entry) (c : Collection) (f : Filed) (rest rest' : List Filed)
@@ -32,23 +32,23 @@ next_vacant batch result c f rest rest' h step =
 -- ---- several, and then more
 
 pub vacant_parts : (entries : List Entry) (xs ys : List Filed) → FindVacant entries (xs ++ ys)
-    → FindVacant entries xs × FindVacant (filed_in entries xs) ys
+    → FindVacant entries xs × FindVacant (entries_with entries xs) ys
 vacant_parts entries [] ys v = (tt, v)
 vacant_parts entries (x ∷ xs) ys v =
     let more = vacant_parts (slice_set entries (number_of x) (entry_of x)) xs ys v.1 in
     ((v.0, more.0), more.1)
 
-pub filed_in-append : (entries : List Entry) (xs ys : List Filed)
-    → filed_in entries (xs ++ ys) ≡ filed_in (filed_in entries xs) ys
-filed_in-append entries [] ys = refl
-filed_in-append entries (x ∷ xs) ys = filed_in-append (slice_set entries (number_of x) (entry_of x)) xs ys
+pub entries_with-append : (entries : List Entry) (xs ys : List Filed)
+    → entries_with entries (xs ++ ys) ≡ entries_with (entries_with entries xs) ys
+entries_with-append entries [] ys = refl
+entries_with-append entries (x ∷ xs) ys = entries_with-append (slice_set entries (number_of x) (entry_of x)) xs ys
 
 pub files_more : (batch : JobValue) (result : List Entry) (c c' : Collection) (xs ys : List Filed)
-    → MayFile batch result c (xs ++ ys) → c' ≡ record c { entries = filed_in c.entries xs } → MayFile batch result c' ys
+    → MayFile batch result c (xs ++ ys) → c' ≡ record c { entries = entries_with c.entries xs } → MayFile batch result c' ys
 files_more batch result c c' xs ys h is = record {
   batch_is = ap (λ x. x.batch) is ∙ h.batch_is;
   vacant = subst (λ x. FindVacant x.entries ys) (sym is) (vacant_parts c.entries xs ys h.vacant).1;
-  leads = ap (λ x. filed_in x.entries ys) is ∙ sym (filed_in-append c.entries xs ys) ∙ h.leads;
+  leads = ap (λ x. entries_with x.entries ys) is ∙ sym (entries_with-append c.entries xs ys) ∙ h.leads;
 }
 
 module _ {X : Type 0} (of : X → List Filed) where
@@ -58,7 +58,7 @@ module _ {X : Type 0} (of : X → List Filed) where
 
   pub files_all : (batch : JobValue) (result : List Entry) (c c' : Collection) (x : X) (rest rest' : List X)
       → MayFile batch result c (all_filed (map of rest)) → rest ≡ x ∷ rest'
-      → c' ≡ record c { entries = filed_in c.entries (of x) } → MayFile batch result c' (all_filed (map of rest'))
+      → c' ≡ record c { entries = entries_with c.entries (of x) } → MayFile batch result c' (all_filed (map of rest'))
   files_all batch result c c' x rest rest' h step is =
       files_more batch result c c' (of x) (all_filed (map of rest'))
       (subst (MayFile batch result c) (first_of x rest rest' step) h) is

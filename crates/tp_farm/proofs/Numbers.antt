@@ -12,9 +12,9 @@ use Rattle.tp_collect.specs.declared.collected.Entry.{Entry}
 use Rattle.tp_collect.specs.Collecting.{vacant}
 use Rattle.tp_farm.specs.declared.member.Filed.{Filed}
 use Rattle.tp_farm.specs.declared.member.Filed.TheVariants as filed
-use Rattle.tp_farm.specs.Members.{filed_failed, done_numbers, lost_numbers}
-use Rattle.tp_farm.specs.Gathering.{number_of, entry_of, filed_in, FindVacant}
-use Rattle.tp_farm.specs.Batches.{reports_failure}
+use Rattle.tp_farm.specs.Members.{failures_filed, done_numbers, lost_numbers}
+use Rattle.tp_farm.specs.Gathering.{number_of, entry_of, entries_with, FindVacant}
+use Rattle.tp_farm.specs.Batches.{failures_in_entry}
 
 abbrev pub numbers : List Filed → List ℕ
 numbers fs = map number_of fs
@@ -82,24 +82,24 @@ find_vacant entries (f ∷ more) once free =
 
 -- ---- how often entries tell of a failure
 
-tells_filed : (which : Link) (f : Filed) → reports_failure which (entry_of f) ≡ filed_failed which f
+tells_filed : (which : Link) (f : Filed) → failures_in_entry which (entry_of f) ≡ failures_filed which f
 tells_filed which (filed.Done d) = refl
 tells_filed which (filed.Lost n f) = refl
 
 pub tells_all : (which : Link) (entries : List Entry) (fs : List Filed) → FindVacant entries fs
-    → sum_by (reports_failure which) (filed_in entries fs) ≡ sum_by (reports_failure which) entries + sum_by (filed_failed which) fs
+    → sum_by (failures_in_entry which) (entries_with entries fs) ≡ sum_by (failures_in_entry which) entries + sum_by (failures_filed which) fs
 tells_all which entries [] v = omega arith
 tells_all which entries (f ∷ more) v =
     let within : number_of f < length entries = slice_get_within entries (number_of f) vacant v.0 in
     let was : get_or entries (number_of f) vacant ≡ vacant = get_or_from_slice_get entries (number_of f) vacant vacant v.0 in
-    let set = sum_by-set (reports_failure which) entries (number_of f) (entry_of f) vacant within in
+    let set = sum_by-set (failures_in_entry which) entries (number_of f) (entry_of f) vacant within in
     omega (
       arith,
       tells_all which (slice_set entries (number_of f) (entry_of f)) more v.1,
       set,
-      ap (reports_failure which) was,
+      ap (failures_in_entry which) was,
       tells_filed which f,
-      sum_by-cons (filed_failed which) f more,
+      sum_by-cons (failures_filed which) f more,
     )
 
 -- ---- where entries come from
@@ -110,7 +110,7 @@ never_vacant (filed.Lost n f) e = cc
 
 -- what is filed stays
 pub stays_filed : (entries : List Entry) (fs : List Filed) (i : ℕ) (e : Entry) → FindVacant entries fs
-    → slice_get entries i ≡ Some e → (e ≡ vacant → ⊥) → slice_get (filed_in entries fs) i ≡ Some e
+    → slice_get entries i ≡ Some e → (e ≡ vacant → ⊥) → slice_get (entries_with entries fs) i ≡ Some e
 stays_filed entries [] i e v is some = is
 stays_filed entries (f ∷ more) i e v is some =
     stays_filed (slice_set entries (number_of f) (entry_of f)) more i e v.1
@@ -121,7 +121,7 @@ stays_filed entries (f ∷ more) i e v is some =
 
 -- an entry that is vacant at the end has nothing filed for it
 pub none_filed : (entries : List Entry) (fs : List Filed) (i : ℕ) → FindVacant entries fs
-    → slice_get (filed_in entries fs) i ≡ Some vacant → times i (numbers fs) ≡ 0
+    → slice_get (entries_with entries fs) i ≡ Some vacant → times i (numbers fs) ≡ 0
 none_filed entries [] i v is = refl
 none_filed entries (f ∷ more) i v is =
     by_number (none_filed (slice_set entries (number_of f) (entry_of f)) more i v.1 is) (cases_eq (number_of f) i)

@@ -7,7 +7,7 @@ use Rattle.std.specs.List.{All}
 use Rattle.tp_collect.specs.declared.collected.Entry.{Entry}
 use Rattle.tp_collect.specs.Collecting.{vacant}
 use Rattle.tp_farm.specs.declared.member.Filed.{Filed}
-use Rattle.tp_farm.specs.Gathering.{number_of, entry_of, filed_in, FindVacant}
+use Rattle.tp_farm.specs.Gathering.{number_of, entry_of, entries_with, FindVacant}
 use Rattle.tp_farm.proofs.Numbers.{set_there, set_elsewhere}
 
 -- an entry is what was filed under its number, of which this is so
@@ -18,7 +18,7 @@ pub record Comes (P : Filed → Type 0) (i : ℕ) (e : Entry) : Type 0 where
   pub is : entry_of filed ≡ e
 
 pub comes_from : (P : Filed → Type 0) (entries : List Entry) (fs : List Filed) (i : ℕ) (e : Entry) → FindVacant entries fs
-    → All P fs → slice_get (filed_in entries fs) i ≡ Some e → (slice_get entries i ≡ Some e) ⊎ Comes P i e
+    → All P fs → slice_get (entries_with entries fs) i ≡ Some e → (slice_get entries i ≡ Some e) ⊎ Comes P i e
 comes_from P entries [] i e v all is = inl is
 comes_from P entries (f ∷ more) i e v all is =
     by_rest (comes_from P (slice_set entries (number_of f) (entry_of f)) more i e v.1 (All-tail P f more all) is)

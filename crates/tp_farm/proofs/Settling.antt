@@ -25,11 +25,11 @@ use Rattle.tp_farm.specs.declared.member.Filed.TheVariants as filed
 use Rattle.tp_farm.specs.declared.member.End.{End}
 use Rattle.tp_farm.specs.declared.member.End.TheVariants as end
 use Rattle.tp_farm.specs.Settings.{SameSettings}
-use Rattle.tp_farm.specs.Members.{KeepsAccounts, EndsBy, IsFiled, filed_failed}
-use Rattle.tp_farm.specs.Closing.{all_finished, all_abandoned, put_down, IsBorneOut, AddsUp}
-use Rattle.tp_farm.specs.Gathering.{number_of, entry_of, filed_in, FindVacant, all_filed, fault_of_end}
+use Rattle.tp_farm.specs.Members.{KeepsAccounts, EndsBy, IsFiled, failures_filed}
+use Rattle.tp_farm.specs.Closing.{all_finished, all_abandoned, times_put_down, IsBorneOut, AddsUp}
+use Rattle.tp_farm.specs.Gathering.{number_of, entry_of, entries_with, FindVacant, all_filed, fault_of_end}
 use Rattle.tp_farm.specs.Jobs.{AreWhole}
-use Rattle.tp_farm.specs.Batches.{device_at, failures_at, reports_failure, LostBySome, IsBatch}
+use Rattle.tp_farm.specs.Batches.{device_at, failures_at, failures_in_entry, LostBySome, IsBatch}
 use Rattle.tp_farm.proofs.Numbers.{numbers, times-append, times_parts, find_vacant, tells_all, none_filed}
 use Rattle.tp_farm.proofs.Origins.{Comes, comes_from}
 
@@ -64,7 +64,7 @@ module _ (batch : JobValue) (o : Bool) where
   numbers-append xs ys = map-append number_of xs ys
 
   -- the numbers that are filed are those that the hands finished and abandoned
-  filed_numbers : (x : ℕ) (ms : List Member) → AllDidWell batch o ms → times x (numbers (everything ms)) ≡ put_down x (hands ms)
+  filed_numbers : (x : ℕ) (ms : List Member) → AllDidWell batch o ms → times x (numbers (everything ms)) ≡ times_put_down x (hands ms)
   filed_numbers x [] h = refl
   filed_numbers x (m ∷ ms) h =
       omega (
@@ -86,13 +86,13 @@ module _ (batch : JobValue) (o : Bool) where
   same_all (m ∷ ms) h = (h.0.accounts.settings, same_all ms h.1)
 
   rises_at : (which : Link) (m : Member) → KeepsAccounts batch m.before m.after m.progress m.filed
-      → (device_at which m.after).faults ≡ (device_at which m.before).faults + sum_by (filed_failed which) m.filed
+      → (device_at which m.after).faults ≡ (device_at which m.before).faults + sum_by (failures_filed which) m.filed
   rises_at Source m h = h.rises.source
   rises_at Sink m h = h.rises.sink
   rises_at Trace m h = h.rises.trace
 
   failed_all : (which : Link) (ms : List Member) → AllDidWell batch o ms
-      → failures_at which (map (λ m. m.after) ms) ≡ failures_at which (map (λ m. m.before) ms) + sum_by (filed_failed which)
+      → failures_at which (map (λ m. m.after) ms) ≡ failures_at which (map (λ m. m.before) ms) + sum_by (failures_filed which)
       (everything ms)
   failed_all which [] h = refl
   failed_all which (m ∷ ms) h =
@@ -100,7 +100,7 @@ module _ (batch : JobValue) (o : Bool) where
         arith,
         sum_by-cons (λ devices. (device_at which devices).faults) m.after (map (λ m. m.after) ms),
         sum_by-cons (λ devices. (device_at which devices).faults) m.before (map (λ m. m.before) ms),
-        sum_by-append (filed_failed which) m.filed (everything ms),
+        sum_by-append (failures_filed which) m.filed (everything ms),
         failed_all which ms h.1,
         rises_at which m h.0.accounts,
       )
@@ -142,9 +142,9 @@ module _ (batch : JobValue) (o : Bool) where
       lost_from (map (λ m. m.before) ms) 0 ms (λ i m is. subst (λ k. slice_get (map (λ m. m.before) ms) k ≡ Some m.before)
       (omega arith) (before_at ms i m is)) h
 
-  none_of : (which : Link) (k : ℕ) → sum_by (reports_failure which) (replicate k vacant) ≡ 0
+  none_of : (which : Link) (k : ℕ) → sum_by (failures_in_entry which) (replicate k vacant) ≡ 0
   none_of which zero = refl
-  none_of which (suc k) = omega (arith, sum_by-cons (reports_failure which) vacant (replicate k vacant), none_of which k)
+  none_of which (suc k) = omega (arith, sum_by-cons (failures_in_entry which) vacant (replicate k vacant), none_of which k)
 
   -- ---- the entries
 
@@ -179,22 +179,22 @@ module _ (batch : JobValue) (o : Bool) where
             slice_get-get_or (replicate n vacant) x vacant (omega (arith, length-replicate n vacant, lt, b.within))
             ∙ ap Some (get_or-replicate n x vacant vacant (omega (arith, lt, b.within)))
 
-    none_told : (which : Link) → sum_by (reports_failure which) (replicate n vacant) ≡ 0
+    none_told : (which : Link) → sum_by (failures_in_entry which) (replicate n vacant) ≡ 0
     none_told which = none_of which n
 
-    failures : (which : Link) (entries : List Entry) → entries ≡ filed_in (replicate n vacant) (everything ms)
+    failures : (which : Link) (entries : List Entry) → entries ≡ entries_with (replicate n vacant) (everything ms)
         → failures_at which (map (λ m. m.after) ms) ≡ failures_at which (map (λ m. m.before) ms) + sum_by
-        (reports_failure which) entries
+        (failures_in_entry which) entries
     failures which entries is =
         omega (
           arith,
           failed_all which ms h,
-          ap (sum_by (reports_failure which)) is,
+          ap (sum_by (failures_in_entry which)) is,
           tells_all which (replicate n vacant) (everything ms) all_vacant,
           none_told which,
         )
 
-    losses : (entries : List Entry) → entries ≡ filed_in (replicate n vacant) (everything ms) → (i : ℕ) (fault : LinkFault)
+    losses : (entries : List Entry) → entries ≡ entries_with (replicate n vacant) (everything ms) → (i : ℕ) (fault : LinkFault)
         → slice_get entries i ≡ Some (entry.Lost (cause.Link fault)) → LostBySome batch (map (λ m. m.before) ms) i fault
     losses entries is i fault at =
         by_origin (comes_from (HasLost (map (λ m. m.before) ms)) (replicate n vacant) (everything ms) i
@@ -295,7 +295,7 @@ module _ (batch : JobValue) (o : Bool) where
               by_test true is = refl
               by_test false is = absurd (grind (arith, nat_tests, is, lt))
 
-    stopped : (entries : List Entry) → entries ≡ filed_in (replicate n vacant) (everything ms) → length entries ≡ n
+    stopped : (entries : List Entry) → entries ≡ entries_with (replicate n vacant) (everything ms) → length entries ≡ n
         → 0 < length ms → (i : ℕ) → slice_get entries i ≡ Some vacant → o ≡ false
     stopped entries is long any i at = by_gate o refl
       where
@@ -306,7 +306,7 @@ module _ (batch : JobValue) (o : Bool) where
             let none = none_filed (replicate n vacant) (everything ms) i all_vacant (sym (ap (λ es. slice_get es i) is) ∙ at) in
             absurd (omega (arith, none, each_filed e i any lt))
 
-    pub settled : AreWhole batch → (entries : List Entry) → entries ≡ filed_in (replicate n vacant) (everything ms) → IsCollected batch entries
+    pub settled : AreWhole batch → (entries : List Entry) → entries ≡ entries_with (replicate n vacant) (everything ms) → IsCollected batch entries
         → 0 < length ms → IsBatch batch o (map (λ m. m.before) ms) (map (λ m. m.after) ms) entries
     settled whole entries is collected any = record {
       packets = whole;

@@ -5,35 +5,35 @@ use Rattle.std.specs.List.{All, AllZip}
 use Rattle.tp_link.specs.Device.{DeviceState}
 use Rattle.tp_link.specs.declared.links.Links.{Links}
 use Rattle.tp_outcome.specs.Devices.{Devices, devices_of}
-use Rattle.tp_board.specs.Sources.{Progress}
+use Rattle.tp_stream.specs.Streams.{StreamView, IsHandOf, hand_progress}
 use Rattle.tp_farm.specs.declared.member.Filed.{Filed}
 use Rattle.tp_farm.specs.declared.member.Filed.TheVariants as filed
 use Rattle.tp_farm.specs.declared.worker.Returned.{Returned}
 use Rattle.tp_farm.specs.Members.{IsFiled}
 use Rattle.tp_farm.specs.Working.{HasWorked}
-use Rattle.tp_farm.specs.Works.{Work}
+use Rattle.tp_farm.specs.BatchWork.{BatchWork}
 use Rattle.tp_farm.specs.Gathering.{fault_of_end, IsOfBatch}
 use Rattle.tp_farm.specs.MemberResults.{member_results}
 use Rattle.tp_farm.proofs.Settling.{Member, AllDidWell, hands}
 
-module _ {H D : Type 0} (state : D → DeviceState) (own : H → Type 0) (progress : H → Progress) where
-  pub members_of : List (Links D) → List (Returned H D) → List Member
+module _ {D : Type 0} (state : D → DeviceState) where
+  pub members_of : List (Links D) → List (Returned D) → List Member
   members_of [] rs = []
   members_of (b ∷ bs) [] = []
   members_of (b ∷ bs) (r ∷ rs) =
       record {
         before = devices_of state b;
         after = devices_of state r.links;
-        progress = progress r.hand;
+        progress = hand_progress r.hand;
         filed = r.filed.items;
         end = r.end;
       } ∷ members_of bs rs
 
-  module _ (work : Work) where
-    abbrev Worked : List (Links D) → List (Returned H D) → Type 0
-    Worked bs rs = AllZip (HasWorked state own progress work) bs rs
+  module _ (stream : StreamView) (work : BatchWork) where
+    abbrev Worked : List (Links D) → List (Returned D) → Type 0
+    Worked bs rs = AllZip (HasWorked state stream work) bs rs
 
-    pub did_well : (bs : List (Links D)) (rs : List (Returned H D)) → Worked bs rs
+    pub did_well : (bs : List (Links D)) (rs : List (Returned D)) → Worked bs rs
         → All (λ r. fault_of_end r.end ≡ None) rs → AllDidWell work.batch work.open_for_good (members_of bs rs)
     unfolding members_of
     did_well [] rs h well = tt
@@ -43,14 +43,14 @@ module _ {H D : Type 0} (state : D → DeviceState) (own : H → Type 0) (progre
       did_well bs rs h.1 (All-tail (λ r. fault_of_end r.end ≡ None) r rs well),
     )
 
-    pub before_is : (bs : List (Links D)) (rs : List (Returned H D)) → Worked bs rs
+    pub before_is : (bs : List (Links D)) (rs : List (Returned D)) → Worked bs rs
         → map (λ m. m.before) (members_of bs rs) ≡ map (devices_of state) bs
     unfolding members_of
     before_is [] rs h = refl
     before_is (b ∷ bs) [] h = absurd h
     before_is (b ∷ bs) (r ∷ rs) h = ap (λ xs. devices_of state b ∷ xs) (before_is bs rs h.1)
 
-    pub after_is : (bs : List (Links D)) (rs : List (Returned H D)) → Worked bs rs
+    pub after_is : (bs : List (Links D)) (rs : List (Returned D)) → Worked bs rs
         → map (λ m. m.after) (members_of bs rs) ≡ map (devices_of state) (map (λ k. k.links) (map member_results rs))
     unfolding members_of
     after_is [] [] h = refl
@@ -58,15 +58,15 @@ module _ {H D : Type 0} (state : D → DeviceState) (own : H → Type 0) (progre
     after_is (b ∷ bs) [] h = absurd h
     after_is (b ∷ bs) (r ∷ rs) h = ap (λ xs. devices_of state r.links ∷ xs) (after_is bs rs h.1)
 
-    pub hands_is : (bs : List (Links D)) (rs : List (Returned H D)) → Worked bs rs
-        → hands (members_of bs rs) ≡ map progress (map (λ r. r.hand) rs)
+    pub hands_is : (bs : List (Links D)) (rs : List (Returned D)) → Worked bs rs
+        → hands (members_of bs rs) ≡ map hand_progress (map (λ r. r.hand) rs)
     unfolding members_of
     hands_is [] [] h = refl
     hands_is [] (r ∷ rs) h = absurd h
     hands_is (b ∷ bs) [] h = absurd h
-    hands_is (b ∷ bs) (r ∷ rs) h = ap (λ xs. progress r.hand ∷ xs) (hands_is bs rs h.1)
+    hands_is (b ∷ bs) (r ∷ rs) h = ap (λ xs. hand_progress r.hand ∷ xs) (hands_is bs rs h.1)
 
-    pub filed_is : (bs : List (Links D)) (rs : List (Returned H D)) → Worked bs rs
+    pub filed_is : (bs : List (Links D)) (rs : List (Returned D)) → Worked bs rs
         → map (λ m. m.filed) (members_of bs rs) ≡ map (λ k. k.filed.items) (map member_results rs)
     unfolding members_of
     filed_is [] [] h = refl
@@ -74,24 +74,24 @@ module _ {H D : Type 0} (state : D → DeviceState) (own : H → Type 0) (progre
     filed_is (b ∷ bs) [] h = absurd h
     filed_is (b ∷ bs) (r ∷ rs) h = ap (λ xs. r.filed.items ∷ xs) (filed_is bs rs h.1)
 
-    pub length_is : (bs : List (Links D)) (rs : List (Returned H D)) → Worked bs rs → length (members_of bs rs) ≡ length rs
+    pub length_is : (bs : List (Links D)) (rs : List (Returned D)) → Worked bs rs → length (members_of bs rs) ≡ length rs
     unfolding members_of
     length_is [] [] h = refl
     length_is [] (r ∷ rs) h = absurd h
     length_is (b ∷ bs) [] h = absurd h
     length_is (b ∷ bs) (r ∷ rs) h = ap suc (length_is bs rs h.1)
 
-    -- each hand is one of the source's
-    pub hands_own : (bs : List (Links D)) (rs : List (Returned H D)) → Worked bs rs → All own (map (λ r. r.hand) rs)
-    hands_own bs [] h = All-nil own
+    -- each hand is one of the stream's
+    pub hands_own : (bs : List (Links D)) (rs : List (Returned D)) → Worked bs rs → All (IsHandOf stream) (map (λ r. r.hand) rs)
+    hands_own bs [] h = All-nil (IsHandOf stream)
     hands_own [] (r ∷ rs) h = absurd h
-    hands_own (b ∷ bs) (r ∷ rs) h = All-cons own r.hand (map (λ r. r.hand) rs) h.0.is_own (hands_own bs rs h.1)
+    hands_own (b ∷ bs) (r ∷ rs) h = All-cons (IsHandOf stream) r.hand (map (λ r. r.hand) rs) h.0.is_own (hands_own bs rs h.1)
 
     of_batch : (devices : Devices) (f : Filed) → IsFiled work.batch devices f → IsOfBatch work.batch f
     of_batch devices (filed.Done d) h = h
     of_batch devices (filed.Lost n f) h = tt
 
-    pub all_of_batch : (bs : List (Links D)) (rs : List (Returned H D)) → Worked bs rs
+    pub all_of_batch : (bs : List (Links D)) (rs : List (Returned D)) → Worked bs rs
         → All (λ k. All (IsOfBatch work.batch) k.filed.items) (map member_results rs)
     all_of_batch bs [] h = All-nil (λ k. All (IsOfBatch work.batch) k.filed.items)
     all_of_batch [] (r ∷ rs) h = absurd h

@@ -14,7 +14,7 @@ use Rattle.tp_board.specs.Rule.{total}
 use Rattle.tp_board.specs.Ledgers.{Balances}
 use Rattle.tp_board.specs.Sources.{Progress, progress_of}
 use Rattle.tp_stream.specs.Streams.{HandView, FeederView, hand_seen, hand_progress, feeder_seen, all_seen}
-use Rattle.tp_farm.specs.Closing.{all_finished, all_abandoned, put_down, IsBorneOut, AddsUp}
+use Rattle.tp_farm.specs.Closing.{all_finished, all_abandoned, times_put_down, IsBorneOut, AddsUp}
 use Rattle.tp_farm.specs.Feeding.{HasOnlyFed}
 use Rattle.tp_farm.proofs.Numbers.{times-append}
 
@@ -27,7 +27,7 @@ module _ (n : ℕ) (views : List View) (l : Ledger) (b : Balances n views l) whe
   abandoned_is [] = refl
   abandoned_is (v ∷ vs) = ap (λ xs. v.abandoned ++ xs) (abandoned_is vs)
 
-  went : (x : ℕ) → put_down x (map progress_of views) + times x (view.all_in_hand views) ≡ once_below x l.drawn
+  went : (x : ℕ) → times_put_down x (map progress_of views) + times x (view.all_in_hand views) ≡ once_below x l.drawn
   went x =
       omega (
         arith,
@@ -122,7 +122,7 @@ all_before P (x ∷ xs) last h =
 module _ (n : ℕ) (ps : List Progress) (last : Progress) (l : Ledger) (finished : last.finished ≡ [])
     (abandoned : last.abandoned ≡ []) (in_hand : last.in_hand ≡ None) (going : last.stop_called ≡ false)
     (b : AddsUp n (ps ++ last ∷ []) l) where
-  none_put_down : (x : ℕ) → put_down x (ps ++ last ∷ []) ≡ put_down x ps
+  none_put_down : (x : ℕ) → times_put_down x (ps ++ last ∷ []) ≡ times_put_down x ps
   none_put_down x =
       omega (arith, times_finished x ps last, times_abandoned x ps last, ap (times x) finished, ap (times x) abandoned)
 

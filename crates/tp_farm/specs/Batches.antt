@@ -13,9 +13,9 @@ use Rattle.tp_collect.specs.declared.collected.LostCause.TheVariants as cause
 use Rattle.tp_collect.specs.Collected.{JobValue, IsCollected}
 use Rattle.tp_farm.specs.declared.batch.Batch.{Batch}
 use Rattle.tp_farm.specs.Jobs.{AreWhole}
-use Rattle.tp_farm.specs.Settings.{SameSettings, failed_by}
+use Rattle.tp_farm.specs.Settings.{SameSettings, failures_by}
 use Rattle.tp_farm.specs.Losses.{MayLose}
-use Rattle.tp_farm.specs.Works.{Work}
+use Rattle.tp_farm.specs.BatchWork.{BatchWork}
 
 -- the device of a link, of a member's three
 abbrev pub device_at : Link → Devices → DeviceState
@@ -28,10 +28,10 @@ abbrev pub failures_at : Link → List Devices → ℕ
 failures_at which all = sum_by (λ devices. (device_at which devices).faults) all
 
 -- 1 where an entry is a failure of the link's device, else 0
-abbrev pub reports_failure : Link → Entry → ℕ
-reports_failure which (entry.Done done) = 0
-reports_failure which (entry.Lost (cause.Link fault)) = failed_by which fault
-reports_failure which (entry.Lost cause.Stopped) = 0
+abbrev pub failures_in_entry : Link → Entry → ℕ
+failures_in_entry which (entry.Done done) = 0
+failures_in_entry which (entry.Lost (cause.Link fault)) = failures_by which fault
+failures_in_entry which (entry.Lost cause.Stopped) = 0
 
 -- the devices of some member may have lost packet i of the batch so
 pub record LostBySome (batch : JobValue) (members : List Devices) (i : ℕ) (fault : LinkFault) : Type 0 where
@@ -53,7 +53,7 @@ pub record IsBatch (batch : JobValue) (open_for_good : Bool) (before after : Lis
   pub settings : AllZip SameSettings before after
   -- as many entries tell of a failure of a link as its devices have failed in all
   pub failures : (which : Link)
-      → failures_at which after ≡ failures_at which before + sum_by (reports_failure which) entries
+      → failures_at which after ≡ failures_at which before + sum_by (failures_in_entry which) entries
   -- each loss by a device has its cause
   pub losses : (i : ℕ) (fault : LinkFault) → slice_get entries i ≡ Some (entry.Lost (cause.Link fault))
       → LostBySome batch before i fault
@@ -61,7 +61,7 @@ pub record IsBatch (batch : JobValue) (open_for_good : Bool) (before after : Lis
   pub stopped : (i : ℕ) → slice_get entries i ≡ Some (entry.Lost cause.Stopped) → open_for_good ≡ false
 
 -- what became of the work of members that had these links before
-abbrev pub IsBatchOver : {D : Type 0} → (D → DeviceState) → Work → (before : List (Links D)) → Batch D → Type 0
+abbrev pub IsBatchOver : {D : Type 0} → (D → DeviceState) → BatchWork → (before : List (Links D)) → Batch D → Type 0
 IsBatchOver state work before b =
     IsBatch work.batch work.open_for_good (map (devices_of state) before) (map (devices_of state) b.links.items)
     b.collected

@@ -3,7 +3,7 @@ use Rattle.std.specs.Prelude.{◌≡◌, ℕ, List, [], ◌∷◌, ◌++◌, len
 use Rattle.tp_collect.specs.declared.collected.Entry.{Entry}
 use Rattle.tp_collect.specs.declared.collected.Entry.TheVariants as entry
 use Rattle.tp_collect.specs.Collected.{JobValue, IsResult}
-use Rattle.tp_collect.specs.Collecting.{Collection, collection, vacant, lost_by}
+use Rattle.tp_collect.specs.Collecting.{Collection, collection, vacant, loss_by}
 use Rattle.tp_farm.specs.declared.member.Filed.{Filed}
 use Rattle.tp_farm.specs.declared.member.Filed.TheVariants as filed
 use Rattle.tp_farm.specs.declared.member.End.{End}
@@ -18,7 +18,7 @@ number_of (filed.Lost number fault) = number
 
 abbrev pub entry_of : Filed → Entry
 entry_of (filed.Done done) = entry.Done done
-entry_of (filed.Lost number fault) = lost_by fault
+entry_of (filed.Lost number fault) = loss_by fault
 
 -- a result is one of the batch
 abbrev pub IsOfBatch : JobValue → Filed → Type 0
@@ -26,13 +26,13 @@ IsOfBatch batch (filed.Done done) = IsResult batch done.packet done
 IsOfBatch batch (filed.Lost number fault) = Unit {0}
 
 -- a collector of a batch in which nothing is filed
-abbrev pub nothing_filed : JobValue → Collection
-nothing_filed batch = collection batch (replicate (length batch.packets) vacant)
+abbrev pub empty_collection : JobValue → Collection
+empty_collection batch = collection batch (replicate (length batch.packets) vacant)
 
 -- the entries when all these are filed, one after another
-abbrev pub filed_in : List Entry → List Filed → List Entry
-filed_in entries [] = entries
-filed_in entries (f ∷ more) = filed_in (slice_set entries (number_of f) (entry_of f)) more
+abbrev pub entries_with : List Entry → List Filed → List Entry
+entries_with entries [] = entries
+entries_with entries (f ∷ more) = entries_with (slice_set entries (number_of f) (entry_of f)) more
 
 -- each of these finds nothing filed under its number
 abbrev pub FindVacant : List Entry → List Filed → Type 0

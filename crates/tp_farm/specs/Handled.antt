@@ -5,7 +5,7 @@ use Rattle.tp_link.specs.declared.links.Link.{Link}
 use Rattle.tp_link.specs.declared.links.LinkFault.{LinkFault}
 use Rattle.tp_image.specs.Image.{ImageValue}
 use Rattle.tp_outcome.specs.Devices.{Devices}
-use Rattle.tp_farm.specs.Settings.{Rises, failed_by}
+use Rattle.tp_farm.specs.Settings.{Rises, failures_by}
 use Rattle.tp_farm.specs.Losses.{MayLose}
 
 -- a device's answer, with its link
@@ -18,10 +18,10 @@ abbrev pub HasReason : ImageValue → List ℕ → Devices → LinkFault → Typ
 HasReason image packet devices fault = MayLose image packet devices fault.link fault.code
 
 -- how often the device of a link failed in a handling
-abbrev pub failed_in : {A : Type 0} → Link → Result A LinkFault → ℕ
-failed_in which (Ok x) = 0
-failed_in which (Err fault) = failed_by which fault
+abbrev pub failures_in : {A : Type 0} → Link → Result A LinkFault → ℕ
+failures_in which (Ok x) = 0
+failures_in which (Err fault) = failures_by which fault
 
 -- each device's count of faults rose by that
 abbrev pub RisesIn : {A : Type 0} → Result A LinkFault → (before after : Devices) → Type 0
-RisesIn result before after = Rises before after (λ which. failed_in which result)
+RisesIn result before after = Rises before after (λ which. failures_in which result)

@@ -2,7 +2,7 @@
 pub mod Settings
 pub mod Losses
 pub mod Jobs
-pub mod Works
+pub mod BatchWork
 pub mod Refused
 pub mod Batches
 pub mod Promised

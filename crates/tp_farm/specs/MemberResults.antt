@@ -5,9 +5,9 @@ use Rattle.tp_farm.specs.declared.worker.Returned.{Returned}
 use Rattle.tp_farm.specs.declared.gathering.MemberResults.{MemberResults}
 use Rattle.tp_farm.specs.Gathering.{all_filed}
 
-abbrev pub member_results : {H D : Type 0} → Returned H D → MemberResults D
+abbrev pub member_results : {D : Type 0} → Returned D → MemberResults D
 member_results r = record { links = r.links; filed = r.filed }
 
 -- what all of them filed, one after another
-abbrev pub filed_by : {D : Type 0} → List (MemberResults D) → List Filed
-filed_by kept = all_filed (map (λ k. k.filed.items) kept)
+abbrev pub filings_of : {D : Type 0} → List (MemberResults D) → List Filed
+filings_of kept = all_filed (map (λ k. k.filed.items) kept)

@@ -12,7 +12,7 @@ use Rattle.tp_farm.specs.declared.member.Filed.TheVariants as filed
 use Rattle.tp_farm.specs.declared.member.Member.{Member}
 use Rattle.tp_farm.specs.declared.member.End.{End}
 use Rattle.tp_farm.specs.declared.member.End.TheVariants as end
-use Rattle.tp_farm.specs.Settings.{SameSettings, Rises, failed_by}
+use Rattle.tp_farm.specs.Settings.{SameSettings, Rises, failures_by}
 use Rattle.tp_farm.specs.Losses.{MayLose}
 
 -- ---- what is filed
@@ -28,9 +28,9 @@ IsFiled batch devices (filed.Done done) = IsResult batch done.packet done
 IsFiled batch devices (filed.Lost number fault) = IsLost batch devices number fault
 
 -- how often the device of a link failed for it
-abbrev pub filed_failed : Link → Filed → ℕ
-filed_failed which (filed.Done done) = 0
-filed_failed which (filed.Lost number fault) = failed_by which fault
+abbrev pub failures_filed : Link → Filed → ℕ
+failures_filed which (filed.Done done) = 0
+failures_filed which (filed.Lost number fault) = failures_by which fault
 
 -- the numbers of the packets that are done, in their order, and of those that are lost
 abbrev pub done_numbers : List Filed → List ℕ
@@ -47,7 +47,7 @@ lost_numbers (filed.Lost number fault ∷ more) = number ∷ lost_numbers more
 -- of the batch; and what it finished and abandoned at its source is what it files as done and as lost.
 pub record KeepsAccounts (batch : JobValue) (before now : Devices) (p : Progress) (these : List Filed) : Type 0 where
   pub settings : SameSettings before now
-  pub rises : Rises before now (λ which. sum_by (filed_failed which) these)
+  pub rises : Rises before now (λ which. sum_by (failures_filed which) these)
   pub filed : All (IsFiled batch before) these
   pub finished : p.finished ≡ done_numbers these
   pub abandoned : p.abandoned ≡ lost_numbers these

@@ -3,7 +3,7 @@ use Rattle.std.specs.Prelude.{◌≡◌, ℕ, ◌≤◌, [], vec_len, vec_capaci
 use Rattle.tp_farm.specs.declared.batch.Reserved.{Reserved}
 
 -- there is nothing in it, and so many have room
-pub record HasRoom (members : ℕ) {H D : Type 0} (room : Reserved H D) : Type 0 where
+pub record HasRoom (members : ℕ) {D : Type 0} (room : Reserved D) : Type 0 where
   pub no_hands : room.hands.items ≡ []
   pub no_kept : room.kept.items ≡ []
   pub no_links : room.links.items ≡ []

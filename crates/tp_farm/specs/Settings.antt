@@ -26,8 +26,8 @@ same_link Trace Trace = 1
 same_link one other = 0
 
 -- how often the device of a link failed, by a refusal: once where it answered K4, else never
-abbrev pub failed_by : Link → LinkFault → ℕ
-failed_by which fault = same_link which fault.link * failures (Err fault.code)
+abbrev pub failures_by : Link → LinkFault → ℕ
+failures_by which fault = same_link which fault.link * failures (Err fault.code)
 
 -- each device's count of faults rose by its link's number
 pub record Rises (before after : Devices) (n : Link → ℕ) : Type 0 where

@@ -4,13 +4,13 @@ ghost use Rattle.std.specs.Prelude.{◌≡◌, ◌==◌, ◌<◌, not, All, None
 ghost use Rattle.std.specs.Prelude.{List, length, vec_len};
 ghost use Rattle.tp_link.specs.declared.links.Links.{Links};
 ghost use Rattle.tp_board.specs.Ledgers.{Balances};
-ghost use Rattle.tp_stream.specs.Streams.{IsHandOf, IsFeederOf, hand_progress, all_seen};
+ghost use Rattle.tp_stream.specs.Streams.{IsHandOf, IsFeederOf, all_seen};
 ghost use Rattle.tp_farm.specs.Feeding.{HasOnlyFed};
 ghost use Rattle.tp_farm.specs.Jobs.{value_of_job, AreWhole};
 ghost use Rattle.tp_farm.specs.Working.{HaveToSettle};
-ghost use Rattle.tp_farm.specs.Works.{Work, work_on};
+ghost use Rattle.tp_farm.specs.BatchWork.{BatchWork, batch_work};
 ghost use Rattle.tp_farm.specs.Refused.{job_fault, Begins, IsEnvironmental};
-ghost use Rattle.tp_farm.specs.Gathering.{nothing_filed};
+ghost use Rattle.tp_farm.specs.Gathering.{empty_collection};
 ghost use Rattle.tp_farm.specs.Batches.{IsBatchOver};
 ghost use Rattle.tp_farm.specs.Promised.{GoesWell};
 ghost use Rattle.tp_farm.specs.Reserved.{HasRoom};
@@ -73,7 +73,7 @@ fn job_fault(job: &Job<'_>, members: usize) -> Option<FarmFault>
 
 /// A collector of the packets of a job that begins.
 fn begin<'j>(alloc: Global, job: &'j Job<'j>, members: usize) -> Result<Collector<'j>, FarmFault>
-    ensures collector { IfOk result (λ c. c ≡ nothing_filed (value_of_job job.now)) }
+    ensures collector { IfOk result (λ c. c ≡ empty_collection (value_of_job job.now)) }
     ensures begins { OnOk result (job_fault members (value_of_job job.now) ≡ None) }
     ensures begun { OnOk result (Begins members (value_of_job job.now)) }
     ensures refused { IfSome (job_fault members (value_of_job job.now)) (λ fault. result ≡ Err fault) }
@@ -90,15 +90,15 @@ fn begin<'j>(alloc: Global, job: &'j Job<'j>, members: usize) -> Result<Collecto
 
 /// Reserved for what the members give back.
 #[derive(Drop)]
-struct Reserved<H, D> {
-    hands: Vec<H>,
+struct Reserved<D> {
+    hands: Vec<StreamHand>,
     kept: Vec<MemberResults<D>>,
     links: Vec<Links<D>>,
 }
 
-impl<H: Drop, D: Drop> Reserved<H, D> {
+impl<D: Drop> Reserved<D> {
     /// Reserved for so many members.
-    fn for_members(alloc: Global, members: usize) -> Result<Reserved<H, D>, AllocError>
+    fn for_members(alloc: Global, members: usize) -> Result<Reserved<D>, AllocError>
         ensures { IfOk result (HasRoom members) }
     {
         Ok(Reserved {
@@ -134,20 +134,19 @@ fn settle<R: Wait, D: LinkDevice>(
     stream: StreamQueue<'_>,
     feeder: Feeder,
     mut collector: Collector<'_>,
-    returned: Vec<Returned<StreamHand, D>>,
-    mut room: Reserved<StreamHand, D>,
+    returned: Vec<Returned<D>>,
+    mut room: Reserved<D>,
 ) -> Result<Batch<D>, FarmFault>
-    requires worked { (work : Work) × (before : List (Links D)) ×
-        HaveToSettle D.state (IsHandOf stream) hand_progress (length stream.packets) work before returned.items
-        collector }
+    requires worked { (work : BatchWork) × (before : List (Links D)) ×
+        HaveToSettle D.state stream work before returned.items collector }
     requires feeder { IsFeederOf stream feeder }
     requires fed { HasOnlyFed feeder }
     requires members { vec_len returned ≡ stream.members }
     requires some { 0 < vec_len returned }
     requires room { HasRoom (vec_len returned) room }
-    ensures batch { (work : Work) (before : List (Links D)) →
-        HaveToSettle D.state (IsHandOf stream.entry) hand_progress (length stream.entry.packets) work before
-        returned.items collector.entry → IfOk result (IsBatchOver D.state work before) }
+    ensures batch { (work : BatchWork) (before : List (Links D)) →
+        HaveToSettle D.state stream.entry work before returned.items collector.entry
+        → IfOk result (IsBatchOver D.state work before) }
     ensures err { IfErr result IsEnvironmental }
 {
     take_hands(returned, &mut room.hands, &mut room.kept)?;
@@ -167,6 +166,17 @@ fn settle<R: Wait, D: LinkDevice>(
 ///
 /// G1, G2 and G3 are tested first, in this order. Where a thread cannot be started no further one is, and the members
 /// that were started go on until they end. A member to which memory was refused stops the batch first.
+///
+/// ```
+/// // `image` adds one to its packet.
+/// let packets = [Packet::try_from([41, 0, 0, 0].as_slice())?];
+/// let job = Job { batch: 1, image: &image, packets: &packets };
+/// let mut media = media_of(alloc, 2, 256)?;
+/// let links = boxed(alloc, &mut media)?;
+/// let batch = run_batch(&rt, alloc, &job, links, &OpenGate)?;
+/// let Some(Entry::Done(done)) = batch.collected.entries.get(0) else { panic!() };
+/// assert_eq!(done.result.as_slice(), [42, 0, 0, 0]);
+/// ```
 pub fn run_batch<'j, R: Threads + Wait + Sync, D: LinkDevice + Send, G: Gate>(
     rt: &R,
     alloc: Global,
@@ -174,7 +184,7 @@ pub fn run_batch<'j, R: Threads + Wait + Sync, D: LinkDevice + Send, G: Gate>(
     links: Vec<Links<D>>,
     gate: &'j G,
 ) -> Result<Batch<D>, FarmFault>
-    ensures batch { IfOk result (IsBatchOver D.state (work_on G.open_for_good job.now gate.now) links.items) }
+    ensures batch { IfOk result (IsBatchOver D.state (batch_work G.open_for_good job.now gate.now) links.items) }
     ensures keeps_promise { IfOk result (λ b. GoesWell (value_of_job job.now) job.now.image.now.budget b.collected) }
     ensures refused { IfSome (job_fault (length links.items) (value_of_job job.now)) (λ fault. result ≡ Err fault) }
     ensures err { job_fault (length links.items) (value_of_job job.now) ≡ None → IfErr result IsEnvironmental }
@@ -196,8 +206,8 @@ fn run_begun<'j, R: Threads + Wait + Sync, D: LinkDevice + Send, G: Gate>(
     collector: Collector<'_>,
 ) -> Result<Batch<D>, FarmFault>
     requires begins { Begins (vec_len links) (value_of_job job.now) }
-    requires collector { collector ≡ nothing_filed (value_of_job job.now) }
-    ensures batch { IfOk result (IsBatchOver D.state (work_on G.open_for_good job.now gate.now) links.items) }
+    requires collector { collector ≡ empty_collection (value_of_job job.now) }
+    ensures batch { IfOk result (IsBatchOver D.state (batch_work G.open_for_good job.now gate.now) links.items) }
     ensures err { IfErr result IsEnvironmental }
 {
     let members = links.len();
@@ -209,7 +219,7 @@ fn run_begun<'j, R: Threads + Wait + Sync, D: LinkDevice + Send, G: Gate>(
     let shared = Shared {
         job: &*job,
         gate: &*gate,
-        source: &stream,
+        stream: &stream,
         share: job.packets.len().div_ceil(members),
     };
     let (returned, feeder) = run_members(rt, alloc, &shared, feeder, hands, links)?;

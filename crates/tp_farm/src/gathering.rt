@@ -5,14 +5,15 @@ ghost use Rattle.std.specs.Prelude.{vec_len, vec_capacity};
 ghost use Rattle.tp_collect.specs.Collected.{JobValue};
 ghost use Rattle.tp_collect.specs.Collecting.{vacant};
 ghost use Rattle.tp_farm.specs.Refused.{IsEnvironmental};
-ghost use Rattle.tp_farm.specs.Gathering.{number_of, entry_of, IsOfBatch, filed_in, FindVacant, fault_of_end};
-ghost use Rattle.tp_farm.specs.MemberResults.{member_results, filed_by};
+ghost use Rattle.tp_farm.specs.Gathering.{number_of, entry_of, IsOfBatch, entries_with, FindVacant, fault_of_end};
+ghost use Rattle.tp_farm.specs.MemberResults.{member_results, filings_of};
 
 use crate::fault::FarmFault;
 use crate::member::{End, Filed};
 use crate::worker::Returned;
 use tp_collect::Collector;
 use tp_link::{LinkDevice, Links};
+use tp_stream::StreamHand;
 
 /// What is left of a member when its hand is gone.
 #[derive(Drop)]
@@ -32,9 +33,9 @@ fn fault_of_end(end: End) -> Option<FarmFault>
 }
 
 /// Takes the hands from what the members gave back; the first fault of a member is the answer.
-pub(crate) fn take_hands<H: Drop, D: LinkDevice>(
-    returned: Vec<Returned<H, D>>,
-    hands: &mut Vec<H>,
+pub(crate) fn take_hands<D: LinkDevice>(
+    returned: Vec<Returned<D>>,
+    hands: &mut Vec<StreamHand>,
     kept: &mut Vec<MemberResults<D>>,
 ) -> Result<(), FarmFault>
     requires hands { vec_len hands.old + vec_len returned ≤ vec_capacity hands.old }
@@ -78,7 +79,7 @@ fn file_one(collector: &mut Collector<'_>, one: Filed)
 fn gather(collector: &mut Collector<'_>, filed: Vec<Filed>)
     requires of { All (IsOfBatch collector.old.batch) filed.items }
     requires vacant { FindVacant collector.old.entries filed.items }
-    ensures { collector.new ≡ record collector.old { entries = filed_in collector.old.entries filed.items } }
+    ensures { collector.new ≡ record collector.old { entries = entries_with collector.old.entries filed.items } }
 {
     for one in filed {
         file_one(collector, one);
@@ -92,10 +93,10 @@ pub(crate) fn gather_all<D: LinkDevice>(
     links: &mut Vec<Links<D>>,
 )
     requires of { All (λ k. All (IsOfBatch collector.old.batch) k.filed.items) kept.items }
-    requires vacant { FindVacant collector.old.entries (filed_by kept.items) }
+    requires vacant { FindVacant collector.old.entries (filings_of kept.items) }
     requires room { vec_len links.old + vec_len kept ≤ vec_capacity links.old }
     ensures entries { collector.new ≡
-        record collector.old { entries = filed_in collector.old.entries (filed_by kept.items) } }
+        record collector.old { entries = entries_with collector.old.entries (filings_of kept.items) } }
     ensures links { links.new.items ≡ links.old.items ++ map (λ k. k.links) kept.items }
 {
     for one in kept {

@@ -16,7 +16,7 @@ ghost use Rattle.tp_farm.specs.Handled.{on_link, HasReason, RisesIn};
 use crate::job::Job;
 use tp_accept::Accepted;
 use tp_collect::Done;
-use tp_collect::limits::MESSAGE_BYTES;
+use tp_collect::limits::MAX_MESSAGE;
 use tp_link::{DeviceFault, Link, LinkDevice, LinkFault, Links};
 use tp_machine::{Machine, Outcome};
 use tp_stream::Packet;
@@ -39,9 +39,9 @@ fn throw_away<D: LinkDevice>(device: &mut D) -> Result<(), DeviceFault>
     ensures emptied { OnOk result ((D.state device.new).held ≡ []) }
     ensures cause { IfErr result (HasCause (D.state device.old) ⊥) }
 {
-    let mut scratch = [0u8; MESSAGE_BYTES];
+    let mut scratch = [0u8; MAX_MESSAGE];
     while device.held() > 0 {
-        let n = device.held().min(MESSAGE_BYTES);
+        let n = device.held().min(MAX_MESSAGE);
         device.receive(&mut scratch[..n])?;
     }
     Ok(())
@@ -97,15 +97,15 @@ fn run_on<D: LinkDevice>(
 /// Where a member receives results and traces, packet after packet: it is not cleared between them.
 #[derive(Drop)]
 pub(crate) struct Received {
-    pub(crate) result: [u8; MESSAGE_BYTES],
-    pub(crate) trace: [u8; MESSAGE_BYTES],
+    pub(crate) result: [u8; MAX_MESSAGE],
+    pub(crate) trace: [u8; MAX_MESSAGE],
 }
 
 impl Received {
     pub(crate) fn new() -> Received {
         Received {
-            result: [0; MESSAGE_BYTES],
-            trace: [0; MESSAGE_BYTES],
+            result: [0; MAX_MESSAGE],
+            trace: [0; MAX_MESSAGE],
         }
     }
 }
@@ -114,7 +114,7 @@ impl Received {
 fn receive_held<D: LinkDevice>(
     device: &mut D,
     n: usize,
-    into: &mut [u8; MESSAGE_BYTES],
+    into: &mut [u8; MAX_MESSAGE],
 ) -> Result<(), DeviceFault>
     requires count { n ≡ length (D.state device.old).held }
     requires most { n ≤ most_message }
@@ -132,7 +132,7 @@ fn receive_held<D: LinkDevice>(
 /// Receives the trace of a packet that was run, where that is no more than a trace may have: of so many bytes.
 fn receive_trace<D: LinkDevice>(
     links: &mut Links<D>,
-    into: &mut [u8; MESSAGE_BYTES],
+    into: &mut [u8; MAX_MESSAGE],
 ) -> Result<usize, LinkFault>
     ensures settings { SameSettings (devices_of D.state links.old) (devices_of D.state links.new) }
     ensures rises { RisesIn result (devices_of D.state links.old) (devices_of D.state links.new) }
@@ -142,7 +142,7 @@ fn receive_trace<D: LinkDevice>(
         IfErr result (HasReason image packet (devices_of D.state links.old)) }
 {
     let n = links.trace.held();
-    if n > MESSAGE_BYTES {
+    if n > MAX_MESSAGE {
         return Err(LinkFault {
             link: Link::Trace,
             code: DeviceFault::Full,
@@ -179,7 +179,7 @@ pub(crate) fn handle<D: LinkDevice>(
     let answer = receive_held(&mut links.sink, n, &mut received.result);
     of_link(Link::Sink, answer)?;
     let traced = receive_trace(links, &mut received.trace)?;
-    Ok(Done::copied(
+    Ok(Done::from_slices(
         job.batch,
         job.image.image(),
         number,

@@ -3,7 +3,7 @@
 ghost use Rattle.std.specs.Prelude.{◌≡◌, ◌≤◌, ◌+◌, ◌++◌, ◌∷◌, [], true, map, IfSome, IfOk, IfErr, All, vec_len};
 ghost use Rattle.std.specs.Prelude.{vec_capacity};
 ghost use Rattle.std.specs.List.{AllZip};
-ghost use Rattle.tp_stream.specs.Streams.{IsHandOf, IsFeederOf, hand_progress};
+ghost use Rattle.tp_stream.specs.Streams.{IsFeederOf};
 ghost use Rattle.tp_farm.specs.Feeding.{HasOnlyFed, HasEnded};
 ghost use Rattle.tp_farm.specs.Refused.{IsEnvironmental};
 ghost use Rattle.tp_farm.specs.Working.{IsSet, IsFresh, HasWorkedOn, HaveWorkedOn};
@@ -17,39 +17,36 @@ use std::sync::Wait;
 use std::thread;
 use std::thread::{Promise, PromisedHandle, Scope, Threads, join_promised};
 use tp_link::{LinkDevice, Links};
-use tp_stream::{Fed, Feeder, StreamHand, StreamQueue, WorkSource};
+use tp_stream::{Fed, Feeder, StreamHand, StreamQueue};
 
 /// What a member's thread keeps: it has done the shared's work with the devices that it had.
 #[derive(Drop)]
-struct MemberPromise<'j, G, D, S> {
-    shared: &'j Shared<'j, G, S>,
+struct MemberPromise<'j, G, D> {
+    shared: &'j Shared<'j, G>,
     before: Snapshot<Links<D>>,
 }
 
-impl<'j, G: Gate, D: LinkDevice, S: WorkSource> Promise<Returned<S::Hand, D>>
-    for MemberPromise<'j, G, D, S> {
+impl<'j, G: Gate, D: LinkDevice> Promise<Returned<D>> for MemberPromise<'j, G, D> {
     ghost use Rattle.tp_farm.specs.Working.{HasWorkedOn};
 
-    ghost kept_by = { λ p r. HasWorkedOn D.state S.is_own S.progress G.open_for_good p.shared.now p.before.value r };
+    ghost kept_by = { λ p r. HasWorkedOn D.state G.open_for_good p.shared.now p.before.value r };
 }
 
 /// A member's thread.
-type Handle<'e, G, D, S, H> = PromisedHandle<Returned<H, D>, MemberPromise<'e, G, D, S>>;
+type Handle<'e, G, D> = PromisedHandle<Returned<D>, MemberPromise<'e, G, D>>;
 
 /// Starts the member of a number.
-fn start<'s, 'e, R: Wait + Sync, D: LinkDevice + Send + 'e, G: Gate, S: WorkSource + Sync>(
+fn start<'s, 'e, R: Wait + Sync, D: LinkDevice + Send + 'e, G: Gate>(
     rt: &'e R,
     scope: &'s Scope<'s, &'e ()>,
     alloc: Global,
-    shared: &'e Shared<'e, G, S>,
+    shared: &'e Shared<'e, G>,
     number: u32,
-    hand: S::Hand,
+    hand: StreamHand,
     links: Links<D>,
-) -> Option<Handle<'e, G, D, S, S::Hand>>
-where
-    S::Hand: Drop + Send + 'e,
-    requires set { IsSet S.packets shared.now }
-    requires fresh { IsFresh (S.is_own shared.now.source.now) S.progress hand }
+) -> Option<Handle<'e, G, D>>
+    requires set { IsSet shared.now }
+    requires fresh { IsFresh shared.now.stream.now hand }
     ensures shared { IfSome result (λ h. h.promise.shared.now ≡ shared.now) }
     ensures before { IfSome result (λ h. h.promise.before.value ≡ links) }
 {
@@ -59,10 +56,10 @@ where
     };
     let started = scope.spawn_with(
         promise,
-        move || -> Returned<S::Hand, D>
-            requires set { IsSet S.packets shared.now }
-            requires fresh { IsFresh (S.is_own shared.now.source.now) S.progress hand }
-            ensures worked { HasWorkedOn D.state S.is_own S.progress G.open_for_good shared.entry.now links result }
+        move || -> Returned<D>
+            requires set { IsSet shared.now }
+            requires fresh { IsFresh shared.now.stream.now hand }
+            ensures worked { HasWorkedOn D.state G.open_for_good shared.entry.now links result }
         { work_as(rt, alloc, shared, number, hand, links) },
     );
     match started {
@@ -76,27 +73,22 @@ where
 
 /// Members that were started.
 #[derive(Drop)]
-struct Started<'e, G: Gate, D: LinkDevice, S: WorkSource>
-where
-    S::Hand: Drop,
-{
-    handles: Vec<Handle<'e, G, D, S, S::Hand>>,
+struct Started<'e, G: Gate, D: LinkDevice> {
+    handles: Vec<Handle<'e, G, D>>,
     all_started: bool,
 }
 
 /// Starts a member for each of the links in turn, up to the first for which no thread could be started.
-fn start_all<'s, 'e, R: Wait + Sync, D: LinkDevice + Send + 'e, G: Gate, S: WorkSource + Sync>(
+fn start_all<'s, 'e, R: Wait + Sync, D: LinkDevice + Send + 'e, G: Gate>(
     rt: &'e R,
     scope: &'s Scope<'s, &'e ()>,
     alloc: Global,
-    shared: &'e Shared<'e, G, S>,
-    mut hands: Vec<S::Hand>,
+    shared: &'e Shared<'e, G>,
+    mut hands: Vec<StreamHand>,
     all: Vec<Links<D>>,
-) -> Result<Started<'e, G, D, S>, AllocError>
-where
-    S::Hand: Drop + Send + 'e,
-    requires set { IsSet S.packets shared.now }
-    requires fresh { All (IsFresh (S.is_own shared.now.source.now) S.progress) hands.items }
+) -> Result<Started<'e, G, D>, AllocError>
+    requires set { IsSet shared.now }
+    requires fresh { All (IsFresh shared.now.stream.now) hands.items }
     requires hands { vec_len hands ≡ vec_len all }
     requires members { vec_len all ≤ 64 }
     ensures before { IfOk result
@@ -142,14 +134,12 @@ fn feed_all<R: Wait>(rt: &R, stream: &StreamQueue<'_>, feeder: &mut Feeder)
 }
 
 /// Joins the members that were started.
-fn join_all<R: Threads + Wait, D: LinkDevice, G: Gate, S: WorkSource>(
+fn join_all<R: Threads + Wait, D: LinkDevice, G: Gate>(
     rt: &R,
-    started: Started<'_, G, D, S>,
-) -> Result<Vec<Returned<S::Hand, D>>, FarmFault>
-where
-    S::Hand: Drop,
+    started: Started<'_, G, D>,
+) -> Result<Vec<Returned<D>>, FarmFault>
     ensures joined { IfOk result (λ rs. (started.entry.all_started ≡ true) × AllZip
-        (λ h r. HasWorkedOn D.state S.is_own S.progress G.open_for_good h.promise.shared.now h.promise.before.value r)
+        (λ h r. HasWorkedOn D.state G.open_for_good h.promise.shared.now h.promise.before.value r)
         started.entry.handles.items rs.items) }
     ensures err { IfErr result IsEnvironmental }
 {
@@ -176,27 +166,27 @@ fn start_feed_and_join<'s, 'e, R: Threads + Wait + Sync, D: LinkDevice + Send + 
     rt: &'e R,
     scope: &'s Scope<'s, &'e ()>,
     alloc: Global,
-    shared: &'e Shared<'e, G, StreamQueue<'e>>,
+    shared: &'e Shared<'e, G>,
     mut feeder: Feeder,
     hands: Vec<StreamHand>,
     all: Vec<Links<D>>,
-) -> Result<(Vec<Returned<StreamHand, D>>, Feeder), FarmFault>
-    requires set { IsSet (λ s. s.packets) shared.now }
-    requires fresh { All (IsFresh (IsHandOf shared.now.source.now) hand_progress) hands.items }
-    requires feeder { IsFeederOf shared.now.source.now feeder }
+) -> Result<(Vec<Returned<D>>, Feeder), FarmFault>
+    requires set { IsSet shared.now }
+    requires fresh { All (IsFresh shared.now.stream.now) hands.items }
+    requires feeder { IsFeederOf shared.now.stream.now feeder }
     requires fed { HasOnlyFed feeder }
     requires hands { vec_len hands ≡ vec_len all }
     requires members { vec_len all ≤ 64 }
     ensures worked { IfOk result (λ r.
-        HaveWorkedOn D.state IsHandOf hand_progress G.open_for_good shared.now all.items r.0.items) }
-    ensures feeder { IfOk result (λ r. IsFeederOf shared.now.source.now r.1 × HasOnlyFed r.1) }
+        HaveWorkedOn D.state G.open_for_good shared.now all.items r.0.items) }
+    ensures feeder { IfOk result (λ r. IsFeederOf shared.now.stream.now r.1 × HasOnlyFed r.1) }
     ensures err { IfErr result IsEnvironmental }
 {
     let started = start_all(rt, scope, alloc, shared, hands, all)?;
     if started.all_started {
-        feed_all(rt, shared.source, &mut feeder);
+        feed_all(rt, shared.stream, &mut feeder);
     } else {
-        shared.source.stop_feeding(&mut feeder);
+        shared.stream.stop_feeding(&mut feeder);
     }
     let returned = join_all(rt, started)?;
     Ok((returned, feeder))
@@ -207,35 +197,35 @@ fn start_feed_and_join<'s, 'e, R: Threads + Wait + Sync, D: LinkDevice + Send + 
 pub(crate) fn run_members<R: Threads + Wait + Sync, D: LinkDevice + Send, G: Gate>(
     rt: &R,
     alloc: Global,
-    shared: &Shared<'_, G, StreamQueue<'_>>,
+    shared: &Shared<'_, G>,
     feeder: Feeder,
     hands: Vec<StreamHand>,
     all: Vec<Links<D>>,
-) -> Result<(Vec<Returned<StreamHand, D>>, Feeder), FarmFault>
-    requires set { IsSet (λ s. s.packets) shared.now }
-    requires fresh { All (IsFresh (IsHandOf shared.now.source.now) hand_progress) hands.items }
-    requires feeder { IsFeederOf shared.now.source.now feeder }
+) -> Result<(Vec<Returned<D>>, Feeder), FarmFault>
+    requires set { IsSet shared.now }
+    requires fresh { All (IsFresh shared.now.stream.now) hands.items }
+    requires feeder { IsFeederOf shared.now.stream.now feeder }
     requires fed { HasOnlyFed feeder }
     requires hands { vec_len hands ≡ vec_len all }
     requires members { vec_len all ≤ 64 }
     ensures worked { IfOk result (λ r.
-        HaveWorkedOn D.state IsHandOf hand_progress G.open_for_good shared.now all.items r.0.items) }
-    ensures feeder { IfOk result (λ r. IsFeederOf shared.now.source.now r.1 × HasOnlyFed r.1) }
+        HaveWorkedOn D.state G.open_for_good shared.now all.items r.0.items) }
+    ensures feeder { IfOk result (λ r. IsFeederOf shared.now.stream.now r.1 × HasOnlyFed r.1) }
     ensures err { IfErr result IsEnvironmental }
 {
     thread::scope(
         thread::scope_env(),
         rt,
-        |scope| -> Result<(Vec<Returned<StreamHand, D>>, Feeder), FarmFault>
-            requires set { IsSet (λ s. s.packets) shared.now }
-            requires fresh { All (IsFresh (IsHandOf shared.now.source.now) hand_progress) hands.items }
-            requires feeder { IsFeederOf shared.now.source.now feeder }
+        |scope| -> Result<(Vec<Returned<D>>, Feeder), FarmFault>
+            requires set { IsSet shared.now }
+            requires fresh { All (IsFresh shared.now.stream.now) hands.items }
+            requires feeder { IsFeederOf shared.now.stream.now feeder }
             requires fed { HasOnlyFed feeder }
             requires hands { vec_len hands ≡ vec_len all }
             requires members { vec_len all ≤ 64 }
             ensures worked { IfOk result (λ r.
-                HaveWorkedOn D.state IsHandOf hand_progress G.open_for_good shared.entry.now all.items r.0.items) }
-            ensures feeder { IfOk result (λ r. IsFeederOf shared.entry.now.source.now r.1 × HasOnlyFed r.1) }
+                HaveWorkedOn D.state G.open_for_good shared.entry.now all.items r.0.items) }
+            ensures feeder { IfOk result (λ r. IsFeederOf shared.entry.now.stream.now r.1 × HasOnlyFed r.1) }
             ensures err { IfErr result IsEnvironmental }
         { start_feed_and_join(rt, scope, alloc, shared, feeder, hands, all) },
     )

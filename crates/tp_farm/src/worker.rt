@@ -12,12 +12,12 @@ use std::snapshot::Snapshot;
 use std::sync::Wait;
 use tp_link::{LinkDevice, Links};
 use tp_machine::Machine;
-use tp_stream::WorkSource;
+use tp_stream::{StreamHand, StreamQueue};
 
 /// What a member's thread gives back: its hand, its devices, what it filed, and why it ended.
 #[derive(Drop)]
-pub(crate) struct Returned<H, D> {
-    pub(crate) hand: H,
+pub(crate) struct Returned<D> {
+    pub(crate) hand: StreamHand,
     pub(crate) links: Links<D>,
     pub(crate) filed: Vec<Filed>,
     pub(crate) end: End,
@@ -25,26 +25,26 @@ pub(crate) struct Returned<H, D> {
 
 /// What all members work with.
 #[derive(Drop)]
-pub(crate) struct Shared<'j, G, S> {
+pub(crate) struct Shared<'j, G> {
     pub(crate) job: &'j Job<'j>,
     pub(crate) gate: &'j G,
-    pub(crate) source: &'j S,
+    pub(crate) stream: &'j StreamQueue<'j>,
     /// How many packets each member gets, where all take as many.
     pub(crate) share: usize,
 }
 
 /// The whole work of the member of a number, on a machine of its own.
-pub(crate) fn work_as<S: WorkSource, D: LinkDevice, G: Gate>(
+pub(crate) fn work_as<D: LinkDevice, G: Gate>(
     rt: &impl Wait,
     alloc: Global,
-    shared: &Shared<'_, G, S>,
+    shared: &Shared<'_, G>,
     number: u32,
-    hand: S::Hand,
+    hand: StreamHand,
     links: Links<D>,
-) -> Returned<S::Hand, D>
-    requires set { IsSet S.packets shared.now }
-    requires fresh { IsFresh (S.is_own shared.now.source.now) S.progress hand }
-    ensures { HasWorkedOn D.state S.is_own S.progress G.open_for_good shared.now links result }
+) -> Returned<D>
+    requires set { IsSet shared.now }
+    requires fresh { IsFresh shared.now.stream.now hand }
+    ensures { HasWorkedOn D.state G.open_for_good shared.now links result }
 {
     let entry = Snapshot::of(&links);
     let mut member = Member {
@@ -60,7 +60,7 @@ pub(crate) fn work_as<S: WorkSource, D: LinkDevice, G: Gate>(
         rt,
         shared.job,
         shared.gate,
-        shared.source,
+        shared.stream,
         shared.share,
         &mut member,
     );

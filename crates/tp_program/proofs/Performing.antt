@@ -11,7 +11,7 @@ use Rattle.tp_session.specs.declared.fault.ServeFault.TheVariants.{Read, Write, 
 use Rattle.tp_session.specs.Served.{ServesAll, ServesRead, ServesBefore, ServesSome}
 use Rattle.tp_program.specs.declared.ending.Ending.{Ending}
 use Rattle.tp_program.specs.declared.ending.Ending.TheVariants.{Shown, Refused, NotText, Fault}
-use Rattle.tp_program.specs.Program.{asks_traces, status_of, reported, Performs, EndsWordless, DoesNothing}
+use Rattle.tp_program.specs.Program.{has_trace_flag, status_of, report_text, Performs, EndsWordless, DoesNothing}
 use Rattle.tp_program.specs.Endings.{ending_without, Reports, IsConcluded, IsEndingBy}
 use Rattle.tp_program.proofs.Unserved.{nothing_served}
 
@@ -22,7 +22,7 @@ module _ (words : List Text) where
       → (r ≡ Err Read → ServesRead asked.trace input left old new)
       → ((r ≡ Err Memory) ⊎ (r ≡ Err Thread) → ServesBefore asked.trace input left old new)
       → (r ≡ Err Write → ServesSome asked.trace input old new) → (status : ℕ) → status ≡ status_of r
-      → (some : ℕ) → Appends errors errors' (take some (reported r)) → Performs words input left old new errors errors' status
+      → (some : ℕ) → Appends errors errors' (take some (report_text r)) → Performs words input left old new errors errors' status
   served input left old new errors errors' asked asks none r all read want write status is some reports = record {
     serves = λ _. record {
       result = r;
@@ -88,7 +88,7 @@ module _ (words : List Text) where
           result = Err fault;
           all = tt;
           read = λ e. cc;
-          want = λ e. subst (λ left. ServesBefore (asks_traces words) input input old left) (sym is.1) (nothing_served (asks_traces words) input old);
+          want = λ e. subst (λ left. ServesBefore (has_trace_flag words) input input old left) (sym is.1) (nothing_served (has_trace_flag words) input old);
           write = λ e. cc;
           status_is = is.0;
           some = written.0;

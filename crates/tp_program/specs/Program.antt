@@ -14,8 +14,8 @@ use Rattle.tp_session.specs.Served.{ServesAll, ServesRead, ServesBefore, ServesS
 
 -- ---- words that ask for options
 
-abbrev pub asks_traces : List Text → Bool
-asks_traces words = is_up (one_of (codes "trace") (matches_of farmd words))
+abbrev pub has_trace_flag : List Text → Bool
+has_trace_flag words = is_up (one_of (codes "trace") (matches_of farmd words))
 
 abbrev pub status_of : Result (Unit {0}) ServeFault → ℕ
 status_of (Ok _) = 0
@@ -25,9 +25,9 @@ status_of (Err fault) = 1
 abbrev pub fault_line : ServeFault → List ℕ
 fault_line fault = codes "farmd: " ++ fault_text fault ++ codes "\n"
 
-abbrev pub reported : Result (Unit {0}) ServeFault → List ℕ
-reported (Ok _) = []
-reported (Err fault) = fault_line fault
+abbrev pub report_text : Result (Unit {0}) ServeFault → List ℕ
+report_text (Ok _) = []
+report_text (Err fault) = fault_line fault
 
 -- what is served for the input is written, by how serving ends; a fault is reported, as far as that can be written
 pub record HasServed (trace : Bool) (input left old new errors errors' : Option (List ℕ)) (status : ℕ) : Type 0 where
@@ -38,7 +38,7 @@ pub record HasServed (trace : Bool) (input left old new errors errors' : Option 
   pub write : result ≡ Err Write → ServesSome trace input old new
   pub status_is : status ≡ status_of result
   pub some : ℕ
-  pub reports : Appends errors errors' (take some (reported result))
+  pub reports : Appends errors errors' (take some (report_text result))
 
 -- ---- other words: they ask for a text, or are refused
 
@@ -64,7 +64,7 @@ pub record EndsUnserved (kinds : Kinds) (input left errors errors' : Option (Lis
 -- from streams whose bytes are known or not, as they were and as they are left
 pub record Performs (words : List Text) (input left old new errors errors' : Option (List ℕ))
     (status : ℕ) : Type 0 where
-  pub serves : fault_of farmd words ≡ [] → HasServed (asks_traces words) input left old new errors errors' status
+  pub serves : fault_of farmd words ≡ [] → HasServed (has_trace_flag words) input left old new errors errors' status
   pub other : fault_of farmd words ≢ [] → EndsUnserved (fault_of farmd words) input left errors errors' status
   pub refused : status ≡ 2 → new ≡ old
 

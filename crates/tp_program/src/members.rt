@@ -12,7 +12,7 @@ use std::alloc::{AllocError, Global};
 use std::io::{Read, Write};
 use std::sync::Wait;
 use std::thread::Threads;
-use tp_collect::limits::MESSAGE_BYTES;
+use tp_collect::limits::MAX_MESSAGE;
 use tp_link::{LinkDevice, Links, Media, Wire};
 use tp_session::{Farm, ServeFault, serve};
 
@@ -21,7 +21,7 @@ fn media_of(alloc: Global, members: usize) -> Result<Vec<Media>, AllocError>
     ensures count { IfOk result (λ media. vec_len media ≡ members) }
     ensures room { IfOk result (λ media. All HaveRoom media.items) }
 {
-    let media = tp_link::media_of(alloc, members, MESSAGE_BYTES)?;
+    let media = tp_link::media_of(alloc, members, MAX_MESSAGE)?;
     Ok(media)
 }
 

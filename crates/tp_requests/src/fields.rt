@@ -8,7 +8,7 @@ ghost use Rattle.tp_requests.specs.Fields.{hex_bytes};
 ghost use Rattle.tp_requests.specs.Parts.{IsWithout};
 ghost use Rattle.tp_requests.specs.Reading.{is_name_byte, is_name};
 
-use crate::request::{MOST_NAME, Name};
+use crate::request::{MAX_NAME, Name};
 use hex::FromHexError;
 use std::alloc::{AllocError, Global};
 
@@ -47,7 +47,7 @@ fn are_name_bytes(field: &[u8]) -> bool
 pub(crate) fn name_of(field: &[u8]) -> Option<Name>
     ensures { option_map (λ name. name.items) result ≡ (if is_name field.now then Some field.now else None) }
 {
-    if field.is_empty() || field.len() > MOST_NAME || !are_name_bytes(field) {
+    if field.is_empty() || field.len() > MAX_NAME || !are_name_bytes(field) {
         return None;
     }
     let mut name = Name::new();

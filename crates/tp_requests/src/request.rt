@@ -12,10 +12,10 @@ use arrayvec::ArrayVec;
 use std::alloc::{AllocError, Global};
 
 /// The most bytes of a name.
-pub(crate) const MOST_NAME: usize = 16;
+pub(crate) const MAX_NAME: usize = 16;
 
 /// The name of a session: 1 to 16 of `a` to `z` and `0` to `9`.
-pub type Name = ArrayVec<u8, MOST_NAME>;
+pub type Name = ArrayVec<u8, MAX_NAME>;
 
 /// What a line asks for.
 #[derive(Drop)]

@@ -12,7 +12,7 @@ use Rattle.tp_accept.specs.Verdict.{allowed}
 use Rattle.tp_accept.specs.Acceptance.{IsAcceptable}
 use Rattle.tp_accept.specs.Verdict as accept
 use Rattle.tp_accept.proofs.NeverWrong.{never_goes_wrong}
-use Rattle.tp_collect.specs.DoneValue.{run_giving}
+use Rattle.tp_collect.specs.DoneValue.{run_of_parts}
 use Rattle.tp_requests.specs.Lines.{Line}
 use Rattle.tp_answers.specs.Results.{RunResult}
 use Rattle.tp_answers.specs.Sessions.{Session}
@@ -46,7 +46,7 @@ module _ (alone : AllowedAlone) where
       → IsOutcome image packet o → IsOutcomeInTime image packet o
   in_time image budget is_stated packet is (Some run) outcome =
       let ends = never_goes_wrong image budget (alone is_stated.0 image budget is_stated.1.0 is_stated.1.1) packet is in
-      let same = one_run image packet ends.run (run_giving run.result run.error run.steps run.trace) ends.alone outcome.0 in
+      let same = one_run image packet ends.run (run_of_parts run.result run.error run.steps run.trace) ends.alone outcome.0 in
       record { is = outcome; budget = budget; is_stated = is_stated; ends = ends; steps = subst (λ (r : Run). r.steps ≤ budget) same ends.within }
   in_time image budget is_stated packet is None outcome =
       let ends = never_goes_wrong image budget (alone is_stated.0 image budget is_stated.1.0 is_stated.1.1) packet is in

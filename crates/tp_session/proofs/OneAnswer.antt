@@ -16,7 +16,7 @@ use Rattle.tp_requests.specs.Requests.{Asked, ToList, ToOpen, ToKeep, ToRun, ToR
 use Rattle.tp_requests.proofs.LineLemmas.{one_request}
 use Rattle.tp_answers.specs.declared.answer.Answer.{Answer}
 use Rattle.tp_answers.specs.declared.answer.Answer.TheVariants.{Ran, RanAll}
-use Rattle.tp_answers.specs.Sessions.{Session, named, is_full}
+use Rattle.tp_answers.specs.Sessions.{Session, session_named, is_full}
 use Rattle.tp_answers.specs.Texts.{answer_text}
 use Rattle.tp_answers.specs.Answers.{Verdict, Accepts, Refuses, answer_by, after_verdict, IsAnswerToList, IsAnswerToImage, IsAfterImage, IsRun}
 use Rattle.tp_answers.specs.Answers.{IsAnswerToRun, IsAnswer, IsAfter}
@@ -82,7 +82,7 @@ module _ (Judges : List ℕ → Verdict → Type 0) (HasOutcome : ImageValue →
       answer_once (Some (ToList code)) before a b is is' = list_once (cutting code) a b is is'
       answer_once (Some (ToOpen name text)) before a b is is' = image_once (is_full name before) text a b is is'
       answer_once (Some (ToKeep name packet)) before a b is is' = is ∙ sym is'
-      answer_once (Some (ToRun name)) before a b is is' = run_once (named name before) a b is is'
+      answer_once (Some (ToRun name)) before a b is is' = run_once (session_named name before) a b is is'
       answer_once (Some ToRunAll) before a b (rs, each, is) (qs, each', is') = is ∙ ap RanAll (runs_once before rs qs each each') ∙ sym is'
       answer_once (Some (ToDrop name)) before a b is is' = is ∙ sym is'
 

@@ -14,7 +14,7 @@ use Rattle.tp_answers.specs.declared.answer.LineFault.TheVariants.{P1, P3}
 use Rattle.tp_answers.specs.declared.answer.Answer.{Answer}
 use Rattle.tp_answers.specs.declared.answer.Answer.TheVariants.{Kept, Refused}
 use Rattle.tp_answers.specs.Results.{RunResult}
-use Rattle.tp_answers.specs.Sessions.{Session, is_of, named, is_full, with_session, with_changed, without_session, with_packet, without_packets}
+use Rattle.tp_answers.specs.Sessions.{Session, is_of, session_named, is_full, with_session, with_changed, without_session, with_packet, without_packets}
 use Rattle.tp_answers.specs.Answers.{Verdict, Accepts, Refuses, answer_to_packet, unless_refused}
 use Rattle.tp_answers.specs.Answers.{IsAnswerToImage, IsAfterImage, IsRun, IsAnswerToRun, IsAnswer, IsAfter}
 use Rattle.tp_session.specs.Protocol.{most_line, next_number, IsAsked, AreAnswers, AreAnswered}
@@ -48,7 +48,7 @@ module _ (Judges Judges' : List ℕ → Verdict → Type 0) (HasOutcome HasOutco
         either_good (is_of name s) sessions (s ∷ without_session name sessions) all.1 (all.0, good_without name sessions all.1)
 
     abbrev Changes : (Session → Session) → List ℕ → List Session → Type 0
-    Changes change name sessions = (s : Session) → named name sessions ≡ Some s → Good s → Good (change s)
+    Changes change name sessions = (s : Session) → session_named name sessions ≡ Some s → Good s → Good (change s)
 
     good_changed : (change : Session → Session) (name : List ℕ) (sessions : List Session) → Changes change name sessions → AreGood sessions
         → AreGood (with_changed change name sessions)
@@ -57,14 +57,14 @@ module _ (Judges Judges' : List ℕ → Verdict → Type 0) (HasOutcome HasOutco
       where
         by_test : (b : Bool) → is_of name s ≡ b → (Changes change name sessions → AreGood (with_changed change name sessions))
             → AreGood (if b then change s ∷ sessions else s ∷ with_changed change name sessions)
-        by_test true e rest = (h s (ap (λ b. if b then Some s else named name sessions) e) all.0, all.1)
-        by_test false e rest = (all.0, rest (λ t is. h t (ap (λ b. if b then Some s else named name sessions) e ∙ is)))
+        by_test true e rest = (h s (ap (λ b. if b then Some s else session_named name sessions) e) all.0, all.1)
+        by_test false e rest = (all.0, rest (λ t is. h t (ap (λ b. if b then Some s else session_named name sessions) e ∙ is)))
 
-    good_named : (name : List ℕ) (sessions : List Session) → AreGood sessions → (s : Session) → named name sessions ≡ Some s → Good s
+    good_named : (name : List ℕ) (sessions : List Session) → AreGood sessions → (s : Session) → session_named name sessions ≡ Some s → Good s
     good_named name [] all s is = absurd cc
     good_named name (t ∷ sessions) all s is = by_test (is_of name t) is (good_named name sessions all.1 s)
       where
-        by_test : (b : Bool) → (if b then Some t else named name sessions) ≡ Some s → (named name sessions ≡ Some s → Good s) → Good s
+        by_test : (b : Bool) → (if b then Some t else session_named name sessions) ≡ Some s → (session_named name sessions ≡ Some s → Good s) → Good s
         by_test true e rest = subst Good (same_Some t s e) all.0
         by_test false e rest = rest e
 
@@ -76,7 +76,7 @@ module _ (Judges Judges' : List ℕ → Verdict → Type 0) (HasOutcome HasOutco
       abbrev More : List Session
       More = with_changed (with_packet packet) name before
 
-      kept : (s : Session) → named name before ≡ Some s → (length packet == 4 * s.image.packet) ≡ true → AreGood More
+      kept : (s : Session) → session_named name before ≡ Some s → (length packet == 4 * s.image.packet) ≡ true → AreGood More
       kept s is test =
           good_changed (with_packet packet) name before (λ t is'.
           let long : length packet ≡ 4 * s.image.packet = grind (arith, nat_tests, test) in
@@ -86,13 +86,13 @@ module _ (Judges Judges' : List ℕ → Verdict → Type 0) (HasOutcome HasOutco
       by_room true count more = all
       by_room false count more = more
 
-      by_length : (s : Session) → named name before ≡ Some s → (b : Bool) → (length packet == 4 * s.image.packet) ≡ b
+      by_length : (s : Session) → session_named name before ≡ Some s → (b : Bool) → (length packet == 4 * s.image.packet) ≡ b
           → AreGood (unless_refused (if not b then Refused P1 else if nat_le most_packets (length s.packets) then Refused P3 else Kept (length s.packets))
           before More)
       by_length s is false e = all
       by_length s is true e = by_room (nat_le most_packets (length s.packets)) (length s.packets) (kept s is e)
 
-      by_session : (o : Option Session) → named name before ≡ o → AreGood (unless_refused (answer_to_packet o packet) before More)
+      by_session : (o : Option Session) → session_named name before ≡ o → AreGood (unless_refused (answer_to_packet o packet) before More)
       by_session None e = all
       by_session (Some s) e = by_length s e (length packet == 4 * s.image.packet) refl
 
@@ -113,7 +113,7 @@ module _ (Judges Judges' : List ℕ → Verdict → Type 0) (HasOutcome HasOutco
     good_after long says (Some (ToList code)) before after all asks is = subst AreGood (sym is) all
     good_after long says (Some (ToOpen name text)) before after all asks is = good_image (is_full name before) name text before after all is
     good_after long says (Some (ToKeep name packet)) before after all asks is =
-        subst AreGood (sym is) (by_session name packet (spelled long says name packet asks) before all (named name before) refl)
+        subst AreGood (sym is) (by_session name packet (spelled long says name packet asks) before all (session_named name before) refl)
     good_after long says (Some (ToRun name)) before after all asks is =
         subst AreGood (sym is) (good_changed without_packets name before (λ s named_so. forgets s) all)
     good_after long says (Some ToRunAll) before after all asks is = subst AreGood (sym is) (all_forgotten before all)
@@ -125,7 +125,7 @@ module _ (Judges Judges' : List ℕ → Verdict → Type 0) (HasOutcome HasOutco
     image_so true text a is = is
     image_so false text a (v, judged, is) = (v, verdicts text v judged, is)
 
-    run_so : (name : List ℕ) (before : List Session) (a : Answer) → AreGood before → (o : Option Session) → named name before ≡ o
+    run_so : (name : List ℕ) (before : List Session) (a : Answer) → AreGood before → (o : Option Session) → session_named name before ≡ o
         → IsAnswerToRun HasOutcome o a → IsAnswerToRun HasOutcome' o a
     run_so name before a all None e is = is
     run_so name before a all (Some s) e (os, each, is) = (os, outcomes s os (good_named name before all s e) each, is)
@@ -143,7 +143,7 @@ module _ (Judges Judges' : List ℕ → Verdict → Type 0) (HasOutcome HasOutco
     answer_so (Some (ToList code)) before a all is = is
     answer_so (Some (ToOpen name text)) before a all is = image_so (is_full name before) text a is
     answer_so (Some (ToKeep name packet)) before a all is = is
-    answer_so (Some (ToRun name)) before a all is = run_so name before a all (named name before) refl is
+    answer_so (Some (ToRun name)) before a all is = run_so name before a all (session_named name before) refl is
     answer_so (Some ToRunAll) before a all (runs, each, is) = (runs, runs_so before runs all each, is)
     answer_so (Some (ToDrop name)) before a all is = is
 

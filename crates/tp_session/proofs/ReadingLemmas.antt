@@ -17,7 +17,7 @@ use Rattle.tp_answers.specs.Sessions.{Session}
 use Rattle.tp_answers.specs.Texts.{answer_text}
 use Rattle.tp_session.specs.declared.fault.ServeFault.{ServeFault}
 use Rattle.tp_session.specs.declared.fault.ServeFault.TheVariants.{Read, Write, Memory, Thread}
-use Rattle.tp_session.specs.declared.progress.Progress.{Progress}
+use Rattle.tp_session.specs.declared.partial_line.PartialLine.{PartialLine}
 use Rattle.tp_session.specs.declared.service.Service.{Service}
 use Rattle.tp_session.specs.Protocol.{most_line, next_number}
 use Rattle.tp_session.specs.Served.{AreAnswered, AreWritten, AreWrittenBefore}
@@ -56,7 +56,7 @@ kept_long : (most line bytes kept : ℕ) → kept ≡ min bytes (most - line)
     → (nat_lt most line || nat_lt kept bytes) ≡ nat_lt most (line + bytes)
 kept_long most line bytes kept is = grind (arith, nat_tests, is)
 
-pub kept_whole : (p : Progress) (number : ℕ) (line : List ℕ) → Keeps p number line → p.long ≡ false
+pub kept_whole : (p : PartialLine) (number : ℕ) (line : List ℕ) → Keeps p number line → p.long ≡ false
     → (p.line.items ≡ line) × (nat_lt most_line (length line) ≡ false)
 kept_whole p number line keeps short =
     let test : nat_lt most_line (length line) ≡ false = sym keeps.long_is ∙ short in
@@ -79,14 +79,14 @@ answered_now line says ended before answer after short is (asked, asks, request)
   after_is = request.1;
 }
 
-pub refused_long : (p : Progress) (number : ℕ) (line : List ℕ) (ended : Bool) (sessions : List Session) → Keeps p number line
+pub refused_long : (p : PartialLine) (number : ℕ) (line : List ℕ) (ended : Bool) (sessions : List Session) → Keeps p number line
     → p.long ≡ true → AnswersLine record { bytes = line; ended = ended } sessions (Refused E1) sessions
 refused_long p number line ended sessions keeps long =
     let test : nat_lt most_line (length line) ≡ true = sym keeps.long_is ∙ long in
     record { asked = None; asks = rw test refl; answer_is = refl; after_is = refl }
 
 -- more of a line, of which so much is kept as there is room for
-pub keeps_more : (p q : Progress) (number : ℕ) (line bytes : List ℕ) (kept : ℕ) → Keeps p number line
+pub keeps_more : (p q : PartialLine) (number : ℕ) (line bytes : List ℕ) (kept : ℕ) → Keeps p number line
     → kept ≡ min (length bytes) (most_line - length p.line.items) → q.number ≡ p.number
     → q.line.items ≡ p.line.items ++ take kept bytes
     → q.long ≡ (p.long || nat_lt kept (length bytes)) → Keeps q number (line ++ bytes)
@@ -120,7 +120,7 @@ sent_as old new xs ys e same sent = subst (λ text. IsSentInPart old new text e)
 
 -- ---- from one stand to the next
 
-module _ {D : Type 0} (state : D → DeviceState) (trace : Bool) (begun now : Option (List ℕ)) (p : Progress) (service : Service D)
+module _ {D : Type 0} (state : D → DeviceState) (trace : Bool) (begun now : Option (List ℕ)) (p : PartialLine) (service : Service D)
     (s : Point) (at : IsAt state trace begun p service now s) where
   -- the answer to the line that is being read, and its text
   pub answer_at : (ended : Bool) (answer : Answer) (after : List Session) → AnswersLine (line_now s ended) service.sessions answer after
@@ -184,7 +184,7 @@ module _ {D : Type 0} (state : D → DeviceState) (trace : Bool) (begun now : Op
           },
         )
 
-  pub goes_line : (q : Progress) (service' : Service D) (now' : Option (List ℕ)) (answer : Answer)
+  pub goes_line : (q : PartialLine) (service' : Service D) (now' : Option (List ℕ)) (answer : Answer)
       → AnswersLine (line_now s true) s.sessions answer service'.sessions
       → StaysOn state service service' → Appends now now' (text_now trace s answer) → q.number ≡ next_number p.number
       → q.line.items ≡ [] → q.long ≡ false → GoesOn state trace begun q service' now' (s.taken ++ line_feed ∷ [])
@@ -206,7 +206,7 @@ module _ {D : Type 0} (state : D → DeviceState) (trace : Bool) (begun now : Op
     };
   }
 
-  pub goes_plain : (q : Progress) (bytes : List ℕ) → IsPlain bytes → Keeps q (number_after 1 s.lines) (s.line ++ bytes)
+  pub goes_plain : (q : PartialLine) (bytes : List ℕ) → IsPlain bytes → Keeps q (number_after 1 s.lines) (s.line ++ bytes)
       → GoesOn state trace begun q service now (s.taken ++ bytes)
   goes_plain q bytes plain keeps = record {
     point = with_bytes s bytes;
@@ -236,7 +236,7 @@ module _ {D : Type 0} (state : D → DeviceState) (trace : Bool) (begun now : Op
 
 -- ---- some bytes
 
-pub goes_same : {D : Type 0} (state : D → DeviceState) (trace : Bool) (begun now : Option (List ℕ)) (p : Progress)
+pub goes_same : {D : Type 0} (state : D → DeviceState) (trace : Bool) (begun now : Option (List ℕ)) (p : PartialLine)
     (service : Service D) (xs ys : List ℕ) → xs ≡ ys → GoesOn state trace begun p service now xs
     → GoesOn state trace begun p service now ys
 goes_same state trace begun now p service xs ys e goes = record { point = goes.point; taken_is = goes.taken_is ∙ e; is = goes.is }

@@ -7,7 +7,7 @@ use Rattle.std.proofs.KnownBytes.{Consumes-trans, Consumes-kept, Consumes-nil, A
 use Rattle.tp_link.specs.Device.{DeviceState}
 use Rattle.tp_session.specs.declared.fault.ServeFault.{ServeFault}
 use Rattle.tp_session.specs.declared.fault.ServeFault.TheVariants.{Read, Write, Memory, Thread}
-use Rattle.tp_session.specs.declared.progress.Progress.{Progress}
+use Rattle.tp_session.specs.declared.partial_line.PartialLine.{PartialLine}
 use Rattle.tp_session.specs.declared.service.Service.{Service}
 use Rattle.tp_session.specs.Fitness.{AreFit}
 use Rattle.tp_session.specs.Served.{most_read, AreWrittenBefore, ServesRead, ServesBefore}
@@ -16,7 +16,7 @@ use Rattle.tp_session.proofs.PointLemmas.{told_ended, start, starts}
 
 -- the input so far: where its reading stands
 pub record SoFar {D : Type 0} (state : D → DeviceState) (trace : Bool) (input left begun now : Option (List ℕ))
-    (p : Progress) (service : Service D) : Type 0 where
+    (p : PartialLine) (service : Service D) : Type 0 where
   pub point : Point
   pub read : Consumes input left point.taken
   pub is : IsAt state trace begun p service now point
@@ -39,7 +39,7 @@ still_read input left left' taken n buf none read more =
 pub short_read : (n : ℕ) (buf : List ℕ) → length buf ≡ most_read → length (take n buf) ≤ most_read
 short_read n buf full = omega (arith, full, length-take n buf)
 
-module _ {D : Type 0} (state : D → DeviceState) (trace : Bool) (input left begun now : Option (List ℕ)) (p : Progress)
+module _ {D : Type 0} (state : D → DeviceState) (trace : Bool) (input left begun now : Option (List ℕ)) (p : PartialLine)
     (service : Service D) where
   -- the reader failed
   pub serves_read : (left' : Option (List ℕ)) → SoFar state trace input left begun now p service → KeepsKnown left left'
@@ -51,7 +51,7 @@ module _ {D : Type 0} (state : D → DeviceState) (trace : Bool) (input left beg
   }
 
   -- some bytes more were taken
-  pub so_far_more : (left' now' : Option (List ℕ)) (q : Progress) (service' : Service D) (bytes : List ℕ)
+  pub so_far_more : (left' now' : Option (List ℕ)) (q : PartialLine) (service' : Service D) (bytes : List ℕ)
       (so_far : SoFar state trace input left begun now p service) → Consumes left left' bytes
       → GoesOn state trace begun q service' now' (so_far.point.taken ++ bytes)
       → SoFar state trace input left' begun now' q service'
@@ -86,7 +86,7 @@ module _ (trace : Bool) (bytes taken : List ℕ) (last : ℕ) (begun now : Optio
   serves_some is = by Write is
 
 -- nothing was taken yet
-pub nothing_taken : {D : Type 0} (state : D → DeviceState) (trace : Bool) (left begun : Option (List ℕ)) (p : Progress)
+pub nothing_taken : {D : Type 0} (state : D → DeviceState) (trace : Bool) (left begun : Option (List ℕ)) (p : PartialLine)
     (service : Service D) → Keeps p 1 [] → (service.sessions ≡ []) × (service.trace ≡ trace)
     → AreFit state service.links.items → SoFar state trace left left begun begun p service
 nothing_taken state trace left begun p service keeps new fit = record {

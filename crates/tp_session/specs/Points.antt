@@ -7,7 +7,7 @@ use Rattle.tp_requests.specs.Lines.{Line, line_feed, lines_of}
 use Rattle.tp_requests.specs.Parts.{IsWithout}
 use Rattle.tp_session.specs.declared.fault.ServeFault.{ServeFault}
 use Rattle.tp_session.specs.declared.fault.ServeFault.TheVariants.{Read, Write, Memory, Thread}
-use Rattle.tp_session.specs.declared.progress.Progress.{Progress}
+use Rattle.tp_session.specs.declared.partial_line.PartialLine.{PartialLine}
 use Rattle.tp_session.specs.declared.service.Service.{Service}
 use Rattle.tp_answers.specs.Sessions.{Session}
 use Rattle.tp_answers.specs.Rules.{IsVerdict, IsOutcome}
@@ -40,15 +40,15 @@ pub record HasReached (trace : Bool) (s : Point) : Type 0 where
   pub plain : IsPlain s.line
   pub answered : AreAnswers IsVerdict IsOutcome trace 1 [] s.lines s.output s.sessions
 
--- The progress that is kept: of a line that is too long, its first bytes.
-pub record Keeps (p : Progress) (number : ℕ) (line : List ℕ) : Type 0 where
+-- The partial that is kept: of a line that is too long, its first bytes.
+pub record Keeps (p : PartialLine) (number : ℕ) (line : List ℕ) : Type 0 where
   pub number_is : p.number ≡ number
   pub line_is : p.line.items ≡ take most_line line
   pub long_is : p.long ≡ nat_lt most_line (length line)
 
 -- What is kept, and what was written since a beginning, is that of a point.
 pub record IsAt {D : Type 0} (state : D → DeviceState) (trace : Bool) (begun : Option (List ℕ))
-    (p : Progress) (service : Service D) (now : Option (List ℕ)) (s : Point) : Type 0 where
+    (p : PartialLine) (service : Service D) (now : Option (List ℕ)) (s : Point) : Type 0 where
   pub reached : HasReached trace s
   pub keeps : Keeps p (number_after 1 s.lines) s.line
   pub sessions : service.sessions ≡ s.sessions
@@ -57,7 +57,7 @@ pub record IsAt {D : Type 0} (state : D → DeviceState) (trace : Bool) (begun :
   pub wrote : Appends begun now s.output
 
 -- it is so of each point that this may be
-abbrev pub AtEachPoint : {D : Type 0} → (D → DeviceState) → Progress → Service D → (now : Option (List ℕ))
+abbrev pub AtEachPoint : {D : Type 0} → (D → DeviceState) → PartialLine → Service D → (now : Option (List ℕ))
     → (Bool → Option (List ℕ) → Point → Type 0) → Type 0
 AtEachPoint state p service now says =
     (trace : Bool) (begun : Option (List ℕ)) (s : Point) → IsAt state trace begun p service now s → says trace begun s
@@ -75,7 +75,7 @@ Fails trace input taken last begun now Read = ⊥
 
 -- one point further, by these bytes
 pub record GoesOn {D : Type 0} (state : D → DeviceState) (trace : Bool) (begun : Option (List ℕ))
-    (p : Progress) (service : Service D) (now : Option (List ℕ)) (taken : List ℕ) : Type 0 where
+    (p : PartialLine) (service : Service D) (now : Option (List ℕ)) (taken : List ℕ) : Type 0 where
   pub point : Point
   pub taken_is : point.taken ≡ taken
   pub is : IsAt state trace begun p service now point

@@ -8,7 +8,7 @@
 mod farm;
 mod fault;
 pub mod laws;
-mod progress;
+mod partial_line;
 mod reading;
 mod running;
 mod service;

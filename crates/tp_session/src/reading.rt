@@ -11,7 +11,7 @@ ghost use Rattle.tp_session.specs.Points.{Keeps, AtEachPoint, GoesOn, Begins, Fa
 
 use crate::MAX_LINE;
 use crate::fault::ServeFault;
-use crate::progress::Progress;
+use crate::partial_line::PartialLine;
 use crate::service::Service;
 use std::alloc::{AllocError, Global};
 use std::io::Write;
@@ -22,10 +22,10 @@ use tp_link::LinkDevice;
 use tp_requests::split_once;
 
 /// The beginning of an input.
-pub(crate) fn begin(alloc: Global) -> Progress
+pub(crate) fn begin(alloc: Global) -> PartialLine
     ensures { Keeps result 1 [] }
 {
-    Progress {
+    PartialLine {
         number: 1,
         line: Vec::new(alloc),
         long: false,
@@ -49,20 +49,20 @@ fn answer<R: Threads + Wait + Sync, D: LinkDevice + Send>(
     service: &mut Service<D>,
     rt: &R,
     alloc: Global,
-    progress: &Progress,
+    partial: &PartialLine,
     ended: bool,
 ) -> Result<Answer, ServeFault>
     requires { HasMembers service.old.links.items }
     ensures answer { AreFit D.state service.old.links.items → (number : ℕ) (line : List ℕ) →
-        Keeps progress.now number line → IfOk result (λ answer.
+        Keeps partial.now number line → IfOk result (λ answer.
         AnswersLine record { bytes = line; ended = ended } service.old.sessions answer service.new.sessions) }
     ensures stays { OnOk result (StaysOn D.state service.old service.new) }
     ensures want { IfErr result IsResourceFault }
 {
-    if progress.long {
+    if partial.long {
         return Ok(Answer::Refused(LineFault::E1));
     }
-    let line = progress.line.as_slice();
+    let line = partial.line.as_slice();
     if ended {
         service.answer_line(rt, alloc, without_return(line))
     } else {
@@ -124,53 +124,53 @@ fn send<W: Write>(
 
 /// Answers the line that is being read, which a line feed has ended, and begins the next.
 fn end_line<R: Threads + Wait + Sync, D: LinkDevice + Send, W: Write>(
-    progress: &mut Progress,
+    partial: &mut PartialLine,
     service: &mut Service<D>,
     rt: &R,
     alloc: Global,
     writer: &mut W,
 ) -> Result<(), ServeFault>
     requires { HasMembers service.old.links.items }
-    ensures ok { AtEachPoint D.state progress.old service.old (W.contents writer.old) (λ trace begun s.
+    ensures ok { AtEachPoint D.state partial.old service.old (W.contents writer.old) (λ trace begun s.
         OnOk result
-        (GoesOn D.state trace begun progress.new service.new (W.contents writer.new) (s.taken ++ 10 ∷ []))) }
-    ensures err { AtEachPoint D.state progress.old service.old (W.contents writer.old)
+        (GoesOn D.state trace begun partial.new service.new (W.contents writer.new) (s.taken ++ 10 ∷ []))) }
+    ensures err { AtEachPoint D.state partial.old service.old (W.contents writer.old)
         (λ trace begun s. (input : List ℕ) →
         Begins input (s.taken ++ 10 ∷ []) → IfErr result (Fails trace input (s.taken ++ 10 ∷ []) 1 begun
         (W.contents writer.new))) }
     ensures members { OnOk result (AreAsMany service.old.links.items service.new.links.items) }
 {
-    let answer = answer(service, rt, alloc, progress, true)?;
+    let answer = answer(service, rt, alloc, partial, true)?;
     send(
         writer,
-        &mut progress.room,
+        &mut partial.room,
         alloc,
         service.trace,
-        progress.number,
+        partial.number,
         &answer,
     )?;
-    progress.line.clear();
-    progress.long = false;
-    progress.number = progress.number.saturating_add(1);
+    partial.line.clear();
+    partial.long = false;
+    partial.number = partial.number.saturating_add(1);
     Ok(())
 }
 
 /// Takes more of the line that is being read.
-fn take_plain(progress: &mut Progress, bytes: &[u8]) -> Result<(), AllocError>
-    ensures kept { (number : ℕ) (line : List ℕ) → Keeps progress.old number line →
-        OnOk result (Keeps progress.new number (line ++ bytes.now)) }
+fn take_plain(partial: &mut PartialLine, bytes: &[u8]) -> Result<(), AllocError>
+    ensures kept { (number : ℕ) (line : List ℕ) → Keeps partial.old number line →
+        OnOk result (Keeps partial.new number (line ++ bytes.now)) }
 {
-    let kept = bytes.len().min(MAX_LINE - progress.line.len());
-    progress.line.extend_from_slice(&bytes[..kept])?;
+    let kept = bytes.len().min(MAX_LINE - partial.line.len());
+    partial.line.extend_from_slice(&bytes[..kept])?;
     if kept < bytes.len() {
-        progress.long = true;
+        partial.long = true;
     }
     Ok(())
 }
 
 /// Takes some bytes of the input, and answers the lines that they end.
 pub(crate) fn feed<R: Threads + Wait + Sync, D: LinkDevice + Send, W: Write>(
-    progress: &mut Progress,
+    partial: &mut PartialLine,
     service: &mut Service<D>,
     rt: &R,
     alloc: Global,
@@ -178,10 +178,10 @@ pub(crate) fn feed<R: Threads + Wait + Sync, D: LinkDevice + Send, W: Write>(
     bytes: &[u8],
 ) -> Result<(), ServeFault>
     requires { HasMembers service.old.links.items }
-    ensures ok { AtEachPoint D.state progress.old service.old (W.contents writer.old) (λ trace begun s.
+    ensures ok { AtEachPoint D.state partial.old service.old (W.contents writer.old) (λ trace begun s.
         OnOk result
-        (GoesOn D.state trace begun progress.new service.new (W.contents writer.new) (s.taken ++ bytes.now))) }
-    ensures err { AtEachPoint D.state progress.old service.old (W.contents writer.old)
+        (GoesOn D.state trace begun partial.new service.new (W.contents writer.new) (s.taken ++ bytes.now))) }
+    ensures err { AtEachPoint D.state partial.old service.old (W.contents writer.old)
         (λ trace begun s. (input : List ℕ) →
         Begins input (s.taken ++ bytes.now) →
         IfErr result (Fails trace input (s.taken ++ bytes.now) (length bytes.now) begun (W.contents writer.new))) }
@@ -189,38 +189,38 @@ pub(crate) fn feed<R: Threads + Wait + Sync, D: LinkDevice + Send, W: Write>(
 {
     let mut rest = bytes;
     while let Some((line, behind)) = split_once(rest, b'\n') {
-        take_plain(progress, line)?;
-        end_line(progress, service, rt, alloc, writer)?;
+        take_plain(partial, line)?;
+        end_line(partial, service, rt, alloc, writer)?;
         rest = behind;
     }
-    take_plain(progress, rest)?;
+    take_plain(partial, rest)?;
     Ok(())
 }
 
 /// Answers what is left at the end of the input.
 pub(crate) fn finish<R: Threads + Wait + Sync, D: LinkDevice + Send, W: Write>(
-    progress: &mut Progress,
+    partial: &mut PartialLine,
     service: &mut Service<D>,
     rt: &R,
     alloc: Global,
     writer: &mut W,
 ) -> Result<(), ServeFault>
     requires { HasMembers service.old.links.items }
-    ensures ok { AtEachPoint D.state progress.old service.old (W.contents writer.old) (λ trace begun s.
+    ensures ok { AtEachPoint D.state partial.old service.old (W.contents writer.old) (λ trace begun s.
         OnOk result (AreWritten trace (lines_of s.taken) begun (W.contents writer.new))) }
-    ensures err { AtEachPoint D.state progress.old service.old (W.contents writer.old) (λ trace begun s.
+    ensures err { AtEachPoint D.state partial.old service.old (W.contents writer.old) (λ trace begun s.
         IfErr result (Fails trace s.taken s.taken 0 begun (W.contents writer.new))) }
 {
-    if progress.line.is_empty() {
+    if partial.line.is_empty() {
         return Ok(());
     }
-    let answer = answer(service, rt, alloc, progress, false)?;
+    let answer = answer(service, rt, alloc, partial, false)?;
     send(
         writer,
-        &mut progress.room,
+        &mut partial.room,
         alloc,
         service.trace,
-        progress.number,
+        partial.number,
         &answer,
     )
 }

@@ -3,7 +3,7 @@
 ghost use Rattle.std.specs.Prelude.{◌≡◌, ◌≤◌, ◌<◌, ◌+◌, ◌%◌, ◌^◌, [], Some, map, length, slice_get, slice_set, IfOk};
 ghost use Rattle.std.specs.Prelude.{IfErr, OnOk};
 ghost use Rattle.tp_requests.specs.Requests.{asked};
-ghost use Rattle.tp_answers.specs.Sessions.{Session, named, with_changed, without_packets};
+ghost use Rattle.tp_answers.specs.Sessions.{Session, session_named, with_changed, without_packets};
 ghost use Rattle.tp_answers.specs.Rules.{IsOutcome};
 ghost use Rattle.tp_answers.specs.Answers.{AreOutcomes, IsAnswerToRun, IsAnswerToRunAll};
 ghost use Rattle.tp_session.specs.Protocol.{most_line};
@@ -83,7 +83,7 @@ impl<D: LinkDevice + Send> Service<D> {
     ) -> Result<Answer, ServeFault>
         requires { HasMembers self.old.links.items }
         ensures answer { AreFit D.state self.old.links.items →
-            IfOk result (IsAnswerToRun IsOutcome (named name.now.items self.old.sessions)) }
+            IfOk result (IsAnswerToRun IsOutcome (session_named name.now.items self.old.sessions)) }
         ensures sessions { OnOk result
             (self.new.sessions ≡ with_changed without_packets name.now.items self.old.sessions) }
         ensures stays { OnOk result (StaysOn D.state self.old self.new) }

@@ -23,6 +23,15 @@ const READ_SIZE: usize = 4096;
 /// input that is not empty is a line. The answer to a line is built whole, then written and flushed. Where a growth or
 /// a thread is refused, or the reader or the writer fails, serving ends with that fault. It waits for its members while
 /// packets are run.
+///
+/// ```
+/// let mut media = media_of(alloc, 1, 256)?;
+/// let farm = Farm::new(boxed(alloc, &mut media)?, false);
+/// let mut reader = b"LIST 604F\nHELLO\n".as_slice();
+/// let mut writer = Vec::new(alloc);
+/// serve(&rt, alloc, &mut reader, &mut writer, farm)?;
+/// assert_eq!(writer.as_slice(), b"0 604f ldc -1\nDONE 1\nNO E1 2\n");
+/// ```
 pub fn serve<T: Threads + Wait + Sync, D: LinkDevice + Send, R: Read, W: Write>(
     rt: &T,
     alloc: Global,
@@ -42,17 +51,17 @@ pub fn serve<T: Threads + Wait + Sync, D: LinkDevice + Send, R: Read, W: Write>(
         (R.remaining reader.old) (W.contents writer.old) (W.contents writer.new) }
 {
     let mut service = Service::new(alloc, farm.links, farm.trace);
-    let mut progress = begin(alloc);
+    let mut partial = begin(alloc);
     let mut buffer = [0; READ_SIZE];
     for _ in rt.forever() {
         let Ok(count) = reader.read(&mut buffer) else {
             return Err(ServeFault::Read);
         };
         if count == 0 {
-            return finish(&mut progress, &mut service, rt, alloc, writer);
+            return finish(&mut partial, &mut service, rt, alloc, writer);
         }
         feed(
-            &mut progress,
+            &mut partial,
             &mut service,
             rt,
             alloc,

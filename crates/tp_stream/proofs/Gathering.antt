@@ -9,7 +9,7 @@ use mathlib.Core.Option.{some, some-injective}
 use lib.ListN.{get_elem?}
 use Rattle.tp_board.specs.Counting.{times, once_below, AreBelow}
 use Rattle.tp_board.specs.Ledgers.{join_of_all}
-use Rattle.tp_stream.specs.Queues.{joined, LeftAt, TookRest}
+use Rattle.tp_stream.specs.Queues.{join_of_passes, LeftAt, TookRest}
 use Rattle.tp_board.specs.Runs.{numbers_from}
 use Rattle.tp_stream.specs.Streams.{HandView, hand_seen, seen_of, Agrees, IsLeft}
 use Rattle.tp_board.specs.Views.{join_of, all_drawn}
@@ -22,12 +22,12 @@ use Rattle.tp_board.proofs.Steps.{Whole}
 
 -- ---- joining
 pub seen_join : (t u : PassView) (p q : View) (ns ms : List ℕ)
-    → join_of (seen_of t p ns) (seen_of u q ms) ≡ seen_of (joined t u) (join_of p q) (ns ++ ms)
+    → join_of (seen_of t p ns) (seen_of u q ms) ≡ seen_of (join_of_passes t u) (join_of p q) (ns ++ ms)
 seen_join t u p q ns ms =
     let long = length-append t.popped u.popped in
     let steps : length t.popped + t.ended + p.steps + (length u.popped + u.ended + q.steps) ≡ length (t.popped ++ u.popped) +
     (t.ended + u.ended) + (p.steps + q.steps) = omega arith in
-    ap (λ (k : ℕ). record (seen_of (joined t u) (join_of p q) (ns ++ ms)) { steps = k }) steps
+    ap (λ (k : ℕ). record (seen_of (join_of_passes t u) (join_of p q) (ns ++ ms)) { steps = k }) steps
 
 pub agrees_join : (v u : View) → Agrees v → Agrees u → Agrees (join_of v u)
 agrees_join v u a b = record {

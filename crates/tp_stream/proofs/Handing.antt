@@ -17,10 +17,10 @@ use Rattle.tp_board.specs.declared.source.Work.TheVariants as work
 use Rattle.tp_board.specs.declared.view.View.{View}
 use Rattle.tp_board.specs.Calls.{MadeStep, made, Makes, sees_no_stop, sees_stop}
 use Rattle.tp_board.specs.Counting.{times, hand_list}
-use Rattle.tp_stream.specs.Queues.{took, IsNext}
+use Rattle.tp_stream.specs.Queues.{after_take, IsNext}
 use Rattle.tp_board.specs.Sources.{progress_of, claim_of, NextSays, IsAnswerable, HasBytes}
 use Rattle.tp_board.specs.Views.{first_of}
-use Rattle.tp_stream.specs.Tallies.{holding}
+use Rattle.tp_stream.specs.Tallies.{with_numbers}
 use Rattle.tp_board.specs.Steps.{with_number, with_end, after_draw, after_finish, after_abandon, after_look}
 use Rattle.tp_stream.specs.Streams.{seen_of, Agrees, IsHand, NextAfter, NextMakes}
 use Rattle.tp_board.proofs.Counting.{times-append}
@@ -37,7 +37,7 @@ none_of (Some x) h = absurd (h x refl)
 
 -- ---- a pop, after a look that found no stop
 popped_hand : (t : PassView) (p : View) (ended stop_seen : Bool) (n : ℕ) → IsHand t p None ended stop_seen → p.seen.stop ≡ 0
-    → IsNext t (Number n) → IsHand (took t (Number n)) (after_look p shown.Stop 0) (Some n) ended stop_seen
+    → IsNext t (Number n) → IsHand (after_take t (Number n)) (after_look p shown.Stop 0) (Some n) ended stop_seen
 popped_hand t p ended stop_seen n ok none next =
     let a = ok.agrees in
     let long = length-append t.popped (n ∷ []) in record {
@@ -60,15 +60,15 @@ popped_hand t p ended stop_seen n ok none next =
     }
 
 pub hand_popped : (t u : PassView) (p q : View) (number : Option ℕ) (ended stop_seen : Bool) (n r : ℕ) → number ≡ None
-    → IsHand t p number ended stop_seen → p.seen.stop ≡ 0 → r ≡ 0 → q ≡ after_look p shown.Stop r → u ≡ took t (Number n)
+    → IsHand t p number ended stop_seen → p.seen.stop ≡ 0 → r ≡ 0 → q ≡ after_look p shown.Stop r → u ≡ after_take t (Number n)
     → IsNext t (Number n) → IsHand u q (Some n) ended stop_seen
 hand_popped t u p q number ended stop_seen n r empty ok none was looked is next =
     subst (λ u. IsHand u q (Some n) ended stop_seen) (sym is)
-    (subst (λ q. IsHand (took t (Number n)) q (Some n) ended stop_seen) (sym (looked ∙ ap (after_look p shown.Stop) was))
+    (subst (λ q. IsHand (after_take t (Number n)) q (Some n) ended stop_seen) (sym (looked ∙ ap (after_look p shown.Stop) was))
     (popped_hand t p ended stop_seen n (subst (λ m. IsHand t p m ended stop_seen) empty ok) none next))
 
 seen_number : (t : PassView) (p : View) (n : ℕ) → n < t.packets
-    → seen_of (took t (Number n)) (after_look p shown.Stop 0) (n ∷ []) ≡ after_draw (after_look (seen_of t p []) shown.Stop 0) n
+    → seen_of (after_take t (Number n)) (after_look p shown.Stop 0) (n ∷ []) ≡ after_draw (after_look (seen_of t p []) shown.Stop 0) n
 seen_number t p n below =
     let v = after_look (seen_of t p []) shown.Stop 0 in
     let long = length-append t.popped (n ∷ []) in
@@ -78,7 +78,7 @@ seen_number t p n below =
     ∙ ap (λ (b : Bool). if b then with_number v n else with_end v) (sym (lt-ltb n t.packets below))
 
 seen_end : (t : PassView) (p : View) (n : ℕ) → t.packets ≤ n
-    → seen_of (took t End) (after_look p shown.Stop 0) [] ≡ after_draw (after_look (seen_of t p []) shown.Stop 0) n
+    → seen_of (after_take t End) (after_look p shown.Stop 0) [] ≡ after_draw (after_look (seen_of t p []) shown.Stop 0) n
 seen_end t p n above =
     let v = after_look (seen_of t p []) shown.Stop 0 in
     let steps : length t.popped + (t.ended + 1) + (p.steps + 1) ≡ length t.popped + t.ended + p.steps + 1 + 1 = omega arith in
@@ -91,7 +91,7 @@ NoStop p = (p.seen.stop ≤ 0) × (min 1 p.stop_callers ≤ 0) × (0 ≤ 1)
 number_made : (t : PassView) (p : View) (ended stop_seen : Bool) (n : ℕ) → IsHand t p None ended stop_seen → t.ended ≡ 0 → NoStop p
     → IsNext t (Number n)
     → Makes (seen_of t p []) (sees_no_stop ∷ made event.Claim n (reply.Number n) ∷ [])
-    (seen_of (took t (Number n)) (after_look p shown.Stop 0) (n ∷ []))
+    (seen_of (after_take t (Number n)) (after_look p shown.Stop 0) (n ∷ []))
 number_made t p ended stop_seen n ok going fresh next =
     let unclaimed = ok.no_claim in
     let below = next.0 in
@@ -109,7 +109,7 @@ number_made t p ended stop_seen n ok going fresh next =
 
 end_made : (t : PassView) (p : View) (ended stop_seen : Bool) → IsHand t p None ended stop_seen → t.ended ≡ 0 → NoStop p
     → Makes (seen_of t p []) (sees_no_stop ∷ made event.Claim t.packets reply.NoMore ∷ [])
-    (seen_of (took t End) (after_look p shown.Stop 0) [])
+    (seen_of (after_take t End) (after_look p shown.Stop 0) [])
 end_made t p ended stop_seen ok going fresh =
     let unclaimed = ok.no_claim in
     let few = ok.few_popped in (
@@ -130,13 +130,13 @@ module _ (t u : PassView) (p q : View) (number : Option ℕ) (ended stop_seen : 
   no_stop : NoStop p
   no_stop = let a = fresh.0 in let b = fresh.1 in (omega arith, omega arith, omega arith)
 
-  pub says_number : (n : ℕ) (numbers : List ℕ) → numbers ≡ n ∷ [] → u ≡ took t (Number n) → IsNext t (Number n)
+  pub says_number : (n : ℕ) (numbers : List ℕ) → numbers ≡ n ∷ [] → u ≡ after_take t (Number n) → IsNext t (Number n)
       → Makes (seen_of t p (hand_list number)) (sees_no_stop ∷ made event.Claim n (reply.Number n) ∷ []) (seen_of u q numbers)
   says_number n numbers has is next =
       rw (has, is, looked, was, empty)
       (number_made t p ended stop_seen n (subst (λ m. IsHand t p m ended stop_seen) empty ok) going no_stop next)
 
-  pub says_end : u ≡ took t End → Makes (seen_of t p (hand_list number))
+  pub says_end : u ≡ after_take t End → Makes (seen_of t p (hand_list number))
       (sees_no_stop ∷ made event.Claim t.packets reply.NoMore ∷ []) (seen_of u q (hand_list number))
   says_end is =
       rw (is, looked, was, empty)
@@ -317,13 +317,13 @@ hand_reported t p number ended stop_seen n done lost full adds ok = record {
 }
 
 pub hand_finished : (t : PassView) (p q : View) (number : Option ℕ) (ended stop_seen : Bool) (n : ℕ) → number ≡ Some n
-    → q ≡ after_finish (holding p (n ∷ [])) → IsHand t p number ended stop_seen → IsHand t q None ended stop_seen
+    → q ≡ after_finish (with_numbers p (n ∷ [])) → IsHand t p number ended stop_seen → IsHand t q None ended stop_seen
 hand_finished t p q number ended stop_seen n full is ok =
     subst (λ (q : View). IsHand t q None ended stop_seen) (sym is)
     (hand_reported t p number ended stop_seen n (p.finished ++ n ∷ []) p.abandoned full (to_finished p (n ∷ [])) ok)
 
 pub hand_abandoned : (t : PassView) (p q : View) (number : Option ℕ) (ended stop_seen : Bool) (n : ℕ) → number ≡ Some n
-    → q ≡ after_abandon (holding p (n ∷ [])) → IsHand t p number ended stop_seen → IsHand t q None ended stop_seen
+    → q ≡ after_abandon (with_numbers p (n ∷ [])) → IsHand t p number ended stop_seen → IsHand t q None ended stop_seen
 hand_abandoned t p q number ended stop_seen n full is ok =
     subst (λ (q : View). IsHand t q None ended stop_seen) (sym is)
     (hand_reported t p number ended stop_seen n p.finished (p.abandoned ++ n ∷ []) full (to_abandoned p (n ∷ [])) ok)

@@ -13,7 +13,7 @@ use Rattle.tp_board.specs.Rule.{total}
 use Rattle.tp_stream.specs.declared.queue.Item.{Item}
 use Rattle.tp_stream.specs.declared.queue.Item.TheVariants.{Number, End}
 use Rattle.tp_stream.specs.declared.queue.PassView.{PassView}
-use Rattle.tp_stream.specs.Queues.{first, feeder, hand, nobody, without_one, joined, put, took, Took, item_of, MayPut, queue}
+use Rattle.tp_stream.specs.Queues.{first, feeder, hand, nobody, without_one, join_of_passes, put, after_take, Took, item_of, MayPut, queue}
 use Rattle.tp_stream.specs.Queues.{FitsQueue, Streamed, Waits, Left, LeftAt, TookRest}
 use Rattle.tp_board.proofs.Counting.{times-append, once_more}
 use Rattle.tp_board.proofs.Totals.{le_total, others_none, all_of, each_set, each_snoc, Exchange, Goes, one_changed, one_cut, two_joined}
@@ -255,8 +255,8 @@ module _ where
       let kind : x ≡ Number r.drawn = ap (heads x) is in
       let rest : items ≡ queue (r.drawn + 1) (r.pushed - (r.drawn + 1)) (r.marks - r.ended) = ap tails is in
       subst (Taken items views id v) (sym kind) (
-        took v (Number r.drawn),
-        stepped (x ∷ items) views id v r at items (took v (Number r.drawn)) (r.drawn + 1) r.pushed r.marks r.ended
+        after_take v (Number r.drawn),
+        stepped (x ∷ items) views id v r at items (after_take v (Number r.drawn)) (r.drawn + 1) r.pushed r.marks r.ended
             refl refl refl refl refl
             (λ x. let c = times-append x v.popped (r.drawn ∷ []) in let d = once_more x r.drawn in omega arith) (omega arith)
             (record { sizes = mine.sizes; fed = mine.fed; idle = (λ e. absurd (omega arith)) })
@@ -292,8 +292,8 @@ module _ where
       let rest : items ≡ queue r.drawn (r.pushed - r.drawn) (r.marks - (r.ended + 1)) =
       ap tails is ∙ ap (λ k. queue r.drawn k (r.marks - (r.ended + 1))) (sym none) in
       subst (Taken items views id v) (sym kind) (
-        took v End,
-        stepped (x ∷ items) views id v r at items (took v End) r.drawn r.pushed r.marks (r.ended + 1)
+        after_take v End,
+        stepped (x ∷ items) views id v r at items (after_take v End) r.drawn r.pushed r.marks (r.ended + 1)
             refl refl refl refl (omega arith) (λ x. refl) refl
             (record { sizes = mine.sizes; fed = mine.fed; idle = (λ e. absurd (omega arith)) })
             (record {
@@ -406,9 +406,9 @@ module _ where
         idle = g.idle;
       })
 
-  pub merges : (id : ℕ) (v : PassView) (other : ℕ) (u : PassView) → 0 < v.parts → Merges Streamed id v other u (joined v u) nobody
+  pub merges : (id : ℕ) (v : PassView) (other : ℕ) (u : PassView) → 0 < v.parts → Merges Streamed id v other u (join_of_passes v u) nobody
   merges id v other u some_part items views r at apart there =
-      let b = joined v u in let vs = set views id b in
+      let b = join_of_passes v u in let vs = set views id b in
       let mine = r.fits id v at in
       let theirs = r.fits other u (still_there views id b other u apart there) in
       let popped = length-append v.popped u.popped in

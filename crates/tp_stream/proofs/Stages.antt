@@ -11,7 +11,7 @@ use Rattle.tp_board.specs.Counting.{times, once_below}
 use Rattle.tp_stream.specs.Queues.{queue}
 use Rattle.tp_board.specs.Rule.{total, Fits}
 use Rattle.tp_board.specs.Runs.{numbers_from}
-use Rattle.tp_stream.specs.Stages.{HandState, hand_seen, KeepsStream, pops, pushed, queued, QueueLaw, StreamIsBoardLaw}
+use Rattle.tp_stream.specs.Stages.{HandState, hand_seen, KeepsStream, pops, pushes, numbers_held, QueueLaw, StreamIsBoardLaw}
 use Rattle.tp_board.specs.Views.{all_drawn}
 use Rattle.tp_board.specs.Words.{size, counters}
 use Rattle.tp_board.proofs.Counting.{times-append}
@@ -114,11 +114,11 @@ stand_law packets members items words stands h =
     )
 
 -- ---- what the queue holds
-queued_marks : (marks : ℕ) → queued (replicate marks End) ≡ []
+queued_marks : (marks : ℕ) → numbers_held (replicate marks End) ≡ []
 queued_marks zero = refl
 queued_marks (suc marks) = queued_marks marks
 
-queued_line : (from count marks : ℕ) → queued (queue from count marks) ≡ numbers_from from count
+queued_line : (from count marks : ℕ) → numbers_held (queue from count marks) ≡ numbers_from from count
 queued_line from zero marks = queued_marks marks
 queued_line from (suc count) marks = ap (λ l. from ∷ l) (queued_line (from + 1) count marks)
 
@@ -126,12 +126,12 @@ pub queue_law : QueueLaw
 queue_law packets members items words stands h =
     let r = h.queue in
     let views = map hand_seen stands in
-    let count : r.drawn + (r.pushed - r.drawn) ≡ pushed stands =
+    let count : r.drawn + (r.pushed - r.drawn) ≡ pushes stands =
     (let a = r.behind in let b = total_map (λ (t : PassView). t.pushed) (λ (s : HandState). s.turn) stands in let c =
     r.pushed_is in omega arith) in
-    let held : queued items ≡ numbers_from r.drawn (r.pushed - r.drawn) =
-    ap queued r.in_line ∙ queued_line r.drawn (r.pushed - r.drawn) (r.marks - r.ended) in
-    λ x. let a = times-append x (all_drawn views) (queued items) in
+    let held : numbers_held items ≡ numbers_from r.drawn (r.pushed - r.drawn) =
+    ap numbers_held r.in_line ∙ queued_line r.drawn (r.pushed - r.drawn) (r.marks - r.ended) in
+    λ x. let a = times-append x (all_drawn views) (numbers_held items) in
     let b = ap (times x) held in
     let c = times_gathered (λ (v : View). v.drawn) x views in
     let d = total_map (λ (v : View). times x v.drawn) hand_seen stands in

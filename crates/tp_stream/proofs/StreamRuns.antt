@@ -10,12 +10,12 @@ use Rattle.tp_stream.specs.declared.queue.Item.{Item}
 use Rattle.tp_stream.specs.declared.queue.PassView.{PassView}
 use Rattle.tp_board.specs.Counting.{times}
 use Rattle.tp_stream.specs.Tallies.{FitsTally, TallyRule}
-use Rattle.tp_board.specs.Farm.{Farm, opening_farm, step}
-use Rattle.tp_board.specs.FarmOf.{farm_of, IsSame}
+use Rattle.tp_board.specs.CoreState.{CoreState, opening_core, step}
+use Rattle.tp_board.specs.CoreOf.{core_of, IsSame}
 use Rattle.tp_stream.specs.Queues.{feeder, hand, Streamed, FitsQueue}
-use Rattle.tp_board.specs.Runs.{farm_after, replies, numbers_from}
+use Rattle.tp_board.specs.Runs.{core_after, replies, numbers_from}
 use Rattle.tp_stream.specs.Stages.{HandState, hand_seen, IsHandState, pops, IsAtWords, WordLaw}
-use Rattle.tp_stream.specs.StreamRuns.{StreamStep, push, pop, at_words, Stage, stage, KeepsStage, farm_at, no_hand_state}
+use Rattle.tp_stream.specs.StreamRuns.{StreamStep, push, pop, at_words, Stage, stage, KeepsStage, core_at, no_hand_state}
 use Rattle.tp_stream.specs.StreamRuns.{hand_state_at, MayPop, MayMake, stage_after, event_of, reply_to, IsStreamSchedule}
 use Rattle.tp_stream.specs.StreamRuns.{stage_at_end, events_of, stream_replies, StreamScheduleLaw, opening_hand_states}
 use Rattle.tp_stream.specs.StreamRuns.{StreamOpeningLaw}
@@ -49,8 +49,8 @@ stand_there (s ∷ ss) (suc id) one = stand_there ss id one
 abbrev One : ℕ → ℕ → Stage → ℕ × StreamStep → Type 0
 One packets members g e =
     KeepsStage packets members (stage_after g e)
-    × IsSame (farm_at packets members (stage_after g e)) (farm_after (farm_at packets members g) (event_of e))
-    × (reply_to g e ≡ replies (farm_at packets members g) (event_of e))
+    × IsSame (core_at packets members (stage_after g e)) (core_after (core_at packets members g) (event_of e))
+    × (reply_to g e ≡ replies (core_at packets members g) (event_of e))
 
 pop_made : (packets members id : ℕ) (items : List Item) (words : List ℕ) (stands : List HandState)
     → KeepsStage packets members (stage items words stands)
@@ -61,49 +61,49 @@ pop_made packets members id (x ∷ items) words stands h there may =
     let law =
     pop_law packets members x items words stands id (slice_index_or stands id no_hand_state) h
     (stand_there stands id there) may in
-    (law.1.rule, law.1.made.farm, ap (λ r. r ∷ []) (sym law.1.made.answered))
+    (law.1.rule, law.1.made.core_state, ap (λ r. r ∷ []) (sym law.1.made.answered))
 
 step_made : (packets members : ℕ) (g : Stage) (e : ℕ × StreamStep) → KeepsStage packets members g → MayMake g e
     → One packets members g e
 step_made packets members g (id, push) h (there, may) =
     let k = size packets (members + 1) in
     let law = push_law packets members g.items g.words g.stands id (hand_state_at g id) h (stand_there g.stands id there) may in
-    let same : farm_at packets members (stage_after g (id, push)) ≡ farm_at packets members g =
-    ap (λ n. farm_of k (n ∷ g.words) (map hand_seen (stage_after g (id, push)).stands)) law.1
-    ∙ ap (farm_of k (pops g.stands ∷ g.words)) law.2 in
-    (law.0, subst (λ f. IsSame f (farm_at packets members g)) (sym same) (same_self (farm_at packets members g)), refl)
+    let same : core_at packets members (stage_after g (id, push)) ≡ core_at packets members g =
+    ap (λ n. core_of k (n ∷ g.words) (map hand_seen (stage_after g (id, push)).stands)) law.1
+    ∙ ap (core_of k (pops g.stands ∷ g.words)) law.2 in
+    (law.0, subst (λ f. IsSame f (core_at packets members g)) (sym same) (same_self (core_at packets members g)), refl)
 step_made packets members g (id, pop) h (there, may) = pop_made packets members id g.items g.words g.stands h there may
 step_made packets members g (id, at_words event) h (there, kept, may) =
     let law =
     word_law event kept packets members g.items g.words g.stands id (hand_state_at g id) h (stand_there g.stands id there) may in
-    (law.1.rule, law.1.made.farm, ap (λ r. r ∷ []) (sym law.1.made.answered))
+    (law.1.rule, law.1.made.core_state, ap (λ r. r ∷ []) (sym law.1.made.answered))
 
 -- ---- many steps
-after_append : (s : Farm) (es more : List (ℕ × Event)) → farm_after s (es ++ more) ≡ farm_after (farm_after s es) more
+after_append : (s : CoreState) (es more : List (ℕ × Event)) → core_after s (es ++ more) ≡ core_after (core_after s es) more
 after_append s [] more = refl
 after_append s (e ∷ es) more = after_append (step s e.0 e.1).1 es more
 
-replies_append : (s : Farm) (es more : List (ℕ × Event)) → replies s (es ++ more) ≡ replies s es ++ replies (farm_after s es) more
+replies_append : (s : CoreState) (es more : List (ℕ × Event)) → replies s (es ++ more) ≡ replies s es ++ replies (core_after s es) more
 replies_append s [] more = refl
 replies_append s (e ∷ es) more = ap (λ rs. (step s e.0 e.1).0 ∷ rs) (replies_append (step s e.0 e.1).1 es more)
 
 abbrev Told : ℕ → ℕ → Stage → List (ℕ × StreamStep) → Type 0
 Told packets members g steps =
     KeepsStage packets members (stage_at_end g steps)
-    × IsSame (farm_at packets members (stage_at_end g steps)) (farm_after (farm_at packets members g) (events_of steps))
-    × (stream_replies g steps ≡ replies (farm_at packets members g) (events_of steps))
+    × IsSame (core_at packets members (stage_at_end g steps)) (core_after (core_at packets members g) (events_of steps))
+    × (stream_replies g steps ≡ replies (core_at packets members g) (events_of steps))
 
 told : (packets members : ℕ) (g : Stage) (steps : List (ℕ × StreamStep)) → KeepsStage packets members g
     → IsStreamSchedule g steps → Told packets members g steps
-told packets members g [] h s = (h, same_self (farm_at packets members g), refl)
+told packets members g [] h s = (h, same_self (core_at packets members g), refl)
 told packets members g (e ∷ es) h (may, rest) =
     let first = step_made packets members g e h may in
     let next = stage_after g e in
     let ih = told packets members next es first.0 rest in
-    let before = farm_at packets members g in
-    let run = same_after (farm_at packets members next) (farm_after before (event_of e)) (events_of es) first.1 in (
+    let before = core_at packets members g in
+    let run = same_after (core_at packets members next) (core_after before (event_of e)) (events_of es) first.1 in (
       ih.0,
-      subst (IsSame (farm_at packets members (stage_at_end next es))) (sym (after_append before (event_of e) (events_of es)))
+      subst (IsSame (core_at packets members (stage_at_end next es))) (sym (after_append before (event_of e) (events_of es)))
           (same_then _ _ _ ih.1 run.0),
       ap (λ rs. rs ++ stream_replies next es) first.2 ∙ ap (λ rs. replies before (event_of e) ++ rs) (ih.2 ∙ run.1)
           ∙ sym (replies_append before (event_of e) (events_of es)),
@@ -112,12 +112,12 @@ told packets members g (e ∷ es) h (may, rest) =
 pub stream_schedule_law : StreamScheduleLaw
 stream_schedule_law packets members g steps h s =
     let t = told packets members g steps h s in
-    let before = farm_at packets members g in record {
+    let before = core_at packets members g in record {
       rule = t.0;
-      farm = t.1;
+      core_state = t.1;
       answered = t.2;
       in_order =
-          drawn_run before (farm_after before (events_of steps)) (events_of steps) (stream_replies g steps) t.2 refl
+          drawn_run before (core_after before (events_of steps)) (events_of steps) (stream_replies g steps) t.2 refl
           ∙ ap (λ n. numbers_from before.drawn (n - before.drawn)) (sym t.1.drawn);
     }
 
@@ -217,8 +217,8 @@ stream_opening_law p m range =
         );
         each = stands_new p m;
       },
-      ap (λ n. farm_of k (n ∷ words) (map hand_seen stands)) none
-          ∙ ap (λ vs. farm_of k (0 ∷ words) (newcomer p 1 ∷ vs)) (map_replicate hand_seen s m)
+      ap (λ n. core_of k (n ∷ words) (map hand_seen stands)) none
+          ∙ ap (λ vs. core_of k (0 ∷ words) (newcomer p 1 ∷ vs)) (map_replicate hand_seen s m)
           ∙ opening_stands_for p (suc m)
-          ∙ ap (opening_farm p) all,
+          ∙ ap (opening_core p) all,
     )

@@ -12,11 +12,11 @@ use Rattle.tp_stream.specs.declared.queue.Item.{Item}
 use Rattle.tp_stream.specs.declared.queue.PassView.{PassView}
 use Rattle.tp_board.specs.declared.view.View.{View}
 use Rattle.tp_board.specs.Counting.{times}
-use Rattle.tp_stream.specs.Tallies.{KeepsTally, holding}
+use Rattle.tp_stream.specs.Tallies.{KeepsTally, with_numbers}
 use Rattle.tp_board.specs.Freshness.{IsFresh}
 use Rattle.tp_board.specs.Laws.{IsEvent, IsSeatAt}
 use Rattle.tp_stream.specs.Queues.{Streamed}
-use Rattle.tp_stream.specs.Stages.{HandState, hand_seen, IsHandState, KeepsStream, pops, IsStreamEvent, IsAtWords, found_at}
+use Rattle.tp_stream.specs.Stages.{HandState, hand_seen, IsHandState, KeepsStream, pops, IsStreamEvent, IsAtWords, tally_found}
 use Rattle.tp_stream.specs.Stages.{words_with, WordLaw}
 use Rattle.tp_board.specs.Steps.{answer_for, after_finish, after_abandon, after_stop, after_look}
 use Rattle.tp_stream.specs.Streams.{seen_of}
@@ -144,7 +144,7 @@ module _ (packets members : ℕ) (items : List Item) (words : List ℕ) (stands 
 
   -- the look at the board's word, which is the one before in the stream's
   board_look : (what : Shown) → IsAtWords (Look what)
-      → let n = found_at (Look what) words in
+      → let n = tally_found (Look what) words in
       IsFresh (hand_seen s) what n
       × IsEvent (size packets (members + 1)) (pops stands ∷ words) (map hand_seen stands) (pops stands ∷ words_with (Look what) words)
       (set (map hand_seen stands) id (after_look (hand_seen s) what n)) id (Look what)
@@ -178,7 +178,7 @@ finish_word packets members items words stands id s h at (n, full) =
       after_report packets members items words stands id s h at Finish (s.place.finished ++ s.numbers) s.place.abandoned
           (to_finished s.place s.numbers)
           (subst (λ ns. KeepsTally k (words_with Finish words)
-          (set (map (λ (s : HandState). s.place) stands) id (after_finish (holding s.place ns)))) (sym full) tally)
+          (set (map (λ (s : HandState). s.place) stands) id (after_finish (with_numbers s.place ns)))) (sym full) tally)
           _ law.1,
     )
 
@@ -196,7 +196,7 @@ abandon_word packets members items words stands id s h at (n, full) =
       after_report packets members items words stands id s h at Abandon s.place.finished (s.place.abandoned ++ s.numbers)
           (to_abandoned s.place s.numbers)
           (subst (λ ns. KeepsTally k (words_with Abandon words)
-          (set (map (λ (s : HandState). s.place) stands) id (after_abandon (holding s.place ns)))) (sym full) tally)
+          (set (map (λ (s : HandState). s.place) stands) id (after_abandon (with_numbers s.place ns)))) (sym full) tally)
           _ law.1,
     )
 
@@ -220,7 +220,7 @@ stop_word packets members items words stands id s h at may =
 pub look_word : (what : Shown) → IsAtWords (Look what) → WordLaw (Look what)
 look_word what kept packets members items words stands id s h at may =
     let k = size packets (members + 1) in
-    let n = found_at (Look what) words in
+    let n = tally_found (Look what) words in
     let law = board_look packets members items words stands id s h at what kept in (
       law.0,
       subst (λ ns. IsStreamEvent packets members words stands items (words_with (Look what) words)

@@ -16,7 +16,7 @@ use Rattle.tp_board.specs.Views.{newcomer, nothing_seen, join_of}
 use Rattle.tp_board.specs.Rule.{total, AtMost}
 use Rattle.tp_board.specs.Steps.{after_finish, after_abandon, after_stop, after_look, with_seen}
 use Rattle.tp_board.specs.Plays.{HasStepped}
-use Rattle.tp_stream.specs.Tallies.{FitsTally, TallyRule, KeepsTally, TallyHolds, holding, Reports}
+use Rattle.tp_stream.specs.Tallies.{FitsTally, TallyRule, KeepsTally, TallyHolds, with_numbers, Reports}
 use Rattle.tp_stream.specs.Tallies.{tally_words_of, tally_place_of}
 use Rattle.tp_board.proofs.Moves.{added, one_or, set_same}
 use Rattle.tp_board.proofs.Steps.{wider, both_at_most}
@@ -74,10 +74,10 @@ stepped k w w' views id v u r at unclaimed same done lost stop more mine =
 module _ (k : Size) (words : List ℕ) (views : List View) (id : ℕ) (v : View) (h : KeepsTally k words views)
     (at : get_elem? views id ≡ some v) where
   pub finish_keeps : (n : ℕ) → v.parts ≡ 1 → length v.finished + length v.abandoned < 1024
-      → KeepsTally k (slice_set words 0 ((slice_index words 0 + 1) % 2 ^ 64)) (set views id (after_finish (holding v (n ∷ []))))
+      → KeepsTally k (slice_set words 0 ((slice_index words 0 + 1) % 2 ^ 64)) (set views id (after_finish (with_numbers v (n ∷ []))))
   finish_keeps n one room =
       let w = h.0 in let r = h.2 in let small = done_small k w views r in let f = r.fits id v at in
-      let u = after_finish (holding v (n ∷ [])) in
+      let u = after_finish (with_numbers v (n ∷ [])) in
       let w' : Counters = counters w.claimed (w.done + 1) w.lost w.stop in
       let long = length-append v.finished (n ∷ []) in
       let more : AtMost w w' = record { claimed = omega arith; done = omega arith; lost = omega arith; stop = omega arith } in (
@@ -90,10 +90,10 @@ module _ (k : Size) (words : List ℕ) (views : List View) (id : ℕ) (v : View)
       )
 
   pub abandon_keeps : (n : ℕ) → v.parts ≡ 1 → length v.finished + length v.abandoned < 1024
-      → KeepsTally k (slice_set words 1 ((slice_index words 1 + 1) % 2 ^ 64)) (set views id (after_abandon (holding v (n ∷ []))))
+      → KeepsTally k (slice_set words 1 ((slice_index words 1 + 1) % 2 ^ 64)) (set views id (after_abandon (with_numbers v (n ∷ []))))
   abandon_keeps n one room =
       let w = h.0 in let r = h.2 in let small = lost_small k w views r in let f = r.fits id v at in
-      let u = after_abandon (holding v (n ∷ [])) in
+      let u = after_abandon (with_numbers v (n ∷ [])) in
       let w' : Counters = counters w.claimed w.done (w.lost + 1) w.stop in
       let long = length-append v.abandoned (n ∷ []) in
       let more : AtMost w w' = record { claimed = omega arith; done = omega arith; lost = omega arith; stop = omega arith } in (
@@ -178,7 +178,7 @@ module _ {S : Type 0} (k : Size) (slots id : ℕ) (me : Me S View) where
   pub finishes : (n : ℕ) → me.0.parts ≡ 1 → length me.0.finished + length me.0.abandoned < 1024
       → Allows (TallyHolds k) slots id me 0 (λ n. (n + 1) % 2 ^ 64) (Reports Finish n (step slots 0 1 0 none) me)
   finishes n one room s h _ at _ = (
-    after_finish (holding me.0 (n ∷ [])),
+    after_finish (with_numbers me.0 (n ∷ [])),
     keeps,
     tt,
     finish_keeps k s.words s.views id me.0 h at n one room,
@@ -188,7 +188,7 @@ module _ {S : Type 0} (k : Size) (slots id : ℕ) (me : Me S View) where
   pub abandons : (n : ℕ) → me.0.parts ≡ 1 → length me.0.finished + length me.0.abandoned < 1024
       → Allows (TallyHolds k) slots id me 1 (λ n. (n + 1) % 2 ^ 64) (Reports Abandon n (step slots 1 1 0 none) me)
   abandons n one room s h _ at _ = (
-    after_abandon (holding me.0 (n ∷ [])),
+    after_abandon (with_numbers me.0 (n ∷ [])),
     keeps,
     tt,
     abandon_keeps k s.words s.views id me.0 h at n one room,

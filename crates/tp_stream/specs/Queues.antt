@@ -42,8 +42,8 @@ nobody = turn 0 0 0 0 0 0 [] 0
 abbrev pub without_one : PassView → PassView
 without_one v = record v { parts = v.parts - 1 }
 
-abbrev pub joined : PassView → PassView → PassView
-joined v w =
+abbrev pub join_of_passes : PassView → PassView → PassView
+join_of_passes v w =
     turn v.packets v.members (v.parts + w.parts) (v.feeds + w.feeds) (v.pushed + w.pushed) (v.marks + w.marks)
     (v.popped ++ w.popped) (v.ended + w.ended)
 
@@ -62,9 +62,9 @@ abbrev pub put : PassView → Item → PassView
 put v (Number n) = record v { pushed = v.pushed + 1 }
 put v End = record v { marks = v.marks + 1 }
 
-abbrev pub took : PassView → Item → PassView
-took v (Number n) = record v { popped = v.popped ++ n ∷ [] }
-took v End = record v { ended = v.ended + 1 }
+abbrev pub after_take : PassView → Item → PassView
+after_take v (Number n) = record v { popped = v.popped ++ n ∷ [] }
+after_take v End = record v { ended = v.ended + 1 }
 
 -- a number that is popped is one of the packets', no less than how many this pass popped before, and
 -- above each of these
@@ -73,7 +73,7 @@ IsNext v (Number n) = (n < v.packets) × (length v.popped ≤ n) × ((y : ℕ) �
 IsNext v End = Unit {0}
 
 abbrev pub Took : PassView → Item → PassView → Type 0
-Took v x w = (w ≡ took v x) × IsNext v x
+Took v x w = (w ≡ after_take v x) × IsNext v x
 
 -- so many numbers, from `from` on, and then so many marks
 abbrev pub queue : ℕ → ℕ → ℕ → List Item

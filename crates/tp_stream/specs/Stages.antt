@@ -12,10 +12,10 @@ use Rattle.tp_stream.specs.declared.queue.Item.TheVariants.{Number, End}
 use Rattle.tp_stream.specs.declared.queue.PassView.{PassView}
 use Rattle.tp_board.specs.declared.view.View.{View}
 use Rattle.tp_board.specs.Counting.{AreBelow}
-use Rattle.tp_stream.specs.Tallies.{KeepsTally, holding, tally_place_of}
+use Rattle.tp_stream.specs.Tallies.{KeepsTally, with_numbers, tally_place_of}
 use Rattle.tp_board.specs.Freshness.{IsFresh}
 use Rattle.tp_board.specs.Laws.{IsEvent}
-use Rattle.tp_stream.specs.Queues.{Streamed, MayPut, item_of, put, took}
+use Rattle.tp_stream.specs.Queues.{Streamed, MayPut, item_of, put, after_take}
 use Rattle.tp_board.specs.Openings.{InRange}
 use Rattle.tp_board.specs.Rule.{total, KeepsRule}
 use Rattle.tp_board.specs.Steps.{row_of, MayStep}
@@ -64,26 +64,26 @@ numbers_in (Number n) = n ∷ []
 numbers_in End = []
 
 -- those that the queue holds, in order
-abbrev pub queued : List Item → List ℕ
-queued [] = []
-queued (x ∷ items) = numbers_in x ++ queued items
+abbrev pub numbers_held : List Item → List ℕ
+numbers_held [] = []
+numbers_held (x ∷ items) = numbers_in x ++ numbers_held items
 
 -- how many numbers were pushed
-abbrev pub pushed : List HandState → ℕ
-pushed stands = total (λ s. s.turn.pushed) stands
+abbrev pub pushes : List HandState → ℕ
+pushes stands = total (λ s. s.turn.pushed) stands
 
 -- at each moment the numbers that were popped and those that the queue holds are the numbers below `pushed`, each once
 abbrev pub QueueLaw : Type 0
 QueueLaw =
     (packets members : ℕ) (items : List Item) (words : List ℕ) (stands : List HandState)
     → KeepsStream packets members items words stands
-    → AreBelow (all_drawn (map hand_seen stands) ++ queued items) (pushed stands)
+    → AreBelow (all_drawn (map hand_seen stands) ++ numbers_held items) (pushes stands)
 
 -- ---- steps
 -- what each step makes of the one that takes it
 
 abbrev pub after_pop : HandState → Item → HandState
-after_pop s x = record s { turn = took s.turn x; numbers = s.numbers ++ numbers_in x }
+after_pop s x = record s { turn = after_take s.turn x; numbers = s.numbers ++ numbers_in x }
 
 abbrev pub after_push : HandState → Item → HandState
 after_push s x = record s { turn = put s.turn x }
@@ -132,19 +132,19 @@ abbrev pub IsAtWords : Event → Type 0
 IsAtWords event = 0 < place_of (row_of event).word
 
 -- what its word is
-abbrev pub found_at : Event → List ℕ → ℕ
-found_at event words = slice_index words (tally_place_of (row_of event).word)
+abbrev pub tally_found : Event → List ℕ → ℕ
+tally_found event words = slice_index words (tally_place_of (row_of event).word)
 
 -- the three words after it
 abbrev pub words_with : Event → List ℕ → List ℕ
 words_with event words =
-    slice_set words (tally_place_of (row_of event).word) ((row_of event).change (found_at event words))
+    slice_set words (tally_place_of (row_of event).word) ((row_of event).change (tally_found event words))
 
 -- what the seat at the words takes the step with: a report is of the number in hand, which the seat
 -- does not know
 abbrev pub place_for : Event → HandState → View
-place_for Finish s = holding s.place s.numbers
-place_for Abandon s = holding s.place s.numbers
+place_for Finish s = with_numbers s.place s.numbers
+place_for Abandon s = with_numbers s.place s.numbers
 place_for Claim s = s.place
 place_for Stop s = s.place
 place_for (Look what) s = s.place
@@ -164,7 +164,7 @@ WordLaw event =
     → KeepsStream packets members items words stands
     → get_elem? stands id ≡ some s
     → MayStep event (hand_seen s)
-    → let n = found_at event words in
+    → let n = tally_found event words in
     let row = row_of event in
     IsFresh (hand_seen s) row.word n
     × IsStreamEvent packets members words stands items (words_with event words)

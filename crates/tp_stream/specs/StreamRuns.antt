@@ -4,13 +4,13 @@ use Rattle.tp_board.specs.declared.event.Event.{Event}
 use Rattle.tp_board.specs.declared.event.Event.TheVariants.{Claim}
 use Rattle.tp_board.specs.declared.event.Reply.{Reply}
 use Rattle.tp_stream.specs.declared.queue.Item.{Item}
-use Rattle.tp_board.specs.Farm.{Farm, opening_farm}
-use Rattle.tp_board.specs.FarmOf.{farm_of, IsSame}
+use Rattle.tp_board.specs.CoreState.{CoreState, opening_core}
+use Rattle.tp_board.specs.CoreOf.{core_of, IsSame}
 use Rattle.tp_stream.specs.Queues.{MayPut, item_of, feeder, hand, nobody}
 use Rattle.tp_board.specs.Openings.{InRange}
-use Rattle.tp_board.specs.Runs.{farm_after, replies, DrawsInOrder}
+use Rattle.tp_board.specs.Runs.{core_after, replies, DrawsInOrder}
 use Rattle.tp_stream.specs.Stages.{HandState, hand_seen, KeepsStream, pops, after_pop, after_push, pop_reply}
-use Rattle.tp_stream.specs.Stages.{IsAtWords, found_at, words_with, after_event}
+use Rattle.tp_stream.specs.Stages.{IsAtWords, tally_found, words_with, after_event}
 use Rattle.tp_board.specs.Steps.{row_of, MayStep}
 use Rattle.tp_board.specs.Views.{newcomer, spent_view}
 use Rattle.tp_board.specs.Words.{size}
@@ -36,8 +36,8 @@ abbrev pub KeepsStage : ℕ → ℕ → Stage → Type 0
 KeepsStage packets members g = KeepsStream packets members g.items g.words g.stands
 
 -- the farm of the board that the stage stands for, of which the feeder has a seat
-abbrev pub farm_at : ℕ → ℕ → Stage → Farm
-farm_at packets members g = farm_of (size packets (members + 1)) (pops g.stands ∷ g.words) (map hand_seen g.stands)
+abbrev pub core_at : ℕ → ℕ → Stage → CoreState
+core_at packets members g = core_of (size packets (members + 1)) (pops g.stands ∷ g.words) (map hand_seen g.stands)
 
 -- one that is nobody's
 abbrev pub no_hand_state : HandState
@@ -62,18 +62,18 @@ MayMake g (id, pop) = ((hand_state_at g id).turn.parts ≡ 1) × MayPop g.items 
 MayMake g (id, at_words event) =
     ((hand_state_at g id).turn.parts ≡ 1) × IsAtWords event × MayStep event (hand_seen (hand_state_at g id))
 
-abbrev pub popped_from : Stage → ℕ → List Item → Stage
-popped_from g id [] = g
-popped_from g id (x ∷ items) = stage items g.words (hand_states_with g id (after_pop (hand_state_at g id) x))
+abbrev pub stage_after_pop : Stage → ℕ → List Item → Stage
+stage_after_pop g id [] = g
+stage_after_pop g id (x ∷ items) = stage items g.words (hand_states_with g id (after_pop (hand_state_at g id) x))
 
 abbrev pub stage_after : Stage → ℕ × StreamStep → Stage
 stage_after g (id, push) =
     let x = item_of (hand_state_at g id).turn in
     stage (g.items ++ x ∷ []) g.words (hand_states_with g id (after_push (hand_state_at g id) x))
-stage_after g (id, pop) = popped_from g id g.items
+stage_after g (id, pop) = stage_after_pop g id g.items
 stage_after g (id, at_words event) =
     stage g.items (words_with event g.words)
-    (hand_states_with g id (after_event (hand_state_at g id) event (found_at event g.words)))
+    (hand_states_with g id (after_event (hand_state_at g id) event (tally_found event g.words)))
 
 -- the event of the core that it is; a push is none
 abbrev pub event_of : ℕ × StreamStep → List (ℕ × Event)
@@ -89,7 +89,7 @@ pop_replies (x ∷ items) = pop_reply x ∷ []
 abbrev pub reply_to : Stage → ℕ × StreamStep → List Reply
 reply_to g (id, push) = []
 reply_to g (id, pop) = pop_replies g.items
-reply_to g (id, at_words event) = (row_of event).reply (hand_seen (hand_state_at g id)) (found_at event g.words) ∷ []
+reply_to g (id, at_words event) = (row_of event).reply (hand_seen (hand_state_at g id)) (tally_found event g.words) ∷ []
 
 -- ---- many steps
 -- each may be made when its turn comes
@@ -114,10 +114,10 @@ stream_replies g (e ∷ es) = reply_to g e ++ stream_replies (stage_after g e) e
 -- in order
 pub record IsStreamRun (packets members : ℕ) (g : Stage) (steps : List (ℕ × StreamStep)) (h : Stage) : Type 0 where
   pub rule : KeepsStage packets members h
-  pub farm : IsSame (farm_at packets members h) (farm_after (farm_at packets members g) (events_of steps))
-  pub answered : stream_replies g steps ≡ replies (farm_at packets members g) (events_of steps)
-  pub in_order : DrawsInOrder (farm_at packets members g) (events_of steps) (stream_replies g steps)
-      (farm_at packets members h)
+  pub core_state : IsSame (core_at packets members h) (core_after (core_at packets members g) (events_of steps))
+  pub answered : stream_replies g steps ≡ replies (core_at packets members g) (events_of steps)
+  pub in_order : DrawsInOrder (core_at packets members g) (events_of steps) (stream_replies g steps)
+      (core_at packets members h)
 
 -- whatever queue and words their rules allow, every list of steps is a run of the core
 abbrev pub StreamScheduleLaw : Type 0
@@ -144,4 +144,4 @@ StreamOpeningLaw =
     (packets members : ℕ)
     → InRange packets members
     → KeepsStage packets members (opening_stage packets members)
-    × (farm_at packets members (opening_stage packets members) ≡ opening_farm packets (members + 1))
+    × (core_at packets members (opening_stage packets members) ≡ opening_core packets (members + 1))

@@ -45,8 +45,8 @@ abbrev pub KeepsTally : Size → List ℕ → List View → Type 0
 KeepsTally k words views = (w : Counters) × (words ≡ tally_words_of w) × TallyRule k w views
 
 -- the view, with these numbers in its hand
-abbrev pub holding : View → List ℕ → View
-holding v numbers = record v { hand = numbers }
+abbrev pub with_numbers : View → List ℕ → View
+with_numbers v numbers = record v { hand = numbers }
 
 -- one seat alone, which may report one more number
 abbrev pub MayReport : View → Type 0
@@ -62,4 +62,4 @@ module _ {S : Type 0} where
 
   -- the step of a seat that has this number in its hand
   abbrev pub Reports : Event → ℕ → Step S → Me S View → ℕ → Me S View → Type 0
-  Reports event number st m = HasStepped event st (holding m.0 (number ∷ []), m.1)
+  Reports event number st m = HasStepped event st (with_numbers m.0 (number ∷ []), m.1)

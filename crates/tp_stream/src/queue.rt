@@ -4,7 +4,8 @@ ghost use Rattle.std.specs.Prelude.{◌≡◌, ◌<◌, ◌≤◌, ◌+◌, [], 
 ghost use Rattle.crossbeam_queue.specs.Fifo.{Held};
 ghost use Rattle.crossbeam_queue.specs.Passes.{view, IsPassOf, IsSamePass, ruled_capacity};
 ghost use Rattle.tp_board.specs.Limits.{most_packets};
-ghost use Rattle.tp_stream.specs.Queues.{first, feeder, hand, without_one, joined, put, item_of, MayPut, Took, Waits};
+ghost use Rattle.tp_stream.specs.Queues.{first, feeder, hand, without_one, join_of_passes, put, item_of, MayPut};
+ghost use Rattle.tp_stream.specs.Queues.{Took, Waits};
 ghost use Rattle.tp_stream.specs.Queues.{Left, LeftAt, TookRest};
 
 use crossbeam_queue::protocol::{Join, Lesson, Outcome, Protocol, Split};
@@ -135,9 +136,9 @@ impl Split<PassView> for OneHand {
 }
 
 impl Join<PassView> for OneHand {
-    ghost use Rattle.tp_stream.specs.Queues.{joined, nobody};
+    ghost use Rattle.tp_stream.specs.Queues.{join_of_passes, nobody};
 
-    ghost both = { joined };
+    ghost both = { join_of_passes };
 
     ghost spent = { nobody };
 }
@@ -147,7 +148,7 @@ pub type Queue = RuledArrayQueue<Item, PassView, InOrder>;
 pub type QueuePass = Pass<Item, PassView>;
 
 /// A queue for so many packets and members, with the pass that feeds and the first of the hands.
-pub fn opened(
+pub fn open_queue(
     alloc: Global,
     packets: u32,
     members: u32,
@@ -187,7 +188,7 @@ pub fn new_hand(queue: &Queue, pass: &mut QueuePass) -> QueuePass
 pub fn join(queue: &Queue, pass: &mut QueuePass, other: QueuePass)
     requires queue { IsPassOf queue.now pass.old × IsPassOf queue.now other }
     requires parts { 0 < (view pass.old).parts }
-    ensures { IsSamePass pass.old pass.new × (view pass.new ≡ joined (view pass.old) (view other)) }
+    ensures { IsSamePass pass.old pass.new × (view pass.new ≡ join_of_passes (view pass.old) (view other)) }
 {
     queue.absorb::<OneHand>(pass, other);
 }
@@ -229,7 +230,7 @@ fn drain<R: Wait>(rt: &R, queue: &Queue, pass: &mut QueuePass) -> Option<Item>
 
 /// Takes out what is left, where this pass has every part. The answer is how many numbers were
 /// popped before: those below it.
-pub fn drained<R: Wait>(rt: &R, queue: &Queue, pass: &mut QueuePass, pushed: u32) -> u32
+pub fn drain_rest<R: Wait>(rt: &R, queue: &Queue, pass: &mut QueuePass, pushed: u32) -> u32
     requires queue { IsPassOf queue.now pass.old }
     requires parts { (view pass.old).members + 1 ≤ (view pass.old).parts }
     requires pushed { ((view pass.old).pushed ≡ pushed) × ((view pass.old).packets ≤ most_packets) }

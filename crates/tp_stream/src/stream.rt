@@ -18,7 +18,7 @@ ghost use Rattle.tp_stream.specs.Streams.{IsStream, IsHandOf, IsFeederOf, new_ha
 ghost use Rattle.tp_stream.specs.Streams.{NextAfter, NextMakes, IsAllPushed, FeedSays, IsLeft, Agrees};
 
 use crate::hand::{Fed, Feeder, StreamHand, StreamLedger};
-use crate::queue::{Item, Queue, QueuePass, drained, feed, join, new_hand, opened, take};
+use crate::queue::{Item, Queue, QueuePass, drain_rest, feed, join, new_hand, open_queue, take};
 use crate::tally::{
     DONE, LOST, STOP, Tally, Token, another_seat, join_seats, look_stop, open_tally, report_done,
     report_lost, set_stop,
@@ -36,6 +36,16 @@ use tp_board::{
 ///
 /// No call takes a lock, and none but `new` takes memory. `feed`, `next` and `close` may wait. A hand
 /// or a feeder of another stream is against each call's condition.
+///
+/// ```
+/// let packets = [Packet::try_from([7].as_slice())?];
+/// let (stream, mut feeder, mut hands) = StreamQueue::new(alloc, &packets, 1)?;
+/// assert_eq!(stream.feed(&rt, &mut feeder), Fed::Pushed);
+/// assert!(matches!(stream.next(&rt, &mut hands[0]), Work::Packet { number: 0, .. }));
+/// assert_eq!(stream.finish(&mut hands[0]), Ok(0));
+/// let closed = stream.close(&rt, feeder, hands)?;
+/// assert_eq!((closed.pushed, closed.ledger.done), (1, 1));
+/// ```
 #[derive(Drop)]
 pub struct StreamQueue<'p> {
     packets: &'p [Packet],
@@ -87,7 +97,7 @@ impl<'p> StreamQueue<'p> {
         }
         let count = packets.len() as u32;
         let mut hands = Vec::with_capacity(alloc, members as usize)?;
-        let (queue, mut pass, first) = opened(alloc, count, members)?;
+        let (queue, mut pass, first) = open_queue(alloc, count, members)?;
         let (tally, mut token) = open_tally(alloc, count, members + 1)?;
         let seat = another_seat(&tally, &mut token, count, members + 1);
         hands.push_reserved(handed(first, seat, count, members));
@@ -172,7 +182,7 @@ impl<'p> StreamQueue<'p> {
             Item::Number(_) => feeder.pushed += 1,
             Item::End => feeder.marks += 1,
         }
-        self.waiting.pushed(item);
+        self.waiting.after_push(item);
         true
     }
 
@@ -237,7 +247,7 @@ impl<'p> StreamQueue<'p> {
             return Some(Claim::Stopped);
         }
         let item = take(rt, &self.queue, &mut hand.pass)?;
-        self.waiting.popped(item);
+        self.waiting.after_pop(item);
         match item {
             Item::Number(number) => {
                 hand.number = Some(number);
@@ -278,7 +288,7 @@ impl<'p> StreamQueue<'p> {
         }
         let pushed = feeder.pushed;
         let (mut pass, token) = self.gather(feeder, hands);
-        let drawn = drained(rt, &self.queue, &mut pass, pushed);
+        let drawn = drain_rest(rt, &self.queue, &mut pass, pushed);
         let StreamQueue {
             packets: _,
             members: _,

@@ -3,7 +3,7 @@
 ghost use Rattle.std.specs.Prelude.{◌≡◌, ◌+◌, ◌-◌, ◌<◌, ◌≤◌, ◌∷◌, [], ℕ, length, IfOk};
 ghost use Rattle.tp_board.specs.declared.event.Event.TheVariants as event;
 ghost use Rattle.tp_board.specs.declared.event.Shown.TheVariants as shown;
-ghost use Rattle.tp_stream.specs.Tallies.{holding, MayReport, Takes};
+ghost use Rattle.tp_stream.specs.Tallies.{with_numbers, MayReport, Takes};
 ghost use Rattle.tp_board.specs.Views.{newcomer, join_of};
 ghost use Rattle.tp_board.specs.Words.{size};
 
@@ -111,7 +111,7 @@ pub fn report_done(tally: &Tally, token: &mut Token, number: u32)
     requires tally { (token.old.table_id ≡ tally.now.shared.table_id) × (tally.now.shared.table_id.words ≡ 3) }
     requires room { MayReport token.old.me.0 }
     ensures own { (token.new.table_id ≡ token.old.table_id) × (token.new.me.1 ≡ token.old.me.1) }
-    ensures step { (found : ℕ) × Takes event.Finish (holding token.old.me.0 (number ∷ [])) found token.new.me.0 }
+    ensures step { (found : ℕ) × Takes event.Finish (with_numbers token.old.me.0 (number ∷ [])) found token.new.me.0 }
 {
     add_done::<Brand>(tally, token, number);
 }
@@ -121,7 +121,7 @@ fn add_done<B: Numbered>(tally: &Tally, token: &mut Token, number: u32)
     requires tally { (token.old.table_id ≡ tally.now.shared.table_id) × (tally.now.shared.table_id.words ≡ 3) }
     requires room { MayReport token.old.me.0 }
     ensures own { (token.new.table_id ≡ token.old.table_id) × (token.new.me.1 ≡ token.old.me.1) }
-    ensures step { (found : ℕ) × Takes event.Finish (holding token.old.me.0 (number ∷ [])) found token.new.me.0 }
+    ensures step { (found : ℕ) × Takes event.Finish (with_numbers token.old.me.0 (number ∷ [])) found token.new.me.0 }
 {
     tally.shared.fetch_add::<AddDone<B>>(token, DONE, 1);
 }
@@ -131,7 +131,7 @@ pub fn report_lost(tally: &Tally, token: &mut Token, number: u32)
     requires tally { (token.old.table_id ≡ tally.now.shared.table_id) × (tally.now.shared.table_id.words ≡ 3) }
     requires room { MayReport token.old.me.0 }
     ensures own { (token.new.table_id ≡ token.old.table_id) × (token.new.me.1 ≡ token.old.me.1) }
-    ensures step { (found : ℕ) × Takes event.Abandon (holding token.old.me.0 (number ∷ [])) found token.new.me.0 }
+    ensures step { (found : ℕ) × Takes event.Abandon (with_numbers token.old.me.0 (number ∷ [])) found token.new.me.0 }
 {
     add_lost::<Brand>(tally, token, number);
 }
@@ -141,7 +141,7 @@ fn add_lost<B: Numbered>(tally: &Tally, token: &mut Token, number: u32)
     requires tally { (token.old.table_id ≡ tally.now.shared.table_id) × (tally.now.shared.table_id.words ≡ 3) }
     requires room { MayReport token.old.me.0 }
     ensures own { (token.new.table_id ≡ token.old.table_id) × (token.new.me.1 ≡ token.old.me.1) }
-    ensures step { (found : ℕ) × Takes event.Abandon (holding token.old.me.0 (number ∷ [])) found token.new.me.0 }
+    ensures step { (found : ℕ) × Takes event.Abandon (with_numbers token.old.me.0 (number ∷ [])) found token.new.me.0 }
 {
     tally.shared.fetch_add::<AddLost<B>>(token, LOST, 1);
 }

@@ -1,5 +1,8 @@
 //! How the two sides of a stream's queue wait for each other: the feeder while the queue is full, the members while it
 //! is empty. They sleep until the other side has pushed or popped half of the queue.
+//!
+//! The kit states nothing of a sleep, of a wake, or of the number that a word has. So a contract pins which items wake
+//! the other side (`is_worth_a_wake`), and tests show that every wait ends.
 ghost use Rattle.std.specs.Prelude.{◌≡◌};
 ghost use Rattle.tp_stream.specs.Queues.{wakes_other};
 
@@ -72,15 +75,15 @@ impl Waiting {
         self.feeder.unpark();
     }
 
-    /// The feeder has pushed this.
-    pub fn pushed(&self, item: Item) {
+    /// Wakes a member where the item that the feeder has pushed is worth it.
+    pub fn after_push(&self, item: Item) {
         if is_worth_a_wake(item) {
             self.wake_member();
         }
     }
 
-    /// A member has popped this.
-    pub fn popped(&self, item: Item) {
+    /// Wakes the feeder where the item that a member has popped is worth it.
+    pub fn after_pop(&self, item: Item) {
         if is_worth_a_wake(item) {
             self.feeder.unpark();
         }

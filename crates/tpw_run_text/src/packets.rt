@@ -9,7 +9,7 @@ ghost use Rattle.tpw_run_text.specs.Packets.{result_said};
 use crate::fault::{PacketFault, PacketKind};
 use crate::form::Expected;
 use std::alloc::{AllocError, Global};
-use tp_collect::limits::MESSAGE_BYTES;
+use tp_collect::limits::MAX_MESSAGE;
 use tp_image::layout::WORD_BYTES;
 use tp_stream::Packet;
 use tpw_text::{Position, signed_of};
@@ -59,7 +59,7 @@ fn hexadecimal_of(fields: &[Field<'_>], bytes: usize) -> Option<Packet>
     if field.text.len() != 2 * bytes {
         return None;
     }
-    let mut message = [0; MESSAGE_BYTES];
+    let mut message = [0; MAX_MESSAGE];
     let message = &mut message[..bytes];
     hex::decode_to_slice(field.text, message).ok()?;
     let mut packet = Packet::new();

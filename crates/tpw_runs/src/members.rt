@@ -10,7 +10,7 @@ use std::io::Write;
 use std::sync::Wait;
 use std::thread::Threads;
 use tp_accept::Accepted;
-use tp_collect::limits::MESSAGE_BYTES;
+use tp_collect::limits::MAX_MESSAGE;
 use tp_farm::Gate;
 use tp_link::{boxed, media_of};
 use tp_stream::Packet;
@@ -34,7 +34,7 @@ pub fn run_on_members<R: Threads + Wait + Sync, G: Gate, W: Write>(
     ensures { IfOk result (HasRun image.now form.entry (map (λ p. p.items) packets.now)
         (W.contents writer.old) (W.contents writer.new)) }
 {
-    let mut media = media_of(alloc, members, MESSAGE_BYTES)?;
+    let mut media = media_of(alloc, members, MAX_MESSAGE)?;
     let links = boxed(alloc, &mut media)?;
     run_packets(rt, alloc, image, packets, links, gate, form, writer)
 }

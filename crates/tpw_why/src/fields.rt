@@ -4,10 +4,8 @@ use crate::known::ShownRow;
 use std::alloc::Global;
 use std::io::Write;
 use tp_image::{Image, ImageCode};
+use tp_prefix::MAX_SPELLING;
 use tpw_source::ShowFault;
-
-/// The most bytes of a spelling.
-const SPELLING_BYTES: usize = 8;
 
 /// What is asked of a field of the header: its name, and its range in version 1 and in version 2.
 fn range_of(code: ImageCode) -> Option<(&'static str, &'static str, &'static str)> {
@@ -66,7 +64,7 @@ pub(crate) fn write_bytes<W: Write>(
 ) -> Result<(), ShowFault> {
     let code = image.code.as_slice();
     let from = place.min(code.len());
-    let to = from.saturating_add(SPELLING_BYTES).min(code.len());
+    let to = from.saturating_add(MAX_SPELLING).min(code.len());
     let bytes = hex::encode(alloc, &code[from..to])?;
     let length = code.len();
     writeln!(

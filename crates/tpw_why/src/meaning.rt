@@ -107,11 +107,13 @@ fn of_state(code: StateCode) -> Meaning {
     match code {
         StateCode::S1 => explained(
             "a register that is read is undefined",
-            "load it again: the stack holds three, and a fourth push loses the first; j, lend, in and out leave no registers, and each operation takes what it reads",
+            "load it again: the stack holds three, and a fourth push loses the first; j, lend, in and out leave no \
+             registers, and each operation takes what it reads",
         ),
         StateCode::S2 => explained(
             "a register is of the wrong kind",
-            "address words by ldlp, ldnlp and wsub; a word does not keep that it is an address, so make the address again",
+            "address words by ldlp, ldnlp and wsub; a word does not keep that it is an address, so make the address \
+             again",
         ),
         StateCode::S3 => explained(
             "a word, a byte or a pointer may lie outside the workspace",

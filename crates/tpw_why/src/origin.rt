@@ -6,7 +6,7 @@ use tp_flow::Edge;
 use tp_state::{Kind, State};
 
 /// How many instructions are looked at, back from where a register is read.
-const MOST_BACK: usize = 64;
+const MAX_BACK: usize = 64;
 
 /// A register of the evaluation stack.
 #[derive(Clone, Copy, Debug, PartialEq, Eq)]
@@ -168,7 +168,7 @@ pub(crate) enum Lost {
 pub(crate) fn loss_of(ways: &[Way], at: usize, register: Register) -> Option<Lost> {
     let mut place = at;
     let mut above = register.above();
-    for _ in 0..MOST_BACK {
+    for _ in 0..MAX_BACK {
         if place == 0 {
             return Some(Lost::Never);
         }
@@ -194,7 +194,7 @@ pub(crate) fn loss_of(ways: &[Way], at: usize, register: Register) -> Option<Los
 pub(crate) fn origin_of(ways: &[Way], at: usize, register: Register) -> Option<Placed> {
     let mut place = at;
     let mut above = register.above();
-    for _ in 0..MOST_BACK {
+    for _ in 0..MAX_BACK {
         let way = lone_way(ways, place)?;
         let (taken, put) = taken_and_put(way.from.instr, way.edge)?;
         if above < put {

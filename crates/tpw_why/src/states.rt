@@ -190,7 +190,8 @@ fn meaning_of_s5(instr: Instr, state: &State, enters: bool) -> &'static str {
         Instr::Lend =>
             "Breg is not the address of the loop's control word, or Areg not the distance back to its head",
         _ if enters =>
-            "on its edge into a loop the control word is not the row's first index, or the word behind it not its count",
+            "on its edge into a loop the control word is not the row's first index, or the word behind it not its \
+             count",
         _ => writes,
     }
 }

@@ -133,7 +133,7 @@ fn words_of(bytes: Kind) -> i64 {
 }
 
 /// What an instruction does to a word on an edge, from the state before it; none where it leaves it as it is.
-pub(crate) fn written_by(
+pub(crate) fn effect_on(
     image: &Image,
     nest: &Nest,
     from: Placed,
@@ -179,7 +179,7 @@ pub(crate) fn passages_of(
     let mut passages = Vec::with_capacity(alloc, ways.len())?;
     for way in ways {
         let wrote = match state_at(table, way.from.at) {
-            Some(state) => written_by(image, nest, way.from, way.edge, state, word),
+            Some(state) => effect_on(image, nest, way.from, way.edge, state, word),
             None => None,
         };
         passages.push(Passage { way: *way, wrote })?;

@@ -3,7 +3,7 @@
 use crate::origin::{Lost, Register, loss_of, origin_of, undefined_register, wrong_register};
 use crate::refusal::{EdgeRefusal, FirstRefusal};
 use crate::ways::{Way, ways_of};
-use crate::writers::{Passage, Wrote, passages_of, same_before, written_by};
+use crate::writers::{Passage, Wrote, effect_on, passages_of, same_before};
 use std::alloc::Global;
 use std::fmt;
 use std::io::Write;
@@ -204,7 +204,7 @@ fn write_entered<W: Write>(
         edge,
         ..
     } = finding.found.refusal;
-    match written_by(finding.image, finding.nest, instruction, edge, state, word) {
+    match effect_on(finding.image, finding.nest, instruction, edge, state, word) {
         Some(did) => write_writer(finding.source, word, instruction, did, output),
         None => write_writers(alloc, finding, ways, word, instruction.at, output),
     }
@@ -251,7 +251,7 @@ fn known_after(finding: Finding<'_>, state: &State, word: usize) -> Cell {
         edge,
         ..
     } = finding.found.refusal;
-    match written_by(finding.image, finding.nest, instruction, edge, state, word) {
+    match effect_on(finding.image, finding.nest, instruction, edge, state, word) {
         Some(Wrote::Stored(Kind::Int(low, high))) if low == high => Cell::Known(low),
         Some(_) => Cell::Undef,
         None => state.cells.get(word),

@@ -23,12 +23,12 @@ fn threads_now<R: Files + AllocGlobal>(rt: &R) -> io::Result<usize> {
 }
 
 /// How often the threads are counted at most.
-const MOST_LOOKS: u32 = 10_000_000;
+const MAX_LOOKS: u32 = 10_000_000;
 
 /// The most threads that this process is seen to have at a time, until it is done.
 fn most_threads<R: Files + AllocGlobal>(rt: &R, done: &AtomicBool) -> usize {
     let mut most = 0;
-    for _ in 0..MOST_LOOKS {
+    for _ in 0..MAX_LOOKS {
         if done.load(Ordering::SeqCst) {
             return most;
         }
@@ -39,7 +39,7 @@ fn most_threads<R: Files + AllocGlobal>(rt: &R, done: &AtomicBool) -> usize {
 
 /// Waits until this process has no more threads than these: a joined thread is counted until the system has ended it.
 fn settle<R: Files + AllocGlobal>(rt: &R, threads: usize) {
-    for _ in 0..MOST_LOOKS {
+    for _ in 0..MAX_LOOKS {
         if threads_now(rt).unwrap_or(0) <= threads {
             return;
         }
@@ -80,7 +80,7 @@ fn most_threads_for<R: Threads + Wait + Files + AllocGlobal + Sync>(
 }
 
 /// How often a batch is served at most, until all of its threads are seen.
-const MOST_BATCHES: u32 = 20;
+const MAX_BATCHES: u32 = 20;
 
 /// The most threads that are seen in some batches; one more is served only where fewer than these were seen.
 fn most_threads_of<R: Threads + Wait + Files + AllocGlobal + Sync>(
@@ -91,7 +91,7 @@ fn most_threads_of<R: Threads + Wait + Files + AllocGlobal + Sync>(
     wanted: usize,
 ) -> usize {
     let mut seen = 0;
-    for _ in 0..MOST_BATCHES {
+    for _ in 0..MAX_BATCHES {
         settle(rt, before);
         let (status, most) = most_threads_for(rt, members, input);
         if status != ExitCode::SUCCESS {

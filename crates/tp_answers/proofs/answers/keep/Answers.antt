@@ -20,13 +20,13 @@ returns-then-count-packet_bytes c =
     let both = wrong_length _ _ _ _ it kept (c.at_mut-session.ensures.value it.session it.there) other in
     record { answer = both.0; sessions = both.1 }
 
-pub returns-then-number-ge-MOST_PACKETS : goal.returns-then-number-ge-MOST_PACKETS
-returns-then-number-ge-MOST_PACKETS c =
+pub returns-then-number-ge-MAX_KEPT : goal.returns-then-number-ge-MAX_KEPT
+returns-then-number-ge-MAX_KEPT c =
     let it = placed c.args.name.now.items c.args.sessions.now c.in-Some.index (sym c.find.ensures ∙ c.in-Some.is) in
     let kept = c.at_mut-session.result.now in
     let long : length (bytes_spelled c.args.packet.now) ≡ 4 * kept.image.image.packet =
     sym c.count.ensures ∙ c.if-count-packet_bytes.false ∙ c.packet_bytes.ensures.value in
-    let many : most_packets ≤ vec_len kept.packets = omega (arith, c.if-number-ge-MOST_PACKETS.true, c.len-number.ensures) in
+    let many : most_packets ≤ vec_len kept.packets = omega (arith, c.if-number-ge-MAX_KEPT.true, c.len-number.ensures) in
     let both = too_many _ _ _ _ it kept (c.at_mut-session.ensures.value it.session it.there) long many in
     record { answer = both.0; sessions = both.1 }
 
@@ -36,7 +36,7 @@ returns c =
     let kept = c.at_mut-session.result.now in
     let long : length (bytes_spelled c.args.packet.now) ≡ 4 * kept.image.image.packet =
     sym c.count.ensures ∙ c.if-count-packet_bytes.false ∙ c.packet_bytes.ensures.value in
-    let few : vec_len kept.packets < most_packets = omega (arith, c.if-number-ge-MOST_PACKETS.false, c.len-number.ensures) in
+    let few : vec_len kept.packets < most_packets = omega (arith, c.if-number-ge-MAX_KEPT.false, c.len-number.ensures) in
     let both =
     may_be_kept _ _ _ _ it kept (c.at_mut-session.ensures.value it.session it.there) long few c.keep.new.self c.packet_of.result
     c.packet_of.ensures.items c.in_ok-keep.ensures.image c.in_ok-keep.ensures.packets in

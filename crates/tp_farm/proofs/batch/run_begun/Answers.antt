@@ -1,8 +1,7 @@
 use Rattle.std.proofs.Common.{length, ap, subst, arith}
 use Rattle.std.proofs.lemmas.Slice.Zip.{AllZip-long}
 use Rattle.tp_farm.specs.Reserved.{HasRoom}
-use Rattle.tp_stream.specs.Streams.{IsHandOf, hand_progress}
-use Rattle.tp_farm.specs.Works.{work_on}
+use Rattle.tp_farm.specs.BatchWork.{batch_work}
 use Rattle.tp_farm.proofs.Feeding.{fresh_hands, fresh_feeder}
 use Rattle.tp_farm.proofs.Settled.{to_settle}
 use Rattle.tp_farm.proofs.batch.run_begun.Goals as goal
@@ -44,20 +43,20 @@ settle-requires-clause-room g c =
 
 pub settle-requires-clause-worked : goal.settle-requires-clause-worked
 settle-requires-clause-worked g c =
-    let work = work_on g.G.Gate.open_for_good c.args.job.now c.args.gate.now in
+    let work = batch_work g.G.Gate.open_for_good c.args.job.now c.args.gate.now in
     let stream = c.in-Ok.stream in (
       work,
       c.args.links.items,
-      to_settle g.D.LinkDevice.state (IsHandOf stream) hand_progress (length stream.packets) work c.args.links.items
+      to_settle g.D.LinkDevice.state stream work c.args.links.items
           c.in_ok-returned.returned.items c.args.collector c.in_ok-returned.ensures.worked
           (ap (λ s. length s.packets) c.in-Ok.ensures.stream) c.requires.begins.whole c.requires.collector,
     )
 
 pub returns-clause-batch : goal.returns-clause-batch
 returns-clause-batch g c =
-    let work = work_on g.G.Gate.open_for_good c.args.job.now c.args.gate.now in
+    let work = batch_work g.G.Gate.open_for_good c.args.job.now c.args.gate.now in
     let stream = c.in-Ok.stream in
     c.settle.ensures.batch work c.args.links.items
-    (to_settle g.D.LinkDevice.state (IsHandOf stream) hand_progress (length stream.packets) work c.args.links.items
+    (to_settle g.D.LinkDevice.state stream work c.args.links.items
     c.in_ok-returned.returned.items c.args.collector c.in_ok-returned.ensures.worked
     (ap (λ s. length s.packets) c.in-Ok.ensures.stream) c.requires.begins.whole c.requires.collector)

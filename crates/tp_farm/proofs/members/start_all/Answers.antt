@@ -11,8 +11,7 @@ loop-links-preserved g c =
       tt,
       one_started _ _ _ _ _ _ _ _ c.in-Some-start.handle was.2 step.0 c.in-Some-start.ensures.before
           c.in-Some-start.ensures.shared c.push_reserved.ensures.items,
-      (All-pop (IsFresh (g.S.WorkSource.is_own c.args.shared.now.source.now) g.S.WorkSource.progress) _ _ _ c.pop.ensures.items
-          was.3).0,
+      (All-pop (IsFresh c.args.shared.now.stream.now) _ _ _ c.pop.ensures.items was.3).0,
       grind (arith, was.4, step.1, c.pop.ensures.len, c.in-Some-pop.is),
       omega (arith, was.5, step.1, c.push_reserved.ensures.len),
       omega (arith, was.6, c.push_reserved.ensures.len),

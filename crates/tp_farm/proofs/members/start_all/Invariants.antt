@@ -11,7 +11,7 @@ invariant-loop-links g l =
     × (goal.iterator-loop-links g).is_finite l.links-iterator
     × IsUpTo (λ h. h.promise.before.value) (λ h. h.promise.shared.now ≡ l.shared) l.fn.all.items
     (into_iter_items l.links-iterator) l.handles.items
-    × All (IsFresh (g.S.WorkSource.is_own l.shared.source.now) g.S.WorkSource.progress) l.hands.items
+    × All (IsFresh l.shared.stream.now) l.hands.items
     × (vec_len l.hands ≡ into_iter_len l.links-iterator)
     × (vec_len l.handles + into_iter_len l.links-iterator ≡ vec_len l.fn.all)
     × (l.number ≡ vec_len l.handles)

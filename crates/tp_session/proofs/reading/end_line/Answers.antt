@@ -30,4 +30,4 @@ returns-clause-ok g c trace begun s at =
     (c.in_ok-answer.ensures.answer at.fit (number_after 1 s.lines) s.line at.keeps) in
     let text = text_at _ _ _ _ _ _ s at _ c.in_ok-answer.answer c.in_ok-answer.ensures.stays.trace in
     goes_line _ _ _ _ _ _ s at _ _ _ c.in_ok-answer.answer is c.in_ok-answer.ensures.stays
-    (appends_same _ _ _ _ text c.in_ok-send.ensures.ok) c.saturating_add-progress.ensures c.clear.ensures.items refl
+    (appends_same _ _ _ _ text c.in_ok-send.ensures.ok) c.saturating_add-partial.ensures c.clear.ensures.items refl

@@ -39,7 +39,7 @@ returns-in_err-end_line-clause-err g c trace begun s at input begins =
     let line = c.in-Some.line.now in
     let behind = c.in-Some.behind.now in
     let after =
-    goes_plain _ _ _ _ _ _ so_far.point so_far.is c.take_plain.new.progress line c.in-Some.ensures.0
+    goes_plain _ _ _ _ _ _ so_far.point so_far.is c.take_plain.new.partial line c.in-Some.ensures.0
     (c.in_ok-take_plain.ensures.kept (number_after 1 so_far.point.lines) so_far.point.line so_far.is.keeps) in
     let p = err_from_is_err_and c.from_residual-in_err-end_line.result c.from_residual-in_err-end_line.ensures.1 in
     let all : s.taken ++ c.args.bytes.now ≡ (after.point.taken ++ 10 ∷ []) ++ behind =
@@ -66,7 +66,7 @@ loop-line-preserved g c =
       goes = λ trace begun s at.
           let so_far = was.goes trace begun s at in
           let after =
-          goes_plain _ _ _ _ _ _ so_far.point so_far.is c.take_plain.new.progress line c.in-Some.ensures.0
+          goes_plain _ _ _ _ _ _ so_far.point so_far.is c.take_plain.new.partial line c.in-Some.ensures.0
           (c.in_ok-take_plain.ensures.kept (number_after 1 so_far.point.lines) so_far.point.line so_far.is.keeps) in
           let taken = after.taken_is ∙ ap (λ l. l ++ line) so_far.taken_is ∙ append_assoc s.taken was.front line in
           goes_same _ trace begun _ _ _ _ _ (ap (λ l. l ++ 10 ∷ []) taken ∙ append_assoc s.taken (was.front ++ line) (10 ∷ []))
@@ -87,7 +87,7 @@ returns-clause-ok g c trace begun s at =
     let so_far = was.goes trace begun s at in
     let rest = c.loop-line.rest.now in
     let after =
-    goes_plain _ _ _ _ _ _ so_far.point so_far.is c.take_plain-2.new.progress rest c.in_default.ensures
+    goes_plain _ _ _ _ _ _ so_far.point so_far.is c.take_plain-2.new.partial rest c.in_default.ensures
     (c.in_ok-take_plain-2.ensures.kept (number_after 1 so_far.point.lines) so_far.point.line so_far.is.keeps) in
     goes_same _ trace begun _ _ _ _ _ (ap (λ l. l ++ rest) so_far.taken_is ∙ append_assoc s.taken was.front rest
     ∙ ap (λ l. s.taken ++ l) (sym was.parted)) after

@@ -10,8 +10,8 @@ invariant-loop-line g l = record {
   as_many : AreAsMany l.fn.service.links.items l.service.links.items;
   front : List ℕ;
   parted : l.bytes ≡ front ++ l.rest;
-  goes : AtEachPoint g.D.LinkDevice.state l.fn.progress l.fn.service (g.W.Write.contents l.fn.writer) (λ trace begun s.
-      GoesOn g.D.LinkDevice.state trace begun l.progress l.service (g.W.Write.contents l.writer) (s.taken ++ front));
+  goes : AtEachPoint g.D.LinkDevice.state l.fn.partial l.fn.service (g.W.Write.contents l.fn.writer) (λ trace begun s.
+      GoesOn g.D.LinkDevice.state trace begun l.partial l.service (g.W.Write.contents l.writer) (s.taken ++ front));
 }
 
 abbrev pub decreases-loop-line : goal.decreases-loop-line

@@ -10,7 +10,7 @@ use Rattle.tp_session.proofs.reading.finish.Goals as goal
 
 pub returns-then-is_empty-clause-ok : goal.returns-then-is_empty-clause-ok
 returns-then-is_empty-clause-ok g c trace begun s at =
-    written_whole _ _ _ _ _ _ s at (nothing_left s.line _ _ at.keeps.line_is c.args.progress.now.line.ok.0 c.if-is_empty.ensures)
+    written_whole _ _ _ _ _ _ s at (nothing_left s.line _ _ at.keeps.line_is c.args.partial.now.line.ok.0 c.if-is_empty.ensures)
 
 pub returns-in_err-answer-clause-err : goal.returns-in_err-answer-clause-err
 returns-in_err-answer-clause-err g c trace begun s at =
@@ -19,7 +19,7 @@ returns-in_err-answer-clause-err g c trace begun s at =
 
 pub returns-clause-ok : goal.returns-clause-ok
 returns-clause-ok g c trace begun s at =
-    let some = something_left s.line _ _ at.keeps.line_is c.args.progress.now.line.ok.0 c.if-is_empty.ensures in
+    let some = something_left s.line _ _ at.keeps.line_is c.args.partial.now.line.ok.0 c.if-is_empty.ensures in
     let is =
     answer_at _ _ _ _ _ _ s at false c.in_ok-answer.answer _
     (c.in_ok-answer.ensures.answer at.fit (number_after 1 s.lines) s.line at.keeps) in
@@ -29,7 +29,7 @@ returns-clause-ok g c trace begun s at =
 
 pub returns-clause-err : goal.returns-clause-err
 returns-clause-err g c trace begun s at =
-    let some = something_left s.line _ _ at.keeps.line_is c.args.progress.now.line.ok.0 c.if-is_empty.ensures in
+    let some = something_left s.line _ _ at.keeps.line_is c.args.partial.now.line.ok.0 c.if-is_empty.ensures in
     let is =
     answer_at _ _ _ _ _ _ s at false c.in_ok-answer.answer _
     (c.in_ok-answer.ensures.answer at.fit (number_after 1 s.lines) s.line at.keeps) in

@@ -6,7 +6,7 @@ use Rattle.tp_session.proofs.reading.take_plain.Goals as goal
 pub returns-then-kept-bytes : goal.returns-then-kept-bytes
 returns-then-kept-bytes c = record {
   kept = λ number line keeps.
-      let p = c.args.progress.now in
+      let p = c.args.partial.now in
       let bytes = c.args.bytes.now in
       let cut = c.if-kept-bytes.true in
       let test : nat_lt c.min-kept.result (length bytes) ≡ true = grind (arith, nat_tests, cut) in
@@ -17,7 +17,7 @@ returns-then-kept-bytes c = record {
 pub returns-else-kept-bytes : goal.returns-else-kept-bytes
 returns-else-kept-bytes c = record {
   kept = λ number line keeps.
-      let p = c.args.progress.now in
+      let p = c.args.partial.now in
       let bytes = c.args.bytes.now in
       let whole = c.if-kept-bytes.false in
       let test : nat_lt c.min-kept.result (length bytes) ≡ false = grind (arith, nat_tests, whole) in

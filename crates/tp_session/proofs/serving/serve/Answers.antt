@@ -15,7 +15,7 @@ loop-init g c = record {
   members = members_of c.args.farm _ (ap (λ l. length l.items) c.new-service.ensures.links);
   as_many = ap (λ l. length l.items) c.new-service.ensures.links;
   so_far = λ fit.
-      nothing_taken _ _ _ _ _ _ c.begin-progress.ensures (c.new-service.ensures.sessions, c.new-service.ensures.trace)
+      nothing_taken _ _ _ _ _ _ c.begin-partial.ensures (c.new-service.ensures.sessions, c.new-service.ensures.trace)
       (subst (λ l. AreFit g.D.LinkDevice.state l.items) (sym c.new-service.ensures.links) fit);
 }
 

@@ -13,5 +13,5 @@ invariant-loop g l = record {
   as_many : AreAsMany l.fn.farm.links.items l.service.links.items;
   so_far : AreFit g.D.LinkDevice.state l.fn.farm.links.items
       → SoFar g.D.LinkDevice.state l.fn.farm.trace (g.R.Read.remaining l.fn.reader)
-      (g.R.Read.remaining l.reader) (g.W.Write.contents l.fn.writer) (g.W.Write.contents l.writer) l.progress l.service;
+      (g.R.Read.remaining l.reader) (g.W.Write.contents l.fn.writer) (g.W.Write.contents l.writer) l.partial l.service;
 }

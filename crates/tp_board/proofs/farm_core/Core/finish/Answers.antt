@@ -1,6 +1,6 @@
 use Rattle.std.proofs.Common.{ℕ, ◌<◌, List, [], ◌∷◌, ◌++◌, None, length, set, sym, ap, ◌∙◌, subst, arith}
 use Rattle.std.proofs.lemmas.List.{get_or_read}
-use Rattle.tp_board.specs.Farm.{farm}
+use Rattle.tp_board.specs.CoreState.{core_state}
 use Rattle.tp_board.specs.Runs.{Accounts}
 use Rattle.tp_board.proofs.Runs.{accounts_finish}
 use Rattle.tp_board.proofs.farm_core.Core.finish.Goals as goal
@@ -14,5 +14,5 @@ invariant_of-self-2 c =
     c.self.inside.lost.items c.self.inside.stop c.args.member c.in-Some.number m
     (sym (get_or_read c.self.inside.hands.items _ _ m c.index.ensures None) ∙ c.in-Some.is) c.self.invariant in
     let pushed = c.push_reserved.ensures.items ∙ ap (λ l. l ++ c.in-Some.number ∷ []) c.reserve.ensures.items in
-    subst (λ (d : List ℕ). Accounts (farm c.self.inside.packets c.self.inside.drawn
+    subst (λ (d : List ℕ). Accounts (core_state c.self.inside.packets c.self.inside.drawn
     (set c.self.inside.hands.items c.args.member None) d c.self.inside.lost.items c.self.inside.stop)) (sym pushed) kept

@@ -11,8 +11,8 @@ use Rattle.tp_stream.proofs.Gathering.{tally_word_at, drawn_at, left_over, whole
 use Rattle.tp_board.proofs.Steps.{Whole}
 use Rattle.tp_stream.proofs.stream.StreamQueue.close.Goals as goal
 
-pub drained-drawn-requires-clause-parts : goal.drained-drawn-requires-clause-parts
-drained-drawn-requires-clause-parts g c =
+pub drain_rest-drawn-requires-clause-parts : goal.drain_rest-drawn-requires-clause-parts
+drain_rest-drawn-requires-clause-parts g c =
     let most = c.if-len-self.false in
     let parts = c.gather-pass.ensures.parts.0 in
     let members = c.gather-pass.ensures.sizes.1 in
@@ -34,7 +34,7 @@ ledger-requires g c =
     let lost = tally_word_at _ h.0 1 _ _ h.1 refl c.word-lost.ensures in
     let agrees = subst Agrees (sym t.view.1) t.agrees in
     let counted = agrees.counted in
-    let drawn = c.drained-drawn.ensures.before.counted in
+    let drawn = c.drain_rest-drawn.ensures.before.counted in
     let finished = h.2.done in
     let abandoned = h.2.lost in
     omega arith
@@ -65,8 +65,8 @@ returns-clause-ledger g c =
     let done = tally_word_at _ h.0 0 _ _ h.1 refl c.word-done.ensures in
     let lost = tally_word_at _ h.0 1 _ _ h.1 refl c.word-lost.ensures in
     let stop = tally_word_at _ h.0 2 _ _ h.1 refl c.word-stop.ensures in
-    let left = c.drained-drawn.ensures.before in
-    let n = c.drained-drawn.result in
+    let left = c.drain_rest-drawn.ensures.before in
+    let n = c.drain_rest-drawn.result in
     let packets = length c.args.self.packets in
     let turn = view c.gather-pass.result.0 in
     let behind = left.behind in
@@ -92,11 +92,11 @@ pub returns-clause-left : goal.returns-clause-left
 returns-clause-left g c =
     let views = all_seen c.args.hands.items c.args.feeder in
     let t = c.gather-pass.ensures in
-    let n = c.drained-drawn.result in
+    let n = c.drain_rest-drawn.result in
     let turn = view c.gather-pass.result.0 in
     let e = c.ledger.ensures in
     let pushed : turn.pushed ≡ c.feeder.inside.pushed =
     t.sizes.2 ∙ ap (λ (f : FeederView). f.turn.pushed) (sym c.feeder.view_is) ∙ c.feeder.invariant.0.pushed_is in
     let drew = (returns-clause-ledger g c).drew in
     let below = subst (λ (m : ℕ). AreBelow (all_drawn views) m) e.drawn drew in
-    subst (IsLeft views) pushed (left_over views turn (view c.drained-drawn.new.pass) n c.drained-drawn.ensures.before below c.drained-drawn.ensures.rest)
+    subst (IsLeft views) pushed (left_over views turn (view c.drain_rest-drawn.new.pass) n c.drain_rest-drawn.ensures.before below c.drain_rest-drawn.ensures.rest)

@@ -4,7 +4,7 @@ use Rattle.crossbeam_queue.specs.Passes.{view}
 use Rattle.tp_stream.specs.declared.queue.PassView.{PassView}
 use Rattle.tp_board.specs.declared.view.View.{View}
 use Rattle.tp_board.specs.Counting.{hand_list}
-use Rattle.tp_stream.specs.Queues.{joined}
+use Rattle.tp_stream.specs.Queues.{join_of_passes}
 use Rattle.tp_board.specs.Views.{join_of}
 use Rattle.tp_stream.specs.Streams.{HandView, IsHandOf, Agrees, hand_seen, seen_of}
 use Rattle.tp_stream.proofs.Gathering.{seen_join, agrees_join, gathered_hand}
@@ -29,7 +29,7 @@ loop-next-preserved c =
     let me = ap (λ m. m.0) s.me in
     let both : seen_of (view c.join.new.pass) c.join_seats.new.token.me.0 (ns ++ ms) ≡ join_of (seen_of t p ns) (seen_of u q ms) =
     ap (λ (z : PassView). seen_of z c.join_seats.new.token.me.0 (ns ++ ms)) j.1
-    ∙ ap (λ (z : View). seen_of (joined t u) z (ns ++ ms)) me ∙ sym (seen_join t u p q ns ms) in
+    ∙ ap (λ (z : View). seen_of (join_of_passes t u) z (ns ++ ms)) me ∙ sym (seen_join t u p q ns ms) in
     let pass_parts = ap (λ (z : PassView). z.parts) j.1 in
     let seat_parts = ap (λ (z : View). z.parts) me in
     let one_pass = ok.one_pass in

@@ -1,4 +1,0 @@
-use Rattle.tp_stream.proofs.queue.opened.Given as goal
-
-abbrev pub ghosts-deal : goal.ghosts-deal
-ghosts-deal a = record { packets = a.packets; members = a.members }

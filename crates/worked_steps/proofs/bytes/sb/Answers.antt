@@ -1,8 +1,0 @@
-use Rattle.std.proofs.Common.{rules}
-use Rattle.worked_steps.proofs.Computing.{by_steps}
-use Rattle.worked_steps.proofs.bytes.sb.Goals as goal
-
--- row by row, since together they take more steps than one search may
-pub returns : goal.returns
-unfolding by_steps
-returns c = (search rules, (search rules, (search rules, (search rules, (search rules, (search rules, (search rules, tt)))))))
