@@ -1,0 +1,3 @@
+pub mod Leading
+pub mod Words
+pub mod Machines

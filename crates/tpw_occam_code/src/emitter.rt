@@ -1,5 +1,10 @@
 //! What is known while code is made.
 
+ghost use Rattle.std.specs.Prelude.{◌≡◌, Some, OnOk};
+ghost use Rattle.tpw_occam_core.specs.declared.worker.Worker.{Worker};
+ghost use Rattle.tpw_occam_code.specs.Symbolic.{Machine, push, number, performed};
+ghost use Rattle.tpw_occam_code.specs.Leading.{Makes, HasConstants, Serves};
+
 use crate::code::{Code, Step};
 use crate::fault::CodeFault;
 use crate::items::Item;
@@ -183,7 +188,10 @@ pub(crate) fn is_short(c: u32) -> bool {
 }
 
 /// The step that pushes a constant: `ldc` where that is short, else an initial word.
-pub(crate) fn push_constant(c: u32) -> Step {
+pub(crate) fn push_constant(c: u32) -> Step
+    ensures { (w : Worker) (m : Machine) → HasConstants m → Serves w m.sizes result
+        → performed result m ≡ Some (push (number c) m) }
+{
     if is_short(c) {
         Step::Plain(Instr::Ldc(c.cast_signed()))
     } else {
@@ -193,7 +201,9 @@ pub(crate) fn push_constant(c: u32) -> Step {
 
 impl Code {
     /// Appends the step that pushes a constant.
-    pub(crate) fn constant(&mut self, source: u32, c: u32) -> Result<(), CodeFault> {
+    pub(crate) fn constant(&mut self, source: u32, c: u32) -> Result<(), CodeFault>
+        ensures { OnOk result (Makes self.old self.new HasConstants (push (number c))) }
+    {
         self.emit(source, push_constant(c))
     }
 }

@@ -3,6 +3,10 @@
 //! The verifier's rules say what is known of a result (`tp_state/specs/Rules.antt`). The same holds of values, so one
 //! function serves both.
 
+ghost use Rattle.std.specs.Prelude.{◌≡◌, ℕ, ◌<◌, ◌≤◌, ◌^◌, IsTrue};
+ghost use Rattle.tp_decode.specs.Words.{complement};
+ghost use Rattle.tpw_occam_code.specs.Ranges.{Contains, ContainsAllOf, ContainsResults, AlwaysFits, TwinsAgree};
+
 use tpw_occam_core::Operator;
 
 /// The numbers from `low` to `high`, both among them.
@@ -26,7 +30,9 @@ const TRUTH: Range = Range { low: 0, high: 1 };
 
 impl Range {
     /// One word, read signed.
-    pub(crate) fn exactly(word: u32) -> Range {
+    pub(crate) fn exactly(word: u32) -> Range
+        ensures contains { Contains result word }
+    {
         let number = word.cast_signed();
         Range {
             low: number,
@@ -43,16 +49,24 @@ impl Range {
     }
 
     /// The subscripts of so many elements.
-    pub(crate) fn below(size: u32) -> Range {
+    pub(crate) fn below(size: u32) -> Range
+        ensures within { 0 < size → size ≤ 2 ^ 31 → (word : ℕ) → word < 2 ^ 32 → Contains result word → word < size }
+        ensures contains { 0 < size → size ≤ 2 ^ 31 → (word : ℕ) → word < size → Contains result word }
+    {
         Range::between(0, i64::from(size) - 1)
     }
 
-    pub(crate) fn is_within(self, other: Range) -> bool {
+    pub(crate) fn is_within(self, other: Range) -> bool
+        ensures contains { IsTrue result → ContainsAllOf other self }
+    {
         other.low <= self.low && self.high <= other.high
     }
 
     /// What either may be.
-    pub(crate) fn or(self, other: Range) -> Range {
+    pub(crate) fn or(self, other: Range) -> Range
+        ensures first { ContainsAllOf result self }
+        ensures second { ContainsAllOf result other }
+    {
         Range {
             low: self.low.min(other.low),
             high: self.high.max(other.high),
@@ -60,7 +74,9 @@ impl Range {
     }
 
     /// Every bit turned.
-    pub(crate) fn complement(self) -> Range {
+    pub(crate) fn complement(self) -> Range
+        ensures { (word : ℕ) → word < 2 ^ 32 → Contains self word → Contains result (complement word) }
+    {
         Range {
             low: !self.high,
             high: !self.low,
@@ -179,7 +195,9 @@ fn shifted_right(b: Range, a: Range) -> Range {
 }
 
 /// What may come of two operands.
-pub(crate) fn result_range(operator: Operator, b: Range, a: Range) -> Range {
+pub(crate) fn result_range(operator: Operator, b: Range, a: Range) -> Range
+    ensures { ContainsResults operator b a result }
+{
     match operator {
         Operator::Add | Operator::Plus => sums(b, a),
         Operator::Subtract | Operator::Minus => differences(b, a),
@@ -196,6 +214,9 @@ pub(crate) fn result_range(operator: Operator, b: Range, a: Range) -> Range {
 
 /// Whether the whole number of a sum, a difference or a product is always a word. Where it need not be, the range is
 /// full; a sum that has every word as its value is taken for one that need not be.
-pub(crate) fn always_fits(operator: Operator, b: Range, a: Range) -> bool {
+pub(crate) fn always_fits(operator: Operator, b: Range, a: Range) -> bool
+    ensures fits { IsTrue result → AlwaysFits operator b a }
+    ensures twins { IsTrue result → TwinsAgree operator b a }
+{
     result_range(operator, b, a) != FULL
 }

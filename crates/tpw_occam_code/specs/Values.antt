@@ -1,0 +1,58 @@
+-- What is known of values, and what code of expressions makes of registers.
+use Rattle.std.specs.Prelude.{◌≡◌, ℕ, ◌+◌, ◌*◌, ◌/◌, ◌<◌, ◌≤◌, ◌^◌, Bool, ◌||◌, true, false, IsTrue, List, Option, Some, None}
+use Rattle.tpw_occam_core.specs.declared.arithmetic.Answer.{Answer}
+use Rattle.tpw_occam_core.specs.declared.expression.Operator.{Operator}
+use Rattle.tpw_occam_core.specs.declared.expression.Operator.TheVariants.{Add, Plus, Multiply, Times, Minus, Equal, ShiftLeft, ShiftRight}
+use Rattle.tpw_occam_core.specs.Arithmetic.{applied}
+use Rattle.tpw_occam_code.specs.declared.expressions.Value.{Value}
+use Rattle.tpw_occam_code.specs.Ranges.{Contains}
+use Rattle.tpw_occam_code.specs.Symbolic.{Machine, number, replace_pair, set_areg, raised}
+
+-- what is known of a word
+pub record Holds (value : Value) (word : ℕ) : Type 0 where
+  pub small : word < 2 ^ 32
+  pub source : Contains value.source word
+  pub known : Contains value.known word
+
+-- two numbers in registers: b in Breg and a in Areg
+abbrev pub HasOperands : ℕ → ℕ → Machine → Type 0
+HasOperands b a m = (m.breg ≡ number b) × (m.areg ≡ number a)
+
+abbrev pub HasNumber : ℕ → Machine → Type 0
+HasNumber a m = m.areg ≡ number a
+
+-- what an operator answers takes the place of its operands
+abbrev pub answered : Answer → Machine → Machine
+answered made m = replace_pair (number made.word) (raised made.flag m)
+
+-- .. or of the one operand in Areg
+abbrev pub answered_one : Answer → Machine → Machine
+answered_one made m = set_areg (number made.word) (raised made.flag m)
+
+-- the count of a shift is one that the instruction takes
+abbrev pub HasCount : Operator → ℕ → Type 0
+HasCount ShiftLeft a = a < 32
+HasCount ShiftRight a = a < 32
+HasCount operator a = Unit {0}
+
+-- operands are equal where their difference is 0
+abbrev pub working : Operator → Operator
+working Equal = Minus
+working operator = operator
+
+-- the operator that may set the flag, and the one that wraps, make the same of two words
+abbrev pub AreTwins : Operator → (b a : ℕ) → Type 0
+AreTwins Plus b a = applied Add b a ≡ applied Plus b a
+AreTwins Multiply b a = applied Multiply b a ≡ applied Times b a
+AreTwins operator b a = Unit {0}
+
+-- A value takes the place of the one in Areg. So many registers are used at most: what the others hold stays.
+pub record Replaces (registers : ℕ) (made : Answer) (m end : Machine) : Type 0 where
+  pub areg : end.areg ≡ number made.word
+  pub breg : registers ≤ 2 → end.breg ≡ m.breg
+  pub creg : registers ≤ 1 → end.creg ≡ m.creg
+  pub error : end.error ≡ (m.error || made.flag)
+  pub blocks : end.blocks ≡ m.blocks
+  pub to_come : end.to_come ≡ m.to_come
+  pub sent : end.sent ≡ m.sent
+  pub traced : end.traced ≡ m.traced
