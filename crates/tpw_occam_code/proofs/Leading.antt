@@ -2,7 +2,6 @@
 use Rattle.std.proofs.Common.{◌≡◌, ◌≤◌, ◌<◌, ◌+◌, ◌-◌, ◌*◌, ℕ, zero, suc, List, [], ◌∷◌, ◌++◌, length, refl, ap, sym, subst, ◌∙◌, arith, Some, None, Option, Bool, false, true, append_assoc, length-append}
 use Rattle.std.specs.Prelude.{slice_get}
 use Rattle.std.proofs.lemmas.List.{append-nil}
-use Rattle.tpw_occam_core.specs.declared.worker.Worker.{Worker}
 use Rattle.tpw_occam_code.specs.declared.code.Step.{Step}
 use Rattle.tpw_occam_code.specs.declared.code.CodeLine.{CodeLine}
 use Rattle.tpw_occam_code.specs.Code.{Lines, place_behind, followed_by, line_of}
@@ -38,7 +37,7 @@ has_first old new more m base lines has i h =
 -- ---- does
 
 -- code that is not lengthened
-pub does_nothing : (w : Worker) (code : Lines) → Does w code code (λ m. Unit {0}) (λ m end. end ≡ m)
+pub does_nothing : (w : List ℕ) (code : Lines) → Does w code code (λ m. Unit {0}) (λ m end. end ≡ m)
 does_nothing w code = record {
   base = refl;
   more = [];
@@ -60,7 +59,7 @@ unfolding step
 step_is m line running at = rw running (rw at refl)
 
 -- one line more, whose step makes of a machine what f says
-pub does_step : (w : Worker) (old new : Lines) (source : ℕ) (made : Step) (Before : Machine → Type 0)
+pub does_step : (w : List ℕ) (old new : Lines) (source : ℕ) (made : Step) (Before : Machine → Type 0)
     (f : Machine → Machine)
     → new ≡ followed_by old (line_of source made ∷ [])
     → ((m : Machine) → Before m → Serves w m.sizes made → performed made (at_place (m.place + 1) m) ≡ Some (at_place (m.place + 1) (f m)))
@@ -92,7 +91,7 @@ does_step w old new source made Before f is performs code_stays sizes_stay stopp
 
 -- Code that is lengthened twice. What the second says before is so after the first, and both together give what is said
 -- of the whole.
-pub does_both : (w : Worker) (old between new : Lines)
+pub does_both : (w : List ℕ) (old between new : Lines)
     (Before : Machine → Type 0) (After : Machine → Machine → Type 0)
     (Before2 : Machine → Type 0) (After2 : Machine → Machine → Type 0) (AfterBoth : Machine → Machine → Type 0)
     → Does w old between Before After → Does w between new Before2 After2
@@ -129,7 +128,7 @@ does_both w old between new Before After Before2 After2 AfterBoth one two before
 }
 
 -- said less
-pub does_less : (w : Worker) (old new : Lines)
+pub does_less : (w : List ℕ) (old new : Lines)
     (Before : Machine → Type 0) (After : Machine → Machine → Type 0)
     (Before2 : Machine → Type 0) (After2 : Machine → Machine → Type 0)
     → Does w old new Before After → ((m : Machine) → Before2 m → Before m)

@@ -1,3 +1,5 @@
 pub mod Leading
 pub mod Words
 pub mod Machines
+pub mod Answering
+pub mod Indexing

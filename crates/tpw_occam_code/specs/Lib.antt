@@ -7,3 +7,4 @@ pub mod Symbolic
 pub mod Leading
 pub mod Ranges
 pub mod Values
+pub mod Agreement

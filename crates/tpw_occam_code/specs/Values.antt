@@ -7,6 +7,8 @@ use Rattle.tpw_occam_core.specs.Arithmetic.{applied}
 use Rattle.tpw_occam_code.specs.declared.expressions.Value.{Value}
 use Rattle.tpw_occam_code.specs.Ranges.{Contains}
 use Rattle.tpw_occam_code.specs.Symbolic.{Machine, number, replace_pair, set_areg, raised}
+use Rattle.tpw_occam_code.specs.Code.{Lines}
+use Rattle.tpw_occam_code.specs.Leading.{Does, HasConstants}
 
 -- what is known of a word
 pub record Holds (value : Value) (word : ℕ) : Type 0 where
@@ -56,3 +58,8 @@ pub record Replaces (registers : ℕ) (made : Answer) (m end : Machine) : Type 0
   pub to_come : end.to_come ≡ m.to_come
   pub sent : end.sent ≡ m.sent
   pub traced : end.traced ≡ m.traced
+
+-- the lines lengthen code; of a number in Areg they make this, with so many registers
+abbrev pub Answers : (old new : Lines) (registers a : ℕ) → Answer → Type 0
+Answers old new registers a made =
+    (arrays : List ℕ) → Does arrays old new (λ m. HasConstants m × HasNumber a m) (Replaces registers made)

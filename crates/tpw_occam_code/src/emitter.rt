@@ -1,7 +1,9 @@
 //! What is known while code is made.
 
-ghost use Rattle.std.specs.Prelude.{◌≡◌, Some, OnOk};
-ghost use Rattle.tpw_occam_core.specs.declared.worker.Worker.{Worker};
+ghost use Rattle.std.specs.Prelude.{◌≡◌, ◌<◌, ◌^◌, ℕ, List, Some, OnOk, slice_index};
+ghost use Rattle.tpw_occam_core.specs.Meaning.{kind_of};
+ghost use Rattle.tpw_occam_code.specs.Agreement.{fact_of_kind, valued_fact, constant_fact, counted_fact, fact_at, with_fact};
+ghost use Rattle.tpw_occam_code.specs.Agreement.{constant_in, elements_of};
 ghost use Rattle.tpw_occam_code.specs.Symbolic.{Machine, push, number, performed};
 ghost use Rattle.tpw_occam_code.specs.Leading.{Makes, HasConstants, Serves};
 
@@ -10,9 +12,10 @@ use crate::fault::CodeFault;
 use crate::items::Item;
 use crate::range::{BYTE, FULL, Range};
 use std::alloc::{AllocError, Global};
+use std::marker::Model;
 use tp_decode::Instr;
 use tp_prefix::encode;
-use tpw_occam_core::{Expression, Kind, Worker};
+use tpw_occam_core::{Expression, Kind, Storage, Worker};
 
 /// The most bytes of `ldc` for a constant that is not an initial word.
 const MOST_BYTES: usize = 2;
@@ -27,7 +30,9 @@ pub(crate) struct Fact {
 }
 
 /// What is known of a variable of a kind.
-pub(crate) fn fact_of(kind: Kind) -> Fact {
+pub(crate) fn fact_of(kind: Kind) -> Fact
+    ensures { result ≡ fact_of_kind kind }
+{
     Fact {
         source: match kind {
             Kind::Word => FULL,
@@ -39,7 +44,9 @@ pub(crate) fn fact_of(kind: Kind) -> Fact {
 }
 
 /// What is known of a name with a value in this range.
-pub(crate) fn valued(source: Range) -> Fact {
+pub(crate) fn valued(source: Range) -> Fact
+    ensures { result ≡ valued_fact source }
+{
     Fact {
         source,
         known: FULL,
@@ -48,7 +55,9 @@ pub(crate) fn valued(source: Range) -> Fact {
 }
 
 /// What is known of a name of a constant.
-pub(crate) fn constant(c: u32) -> Fact {
+pub(crate) fn constant(c: u32) -> Fact
+    ensures { result ≡ constant_fact c }
+{
     let range = Range::exactly(c);
     Fact {
         source: range,
@@ -58,7 +67,9 @@ pub(crate) fn constant(c: u32) -> Fact {
 }
 
 /// What is known of the index of a loop.
-pub(crate) fn counted(range: Range) -> Fact {
+pub(crate) fn counted(range: Range) -> Fact
+    ensures { result ≡ counted_fact range }
+{
     Fact {
         source: range,
         known: range,
@@ -117,6 +128,21 @@ pub(crate) struct Emitter<'a> {
     facts: Vec<Fact>,
 }
 
+impl<'a> Model for Emitter<'a> {
+    ghost use Rattle.tpw_occam_code.specs.Agreement.{Knowledge};
+
+    ghost Value = { Knowledge };
+
+    ghost use Rattle.std.specs.Prelude.{map};
+    ghost use Rattle.tpw_occam_core.specs.Sound.{bytes_of};
+
+    ghost view = { λ e. record {
+      kinds = e.worker.now.variables.items;
+      arrays = map bytes_of e.worker.now.arrays.items;
+      facts = e.facts.items;
+    } };
+}
+
 /// What is known of variables.
 fn facts_of(alloc: Global, kinds: &[Kind]) -> Result<Vec<Fact>, AllocError> {
     let mut facts = Vec::with_capacity(alloc, kinds.len())?;
@@ -136,23 +162,31 @@ impl<'a> Emitter<'a> {
     }
 
     /// The kind of a variable.
-    pub(crate) fn kind(&self, x: usize) -> Kind {
+    pub(crate) fn kind(&self, x: usize) -> Kind
+        ensures { result ≡ kind_of self.now.kinds x }
+    {
         self.worker.variables.get(x).copied().unwrap_or(Kind::Word)
     }
 
     /// What is known of a name.
-    pub(crate) fn fact(&self, x: usize) -> Fact {
+    pub(crate) fn fact(&self, x: usize) -> Fact
+        ensures { result ≡ fact_at self.now x }
+    {
         self.facts.get(x).copied().unwrap_or(fact_of(Kind::Word))
     }
 
-    pub(crate) fn set_fact(&mut self, x: usize, fact: Fact) {
+    pub(crate) fn set_fact(&mut self, x: usize, fact: Fact)
+        ensures { self.new ≡ with_fact x fact self.old }
+    {
         if x < self.facts.len() {
             self.facts[x] = fact;
         }
     }
 
     /// The value of an expression that is one constant.
-    pub(crate) fn constant_of(&self, e: &Expression) -> Option<u32> {
+    pub(crate) fn constant_of(&self, e: &Expression) -> Option<u32>
+        ensures { result ≡ constant_in self.now e.now }
+    {
         match e {
             Expression::Constant(c) => Some(*c),
             Expression::Variable(x) => self.fact(*x).constant,
@@ -161,9 +195,12 @@ impl<'a> Emitter<'a> {
     }
 
     /// The bytes of an array.
-    pub(crate) fn bytes(&self, array: usize) -> u32 {
+    pub(crate) fn bytes(&self, array: usize) -> u32
+        ensures { slice_index self.now.arrays array < 2 ^ 32 → result ≡ slice_index self.now.arrays array }
+    {
         match self.worker.arrays.get(array) {
-            Some(storage) => storage.bytes(),
+            Some(Storage::Zeros(count)) => *count,
+            Some(Storage::Table(bytes)) => u32::try_from(bytes.len()).unwrap_or(u32::MAX),
             None => 0,
         }
     }
@@ -174,7 +211,9 @@ impl<'a> Emitter<'a> {
     }
 
     /// The elements of an array that is seen as words or bytes.
-    pub(crate) fn elements(&self, array: usize, kind: Kind) -> u32 {
+    pub(crate) fn elements(&self, array: usize, kind: Kind) -> u32
+        ensures { slice_index self.now.arrays array < 2 ^ 32 → result ≡ elements_of kind (slice_index self.now.arrays array) }
+    {
         match kind {
             Kind::Word => self.bytes(array) / 4,
             Kind::Byte => self.bytes(array),
@@ -189,7 +228,7 @@ pub(crate) fn is_short(c: u32) -> bool {
 
 /// The step that pushes a constant: `ldc` where that is short, else an initial word.
 pub(crate) fn push_constant(c: u32) -> Step
-    ensures { (w : Worker) (m : Machine) → HasConstants m → Serves w m.sizes result
+    ensures { (w : List ℕ) (m : Machine) → HasConstants m → Serves w m.sizes result
         → performed result m ≡ Some (push (number c) m) }
 {
     if is_short(c) {

@@ -4,8 +4,8 @@
 //! function serves both.
 
 ghost use Rattle.std.specs.Prelude.{◌≡◌, ℕ, ◌<◌, ◌≤◌, ◌^◌, IsTrue};
-ghost use Rattle.tp_decode.specs.Words.{complement};
-ghost use Rattle.tpw_occam_code.specs.Ranges.{Contains, ContainsAllOf, ContainsResults, AlwaysFits, TwinsAgree};
+ghost use Rattle.tp_decode.specs.Words.{signed, complement};
+ghost use Rattle.tpw_occam_code.specs.Ranges.{from_to, Contains, ContainsAllOf, ContainsResults, AlwaysFits, TwinsAgree};
 
 use tpw_occam_core::Operator;
 
@@ -31,6 +31,7 @@ const TRUTH: Range = Range { low: 0, high: 1 };
 impl Range {
     /// One word, read signed.
     pub(crate) fn exactly(word: u32) -> Range
+        ensures ends { result ≡ from_to (signed word) (signed word) }
         ensures contains { Contains result word }
     {
         let number = word.cast_signed();

@@ -3,6 +3,11 @@
 //! A check is left out where the text shows that it holds. A mask is left out where the verifier knows the range of
 //! the register.
 
+ghost use Rattle.std.specs.Prelude.{◌≡◌, ◌<◌, ◌≤◌, ◌^◌, ◌%◌, ℕ, OnOk, IfOk, IfSome, bit_and, nat_le};
+ghost use Rattle.tpw_occam_core.specs.Arithmetic.{answer, plain, subscript};
+ghost use Rattle.tpw_occam_code.specs.Ranges.{Contains};
+ghost use Rattle.tpw_occam_code.specs.Values.{Answers, Holds};
+
 use crate::code::{Code, Step};
 use crate::emitter::{Emitter, Room};
 use crate::expressions::Value;
@@ -16,15 +21,51 @@ use tpw_occam_core::{Expression, Kind, Operator};
 const MOST_POSITIVE: u32 = 0x7FFF_FFFF;
 
 /// Sets the flag where Areg is not below a size.
-fn check(code: &mut Code, line: u32, size: u32) -> Result<(), CodeFault> {
+fn check(code: &mut Code, line: u32, size: u32) -> Result<(), CodeFault>
+    ensures { OnOk result ((i : ℕ) → Answers code.old code.new 2 i (answer i (nat_le size i))) }
+{
     code.constant(line, size)?;
     code.instr(line, Instr::Csub0)
 }
 
 /// Takes the low bits of Areg.
-fn mask(code: &mut Code, line: u32, bits: u32) -> Result<(), CodeFault> {
+fn mask(code: &mut Code, line: u32, bits: u32) -> Result<(), CodeFault>
+    ensures { OnOk result ((i : ℕ) → Answers code.old code.new 2 i (plain (bit_and i bits))) }
+{
     code.constant(line, bits)?;
     code.instr(line, Instr::BitAnd)
+}
+
+/// The exponent of a power of two.
+fn exponent_of(size: u32) -> Option<u32>
+    ensures power { IfSome result (λ exponent. size ≡ 2 ^ exponent) }
+    ensures small { IfSome result (λ exponent. exponent < 32) }
+{
+    let exponent = size.trailing_zeros() % u32::BITS;
+    if 1u32.wrapping_shl(exponent) == size {
+        Some(exponent)
+    } else {
+        None
+    }
+}
+
+/// Takes all bits but the sign of Areg, of which the verifier knows this. There is nothing to do where it is never
+/// below 0.
+fn without_sign(code: &mut Code, line: u32, known: Range) -> Result<(), CodeFault>
+    ensures { OnOk result ((i : ℕ) → i < 2 ^ 32 → Contains known i → Answers code.old code.new 2 i (plain (i % 2 ^ 31))) }
+{
+    if known.is_within(Range::below(MOST_POSITIVE + 1)) {
+        return Ok(());
+    }
+    mask(code, line, MOST_POSITIVE)
+}
+
+/// Takes the remainder of Areg by a size; neither is below 0.
+fn remainder(code: &mut Code, line: u32, size: u32) -> Result<(), CodeFault>
+    ensures { OnOk result ((i : ℕ) → i < 2 ^ 31 → 0 < size → size ≤ 2 ^ 31 → Answers code.old code.new 2 i (plain (i % size))) }
+{
+    code.constant(line, size)?;
+    code.instr(line, Instr::Rem)
 }
 
 /// Makes Areg, of which the verifier knows this, a number below a size, and leaves one that is below it as it is.
@@ -33,17 +74,17 @@ pub(crate) fn reduce(
     line: u32,
     known: Range,
     size: u32,
-) -> Result<Range, CodeFault> {
-    let size = size.max(1);
-    if size.is_power_of_two() {
-        mask(code, line, size - 1)?;
+) -> Result<Range, CodeFault>
+    ensures makes { OnOk result ((i : ℕ) → i < 2 ^ 32 → Contains known i → 0 < size → size ≤ 2 ^ 31
+        → Answers code.old code.new 2 i (plain (i % 2 ^ 31 % size))) }
+    ensures known { IfOk result (λ known. (word : ℕ) → word < size → size ≤ 2 ^ 31 → Contains known word) }
+{
+    if let Some(_) = exponent_of(size) {
+        mask(code, line, size.saturating_sub(1))?;
         return Ok(Range::below(size));
     }
-    if known.low < 0 {
-        mask(code, line, MOST_POSITIVE)?;
-    }
-    code.constant(line, size)?;
-    code.instr(line, Instr::Rem)?;
+    without_sign(code, line, known)?;
+    remainder(code, line, size)?;
     Ok(Range::below(size))
 }
 
@@ -53,7 +94,12 @@ pub(crate) fn checked(
     line: u32,
     value: Value,
     size: u32,
-) -> Result<Value, CodeFault> {
+) -> Result<Value, CodeFault>
+    ensures makes { OnOk result ((i : ℕ) → Holds value i → 0 < size → size ≤ 2 ^ 31
+        → Answers code.old code.new 2 i (subscript size i)) }
+    ensures holds { IfOk result (λ made. (i : ℕ) → Holds value i → 0 < size → size ≤ 2 ^ 31
+        → Holds made (subscript size i).word) }
+{
     let range = Range::below(size);
     if value.source.is_within(range) {
         return Ok(value);
@@ -67,7 +113,9 @@ pub(crate) fn checked(
 }
 
 /// Takes the low byte of Areg where the value may be more.
-pub(crate) fn kept_byte(code: &mut Code, line: u32, value: Value) -> Result<(), CodeFault> {
+pub(crate) fn kept_byte(code: &mut Code, line: u32, value: Value) -> Result<(), CodeFault>
+    ensures { OnOk result ((i : ℕ) → Holds value i → Answers code.old code.new 2 i (plain (i % 256))) }
+{
     if value.source.is_within(BYTE) {
         return Ok(());
     }
@@ -104,7 +152,12 @@ pub(crate) fn settled(
     line: u32,
     value: Value,
     size: u32,
-) -> Result<Value, CodeFault> {
+) -> Result<Value, CodeFault>
+    ensures makes { OnOk result ((i : ℕ) → Holds value i → 0 < size → size ≤ 2 ^ 31
+        → Answers code.old code.new 2 i (subscript size i)) }
+    ensures holds { IfOk result (λ made. (i : ℕ) → Holds value i → 0 < size → size ≤ 2 ^ 31
+        → Holds made (subscript size i).word) }
+{
     let value = checked(code, line, value, size)?;
     if value.known.is_within(Range::below(size)) {
         return Ok(value);
