@@ -58,14 +58,14 @@ step_is : (m : Machine) (line : CodeLine) → m.stopped ≡ false → slice_get 
 unfolding step
 step_is m line running at = rw running (rw at refl)
 
--- one line more, whose step makes of a machine what f says
-pub does_step : (w : List ℕ) (old new : Lines) (source : ℕ) (made : Step) (Before : Machine → Type 0)
+-- one line more, whose step makes of a machine what f says; its item is large enough
+pub does_served : (w : List ℕ) (old new : Lines) (source : ℕ) (made : Step) (Before : Machine → Type 0)
     (f : Machine → Machine)
     → new ≡ followed_by old (line_of source made ∷ [])
     → ((m : Machine) → Before m → Serves w m.sizes made → performed made (at_place (m.place + 1) m) ≡ Some (at_place (m.place + 1) (f m)))
     → ((m : Machine) → (f m).code ≡ m.code) → ((m : Machine) → (f m).sizes ≡ m.sizes) → ((m : Machine) → (f m).stopped ≡ m.stopped)
-    → Does w old new Before (λ m end. end ≡ at_place (place_behind new) (f m))
-does_step w old new source made Before f is performs code_stays sizes_stay stopped_stays = record {
+    → Does w old new Before (λ m end. (end ≡ at_place (place_behind new) (f m)) × Serves w m.sizes made)
+does_served w old new source made Before f is performs code_stays sizes_stay stopped_stays = record {
   base = ap (λ l. l.base) is;
   more = line_of source made ∷ [];
   lines = ap (λ l. l.lines) is;
@@ -85,9 +85,44 @@ does_step w old new source made Before f is performs code_stays sizes_stay stopp
         running = stopped_stays m ∙ before.running;
         same_code = code_stays m;
         same_sizes = sizes_stay m;
-        after = ap (λ p. at_place p (f m)) next;
+        after = (ap (λ p. at_place p (f m)) next, before.served m.place line at);
       };
 }
+
+-- said less
+pub does_less : (w : List ℕ) (old new : Lines)
+    (Before : Machine → Type 0) (After : Machine → Machine → Type 0)
+    (Before2 : Machine → Type 0) (After2 : Machine → Machine → Type 0)
+    → Does w old new Before After → ((m : Machine) → Before2 m → Before m)
+    → ((m end : Machine) → Before2 m → After m end → After2 m end)
+    → Does w old new Before2 After2
+does_less w old new Before After Before2 After2 one before after = record {
+  base = one.base;
+  more = one.more;
+  lines = one.lines;
+  arrives = λ m at said.
+      let a = one.arrives m at (before m said) in
+      record {
+        end = a.end;
+        way = a.way;
+        place = a.place;
+        running = a.running;
+        same_code = a.same_code;
+        same_sizes = a.same_sizes;
+        after = after m a.end said a.after;
+      };
+}
+
+pub does_step : (w : List ℕ) (old new : Lines) (source : ℕ) (made : Step) (Before : Machine → Type 0)
+    (f : Machine → Machine)
+    → new ≡ followed_by old (line_of source made ∷ [])
+    → ((m : Machine) → Before m → Serves w m.sizes made → performed made (at_place (m.place + 1) m) ≡ Some (at_place (m.place + 1) (f m)))
+    → ((m : Machine) → (f m).code ≡ m.code) → ((m : Machine) → (f m).sizes ≡ m.sizes) → ((m : Machine) → (f m).stopped ≡ m.stopped)
+    → Does w old new Before (λ m end. end ≡ at_place (place_behind new) (f m))
+does_step w old new source made Before f is performs code_stays sizes_stay stopped_stays =
+    does_less w old new Before _ Before _
+    (does_served w old new source made Before f is performs code_stays sizes_stay stopped_stays)
+    (λ m said. said) (λ m end said after. after.0)
 
 -- Code that is lengthened twice. What the second says before is so after the first, and both together give what is said
 -- of the whole.
@@ -124,30 +159,6 @@ does_both w old between new Before After Before2 After2 AfterBoth one two before
         same_code = b.same_code ∙ a.same_code;
         same_sizes = b.same_sizes ∙ a.same_sizes;
         after = both m a.end b.end said a.after b.after;
-      };
-}
-
--- said less
-pub does_less : (w : List ℕ) (old new : Lines)
-    (Before : Machine → Type 0) (After : Machine → Machine → Type 0)
-    (Before2 : Machine → Type 0) (After2 : Machine → Machine → Type 0)
-    → Does w old new Before After → ((m : Machine) → Before2 m → Before m)
-    → ((m end : Machine) → Before2 m → After m end → After2 m end)
-    → Does w old new Before2 After2
-does_less w old new Before After Before2 After2 one before after = record {
-  base = one.base;
-  more = one.more;
-  lines = one.lines;
-  arrives = λ m at said.
-      let a = one.arrives m at (before m said) in
-      record {
-        end = a.end;
-        way = a.way;
-        place = a.place;
-        running = a.running;
-        same_code = a.same_code;
-        same_sizes = a.same_sizes;
-        after = after m a.end said a.after;
       };
 }
 

@@ -3,3 +3,4 @@ pub mod Words
 pub mod Machines
 pub mod Answering
 pub mod Indexing
+pub mod Elements

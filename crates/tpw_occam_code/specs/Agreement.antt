@@ -18,7 +18,7 @@ use Rattle.tpw_occam_code.specs.declared.range.Range.{Range}
 use Rattle.tpw_occam_code.specs.Ranges.{full, from_to, Contains}
 use Rattle.tpw_occam_code.specs.Blocks.{bytes_at}
 use Rattle.tpw_occam_code.specs.Symbolic.{Machine, Contents, number}
-use Rattle.tpw_occam_code.specs.Leading.{HasConstants}
+use Rattle.tpw_occam_code.specs.Leading.{HasConstants, HasArray}
 
 -- ---- what is known of names
 
@@ -66,27 +66,26 @@ constant_in k e = None
 
 -- ---- agreement
 
--- What is known of a name holds of its value, and its word has that value where it has a word.
-pub record HasName (fact : Fact) (x value : ℕ) (m : Machine) : Type 0 where
+-- what is known of a name holds of its value
+pub record FitsFact (fact : Fact) (value : ℕ) : Type 0 where
   pub small : value < 2 ^ 32
   pub source : Contains fact.source value
   pub known : Contains fact.known value
   pub constant : (c : ℕ) → fact.constant ≡ Some c → value ≡ c
-  pub word : fact.constant ≡ None → bytes_at m.blocks (item.Variable x) 0 4 ≡ to_le_bytes w32 value
 
-abbrev pub HasArray : ℕ → List ℕ → Machine → Type 0
-HasArray a bytes m = (k : ℕ) → k < length bytes → m.blocks (item.Array a) k ≡ slice_index bytes k
-
--- The machine agrees with a state in the names and the arrays in scope, but for names that are not assigned yet.
-pub record Agrees (k : Knowledge) (scope : List Entry) (unset : ℕ → Bool) (s : Store) (m : Machine) : Type 0 where
+-- What is known holds of a state, for the names in scope that are assigned and for the arrays in scope.
+pub record Knows (k : Knowledge) (scope : List Entry) (unset : ℕ → Bool) (s : Store) : Type 0 where
   pub names : (x : ℕ) → IsTrue (list_any (is_name x) scope) → unset x ≡ false
-      → HasName (fact_at k x) x (slice_index s.values x) m
-  pub arrays : (a : ℕ) → IsTrue (list_any (is_array a) scope) → HasArray a (array_of s a) m
+      → FitsFact (fact_at k x) (slice_index s.values x)
   pub lengths : (a : ℕ) → IsTrue (list_any (is_array a) scope) → length (array_of s a) ≡ slice_index k.arrays a
-  pub bytes : (a : ℕ) → All (λ byte. byte < 256) (array_of s a)
+  pub bytes : (a i : ℕ) → slice_index (array_of s a) i < 256
+
+-- A machine agrees with a state in the names in scope that are assigned and have a word, and in the arrays in scope.
+pub record Agrees (k : Knowledge) (scope : List Entry) (unset : ℕ → Bool) (s : Store) (m : Machine) : Type 0 where
+  pub words : (x : ℕ) → IsTrue (list_any (is_name x) scope) → unset x ≡ false → (fact_at k x).constant ≡ None
+      → bytes_at m.blocks (item.Variable x) 0 4 ≡ to_le_bytes w32 (slice_index s.values x)
+  pub arrays : (a : ℕ) → IsTrue (list_any (is_array a) scope) → HasArray a (array_of s a) m
   pub constants : HasConstants m
-  pub error : m.error ≡ s.flag
-  pub traced : m.traced ≡ s.traced
 
 -- ---- what stays
 

@@ -58,6 +58,10 @@ pub record Does (arrays : List ℕ) (old new : Lines) (Before : Machine → Type
 abbrev pub HasConstants : Machine → Type 0
 HasConstants m = (c : ℕ) → c < 2 ^ 32 → word_at m.blocks (Constant c) 0 ≡ c
 
+-- an array's bytes are those of its item
+abbrev pub HasArray : ℕ → List ℕ → Machine → Type 0
+HasArray a bytes m = (i : ℕ) → i < length bytes → m.blocks (Array a) i ≡ slice_index bytes i
+
 -- the lines lengthen code, and make of each machine with its constants what f says
 abbrev pub Makes : Lines → Lines → (Machine → Type 0) → (Machine → Machine) → Type 0
 Makes old new Before f = (arrays : List ℕ) → Does arrays old new Before (λ m end. end ≡ at_place (place_behind new) (f m))

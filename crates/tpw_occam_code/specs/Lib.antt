@@ -8,3 +8,4 @@ pub mod Leading
 pub mod Ranges
 pub mod Values
 pub mod Agreement
+pub mod Computing

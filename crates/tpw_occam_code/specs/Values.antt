@@ -3,12 +3,16 @@ use Rattle.std.specs.Prelude.{◌≡◌, ℕ, ◌+◌, ◌*◌, ◌/◌, ◌<◌
 use Rattle.tpw_occam_core.specs.declared.arithmetic.Answer.{Answer}
 use Rattle.tpw_occam_core.specs.declared.expression.Operator.{Operator}
 use Rattle.tpw_occam_core.specs.declared.expression.Operator.TheVariants.{Add, Plus, Multiply, Times, Minus, Equal, ShiftLeft, ShiftRight}
+use Rattle.std.specs.Prelude.{slice_index, length}
+use Rattle.tpw_occam_core.specs.declared.kind.Kind.{Kind}
+use Rattle.tpw_occam_core.specs.declared.kind.Kind.TheVariants.{Word, Byte}
 use Rattle.tpw_occam_core.specs.Arithmetic.{applied}
+use Rattle.tpw_occam_code.specs.declared.items.Item.TheVariants.{Array}
 use Rattle.tpw_occam_code.specs.declared.expressions.Value.{Value}
 use Rattle.tpw_occam_code.specs.Ranges.{Contains}
-use Rattle.tpw_occam_code.specs.Symbolic.{Machine, number, replace_pair, set_areg, raised}
+use Rattle.tpw_occam_code.specs.Symbolic.{Machine, number, address, replace_pair, set_areg, raised}
 use Rattle.tpw_occam_code.specs.Code.{Lines}
-use Rattle.tpw_occam_code.specs.Leading.{Does, HasConstants}
+use Rattle.tpw_occam_code.specs.Leading.{Does, HasConstants, HasArray, word_bytes}
 
 -- what is known of a word
 pub record Holds (value : Value) (word : ℕ) : Type 0 where
@@ -59,7 +63,44 @@ pub record Replaces (registers : ℕ) (made : Answer) (m end : Machine) : Type 0
   pub sent : end.sent ≡ m.sent
   pub traced : end.traced ≡ m.traced
 
+-- A value is pushed. So many registers are used at most, that of the value among them: what the others hold stays.
+pub record Pushes (registers : ℕ) (made : Answer) (m end : Machine) : Type 0 where
+  pub areg : end.areg ≡ number made.word
+  pub breg : registers ≤ 2 → end.breg ≡ m.areg
+  pub creg : registers ≤ 1 → end.creg ≡ m.breg
+  pub error : end.error ≡ (m.error || made.flag)
+
+-- .. and nothing else
+pub record PushesAlone (made : Answer) (m end : Machine) : Type 0 where
+  pub pushed : Pushes 1 made m end
+  pub blocks : end.blocks ≡ m.blocks
+  pub to_come : end.to_come ≡ m.to_come
+  pub sent : end.sent ≡ m.sent
+  pub traced : end.traced ≡ m.traced
+
 -- the lines lengthen code; of a number in Areg they make this, with so many registers
 abbrev pub Answers : (old new : Lines) (registers a : ℕ) → Answer → Type 0
 Answers old new registers a made =
     (arrays : List ℕ) → Does arrays old new (λ m. HasConstants m × HasNumber a m) (Replaces registers made)
+
+-- the place of an element in its array
+abbrev pub scaled : Kind → ℕ → ℕ
+scaled Word i = 4 * i
+scaled Byte i = i
+
+-- Areg is the address of a byte of an array, which has room for all of its words
+pub record HasAddress (arrays : List ℕ) (a at : ℕ) (m end : Machine) : Type 0 where
+  pub areg : end.areg ≡ address (Array a) at
+  pub breg : end.breg ≡ m.breg
+  pub error : end.error ≡ m.error
+  pub blocks : end.blocks ≡ m.blocks
+  pub to_come : end.to_come ≡ m.to_come
+  pub sent : end.sent ≡ m.sent
+  pub traced : end.traced ≡ m.traced
+  pub room : word_bytes (slice_index arrays a) ≤ end.sizes (Array a)
+
+-- Areg is the address of an element of an array whose bytes are these, all of which are there
+pub record IsAtElement (kind : Kind) (a : ℕ) (bytes : List ℕ) (i : ℕ) (m : Machine) : Type 0 where
+  pub areg : m.areg ≡ address (Array a) (scaled kind i)
+  pub has : HasArray a bytes m
+  pub room : length bytes ≤ m.sizes (Array a)

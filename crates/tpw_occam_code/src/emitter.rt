@@ -4,6 +4,7 @@ ghost use Rattle.std.specs.Prelude.{◌≡◌, ◌<◌, ◌^◌, ℕ, List, Some
 ghost use Rattle.tpw_occam_core.specs.Meaning.{kind_of};
 ghost use Rattle.tpw_occam_code.specs.Agreement.{fact_of_kind, valued_fact, constant_fact, counted_fact, fact_at, with_fact};
 ghost use Rattle.tpw_occam_code.specs.Agreement.{constant_in, elements_of};
+ghost use Rattle.tpw_occam_code.specs.Computing.{is_short as short};
 ghost use Rattle.tpw_occam_code.specs.Symbolic.{Machine, push, number, performed};
 ghost use Rattle.tpw_occam_code.specs.Leading.{Makes, HasConstants, Serves};
 
@@ -222,7 +223,9 @@ impl<'a> Emitter<'a> {
 }
 
 /// Whether a constant's `ldc` is short.
-pub(crate) fn is_short(c: u32) -> bool {
+pub(crate) fn is_short(c: u32) -> bool
+    ensures { result ≡ short c }
+{
     encode(4, c.cast_signed()).len() <= MOST_BYTES
 }
 

@@ -3,10 +3,13 @@
 //! A check is left out where the text shows that it holds. A mask is left out where the verifier knows the range of
 //! the register.
 
-ghost use Rattle.std.specs.Prelude.{◌≡◌, ◌<◌, ◌≤◌, ◌^◌, ◌%◌, ℕ, OnOk, IfOk, IfSome, bit_and, nat_le};
+ghost use Rattle.std.specs.Prelude.{◌≡◌, ◌<◌, ◌≤◌, ◌^◌, ◌%◌, ℕ, List, length, slice_index, OnOk, IfOk, IfSome, bit_and, nat_le};
 ghost use Rattle.tpw_occam_core.specs.Arithmetic.{answer, plain, subscript};
 ghost use Rattle.tpw_occam_code.specs.Ranges.{Contains};
-ghost use Rattle.tpw_occam_code.specs.Values.{Answers, Holds};
+ghost use Rattle.tpw_occam_core.specs.Arrays.{size, element};
+ghost use Rattle.tpw_occam_core.specs.declared.kind.Kind.TheVariants.{Byte};
+ghost use Rattle.tpw_occam_code.specs.Leading.{Does, HasArray};
+ghost use Rattle.tpw_occam_code.specs.Values.{Answers, Holds, HasNumber, HasAddress, Replaces, PushesAlone, IsAtElement, scaled};
 
 use crate::code::{Code, Step};
 use crate::emitter::{Emitter, Room};
@@ -128,7 +131,10 @@ pub(crate) fn indexed(
     line: u32,
     array: usize,
     kind: Kind,
-) -> Result<(), CodeFault> {
+) -> Result<(), CodeFault>
+    ensures { OnOk result ((arrays : List ℕ) (i : ℕ) → Does arrays code.old code.new (HasNumber i)
+        (HasAddress arrays array (scaled kind i))) }
+{
     code.emit(line, Step::Pointer(Item::Array(array), 0))?;
     match kind {
         Kind::Word => code.instr(line, Instr::Wsub),
@@ -200,7 +206,9 @@ pub(crate) fn offset_element(
 }
 
 /// What is known of an element.
-fn element_value(kind: Kind) -> Value {
+fn element_value(kind: Kind) -> Value
+    ensures { (bytes : List ℕ) (i : ℕ) → ((at : ℕ) → slice_index bytes at < 256) → Holds result (element kind bytes i) }
+{
     let range = match kind {
         Kind::Word => FULL,
         Kind::Byte => BYTE,
@@ -211,6 +219,38 @@ fn element_value(kind: Kind) -> Value {
     }
 }
 
+/// Pushes an element with a constant subscript.
+fn push_fixed(
+    code: &mut Code,
+    line: u32,
+    array: usize,
+    kind: Kind,
+    c: u32,
+) -> Result<(), CodeFault>
+    ensures { OnOk result ((arrays : List ℕ) (bytes : List ℕ) → length bytes ≡ slice_index arrays array
+        → c < size kind bytes → (kind ≡ Byte → c % 4 ≡ 0) → Does arrays code.old code.new (HasArray array bytes)
+        (PushesAlone (plain (element kind bytes c)))) }
+{
+    match kind {
+        Kind::Word => code.emit(line, Step::Load(Item::Array(array), c)),
+        Kind::Byte => {
+            code.emit(line, Step::Pointer(Item::Array(array), c / 4))?;
+            code.instr(line, Instr::Lb)
+        }
+    }
+}
+
+/// Makes Areg, the address of an element, the element.
+fn load(code: &mut Code, line: u32, kind: Kind) -> Result<(), CodeFault>
+    ensures { OnOk result ((arrays : List ℕ) (a : ℕ) (bytes : List ℕ) (i : ℕ) → i < size kind bytes
+        → Does arrays code.old code.new (IsAtElement kind a bytes i) (Replaces 1 (plain (element kind bytes i)))) }
+{
+    match kind {
+        Kind::Word => code.instr(line, Instr::Ldnl(0)),
+        Kind::Byte => code.instr(line, Instr::Lb),
+    }
+}
+
 /// Pushes an element with a constant subscript, if that takes no subscript at run time.
 pub(crate) fn fixed_element(
     code: &mut Code,
@@ -218,14 +258,14 @@ pub(crate) fn fixed_element(
     array: usize,
     kind: Kind,
     c: u32,
-) -> Result<Value, CodeFault> {
-    match kind {
-        Kind::Word => code.emit(line, Step::Load(Item::Array(array), c))?,
-        Kind::Byte => {
-            code.emit(line, Step::Pointer(Item::Array(array), c / 4))?;
-            code.instr(line, Instr::Lb)?;
-        }
-    }
+) -> Result<Value, CodeFault>
+    ensures makes { OnOk result ((arrays : List ℕ) (bytes : List ℕ) → length bytes ≡ slice_index arrays array
+        → c < size kind bytes → (kind ≡ Byte → c % 4 ≡ 0) → Does arrays code.old code.new (HasArray array bytes)
+        (PushesAlone (plain (element kind bytes c)))) }
+    ensures holds { IfOk result (λ value. (bytes : List ℕ) (i : ℕ) → ((at : ℕ) → slice_index bytes at < 256)
+        → Holds value (element kind bytes i)) }
+{
+    push_fixed(code, line, array, kind, c)?;
     Ok(element_value(kind))
 }
 
@@ -235,12 +275,15 @@ pub(crate) fn indexed_element(
     line: u32,
     array: usize,
     kind: Kind,
-) -> Result<Value, CodeFault> {
+) -> Result<Value, CodeFault>
+    ensures makes { OnOk result ((arrays : List ℕ) (bytes : List ℕ) (i : ℕ) → length bytes ≡ slice_index arrays array
+        → i < size kind bytes → Does arrays code.old code.new (λ m. HasNumber i m × HasArray array bytes m)
+        (Replaces 2 (plain (element kind bytes i)))) }
+    ensures holds { IfOk result (λ value. (bytes : List ℕ) (i : ℕ) → ((at : ℕ) → slice_index bytes at < 256)
+        → Holds value (element kind bytes i)) }
+{
     indexed(code, line, array, kind)?;
-    match kind {
-        Kind::Word => code.instr(line, Instr::Ldnl(0))?,
-        Kind::Byte => code.instr(line, Instr::Lb)?,
-    }
+    load(code, line, kind)?;
     Ok(element_value(kind))
 }
 
